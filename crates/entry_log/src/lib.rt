@@ -1,0 +1,12 @@
+//! Entries of a history, and their text.
+#![tactic(auto)]
+
+mod effect;
+mod effects;
+mod entry;
+mod step;
+
+pub use effect::{Effect, Holder, LockNo, StatusNo};
+pub use effects::Effects;
+pub use entry::{Actor, Entry, FinalRow};
+pub use step::{Part, Step, Word};

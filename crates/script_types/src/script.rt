@@ -1,0 +1,29 @@
+//! A whole script.
+use crate::{DfcDecl, IdfcDecl, IrqBody, ProcessDecl, QueueDecl, ThreadDecl};
+use sym_base::Items;
+
+/// A slot of the schedule. The schedule decides the order of actions under `run`.
+#[derive(Clone, Copy)]
+pub enum Slot {
+    /// The chosen actor acts once.
+    Go,
+    /// The interrupt of this number comes.
+    Irq(u8),
+    /// A time slice ends.
+    Tick,
+}
+
+/// A script: the slots of the kernel's message pool, the number of fast mutexes, what it declares,
+/// in the order of its lines, and its schedule.
+#[derive(Drop)]
+pub struct Script {
+    pub pool: u8,
+    pub fast: u8,
+    pub queues: Items<QueueDecl>,
+    pub dfcs: Items<DfcDecl>,
+    pub idfcs: Items<IdfcDecl>,
+    pub irqs: Items<IrqBody>,
+    pub processes: Items<ProcessDecl>,
+    pub threads: Items<ThreadDecl>,
+    pub slots: Items<Slot>,
+}
