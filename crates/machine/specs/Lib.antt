@@ -1,0 +1,15 @@
+pub mod Rows
+pub mod Table
+pub mod References
+pub mod Acted
+pub mod Create
+pub mod Dup
+pub mod Close
+pub mod Pay
+pub mod Choice
+pub mod Act
+pub mod Boot
+pub mod History
+pub mod FinalRows
+pub mod Run
+pub mod Good
