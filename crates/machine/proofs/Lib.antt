@@ -1,0 +1,5 @@
+pub mod Totals
+pub mod Counts
+pub mod Cases
+pub mod Tables
+pub mod RefsSteps
