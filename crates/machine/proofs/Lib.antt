@@ -3,3 +3,4 @@ pub mod Counts
 pub mod Cases
 pub mod Tables
 pub mod RefsSteps
+pub mod RefsAct
