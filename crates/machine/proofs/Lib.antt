@@ -4,3 +4,5 @@ pub mod Cases
 pub mod Tables
 pub mod RefsSteps
 pub mod RefsAct
+pub mod Lists
+pub mod Shape
