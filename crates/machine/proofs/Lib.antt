@@ -6,3 +6,4 @@ pub mod RefsSteps
 pub mod RefsAct
 pub mod Lists
 pub mod Shape
+pub mod Live
