@@ -7,3 +7,4 @@ pub mod RefsAct
 pub mod Lists
 pub mod Shape
 pub mod Live
+pub mod GoodSteps

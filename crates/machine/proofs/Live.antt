@@ -96,6 +96,14 @@ dead-push [] (suc i) row h = refl
 dead-push (x ∷ xs) zero row h = refl
 dead-push (x ∷ xs) (suc i) row h = dead-push xs i row h
 
+-- an object that is counted or is x is alive, where x is
+alive_by_step : (S : State) (x o : ObjNo) (b : Bool) → (x.0 == o.0) ≡ b → IsAlive (object_of S x) → (0 < count_of S o → IsAlive (object_of S o)) → 0 < count_of S o + (if b then 1 else 0) → IsAlive (object_of S o)
+alive_by_step S x o true e alive counted h = alive_at S x o (eqb-true x.0 o.0 e) alive
+alive_by_step S x o false e alive counted h = counted (omega arith)
+
+pub alive_by : (S : State) (x o : ObjNo) → IsAlive (object_of S x) → (0 < count_of S o → IsAlive (object_of S o)) → 0 < count_of S o + same x o → IsAlive (object_of S o)
+alive_by S x o alive counted h = alive_by_step S x o (x.0 == o.0) refl alive counted h
+
 -- a new object is alive, and the others stay
 pub live-made : (S : State) (kind : Kind) (name : List ℕ) → Live S → Live (made S kind name)
 live-made S kind name h = record {
