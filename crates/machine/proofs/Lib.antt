@@ -8,3 +8,5 @@ pub mod Lists
 pub mod Shape
 pub mod Live
 pub mod GoodSteps
+pub mod KeepsSteps
+pub mod KeepsClose
