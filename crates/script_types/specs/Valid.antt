@@ -1,6 +1,6 @@
 -- Which scripts are valid: those that some bytes spell.
 use Rattle.std.specs.List.{AllByRecursion}
-use Rattle.std.specs.Prelude.{◌≡◌, ◌≢◌, ℕ, ◌<◌, ◌≤◌, false, IsTrue, List, [], ◌∷◌, Some, length, replicate, codes}
+use Rattle.std.specs.Prelude.{◌≡◌, ◌≢◌, ◌<◌, ◌≤◌, false, IsTrue, List, [], ◌∷◌, Some, length, replicate, codes}
 use Rattle.script_types.specs.ObjectName.{is_object_name}
 use Rattle.script_types.specs.ScriptText.{script_text}
 use Rattle.script_types.specs.declared.declaration.ProcessDecl.{ProcessDecl}
