@@ -1,4 +1,5 @@
 pub mod ActorText
+pub mod Appends
 pub mod EffectText
 pub mod EntryLine
 pub mod FinalLine
