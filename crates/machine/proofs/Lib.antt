@@ -10,3 +10,5 @@ pub mod Live
 pub mod GoodSteps
 pub mod KeepsSteps
 pub mod KeepsClose
+pub mod GoodAct
+pub mod Histories
