@@ -108,15 +108,18 @@ fn is_ready(script: &Script, state: &State, thread: ThreadNo) -> bool
 fn without(alloc: Global, queue: &[Queued], thread: ThreadNo) -> Result<Items<Queued>, NoMemory>
     ensures { IfOk result (λ rest. rest ≡ filter (λ q. not (q.thread.0 == thread.0)) queue.now) }
 {
-    let rest = queue
-        .iter()
-        .filter(|queued| queued.thread.0 != thread.0)
-        .copied()
-        .collect(alloc)?;
+    let mut rest = Vec::new(alloc);
+    for queued in queue {
+        if queued.thread.0 == thread.0 {
+            continue;
+        }
+        rest.push(*queued)?;
+    }
     Ok(Items::new(rest))
 }
 
 /// A thread that has nothing left to do leaves the ready list.
+#[tactic(auto, unfolding(crate::specs::Act::settled))]
 fn settle(alloc: Global, script: &Script, state: &mut State, thread: ThreadNo) -> Result<(), NoMemory>
     ensures { OnOk result (state.new ≡ settled script.now thread state.old) }
 {
@@ -128,6 +131,7 @@ fn settle(alloc: Global, script: &Script, state: &mut State, thread: ThreadNo) -
 }
 
 /// An action of a thread.
+#[tactic(auto, unfolding(crate::specs::Act::act))]
 fn act(alloc: Global, script: &Script, state: &mut State, thread: ThreadNo) -> Result<Outcome, NoMemory>
     requires shaped { IsShaped script.now }
     requires good { Good script.now state.old }

@@ -42,6 +42,7 @@ fn owe_use(state: &mut State, thread: ThreadNo, phase: Phase) -> Result<(), NoMe
 }
 
 /// The step answers: the thread is at its next instruction, and owes the close of what it used.
+#[tactic(auto, unfolding(crate::specs::Acted::answered))]
 pub fn answered(state: &mut State, thread: ThreadNo, row: ThreadRow, step: Step, effects: Effects, code: i32) -> Result<Outcome, NoMemory>
     requires { row.place < 4294967295 }
     ensures { IfOk result (λ outcome. acted state.new outcome ≡ answered state.old thread row step effects code) }

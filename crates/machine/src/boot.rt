@@ -118,7 +118,8 @@ fn push_threads(all: &mut Vec<Born>, process: u8, number: ObjNo, threads: &[Thre
 /// then each process with its threads behind it.
 pub fn all_born(alloc: Global, script: &Script) -> Result<Items<Born>, NoMemory>
     requires { IsShaped script.now }
-    ensures { IfOk result (λ all. all ≡ born script.now) }
+    ensures born { IfOk result (λ all. all ≡ born script.now) }
+    ensures few { IfOk result (λ all. length all ≤ 1026) }
 {
     let mut all = born_kernel(alloc)?;
     for (j, process) in script.processes.as_slice().iter().enumerate() {
@@ -134,7 +135,7 @@ fn fresh_tables(alloc: Global, count: usize) -> Result<Items<Items<Place>>, NoMe
     ensures { IfOk result (λ tables. tables ≡ replicate count (replicate 256 fresh_place)) }
 {
     let mut tables = Vec::new(alloc);
-    for _ in 0..count {
+    for i in 0..count {
         let places = [FRESH_PLACE; MAX_HANDLES];
         tables.push(Items::new(Vec::from_slice(alloc, &places)?))?;
     }
@@ -146,7 +147,7 @@ fn no_duties(alloc: Global, count: usize) -> Result<Items<Items<Owed>>, NoMemory
     ensures { IfOk result (λ duties. duties ≡ replicate count []) }
 {
     let mut duties = Vec::new(alloc);
-    for _ in 0..count {
+    for i in 0..count {
         duties.push(Items::new(Vec::new(alloc)))?;
     }
     Ok(Items::new(duties))
@@ -171,6 +172,7 @@ fn ready_from(alloc: Global, all: &[Born]) -> Result<Items<Queued>, NoMemory>
 }
 
 /// The state in which these stand, each with an empty table and nothing that it owes.
+#[tactic(auto, unfolding(crate::specs::Boot::boot_of))]
 fn boot_of(alloc: Global, all: &[Born]) -> Result<State, NoMemory>
     requires { length all.now ≤ 65536 }
     ensures { IfOk result (λ state. state ≡ boot_of all.now) }

@@ -30,6 +30,7 @@ fn remove_handle(state: &mut State, owner: ObjNo, index: usize)
 }
 
 /// The handle and its reference go, where there is such a handle.
+#[tactic(auto, unfolding(crate::specs::Close::close_do))]
 fn close_do(state: &mut State, thread: ThreadNo, row: ThreadRow, handle: u32, found: Option<ObjNo>) -> Result<Outcome, NoMemory>
     requires room { HasRoom state.old row }
     requires found { found ≡ look state.old thread row handle }

@@ -76,6 +76,7 @@ pub fn with_handle(state: &mut State, thread: ThreadNo, row: ThreadRow, step: St
 }
 
 /// A new mutex and a handle of it, where the name is free and there is room for both.
+#[tactic(auto, unfolding(crate::specs::Create::create_mutex))]
 pub fn create_mutex(state: &mut State, thread: ThreadNo, row: ThreadRow, name: Name, register: u8) -> Result<Outcome, NoMemory>
     requires room { HasRoom state.old row }
     requires register { register < 8 }

@@ -46,6 +46,7 @@ fn stays_with_thread(row: Option<ObjectRow>) -> bool
 }
 
 /// The first step: the thread uses the object that the handle names.
+#[tactic(auto, unfolding(crate::specs::Dup::dup_look))]
 fn dup_look(state: &mut State, thread: ThreadNo, row: ThreadRow, found: Option<ObjNo>) -> Result<Outcome, NoMemory>
     requires { HasRoom state.old row }
     ensures { IfOk result (λ outcome. acted state.new outcome ≡ dup_look state.old thread row found) }
@@ -66,6 +67,7 @@ fn dup_look(state: &mut State, thread: ThreadNo, row: ThreadRow, found: Option<O
 }
 
 /// The second step: one handle more of the object.
+#[tactic(auto, unfolding(crate::specs::Dup::dup_do))]
 fn dup_do(state: &mut State, thread: ThreadNo, row: ThreadRow, object: ObjNo, to: u8) -> Result<Outcome, NoMemory>
     requires room { HasRoom state.old row }
     requires register { to < 8 }

@@ -14,6 +14,7 @@ use entry_log::{Effect, Holder, Step};
 use sym_base::{NoMemory, ObjNo, ThreadNo};
 
 /// Gives a reference up.
+#[tactic(auto, unfolding(crate::specs::Pay::pay))]
 fn pay_close(state: &mut State, thread: ThreadNo, holder: Holder, object: ObjNo) -> Result<Outcome, NoMemory>
     requires { count_of state.old object < 65536 }
     ensures { IfOk result (λ outcome. acted state.new outcome ≡ pay state.old thread (Owed.Close holder object) (drop 1 (owed_of state.old thread))) }
@@ -29,6 +30,7 @@ fn pay_close(state: &mut State, thread: ThreadNo, holder: Holder, object: ObjNo)
 }
 
 /// Removes the row of a dead object.
+#[tactic(auto, unfolding(crate::specs::Pay::pay))]
 fn pay_sweep(state: &mut State, thread: ThreadNo, object: ObjNo) -> Outcome
     ensures { acted state.new result ≡ pay state.old thread (Owed.Sweep object) (drop 1 (owed_of state.old thread)) }
 {

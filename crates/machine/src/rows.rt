@@ -4,7 +4,7 @@ ghost use Rattle.std.specs.Prelude.{◌≡◌, [], ◌∷◌, OnOk, drop, slice_
 ghost use Rattle.machine.specs.Rows.{object_of, table_of, thread_of, owed_of, with_object, with_place, with_thread, with_owed, owing};
 
 use crate::{ObjectRow, Owed, Place, State, ThreadRow};
-use sym_base::{NoMemory, ObjNo, ThreadNo};
+use sym_base::{Items, NoMemory, ObjNo, ThreadNo};
 
 /// The object of this number, where it was made and isn't swept.
 pub fn object_of(state: &State, object: ObjNo) -> Option<ObjectRow>
@@ -74,16 +74,22 @@ pub fn set_thread(state: &mut State, thread: ThreadNo, row: ThreadRow)
     }
 }
 
-/// Puts another place into a table.
+/// Puts another place into this table.
+fn set_in_table(table: &mut Items<Place>, index: usize, place: Place)
+    ensures { table.new ≡ slice_set table.old index place }
+{
+    if index < table.len() {
+        table.set(index, place);
+    }
+}
+
+/// Puts another place into the table of a process or a thread.
 pub fn set_place(state: &mut State, owner: ObjNo, index: usize, place: Place)
     ensures { state.new ≡ with_place state.old owner index place }
 {
     let at = owner.0 as usize;
     if at < state.handles.len() {
-        let table = state.handles.get_mut(at);
-        if index < table.len() {
-            table.set(index, place);
-        }
+        set_in_table(state.handles.get_mut(at), index, place);
     }
 }
 

@@ -1,5 +1,5 @@
 //! Handle tables: free places, instances, and what a handle's number says.
-ghost use Rattle.std.specs.Prelude.{◌≡◌, ◌<◌, ◌≤◌, length};
+ghost use Rattle.std.specs.Prelude.{◌≡◌, ◌+◌, ◌*◌, ◌<◌, ◌≤◌, length};
 ghost use Rattle.machine.specs.Table.{free_index, is_full, next_instance, place_at, owner_of, index_of, instance_of, holder_of, object_at, look};
 
 use crate::rows::table_of;
