@@ -1,0 +1,11 @@
+pub mod ActorText
+pub mod Appends
+pub mod EffectText
+pub mod EntryLine
+pub mod FinalLine
+pub mod HistoryText
+pub mod HolderText
+pub mod Joined
+pub mod PartText
+pub mod StepText
+pub mod WordText

@@ -5,8 +5,10 @@ mod effect;
 mod effects;
 mod entry;
 mod step;
+mod text;
 
 pub use effect::{Effect, Holder, LockNo, StatusNo};
 pub use effects::Effects;
 pub use entry::{Actor, Entry, FinalRow};
 pub use step::{Part, Step, Word};
+pub use text::{entry_text, final_text};

@@ -54,13 +54,13 @@ abbrev pub owes : List Owed → Bool
 owes [] = false
 owes (what ∷ rest) = true
 
-abbrev pub has_work : Script → State → ObjNo → Option ThreadRow → Bool
-has_work script S t None = false
-has_work script S t (Some row) = owes (owed_of S t) || is_some (instruction script row)
+abbrev pub has_work : Script → List Owed → Option ThreadRow → Bool
+has_work script owed None = false
+has_work script owed (Some row) = owes owed || is_some (instruction script row)
 
 -- a thread is ready where it has something to do
 abbrev pub is_ready : Script → State → ObjNo → Bool
-is_ready script S t = has_work script S t (thread_of S t)
+is_ready script S t = has_work script (owed_of S t) (thread_of S t)
 
 -- a thread that has nothing left to do leaves the ready list
 unfoldable pub settled : Script → ObjNo → State → State

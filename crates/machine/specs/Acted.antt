@@ -1,5 +1,5 @@
 -- What an action leaves: the state, its step, its effects, and its answer.
-use Rattle.std.specs.Prelude.{◌≡◌, ℕ, ◌==◌, if◌then◌else◌, ℤ, pos, negsuc, true, List, [], ◌∷◌, ◌++◌, Option, Some, None}
+use Rattle.std.specs.Prelude.{◌≡◌, ℕ, Bool, ◌==◌, if◌then◌else◌, ℤ, pos, negsuc, true, List, [], ◌∷◌, ◌++◌, Option, Some, None}
 use Rattle.sym_base.specs.declared.number.ObjNo.{ObjNo}
 use Rattle.sym_base.specs.declared.kind.Kind.{Kind}
 use Rattle.entry_log.specs.declared.effect.Holder.{Holder}
@@ -28,10 +28,14 @@ abbrev pub owed_use : ObjNo → Phase → List Owed
 owed_use t Start = []
 owed_use t (Using o) = Close (Temp t) o ∷ []
 
--- the step answers: the thread is at its next instruction, and owes the close of what it used
-unfoldable pub answered : State → ObjNo → ThreadRow → Step → List Effect → ℤ → Acted
+-- after an answer the thread is at its next instruction, and owes the close of what it used
+unfoldable pub answered_state : State → ObjNo → ThreadRow → State
+answered_state S t row = with_thread (owing S t (owed_use t row.phase)) t (advanced row)
+
+-- a step that answers
+abbrev pub answered : State → ObjNo → ThreadRow → Step → List Effect → ℤ → Acted
 answered S t row step effects code = record {
-  state = with_thread (owing S t (owed_use t row.phase)) t (advanced row);
+  state = answered_state S t row;
   outcome = record { step = step; effects = effects; answer = Some code };
 }
 
@@ -44,14 +48,18 @@ dead_row (Some row) = Some (record row { dead = true })
 abbrev pub died : State → ObjNo → State
 died S o = with_object S o (dead_row (object_of S o))
 
--- closing a reference: the object's last one takes it to its death
-abbrev pub closed_effects : State → Holder → ObjNo → List Effect
-closed_effects S holder o = if count_of S o == 1 then Minus holder o ∷ Dead o ∷ [] else Minus holder o ∷ []
+-- whether an object has one reference
+abbrev pub is_last : State → ObjNo → Bool
+is_last S o = count_of S o == 1
+
+-- closing a reference: with the last one the object dies
+abbrev pub closed_effects : Bool → Holder → ObjNo → List Effect
+closed_effects last holder o = if last then Minus holder o ∷ Dead o ∷ [] else Minus holder o ∷ []
 
 -- whoever closes the last reference owes the sweep
-abbrev pub owed_after_close : State → ObjNo → List Owed
-owed_after_close S o = if count_of S o == 1 then Sweep o ∷ [] else []
+abbrev pub owed_after_close : Bool → ObjNo → List Owed
+owed_after_close last o = if last then Sweep o ∷ [] else []
 
--- closing a reference that stands in S leaves T, and the object dead where it was the last
-abbrev pub after_close : State → ObjNo → State → State
-after_close S o T = if count_of S o == 1 then died T o else T
+-- what closing a reference leaves of the object
+abbrev pub after_close : Bool → ObjNo → State → State
+after_close last o S = if last then died S o else S

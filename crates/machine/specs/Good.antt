@@ -42,6 +42,11 @@ pub record IsGoodThread (script : Script) (S : State) (row : ThreadRow) : Type 0
   pub place : row.place ≤ length (instructions_of (declared_of script row.declared))
   pub registers : length row.registers ≡ 8
 
+-- each thread of a ready list has something to do
+abbrev pub EachReady : Script → State → List Queued → Type 0
+EachReady script S [] = Unit {0}
+EachReady script S (q ∷ qs) = (is_ready script S q.thread ≡ true) × EachReady script S qs
+
 pub record Good (script : Script) (S : State) : Type 0 where
   -- processes and threads have the least numbers, and a table and a list of duties each
   pub tables : length S.handles ≡ length S.threads
@@ -59,4 +64,4 @@ pub record Good (script : Script) (S : State) : Type 0 where
   pub alive : (o : ObjNo) → 0 < count_of S o → IsAlive (object_of S o)
   pub sweeps : (o : ObjNo) → sweeps_of S o ≡ is_dead (object_of S o)
   -- the ready list holds threads that have something to do
-  pub ready : (i : ℕ) (q : Queued) → slice_get S.ready i ≡ Some q → is_ready script S q.thread ≡ true
+  pub ready : EachReady script S S.ready

@@ -4,7 +4,8 @@ use Rattle.std.proofs.lemmas.List.{length-map}
 use Rattle.std.specs.List.{AllByRecursion, flat_map, slice_get}
 use Rattle.script_types.specs.ScriptText.{lines_text, thread_lines, script_lines}
 use Rattle.script_types.specs.Shape.{HasRegisters, IsShaped}
-use Rattle.script_types.specs.Valid.{IsOne, IsValidInstr, IsValidProcess, IsValidThread, IsValid}
+use Rattle.script_types.specs.ValidLine.{IsValidInstr}
+use Rattle.script_types.specs.Valid.{IsOne, IsValidProcess, IsValidThread, IsValid}
 use Rattle.script_types.specs.declared.declaration.ThreadDecl.{ThreadDecl}
 use Rattle.script_types.specs.declared.instruction.Instr.{Instr}
 use Rattle.script_types.specs.declared.instruction.Instr.TheVariants as instr

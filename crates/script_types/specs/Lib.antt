@@ -4,3 +4,4 @@ pub mod ObjectName
 pub mod ScriptText
 pub mod Shape
 pub mod Valid
+pub mod ValidLine

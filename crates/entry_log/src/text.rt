@@ -1,0 +1,10 @@
+//! The text of entries and of final rows.
+mod effects;
+mod entries;
+mod holders;
+mod line;
+mod rows;
+mod steps;
+
+pub use entries::entry_text;
+pub use rows::final_text;

@@ -1,0 +1,98 @@
+//! The line of an entry.
+ghost use Rattle.std.specs.Prelude.{◌≡◌, ◌+◌, ◌≤◌, ◌∷◌, ◌++◌, length, decimal};
+ghost use Rattle.entry_log.specs.ActorText.{actor_text};
+ghost use Rattle.entry_log.specs.Appends.{Appends};
+ghost use Rattle.entry_log.specs.EntryLine.{answer_words, entry_line};
+ghost use Rattle.entry_log.specs.Joined.{preceded};
+ghost use Rattle.entry_log.specs.StepText.{step_text};
+
+use super::effects::put_effects;
+use super::line::{Line, put, put_code, put_number};
+use super::steps::put_step;
+use crate::{Actor, Entry};
+use arrayvec::ArrayVec;
+
+/// Adds an actor's letters and number, at most 3 and 5 bytes.
+fn put_numbered(line: &mut Line, letters: &[u8], number: u16)
+    requires { length line.old.items + length letters.now + 5 ≤ 512 }
+    ensures text { line.new.items ≡ line.old.items ++ (letters.now ++ decimal number) }
+    ensures short { length line.new.items ≤ length line.old.items + length letters.now + 5 }
+{
+    put(line, letters);
+    put_number(line, number);
+}
+
+/// Adds an actor, at most 8 bytes.
+#[tactic(auto, unfolding(crate::specs::ActorText::actor_text))]
+fn put_actor(line: &mut Line, actor: Actor)
+    requires { length line.old.items + 8 ≤ 512 }
+    ensures text { line.new.items ≡ line.old.items ++ actor_text actor }
+    ensures short { length line.new.items ≤ length line.old.items + 8 }
+{
+    match actor {
+        Actor::Thread(thread) => put_numbered(line, b"t", thread.0),
+        Actor::Irq(number) => put_numbered(line, b"irq", number as u16),
+        Actor::Idfc => put(line, b"idfc"),
+        Actor::Tick => put(line, b"tick"),
+        Actor::Idle => put(line, b"idle"),
+    }
+}
+
+/// Adds the number that was answered, after an equals sign, at most 14 bytes.
+fn put_number_answered(line: &mut Line, number: i32)
+    requires { length line.old.items + 14 ≤ 512 }
+    ensures text { line.new.items ≡ line.old.items ++ preceded 32 (answer_words (Some number)) }
+    ensures short { length line.new.items ≤ length line.old.items + 14 }
+{
+    put(line, b" = ");
+    put_code(line, number);
+}
+
+/// Adds an answer, where there is one.
+#[tactic(auto, unfolding(crate::specs::EntryLine::answer_words, crate::specs::Joined::preceded))]
+fn put_answer(line: &mut Line, answer: Option<i32>)
+    requires { length line.old.items + 14 ≤ 512 }
+    ensures text { line.new.items ≡ line.old.items ++ preceded 32 (answer_words answer) }
+    ensures short { length line.new.items ≤ length line.old.items + 14 }
+{
+    if let Some(number) = answer {
+        put_number_answered(line, number);
+    }
+}
+
+/// Adds what stands before the effects: place, actor and step, at most 41 bytes.
+fn put_head(line: &mut Line, entry: &Entry)
+    requires { length line.old.items + 41 ≤ 512 }
+    ensures text { line.new.items ≡ line.old.items
+        ++ (decimal entry.now.place ++ 32 ∷ actor_text entry.now.actor ++ 32 ∷ step_text entry.now.step) }
+    ensures short { length line.new.items ≤ length line.old.items + 41 }
+{
+    put_number(line, entry.place);
+    put(line, b" ");
+    put_actor(line, entry.actor);
+    put(line, b" ");
+    put_step(line, &entry.step);
+}
+
+/// The line of an entry.
+fn line_of(entry: &Entry) -> Line
+    ensures text { result.items ≡ entry_line entry.now }
+    ensures short { length result.items ≤ 192 }
+{
+    let mut line = Line::new();
+    put_head(&mut line, entry);
+    put_effects(&mut line, entry.effects.as_slice());
+    put_answer(&mut line, entry.answer);
+    put(&mut line, b"\n");
+    line
+}
+
+/// Adds the line of an entry, with its LF, to a buffer. False exactly where it doesn't fit, and then
+/// nothing changes. The line has at most 512 bytes, so an empty buffer takes it.
+pub fn entry_text(entry: &Entry, out: &mut ArrayVec<u8, 512>) -> bool
+    ensures line { Appends result out.old.items out.new.items (entry_line entry.now) }
+    ensures short { length (entry_line entry.now) ≤ 512 }
+{
+    let line = line_of(entry);
+    out.try_extend_from_slice(line.as_slice()).is_ok()
+}

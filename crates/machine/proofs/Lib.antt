@@ -1,0 +1,14 @@
+pub mod Totals
+pub mod Counts
+pub mod Cases
+pub mod Tables
+pub mod RefsSteps
+pub mod RefsAct
+pub mod Lists
+pub mod Shape
+pub mod Live
+pub mod GoodSteps
+pub mod KeepsSteps
+pub mod KeepsClose
+pub mod GoodAct
+pub mod Histories
