@@ -1,5 +1,5 @@
 -- The objects that are left, in order of number, with their counts.
-use Rattle.std.specs.Prelude.{ℕ, ◌+◌, List, [], ◌∷◌, Option, Some, None, drop}
+use Rattle.std.specs.Prelude.{◌≡◌, ℕ, ◌+◌, List, [], ◌∷◌, Option, Some, None, drop}
 use Rattle.sym_base.specs.declared.number.ObjNo.{ObjNo}
 use Rattle.entry_log.specs.declared.entry.FinalRow.{FinalRow}
 use Rattle.machine.specs.declared.state.ObjectRow.{ObjectRow}
@@ -21,3 +21,8 @@ rows_from S n = rows_of S n (drop n S.objects)
 
 abbrev pub final_rows : State → List FinalRow
 final_rows S = rows_of S 0 S.objects
+
+-- the first of the rows from a number on, None where there is none
+abbrev pub IsNextRow : (ℕ → List FinalRow) → ℕ → Option FinalRow → Type 0
+IsNextRow rows from None = rows from ≡ []
+IsNextRow rows from (Some row) = rows from ≡ row ∷ rows (row.object.0 + 1)

@@ -13,3 +13,7 @@ pub mod History
 pub mod FinalRows
 pub mod Run
 pub mod Good
+pub mod ActedBy
+pub mod Room
+pub mod Built
+pub mod PlainView

@@ -1,5 +1,8 @@
 //! The kernel's state as plain lists of rows, indexed by number.
+ghost use Rattle.std.specs.Prelude.{◌≡◌, IfOk};
+
 use entry_log::Holder;
+use std::alloc::{AllocError, Global};
 use sym_base::{Items, Kind, Name, ObjNo, ThreadNo};
 
 /// The most objects that a kernel makes. This project's own limit.
@@ -71,4 +74,30 @@ pub struct State {
     pub ready: Items<Queued>,
     /// What each thread owes, in order of owing.
     pub owed: Items<Items<Owed>>,
+}
+
+/// A second list of lists of the same items.
+fn copied_lists<T: Copy>(alloc: Global, lists: &[Items<T>]) -> Result<Items<Items<T>>, AllocError>
+    ensures { IfOk result (λ copies. copies ≡ lists.now) }
+{
+    let mut copies = Vec::new(alloc);
+    for list in lists {
+        copies.push(list.copied(alloc)?)?;
+    }
+    Ok(Items::new(copies))
+}
+
+impl State {
+    /// A second state that is the same.
+    pub fn copied(&self, alloc: Global) -> Result<State, AllocError>
+        ensures { IfOk result (λ copy. copy ≡ self.now) }
+    {
+        Ok(State {
+            objects: self.objects.copied(alloc)?,
+            handles: copied_lists(alloc, self.handles.as_slice())?,
+            threads: self.threads.copied(alloc)?,
+            ready: self.ready.copied(alloc)?,
+            owed: copied_lists(alloc, self.owed.as_slice())?,
+        })
+    }
 }
