@@ -14,3 +14,4 @@ pub mod GoodAct
 pub mod Histories
 pub mod BootGood
 pub mod Boots
+pub mod CountSmall
