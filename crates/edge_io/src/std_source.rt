@@ -1,0 +1,49 @@
+//! A source over a reader of the standard library.
+ghost use Rattle.std.specs.Prelude.{◌≡◌};
+
+use crate::{Failed, Source};
+use std::io::Read;
+use std::marker::Model;
+
+/// A source over a standard reader. It tells nothing of the bytes. A contract sees its count of
+/// faults. It takes no memory.
+#[derive(Drop)]
+pub struct StdSource<R> {
+    input: R,
+    faults: u64,
+}
+
+impl<R> Model for StdSource<R> {
+    ghost use Rattle.std.specs.Prelude.{ℕ};
+
+    ghost Value = { ℕ };
+
+    ghost view = { λ a. a.faults };
+}
+
+impl<R: Read> StdSource<R> {
+    /// A source over this reader, with no fault yet.
+    pub fn new(input: R) -> Self
+        ensures { result ≡ 0 }
+    {
+        StdSource { input, faults: 0 }
+    }
+}
+
+impl<R: Read> Source for StdSource<R> {
+    ghost use Rattle.std.specs.Prelude.{None};
+
+    ghost left = { λ _. None };
+
+    ghost faults = { λ faults. faults };
+
+    fn read(&mut self, buf: &mut [u8]) -> Result<usize, Failed> {
+        match self.input.read(buf) {
+            Ok(count) => Ok(count),
+            Err(_) => {
+                self.faults = self.faults.saturating_add(1);
+                Err(Failed)
+            }
+        }
+    }
+}
