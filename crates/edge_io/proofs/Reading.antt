@@ -1,6 +1,6 @@
 -- Reads one after another.
-use Rattle.std.proofs.Common.{◌≡◌, ℕ, List, [], ◌++◌, ◌+◌, ◌-◌, ◌≤◌, length, take, drop, append_assoc, refl, sym, ◌∙◌, ap, Bool}
-use Rattle.std.proofs.lemmas.List.{append-nil, drop-drop, length-take-le, take-append-drop, take_at, take_rest}
+use Rattle.std.proofs.Common.{◌≡◌, ℕ, List, [], ◌++◌, append_assoc, refl, sym, ◌∙◌, ap, Bool}
+use Rattle.std.proofs.lemmas.List.{append-nil}
 use Rattle.std.specs.Prelude.{Option, None, Some, IfSome, is_some}
 use Rattle.edge_io.specs.Left.{preceded}
 
@@ -27,10 +27,3 @@ read_all whole (Some bytes) input read end = rw (← read, end) (append-nil inpu
 pub still_tells : (whole left : Option (List ℕ)) (input : List ℕ) → preceded input left ≡ whole → is_some left ≡ is_some whole
 still_tells whole None input read = ap is_some read
 still_tells whole (Some bytes) input read = ap is_some read
-
--- bytes at a place, copied to the front of a buffer, and then those behind them
-pub moved_from : (bytes copied tail : List ℕ) (at n : ℕ) → copied ≡ take n (take (length bytes - at) (drop at bytes)) → n ≤ length (take (length bytes - at) (drop at bytes)) → take n (copied ++ tail) ++ drop (at + n) bytes ≡ drop at bytes
-moved_from bytes copied tail at n copy within =
-    let same : copied ≡ take n (drop at bytes) = copy ∙ ap (take n) (take_rest bytes at) in
-    let size : length copied ≡ n = ap length same ∙ length-take-le n (drop at bytes) (rw take_rest at within) in
-    rw (take_at copied tail n size, same, ← drop-drop n at bytes) (take-append-drop n (drop at bytes))

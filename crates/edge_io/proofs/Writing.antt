@@ -1,5 +1,5 @@
 -- Writes one after another.
-use Rattle.std.proofs.Common.{◌≡◌, ℕ, ◌+◌, ◌-◌, ◌≤◌, List, [], ◌++◌, length, take, drop, append_assoc, refl, sym, ◌∙◌, ap}
+use Rattle.std.proofs.Common.{◌≡◌, ℕ, ◌+◌, ◌-◌, ◌≤◌, List, [], ◌++◌, length, take, drop, append_assoc, refl, sym, ◌∙◌, ap, subst}
 use Rattle.std.proofs.lemmas.List.{append-nil, take-append-drop, take_rest}
 use Rattle.std.proofs.Math.Seq.{take-add}
 use Rattle.std.specs.Prelude.{Option, None, Some, is_some}
@@ -49,6 +49,34 @@ wrote_then_prefix a b c xs ys first p = record {
   split = append_assoc xs p.front p.rest ∙ ap (λ t. xs ++ t) p.split;
   wrote = wrote_both a b c xs p.front first p.wrote;
 }
+
+-- Of a text all but the rest was written: what a loop that writes a long text keeps.
+pub record WroteAllBut (old new : Option (List ℕ)) (rest text : List ℕ) : Type 0 where
+  pub front : List ℕ
+  pub split : front ++ rest ≡ text
+  pub wrote : Wrote old new front
+
+-- nothing is written yet
+pub all_but_all : (old : Option (List ℕ)) (text : List ℕ) → WroteAllBut old old text text
+all_but_all old text = record { front = []; split = refl; wrote = wrote_nothing old }
+
+-- the next part was written
+pub all_but_next : (a b c : Option (List ℕ)) (left part rest text : List ℕ) → WroteAllBut a b left text → left ≡ part ++ rest → Wrote b c part → WroteAllBut a c rest text
+all_but_next a b c left part rest text before next wrote = record {
+  front = before.front ++ part;
+  split = append_assoc before.front part rest ∙ ap (λ t. before.front ++ t) (sym next) ∙ before.split;
+  wrote = wrote_both a b c before.front part before.wrote wrote;
+}
+
+-- nothing is left to write
+pub all_but_nothing : (a b : Option (List ℕ)) (text : List ℕ) → WroteAllBut a b [] text → Wrote a b text
+all_but_nothing a b text before = before.wrote ∙ ap (followed a) (sym (append-nil before.front) ∙ before.split)
+
+-- a front of the next part was written
+pub all_but_prefix : (a b c : Option (List ℕ)) (left part rest text : List ℕ) → WroteAllBut a b left text → left ≡ part ++ rest → WrotePrefix b c part → WrotePrefix a c text
+all_but_prefix a b c left part rest text before next p =
+    let whole : WrotePrefix a c (before.front ++ (part ++ rest)) = wrote_then_prefix a b c before.front (part ++ rest) before.wrote (prefix_of_more b c part rest p) in
+    subst (WrotePrefix a c) (ap (λ t. before.front ++ t) (sym next) ∙ before.split) whole
 
 -- the first of a text's bytes are a front of it
 pub prefix_of_take : (a b : Option (List ℕ)) (n : ℕ) (text : List ℕ) → Wrote a b (take n text) → WrotePrefix a b text

@@ -1,4 +1,4 @@
--- A count of faults.
+-- A count of faults, which stands still at its last value, 2 ^ 64 - 1.
 use Rattle.std.specs.Prelude.{◌≡◌, ℕ, ◌<◌, ◌⊎◌}
 
 -- A count rose. One that stands at its last value counts as risen, since a fault leaves it there.

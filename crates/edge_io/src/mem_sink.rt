@@ -1,8 +1,7 @@
 //! A sink in memory.
-ghost use Rattle.std.specs.Prelude.{◌≡◌, ℕ, ◌<◌, ◌≤◌, ◌-◌, ◌++◌, ◌==◌, ◌&&◌, ◌||◌, List, [], min, length, take, is_some, is_err, nat_lt, IfOk, OnErr, Some};
-ghost use Rattle.edge_io.specs.Calls.{next_call, next_fault, is_failing};
-ghost use Rattle.edge_io.specs.Faults.{Rose};
-ghost use Rattle.edge_io.specs.Written.{Wrote};
+ghost use Rattle.std.specs.Prelude.{◌≡◌, ◌<◌, ◌≤◌, ◌||◌, [], length, take, is_err, IfOk, OnErr, Some};
+ghost use Rattle.edge_io.specs.Calls.{is_failing};
+ghost use Rattle.edge_io.specs.MemSink.{is_full, amount_taken, after_write, after_failed_write};
 
 use crate::{Failed, Sink};
 use std::alloc::{AllocError, Global};
@@ -67,16 +66,14 @@ impl Sink for MemSink {
     /// bytes. Else it takes as many bytes as the piece, the step and the room left allow. The count of
     /// calls stands still at 2^32 - 1.
     fn write(&mut self, piece: &[u8]) -> Result<usize, Failed>
-        ensures fails { is_err result ≡ (is_failing self.old.fails self.old.calls || (nat_lt 0 (length piece.now) && (length self.old.written == self.old.room))) }
-        ensures amount { IfOk result (λ n. n ≡ min self.old.step (min (length piece.now) (self.old.room - length self.old.written))) }
-        ensures after { IfOk result (λ n. self.new ≡ record self.old { written = self.old.written ++ take n piece.now; calls = next_call self.old.calls }) }
-        ensures after_failed { OnErr result (self.new ≡ record self.old { calls = next_call self.old.calls; faults = next_fault self.old.faults }) }
-        ensures count { IfOk result (λ n. n ≤ length piece.now) }
+        ensures fails { is_err result ≡ (is_failing self.old.fails self.old.calls || is_full self.old piece.now) }
+        ensures amount { IfOk result (λ n. n ≡ amount_taken self.old piece.now) }
+        ensures after { IfOk result (λ n. self.new ≡ after_write self.old (take n piece.now)) }
+        ensures after_failed { OnErr result (self.new ≡ after_failed_write self.old) }
+
+        // The rest of what each sink promises follows. These two rest on a step above 0 and on a
+        // count that is a u64.
         ensures some { 0 < length piece.now → IfOk result (λ n. 0 < n) }
-        ensures moved { IfOk result (λ n. Wrote (Some self.old.written) (Some self.new.written) (take n piece.now)) }
-        ensures failed { OnErr result (Some self.new.written ≡ Some self.old.written) }
-        ensures tells { is_some (Some self.new.written) ≡ is_some (Some self.old.written) }
-        ensures fault { OnErr result (Rose self.old.faults self.new.faults) }
         ensures never_falls { self.old.faults ≤ self.new.faults }
     {
         self.calls = self.calls.saturating_add(1);
@@ -86,9 +83,7 @@ impl Sink for MemSink {
             return Err(Failed);
         }
         let count = self.step.min(piece.len()).min(room);
-        match self.bytes.extend_from_slice(&piece[..count]) {
-            Ok(()) => Ok(count),
-            Err(_) => unreachable!(),
-        }
+        self.bytes.extend_from_slice(&piece[..count]).unwrap();
+        Ok(count)
     }
 }

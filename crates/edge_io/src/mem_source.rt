@@ -1,8 +1,7 @@
 //! A source in memory.
-ghost use Rattle.std.specs.Prelude.{◌≡◌, ℕ, ◌<◌, ◌≤◌, ◌↔◌, List, [], ◌++◌, min, length, take, drop, is_some, is_err, IfOk, IfSome, OnErr, Some};
-ghost use Rattle.edge_io.specs.Calls.{next_call, next_fault, is_failing};
-ghost use Rattle.edge_io.specs.Faults.{Rose};
-ghost use Rattle.edge_io.specs.Left.{preceded};
+ghost use Rattle.std.specs.Prelude.{◌≡◌, ◌<◌, ◌≤◌, ◌↔◌, [], ◌++◌, length, take, drop, is_err, IfOk, OnErr, Some};
+ghost use Rattle.edge_io.specs.Calls.{is_failing};
+ghost use Rattle.edge_io.specs.MemSource.{amount_given, after_read, after_failed_read};
 
 use crate::{Failed, Source};
 use std::marker::Model;
@@ -57,16 +56,15 @@ impl Source for MemSource {
     /// step and what is left allow. The count of calls stands still at 2^32 - 1.
     fn read(&mut self, buf: &mut [u8]) -> Result<usize, Failed>
         ensures fails { is_err result ≡ is_failing self.old.fails self.old.calls }
-        ensures amount { IfOk result (λ n. n ≡ min self.old.step (min (length buf.new) (length self.old.left))) }
+        ensures amount { IfOk result (λ n. n ≡ amount_given self.old (length buf.old)) }
         ensures gave { IfOk result (λ n. buf.new ≡ take n self.old.left ++ drop n buf.old) }
-        ensures after { IfOk result (λ n. self.new ≡ record self.old { left = drop n self.old.left; calls = next_call self.old.calls }) }
-        ensures after_failed { OnErr result (self.new ≡ record self.old { calls = next_call self.old.calls; faults = next_fault self.old.faults }) }
-        ensures count { IfOk result (λ n. n ≤ length buf.new) }
-        ensures moved { IfOk result (λ n. preceded (take n buf.new) (Some self.new.left) ≡ Some self.old.left) }
-        ensures end { 0 < length buf.new → IfOk result (λ n. IfSome (Some self.old.left) (λ bytes. (n ≡ 0) ↔ (bytes ≡ []))) }
-        ensures failed { OnErr result (Some self.new.left ≡ Some self.old.left) }
-        ensures tells { is_some (Some self.new.left) ≡ is_some (Some self.old.left) }
-        ensures fault { OnErr result (Rose self.old.faults self.new.faults) }
+        ensures after { IfOk result (λ n. self.new ≡ after_read self.old n) }
+        ensures after_failed { OnErr result (self.new ≡ after_failed_read self.old) }
+        ensures kept { OnErr result (buf.new ≡ buf.old) }
+
+        // The rest of what each source promises follows. These two rest on a step above 0 and on a
+        // count that is a u64.
+        ensures end { 0 < length buf.new → IfOk result (λ n. (n ≡ 0) ↔ (self.old.left ≡ [])) }
         ensures never_falls { self.old.faults ≤ self.new.faults }
     {
         self.calls = self.calls.saturating_add(1);

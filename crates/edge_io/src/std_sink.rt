@@ -1,5 +1,6 @@
 //! A sink over a writer of the standard library.
-ghost use Rattle.std.specs.Prelude.{◌≡◌};
+ghost use Rattle.std.specs.Prelude.{◌≡◌, ◌<◌, ◌≤◌, length, IfOk, OnOk, OnErr};
+ghost use Rattle.edge_io.specs.Calls.{next_fault};
 
 use crate::{Failed, Sink};
 use std::io::Write;
@@ -37,8 +38,16 @@ impl<W: Write> Sink for StdSink<W> {
 
     ghost faults = { λ faults. faults };
 
-    /// A writer that takes none of a piece with bytes has failed.
-    fn write(&mut self, piece: &[u8]) -> Result<usize, Failed> {
+    /// The count rises where the writer fails, or takes none of a piece with bytes, and only there.
+    fn write(&mut self, piece: &[u8]) -> Result<usize, Failed>
+        ensures stays { OnOk result (self.new ≡ self.old) }
+        ensures rises { OnErr result (self.new ≡ next_fault self.old) }
+
+        // What each sink promises and isn't said by these.
+        ensures count { IfOk result (λ n. n ≤ length piece.now) }
+        ensures some { 0 < length piece.now → IfOk result (λ n. 0 < n) }
+        ensures never_falls { self.old ≤ self.new }
+    {
         match self.output.write(piece) {
             Ok(count) if count > 0 || piece.is_empty() => Ok(count),
             _ => {

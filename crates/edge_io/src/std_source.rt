@@ -1,5 +1,6 @@
 //! A source over a reader of the standard library.
-ghost use Rattle.std.specs.Prelude.{◌≡◌};
+ghost use Rattle.std.specs.Prelude.{◌≡◌, ◌≤◌, length, IfOk, OnOk, OnErr};
+ghost use Rattle.edge_io.specs.Calls.{next_fault};
 
 use crate::{Failed, Source};
 use std::io::Read;
@@ -37,7 +38,15 @@ impl<R: Read> Source for StdSource<R> {
 
     ghost faults = { λ faults. faults };
 
-    fn read(&mut self, buf: &mut [u8]) -> Result<usize, Failed> {
+    /// The count rises where the reader fails, and only there.
+    fn read(&mut self, buf: &mut [u8]) -> Result<usize, Failed>
+        ensures stays { OnOk result (self.new ≡ self.old) }
+        ensures rises { OnErr result (self.new ≡ next_fault self.old) }
+
+        // What each source promises and isn't said by these.
+        ensures count { IfOk result (λ n. n ≤ length buf.new) }
+        ensures never_falls { self.old ≤ self.new }
+    {
         match self.input.read(buf) {
             Ok(count) => Ok(count),
             Err(_) => {
