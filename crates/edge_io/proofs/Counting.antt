@@ -1,5 +1,5 @@
 -- Counts of faults over several calls.
-use Rattle.std.proofs.Common.{◌≡◌, ℕ, ◌<◌, ◌≤◌, ◌⊎◌, inl, inr, arith}
+use Rattle.std.proofs.Common.{ℕ, ◌≤◌, inl, inr, arith}
 use Rattle.edge_io.specs.Faults.{Rose}
 
 -- a count that rose had not fallen before

@@ -1,3 +1,4 @@
+pub mod Adapted
 pub mod Calls
 pub mod Faults
 pub mod Left
