@@ -12,3 +12,5 @@ pub mod KeepsSteps
 pub mod KeepsClose
 pub mod GoodAct
 pub mod Histories
+pub mod CountSmall
+pub mod RoomLaws
