@@ -14,3 +14,4 @@ pub mod GoodAct
 pub mod Histories
 pub mod CountSmall
 pub mod RoomLaws
+pub mod LeftRows

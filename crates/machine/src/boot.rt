@@ -172,7 +172,7 @@ fn ready_from(alloc: Global, all: &[Born]) -> Result<Items<Queued>, NoMemory>
 }
 
 /// The state in which these stand, each with an empty table and nothing that it owes.
-#[tactic(auto, unfolding(crate::specs::Boot::boot_of))]
+#[tactic(auto, using(std::proofs::lemmas::Simd::splat_is_map), unfolding(crate::specs::Boot::boot_of))]
 fn boot_of(alloc: Global, all: &[Born]) -> Result<State, NoMemory>
     requires { length all.now ≤ 65536 }
     ensures { IfOk result (λ state. state ≡ boot_of all.now) }
