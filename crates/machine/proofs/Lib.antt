@@ -15,3 +15,5 @@ pub mod Histories
 pub mod CountSmall
 pub mod RoomLaws
 pub mod LeftRows
+pub mod BootGood
+pub mod Boots
