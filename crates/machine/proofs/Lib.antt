@@ -17,3 +17,4 @@ pub mod RoomLaws
 pub mod LeftRows
 pub mod BootGood
 pub mod Boots
+pub mod PlainSteps

@@ -129,14 +129,21 @@ pub fn all_born(alloc: Global, script: &Script) -> Result<Items<Born>, NoMemory>
     Ok(Items::new(all))
 }
 
+/// An empty handle table.
+fn fresh_table(alloc: Global) -> Result<Items<Place>, NoMemory>
+    ensures { IfOk result (λ table. table ≡ replicate 256 fresh_place) }
+{
+    let places = [FRESH_PLACE; MAX_HANDLES];
+    Ok(Items::new(Vec::from_slice(alloc, &places)?))
+}
+
 /// An empty handle table for each.
 fn fresh_tables(alloc: Global, all: &[Born]) -> Result<Items<Items<Place>>, NoMemory>
     ensures { IfOk result (λ tables. tables ≡ map (λ _. replicate 256 fresh_place) all.now) }
 {
     let mut tables = Vec::new(alloc);
     for _born in all {
-        let places = [FRESH_PLACE; MAX_HANDLES];
-        tables.push(Items::new(Vec::from_slice(alloc, &places)?))?;
+        tables.push(fresh_table(alloc)?)?;
     }
     Ok(Items::new(tables))
 }
