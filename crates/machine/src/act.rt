@@ -68,6 +68,7 @@ fn instruction_step(state: &mut State, thread: ThreadNo, row: ThreadRow, instr: 
 }
 
 /// The step that the thread of this row makes. What is owed comes first.
+#[tactic(auto, using(crate::proofs::RoomLaws::has_registers))]
 fn act_by(script: &Script, state: &mut State, thread: ThreadNo, row: ThreadRow) -> Result<Outcome, NoMemory>
     requires shaped { IsShaped script.now }
     requires room { HasRoom state.old row }
@@ -83,6 +84,7 @@ fn act_by(script: &Script, state: &mut State, thread: ThreadNo, row: ThreadRow) 
 }
 
 /// The step that the thread of this number makes.
+#[tactic(auto, using(crate::proofs::RoomLaws::has_room))]
 fn act_of(script: &Script, state: &mut State, thread: ThreadNo) -> Result<Outcome, NoMemory>
     requires shaped { IsShaped script.now }
     requires good { Good script.now state.old }

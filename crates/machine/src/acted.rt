@@ -1,6 +1,6 @@
 //! What steps have in common: an answer, and the close of a reference.
-ghost use Rattle.std.specs.Prelude.{◌≡◌, ◌+◌, ◌<◌, ◌≤◌, if◌then◌else◌, slice_set, [], ◌∷◌, IfOk, OnOk, length};
-ghost use Rattle.machine.specs.Acted.{owed_use, answered, died};
+ghost use Rattle.std.specs.Prelude.{◌≡◌, ◌+◌, ◌<◌, ◌≤◌, slice_set, [], ◌∷◌, IfOk, OnOk, length};
+ghost use Rattle.machine.specs.Acted.{owed_use, answered, died, after_close, owed_after_close, closed_effects};
 ghost use Rattle.machine.specs.ActedBy.{acted};
 ghost use Rattle.machine.specs.Rows.{owing, advanced, with_register};
 
@@ -42,7 +42,7 @@ fn owe_use(state: &mut State, thread: ThreadNo, phase: Phase) -> Result<(), NoMe
 }
 
 /// The step answers: the thread is at its next instruction, and owes the close of what it used.
-#[tactic(auto, unfolding(crate::specs::Acted::answered))]
+#[tactic(auto, unfolding(crate::specs::Acted::answered_state))]
 pub fn answered(state: &mut State, thread: ThreadNo, row: ThreadRow, step: Step, effects: Effects, code: i32) -> Result<Outcome, NoMemory>
     requires { row.place < 4294967295 }
     ensures { IfOk result (λ outcome. acted state.new outcome ≡ answered state.old thread row step effects code) }
@@ -70,7 +70,7 @@ fn die(state: &mut State, object: ObjNo)
 /// After a reference to an object went: where it was the last, the object is dead, and the thread owes its
 /// sweep.
 pub fn after_close(state: &mut State, thread: ThreadNo, object: ObjNo, last: bool) -> Result<(), NoMemory>
-    ensures { OnOk result (state.new ≡ owing (if last then died state.old object else state.old) thread (if last then Owed.Sweep object ∷ [] else [])) }
+    ensures { OnOk result (state.new ≡ owing (after_close last object state.old) thread (owed_after_close last object)) }
 {
     if last {
         die(state, object);
@@ -81,7 +81,7 @@ pub fn after_close(state: &mut State, thread: ThreadNo, object: ObjNo, last: boo
 
 /// The effects of a close: the last reference takes the object to its death.
 pub fn closed_effects(holder: Holder, object: ObjNo, last: bool) -> Effects
-    ensures { result ≡ (if last then Effect.Minus holder object ∷ Effect.Dead object ∷ [] else Effect.Minus holder object ∷ []) }
+    ensures { result ≡ closed_effects last holder object }
 {
     let mut effects = Effects::new();
     effects.push(Effect::Minus(holder, object));

@@ -118,8 +118,7 @@ fn push_threads(all: &mut Vec<Born>, process: u8, number: ObjNo, threads: &[Thre
 /// then each process with its threads behind it.
 pub fn all_born(alloc: Global, script: &Script) -> Result<Items<Born>, NoMemory>
     requires { IsShaped script.now }
-    ensures born { IfOk result (λ all. all ≡ born script.now) }
-    ensures few { IfOk result (λ all. length all ≤ 1026) }
+    ensures { IfOk result (λ all. all ≡ born script.now) }
 {
     let mut all = born_kernel(alloc)?;
     for (j, process) in script.processes.as_slice().iter().enumerate() {
@@ -130,24 +129,31 @@ pub fn all_born(alloc: Global, script: &Script) -> Result<Items<Born>, NoMemory>
     Ok(Items::new(all))
 }
 
-/// Empty handle tables.
-fn fresh_tables(alloc: Global, count: usize) -> Result<Items<Items<Place>>, NoMemory>
-    ensures { IfOk result (λ tables. tables ≡ replicate count (replicate 256 fresh_place)) }
+/// An empty handle table.
+fn fresh_table(alloc: Global) -> Result<Items<Place>, NoMemory>
+    ensures { IfOk result (λ table. table ≡ replicate 256 fresh_place) }
+{
+    let places = [FRESH_PLACE; MAX_HANDLES];
+    Ok(Items::new(Vec::from_slice(alloc, &places)?))
+}
+
+/// An empty handle table for each.
+fn fresh_tables(alloc: Global, all: &[Born]) -> Result<Items<Items<Place>>, NoMemory>
+    ensures { IfOk result (λ tables. tables ≡ map (λ _. replicate 256 fresh_place) all.now) }
 {
     let mut tables = Vec::new(alloc);
-    for i in 0..count {
-        let places = [FRESH_PLACE; MAX_HANDLES];
-        tables.push(Items::new(Vec::from_slice(alloc, &places)?))?;
+    for _born in all {
+        tables.push(fresh_table(alloc)?)?;
     }
     Ok(Items::new(tables))
 }
 
-/// Lists of nothing that is owed.
-fn no_duties(alloc: Global, count: usize) -> Result<Items<Items<Owed>>, NoMemory>
-    ensures { IfOk result (λ duties. duties ≡ replicate count []) }
+/// Nothing that each owes.
+fn no_duties(alloc: Global, all: &[Born]) -> Result<Items<Items<Owed>>, NoMemory>
+    ensures { IfOk result (λ duties. duties ≡ map (λ _. []) all.now) }
 {
     let mut duties = Vec::new(alloc);
-    for i in 0..count {
+    for _born in all {
         duties.push(Items::new(Vec::new(alloc)))?;
     }
     Ok(Items::new(duties))
@@ -171,6 +177,28 @@ fn ready_from(alloc: Global, all: &[Born]) -> Result<Items<Queued>, NoMemory>
     Ok(Items::new(ready))
 }
 
+/// The objects of what stands at boot.
+fn objects_of(alloc: Global, all: &[Born]) -> Result<Items<Option<ObjectRow>>, NoMemory>
+    ensures { IfOk result (λ objects. objects ≡ map (λ b. Some b.object) all.now) }
+{
+    let mut objects = Vec::new(alloc);
+    for born in all {
+        objects.push(Some(born.object))?;
+    }
+    Ok(Items::new(objects))
+}
+
+/// The threads of what stands at boot.
+fn threads_of(alloc: Global, all: &[Born]) -> Result<Items<Option<ThreadRow>>, NoMemory>
+    ensures { IfOk result (λ threads. threads ≡ map (λ b. b.thread) all.now) }
+{
+    let mut threads = Vec::new(alloc);
+    for born in all {
+        threads.push(born.thread)?;
+    }
+    Ok(Items::new(threads))
+}
+
 /// The state in which these stand, each with an empty table and nothing that it owes.
 #[tactic(auto, unfolding(crate::specs::Boot::boot_of))]
 fn boot_of(alloc: Global, all: &[Born]) -> Result<State, NoMemory>
@@ -178,15 +206,16 @@ fn boot_of(alloc: Global, all: &[Born]) -> Result<State, NoMemory>
     ensures { IfOk result (λ state. state ≡ boot_of all.now) }
 {
     Ok(State {
-        objects: Items::new(all.iter().map(|born| Some(born.object)).collect(alloc)?),
-        handles: fresh_tables(alloc, all.len())?,
-        threads: Items::new(all.iter().map(|born| born.thread).collect(alloc)?),
+        objects: objects_of(alloc, all)?,
+        handles: fresh_tables(alloc, all)?,
+        threads: threads_of(alloc, all)?,
         ready: ready_from(alloc, all)?,
-        owed: no_duties(alloc, all.len())?,
+        owed: no_duties(alloc, all)?,
     })
 }
 
 /// The state at boot.
+#[tactic(auto, using(crate::proofs::BootGood::born_few))]
 pub fn boot(alloc: Global, script: &Script) -> Result<State, NoMemory>
     requires { IsShaped script.now }
     ensures { IfOk result (λ state. state ≡ boot script.now) }

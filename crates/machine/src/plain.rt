@@ -3,13 +3,13 @@ ghost use Rattle.std.specs.Prelude.{◌≡◌, ◌+◌, ◌<◌, ◌++◌, [], �
 ghost use Rattle.script_types.specs.Valid.{IsValid};
 ghost use Rattle.machine.specs.Built.{IsBuilt};
 ghost use Rattle.machine.specs.FinalRows.{rows_from, IsNextRow};
-ghost use Rattle.machine.specs.History.{after, entry_by};
+ghost use Rattle.machine.specs.History.{after, entry_of, entry_by};
 ghost use Rattle.machine.specs.Run.{slot_actor};
 
 use crate::act::acted_by;
 use crate::boot::boot;
 use crate::choice::chosen;
-use crate::{State, final_rows};
+use crate::{Outcome, State, final_rows};
 use entry_log::{Actor, Entry, FinalRow};
 use script_types::{Script, Slot};
 use std::alloc::Global;
@@ -47,6 +47,24 @@ fn slot_actor(state: &State, slot: Slot) -> Actor
     }
 }
 
+/// The entry of an action at a place.
+fn entry_of(place: u32, actor: Actor, outcome: Outcome) -> Entry
+    ensures { result ≡ entry_of place actor outcome }
+{
+    let Outcome {
+        step,
+        effects,
+        answer,
+    } = outcome;
+    Entry {
+        place,
+        actor,
+        step,
+        effects,
+        answer,
+    }
+}
+
 impl Plain {
     /// The machine at boot.
     pub fn boot(alloc: Global, script: Script) -> Result<Plain, NoMemory>
@@ -74,13 +92,8 @@ impl Plain {
         let actor = slot_actor(&self.state, slot);
         let mut state = self.state.copied(self.alloc)?;
         let outcome = acted_by(self.alloc, &self.script, &mut state, actor)?;
-        self.history.push(Entry {
-            place: self.history.len() as u32 + 1,
-            actor,
-            step: outcome.step,
-            effects: outcome.effects,
-            answer: outcome.answer,
-        })?;
+        let entry = entry_of(self.history.len() as u32 + 1, actor, outcome);
+        self.history.push(entry)?;
         self.state = state;
         Ok(())
     }

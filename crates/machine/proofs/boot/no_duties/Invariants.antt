@@ -1,5 +1,6 @@
-use Rattle.std.proofs.Common.{◌≡◌, [], replicate}
+use Rattle.std.proofs.Common.{◌≡◌, ◌++◌, drop, map, []}
+use Rattle.machine.specs.declared.boot.Born.{Born}
 use Rattle.machine.proofs.boot.no_duties.Given as goal
 
-abbrev pub invariant-loop-i : goal.invariant-loop-i
-invariant-loop-i l = l.duties.items ≡ replicate l.i []
+abbrev pub invariant-loop-born : goal.invariant-loop-born
+invariant-loop-born l = l.duties.items ++ map (λ (b : Born). []) (drop l._born-index l.all) ≡ map (λ (b : Born). []) l.all
