@@ -1,9 +1,8 @@
 -- What a contract sees of a kernel.
-use Rattle.std.specs.Prelude.{◌≡◌, ℕ, Bool, true, List}
+use Rattle.std.specs.Prelude.{◌≡◌, ℕ, ◌≤◌, Bool, true, List}
 use Rattle.script_types.specs.declared.script.Script.{Script}
-use Rattle.script_types.specs.Valid.{IsValid}
 use Rattle.entry_log.specs.declared.entry.Entry.{Entry}
-use Rattle.machine.specs.History.{after, IsLegal}
+use Rattle.machine.specs.PlainView.{IsPlain}
 use Rattle.kcore.specs.declared.tables.Tables.{Tables}
 use Rattle.kcore.specs.Counts.{Agrees}
 use Rattle.kcore.specs.StateOf.{state_of}
@@ -15,9 +14,14 @@ pub record KernelView : Type 0 where
   pub room : ℕ
   pub usable : Bool
 
--- the tables stand for the state after the history, which is legal, and each count is kept
+-- The script is valid, the history is a legal one of it, and the tables stand for the state after it,
+-- with the counts of that state.
 pub record Stands (script : Script) (history : List Entry) (tables : Tables) : Type 0 where
-  pub valid : IsValid script
-  pub legal : IsLegal script history
-  pub state : state_of tables ≡ after script history
+  pub plain : IsPlain script history (state_of tables)
   pub agree : Agrees tables.objects.counts (state_of tables)
+
+-- a kernel that may be used stands for its history, and there is room for its entries
+pub record IsKernel (script : Script) (history : List Entry) (tables : Tables) (room capacity : ℕ) (usable : Bool) : Type 0 where
+  pub fits : room ≤ capacity
+  pub few : room ≤ 131072
+  pub stands : usable ≡ true → Stands script history tables

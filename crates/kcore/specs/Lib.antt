@@ -1,3 +1,7 @@
 pub mod ObjectsView
 pub mod Counts
 pub mod HandleTable
+pub mod FirstOwed
+pub mod StateOf
+pub mod KernelView
+pub mod Standing

@@ -8,8 +8,8 @@ pub record ObjectsView : Type 0 where
   pub counts : List ℕ
 
 -- each object has a count, and there is room for 4,096 without taking memory
-pub record HasCounts (rows : List (Option ObjectRow)) (counts : List ℕ) (room_rows room_counts : ℕ) : Type 0 where
+pub record HasCounts (rows : List (Option ObjectRow)) (counts : List ℕ) (row_room count_room : ℕ) : Type 0 where
   pub each : length counts ≡ length rows
   pub few : length rows ≤ 4096
-  pub rows : 4096 ≤ room_rows
-  pub counts : 4096 ≤ room_counts
+  pub rows_fit : 4096 ≤ row_room
+  pub counts_fit : 4096 ≤ count_room

@@ -1,6 +1,17 @@
 //! The kernel: tables with kept counts, whose every action is the one of the definitions.
 #![tactic(auto)]
 
+mod act;
+mod answer;
+mod boot;
+mod close;
+mod create;
+mod dup;
 mod handles;
+mod kernel;
 mod objects;
+mod pay;
 mod ready;
+mod tables;
+
+pub use kernel::Kernel;

@@ -49,27 +49,30 @@ impl Objects {
     pub fn is_taken(&self, kind: Kind, name: &Name) -> bool
         ensures { result ≡ list_any (has_name kind name.now) self.now.rows }
     {
-        self.rows.iter().any(|row| machine::has_name(kind, name, row))
+        self.rows
+            .iter()
+            .any(|row| machine::has_name(kind, name, row))
     }
 
     /// Whether as many objects were made as may be.
     pub fn is_full(&self) -> bool
-        ensures { result ≡ (length self.now.rows == 4096) }
+        ensures full { result ≡ (length self.now.rows == 4096) }
+        ensures few { length self.now.rows ≤ 4096 }
     {
         self.rows.len() == MAX_OBJECTS
     }
 
-    /// Makes an object with one reference. It answers the number, the next one.
-    pub fn make(&mut self, row: ObjectRow) -> ObjNo
+    /// Makes an object with so many references. It answers the number, the next one.
+    pub fn make(&mut self, row: Option<ObjectRow>, count: u32) -> ObjNo
         requires { length self.old.rows < 4096 }
         ensures number { result.0 ≡ length self.old.rows }
-        ensures rows { self.new.rows ≡ self.old.rows ++ Some row ∷ [] }
-        ensures counts { self.new.counts ≡ self.old.counts ++ 1 ∷ [] }
+        ensures rows { self.new.rows ≡ self.old.rows ++ row ∷ [] }
+        ensures counts { self.new.counts ≡ self.old.counts ++ count ∷ [] }
         ensures same { length self.old.counts ≡ length self.old.rows }
     {
         let number = self.rows.len() as u16;
-        self.rows.push(Some(row)).unwrap();
-        self.counts.push(1).unwrap();
+        self.rows.push(row).unwrap();
+        self.counts.push(count).unwrap();
         ObjNo(number)
     }
 

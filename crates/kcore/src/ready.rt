@@ -40,6 +40,13 @@ impl Ready {
     pub fn remove(&mut self, thread: ThreadNo)
         ensures { self.new ≡ filter (λ q. not (q.thread.0 == thread.0)) self.old }
     {
-        self.queue.retain(|queued| queued.thread.0 != thread.0);
+        remove_thread(&mut self.queue, thread.0);
     }
+}
+
+/// Takes each item of a thread away.
+fn remove_thread(queue: &mut Vec<Queued>, thread: u16)
+    ensures { queue.new.items ≡ filter (λ q. not (q.thread.0 == thread)) queue.old.items }
+{
+    queue.retain(|queued| queued.thread.0 != thread);
 }

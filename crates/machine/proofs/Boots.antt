@@ -80,7 +80,7 @@ born_row script n (b ∷ bs) zero row h is = (b.works, h.0.row row is)
 born_row script n (b ∷ bs) (suc i) row h is = born_row script n bs i row h.1 is
 
 -- a count at boot is of an object that stands there
-boot_count_inside : (script : Script) (o : ObjNo) → length (born script) ≤ o.0 → count_of (boot script) o ≡ 0
+pub boot_count_inside : (script : Script) (o : ObjNo) → length (born script) ≤ o.0 → count_of (boot script) o ≡ 0
 unfolding boot_of
 boot_count_inside script o le =
   let handles = total-const (total (place_names o)) (replicate 256 fresh_place) (born script) (total-replicate (place_names o) fresh_place 256 refl) in

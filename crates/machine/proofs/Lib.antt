@@ -18,3 +18,4 @@ pub mod RoomLaws
 pub mod Shape
 pub mod Tables
 pub mod Totals
+pub mod RefsActor

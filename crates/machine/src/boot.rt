@@ -201,7 +201,7 @@ fn threads_of(alloc: Global, all: &[Born]) -> Result<Items<Option<ThreadRow>>, N
 
 /// The state in which these stand, each with an empty table and nothing that it owes.
 #[tactic(auto, unfolding(crate::specs::Boot::boot_of))]
-fn boot_of(alloc: Global, all: &[Born]) -> Result<State, NoMemory>
+pub fn boot_of(alloc: Global, all: &[Born]) -> Result<State, NoMemory>
     requires { length all.now ≤ 65536 }
     ensures { IfOk result (λ state. state ≡ boot_of all.now) }
 {

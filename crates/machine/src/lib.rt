@@ -19,12 +19,13 @@ mod state;
 mod table;
 
 pub use act::instruction;
-pub use boot::{Born, all_born};
+pub use boot::{Born, all_born, boot_of};
 pub use choice::first_of_greatest;
+pub use count::count_of;
 pub use create::has_name;
 pub use dup::stays_with_thread;
 pub use outcome::Outcome;
-pub use plain::Plain;
+pub use plain::{Plain, entry_of};
 pub use acted::{advanced, closed_effects, one_effect, with_register};
 pub use state::{MAX_OBJECTS, ObjectRow, Owed, Phase, Place, Queued, State, ThreadRow};
 pub use table::{

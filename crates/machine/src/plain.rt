@@ -48,7 +48,7 @@ fn slot_actor(state: &State, slot: Slot) -> Actor
 }
 
 /// The entry of an action at a place.
-fn entry_of(place: u32, actor: Actor, outcome: Outcome) -> Entry
+pub fn entry_of(place: u32, actor: Actor, outcome: Outcome) -> Entry
     ensures { result ≡ entry_of place actor outcome }
 {
     let Outcome {

@@ -1,0 +1,5 @@
+mod FreshTable
+mod Moves
+mod Rooms
+mod Goes
+mod ListSteps

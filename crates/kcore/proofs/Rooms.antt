@@ -1,0 +1,115 @@
+-- What well-formed tables have room for.
+use Rattle.std.proofs.Common.{◌≡◌, ℕ, suc, zero, ◌+◌, ◌<◌, ◌≤◌, List, [], ◌∷◌, length, get_or, arith, refl, sym, subst, ap, ◌∙◌, Option, Some, None, Bool, true, false}
+use Rattle.std.specs.Prelude.{slice_get, slice_index}
+use Rattle.sym_base.specs.declared.number.ObjNo.{ObjNo}
+use Rattle.script_types.specs.declared.script.Script.{Script}
+use Rattle.script_types.specs.declared.declaration.ThreadDecl.{ThreadDecl}
+use Rattle.script_types.specs.Shape.{IsShaped}
+use Rattle.entry_log.specs.declared.effect.Holder.{Holder}
+use Rattle.machine.specs.declared.state.ObjectRow.{ObjectRow}
+use Rattle.machine.specs.declared.state.Owed.{Owed}
+use Rattle.machine.specs.declared.state.Owed.TheVariants.{Close, Sweep}
+use Rattle.machine.specs.declared.state.Phase.TheVariants.{Start, Using}
+use Rattle.machine.specs.declared.state.ThreadRow.{ThreadRow}
+use Rattle.machine.specs.declared.state.State.{State}
+use Rattle.machine.specs.Act.{instructions_of, declared_of}
+use Rattle.machine.specs.Good.{Good, IsAlive, is_dead, owed_sweeps, sweeps_of}
+use Rattle.machine.specs.References.{total, same, count_of, place_names, option_names, thread_names, phase_names, owed_names}
+use Rattle.machine.specs.Rows.{object_of, thread_of, table_of, owed_of}
+use Rattle.machine.specs.Table.{place_at, fresh_place, look, owner_of, index_of}
+use Rattle.machine.proofs.Totals.{inside, total_at_least}
+use Rattle.machine.proofs.Tables.{look_is, place_inside, table_inside}
+use Rattle.machine.proofs.Live.{same_self, alive_is_some}
+use Rattle.machine.proofs.CountSmall.{count_small}
+use Rattle.kcore.specs.declared.tables.Tables.{Tables}
+use Rattle.kcore.specs.Standing.{AreGood, IsStanding}
+use Rattle.kcore.specs.StateOf.{state_of, HasRows}
+
+few_of : (script : Script) → IsShaped script → (k : ℕ) (d : Option ThreadDecl) → slice_get script.threads k ≡ d → length (instructions_of d) ≤ 16384
+few_of script shaped k None e = omega arith
+few_of script shaped k (Some d) e = (shaped.threads k d e).size
+
+instructions_few : (script : Script) → IsShaped script → (declared : Option ℕ) → length (instructions_of (declared_of script declared)) ≤ 16384
+instructions_few script shaped None = omega arith
+instructions_few script shaped (Some k) = few_of script shaped k (slice_get script.threads k) refl
+
+pub has_rows : (script : Script) (tables : Tables) (t : ObjNo) (row : ThreadRow) → IsStanding script tables t row → HasRows tables t row
+has_rows script tables t row h =
+    let g = h.tables_good.good in
+    let there = inside tables.threads t.0 row h.is in
+    let good_row = g.rows t row h.is in
+    let place = good_row.place in
+    let few = instructions_few script h.tables_good.shaped row.declared in
+    let a = g.tables in
+    let b = g.duties in
+    record { process = good_row.process; own = omega arith; thread = there; duties = omega arith; place = omega arith }
+
+-- a counted object is made, and its kept count is small and not 0
+pub made : (script : Script) (tables : Tables) (o : ObjNo) → AreGood script tables → 0 < count_of (state_of tables) o → o.0 < length tables.objects.rows
+made script tables o h counted = alive_is_some tables.objects.rows o.0 (h.good.alive o counted)
+
+pub kept_some : (script : Script) (tables : Tables) (o : ObjNo) → AreGood script tables → 0 < count_of (state_of tables) o → 0 < slice_index tables.objects.counts o.0
+kept_some script tables o h counted = let e = h.agree o in omega arith
+
+pub kept_small : (script : Script) (tables : Tables) (o : ObjNo) → AreGood script tables → slice_index tables.objects.counts o.0 < 2147483648
+kept_small script tables o h = let e = h.agree o in let small = count_small script (state_of tables) h.good o in omega arith
+
+-- an object that a handle names is counted
+pub look_counted : (S : State) (t : ObjNo) (row : ThreadRow) (handle : ℕ) (o : ObjNo) → look S t row handle ≡ Some o → 0 < count_of S o
+look_counted S t row handle o found =
+    let owner = owner_of t row handle in
+    let i = index_of handle in
+    let is = look_is S t row handle o found in
+    let named : place_names o (place_at (table_of S owner) i) ≡ same o o = ap (option_names o) is in
+    let self = same_self o in
+    let inner = total_at_least (place_names o) (table_of S owner) i fresh_place (place_inside (table_of S owner) i o is) in
+    let outer = total_at_least (total (place_names o)) S.handles owner.0 [] (table_inside S.handles owner.0 i o is) in
+    omega arith
+
+-- its index is one of the 256
+pub look_index : (script : Script) (S : State) (t : ObjNo) (row : ThreadRow) (handle : ℕ) (o : ObjNo) → Good script S → look S t row handle ≡ Some o → index_of handle < 256
+look_index script S t row handle o g found =
+    let owner = owner_of t row handle in
+    let i = index_of handle in
+    let is = look_is S t row handle o found in
+    let here = place_inside (table_of S owner) i o is in
+    let size = g.places owner.0 (table_inside S.handles owner.0 i o is) in
+    omega arith
+
+-- an object that a thread uses is counted
+pub used_counted : (S : State) (t : ObjNo) (row : ThreadRow) (o : ObjNo) → thread_of S t ≡ Some row → row.phase ≡ Using o → 0 < count_of S o
+used_counted S t row o is phase =
+    let at = total_at_least (thread_names o) S.threads t.0 None (inside S.threads t.0 row is) in
+    let was : thread_names o (thread_of S t) ≡ thread_names o (Some row) = ap (thread_names o) is in
+    let used : phase_names o row.phase ≡ same o o = ap (phase_names o) phase in
+    let self = same_self o in
+    omega arith
+
+-- an object whose close is owed is counted
+pub owed_counted : (S : State) (t : ObjNo) (holder : Holder) (o : ObjNo) (rest : List Owed) → t.0 < length S.owed → owed_of S t ≡ Close holder o ∷ rest → 0 < count_of S o
+owed_counted S t holder o rest lt is =
+    let at = total_at_least (total (owed_names o)) S.owed t.0 [] lt in
+    let was : total (owed_names o) (owed_of S t) ≡ same o o + total (owed_names o) rest = ap (total (owed_names o)) is in
+    let self = same_self o in
+    omega arith
+
+dead_inside : (objects : List (Option ObjectRow)) (i : ℕ) → 0 < is_dead (get_or objects i None) → i < length objects
+dead_inside [] i h = absurd (omega arith)
+dead_inside (x ∷ xs) zero h = omega arith
+dead_inside (x ∷ xs) (suc i) h = let r = dead_inside xs i h in omega arith
+
+-- an object whose sweep is owed is made
+pub swept_made : (script : Script) (S : State) (t o : ObjNo) (rest : List Owed) → Good script S → t.0 < length S.owed → owed_of S t ≡ Sweep o ∷ rest → o.0 < length S.objects
+swept_made script S t o rest g lt is =
+    let at = total_at_least (total (owed_sweeps o)) S.owed t.0 [] lt in
+    let was : total (owed_sweeps o) (owed_of S t) ≡ same o o + total (owed_sweeps o) rest = ap (total (owed_sweeps o)) is in
+    let self = same_self o in
+    let dead = g.sweeps o in
+    dead_inside S.objects o.0 (omega arith)
+
+-- the same of what is owed first, by another name
+pub owed_counted_by : (S : State) (t : ObjNo) (holder : Holder) (o : ObjNo) (what : Owed) (rest : List Owed) → t.0 < length S.owed → what ≡ Close holder o → owed_of S t ≡ what ∷ rest → 0 < count_of S o
+owed_counted_by S t holder o what rest lt is first = owed_counted S t holder o rest lt (first ∙ ap (λ x. x ∷ rest) is)
+
+pub swept_made_by : (script : Script) (S : State) (t o : ObjNo) (what : Owed) (rest : List Owed) → Good script S → t.0 < length S.owed → what ≡ Sweep o → owed_of S t ≡ what ∷ rest → o.0 < length S.objects
+swept_made_by script S t o what rest g lt is first = swept_made script S t o rest g lt (first ∙ ap (λ x. x ∷ rest) is)

@@ -1,0 +1,220 @@
+//! What a thread does when it acts: what it owes, else the next step of its instruction.
+ghost use Rattle.std.specs.Prelude.{◌≡◌, ◌<◌, [], ◌∷◌, Some, drop, length, IfOk};
+ghost use Rattle.std.specs.List.{slice_index_or};
+ghost use Rattle.script_types.specs.Shape.{HasRegisters};
+ghost use Rattle.machine.specs.Act.{act, act_by, act_of, instruction, instruction_step, is_ready, nothing, settled};
+ghost use Rattle.machine.specs.ActedBy.{acted};
+ghost use Rattle.machine.specs.History.{acted_by};
+ghost use Rattle.machine.specs.Pay.{pay};
+ghost use Rattle.machine.specs.Rows.{owed_of, thread_of};
+ghost use Rattle.machine.specs.Table.{look};
+ghost use Rattle.kcore.specs.Counts.{CountsMove};
+ghost use Rattle.kcore.specs.Standing.{AreGood, IsStanding};
+ghost use Rattle.kcore.specs.StateOf.{state_of, HasRows};
+
+use crate::close::close_do;
+use crate::create::create_mutex;
+use crate::dup::{dup_do, dup_look};
+use crate::pay::{pay_close, pay_sweep};
+use crate::tables::{Tables, first_owed};
+use entry_log::{Actor, Effects, Step};
+use machine::{Outcome, Owed, Phase, ThreadRow};
+use script_types::{Instr, Script};
+use sym_base::{NoMemory, ObjNo, ThreadNo};
+
+/// Nobody acts.
+fn nothing(tables: &Tables) -> Outcome
+    ensures state { acted (state_of tables.now) result ≡ nothing (state_of tables.now) }
+    ensures counts { CountsMove tables.now.objects.counts tables.now.objects.counts result.effects }
+{
+    Outcome {
+        step: Step::Wait,
+        effects: Effects::new(),
+        answer: None,
+    }
+}
+
+/// The object that a thread's handle names.
+fn look(tables: &Tables, thread: ThreadNo, row: &ThreadRow, handle: u32) -> Option<ObjNo>
+    requires { HasRows tables.now thread row.now }
+    ensures { result ≡ look (state_of tables.now) thread row.now handle }
+{
+    let owner = machine::owner_of(thread, row, handle);
+    tables.handles.as_slice()[owner.0 as usize].look(
+        machine::index_of(handle),
+        machine::instance_of(handle),
+    )
+}
+
+/// A step of `dup`.
+fn dup_step(
+    script: &Script,
+    tables: &mut Tables,
+    thread: ThreadNo,
+    row: ThreadRow,
+    from: u8,
+    to: u8,
+) -> Result<Outcome, NoMemory>
+    requires standing { IsStanding script.now tables.old thread row }
+    requires from { from < 8 }
+    requires to { to < 8 }
+    ensures state { IfOk result (λ outcome. acted (state_of tables.new) outcome ≡ instruction_step (state_of tables.old) thread row (Instr.Dup from to)) }
+    ensures counts { IfOk result (λ outcome. CountsMove tables.old.objects.counts tables.new.objects.counts outcome.effects) }
+{
+    match row.phase {
+        Phase::Start => {
+            let found = look(tables, thread, &row, row.registers[from as usize]);
+            dup_look(tables, thread, row, found)
+        }
+        Phase::Using(object) => dup_do(tables, thread, row, object, to),
+    }
+}
+
+/// Closes the handle in a register.
+fn close_step(
+    script: &Script,
+    tables: &mut Tables,
+    thread: ThreadNo,
+    row: ThreadRow,
+    register: u8,
+) -> Result<Outcome, NoMemory>
+    requires standing { IsStanding script.now tables.old thread row }
+    requires register { register < 8 }
+    ensures state { IfOk result (λ outcome. acted (state_of tables.new) outcome ≡ instruction_step (state_of tables.old) thread row (Instr.Close register)) }
+    ensures counts { IfOk result (λ outcome. CountsMove tables.old.objects.counts tables.new.objects.counts outcome.effects) }
+{
+    let handle = row.registers[register as usize];
+    let found = look(tables, thread, &row, handle);
+    close_do(tables, thread, row, handle, found)
+}
+
+/// A step of an instruction.
+fn instruction_step(
+    script: &Script,
+    tables: &mut Tables,
+    thread: ThreadNo,
+    row: ThreadRow,
+    instr: Instr,
+) -> Result<Outcome, NoMemory>
+    requires standing { IsStanding script.now tables.old thread row }
+    requires registers { HasRegisters instr }
+    ensures state { IfOk result (λ outcome. acted (state_of tables.new) outcome ≡ instruction_step (state_of tables.old) thread row instr) }
+    ensures counts { IfOk result (λ outcome. CountsMove tables.old.objects.counts tables.new.objects.counts outcome.effects) }
+{
+    match instr {
+        Instr::CreateMutex(name, register) => create_mutex(tables, thread, row, name, register),
+        Instr::Dup(from, to) => dup_step(script, tables, thread, row, from, to),
+        Instr::Close(register) => close_step(script, tables, thread, row, register),
+    }
+}
+
+/// Pays the oldest item that a thread owes.
+fn pay(
+    script: &Script,
+    tables: &mut Tables,
+    thread: ThreadNo,
+    what: Owed,
+) -> Result<Outcome, NoMemory>
+    requires good { AreGood script.now tables.old }
+    requires duties { thread.0 < length tables.old.owed }
+    requires first { slice_index_or tables.old.owed thread.0 [] ≡ what ∷ drop 1 (slice_index_or tables.old.owed thread.0 []) }
+    ensures state { IfOk result (λ outcome. acted (state_of tables.new) outcome ≡ pay (state_of tables.old) thread what (drop 1 (slice_index_or tables.old.owed thread.0 []))) }
+    ensures counts { IfOk result (λ outcome. CountsMove tables.old.objects.counts tables.new.objects.counts outcome.effects) }
+{
+    match what {
+        Owed::Close(holder, object) => pay_close(tables, thread, holder, object),
+        Owed::Sweep(object) => Ok(pay_sweep(tables, thread, object)),
+    }
+}
+
+/// The step that the thread of this row makes. What is owed comes first.
+#[tactic(auto, using(machine::proofs::RoomLaws::has_registers))]
+fn act_by(
+    script: &Script,
+    tables: &mut Tables,
+    thread: ThreadNo,
+    row: ThreadRow,
+) -> Result<Outcome, NoMemory>
+    requires { IsStanding script.now tables.old thread row }
+    ensures state { IfOk result (λ outcome. acted (state_of tables.new) outcome ≡ act_by (state_of tables.old) thread row (owed_of (state_of tables.old) thread) (instruction script.now row)) }
+    ensures counts { IfOk result (λ outcome. CountsMove tables.old.objects.counts tables.new.objects.counts outcome.effects) }
+{
+    if let Some(what) = first_owed(&tables.owed, thread) {
+        return pay(script, tables, thread, what);
+    }
+    match machine::instruction(script, &row) {
+        Some(instr) => instruction_step(script, tables, thread, row, instr),
+        None => Ok(nothing(tables)),
+    }
+}
+
+/// The step that the thread of this number makes.
+fn act_of(script: &Script, tables: &mut Tables, thread: ThreadNo) -> Result<Outcome, NoMemory>
+    requires { AreGood script.now tables.old }
+    ensures state { IfOk result (λ outcome. acted (state_of tables.new) outcome ≡ act_of script.now (state_of tables.old) thread (thread_of (state_of tables.old) thread)) }
+    ensures counts { IfOk result (λ outcome. CountsMove tables.old.objects.counts tables.new.objects.counts outcome.effects) }
+{
+    match thread_row(tables, thread) {
+        Some(row) => act_by(script, tables, thread, row),
+        None => Ok(nothing(tables)),
+    }
+}
+
+/// The row of the thread of this number.
+fn thread_row(tables: &Tables, thread: ThreadNo) -> Option<ThreadRow>
+    ensures { result ≡ thread_of (state_of tables.now) thread }
+{
+    let at = thread.0 as usize;
+    if at < tables.threads.len() {
+        tables.threads.get(at)
+    } else {
+        None
+    }
+}
+
+/// Whether a thread has something to do: it owes something, or isn't at its list's end.
+fn is_ready(script: &Script, tables: &Tables, thread: ThreadNo) -> bool
+    ensures { result ≡ is_ready script.now (state_of tables.now) thread }
+{
+    let Some(row) = thread_row(tables, thread) else {
+        return false;
+    };
+    let at = thread.0 as usize;
+    (at < tables.owed.len() && !tables.owed.as_slice()[at].is_empty())
+        || machine::instruction(script, &row).is_some()
+}
+
+/// A thread that has nothing left to do leaves the ready list.
+#[tactic(auto, unfolding(machine::specs::Act::settled))]
+fn settle(script: &Script, tables: &mut Tables, thread: ThreadNo)
+    ensures state { state_of tables.new ≡ settled script.now thread (state_of tables.old) }
+    ensures counts { tables.new.objects.counts ≡ tables.old.objects.counts }
+{
+    if !is_ready(script, tables, thread) {
+        tables.ready.remove(thread);
+    }
+}
+
+/// An action of a thread.
+#[tactic(auto, unfolding(machine::specs::Act::act))]
+fn act(script: &Script, tables: &mut Tables, thread: ThreadNo) -> Result<Outcome, NoMemory>
+    requires { AreGood script.now tables.old }
+    ensures state { IfOk result (λ outcome. acted (state_of tables.new) outcome ≡ act script.now (state_of tables.old) thread) }
+    ensures counts { IfOk result (λ outcome. CountsMove tables.old.objects.counts tables.new.objects.counts outcome.effects) }
+{
+    let outcome = act_of(script, tables, thread)?;
+    settle(script, tables, thread);
+    Ok(outcome)
+}
+
+/// An action of an actor. Only threads do something yet.
+pub fn acted_by(script: &Script, tables: &mut Tables, actor: Actor) -> Result<Outcome, NoMemory>
+    requires { AreGood script.now tables.old }
+    ensures state { IfOk result (λ outcome. acted (state_of tables.new) outcome ≡ acted_by script.now (state_of tables.old) actor) }
+    ensures counts { IfOk result (λ outcome. CountsMove tables.old.objects.counts tables.new.objects.counts outcome.effects) }
+{
+    match actor {
+        Actor::Thread(thread) => act(script, tables, thread),
+        Actor::Irq(_) | Actor::Idfc | Actor::Tick | Actor::Idle => Ok(nothing(tables)),
+    }
+}
