@@ -1,3 +1,5 @@
 pub mod Cuts
+pub mod Forms
 pub mod Names
 pub mod Numbers
+pub mod Steps
