@@ -42,7 +42,7 @@ register_again x h = number_again 7 x (omega arith) (omega arith)
 joins : (rest a b x mid y : List ℕ) → rest ≡ a ++ 32 ∷ b → a ≡ x → 32 ∷ b ≡ mid ++ y → rest ≡ (x ++ mid) ++ y
 joins rest a b x mid y e front back = e ∙ ap (λ (t : List ℕ). t ++ 32 ∷ b) front ∙ ap (λ (t : List ℕ). x ++ t) back ∙ sym (append_assoc x mid y)
 
-process_takes : (rest : List ℕ) (l : Line) → process_form rest ≡ Some l → Spells (codes "process " ++ rest) l
+pub process_takes : (rest : List ℕ) (l : Line) → process_form rest ≡ Some l → Spells (codes "process " ++ rest) l
 unfolding process_form
 process_takes rest l e =
     let name = bind_some (object_name_of rest) (λ name. Some (line.Process name)) l e in
@@ -50,11 +50,11 @@ process_takes rest l e =
     subst (λ (m : Line). Spells (codes "process " ++ rest) m) (some_is (line.Process name.0) l name.2)
     (record { valid = is.1; text = ap (λ (x : List ℕ). codes "process " ++ x) is.0 })
 
-process_again : (name : List ℕ) → IsTrue (is_object_name name) → process_form name ≡ Some (line.Process name)
+pub process_again : (name : List ℕ) → IsTrue (is_object_name name) → process_form name ≡ Some (line.Process name)
 unfolding process_form
 process_again name h = rw (name_again name h) refl
 
-thread_takes : (rest : List ℕ) (l : Line) → thread_form rest ≡ Some l → Spells (codes "thread " ++ rest) l
+pub thread_takes : (rest : List ℕ) (l : Line) → thread_form rest ≡ Some l → Spells (codes "thread " ++ rest) l
 unfolding thread_form
 thread_takes rest l e =
     let words = bind_some (cut_of 32 rest) (λ words. object_name_of words.0 >>= λ name. number_of 63 words.1 >>= λ priority. Some (line.Thread name priority)) l e in
@@ -67,7 +67,7 @@ thread_takes rest l e =
     subst (λ (m : Line). Spells (codes "thread " ++ rest) m) (some_is (line.Thread name.0 priority.0) l priority.2)
     (record { valid = (named.1, number.1); text = ap (λ (x : List ℕ). codes "thread " ++ x) whole })
 
-thread_again : (name : List ℕ) (priority : ℕ) → IsTrue (is_object_name name) → priority ≤ 63 → thread_form ((name ++ 32 ∷ []) ++ decimal priority) ≡ Some (line.Thread name priority)
+pub thread_again : (name : List ℕ) (priority : ℕ) → IsTrue (is_object_name name) → priority ≤ 63 → thread_form ((name ++ 32 ∷ []) ++ decimal priority) ≡ Some (line.Thread name priority)
 unfolding thread_form
 thread_again name priority h le =
     let regrouped : (name ++ 32 ∷ []) ++ decimal priority ≡ name ++ 32 ∷ decimal priority = append_assoc name (32 ∷ []) (decimal priority) in
@@ -91,7 +91,7 @@ named_again name x h lt =
     let regrouped : (name ++ codes " r") ++ decimal x ≡ name ++ 32 ∷ 114 ∷ decimal x = append_assoc name (codes " r") (decimal x) in
     rw (regrouped, cut_again 32 name (114 ∷ decimal x) (name_has_none 32 name (omega arith) h), name_again name h, register_again x lt) refl
 
-create_takes : (rest : List ℕ) (l : Line) → create_form rest ≡ Some l → Spells (codes "create " ++ rest) l
+pub create_takes : (rest : List ℕ) (l : Line) → create_form rest ≡ Some l → Spells (codes "create " ++ rest) l
 unfolding create_form
 create_takes rest l e =
     let words = bind_some (cut_of 32 rest) (λ words. named_register_of words.1 >>= λ made. if bytes_eq words.0 (codes "mutex") then Some (line.Instr (instr.CreateMutex made.0 made.1)) else None) l e in
@@ -104,11 +104,11 @@ create_takes rest l e =
     subst (λ (m : Line). Spells (codes "create " ++ rest) m) is.1
     (record { valid = (named.1, named.2); text = ap (λ (x : List ℕ). codes "create " ++ x) whole })
 
-create_again : (name : List ℕ) (x : ℕ) → IsTrue (is_object_name name) → x < 8 → create_form (codes "mutex " ++ ((name ++ codes " r") ++ decimal x)) ≡ Some (line.Instr (instr.CreateMutex name x))
+pub create_again : (name : List ℕ) (x : ℕ) → IsTrue (is_object_name name) → x < 8 → create_form (codes "mutex " ++ ((name ++ codes " r") ++ decimal x)) ≡ Some (line.Instr (instr.CreateMutex name x))
 unfolding create_form
 create_again name x h lt = rw (named_again name x h lt) refl
 
-dup_takes : (rest : List ℕ) (l : Line) → dup_form rest ≡ Some l → Spells (codes "dup " ++ rest) l
+pub dup_takes : (rest : List ℕ) (l : Line) → dup_form rest ≡ Some l → Spells (codes "dup " ++ rest) l
 unfolding dup_form
 dup_takes rest l e =
     let words = bind_some (cut_of 32 rest) (λ words. register_of words.0 >>= λ from. register_of words.1 >>= λ to. Some (line.Instr (instr.Dup from to))) l e in
@@ -124,14 +124,14 @@ dup_takes rest l e =
 register_has_none : (x : ℕ) → x < 8 → has_none 32 (114 ∷ decimal x) ≡ true
 register_has_none x lt = number_has_none 32 x (omega arith) (omega arith)
 
-dup_again : (x y : ℕ) → x < 8 → y < 8 → dup_form (114 ∷ ((decimal x ++ codes " r") ++ decimal y)) ≡ Some (line.Instr (instr.Dup x y))
+pub dup_again : (x y : ℕ) → x < 8 → y < 8 → dup_form (114 ∷ ((decimal x ++ codes " r") ++ decimal y)) ≡ Some (line.Instr (instr.Dup x y))
 unfolding dup_form
 dup_again x y ltx lty =
     let regrouped : 114 ∷ ((decimal x ++ codes " r") ++ decimal y) ≡ (114 ∷ decimal x) ++ 32 ∷ 114 ∷ decimal y = ap (λ (t : List ℕ). 114 ∷ t) (append_assoc (decimal x) (codes " r") (decimal y)) in
     let cut = cut_again 32 (114 ∷ decimal x) (114 ∷ decimal y) (register_has_none x ltx) in
     ap dup_form regrouped ∙ rw (cut, register_again x ltx, register_again y lty) refl
 
-close_takes : (rest : List ℕ) (l : Line) → close_form rest ≡ Some l → Spells (codes "close " ++ rest) l
+pub close_takes : (rest : List ℕ) (l : Line) → close_form rest ≡ Some l → Spells (codes "close " ++ rest) l
 unfolding close_form
 close_takes rest l e =
     let register = bind_some (register_of rest) (λ register. Some (line.Instr (instr.Close register))) l e in
@@ -139,11 +139,11 @@ close_takes rest l e =
     subst (λ (m : Line). Spells (codes "close " ++ rest) m) (some_is (line.Instr (instr.Close register.0)) l register.2)
     (record { valid = is.1; text = ap (λ (x : List ℕ). codes "close " ++ x) is.0 })
 
-close_again : (x : ℕ) → x < 8 → close_form (114 ∷ decimal x) ≡ Some (line.Instr (instr.Close x))
+pub close_again : (x : ℕ) → x < 8 → close_form (114 ∷ decimal x) ≡ Some (line.Instr (instr.Close x))
 unfolding close_form
 close_again x lt = rw (register_again x lt) refl
 
-go_takes : (rest : List ℕ) (l : Line) → go_form rest ≡ Some l → Spells (codes "go " ++ rest) l
+pub go_takes : (rest : List ℕ) (l : Line) → go_form rest ≡ Some l → Spells (codes "go " ++ rest) l
 unfolding go_form
 go_takes rest l e =
     let slots = bind_some (number_of 65536 rest) (λ slots. if nat_lt 0 slots then Some (line.Go slots) else None) l e in
@@ -152,6 +152,6 @@ go_takes rest l e =
     subst (λ (m : Line). Spells (codes "go " ++ rest) m) is.1
     (record { valid = (ltb-true 0 slots.0 is.0, number.1); text = ap (λ (x : List ℕ). codes "go " ++ x) number.0 })
 
-go_again : (slots : ℕ) → 0 < slots → slots ≤ 65536 → go_form (decimal slots) ≡ Some (line.Go slots)
+pub go_again : (slots : ℕ) → 0 < slots → slots ≤ 65536 → go_form (decimal slots) ≡ Some (line.Go slots)
 unfolding go_form
 go_again slots some le = rw (number_again 65536 slots (omega arith) le, lt-ltb 0 slots some) refl

@@ -1,5 +1,6 @@
 pub mod Cuts
 pub mod Forms
+pub mod Lines
 pub mod Names
 pub mod Numbers
 pub mod Steps
