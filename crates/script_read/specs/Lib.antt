@@ -1,3 +1,5 @@
 pub mod Fields
 pub mod Forms
 pub mod Refusal
+pub mod Scripts
+pub mod Texts

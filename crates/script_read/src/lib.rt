@@ -6,6 +6,8 @@ mod field;
 mod form;
 mod line;
 mod reason;
+mod script;
+mod text;
 
 pub use fault::RunFault;
 pub use reason::Reason;
