@@ -92,9 +92,15 @@ fn is_end(line: &Line) -> bool
 fn read_head(lines: &[Line]) -> Option<(Head, &[Line])>
     ensures { option_map (λ found. (found.0, found.1.now)) result ≡ head_of lines.now }
 {
-    let (header, rest) = split_first(lines)?;
-    let (process, rest) = split_first(rest)?;
-    let (thread, rest) = split_first(rest)?;
+    let Some((header, rest)) = split_first(lines) else {
+        return None;
+    };
+    let Some((process, rest)) = split_first(rest) else {
+        return None;
+    };
+    let Some((thread, rest)) = split_first(rest) else {
+        return None;
+    };
     let process = process_name(process)?;
     let (thread, priority) = thread_parts(thread)?;
     if !is_header(&header) {
@@ -115,7 +121,9 @@ fn next_instruction(lines: &[Line]) -> Option<(Instr, &[Line])>
     ensures next { option_map (λ found. (found.0, found.1.now)) result ≡ next_instr_of lines.now }
     ensures shorter { IfSome result (λ found. length found.1.now < length lines.now) }
 {
-    let (line, rest) = split_first(lines)?;
+    let Some((line, rest)) = split_first(lines) else {
+        return None;
+    };
     let what = instruction(line)?;
     Some((what, rest))
 }
@@ -138,9 +146,15 @@ fn read_instructions(alloc: Global, lines: &[Line]) -> Result<(Vec<Instr>, &[Lin
 fn read_foot(lines: &[Line]) -> Option<u32>
     ensures { result ≡ foot_of lines.now }
 {
-    let (schedule, rest) = split_first(lines)?;
-    let (go, rest) = split_first(rest)?;
-    let (last, rest) = split_first(rest)?;
+    let Some((schedule, rest)) = split_first(lines) else {
+        return None;
+    };
+    let Some((go, rest)) = split_first(rest) else {
+        return None;
+    };
+    let Some((last, rest)) = split_first(rest) else {
+        return None;
+    };
     let slots = go_count(go)?;
     if is_schedule(&schedule) && is_end(&last) && rest.is_empty() {
         Some(slots)
