@@ -266,3 +266,18 @@ script_again script v =
     let read : script_of (line.Header ∷ line.Process h.process ∷ line.Thread h.thread h.priority ∷ (map line.Instr instrs ++ foot)) ≡ Some (single_script h instrs slots)
         = rw (head_again h (map line.Instr instrs ++ foot), body, kernel, supervisor) refl in
     ap script_of spelled ∙ read ∙ ap (λ (s : Script). Some s) again
+
+-- the lines of a valid script have the form and the ranges of their words
+pub valid_lines : (script : Script) → IsValid script → AllByRecursion IsValidLine (script_lines script)
+valid_lines script v =
+    let process = the_one IsValidProcess script.processes v.process in
+    let thread = the_one IsValidThread script.threads v.thread in
+    let h : Head = record { process = process.0.name; thread = thread.0.name; priority = thread.0.priority } in
+    let instrs = thread.0.instrs in
+    let slots = length script.slots in
+    let again = rebuilt script process.0 thread.0 v process.1 thread.1 thread.2.held thread.2.process in
+    let foot : List Line = line.Schedule ∷ line.Go slots ∷ line.End ∷ [] in
+    let spelled : script_lines script ≡ line.Header ∷ line.Process h.process ∷ line.Thread h.thread h.priority ∷ (map line.Instr instrs ++ foot)
+        = ap script_lines (sym again) ∙ single_lines h instrs slots in
+    subst (λ (x : List Line). AllByRecursion IsValidLine x) (sym spelled)
+    (tt, (process.2.name, ((thread.2.name, thread.2.priority), instrs_are_lines instrs foot thread.2.instrs (tt, ((v.some, v.few), (tt, tt))))))

@@ -1,3 +1,4 @@
+pub mod Answer
 pub mod Fields
 pub mod Forms
 pub mod Refusal

@@ -5,9 +5,11 @@ mod fault;
 mod field;
 mod form;
 mod line;
+mod read;
 mod reason;
 mod script;
 mod text;
 
 pub use fault::RunFault;
+pub use read::{MAX_SCRIPT_BYTES, ReadScript, read_script};
 pub use reason::Reason;

@@ -205,7 +205,7 @@ fn make_script(alloc: Global, head: Head, instrs: Instrs, slots: u32) -> Result<
 
 /// The script that lines are. None where they aren't those of a script of one thread.
 #[tactic(auto, unfolding(crate::specs::Scripts::script_of))]
-pub fn read_lines_as_script(alloc: Global, lines: &[Line]) -> Result<Option<Script>, NoMemory>
+pub fn script_of_lines(alloc: Global, lines: &[Line]) -> Result<Option<Script>, NoMemory>
     ensures { IfOk result (λ script. script ≡ script_of lines.now) }
 {
     let Some((head, body)) = read_head(lines) else {
