@@ -1,5 +1,5 @@
 -- Bytes that are cut at the first of one kind.
-use Rattle.std.proofs.Common.{◌≡◌, ◌≢◌, ℕ, zero, suc, ◌+◌, ◌-◌, ◌<◌, Bool, true, false, cond, eqb, ltb, List, [], ◌∷◌, ◌++◌, All, add-one, length, take, drop, get_or, refl, sym, subst, ap, ◌∙◌, arith, Option, Some, None, position, option_map}
+use Rattle.std.proofs.Common.{◌≡◌, ◌≢◌, ℕ, zero, suc, ◌+◌, ◌-◌, ◌<◌, Bool, true, false, eqb, List, [], ◌∷◌, ◌++◌, All, add-one, length, take, drop, get_or, refl, sym, subst, ap, arith, Option, Some, None, position, option_map}
 use Rattle.std.proofs.lemmas.Bool.Decides.{nat_tests, Decides-eqb}
 use Rattle.std.proofs.lemmas.List.{take_rest}
 use Rattle.std.proofs.lemmas.List.Quantifiers.{position-Some}
@@ -46,12 +46,12 @@ cut_takes at (b ∷ bs) parts e =
     let later : Option (List ℕ × List ℕ) = option_map (λ (ps : List ℕ × List ℕ). (b ∷ ps.0, ps.1)) (cut_of at bs) in
     either_way (b ∷ bs ≡ parts.0 ++ at ∷ parts.1) (eqb b at) (Some ([], bs)) later parts e
     (λ here found.
-        let same : b ≡ at = eqb-true b at here in
-        subst (λ (ps : List ℕ × List ℕ). b ∷ bs ≡ ps.0 ++ at ∷ ps.1) (some_is ([], bs) parts found) (rw same refl))
+    let same : b ≡ at = eqb-true b at here in
+    subst (λ (ps : List ℕ × List ℕ). b ∷ bs ≡ ps.0 ++ at ∷ ps.1) (some_is ([], bs) parts found) (rw same refl))
     (λ other found.
-        let inner = map_some (λ (ps : List ℕ × List ℕ). (b ∷ ps.0, ps.1)) (cut_of at bs) parts found in
-        let joined = cut_takes at bs inner.0 inner.1 in
-        subst (λ (ps : List ℕ × List ℕ). b ∷ bs ≡ ps.0 ++ at ∷ ps.1) inner.2 (ap (λ (x : List ℕ). b ∷ x) joined))
+    let inner = map_some (λ (ps : List ℕ × List ℕ). (b ∷ ps.0, ps.1)) (cut_of at bs) parts found in
+    let joined = cut_takes at bs inner.0 inner.1 in
+    subst (λ (ps : List ℕ × List ℕ). b ∷ bs ≡ ps.0 ++ at ∷ ps.1) inner.2 (ap (λ (x : List ℕ). b ∷ x) joined))
 
 -- what is joined is cut
 pub cut_again : (at : ℕ) (front rest : List ℕ) → has_none at front ≡ true → cut_of at (front ++ at ∷ rest) ≡ Some (front, rest)

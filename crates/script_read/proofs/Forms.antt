@@ -1,15 +1,14 @@
 -- What is read as a line is spelled so, and what is spelled so is read.
-use Rattle.std.proofs.Common.{◌≡◌, ℕ, ◌^◌, ◌<◌, ◌≤◌, Bool, true, false, List, [], ◌∷◌, ◌++◌, length, refl, sym, subst, ap, ◌∙◌, append_assoc, arith, ltb, Option, Some, None}
+use Rattle.std.proofs.Common.{◌≡◌, ℕ, ◌<◌, ◌≤◌, true, List, [], ◌∷◌, ◌++◌, refl, sym, subst, ap, ◌∙◌, append_assoc, arith, Some, None}
 use Rattle.std.proofs.lemmas.Bool.{ltb-true, lt-ltb, eqb-true}
-use Rattle.std.proofs.lemmas.List.Folds.{list_all-append}
-use Rattle.std.specs.Prelude.{◌==◌, IsTrue, codes, decimal, nat_lt, not, if◌then◌else◌}
+use Rattle.std.specs.Prelude.{◌==◌, IsTrue, codes, decimal, nat_lt, if◌then◌else◌}
 use Rattle.std.specs.Str.{bytes_eq}
 use Rattle.script_read.specs.Fields.{◌>>=◌, cut_of, number_of, register_of, object_name_of}
-use Rattle.script_read.specs.Forms.{process_form, thread_form, named_register_of, create_form, dup_form, close_form, go_form, lone_form, worded_form, cut_line, line_of}
+use Rattle.script_read.specs.Forms.{process_form, thread_form, named_register_of, create_form, dup_form, close_form, go_form}
 use Rattle.script_read.proofs.Cuts.{has_none, cut_takes, cut_again}
 use Rattle.script_read.proofs.Names.{name_takes, name_again, name_has_none}
 use Rattle.script_read.proofs.Numbers.{number_takes, number_again, number_has_none}
-use Rattle.script_read.proofs.Steps.{bind_some, some_is, guard_some, either_way, both, same_bytes}
+use Rattle.script_read.proofs.Steps.{bind_some, some_is, guard_some, either_way, same_bytes}
 use Rattle.script_types.specs.LineText.{line_text}
 use Rattle.script_types.specs.ObjectName.{is_object_name}
 use Rattle.script_types.specs.ValidLine.{IsValidLine}
@@ -28,10 +27,10 @@ register_takes [] x e = absurd (cc)
 register_takes (r ∷ digits) x e =
     either_way ((r ∷ digits ≡ 114 ∷ decimal x) × (x < 8)) (r == 114) (number_of 7 digits) None x e
     (λ here found.
-        let number = number_takes 7 digits x (omega arith) found in
-        let same : r ≡ 114 = eqb-true r 114 here in
-        let text : r ∷ digits ≡ 114 ∷ decimal x = rw (same, number.0) refl in
-        (text, omega (arith, number.1)))
+    let number = number_takes 7 digits x (omega arith) found in
+    let same : r ≡ 114 = eqb-true r 114 here in
+    let text : r ∷ digits ≡ 114 ∷ decimal x = rw (same, number.0) refl in
+    (text, omega (arith, number.1)))
     (λ other found. absurd (cc))
 
 register_again : (x : ℕ) → x < 8 → register_of (114 ∷ decimal x) ≡ Some x

@@ -1,18 +1,16 @@
 -- A line that is read is spelled so, and a line that is spelled is read.
-use Rattle.std.proofs.Common.{◌≡◌, ℕ, ◌+◌, ◌<◌, ◌≤◌, Bool, true, false, List, [], ◌∷◌, ◌++◌, length, refl, sym, subst, ap, ◌∙◌, append_assoc, arith, Option, Some, None}
+use Rattle.std.proofs.Common.{◌≡◌, ℕ, true, List, ◌∷◌, ◌++◌, refl, sym, subst, ap, ◌∙◌, arith, Option, Some, None}
 use Rattle.std.proofs.lemmas.List.Folds.{list_all-append}
-use Rattle.std.specs.Prelude.{◌==◌, IsTrue, codes, decimal, not, if◌then◌else◌}
-use Rattle.std.specs.List.{list_all}
+use Rattle.std.specs.Prelude.{◌==◌, codes, decimal, not, if◌then◌else◌}
 use Rattle.std.specs.Str.{bytes_eq}
-use Rattle.script_read.specs.Fields.{◌>>=◌, cut_of}
-use Rattle.script_read.specs.Forms.{process_form, thread_form, create_form, dup_form, close_form, go_form, lone_form, worded_form, cut_line, line_of}
-use Rattle.script_read.proofs.Cuts.{has_none, cut_takes, cut_again}
+use Rattle.script_read.specs.Fields.{cut_of}
+use Rattle.script_read.specs.Forms.{lone_form, worded_form, cut_line, line_of}
+use Rattle.script_read.proofs.Cuts.{has_none, cut_takes}
 use Rattle.script_read.proofs.Forms.{Spells, process_takes, process_again, thread_takes, thread_again, create_takes, create_again, dup_takes, dup_again, close_takes, close_again, go_takes, go_again}
 use Rattle.script_read.proofs.Names.{name_has_none}
 use Rattle.script_read.proofs.Numbers.{number_has_none}
-use Rattle.script_read.proofs.Steps.{bind_some, some_is, guard_some, either_way, both, same_bytes}
+use Rattle.script_read.proofs.Steps.{some_is, guard_some, either_way, same_bytes}
 use Rattle.script_types.specs.LineText.{line_text}
-use Rattle.script_types.specs.ObjectName.{is_object_name}
 use Rattle.script_types.specs.ValidLine.{IsValidLine}
 use Rattle.script_types.specs.declared.instruction.Instr.{Instr}
 use Rattle.script_types.specs.declared.instruction.Instr.TheVariants as instr
@@ -25,8 +23,8 @@ lone_takes word l e =
     either_way (Spells word l) (bytes_eq word (codes "schedule")) (Some line.Schedule) (if bytes_eq word (codes "end") then Some line.End else None) l e
     (λ here found. subst (λ (m : Line). Spells word m) (some_is line.Schedule l found) (record { valid = tt; text = same_bytes word (codes "schedule") here }))
     (λ other later.
-        let is = guard_some (bytes_eq word (codes "end")) line.End l later in
-        subst (λ (m : Line). Spells word m) is.1 (record { valid = tt; text = same_bytes word (codes "end") is.0 }))
+    let is = guard_some (bytes_eq word (codes "end")) line.End l later in
+    subst (λ (m : Line). Spells word m) is.1 (record { valid = tt; text = same_bytes word (codes "end") is.0 }))
 
 -- behind a first word
 behind : (first word rest : List ℕ) (l : Line) → bytes_eq first word ≡ true → Spells (word ++ 32 ∷ rest) l → Spells (first ++ 32 ∷ rest) l

@@ -1,5 +1,5 @@
 -- What is accepted, and what is read.
-use Rattle.std.proofs.Common.{◌≡◌, ℕ, ◌<◌, ◌≤◌, List, length, refl, sym, subst, ap, ◌∙◌, arith, Option, Some, None, Result, Ok, Err}
+use Rattle.std.proofs.Common.{◌≡◌, ℕ, ◌<◌, ◌≤◌, List, length, sym, subst, ap, ◌∙◌, arith, Option, Some, None, Result, Ok, Err}
 use Rattle.std.specs.Prelude.{MatchOption, IfOk}
 use Rattle.script_read.specs.Scripts.{script_of}
 use Rattle.script_read.proofs.Scripts.{script_takes, script_again, valid_lines}

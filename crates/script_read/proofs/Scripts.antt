@@ -1,18 +1,16 @@
 -- Lines that are read as a script are its lines, and a script's lines are read as it.
-use Rattle.std.proofs.Common.{◌≡◌, ◌≢◌, ℕ, ◌+◌, ◌<◌, ◌≤◌, Bool, true, false, List, [], ◌∷◌, ◌++◌, length, map, replicate, refl, sym, subst, ap, ◌∙◌, append_assoc, arith, eqb, Option, Some, None}
-use Rattle.std.proofs.lemmas.Bool.Decides.{nat_tests}
+use Rattle.std.proofs.Common.{◌≡◌, ◌≢◌, ℕ, ◌≤◌, Bool, true, false, List, [], ◌∷◌, ◌++◌, length, map, replicate, refl, sym, subst, ap, ◌∙◌, eqb, Option, Some, None}
 use Rattle.std.proofs.lemmas.Bool.{eqb-true}
 use Rattle.std.proofs.lemmas.List.{append-nil, nil_from_length, length-replicate}
 use Rattle.std.proofs.lemmas.Slice.Eq.{bytes_eq-Decides}
-use Rattle.std.specs.List.{AllByRecursion, flat_map}
-use Rattle.std.specs.Prelude.{◌&&◌, not, codes, IsTrue, if◌then◌else◌}
+use Rattle.std.specs.List.{AllByRecursion}
+use Rattle.std.specs.Prelude.{◌&&◌, not, codes, if◌then◌else◌}
 use Rattle.std.specs.Str.{bytes_eq}
 use Rattle.script_read.specs.Fields.{◌>>=◌}
 use Rattle.script_read.specs.Scripts.{first_of, process_of, thread_of, go_of, is_header, is_schedule, is_end, head_of, instrs_of, foot_of, is_named, single_script, script_of}
 use Rattle.script_read.specs.declared.script.Head.{Head}
 use Rattle.script_read.proofs.Steps.{bind_some, some_is, guard_some, both}
-use Rattle.script_types.specs.ObjectName.{is_object_name}
-use Rattle.script_types.specs.ScriptText.{lines_text, thread_lines, script_lines, script_text}
+use Rattle.script_types.specs.ScriptText.{lines_text, script_lines}
 use Rattle.script_types.specs.Valid.{IsOne, IsValidProcess, IsValidThread, IsValid}
 use Rattle.script_types.specs.ValidLine.{IsValidInstr, IsValidLine}
 use Rattle.script_types.specs.declared.declaration.DfcDecl.{DfcDecl}
@@ -185,7 +183,7 @@ script_takes lines script valid short e =
     let back = foot_takes (instrs_of body).1 slots.0 slots.1 in
     let foot : List Line = line.Schedule ∷ line.Go slots.0 ∷ line.End ∷ [] in
     let whole : lines ≡ line.Header ∷ line.Process h.process ∷ line.Thread h.thread h.priority ∷ (map line.Instr instrs ++ foot)
-        = front ∙ ap (λ (x : List Line). line.Header ∷ line.Process h.process ∷ line.Thread h.thread h.priority ∷ x) (middle ∙ ap (λ (x : List Line). map line.Instr instrs ++ x) back) in
+    = front ∙ ap (λ (x : List Line). line.Header ∷ line.Process h.process ∷ line.Thread h.thread h.priority ∷ x) (middle ∙ ap (λ (x : List Line). map line.Instr instrs ++ x) back) in
     let all = subst (λ (x : List Line). AllByRecursion IsValidLine x) whole valid in
     let inner = instrs_valid instrs foot all.1.1.1 in
     let is_lines : lines ≡ script_lines (single_script h instrs slots.0) = whole ∙ sym (single_lines h instrs slots.0) in
@@ -259,12 +257,12 @@ script_again script v =
     let again = rebuilt script process.0 thread.0 v process.1 thread.1 thread.2.held thread.2.process in
     let foot : List Line = line.Schedule ∷ line.Go slots ∷ line.End ∷ [] in
     let spelled : script_lines script ≡ line.Header ∷ line.Process h.process ∷ line.Thread h.thread h.priority ∷ (map line.Instr instrs ++ foot)
-        = ap script_lines (sym again) ∙ single_lines h instrs slots in
+    = ap script_lines (sym again) ∙ single_lines h instrs slots in
     let body = instrs_again instrs (line.Go slots ∷ line.End ∷ []) in
     let kernel = other_bytes_again h.process (codes "kernel") process.2.other in
     let supervisor = other_bytes_again h.thread (codes "supervisor") thread.2.other in
     let read : script_of (line.Header ∷ line.Process h.process ∷ line.Thread h.thread h.priority ∷ (map line.Instr instrs ++ foot)) ≡ Some (single_script h instrs slots)
-        = rw (head_again h (map line.Instr instrs ++ foot), body, kernel, supervisor) refl in
+    = rw (head_again h (map line.Instr instrs ++ foot), body, kernel, supervisor) refl in
     ap script_of spelled ∙ read ∙ ap (λ (s : Script). Some s) again
 
 -- the lines of a valid script have the form and the ranges of their words
@@ -278,6 +276,6 @@ valid_lines script v =
     let again = rebuilt script process.0 thread.0 v process.1 thread.1 thread.2.held thread.2.process in
     let foot : List Line = line.Schedule ∷ line.Go slots ∷ line.End ∷ [] in
     let spelled : script_lines script ≡ line.Header ∷ line.Process h.process ∷ line.Thread h.thread h.priority ∷ (map line.Instr instrs ++ foot)
-        = ap script_lines (sym again) ∙ single_lines h instrs slots in
+    = ap script_lines (sym again) ∙ single_lines h instrs slots in
     subst (λ (x : List Line). AllByRecursion IsValidLine x) (sym spelled)
     (tt, (process.2.name, ((thread.2.name, thread.2.priority), instrs_are_lines instrs foot thread.2.instrs (tt, ((v.some, v.few), (tt, tt))))))

@@ -1,13 +1,12 @@
 -- Lines that were read from the front of a text, and the lines of a whole text.
-use Rattle.std.proofs.Common.{◌≡◌, ℕ, ◌+◌, ◌<◌, ◌≤◌, List, [], ◌∷◌, ◌++◌, length, refl, sym, subst, ap, ◌∙◌, append_assoc, arith, length-append, Option, Some, None}
+use Rattle.std.proofs.Common.{◌≡◌, ℕ, ◌<◌, List, [], ◌∷◌, ◌++◌, length, refl, sym, subst, ap, ◌∙◌, append_assoc, arith, length-append, Some, None}
 use Rattle.std.proofs.lemmas.Grind.{flat_map-append}
 use Rattle.std.proofs.lemmas.List.{append-nil}
 use Rattle.std.specs.List.{AllByRecursion}
 use Rattle.script_read.specs.Fields.{◌>>=◌, cut_of}
 use Rattle.script_read.specs.Forms.{line_of}
 use Rattle.script_read.specs.Texts.{next_of}
-use Rattle.script_read.proofs.Cuts.{has_none, cut_takes, cut_again}
-use Rattle.script_read.proofs.Forms.{Spells}
+use Rattle.script_read.proofs.Cuts.{cut_takes, cut_again}
 use Rattle.script_read.proofs.Lines.{line_takes, line_again, line_has_none}
 use Rattle.script_read.proofs.Steps.{bind_some, some_is}
 use Rattle.script_types.specs.LineText.{line_text}

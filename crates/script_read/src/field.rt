@@ -131,5 +131,9 @@ fn is_object_name(word: &[u8]) -> bool
 pub fn read_object_name(word: &[u8]) -> Option<Name>
     ensures { result ≡ object_name_of word.now }
 {
-    if is_object_name(word) { read_name(word) } else { None }
+    if is_object_name(word) {
+        read_name(word)
+    } else {
+        None
+    }
 }

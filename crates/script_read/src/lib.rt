@@ -8,6 +8,8 @@ mod line;
 mod read;
 mod reason;
 mod script;
+#[cfg(test)]
+mod tests;
 mod text;
 
 pub use fault::RunFault;
