@@ -1,3 +1,9 @@
 pub mod Cuts
+pub mod Forms
+pub mod Lines
 pub mod Names
 pub mod Numbers
+pub mod Reading
+pub mod Scripts
+pub mod Steps
+pub mod Texts

@@ -1,3 +1,6 @@
+pub mod Answer
 pub mod Fields
 pub mod Forms
 pub mod Refusal
+pub mod Scripts
+pub mod Texts

@@ -6,7 +6,7 @@ use thiserror::Error;
 #[derive(Debug, Drop, Error)]
 pub enum RunFault {
     /// The script is refused: its first bad line, from 1, or 0 where the place isn't told, and why.
-    #[error("refused line {line} {reason:?}")]
+    #[error("refused line {line} {reason}")]
     Refused { line: u32, reason: Reason },
     /// The source failed.
     #[error("the script could not be read")]

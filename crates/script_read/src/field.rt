@@ -22,7 +22,8 @@ fn place_of(bytes: &[u8], at: u8) -> Option<usize>
 /// The bytes before the first `at`, and those after it. None where there is no such byte.
 #[tactic(auto, using(crate::proofs::Cuts::cut_some, crate::proofs::Cuts::cut_none))]
 pub fn cut(bytes: &[u8], at: u8) -> Option<(&[u8], &[u8])>
-    ensures { option_map (λ parts. (parts.0.now, parts.1.now)) result ≡ cut_of at bytes.now }
+    ensures parts { option_map (λ parts. (parts.0.now, parts.1.now)) result ≡ cut_of at bytes.now }
+    ensures shorter { IfSome result (λ parts. length parts.1.now < length bytes.now) }
 {
     let place = place_of(bytes, at)?;
     Some((&bytes[..place], &bytes[place + 1..]))
@@ -130,5 +131,9 @@ fn is_object_name(word: &[u8]) -> bool
 pub fn read_object_name(word: &[u8]) -> Option<Name>
     ensures { result ≡ object_name_of word.now }
 {
-    if is_object_name(word) { read_name(word) } else { None }
+    if is_object_name(word) {
+        read_name(word)
+    } else {
+        None
+    }
 }

@@ -78,5 +78,9 @@ pub fn read_go(rest: &[u8]) -> Option<Line>
     ensures { result ≡ go_form rest.now }
 {
     let slots = read_number(rest, 65_536)?;
-    if slots > 0 { Some(Line::Go(slots)) } else { None }
+    if slots > 0 {
+        Some(Line::Go(slots))
+    } else {
+        None
+    }
 }

@@ -5,7 +5,13 @@ mod fault;
 mod field;
 mod form;
 mod line;
+mod read;
 mod reason;
+mod script;
+#[cfg(test)]
+mod tests;
+mod text;
 
 pub use fault::RunFault;
+pub use read::{MAX_SCRIPT_BYTES, ReadScript, read_script};
 pub use reason::Reason;

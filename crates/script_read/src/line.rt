@@ -26,7 +26,11 @@ fn read_worded(first: &[u8], rest: &[u8]) -> Option<Line>
     ensures { result ≡ worded_form first.now rest.now }
 {
     if is_word(first, "eka2") {
-        return if is_word(rest, "1") { Some(Line::Header) } else { None };
+        return if is_word(rest, "1") {
+            Some(Line::Header)
+        } else {
+            None
+        };
     }
     if is_word(first, "process") {
         return read_process(rest);

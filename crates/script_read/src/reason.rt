@@ -1,5 +1,7 @@
 //! Why a script is refused.
-ghost use Rattle.std.specs.Prelude.{◌≡◌};
+ghost use Rattle.std.specs.Prelude.{◌≡◌, ◌≤◌, length};
+
+use std::fmt;
 
 /// What is wrong with the first bad line of a script. The reasons are tried in this order.
 #[derive(Clone, Copy, Debug, PartialEq, Eq)]
@@ -37,7 +39,8 @@ impl Reason {
 
     /// The word that a refusal has for the reason.
     pub fn word(&self) -> &'static str
-        ensures { result.now ≡ reason_word self.now }
+        ensures word { result.now ≡ reason_word self.now }
+        ensures short { length result.now ≤ 7 }
     {
         match self {
             Reason::Byte => "byte",
@@ -54,5 +57,11 @@ impl Reason {
             Reason::End => "end",
             Reason::Unbuilt => "unbuilt",
         }
+    }
+}
+
+impl fmt::Display for Reason {
+    fn fmt<W: fmt::Write>(&self, f: &mut fmt::Formatter<W>) -> fmt::Result {
+        f.write_str(self.word())
     }
 }

@@ -3,5 +3,6 @@ pub mod LineText
 pub mod ObjectName
 pub mod ScriptText
 pub mod Shape
+pub mod TextLines
 pub mod Valid
 pub mod ValidLine

@@ -1,5 +1,3 @@
-use Rattle.std.proofs.Common.{subst, List, ℕ}
-use Rattle.std.proofs.Common.{rules}
 use Rattle.script_read.proofs.Numbers.{digits_parse}
 use Rattle.script_read.proofs.field.digits_number.Goals as goal
 
