@@ -5,6 +5,7 @@ pub mod EntryLine
 pub mod FinalLine
 pub mod HistoryText
 pub mod HolderText
+pub mod IsEntry
 pub mod Joined
 pub mod PartText
 pub mod StepText
