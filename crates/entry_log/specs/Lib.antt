@@ -1,5 +1,4 @@
 pub mod ActorText
-pub mod Appends
 pub mod EffectText
 pub mod EntryLine
 pub mod FinalLine

@@ -1,2 +1,4 @@
+pub mod Appends
 pub mod NameText
 pub mod Padded
+pub mod Spells
