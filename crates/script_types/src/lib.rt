@@ -3,8 +3,10 @@
 
 mod declaration;
 mod instruction;
+mod line;
 mod script;
 
 pub use declaration::{DfcDecl, IdfcDecl, IrqBody, Op, Ops, ProcessDecl, QueueDecl, ThreadDecl};
 pub use instruction::{Instr, Instrs};
+pub use line::Line;
 pub use script::{Script, Slot};

@@ -1,7 +1,7 @@
 //! A list that contracts see as such.
-ghost use Rattle.std.specs.Prelude.{◌≡◌, ◌+◌, ◌<◌, ◌↔◌, [], ◌∷◌, ◌++◌, length, vec_len, IsTrue, OnOk, OnErr, MatchOption, slice_get, slice_set};
+ghost use Rattle.std.specs.Prelude.{◌≡◌, ◌+◌, ◌<◌, ◌↔◌, [], ◌∷◌, ◌++◌, length, vec_len, IsTrue, IfOk, OnOk, OnErr, MatchOption, slice_get, slice_set};
 
-use std::alloc::AllocFailed;
+use std::alloc::{AllocError, AllocFailed, Global};
 use std::marker::Model;
 
 /// A `Vec` that a contract sees as the list of its items, so that two lists are equal where their
@@ -65,7 +65,28 @@ impl<T> Items<T> {
     }
 }
 
+impl<T> Items<T> {
+    ghost use Rattle.std.specs.Borrow.{Lends, sem};
+    ghost use Rattle.sym_base.specs.contracts.items.Items.{the_row};
+
+    /// The item at a place, to be changed there.
+    pub fn get_mut(&mut self, at: usize) -> &mut T
+        requires { at < length self.old }
+        ensures* writes_back { sem 𝓛 (Lends (the_row T.row) T.row self.entry result (slice_set self.old at)) }
+        ensures value { slice_get self.old at ≡ Some result.now }
+    {
+        &mut self.items[at]
+    }
+}
+
 impl<T: Copy> Items<T> {
+    /// A second list of the same items.
+    pub fn copied(&self, alloc: Global) -> Result<Items<T>, AllocError>
+        ensures { IfOk result (λ copy. copy ≡ self.now) }
+    {
+        Ok(Items::new(Vec::from_slice(alloc, self.items.as_slice())?))
+    }
+
     /// The item at a place.
     pub fn get(&self, at: usize) -> T
         requires { at < length self.now }

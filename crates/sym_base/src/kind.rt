@@ -1,4 +1,7 @@
 //! Kinds of kernel objects, and the small values that rows and messages carry.
+ghost use Rattle.std.specs.Prelude.{◌≡◌, ◌==◌};
+ghost use Rattle.sym_base.specs.KindNumber.{kind_number};
+
 use crate::Name;
 
 /// The kinds of kernel object that the model has (Symbian OS Internals, the chapter on kernel services).
@@ -10,6 +13,15 @@ pub enum Kind {
     Semaphore,
     Server,
     Session,
+}
+
+impl Kind {
+    /// Whether two kinds are the same.
+    pub fn is(self, other: Kind) -> bool
+        ensures { result ≡ (kind_number self == kind_number other) }
+    {
+        self as u8 == other as u8
+    }
 }
 
 /// How a thread ended (the chapter on threads and processes).

@@ -1,0 +1,129 @@
+-- An action of a thread leaves a well-formed state.
+use Rattle.std.proofs.Common.{◌≡◌, ◌≢◌, ◌⊎◌, inl, inr, ℕ, suc, zero, ◌+◌, ◌<◌, ◌≤◌, List, [], ◌∷◌, ◌++◌, length, get_or, arith, refl, sym, subst, ap, ◌∙◌, Option, Some, None, Bool, true, false}
+use Rattle.std.specs.Prelude.{ℤ, negsuc, pos, slice_set, slice_get, slice_index, ◌==◌, ◌||◌, if◌then◌else◌}
+use Rattle.std.proofs.lemmas.List.{get_or-set_same, get_or-set_other, length-set, length-append, get_or_push, length_push, get_or_past}
+use Rattle.std.proofs.lemmas.Bool.{eq-eqb, eqb-true, cases_eq}
+use Rattle.sym_base.specs.declared.number.ObjNo.{ObjNo}
+use Rattle.sym_base.specs.declared.kind.Kind.TheVariants.{Mutex}
+use Rattle.entry_log.specs.declared.effect.Holder.{Holder}
+use Rattle.entry_log.specs.declared.effect.Holder.TheVariants.{Temp}
+use Rattle.entry_log.specs.declared.step.Step.{Step}
+use Rattle.entry_log.specs.declared.step.Step.TheVariants.{Of}
+use Rattle.entry_log.specs.declared.step.Word.TheVariants.{Create, Dup}
+use Rattle.entry_log.specs.declared.step.Part.TheVariants.{Do}
+use Rattle.script_types.specs.declared.script.Script.{Script}
+use Rattle.script_types.specs.declared.instruction.Instr.{Instr}
+use Rattle.script_types.specs.declared.instruction.Instr.TheVariants.{CreateMutex, Dup as DupInstr, Close as CloseInstr}
+use Rattle.machine.specs.declared.state.Place.{Place}
+use Rattle.machine.specs.declared.state.Owed.{Owed}
+use Rattle.machine.specs.declared.state.Owed.TheVariants.{Close, Sweep}
+use Rattle.machine.specs.declared.state.Phase.{Phase}
+use Rattle.machine.specs.declared.state.Phase.TheVariants.{Start, Using}
+use Rattle.machine.specs.declared.state.ThreadRow.{ThreadRow}
+use Rattle.machine.specs.declared.state.ObjectRow.{ObjectRow}
+use Rattle.machine.specs.declared.state.State.{State}
+use Rattle.machine.specs.Rows.{object_of, thread_of, table_of, owed_of, with_object, with_place, with_thread, with_owed, owing, advanced, with_register}
+use Rattle.machine.specs.Table.{place_at, fresh_place, free_index, new_instance, next_instance, new_handle, is_full, look, owner_of, index_of, holder_of}
+use Rattle.machine.specs.References.{total, same, count_of, place_names, option_names, phase_names, thread_names, owed_names}
+use Rattle.machine.specs.Acted.{Acted, answered, dead_row, answered_state, owed_use, died, is_last, closed_effects, owed_after_close, after_close}
+use Rattle.machine.specs.Create.{with_handle, made, create_mutex, name_taken}
+use Rattle.machine.specs.Dup.{dup_look, dup_do, dup_step, stays_with_thread}
+use Rattle.machine.specs.Close.{without_handle, close_do, close_step}
+use Rattle.machine.specs.Pay.{pay}
+use Rattle.machine.specs.Act.{instructions_of, declared_of, instruction, instruction_step, act, act_by, act_of, nothing, is_ready, has_work, settled}
+use Rattle.machine.specs.Good.{Good, EachReady, IsGoodThread, IsAlive, sweeps_of, owed_sweeps}
+use Rattle.machine.proofs.Cases.{if_cases, or_false_left, or_false_right}
+use Rattle.machine.proofs.Totals.{total_at_least, inside}
+use Rattle.machine.proofs.Tables.{free_index_is_free, free_index_inside, look_is, place_inside, table_inside}
+use Rattle.machine.proofs.Counts.{count-with_place, count-with_thread, sweeps-with_owed}
+use Rattle.machine.proofs.RefsSteps.{count-answered}
+use Rattle.machine.proofs.RefsAct.{without_handle-count, without_duty-count}
+use Rattle.machine.proofs.Shape.{Shape, shape-with_place, shape-with_thread, shape-with_owed, shape-with_objects}
+use Rattle.machine.proofs.Live.{same_object, Live, live-kept, live-answered, live-made, live-close, live-sweep, alive_at, alive_by, same_self, same_other}
+
+use Rattle.machine.proofs.GoodSteps.{Keeps, Amid, IsAtInstruction, keeps-answered, amid-placed}
+
+use Rattle.machine.proofs.KeepsSteps.{IsStepping, amid-start, keeps-refused, keeps-closed}
+
+use Rattle.machine.proofs.KeepsSteps.{duties_inside, keeps-create_mutex, keeps-dup_step}
+use Rattle.machine.proofs.KeepsClose.{keeps-close_do, keeps-pay}
+use Rattle.machine.proofs.Shape.{shape_of}
+use Rattle.machine.specs.declared.state.Queued.{Queued}
+use Rattle.std.specs.Prelude.{not, filter}
+use Rattle.std.proofs.lemmas.Option.{slice_get_past}
+use Rattle.std.proofs.lemmas.Bool.{cases_lt}
+
+pub live_of : {script : Script} {S : State} → Good script S → Live S
+live_of g = record { alive = g.alive; sweeps = g.sweeps }
+
+pub good_of : (script : Script) (S : State) → Shape script S → Live S → EachReady script S S.ready → Good script S
+good_of script S s l r = record { tables = s.tables; duties = s.duties; first = s.first; threads_few = s.threads_few; objects_few = s.objects_few; places = s.places; instances = s.instances; rows = s.rows; owed_few = s.owed_few; alive = l.alive; sweeps = l.sweeps; ready = r }
+
+-- a number at which a list has something is inside the list
+pub slice_get_inside : {A : Type 0} (xs : List A) (i : ℕ) (x : A) → slice_get xs i ≡ Some x → i < length xs
+slice_get_inside xs i x h = elim (cases_lt i (length xs)) [ inl lt ↦ lt | inr le ↦ let past = slice_get_past xs i le in cc ]
+
+pub keeps-instruction_step : (script : Script) (S : State) (t : ObjNo) (row : ThreadRow) (instr : Instr) → IsStepping script S t row → Keeps script S t (instruction_step S t row instr).state
+keeps-instruction_step script S t row (CreateMutex name x) h = keeps-create_mutex script S t row name x h
+keeps-instruction_step script S t row (DupInstr x y) h = keeps-dup_step script S t row x y row.phase h refl
+keeps-instruction_step script S t row (CloseInstr x) h = keeps-close_do script S t row (slice_index row.registers x) (look S t row (slice_index row.registers x)) h refl
+
+keeps-nothing : (script : Script) (S : State) (t : ObjNo) → Shape script S → Live S → Keeps script S t S
+keeps-nothing script S t s l = record { shape = s; live = l; ready = refl; rows = λ u apart. refl; duties = λ u apart. refl }
+
+pub keeps-act_by : (script : Script) (S : State) (t : ObjNo) (row : ThreadRow) (owed : List Owed) (instr : Option Instr) → Shape script S → Live S → thread_of S t ≡ Some row → owed_of S t ≡ owed → instruction script row ≡ instr → Keeps script S t (act_by S t row owed instr).state
+keeps-act_by script S t row (what ∷ rest) instr s l is owed at = keeps-pay script S t what rest s l (duties_inside script S t row s is) owed
+keeps-act_by script S t row [] (Some instr) s l is owed at = keeps-instruction_step script S t row instr
+  (record { shape = s; live = l; is = is; owes_nothing = owed; at = slice_get_inside (instructions_of (declared_of script row.declared)) row.place instr at })
+keeps-act_by script S t row [] None s l is owed at = keeps-nothing script S t s l
+
+pub keeps-act_of : (script : Script) (S : State) (t : ObjNo) (row : Option ThreadRow) → Shape script S → Live S → thread_of S t ≡ row → Keeps script S t (act_of script S t row).state
+keeps-act_of script S t None s l is = keeps-nothing script S t s l
+keeps-act_of script S t (Some row) s l is = keeps-act_by script S t row (owed_of S t) (instruction script row) s l is refl refl
+
+-- a thread whose rows stay is as ready as before
+pub ready_same : (script : Script) (S T : State) (u : ObjNo) → thread_of T u ≡ thread_of S u → owed_of T u ≡ owed_of S u → is_ready script T u ≡ is_ready script S u
+ready_same script S T u rows duties = cc
+
+kept_one : (script : Script) (S : State) (t : ObjNo) (T : State) (q : Queued) → ((u : ObjNo) → (u.0 ≡ t.0 → ⊥) → is_ready script T u ≡ is_ready script S u) → is_ready script T t ≡ true → is_ready script S q.thread ≡ true → is_ready script T q.thread ≡ true
+kept_one script S t T q others self h = elim (cases_eq q.thread.0 t.0) [
+    inl at ↦ subst (λ (u : ObjNo). is_ready script T u ≡ true) (same_object t q.thread (sym at)) self
+  | inr apart ↦ others q.thread apart ∙ h ]
+
+-- each thread that stays in the list of ready ones is ready still
+each-kept : (script : Script) (S : State) (t : ObjNo) (T : State) (qs : List Queued) → ((u : ObjNo) → (u.0 ≡ t.0 → ⊥) → is_ready script T u ≡ is_ready script S u) → is_ready script T t ≡ true → EachReady script S qs → EachReady script T qs
+each-kept script S t T [] others self h = tt
+each-kept script S t T (q ∷ qs) others self h = (kept_one script S t T q others self h.0, each-kept script S t T qs others self h.1)
+
+others_step : (script : Script) (S : State) (t : ObjNo) (T : State) (q : Queued) (qs : List Queued) (b : Bool) → (q.thread.0 == t.0) ≡ b → ((u : ObjNo) → (u.0 ≡ t.0 → ⊥) → is_ready script T u ≡ is_ready script S u) → is_ready script S q.thread ≡ true → EachReady script T (filter (λ q. not (q.thread.0 == t.0)) qs) → EachReady script T (if not b then q ∷ filter (λ q. not (q.thread.0 == t.0)) qs else filter (λ q. not (q.thread.0 == t.0)) qs)
+others_step script S t T q qs true e others h rest = rest
+others_step script S t T q qs false e others h rest = (others q.thread (λ at. cc (eq-eqb q.thread.0 t.0 at)) ∙ h, rest)
+
+-- of the others the ready ones are ready still
+each-others : (script : Script) (S : State) (t : ObjNo) (T : State) (qs : List Queued) → ((u : ObjNo) → (u.0 ≡ t.0 → ⊥) → is_ready script T u ≡ is_ready script S u) → EachReady script S qs → EachReady script T (filter (λ q. not (q.thread.0 == t.0)) qs)
+each-others script S t T [] others h = tt
+each-others script S t T (q ∷ qs) others h = others_step script S t T q qs (q.thread.0 == t.0) refl others h.0 (each-others script S t T qs others h.1)
+
+-- shape and readiness don't look at the ready list
+moved_shape : (script : Script) (T : State) (qs : List Queued) → Shape script T → Shape script (record T { ready = qs })
+moved_shape script T qs s = record { tables = s.tables; duties = s.duties; first = s.first; threads_few = s.threads_few; objects_few = s.objects_few; places = s.places; instances = s.instances; rows = λ u r is. let g = s.rows u r is in record { process = g.process; place = g.place; registers = g.registers }; owed_few = s.owed_few }
+
+each_moved : (script : Script) (T : State) (qs ready : List Queued) → EachReady script T qs → EachReady script (record T { ready = ready }) qs
+each_moved script T [] ready h = tt
+each_moved script T (q ∷ qs) ready h = (h.0, each_moved script T qs ready h.1)
+
+-- the end of an action: a thread with nothing left to do leaves the ready list
+pub good-settled : (script : Script) (S : State) (t : ObjNo) (T : State) → Keeps script S t T → EachReady script S S.ready → Good script (settled script t T)
+unfolding settled
+good-settled script S t T k ready =
+  let others : (u : ObjNo) → (u.0 ≡ t.0 → ⊥) → is_ready script T u ≡ is_ready script S u = λ u apart. ready_same script S T u (k.rows u apart) (k.duties u apart) in
+  let P : State → Type 0 = λ U. Good script U in
+  if_cases P (is_ready script T t) _ _
+    (λ self. good_of script T k.shape k.live (subst (λ (qs : List Queued). EachReady script T qs) (sym k.ready) (each-kept script S t T S.ready others self ready)))
+    (λ _. good_of script (record T { ready = filter (λ q. not (q.thread.0 == t.0)) T.ready }) (moved_shape script T (filter (λ q. not (q.thread.0 == t.0)) T.ready) k.shape) (record { alive = k.live.alive; sweeps = k.live.sweeps })
+      (each_moved script T _ (filter (λ q. not (q.thread.0 == t.0)) T.ready) (subst (λ (qs : List Queued). EachReady script T (filter (λ q. not (q.thread.0 == t.0)) qs)) (sym k.ready) (each-others script S t T S.ready others ready))))
+
+-- every action of a thread leaves a well-formed state
+pub good-act : (script : Script) (S : State) (t : ObjNo) → Good script S → Good script (act script S t).state
+unfolding act
+good-act script S t g = good-settled script S t _ (keeps-act_of script S t (thread_of S t) (shape_of g) (live_of g) refl) g.ready

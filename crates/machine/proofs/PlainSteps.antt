@@ -1,0 +1,47 @@
+-- The plain machine after one more entry.
+use Rattle.std.proofs.Common.{◌≡◌, ℕ, ◌+◌, List, [], ◌∷◌, ◌++◌, length, ap, subst, sym, refl, ◌∙◌}
+use Rattle.script_types.specs.declared.script.Script.{Script}
+use Rattle.script_types.specs.declared.script.Slot.{Slot}
+use Rattle.script_types.specs.declared.script.Slot.TheVariants.{Go, Irq, Tick}
+use Rattle.entry_log.specs.declared.entry.Actor.{Actor}
+use Rattle.entry_log.specs.declared.entry.Entry.{Entry}
+use Rattle.machine.specs.declared.outcome.Outcome.{Outcome}
+use Rattle.machine.specs.declared.state.State.{State}
+use Rattle.machine.specs.Acted.{Acted}
+use Rattle.machine.specs.ActedBy.{acted}
+use Rattle.machine.specs.Built.{IsBuilt}
+use Rattle.machine.specs.Choice.{chosen}
+use Rattle.machine.specs.Good.{Good}
+use Rattle.machine.specs.History.{acted_by, after, entry_of, IsNext}
+use Rattle.machine.specs.PlainView.{IsPlain}
+use Rattle.machine.specs.Run.{slot_actor}
+use Rattle.machine.proofs.Boots.{good-after-valid}
+use Rattle.machine.proofs.Histories.{after-push, legal-push, can_act_chosen}
+
+-- the state of a machine is well-formed
+pub good_plain : (script : Script) (history : List Entry) (S : State) → IsPlain script history S → Good script S
+good_plain script history S plain = subst (Good script) (sym plain.state) (good-after-valid script history plain.valid)
+
+-- the machine goes on by what the actor of a slot does
+pub plain_goes_on : (script : Script) (history : List Entry) (S T : State) (slot : Slot) (outcome : Outcome) → IsBuilt slot → IsPlain script history S → acted T outcome ≡ acted_by script S (slot_actor S slot) → IsPlain script (history ++ entry_of (length history + 1) (slot_actor S slot) outcome ∷ []) T
+plain_goes_on script history S T (Irq k) outcome built plain did = absurd built
+plain_goes_on script history S T Tick outcome built plain did = absurd built
+plain_goes_on script history S T Go outcome built plain did =
+    let e = entry_of (length history + 1) (chosen S) outcome in
+    let next : IsNext script S (length history + 1) e = record {
+      able = can_act_chosen script S _ (good_plain script history S plain) refl;
+      told = ap (λ (a : Acted). entry_of (length history + 1) (chosen S) a.outcome) did;
+    } in
+    record {
+      valid = plain.valid;
+      legal = legal-push script history e plain.legal (subst (λ (s : State). IsNext script s (length history + 1) e) plain.state next);
+      state = ap (λ (a : Acted). a.state) did ∙ ap (λ (s : State). (acted_by script s (chosen S)).state) plain.state ∙ sym (after-push script history e);
+    }
+
+-- the same of a copy of the state, and of what is made in between
+pub plain_goes_on_by : (script : Script) (history new : List Entry) (S copy T : State) (slot : Slot) (actor : Actor) (outcome : Outcome) (place : ℕ) (e : Entry) → IsBuilt slot → IsPlain script history S → copy ≡ S → actor ≡ slot_actor S slot → acted T outcome ≡ acted_by script copy actor → place ≡ length history + 1 → e ≡ entry_of place actor outcome → new ≡ history ++ e ∷ [] → IsPlain script new T
+plain_goes_on_by script history new S copy T slot actor outcome place e built plain same by did at told pushed =
+    let did_so : acted T outcome ≡ acted_by script S (slot_actor S slot) = did ∙ ap (λ (s : State). acted_by script s actor) same ∙ ap (acted_by script S) by in
+    let told_so : e ≡ entry_of (length history + 1) (slot_actor S slot) outcome = told ∙ ap (λ (n : ℕ). entry_of n actor outcome) at ∙ ap (λ (a : Actor). entry_of (length history + 1) a outcome) by in
+    let new_so : new ≡ history ++ entry_of (length history + 1) (slot_actor S slot) outcome ∷ [] = pushed ∙ ap (λ (x : Entry). history ++ x ∷ []) told_so in
+    subst (λ (h : List Entry). IsPlain script h T) (sym new_so) (plain_goes_on script history S T slot outcome built plain did_so)

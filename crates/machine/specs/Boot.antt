@@ -1,0 +1,78 @@
+-- The state at boot. Object 0 is process `kernel`, object 1 thread `supervisor`, and then each process
+-- comes with its threads behind it, in the script's order.
+use Rattle.std.specs.Prelude.{ℕ, ◌+◌, ◌==◌, Bool, true, false, if◌then◌else◌, codes, map, List, [], ◌∷◌, ◌++◌, length, Option, Some, None, replicate}
+use Rattle.sym_base.specs.declared.number.ObjNo.{ObjNo}
+use Rattle.sym_base.specs.declared.kind.Kind.{Kind}
+use Rattle.sym_base.specs.declared.kind.Kind.TheVariants.{Process, Thread}
+use Rattle.script_types.specs.declared.script.Script.{Script}
+use Rattle.script_types.specs.declared.declaration.ThreadDecl.{ThreadDecl}
+use Rattle.script_types.specs.declared.declaration.ProcessDecl.{ProcessDecl}
+use Rattle.script_types.specs.declared.instruction.Instr.{Instr}
+use Rattle.machine.specs.declared.state.ObjectRow.{ObjectRow}
+use Rattle.machine.specs.declared.state.Phase.TheVariants.{Start}
+use Rattle.machine.specs.declared.state.Queued.{Queued}
+use Rattle.machine.specs.declared.state.ThreadRow.{ThreadRow}
+use Rattle.machine.specs.declared.state.State.{State}
+use Rattle.machine.specs.declared.boot.Born.{Born}
+use Rattle.machine.specs.Table.{fresh_place}
+
+-- an object that stands at boot
+abbrev pub boot_object : Kind → List ℕ → ObjectRow
+boot_object kind name = record { kind = kind; name = name; dead = false }
+
+-- a process
+abbrev pub born_process : List ℕ → Born
+born_process name = record { object = boot_object Process name; thread = None; priority = 0; works = false }
+
+-- the thread of declaration k, in the process of object number p
+abbrev pub new_thread : ℕ → Option ℕ → ThreadRow
+new_thread p k = record { process = record { 0 = p }; declared = k; place = 0; phase = Start; registers = replicate 8 0 }
+
+-- whether a list has an instruction
+abbrev pub has_any : List Instr → Bool
+has_any [] = false
+has_any (x ∷ xs) = true
+
+abbrev pub born_thread : ℕ → ℕ → ThreadDecl → Born
+born_thread p k d = record { object = boot_object Thread d.name; thread = Some (new_thread p (Some k)); priority = d.priority; works = has_any d.instrs }
+
+-- whether a declared thread is of the j-th process
+abbrev pub is_of : ℕ → Option ℕ → Bool
+is_of j None = false
+is_of j (Some i) = i == j
+
+-- the threads of the j-th process, whose object number is p; k counts the declarations
+abbrev pub born_threads : ℕ → ℕ → ℕ → List ThreadDecl → List Born
+born_threads j p k [] = []
+born_threads j p k (d ∷ ds) = if is_of j d.process then born_thread p k d ∷ born_threads j p (k + 1) ds else born_threads j p (k + 1) ds
+
+-- the processes from the j-th on, each with its threads; p is the object number of the j-th
+abbrev pub born_processes : List ThreadDecl → ℕ → ℕ → List ProcessDecl → List Born
+born_processes threads j p [] = []
+born_processes threads j p (d ∷ ds) =
+  born_process d.name ∷ born_threads j p 0 threads ++ born_processes threads (j + 1) (p + 1 + length (born_threads j p 0 threads)) ds
+
+-- all that stands at boot, in order of number
+abbrev pub born : Script → List Born
+born script =
+  born_process (codes "kernel")
+  ∷ record { object = boot_object Thread (codes "supervisor"); thread = Some (new_thread 0 None); priority = 48; works = false }
+  ∷ born_processes script.threads 0 2 script.processes
+
+-- the threads that have an instruction are ready, in order of number
+abbrev pub ready_from : ℕ → List Born → List Queued
+ready_from n [] = []
+ready_from n (b ∷ bs) = if b.works then record { thread = record { 0 = n }; priority = b.priority } ∷ ready_from (n + 1) bs else ready_from (n + 1) bs
+
+-- each has an empty table and owes nothing
+unfoldable pub boot_of : List Born → State
+boot_of bs = record {
+  objects = map (λ b. Some b.object) bs;
+  handles = map (λ _. replicate 256 fresh_place) bs;
+  threads = map (λ b. b.thread) bs;
+  ready = ready_from 0 bs;
+  owed = map (λ _. []) bs;
+}
+
+abbrev pub boot : Script → State
+boot script = boot_of (born script)

@@ -1,0 +1,28 @@
+-- The objects that are left, in order of number, with their counts.
+use Rattle.std.specs.Prelude.{◌≡◌, ℕ, ◌+◌, List, [], ◌∷◌, Option, Some, None, drop}
+use Rattle.sym_base.specs.declared.number.ObjNo.{ObjNo}
+use Rattle.entry_log.specs.declared.entry.FinalRow.{FinalRow}
+use Rattle.machine.specs.declared.state.ObjectRow.{ObjectRow}
+use Rattle.machine.specs.declared.state.State.{State}
+use Rattle.machine.specs.References.{count_of}
+
+-- an object's row; no thread has an exit yet
+abbrev pub final_row : State → ℕ → ObjectRow → FinalRow
+final_row S n row = record { object = record { 0 = n }; kind = row.kind; name = row.name; count = count_of S (record { 0 = n }); exit = None }
+
+-- the rows of objects that aren't swept, from number n on
+abbrev pub rows_of : State → ℕ → List (Option ObjectRow) → List FinalRow
+rows_of S n [] = []
+rows_of S n (None ∷ rest) = rows_of S (n + 1) rest
+rows_of S n (Some row ∷ rest) = final_row S n row ∷ rows_of S (n + 1) rest
+
+abbrev pub rows_from : State → ℕ → List FinalRow
+rows_from S n = rows_of S n (drop n S.objects)
+
+abbrev pub final_rows : State → List FinalRow
+final_rows S = rows_of S 0 S.objects
+
+-- the first of the rows from a number on, None where there is none
+abbrev pub IsNextRow : (ℕ → List FinalRow) → ℕ → Option FinalRow → Type 0
+IsNextRow rows from None = rows from ≡ []
+IsNextRow rows from (Some row) = rows from ≡ row ∷ rows (row.object.0 + 1)

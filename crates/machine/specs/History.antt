@@ -1,0 +1,60 @@
+-- Histories: each entry is what its actor does in the state before it.
+use Rattle.std.specs.Prelude.{◌≡◌, ℕ, ◌+◌, IsTrue, List, [], ◌∷◌, length}
+use Rattle.sym_base.specs.declared.number.ObjNo.{ObjNo}
+use Rattle.script_types.specs.declared.script.Script.{Script}
+use Rattle.entry_log.specs.declared.entry.Actor.{Actor}
+use Rattle.entry_log.specs.declared.entry.Actor.TheVariants.{Thread, Irq, Idfc, Tick, Idle}
+use Rattle.entry_log.specs.declared.entry.Entry.{Entry}
+use Rattle.machine.specs.declared.outcome.Outcome.{Outcome}
+use Rattle.machine.specs.declared.state.State.{State}
+use Rattle.machine.specs.Acted.{Acted}
+use Rattle.machine.specs.Act.{act, nothing, is_ready}
+use Rattle.machine.specs.Choice.{chosen}
+use Rattle.machine.specs.Boot.{boot}
+
+-- what an actor does; interrupts, deferred calls and ticks come later, and do nothing yet
+abbrev pub acted_by : Script → State → Actor → Acted
+acted_by script S (Thread t) = act script S t
+acted_by script S _ = nothing S
+
+-- the state that an actor's action leaves
+abbrev pub next : Script → State → Actor → State
+next script S actor = (acted_by script S actor).state
+
+-- the entry of an action at a place
+abbrev pub entry_of : ℕ → Actor → Outcome → Entry
+entry_of place actor outcome = record { place = place; actor = actor; step = outcome.step; effects = outcome.effects; answer = outcome.answer }
+
+-- the entry that an actor's action writes
+abbrev pub entry_by : Script → State → ℕ → Actor → Entry
+entry_by script S place actor = entry_of place actor (acted_by script S actor).outcome
+
+-- the state after a history
+abbrev pub after_from : Script → State → List Entry → State
+after_from script S [] = S
+after_from script S (e ∷ es) = after_from script (next script S e.actor) es
+
+abbrev pub after : Script → List Entry → State
+after script history = after_from script (boot script) history
+
+-- a ready thread may act, and nobody where no thread is ready
+abbrev pub CanAct : Script → State → Actor → Type 0
+CanAct script S (Thread t) = IsTrue (is_ready script S t)
+CanAct script S Idle = chosen S ≡ Idle
+CanAct script S (Irq k) = ⊥
+CanAct script S Idfc = ⊥
+CanAct script S Tick = ⊥
+
+-- an entry that may stand at a place: its actor may act, and it tells what the actor does
+pub record IsNext (script : Script) (S : State) (place : ℕ) (e : Entry) : Type 0 where
+  pub able : CanAct script S e.actor
+  pub told : e ≡ entry_by script S place e.actor
+
+-- each entry may stand at its place, in the state that those before it leave
+abbrev pub IsLegalFrom : Script → State → ℕ → List Entry → Type 0
+IsLegalFrom script S place [] = Unit {0}
+IsLegalFrom script S place (e ∷ es) = IsNext script S place e × IsLegalFrom script (next script S e.actor) (place + 1) es
+
+-- a legal history starts at boot, and its places count from 1
+abbrev pub IsLegal : Script → List Entry → Type 0
+IsLegal script history = IsLegalFrom script (boot script) 1 history

@@ -1,0 +1,73 @@
+-- References are read off the rows, and the count of an object is the number of references to it.
+use Rattle.std.specs.Prelude.{◌≡◌, ℕ, ◌+◌, ◌==◌, if◌then◌else◌, is_some, List, [], ◌∷◌, Option, Some, None}
+use Rattle.sym_base.specs.declared.number.ObjNo.{ObjNo}
+use Rattle.entry_log.specs.declared.effect.Holder.{Holder}
+use Rattle.entry_log.specs.declared.effect.Effect.{Effect}
+use Rattle.entry_log.specs.declared.effect.Effect.TheVariants.{Plus, Minus, Dead, Swept}
+use Rattle.machine.specs.declared.state.ObjectRow.{ObjectRow}
+use Rattle.machine.specs.declared.state.Place.{Place}
+use Rattle.machine.specs.declared.state.ThreadRow.{ThreadRow}
+use Rattle.machine.specs.declared.state.Phase.{Phase}
+use Rattle.machine.specs.declared.state.Phase.TheVariants.{Start, Using}
+use Rattle.machine.specs.declared.state.Owed.{Owed}
+use Rattle.machine.specs.declared.state.Owed.TheVariants.{Close, Sweep}
+use Rattle.machine.specs.declared.state.State.{State}
+use Rattle.machine.specs.Rows.{thread_of, object_of}
+
+-- the sum of a number for each row
+abbrev pub total : {A : Type 0} → (A → ℕ) → List A → ℕ
+total f [] = 0
+total f (x ∷ xs) = f x + total f xs
+
+-- 1 where the two are one object, else 0
+abbrev pub same : ObjNo → ObjNo → ℕ
+same x o = if x.0 == o.0 then 1 else 0
+
+-- 1 where there is an object and it is this one
+abbrev pub option_names : ObjNo → Option ObjNo → ℕ
+option_names o None = 0
+option_names o (Some x) = same x o
+
+-- a place of a handle table refers to the object there
+abbrev pub place_names : ObjNo → Place → ℕ
+place_names o place = option_names o place.object
+
+-- a thread's call in flight refers to the object that it uses
+abbrev pub phase_names : ObjNo → Phase → ℕ
+phase_names o Start = 0
+phase_names o (Using x) = same x o
+
+-- a thread refers to its process, by its link, and to what it uses
+abbrev pub thread_names : ObjNo → Option ThreadRow → ℕ
+thread_names o None = 0
+thread_names o (Some row) = same row.process o + phase_names o row.phase
+
+-- a close that is owed stands for a reference that isn't given up yet
+abbrev pub owed_names : ObjNo → Owed → ℕ
+owed_names o (Close holder x) = same x o
+owed_names o (Sweep x) = 0
+
+-- the kernel holds each thread
+abbrev pub kernel_names : State → ObjNo → ℕ
+kernel_names S o = if is_some (thread_of S o) then 1 else 0
+
+-- the count of an object: the number of handles, links, temporary references, owed closes and of
+-- the kernel's own references that name it
+abbrev pub count_of : State → ObjNo → ℕ
+count_of S o = total (total (place_names o)) S.handles + total (thread_names o) S.threads + kernel_names S o + total (total (owed_names o)) S.owed
+
+-- how often effects add a reference to an object
+abbrev pub pluses : List Effect → ObjNo → ℕ
+pluses [] o = 0
+pluses (Plus holder x ∷ rest) o = same x o + pluses rest o
+pluses (_ ∷ rest) o = pluses rest o
+
+-- how often effects take one away
+abbrev pub minuses : List Effect → ObjNo → ℕ
+minuses [] o = 0
+minuses (Minus holder x ∷ rest) o = same x o + minuses rest o
+minuses (_ ∷ rest) o = minuses rest o
+
+-- references move as the effects say
+pub record RefsMove (old new : State) (effects : List Effect) : Type 0 where
+  pub each : (o : ObjNo) → count_of new o + minuses effects o ≡ count_of old o + pluses effects o

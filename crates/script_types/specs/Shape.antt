@@ -1,0 +1,28 @@
+-- What holds of every valid script, whichever forms of line the grammar has: the kernel's tables have
+-- room for it, and what it names by number is there.
+use Rattle.std.specs.Prelude.{◌≡◌, ℕ, ◌+◌, ◌<◌, ◌≤◌, Some, length, slice_get}
+use Rattle.script_types.specs.declared.declaration.ThreadDecl.{ThreadDecl}
+use Rattle.script_types.specs.declared.instruction.Instr.{Instr}
+use Rattle.script_types.specs.declared.instruction.Instr.TheVariants as instr
+use Rattle.script_types.specs.declared.script.Script.{Script}
+
+-- each register that an instruction names is one of the eight
+abbrev pub HasRegisters : Instr → Type 0
+HasRegisters (instr.CreateMutex name x) = x < 8
+HasRegisters (instr.Dup x y) = (x < 8) × (y < 8)
+HasRegisters (instr.Close x) = x < 8
+
+-- a thread of a script with so many processes
+pub record IsShapedThread (processes : ℕ) (thread : ThreadDecl) : Type 0 where
+  pub priority : thread.priority ≤ 63
+  pub process : (p : ℕ) → thread.process ≡ Some p → p < processes
+  pub registers : (k : ℕ) (what : Instr) → slice_get thread.instrs k ≡ Some what → HasRegisters what
+  pub size : length thread.instrs ≤ 16384
+
+-- a script: at most 16 processes, at most 64 threads with the supervisor and those of the queues, and
+-- at most 65,536 slots
+pub record IsShaped (script : Script) : Type 0 where
+  pub processes : length script.processes ≤ 16
+  pub count : length script.threads + length script.queues ≤ 63
+  pub threads : (k : ℕ) (thread : ThreadDecl) → slice_get script.threads k ≡ Some thread → IsShapedThread (length script.processes) thread
+  pub slots : length script.slots ≤ 65536
