@@ -1,1 +1,12 @@
-pub mod Joins
+mod Bytes
+mod Joins
+mod Pieces
+mod ReadActor
+mod ReadEffect
+mod ReadHolder
+mod ReadNumber
+mod ReadPart
+mod ReadStep
+mod ReadWord
+mod SameEntries
+pub mod SameHistories

@@ -1,10 +1,10 @@
 pub mod ActorText
-pub mod Appends
 pub mod EffectText
 pub mod EntryLine
 pub mod FinalLine
 pub mod HistoryText
 pub mod HolderText
+pub mod IsEntry
 pub mod Joined
 pub mod PartText
 pub mod StepText

@@ -1,4 +1,4 @@
-//! The text of entries and of final rows.
+//! The text of entries and of final rows. All printed texts are this project's own.
 mod effects;
 mod entries;
 mod holders;
@@ -8,3 +8,6 @@ mod steps;
 
 pub use entries::entry_text;
 pub use rows::final_text;
+
+#[cfg(test)]
+mod tests;

@@ -1,3 +1,5 @@
+pub mod Appends
+pub mod KindNumber
 pub mod NameText
 pub mod Padded
-pub mod KindNumber
+pub mod Spells

@@ -1,7 +1,7 @@
 //! The line of an entry.
 ghost use Rattle.std.specs.Prelude.{◌≡◌, ◌+◌, ◌≤◌, ◌∷◌, ◌++◌, length, decimal};
 ghost use Rattle.entry_log.specs.ActorText.{actor_text};
-ghost use Rattle.entry_log.specs.Appends.{Appends};
+ghost use Rattle.sym_base.specs.Appends.{Appends};
 ghost use Rattle.entry_log.specs.EntryLine.{answer_words, entry_line};
 ghost use Rattle.entry_log.specs.Joined.{preceded};
 ghost use Rattle.entry_log.specs.StepText.{step_text};

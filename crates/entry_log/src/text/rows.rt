@@ -1,7 +1,7 @@
 //! The line of an object that is left.
 ghost use Rattle.std.specs.Prelude.{◌≡◌, ◌+◌, ◌≤◌, ◌∷◌, ◌++◌, [], length, codes, decimal};
 ghost use Rattle.std.specs.Fmt.{signed_decimal};
-ghost use Rattle.entry_log.specs.Appends.{Appends};
+ghost use Rattle.sym_base.specs.Appends.{Appends};
 ghost use Rattle.entry_log.specs.FinalLine.{exit_words, final_line, kind_text, life_words, shown_name};
 ghost use Rattle.entry_log.specs.Joined.{preceded};
 
