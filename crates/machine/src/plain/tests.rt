@@ -7,7 +7,13 @@ use sym_base::{Name, read_name};
 /// A script of process `p` with thread `a`, which makes a mutex, makes a second handle of it, closes both,
 /// and closes the second once more.
 fn script(alloc: Global, p: Name, a: Name, m: Name) -> Result<Script, NoMemory> {
-    let instrs = vec![in alloc; Instr::CreateMutex(m, 0), Instr::Dup(0, 1), Instr::Close(0), Instr::Close(1), Instr::Close(1)]?;
+    let instrs = vec![in alloc;
+        Instr::CreateMutex(m, 0),
+        Instr::Dup(0, 1),
+        Instr::Close(0),
+        Instr::Close(1),
+        Instr::Close(1),
+    ]?;
     let thread = ThreadDecl {
         name: a,
         priority: 10,
@@ -24,7 +30,18 @@ fn script(alloc: Global, p: Name, a: Name, m: Name) -> Result<Script, NoMemory> 
         irqs: Items::new(Vec::new(alloc)),
         processes: Items::new(vec![in alloc; ProcessDecl { name: p }]?),
         threads: Items::new(vec![in alloc; thread]?),
-        slots: Items::new(vec![in alloc; Slot::Go, Slot::Go, Slot::Go, Slot::Go, Slot::Go, Slot::Go, Slot::Go, Slot::Go, Slot::Go, Slot::Go]?),
+        slots: Items::new(vec![in alloc;
+            Slot::Go,
+            Slot::Go,
+            Slot::Go,
+            Slot::Go,
+            Slot::Go,
+            Slot::Go,
+            Slot::Go,
+            Slot::Go,
+            Slot::Go,
+            Slot::Go,
+        ]?),
     })
 }
 
