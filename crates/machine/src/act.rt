@@ -41,7 +41,7 @@ fn declared_of(script: &Script, declared: Option<u8>) -> Option<&ThreadDecl>
 }
 
 /// The instruction that a thread is at, None at its list's end.
-fn instruction(script: &Script, row: &ThreadRow) -> Option<Instr>
+pub fn instruction(script: &Script, row: &ThreadRow) -> Option<Instr>
     ensures { result ≡ instruction script.now row.now }
 {
     match declared_of(script, row.declared) {

@@ -20,7 +20,7 @@ pub fn with_register(row: ThreadRow, register: u8, value: u32) -> ThreadRow
 }
 
 /// The thread's row at its next instruction.
-fn advanced(row: ThreadRow) -> ThreadRow
+pub fn advanced(row: ThreadRow) -> ThreadRow
     requires { row.place < 4294967295 }
     ensures { result ≡ advanced row }
 {

@@ -17,7 +17,7 @@ fn greatest(queue: &[Queued]) -> u8
 }
 
 /// The first thread of the greatest priority.
-fn first_of_greatest(queue: &[Queued]) -> Option<Queued>
+pub fn first_of_greatest(queue: &[Queued]) -> Option<Queued>
     ensures { result ≡ first_of_greatest queue.now }
 {
     let top = greatest(queue);

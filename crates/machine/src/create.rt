@@ -22,7 +22,7 @@ const ALREADY_EXISTS: i32 = -11;
 const OVERFLOW: i32 = -9;
 
 /// Whether an unswept object has this kind and name.
-fn has_name(kind: Kind, name: &Name, row: &Option<ObjectRow>) -> bool
+pub fn has_name(kind: Kind, name: &Name, row: &Option<ObjectRow>) -> bool
     ensures { result ≡ has_name kind name.now row.now }
 {
     match row {

@@ -36,7 +36,7 @@ fn kind_stays(kind: Kind) -> bool
 }
 
 /// Whether an object stays with the thread that made it.
-fn stays_with_thread(row: Option<ObjectRow>) -> bool
+pub fn stays_with_thread(row: Option<ObjectRow>) -> bool
     ensures { result ≡ stays_with_thread row }
 {
     match row {

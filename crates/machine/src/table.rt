@@ -118,7 +118,7 @@ pub fn holder_of(thread: ThreadNo, row: &ThreadRow, handle: u32) -> Holder
 }
 
 /// The object at a place, where the place has this instance.
-fn object_at(place: Place, instance: u32) -> Option<ObjNo>
+pub fn object_at(place: Place, instance: u32) -> Option<ObjNo>
     ensures { result ≡ object_at place instance }
 {
     if place.instance as u32 == instance {

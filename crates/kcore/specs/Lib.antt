@@ -1,0 +1,3 @@
+pub mod ObjectsView
+pub mod Counts
+pub mod HandleTable

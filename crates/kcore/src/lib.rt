@@ -1,0 +1,6 @@
+//! The kernel: tables with kept counts, whose every action is the one of the definitions.
+#![tactic(auto)]
+
+mod handles;
+mod objects;
+mod ready;
