@@ -18,4 +18,4 @@ pub mod LeftRows
 pub mod BootGood
 pub mod Boots
 pub mod PlainSteps
-
+pub mod ValidExample
