@@ -27,8 +27,8 @@ two_handles_is_valid = record {
   some = lit< tt;
   few = lit≤ tt;
   short =
-    let zero_digits : length (decimal 0) ≤ 1 = length-decimal-le 1 0 (lit< tt) (lit< tt) (lit< tt) in
-    let one_digit : length (decimal 1) ≤ 1 = length-decimal-le 1 1 (lit< tt) (lit< tt) (lit< tt) in
-    let ten_digits : length (decimal 10) ≤ 2 = length-decimal-le 2 10 (lit< tt) (lit< tt) (lit< tt) in
-    simp length-append (omega arith);
+      let zero_digits : length (decimal 0) ≤ 1 = length-decimal-le 1 0 (lit< tt) (lit< tt) (lit< tt) in
+      let one_digit : length (decimal 1) ≤ 1 = length-decimal-le 1 1 (lit< tt) (lit< tt) (lit< tt) in
+      let ten_digits : length (decimal 10) ≤ 2 = length-decimal-le 2 10 (lit< tt) (lit< tt) (lit< tt) in
+      simp length-append (omega arith);
 }

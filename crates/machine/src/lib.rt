@@ -19,13 +19,13 @@ mod state;
 mod table;
 
 pub use act::instruction;
+pub use acted::{advanced, closed_effects, one_effect, with_register};
 pub use boot::{Born, all_born};
 pub use choice::first_of_greatest;
 pub use create::has_name;
 pub use dup::stays_with_thread;
 pub use outcome::Outcome;
 pub use plain::Plain;
-pub use acted::{advanced, closed_effects, one_effect, with_register};
 pub use state::{MAX_OBJECTS, ObjectRow, Owed, Phase, Place, Queued, State, ThreadRow};
 pub use table::{
     FRESH_PLACE, MAX_HANDLES, free_index, handle_number, holder_of, index_of, instance_of, is_full,
