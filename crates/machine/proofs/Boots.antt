@@ -90,7 +90,7 @@ boot_count_inside script o le =
   let owed = total-const (total (owed_names o)) [] (born script) refl in
   omega arith
 
-fresh_instances : (n i : ℕ) → (place_at (replicate n fresh_place) i).instance ≤ 16383
+pub fresh_instances : (n i : ℕ) → (place_at (replicate n fresh_place) i).instance ≤ 16383
 fresh_instances zero i = omega arith
 fresh_instances (suc n) zero = omega arith
 fresh_instances (suc n) (suc i) = fresh_instances n i
