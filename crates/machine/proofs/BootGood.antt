@@ -57,8 +57,12 @@ is_born_thread : (script : Script) (n p k : ℕ) (d : ThreadDecl) → p < n → 
 is_born_thread script n p k d lt at = record {
   alive = refl;
   row = λ row is. let e : new_thread p (Some k) ≡ row = cc in subst (λ (r : ThreadRow). IsBornThread script n (has_any d.instrs) r) e (record {
-    process = lt; start = refl; place = refl; registers = refl;
-    works_there = λ w. let there : instructions_of (slice_get script.threads k) ≡ d.instrs = ap instructions_of at in ap (λ l. is_some (slice_get l 0)) there ∙ works_has_first d.instrs w });
+    process = lt;
+    start = refl;
+    place = refl;
+    registers = refl;
+    works_there = λ w. let there : instructions_of (slice_get script.threads k) ≡ d.instrs = ap instructions_of at in ap (λ l. is_some (slice_get l 0)) there ∙ works_has_first d.instrs w;
+  });
   thread = λ w. refl;
 }
 
@@ -69,9 +73,9 @@ each_born_threads_step script n j p k d rest false one more = more
 each_born_threads : (script : Script) (n j p : ℕ) (pre ds : List ThreadDecl) → p < n → script.threads ≡ pre ++ ds → EachBorn script n (born_threads j p (length pre) ds)
 each_born_threads script n j p pre [] lt e = tt
 each_born_threads script n j p pre (d ∷ ds) lt e =
-  let more : EachBorn script n (born_threads j p (length (pre ++ d ∷ [])) ds) = each_born_threads script n j p (pre ++ d ∷ []) ds lt (e ∙ sym (append_assoc pre (d ∷ []) ds)) in
-  let long : length (pre ++ d ∷ []) ≡ length pre + 1 = length-append pre (d ∷ []) in
-  each_born_threads_step script n j p (length pre) d (born_threads j p (length pre + 1) ds) (is_of j d.process)
+    let more : EachBorn script n (born_threads j p (length (pre ++ d ∷ [])) ds) = each_born_threads script n j p (pre ++ d ∷ []) ds lt (e ∙ sym (append_assoc pre (d ∷ []) ds)) in
+    let long : length (pre ++ d ∷ []) ≡ length pre + 1 = length-append pre (d ∷ []) in
+    each_born_threads_step script n j p (length pre) d (born_threads j p (length pre + 1) ds) (is_of j d.process)
     (is_born_thread script n p (length pre) d lt (ap (λ l. slice_get l (length pre)) e ∙ slice_get-behind pre d ds))
     (subst (λ (k : ℕ). EachBorn script n (born_threads j p k ds)) long more)
 
@@ -84,24 +88,28 @@ is_born_process script n name = record { alive = refl; row = λ row is. absurd (
 each_born_processes : (script : Script) (n j p : ℕ) (ds : List ProcessDecl) → p + length (born_processes script.threads j p ds) ≤ n → EachBorn script n (born_processes script.threads j p ds)
 each_born_processes script n j p [] le = tt
 each_born_processes script n j p (d ∷ ds) le =
-  let threads = born_threads j p 0 script.threads in
-  let rest = born_processes script.threads (j + 1) (p + 1 + length threads) ds in
-  let long = length-append threads rest in
-  (is_born_process script n d.name,
-   each_born-append script n threads rest
-     (each_born_threads script n j p [] script.threads (omega arith) refl)
-     (each_born_processes script n (j + 1) (p + 1 + length threads) ds (omega arith)))
+    let threads = born_threads j p 0 script.threads in
+    let rest = born_processes script.threads (j + 1) (p + 1 + length threads) ds in
+    let long = length-append threads rest in (
+      is_born_process script n d.name,
+      each_born-append script n threads rest
+          (each_born_threads script n j p [] script.threads (omega arith) refl)
+          (each_born_processes script n (j + 1) (p + 1 + length threads) ds (omega arith)),
+    )
 
 pub each_born : (script : Script) → EachBorn script (length (born script)) (born script)
 each_born script =
-  let n = length (born script) in
-  (is_born_process script n (codes "kernel"),
-   (record {
-      alive = refl;
-      row = λ row is. let e : new_thread 0 None ≡ row = cc in subst (λ (r : ThreadRow). IsBornThread script n false r) e (record { process = omega arith; start = refl; place = refl; registers = refl; works_there = λ w. cc });
-      thread = λ w. cc },
-    each_born_processes script n 0 2 script.processes (omega arith)))
-
+    let n = length (born script) in (
+      is_born_process script n (codes "kernel"),
+      (
+        record {
+          alive = refl;
+          row = λ row is. let e : new_thread 0 None ≡ row = cc in subst (λ (r : ThreadRow). IsBornThread script n false r) e (record { process = omega arith; start = refl; place = refl; registers = refl; works_there = λ w. cc });
+          thread = λ w. cc;
+        },
+        each_born_processes script n 0 2 script.processes (omega arith),
+      ),
+    )
 
 -- how many threads are of the j-th process or a later one
 from_process : ℕ → Option ℕ → ℕ
@@ -125,17 +133,17 @@ threads_of_process : (j p k : ℕ) (ds : List ThreadDecl) → length (born_threa
 unfolding count_from
 threads_of_process j p k [] = omega arith
 threads_of_process j p k (d ∷ ds) =
-  let r = threads_of_process j p (k + 1) ds in
-  let one = one_of_step j d.process in
-  let e = length_if (is_of j d.process) (born_thread p k d) (born_threads j p (k + 1) ds) in omega arith
+    let r = threads_of_process j p (k + 1) ds in
+    let one = one_of_step j d.process in
+    let e = length_if (is_of j d.process) (born_thread p k d) (born_threads j p (k + 1) ds) in omega arith
 
 processes_length : (threads : List ThreadDecl) (j p : ℕ) (ds : List ProcessDecl) → length (born_processes threads j p ds) ≤ length ds + count_from j threads
 processes_length threads j p [] = omega arith
 processes_length threads j p (d ∷ ds) =
-  let r = processes_length threads (j + 1) (p + 1 + length (born_threads j p 0 threads)) ds in
-  let t = threads_of_process j p 0 threads in
-  let e = length-append (born_threads j p 0 threads) (born_processes threads (j + 1) (p + 1 + length (born_threads j p 0 threads)) ds) in
-  omega arith
+    let r = processes_length threads (j + 1) (p + 1 + length (born_threads j p 0 threads)) ds in
+    let t = threads_of_process j p 0 threads in
+    let e = length-append (born_threads j p 0 threads) (born_processes threads (j + 1) (p + 1 + length (born_threads j p 0 threads)) ds) in
+    omega arith
 
 from_process_le : (j : ℕ) (process : Option ℕ) → from_process j process ≤ 1
 unfolding from_process
@@ -150,7 +158,7 @@ count_from_le j (d ∷ ds) = let r = count_from_le j ds in let one = from_proces
 -- at most 81 stand at boot
 pub born_few : (script : Script) → IsShaped script → length (born script) ≤ 81
 born_few script h =
-  let a = processes_length script.threads 0 2 script.processes in
-  let b = count_from_le 0 script.threads in
-  let c = h.processes in
-  let d = h.count in omega arith
+    let a = processes_length script.threads 0 2 script.processes in
+    let b = count_from_le 0 script.threads in
+    let c = h.processes in
+    let d = h.count in omega arith

@@ -62,16 +62,16 @@ born_alive script n (b ∷ bs) (suc i) h lt = born_alive script n bs i h.1 (omeg
 thread_names_past : (script : Script) (n : ℕ) (o : ObjNo) (works : Bool) (thread : Option ThreadRow) → n ≤ o.0 → ((row : ThreadRow) → thread ≡ Some row → IsBornThread script n works row) → thread_names o thread ≡ 0
 thread_names_past script n o works None le rows = refl
 thread_names_past script n o works (Some row) le rows =
-  let r = rows row refl in
-  let before = r.process in
-  let a = same_other row.process o (λ e. absurd (omega arith)) in
-  let b : phase_names o row.phase ≡ 0 = ap (phase_names o) r.start in omega arith
+    let r = rows row refl in
+    let before = r.process in
+    let a = same_other row.process o (λ e. absurd (omega arith)) in
+    let b : phase_names o row.phase ≡ 0 = ap (phase_names o) r.start in omega arith
 
 born_threads_past : (script : Script) (n : ℕ) (o : ObjNo) (bs : List Born) → n ≤ o.0 → EachBorn script n bs → total (thread_names o) (map (λ b. b.thread) bs) ≡ 0
 born_threads_past script n o [] le h = refl
 born_threads_past script n o (b ∷ bs) le h =
-  let a = thread_names_past script n o b.works b.thread le h.0.row in
-  let r = born_threads_past script n o bs le h.1 in omega arith
+    let a = thread_names_past script n o b.works b.thread le h.0.row in
+    let r = born_threads_past script n o bs le h.1 in omega arith
 
 -- each row at boot is good
 born_row : (script : Script) (n : ℕ) (bs : List Born) (i : ℕ) (row : ThreadRow) → EachBorn script n bs → get_or (map (λ b. b.thread) bs) i None ≡ Some row → (works : Bool) × IsBornThread script n works row
@@ -83,12 +83,12 @@ born_row script n (b ∷ bs) (suc i) row h is = born_row script n bs i row h.1 i
 pub boot_count_inside : (script : Script) (o : ObjNo) → length (born script) ≤ o.0 → count_of (boot script) o ≡ 0
 unfolding boot_of
 boot_count_inside script o le =
-  let handles = total-const (total (place_names o)) (replicate 256 fresh_place) (born script) (total-replicate (place_names o) fresh_place 256 refl) in
-  let threads = born_threads_past script (length (born script)) o (born script) le (each_born script) in
-  let none : thread_of (boot script) o ≡ None = get_or_past (map (λ b. b.thread) (born script)) o.0 None (simp length-map le) in
-  let kernel : kernel_names (boot script) o ≡ 0 = ap (λ x. if is_some x then 1 else 0) none in
-  let owed = total-const (total (owed_names o)) [] (born script) refl in
-  omega arith
+    let handles = total-const (total (place_names o)) (replicate 256 fresh_place) (born script) (total-replicate (place_names o) fresh_place 256 refl) in
+    let threads = born_threads_past script (length (born script)) o (born script) le (each_born script) in
+    let none : thread_of (boot script) o ≡ None = get_or_past (map (λ b. b.thread) (born script)) o.0 None (simp length-map le) in
+    let kernel : kernel_names (boot script) o ≡ 0 = ap (λ x. if is_some x then 1 else 0) none in
+    let owed = total-const (total (owed_names o)) [] (born script) refl in
+    omega arith
 
 pub fresh_instances : (n i : ℕ) → (place_at (replicate n fresh_place) i).instance ≤ 16383
 fresh_instances zero i = omega arith
@@ -102,9 +102,9 @@ few_instances_of table i (inl e) = subst (λ (l : List Place). (place_at l i).in
 good_row : (script : Script) (bs : List Born) (row : ThreadRow) (works : Bool) → IsBornThread script (length bs) works row → IsGoodThread script (boot_of bs) row
 unfolding boot_of
 good_row script bs row works h =
-  let process = h.process in
-  let place = h.place in
-  record { process = simp length-map h.process; place = omega arith; registers = h.registers }
+    let process = h.process in
+    let place = h.place in
+    record { process = simp length-map h.process; place = omega arith; registers = h.registers }
 
 -- a thread that works is ready
 born_ready : (script : Script) (n : ℕ) (b : Born) → IsBorn script n b → b.works ≡ true → (thread : Option ThreadRow) → b.thread ≡ thread → has_work script [] thread ≡ true
@@ -123,9 +123,9 @@ owes_nothing_at (b ∷ bs) (suc i) = owes_nothing_at bs i
 ready_at : (script : Script) (n : ℕ) (pre : List Born) (b : Born) (bs all : List Born) → all ≡ pre ++ b ∷ bs → IsBorn script n b → b.works ≡ true → is_ready script (boot_of all) (record { 0 = length pre }) ≡ true
 unfolding boot_of
 ready_at script n pre b bs all e h works =
-  let owed = owes_nothing_at all (length pre) in
-  let thread : get_or (map (λ x. x.thread) all) (length pre) None ≡ b.thread = ap (λ l. get_or (map (λ x. x.thread) l) (length pre) None) e ∙ at_seam pre b bs in
-  let work = born_ready script n b h works b.thread refl in cc
+    let owed = owes_nothing_at all (length pre) in
+    let thread : get_or (map (λ x. x.thread) all) (length pre) None ≡ b.thread = ap (λ l. get_or (map (λ x. x.thread) l) (length pre) None) e ∙ at_seam pre b bs in
+    let work = born_ready script n b h works b.thread refl in cc
 
 ready_step : (script : Script) (n : ℕ) (pre : List Born) (b : Born) (bs all : List Born) → all ≡ pre ++ b ∷ bs → IsBorn script n b → (works : Bool) → b.works ≡ works → EachReady script (boot_of all) (ready_from (length pre + 1) bs) → EachReady script (boot_of all) (if works then record { thread = record { 0 = length pre }; priority = b.priority } ∷ ready_from (length pre + 1) bs else ready_from (length pre + 1) bs)
 ready_step script n pre b bs all e h true works rest = (ready_at script n pre b bs all e h works, rest)
@@ -134,9 +134,9 @@ ready_step script n pre b bs all e h false works rest = rest
 each_ready_from : (script : Script) (n : ℕ) (pre bs all : List Born) → all ≡ pre ++ bs → EachBorn script n bs → EachReady script (boot_of all) (ready_from (length pre) bs)
 each_ready_from script n pre [] all e h = tt
 each_ready_from script n pre (b ∷ bs) all e h =
-  let long : length (pre ++ b ∷ []) ≡ length pre + 1 = length-append pre (b ∷ []) in
-  let rest : EachReady script (boot_of all) (ready_from (length (pre ++ b ∷ [])) bs) = each_ready_from script n (pre ++ b ∷ []) bs all (e ∙ sym (append_assoc pre (b ∷ []) bs)) h.1 in
-  ready_step script n pre b bs all e h.0 b.works refl (subst (λ (k : ℕ). EachReady script (boot_of all) (ready_from k bs)) long rest)
+    let long : length (pre ++ b ∷ []) ≡ length pre + 1 = length-append pre (b ∷ []) in
+    let rest : EachReady script (boot_of all) (ready_from (length (pre ++ b ∷ [])) bs) = each_ready_from script n (pre ++ b ∷ []) bs all (e ∙ sym (append_assoc pre (b ∷ []) bs)) h.1 in
+    ready_step script n pre b bs all e h.0 b.works refl (subst (λ (k : ℕ). EachReady script (boot_of all) (ready_from k bs)) long rest)
 
 owed_few_of : (owed : List Owed) → (owed ≡ []) ⊎ (owed ≡ []) → length owed ≤ 4
 owed_few_of owed (inl e) = subst (λ (l : List Owed). length l ≤ 4) (sym e) (omega arith)
@@ -145,25 +145,26 @@ owed_few_of owed (inr e) = subst (λ (l : List Owed). length l ≤ 4) (sym e) (o
 pub good-boot : (script : Script) → IsShaped script → Good script (boot script)
 unfolding boot_of
 good-boot script shaped =
-  let bs = born script in
-  let few = born_few script shaped in
-  let eb = each_born script in
-  record {
-    tables = length-map bs (λ _. replicate 256 fresh_place) ∙ sym (length-map bs (λ b. b.thread));
-    duties = length-map bs (λ _. []) ∙ sym (length-map bs (λ b. b.thread));
-    first = let a = length-map bs (λ b. b.thread) in let b = length-map bs (λ b. Some b.object) in omega arith;
-    threads_few = let a = length-map bs (λ b. b.thread) in omega arith;
-    objects_few = let b = length-map bs (λ b. Some b.object) in omega arith;
-    places = λ k h. ap length (const_at (replicate 256 fresh_place) [] bs k (let a = length-map bs (λ _. replicate 256 fresh_place) in omega arith)) ∙ length-replicate 256 fresh_place;
-    instances = λ k i. few_instances_of (get_or (map (λ _. replicate 256 fresh_place) bs) k []) i (const_either (replicate 256 fresh_place) [] bs k);
-    rows = λ t row is. let r = born_row script (length bs) bs t.0 row eb is in good_row script bs row r.0 r.1;
-    owed_few = λ k. owed_few_of (get_or (map (λ _. []) bs) k []) (const_either [] [] bs k);
-    alive = λ o c. elim (cases_lt o.0 (length bs)) [
-        inl lt ↦ born_alive script (length bs) bs o.0 eb lt
-      | inr le ↦ let z = boot_count_inside script o le in absurd (omega arith) ];
-    sweeps = λ o. total-const (total (owed_sweeps o)) [] bs refl ∙ sym (born_dead script (length bs) bs o.0 eb);
-    ready = each_ready_from script (length bs) [] bs bs refl eb;
-  }
+    let bs = born script in
+    let few = born_few script shaped in
+    let eb = each_born script in
+    record {
+      tables = length-map bs (λ _. replicate 256 fresh_place) ∙ sym (length-map bs (λ b. b.thread));
+      duties = length-map bs (λ _. []) ∙ sym (length-map bs (λ b. b.thread));
+      first = let a = length-map bs (λ b. b.thread) in let b = length-map bs (λ b. Some b.object) in omega arith;
+      threads_few = let a = length-map bs (λ b. b.thread) in omega arith;
+      objects_few = let b = length-map bs (λ b. Some b.object) in omega arith;
+      places = λ k h. ap length (const_at (replicate 256 fresh_place) [] bs k (let a = length-map bs (λ _. replicate 256 fresh_place) in omega arith)) ∙ length-replicate 256 fresh_place;
+      instances = λ k i. few_instances_of (get_or (map (λ _. replicate 256 fresh_place) bs) k []) i (const_either (replicate 256 fresh_place) [] bs k);
+      rows = λ t row is. let r = born_row script (length bs) bs t.0 row eb is in good_row script bs row r.0 r.1;
+      owed_few = λ k. owed_few_of (get_or (map (λ _. []) bs) k []) (const_either [] [] bs k);
+      alive = λ o c. elim (cases_lt o.0 (length bs)) [
+        | inl lt ↦ born_alive script (length bs) bs o.0 eb lt
+        | inr le ↦ let z = boot_count_inside script o le in absurd (omega arith)
+      ];
+      sweeps = λ o. total-const (total (owed_sweeps o)) [] bs refl ∙ sym (born_dead script (length bs) bs o.0 eb);
+      ready = each_ready_from script (length bs) [] bs bs refl eb;
+    }
 
 -- every history of a shaped script leaves a well-formed state
 pub good-after : (script : Script) (history : List Entry) → IsShaped script → Good script (after script history)

@@ -42,14 +42,14 @@ owed_le o (Sweep x) = omega arith
 pub count_small : (script : Script) (S : State) → Good script S → (o : ObjNo) → count_of S o < 65536
 count_small script S good o =
     let handles : total (total (place_names o)) S.handles ≤ 256 * length S.handles = total_at_most (total (place_names o)) 256 S.handles [] (λ k inside.
-        let few : total (place_names o) (slice_index_or S.handles k []) ≤ 1 * length (slice_index_or S.handles k []) = total_at_most (place_names o) 1 (slice_index_or S.handles k []) fresh_place (λ i _. option_le o _) in
-        let size : length (slice_index_or S.handles k []) ≡ 256 = good.places k inside in
-        omega arith) in
+    let few : total (place_names o) (slice_index_or S.handles k []) ≤ 1 * length (slice_index_or S.handles k []) = total_at_most (place_names o) 1 (slice_index_or S.handles k []) fresh_place (λ i _. option_le o _) in
+    let size : length (slice_index_or S.handles k []) ≡ 256 = good.places k inside in
+    omega arith) in
     let threads : total (thread_names o) S.threads ≤ 2 * length S.threads = total_at_most (thread_names o) 2 S.threads None (λ k _. thread_le o _) in
     let owed : total (total (owed_names o)) S.owed ≤ 4 * length S.owed = total_at_most (total (owed_names o)) 4 S.owed [] (λ k _.
-        let few : total (owed_names o) (slice_index_or S.owed k []) ≤ 1 * length (slice_index_or S.owed k []) = total_at_most (owed_names o) 1 (slice_index_or S.owed k []) (Sweep o) (λ i _. owed_le o _) in
-        let size : length (slice_index_or S.owed k []) ≤ 4 = good.owed_few k in
-        omega arith) in
+    let few : total (owed_names o) (slice_index_or S.owed k []) ≤ 1 * length (slice_index_or S.owed k []) = total_at_most (owed_names o) 1 (slice_index_or S.owed k []) (Sweep o) (λ i _. owed_le o _) in
+    let size : length (slice_index_or S.owed k []) ≤ 4 = good.owed_few k in
+    omega arith) in
     let kernel : kernel_names S o ≤ 1 = bit_le (is_some (thread_of S o)) in
     let tables = good.tables in
     let duties = good.duties in

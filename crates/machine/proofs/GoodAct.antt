@@ -40,11 +40,8 @@ use Rattle.machine.proofs.RefsSteps.{count-answered}
 use Rattle.machine.proofs.RefsAct.{without_handle-count, without_duty-count}
 use Rattle.machine.proofs.Shape.{Shape, shape-with_place, shape-with_thread, shape-with_owed, shape-with_objects}
 use Rattle.machine.proofs.Live.{same_object, Live, live-kept, live-answered, live-made, live-close, live-sweep, alive_at, alive_by, same_self, same_other}
-
 use Rattle.machine.proofs.GoodSteps.{Keeps, Amid, IsAtInstruction, keeps-answered, amid-placed}
-
 use Rattle.machine.proofs.KeepsSteps.{IsStepping, amid-start, keeps-refused, keeps-closed}
-
 use Rattle.machine.proofs.KeepsSteps.{duties_inside, keeps-create_mutex, keeps-dup_step}
 use Rattle.machine.proofs.KeepsClose.{keeps-close_do, keeps-pay}
 use Rattle.machine.proofs.Shape.{shape_of}
@@ -74,7 +71,7 @@ keeps-nothing script S t s l = record { shape = s; live = l; ready = refl; rows 
 pub keeps-act_by : (script : Script) (S : State) (t : ObjNo) (row : ThreadRow) (owed : List Owed) (instr : Option Instr) → Shape script S → Live S → thread_of S t ≡ Some row → owed_of S t ≡ owed → instruction script row ≡ instr → Keeps script S t (act_by S t row owed instr).state
 keeps-act_by script S t row (what ∷ rest) instr s l is owed at = keeps-pay script S t what rest s l (duties_inside script S t row s is) owed
 keeps-act_by script S t row [] (Some instr) s l is owed at = keeps-instruction_step script S t row instr
-  (record { shape = s; live = l; is = is; owes_nothing = owed; at = slice_get_inside (instructions_of (declared_of script row.declared)) row.place instr at })
+    (record { shape = s; live = l; is = is; owes_nothing = owed; at = slice_get_inside (instructions_of (declared_of script row.declared)) row.place instr at })
 keeps-act_by script S t row [] None s l is owed at = keeps-nothing script S t s l
 
 pub keeps-act_of : (script : Script) (S : State) (t : ObjNo) (row : Option ThreadRow) → Shape script S → Live S → thread_of S t ≡ row → Keeps script S t (act_of script S t row).state
@@ -87,8 +84,9 @@ ready_same script S T u rows duties = cc
 
 kept_one : (script : Script) (S : State) (t : ObjNo) (T : State) (q : Queued) → ((u : ObjNo) → (u.0 ≡ t.0 → ⊥) → is_ready script T u ≡ is_ready script S u) → is_ready script T t ≡ true → is_ready script S q.thread ≡ true → is_ready script T q.thread ≡ true
 kept_one script S t T q others self h = elim (cases_eq q.thread.0 t.0) [
-    inl at ↦ subst (λ (u : ObjNo). is_ready script T u ≡ true) (same_object t q.thread (sym at)) self
-  | inr apart ↦ others q.thread apart ∙ h ]
+  | inl at ↦ subst (λ (u : ObjNo). is_ready script T u ≡ true) (same_object t q.thread (sym at)) self
+  | inr apart ↦ others q.thread apart ∙ h
+]
 
 -- each thread that stays in the list of ready ones is ready still
 each-kept : (script : Script) (S : State) (t : ObjNo) (T : State) (qs : List Queued) → ((u : ObjNo) → (u.0 ≡ t.0 → ⊥) → is_ready script T u ≡ is_ready script S u) → is_ready script T t ≡ true → EachReady script S qs → EachReady script T qs
@@ -116,12 +114,12 @@ each_moved script T (q ∷ qs) ready h = (h.0, each_moved script T qs ready h.1)
 pub good-settled : (script : Script) (S : State) (t : ObjNo) (T : State) → Keeps script S t T → EachReady script S S.ready → Good script (settled script t T)
 unfolding settled
 good-settled script S t T k ready =
-  let others : (u : ObjNo) → (u.0 ≡ t.0 → ⊥) → is_ready script T u ≡ is_ready script S u = λ u apart. ready_same script S T u (k.rows u apart) (k.duties u apart) in
-  let P : State → Type 0 = λ U. Good script U in
-  if_cases P (is_ready script T t) _ _
+    let others : (u : ObjNo) → (u.0 ≡ t.0 → ⊥) → is_ready script T u ≡ is_ready script S u = λ u apart. ready_same script S T u (k.rows u apart) (k.duties u apart) in
+    let P : State → Type 0 = λ U. Good script U in
+    if_cases P (is_ready script T t) _ _
     (λ self. good_of script T k.shape k.live (subst (λ (qs : List Queued). EachReady script T qs) (sym k.ready) (each-kept script S t T S.ready others self ready)))
     (λ _. good_of script (record T { ready = filter (λ q. not (q.thread.0 == t.0)) T.ready }) (moved_shape script T (filter (λ q. not (q.thread.0 == t.0)) T.ready) k.shape) (record { alive = k.live.alive; sweeps = k.live.sweeps })
-      (each_moved script T _ (filter (λ q. not (q.thread.0 == t.0)) T.ready) (subst (λ (qs : List Queued). EachReady script T (filter (λ q. not (q.thread.0 == t.0)) qs)) (sym k.ready) (each-others script S t T S.ready others ready))))
+    (each_moved script T _ (filter (λ q. not (q.thread.0 == t.0)) T.ready) (subst (λ (qs : List Queued). EachReady script T (filter (λ q. not (q.thread.0 == t.0)) qs)) (sym k.ready) (each-others script S t T S.ready others ready))))
 
 -- every action of a thread leaves a well-formed state
 pub good-act : (script : Script) (S : State) (t : ObjNo) → Good script S → Good script (act script S t).state

@@ -68,24 +68,24 @@ owed_use_few t (Using o) = omega arith
 pub keeps-answered : (script : Script) (S : State) (t : ObjNo) (old row : ThreadRow) (T : State) → Amid script S t old T → row.process ≡ old.process → row.phase ≡ old.phase → row.place ≡ old.place → row.declared ≡ old.declared → length row.registers ≡ 8 → IsAtInstruction script old → Keeps script S t (answered_state T t row)
 unfolding answered_state
 keeps-answered script S t old row T m process phase place declared registers at =
-  let good = m.keeps.shape.rows t old m.is in
-  let use_few = owed_use_few t row.phase in
-  let few = m.few in
-  let owed_few : length (owed_of T t ++ owed_use t row.phase) ≤ 4 = simp length-append (omega arith) in
-  let there : length (instructions_of (declared_of script row.declared)) ≡ length (instructions_of (declared_of script old.declared)) = ap (λ d. length (instructions_of (declared_of script d))) declared in
-  let row_good : IsGoodThread script T (advanced row) = record {
+    let good = m.keeps.shape.rows t old m.is in
+    let use_few = owed_use_few t row.phase in
+    let few = m.few in
+    let owed_few : length (owed_of T t ++ owed_use t row.phase) ≤ 4 = simp length-append (omega arith) in
+    let there : length (instructions_of (declared_of script row.declared)) ≡ length (instructions_of (declared_of script old.declared)) = ap (λ d. length (instructions_of (declared_of script d))) declared in
+    let row_good : IsGoodThread script T (advanced row) = record {
       process = subst (λ (p : ObjNo). p.0 < length T.handles) (sym process) good.process;
       place = omega arith;
       registers = registers;
     } in
-  let owing_shape = shape-with_owed script T t (owed_of T t ++ owed_use t row.phase) owed_few m.keeps.shape in
-  record {
-    shape = shape-with_thread script (owing T t (owed_use t row.phase)) t (advanced row) (record { process = row_good.process; place = row_good.place; registers = registers }) owing_shape;
-    live = live-answered T t row m.owes (λ o. count-answered T t old row o m.is (sym process) (sym phase) m.owes) m.keeps.live;
-    ready = m.keeps.ready;
-    rows = λ u apart. get_or-set_other T.threads t.0 u.0 (Some (advanced row)) None apart ∙ m.keeps.rows u apart;
-    duties = λ u apart. get_or-set_other T.owed t.0 u.0 (owed_of T t ++ owed_use t row.phase) [] apart ∙ m.keeps.duties u apart;
-  }
+    let owing_shape = shape-with_owed script T t (owed_of T t ++ owed_use t row.phase) owed_few m.keeps.shape in
+    record {
+      shape = shape-with_thread script (owing T t (owed_use t row.phase)) t (advanced row) (record { process = row_good.process; place = row_good.place; registers = registers }) owing_shape;
+      live = live-answered T t row m.owes (λ o. count-answered T t old row o m.is (sym process) (sym phase) m.owes) m.keeps.live;
+      ready = m.keeps.ready;
+      rows = λ u apart. get_or-set_other T.threads t.0 u.0 (Some (advanced row)) None apart ∙ m.keeps.rows u apart;
+      duties = λ u apart. get_or-set_other T.owed t.0 u.0 (owed_of T t ++ owed_use t row.phase) [] apart ∙ m.keeps.duties u apart;
+    }
 
 next_instance_few : (n : ℕ) (b : Bool) → (n == 16383) ≡ b → n ≤ 16383 → (if b then 1 else n + 1) ≤ 16383
 next_instance_few n true e h = omega arith
@@ -94,21 +94,21 @@ next_instance_few n false e h = let apart : n ≢ 16383 = λ q. cc (eq-eqb n 163
 -- a new handle of a living object
 pub amid-placed : (script : Script) (S : State) (t : ObjNo) (row : ThreadRow) (T : State) (x : ObjNo) → Amid script S t row T → is_full (table_of T row.process) ≡ false → IsAlive (object_of T x) → Amid script S t row (with_place T row.process (free_index (table_of T row.process)) (record { instance = new_instance (table_of T row.process); object = Some x }))
 amid-placed script S t row T x m room alive =
-  let places = table_of T row.process in
-  let i = free_index places in
-  let place : Place = record { instance = new_instance places; object = Some x } in
-  let few : new_instance places ≤ 16383 = next_instance_few (place_at places i).instance ((place_at places i).instance == 16383) refl (m.keeps.shape.instances row.process.0 i) in
-  let process = (m.keeps.shape.rows t row m.is).process in
-  record {
-    keeps = record {
-      shape = shape-with_place script T row.process i place few m.keeps.shape;
-      live = live-kept T (with_place T row.process i place) (λ o. refl) (λ o. refl)
-        (λ o c. alive_by T x o alive (m.keeps.live.alive o) (let a = count-with_place T row.process i place o process (free_index_inside places room) in omega arith)) m.keeps.live;
-      ready = m.keeps.ready;
-      rows = m.keeps.rows;
-      duties = m.keeps.duties;
-    };
-    is = m.is;
-    owes = m.owes;
-    few = m.few;
-  }
+    let places = table_of T row.process in
+    let i = free_index places in
+    let place : Place = record { instance = new_instance places; object = Some x } in
+    let few : new_instance places ≤ 16383 = next_instance_few (place_at places i).instance ((place_at places i).instance == 16383) refl (m.keeps.shape.instances row.process.0 i) in
+    let process = (m.keeps.shape.rows t row m.is).process in
+    record {
+      keeps = record {
+        shape = shape-with_place script T row.process i place few m.keeps.shape;
+        live = live-kept T (with_place T row.process i place) (λ o. refl) (λ o. refl)
+            (λ o c. alive_by T x o alive (m.keeps.live.alive o) (let a = count-with_place T row.process i place o process (free_index_inside places room) in omega arith)) m.keeps.live;
+        ready = m.keeps.ready;
+        rows = m.keeps.rows;
+        duties = m.keeps.duties;
+      };
+      is = m.is;
+      owes = m.owes;
+      few = m.few;
+    }

@@ -62,4 +62,3 @@ true-is h = h
 pub can_act_chosen : (script : Script) (S : State) (found : Option Queued) → Good script S → first_of_greatest S.ready ≡ found → CanAct script S (actor_of found)
 can_act_chosen script S None g found = ap actor_of found
 can_act_chosen script S (Some q) g found = true-is (chosen_is_ready script S q g found)
-

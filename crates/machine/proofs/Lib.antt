@@ -1,5 +1,7 @@
 pub mod BootGood
 pub mod Boots
+pub mod PlainSteps
+pub mod ValidExample
 pub mod Cases
 pub mod CountSmall
 pub mod Counts
@@ -11,7 +13,6 @@ pub mod KeepsSteps
 pub mod LeftRows
 pub mod Lists
 pub mod Live
-pub mod PlainSteps
 pub mod RefsAct
 pub mod RefsSteps
 pub mod RoomLaws

@@ -77,7 +77,7 @@ no_sweep t (Using x) o = refl
 pub live-answered : (S : State) (t : ObjNo) (row : ThreadRow) → t.0 < length S.owed → ((o : ObjNo) → count_of (answered_state S t row) o ≡ count_of S o) → Live S → Live (answered_state S t row)
 unfolding answered_state
 live-answered S t row owes counts h =
-  live-kept S (with_thread (owing S t (owed_use t row.phase)) t (advanced row)) (λ o. refl)
+    live-kept S (with_thread (owing S t (owed_use t row.phase)) t (advanced row)) (λ o. refl)
     (λ o. let a = sweeps-owing S t (owed_use t row.phase) o owes in let b = no_sweep t row.phase o in omega arith)
     (λ o c. h.alive o (let e = counts o in omega arith)) h
 
@@ -114,15 +114,15 @@ live-made S kind name h = record {
 -- closing a reference to o, which is gone from T
 pub live-close : (last : Bool) (S T : State) (t o : ObjNo) → is_last S o ≡ last → t.0 < length T.owed → ((p : ObjNo) → object_of T p ≡ object_of S p) → ((p : ObjNo) → sweeps_of T p ≡ sweeps_of S p) → ((p : ObjNo) → count_of T p + same o p ≡ count_of S p) → Live S → Live (owing (after_close last o T) t (owed_after_close last o))
 live-close false S T t o e owes objects sweeps gone h =
-  live-kept S (owing T t []) objects
+    live-kept S (owing T t []) objects
     (λ p. let a = sweeps-owing T t [] p owes in let b = sweeps p in omega arith)
     (λ p c. h.alive p (let a = count-owing T t [] p owes in let b = gone p in omega arith)) h
 live-close true S T t o e owes objects sweeps gone h =
-  let one : count_of S o ≡ 1 = eqb-true (count_of S o) 1 e in
-  let was : IsAlive (object_of S o) = h.alive o (omega arith) in
-  let was_T : IsAlive (object_of T o) = subst IsAlive (sym (objects o)) was in
-  let U = owing (died T o) t (Sweep o ∷ []) in
-  let dead_o : sweeps_of U o ≡ is_dead (object_of U o) =
+    let one : count_of S o ≡ 1 = eqb-true (count_of S o) 1 e in
+    let was : IsAlive (object_of S o) = h.alive o (omega arith) in
+    let was_T : IsAlive (object_of T o) = subst IsAlive (sym (objects o)) was in
+    let U = owing (died T o) t (Sweep o ∷ []) in
+    let dead_o : sweeps_of U o ≡ is_dead (object_of U o) =
     let a = sweeps-owing (died T o) t (Sweep o ∷ []) o owes in
     let b = sweeps o in
     let c = h.sweeps o in
@@ -130,26 +130,28 @@ live-close true S T t o e owes objects sweeps gone h =
     let f = same_self o in
     let g : is_dead (object_of U o) ≡ 1 = ap is_dead (get_or-set_same T.objects o.0 (dead_row (object_of T o)) None (alive_is_some T.objects o.0 was_T)) ∙ dead_row_dead (object_of T o) was_T in
     omega arith in
-  let no_count : 0 < count_of U o → IsAlive (object_of U o) = λ c.
+    let no_count : 0 < count_of U o → IsAlive (object_of U o) = λ c.
     let a = count-owing (died T o) t (Sweep o ∷ []) o owes in
     let b = gone o in
     let f = same_self o in
     absurd (omega arith) in
-  record {
-    alive = λ p c. elim (cases_eq o.0 p.0) as (λ _. IsAlive (object_of U p)) [
-        inl at ↦ (subst (λ (x : ObjNo). 0 < count_of U x → IsAlive (object_of U x)) (same_object o p at) no_count) c
-      | inr apart ↦ subst IsAlive (sym (get_or-set_other T.objects o.0 p.0 (dead_row (object_of T o)) None (λ q. apart (sym q))))
-          (subst IsAlive (sym (objects p)) (h.alive p (let a = count-owing (died T o) t (Sweep o ∷ []) p owes in let b = gone p in omega arith))) ];
-    sweeps = λ p. elim (cases_eq o.0 p.0) as (λ _. sweeps_of U p ≡ is_dead (object_of U p)) [
-        inl at ↦ subst (λ (x : ObjNo). sweeps_of U x ≡ is_dead (object_of U x)) (same_object o p at) dead_o
-      | inr apart ↦
-          let a = sweeps-owing (died T o) t (Sweep o ∷ []) p owes in
-          let b = sweeps p in
-          let c = h.sweeps p in
-          let d = same_other o p apart in
-          let e : is_dead (object_of U p) ≡ is_dead (object_of S p) = ap is_dead (get_or-set_other T.objects o.0 p.0 (dead_row (object_of T o)) None (λ q. apart (sym q)) ∙ objects p) in
-          omega arith ];
-  }
+    record {
+      alive = λ p c. elim (cases_eq o.0 p.0) as (λ _. IsAlive (object_of U p)) [
+        | inl at ↦ (subst (λ (x : ObjNo). 0 < count_of U x → IsAlive (object_of U x)) (same_object o p at) no_count) c
+        | inr apart ↦ subst IsAlive (sym (get_or-set_other T.objects o.0 p.0 (dead_row (object_of T o)) None (λ q. apart (sym q))))
+            (subst IsAlive (sym (objects p)) (h.alive p (let a = count-owing (died T o) t (Sweep o ∷ []) p owes in let b = gone p in omega arith)))
+      ];
+      sweeps = λ p. elim (cases_eq o.0 p.0) as (λ _. sweeps_of U p ≡ is_dead (object_of U p)) [
+        | inl at ↦ subst (λ (x : ObjNo). sweeps_of U x ≡ is_dead (object_of U x)) (same_object o p at) dead_o
+        | inr apart ↦
+            let a = sweeps-owing (died T o) t (Sweep o ∷ []) p owes in
+            let b = sweeps p in
+            let c = h.sweeps p in
+            let d = same_other o p apart in
+            let e : is_dead (object_of U p) ≡ is_dead (object_of S p) = ap is_dead (get_or-set_other T.objects o.0 p.0 (dead_row (object_of T o)) None (λ q. apart (sym q)) ∙ objects p) in
+            omega arith
+      ];
+    }
 
 swept_none : (objects : List (Option ObjectRow)) (i : ℕ) → get_or (slice_set objects i None) i None ≡ None
 swept_none [] i = refl
@@ -159,28 +161,30 @@ swept_none (x ∷ xs) (suc i) = swept_none xs i
 -- sweeping an object whose sweep was owed
 pub live-sweep : (S T : State) (o : ObjNo) → ((p : ObjNo) → object_of T p ≡ object_of S p) → ((p : ObjNo) → sweeps_of T p + same o p ≡ sweeps_of S p) → ((p : ObjNo) → count_of T p ≡ count_of S p) → Live S → Live (with_object T o None)
 live-sweep S T o objects sweeps counts h =
-  let U = with_object T o None in
-  let paid = sweeps o in
-  let self = same_self o in
-  let was = h.sweeps o in
-  let le = is_dead_le (object_of S o) in
-  let no_count : 0 < count_of U o → IsAlive (object_of U o) = λ c.
+    let U = with_object T o None in
+    let paid = sweeps o in
+    let self = same_self o in
+    let was = h.sweeps o in
+    let le = is_dead_le (object_of S o) in
+    let no_count : 0 < count_of U o → IsAlive (object_of U o) = λ c.
     let a = counts o in
     let alive = alive_is_not_dead (object_of S o) (h.alive o (omega arith)) in
     absurd (omega arith) in
-  let swept_o : sweeps_of U o ≡ is_dead (object_of U o) =
+    let swept_o : sweeps_of U o ≡ is_dead (object_of U o) =
     let a : is_dead (object_of U o) ≡ 0 = ap is_dead (swept_none T.objects o.0) in omega arith in
-  record {
-    alive = λ p c. elim (cases_eq o.0 p.0) as (λ _. IsAlive (object_of U p)) [
-        inl at ↦ (subst (λ (x : ObjNo). 0 < count_of U x → IsAlive (object_of U x)) (same_object o p at) no_count) c
-      | inr apart ↦ subst IsAlive (sym (get_or-set_other T.objects o.0 p.0 None None (λ q. apart (sym q))))
-          (subst IsAlive (sym (objects p)) (h.alive p (let b = counts p in omega arith))) ];
-    sweeps = λ p. elim (cases_eq o.0 p.0) as (λ _. sweeps_of U p ≡ is_dead (object_of U p)) [
-        inl at ↦ subst (λ (x : ObjNo). sweeps_of U x ≡ is_dead (object_of U x)) (same_object o p at) swept_o
-      | inr apart ↦
-          let b = sweeps p in
-          let c = h.sweeps p in
-          let d = same_other o p apart in
-          let e : is_dead (object_of U p) ≡ is_dead (object_of S p) = ap is_dead (get_or-set_other T.objects o.0 p.0 None None (λ q. apart (sym q)) ∙ objects p) in
-          omega arith ];
-  }
+    record {
+      alive = λ p c. elim (cases_eq o.0 p.0) as (λ _. IsAlive (object_of U p)) [
+        | inl at ↦ (subst (λ (x : ObjNo). 0 < count_of U x → IsAlive (object_of U x)) (same_object o p at) no_count) c
+        | inr apart ↦ subst IsAlive (sym (get_or-set_other T.objects o.0 p.0 None None (λ q. apart (sym q))))
+            (subst IsAlive (sym (objects p)) (h.alive p (let b = counts p in omega arith)))
+      ];
+      sweeps = λ p. elim (cases_eq o.0 p.0) as (λ _. sweeps_of U p ≡ is_dead (object_of U p)) [
+        | inl at ↦ subst (λ (x : ObjNo). sweeps_of U x ≡ is_dead (object_of U x)) (same_object o p at) swept_o
+        | inr apart ↦
+            let b = sweeps p in
+            let c = h.sweeps p in
+            let d = same_other o p apart in
+            let e : is_dead (object_of U p) ≡ is_dead (object_of S p) = ap is_dead (get_or-set_other T.objects o.0 p.0 None None (λ q. apart (sym q)) ∙ objects p) in
+            omega arith
+      ];
+    }

@@ -34,17 +34,19 @@ use Rattle.machine.proofs.RefsSteps.{IsActing, answered-refs, with_handle-refs, 
 pub dup_look-refs : (S : State) (t : ObjNo) (row : ThreadRow) (found : Option ObjNo) → IsActing S t row → row.phase ≡ Start → RefsMove S (dup_look S t row found).state (dup_look S t row found).outcome.effects
 unfolding dup_look
 dup_look-refs S t row None h start = answered-refs S t row (Of Dup Look) (negsuc 7) h
-dup_look-refs S t row (Some o) h start = record { each = λ p.
-  let a = count-with_thread S t row (record row { phase = Using o }) p h.is in
-  let b : phase_names p row.phase ≡ 0 = ap (phase_names p) start in omega arith }
+dup_look-refs S t row (Some o) h start = record {
+  each = λ p.
+      let a = count-with_thread S t row (record row { phase = Using o }) p h.is in
+      let b : phase_names p row.phase ≡ 0 = ap (phase_names p) start in omega arith;
+}
 
 pub dup_do-refs : (S : State) (t : ObjNo) (row : ThreadRow) (o : ObjNo) (y : ℕ) → IsActing S t row → RefsMove S (dup_do S t row o y).state (dup_do S t row o y).outcome.effects
 unfolding dup_do
 dup_do-refs S t row o y h =
-  let P : Acted → Type 0 = λ a. RefsMove S a.state a.outcome.effects in
-  if_cases P (stays_with_thread (object_of S o)) _ _ (λ _. answered-refs S t row (Of Dup Do) (negsuc 45) h)
+    let P : Acted → Type 0 = λ a. RefsMove S a.state a.outcome.effects in
+    if_cases P (stays_with_thread (object_of S o)) _ _ (λ _. answered-refs S t row (Of Dup Do) (negsuc 45) h)
     (λ _. if_cases P (is_full (table_of S row.process)) _ _ (λ _. answered-refs S t row (Of Dup Do) (negsuc 8) h)
-      (λ room. with_handle-refs S S t row (Of Dup Do) o y h room (λ p. refl)))
+    (λ room. with_handle-refs S S t row (Of Dup Do) o y h room (λ p. refl)))
 
 pub dup_step-refs : (S : State) (t : ObjNo) (row : ThreadRow) (x y : ℕ) (phase : Phase) → IsActing S t row → row.phase ≡ phase → RefsMove S (dup_step S t row x y phase).state (dup_step S t row x y phase).outcome.effects
 dup_step-refs S t row x y Start h e = dup_look-refs S t row (look S t row (slice_index row.registers x)) h e
@@ -53,32 +55,32 @@ dup_step-refs S t row x y (Using o) h e = dup_do-refs S t row o y h
 -- without a handle its object has one reference less
 pub without_handle-count : (S : State) (t : ObjNo) (row : ThreadRow) (handle : ℕ) (o : ObjNo) → look S t row handle ≡ Some o → (p : ObjNo) → count_of (without_handle S (owner_of t row handle) (index_of handle)) p + same o p ≡ count_of S p
 without_handle-count S t row handle o found p =
-  let owner = owner_of t row handle in
-  let i = index_of handle in
-  let is = look_is S t row handle o found in
-  let emptied : Place = record (place_at (table_of S owner) i) { object = None } in
-  let moved = count-with_place S owner i emptied p (table_inside S.handles owner.0 i o is) (place_inside (table_of S owner) i o is) in
-  let named : place_names p (place_at (table_of S owner) i) ≡ same o p = ap (option_names p) is in
-  omega arith
+    let owner = owner_of t row handle in
+    let i = index_of handle in
+    let is = look_is S t row handle o found in
+    let emptied : Place = record (place_at (table_of S owner) i) { object = None } in
+    let moved = count-with_place S owner i emptied p (table_inside S.handles owner.0 i o is) (place_inside (table_of S owner) i o is) in
+    let named : place_names p (place_at (table_of S owner) i) ≡ same o p = ap (option_names p) is in
+    omega arith
 
 pub close_do-refs : (S : State) (t : ObjNo) (row : ThreadRow) (handle : ℕ) (found : Option ObjNo) → IsActing S t row → look S t row handle ≡ found → RefsMove S (close_do S t row handle found).state (close_do S t row handle found).outcome.effects
 unfolding close_do
 close_do-refs S t row handle None h e = answered-refs S t row (Of CloseWord Do) (negsuc 7) h
 close_do-refs S t row handle (Some o) h e =
-  close-answered-refs (is_last S o) S (without_handle S (owner_of t row handle) (index_of handle)) t row o (holder_of t row handle) (Of CloseWord Do) (pos 0) h.is h.owes (without_handle-count S t row handle o e)
+    close-answered-refs (is_last S o) S (without_handle S (owner_of t row handle) (index_of handle)) t row o (holder_of t row handle) (Of CloseWord Do) (pos 0) h.is h.owes (without_handle-count S t row handle o e)
 
 -- without its first duty a thread has one reference less, where that is a close
 pub without_duty-count : (S : State) (t : ObjNo) (what : Owed) (rest : List Owed) → t.0 < length S.owed → owed_of S t ≡ what ∷ rest → (p : ObjNo) → count_of (with_owed S t rest) p + owed_names p what ≡ count_of S p
 without_duty-count S t what rest inside e p =
-  let moved = count-with_owed S t rest p inside in
-  let was : total (owed_names p) (owed_of S t) ≡ owed_names p what + total (owed_names p) rest = ap (total (owed_names p)) e in
-  omega arith
+    let moved = count-with_owed S t rest p inside in
+    let was : total (owed_names p) (owed_of S t) ≡ owed_names p what + total (owed_names p) rest = ap (total (owed_names p)) e in
+    omega arith
 
 pub pay-refs : (S : State) (t : ObjNo) (what : Owed) (rest : List Owed) → t.0 < length S.owed → owed_of S t ≡ what ∷ rest → RefsMove S (pay S t what rest).state (pay S t what rest).outcome.effects
 unfolding pay
 pay-refs S t (Close holder o) rest inside e =
-  let more : t.0 < length (slice_set S.owed t.0 rest) = rw length-set inside in
-  close-refs (is_last S o) S (with_owed S t rest) t o holder more (without_duty-count S t (Close holder o) rest inside e)
+    let more : t.0 < length (slice_set S.owed t.0 rest) = rw length-set inside in
+    close-refs (is_last S o) S (with_owed S t rest) t o holder more (without_duty-count S t (Close holder o) rest inside e)
 pay-refs S t (Sweep o) rest inside e = record { each = λ p. let a = without_duty-count S t (Sweep o) rest inside e p in omega arith }
 
 pub instruction_step-refs : (S : State) (t : ObjNo) (row : ThreadRow) (instr : Instr) → IsActing S t row → RefsMove S (instruction_step S t row instr).state (instruction_step S t row instr).outcome.effects

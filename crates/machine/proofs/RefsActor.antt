@@ -18,14 +18,16 @@ use Rattle.machine.proofs.Shape.{shape_of}
 act_of-refs : (script : Script) (S : State) (t : ObjNo) (row : Option ThreadRow) → Good script S → thread_of S t ≡ row → RefsMove S (act_of script S t row).state (act_of script S t row).outcome.effects
 act_of-refs script S t None g is = nothing-refs S
 act_of-refs script S t (Some row) g is = act_by-refs S t row (owed_of S t) (instruction script row)
-  (record { is = is; owes = duties_inside script S t row (shape_of g) is; process = (g.rows t row is).process }) refl
+    (record { is = is; owes = duties_inside script S t row (shape_of g) is; process = (g.rows t row is).process }) refl
 
 pub act-refs : (script : Script) (S : State) (t : ObjNo) → Good script S → RefsMove S (act script S t).state (act script S t).outcome.effects
 unfolding act
-act-refs script S t g = record { each = λ o.
-  let moved = (act_of-refs script S t (thread_of S t) g refl).each o in
-  let settled = count-settled script t (act_of script S t (thread_of S t)).state o in
-  omega arith }
+act-refs script S t g = record {
+  each = λ o.
+      let moved = (act_of-refs script S t (thread_of S t) g refl).each o in
+      let settled = count-settled script t (act_of script S t (thread_of S t)).state o in
+      omega arith;
+}
 
 pub acted_by-refs : (script : Script) (S : State) (actor : Actor) → Good script S → RefsMove S (acted_by script S actor).state (acted_by script S actor).outcome.effects
 acted_by-refs script S (Thread t) g = act-refs script S t g

@@ -19,8 +19,9 @@ use Rattle.machine.proofs.CountSmall.{count_small}
 -- a table has at most 256 places
 table_small : (script : Script) (S : State) → Good script S → (k : ℕ) → length (slice_index_or S.handles k []) ≤ 256
 table_small script S good k = elim (cases_lt k (length S.handles)) [
-    inl inside ↦ (let size = good.places k inside in omega arith)
-  | inr past ↦ (let size = ap length (get_or_past S.handles k [] past) in omega arith) ]
+  | inl inside ↦ (let size = good.places k inside in omega arith)
+  | inr past ↦ (let size = ap length (get_or_past S.handles k [] past) in omega arith)
+]
 
 -- a thread has at most 16,384 instructions
 size_of : (script : Script) → IsShaped script → (k : Option ℕ) (declared : Option ThreadDecl) → declared_of script k ≡ declared → length (instructions_of declared) ≤ 16384

@@ -42,19 +42,19 @@ HasFewInstances table = (i : ℕ) → (place_at table i).instance ≤ 16383
 pub shape-with_place : (script : Script) (S : State) (owner : ObjNo) (i : ℕ) (place : Place) → place.instance ≤ 16383 → Shape script S → Shape script (with_place S owner i place)
 unfolding HasFewInstances
 shape-with_place script S owner i place few s =
-  let long : length (slice_set S.handles owner.0 (slice_set (table_of S owner) i place)) ≡ length S.handles = length-set S.handles owner.0 (slice_set (table_of S owner) i place) in
-  record {
-    tables = long ∙ s.tables;
-    duties = s.duties;
-    first = s.first;
-    threads_few = s.threads_few;
-    objects_few = s.objects_few;
-    places = λ k h. set_table_length S.handles owner.0 i place k ∙ s.places k (subst (λ (n : ℕ). k < n) long h);
-    instances = set_keeps HasFewInstances S.handles owner.0 (slice_set (table_of S owner) i place) []
-      (set_keeps (λ (p : Place). p.instance ≤ 16383) (table_of S owner) i place fresh_place few (s.instances owner.0)) s.instances;
-    rows = λ t row is. let r = s.rows t row is in record { process = subst (λ (n : ℕ). row.process.0 < n) (sym long) r.process; place = r.place; registers = r.registers };
-    owed_few = s.owed_few;
-  }
+    let long : length (slice_set S.handles owner.0 (slice_set (table_of S owner) i place)) ≡ length S.handles = length-set S.handles owner.0 (slice_set (table_of S owner) i place) in
+    record {
+      tables = long ∙ s.tables;
+      duties = s.duties;
+      first = s.first;
+      threads_few = s.threads_few;
+      objects_few = s.objects_few;
+      places = λ k h. set_table_length S.handles owner.0 i place k ∙ s.places k (subst (λ (n : ℕ). k < n) long h);
+      instances = set_keeps HasFewInstances S.handles owner.0 (slice_set (table_of S owner) i place) []
+          (set_keeps (λ (p : Place). p.instance ≤ 16383) (table_of S owner) i place fresh_place few (s.instances owner.0)) s.instances;
+      rows = λ t row is. let r = s.rows t row is in record { process = subst (λ (n : ℕ). row.process.0 < n) (sym long) r.process; place = r.place; registers = r.registers };
+      owed_few = s.owed_few;
+    }
 
 -- a thread's row is good in each state with as many tables
 pub good-moved : (script : Script) (S T : State) (row : ThreadRow) → length T.handles ≡ length S.handles → IsGoodThread script S row → IsGoodThread script T row
@@ -68,20 +68,21 @@ IsSomeGood script S (Some row) = IsGoodThread script S row
 pub shape-with_thread : (script : Script) (S : State) (t : ObjNo) (row : ThreadRow) → IsGoodThread script S row → Shape script S → Shape script (with_thread S t row)
 unfolding IsSomeGood
 shape-with_thread script S t row good s =
-  let long : length (slice_set S.threads t.0 (Some row)) ≡ length S.threads = length-set S.threads t.0 (Some row) in
-  record {
-    tables = s.tables ∙ sym long;
-    duties = s.duties ∙ sym long;
-    first = subst (λ (n : ℕ). n ≤ length S.objects) (sym long) s.first;
-    threads_few = subst (λ (n : ℕ). n ≤ 81) (sym long) s.threads_few;
-    objects_few = s.objects_few;
-    places = s.places;
-    instances = s.instances;
-    rows = λ u r is. good-moved script S (with_thread S t row) r refl (elim (set_either S.threads t.0 (Some row) u.0 None) as (λ _. IsGoodThread script S r) [
-        inl h ↦ subst (λ (x : Option ThreadRow). IsSomeGood script S x) (sym h.1 ∙ is) good
-      | inr h ↦ s.rows u r (sym h ∙ is) ]);
-    owed_few = s.owed_few;
-  }
+    let long : length (slice_set S.threads t.0 (Some row)) ≡ length S.threads = length-set S.threads t.0 (Some row) in
+    record {
+      tables = s.tables ∙ sym long;
+      duties = s.duties ∙ sym long;
+      first = subst (λ (n : ℕ). n ≤ length S.objects) (sym long) s.first;
+      threads_few = subst (λ (n : ℕ). n ≤ 81) (sym long) s.threads_few;
+      objects_few = s.objects_few;
+      places = s.places;
+      instances = s.instances;
+      rows = λ u r is. good-moved script S (with_thread S t row) r refl (elim (set_either S.threads t.0 (Some row) u.0 None) as (λ _. IsGoodThread script S r) [
+        | inl h ↦ subst (λ (x : Option ThreadRow). IsSomeGood script S x) (sym h.1 ∙ is) good
+        | inr h ↦ s.rows u r (sym h ∙ is)
+      ]);
+      owed_few = s.owed_few;
+    }
 
 pub shape-with_owed : (script : Script) (S : State) (t : ObjNo) (what : List Owed) → length what ≤ 4 → Shape script S → Shape script (with_owed S t what)
 shape-with_owed script S t what few s = record {

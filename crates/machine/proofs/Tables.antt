@@ -20,9 +20,9 @@ free_index_le (place ∷ places) = free_index_le_step place.object _ _ (free_ind
 -- where a table isn't full, its least free index is inside it
 pub free_index_inside : (places : List Place) → is_full places ≡ false → free_index places < length places
 free_index_inside places h =
-  let le = free_index_le places in
-  let apart : free_index places ≢ length places = λ e. cc (eq-eqb (free_index places) (length places) e) in
-  omega arith
+    let le = free_index_le places in
+    let apart : free_index places ≢ length places = λ e. cc (eq-eqb (free_index places) (length places) e) in
+    omega arith
 
 free_index_is_free_step : (place : Place) (places : List Place) (x : Option ObjNo) → place.object ≡ x → (place_at places (free_index places)).object ≡ None → (get_or (place ∷ places) (if is_none x then 0 else free_index places + 1) fresh_place).object ≡ None
 free_index_is_free_step place places None e r = e

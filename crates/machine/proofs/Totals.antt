@@ -23,8 +23,8 @@ total_at_least f (x ∷ xs) (suc i) d h = let r = total_at_least f xs i d (omega
 pub total_at_most : {A : Type 0} (f : A → ℕ) (c : ℕ) (xs : List A) (d : A) → ((i : ℕ) → i < length xs → f (get_or xs i d) ≤ c) → total f xs ≤ c * length xs
 total_at_most f c [] d h = omega arith
 total_at_most f c (x ∷ xs) d h =
-  let first : f x ≤ c = h 0 (omega arith) in
-  let r = total_at_most f c xs d (λ i k. h (suc i) (omega arith)) in omega arith
+    let first : f x ≤ c = h 0 (omega arith) in
+    let r = total_at_most f c xs d (λ i k. h (suc i) (omega arith)) in omega arith
 
 -- a number at which a list has something is inside the list
 pub inside : {A : Type 0} (xs : List (Option A)) (i : ℕ) (x : A) → get_or xs i None ≡ Some x → i < length xs

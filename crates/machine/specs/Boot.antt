@@ -50,14 +50,14 @@ born_threads j p k (d ∷ ds) = if is_of j d.process then born_thread p k d ∷ 
 abbrev pub born_processes : List ThreadDecl → ℕ → ℕ → List ProcessDecl → List Born
 born_processes threads j p [] = []
 born_processes threads j p (d ∷ ds) =
-  born_process d.name ∷ born_threads j p 0 threads ++ born_processes threads (j + 1) (p + 1 + length (born_threads j p 0 threads)) ds
+    born_process d.name ∷ born_threads j p 0 threads ++ born_processes threads (j + 1) (p + 1 + length (born_threads j p 0 threads)) ds
 
 -- all that stands at boot, in order of number
 abbrev pub born : Script → List Born
 born script =
-  born_process (codes "kernel")
-  ∷ record { object = boot_object Thread (codes "supervisor"); thread = Some (new_thread 0 None); priority = 48; works = false }
-  ∷ born_processes script.threads 0 2 script.processes
+    born_process (codes "kernel")
+    ∷ record { object = boot_object Thread (codes "supervisor"); thread = Some (new_thread 0 None); priority = 48; works = false }
+    ∷ born_processes script.threads 0 2 script.processes
 
 -- the threads that have an instruction are ready, in order of number
 abbrev pub ready_from : ℕ → List Born → List Queued

@@ -19,8 +19,8 @@ without_handle S owner i = with_place S owner i (record (place_at (table_of S ow
 unfoldable pub close_do : State → ObjNo → ThreadRow → ℕ → Option ObjNo → Acted
 close_do S t row handle None = answered S t row (Of Close Do) [] (negsuc 7)
 close_do S t row handle (Some o) = answered
-  (owing (after_close (is_last S o) o (without_handle S (owner_of t row handle) (index_of handle))) t (owed_after_close (is_last S o) o))
-  t row (Of Close Do) (closed_effects (is_last S o) (holder_of t row handle) o) (pos 0)
+    (owing (after_close (is_last S o) o (without_handle S (owner_of t row handle) (index_of handle))) t (owed_after_close (is_last S o) o))
+    t row (Of Close Do) (closed_effects (is_last S o) (holder_of t row handle) o) (pos 0)
 
 abbrev pub close_step : State → ObjNo → ThreadRow → ℕ → Acted
 close_step S t row x = close_do S t row (slice_index row.registers x) (look S t row (slice_index row.registers x))

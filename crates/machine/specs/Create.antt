@@ -30,10 +30,10 @@ name_taken S kind name = list_any (has_name kind name) S.objects
 -- a new handle of the object in the process's table goes to a register and is answered
 abbrev pub with_handle : State → ObjNo → ThreadRow → Step → ObjNo → ℕ → Acted
 with_handle S t row step o x = answered
-  (with_place S row.process (free_index (table_of S row.process)) (record { instance = new_instance (table_of S row.process); object = Some o }))
-  t (with_register row x (new_handle (table_of S row.process))) step
-  (Plus (InProcess row.process (free_index (table_of S row.process))) o ∷ [])
-  (pos (new_handle (table_of S row.process)))
+    (with_place S row.process (free_index (table_of S row.process)) (record { instance = new_instance (table_of S row.process); object = Some o }))
+    t (with_register row x (new_handle (table_of S row.process))) step
+    (Plus (InProcess row.process (free_index (table_of S row.process))) o ∷ [])
+    (pos (new_handle (table_of S row.process)))
 
 -- one more object is made
 abbrev pub made : State → Kind → List ℕ → State
@@ -42,6 +42,6 @@ made S kind name = record S { objects = S.objects ++ Some (record { kind = kind;
 -- The name is taken: -11. Objects or handles are full: -9.
 unfoldable pub create_mutex : State → ObjNo → ThreadRow → List ℕ → ℕ → Acted
 create_mutex S t row name x =
-  if name_taken S Mutex name then answered S t row (Of Create Do) [] (negsuc 10)
-  else if (length S.objects == 4096) || is_full (table_of S row.process) then answered S t row (Of Create Do) [] (negsuc 8)
-  else with_handle (made S Mutex name) t row (Of Create Do) (record { 0 = length S.objects }) x
+    if name_taken S Mutex name then answered S t row (Of Create Do) [] (negsuc 10)
+    else if (length S.objects == 4096) || is_full (table_of S row.process) then answered S t row (Of Create Do) [] (negsuc 8)
+    else with_handle (made S Mutex name) t row (Of Create Do) (record { 0 = length S.objects }) x

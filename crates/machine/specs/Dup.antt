@@ -40,9 +40,9 @@ dup_look S t row (Some o) = record {
 -- the second step: a server or session: -46; handles are full: -9; else one handle more
 unfoldable pub dup_do : State → ObjNo → ThreadRow → ObjNo → ℕ → Acted
 dup_do S t row o y =
-  if stays_with_thread (object_of S o) then answered S t row (Of Dup Do) [] (negsuc 45)
-  else if is_full (table_of S row.process) then answered S t row (Of Dup Do) [] (negsuc 8)
-  else with_handle S t row (Of Dup Do) o y
+    if stays_with_thread (object_of S o) then answered S t row (Of Dup Do) [] (negsuc 45)
+    else if is_full (table_of S row.process) then answered S t row (Of Dup Do) [] (negsuc 8)
+    else with_handle S t row (Of Dup Do) o y
 
 -- the step of the phase
 abbrev pub dup_step : State → ObjNo → ThreadRow → ℕ → ℕ → Phase → Acted

@@ -17,3 +17,4 @@ pub mod ActedBy
 pub mod Room
 pub mod Built
 pub mod PlainView
+pub mod TwoHandles

@@ -21,7 +21,7 @@ slot_actor S TickSlot = Tick
 abbrev pub run_from : Script → State → ℕ → List Slot → List Entry
 run_from script S place [] = []
 run_from script S place (slot ∷ slots) =
-  entry_by script S place (slot_actor S slot) ∷ run_from script (next script S (slot_actor S slot)) (place + 1) slots
+    entry_by script S place (slot_actor S slot) ∷ run_from script (next script S (slot_actor S slot)) (place + 1) slots
 
 abbrev pub run : Script → List Entry
 run script = run_from script (boot script) 1 script.slots

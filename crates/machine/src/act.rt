@@ -45,17 +45,18 @@ pub fn instruction(script: &Script, row: &ThreadRow) -> Option<Instr>
     ensures { result ≡ instruction script.now row.now }
 {
     match declared_of(script, row.declared) {
-        Some(declared) => declared
-            .instrs
-            .as_slice()
-            .get(row.place as usize)
-            .copied(),
+        Some(declared) => declared.instrs.as_slice().get(row.place as usize).copied(),
         None => None,
     }
 }
 
 /// A step of an instruction.
-fn instruction_step(state: &mut State, thread: ThreadNo, row: ThreadRow, instr: Instr) -> Result<Outcome, NoMemory>
+fn instruction_step(
+    state: &mut State,
+    thread: ThreadNo,
+    row: ThreadRow,
+    instr: Instr,
+) -> Result<Outcome, NoMemory>
     requires room { HasRoom state.old row }
     requires registers { HasRegisters instr }
     ensures { IfOk result (λ outcome. acted state.new outcome ≡ instruction_step state.old thread row instr) }
@@ -69,7 +70,12 @@ fn instruction_step(state: &mut State, thread: ThreadNo, row: ThreadRow, instr: 
 
 /// The step that the thread of this row makes. What is owed comes first.
 #[tactic(auto, using(crate::proofs::RoomLaws::has_registers))]
-fn act_by(script: &Script, state: &mut State, thread: ThreadNo, row: ThreadRow) -> Result<Outcome, NoMemory>
+fn act_by(
+    script: &Script,
+    state: &mut State,
+    thread: ThreadNo,
+    row: ThreadRow,
+) -> Result<Outcome, NoMemory>
     requires shaped { IsShaped script.now }
     requires room { HasRoom state.old row }
     ensures { IfOk result (λ outcome. acted state.new outcome ≡ act_by state.old thread row (owed_of state.old thread) (instruction script.now row)) }
@@ -122,7 +128,12 @@ fn without(alloc: Global, queue: &[Queued], thread: ThreadNo) -> Result<Items<Qu
 
 /// A thread that has nothing left to do leaves the ready list.
 #[tactic(auto, unfolding(crate::specs::Act::settled))]
-fn settle(alloc: Global, script: &Script, state: &mut State, thread: ThreadNo) -> Result<(), NoMemory>
+fn settle(
+    alloc: Global,
+    script: &Script,
+    state: &mut State,
+    thread: ThreadNo,
+) -> Result<(), NoMemory>
     ensures { OnOk result (state.new ≡ settled script.now thread state.old) }
 {
     if is_ready(script, state, thread) {
@@ -134,7 +145,12 @@ fn settle(alloc: Global, script: &Script, state: &mut State, thread: ThreadNo) -
 
 /// An action of a thread.
 #[tactic(auto, unfolding(crate::specs::Act::act))]
-fn act(alloc: Global, script: &Script, state: &mut State, thread: ThreadNo) -> Result<Outcome, NoMemory>
+fn act(
+    alloc: Global,
+    script: &Script,
+    state: &mut State,
+    thread: ThreadNo,
+) -> Result<Outcome, NoMemory>
     requires shaped { IsShaped script.now }
     requires good { Good script.now state.old }
     ensures { IfOk result (λ outcome. acted state.new outcome ≡ act script.now state.old thread) }
@@ -145,7 +161,12 @@ fn act(alloc: Global, script: &Script, state: &mut State, thread: ThreadNo) -> R
 }
 
 /// An action of an actor. Only threads do something yet.
-pub fn acted_by(alloc: Global, script: &Script, state: &mut State, actor: Actor) -> Result<Outcome, NoMemory>
+pub fn acted_by(
+    alloc: Global,
+    script: &Script,
+    state: &mut State,
+    actor: Actor,
+) -> Result<Outcome, NoMemory>
     requires shaped { IsShaped script.now }
     requires good { Good script.now state.old }
     ensures { IfOk result (λ outcome. acted state.new outcome ≡ acted_by script.now state.old actor) }

@@ -43,7 +43,14 @@ fn owe_use(state: &mut State, thread: ThreadNo, phase: Phase) -> Result<(), NoMe
 
 /// The step answers: the thread is at its next instruction, and owes the close of what it used.
 #[tactic(auto, unfolding(crate::specs::Acted::answered_state))]
-pub fn answered(state: &mut State, thread: ThreadNo, row: ThreadRow, step: Step, effects: Effects, code: i32) -> Result<Outcome, NoMemory>
+pub fn answered(
+    state: &mut State,
+    thread: ThreadNo,
+    row: ThreadRow,
+    step: Step,
+    effects: Effects,
+    code: i32,
+) -> Result<Outcome, NoMemory>
     requires { row.place < 4294967295 }
     ensures { IfOk result (λ outcome. acted state.new outcome ≡ answered state.old thread row step effects code) }
 {
@@ -69,7 +76,12 @@ fn die(state: &mut State, object: ObjNo)
 
 /// After a reference to an object went: where it was the last, the object is dead, and the thread owes its
 /// sweep.
-pub fn after_close(state: &mut State, thread: ThreadNo, object: ObjNo, last: bool) -> Result<(), NoMemory>
+pub fn after_close(
+    state: &mut State,
+    thread: ThreadNo,
+    object: ObjNo,
+    last: bool,
+) -> Result<(), NoMemory>
     ensures { OnOk result (state.new ≡ owing (after_close last object state.old) thread (owed_after_close last object)) }
 {
     if last {

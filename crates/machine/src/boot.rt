@@ -100,7 +100,12 @@ fn is_of(process: u8, of: Option<u8>) -> bool
 }
 
 /// Adds the threads of a process.
-fn push_threads(all: &mut Vec<Born>, process: u8, number: ObjNo, threads: &[ThreadDecl]) -> Result<(), NoMemory>
+fn push_threads(
+    all: &mut Vec<Born>,
+    process: u8,
+    number: ObjNo,
+    threads: &[ThreadDecl],
+) -> Result<(), NoMemory>
     requires { length threads.now ≤ 63 }
     ensures ok { OnOk result (all.new.items ≡ all.old.items ++ born_threads process number.0 0 threads.now) }
     ensures few { vec_len all.new ≤ vec_len all.old + 63 }

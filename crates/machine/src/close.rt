@@ -31,7 +31,13 @@ fn remove_handle(state: &mut State, owner: ObjNo, index: usize)
 
 /// The handle and its reference go, where there is such a handle.
 #[tactic(auto, unfolding(crate::specs::Close::close_do))]
-fn close_do(state: &mut State, thread: ThreadNo, row: ThreadRow, handle: u32, found: Option<ObjNo>) -> Result<Outcome, NoMemory>
+fn close_do(
+    state: &mut State,
+    thread: ThreadNo,
+    row: ThreadRow,
+    handle: u32,
+    found: Option<ObjNo>,
+) -> Result<Outcome, NoMemory>
     requires room { HasRoom state.old row }
     requires found { found ≡ look state.old thread row handle }
     ensures { IfOk result (λ outcome. acted state.new outcome ≡ close_do state.old thread row handle found) }
@@ -47,7 +53,12 @@ fn close_do(state: &mut State, thread: ThreadNo, row: ThreadRow, handle: u32, fo
 }
 
 /// Closes the handle in a register.
-pub fn close_step(state: &mut State, thread: ThreadNo, row: ThreadRow, register: u8) -> Result<Outcome, NoMemory>
+pub fn close_step(
+    state: &mut State,
+    thread: ThreadNo,
+    row: ThreadRow,
+    register: u8,
+) -> Result<Outcome, NoMemory>
     requires room { HasRoom state.old row }
     requires register { register < 8 }
     ensures { IfOk result (λ outcome. acted state.new outcome ≡ close_step state.old thread row register) }

@@ -11,11 +11,7 @@ fn same(one: ObjNo, object: ObjNo) -> u32
     ensures number { result ≡ same one object }
     ensures bit { result ≤ 1 }
 {
-    if one.0 == object.0 {
-        1
-    } else {
-        0
-    }
+    if one.0 == object.0 { 1 } else { 0 }
 }
 
 /// How often a place of a handle table refers to an object.

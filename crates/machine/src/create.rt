@@ -56,7 +56,14 @@ fn make(state: &mut State, kind: Kind, name: Name) -> Result<(), NoMemory>
 }
 
 /// A new handle of the object in the process's table goes to a register and is answered.
-pub fn with_handle(state: &mut State, thread: ThreadNo, row: ThreadRow, step: Step, object: ObjNo, register: u8) -> Result<Outcome, NoMemory>
+pub fn with_handle(
+    state: &mut State,
+    thread: ThreadNo,
+    row: ThreadRow,
+    step: Step,
+    object: ObjNo,
+    register: u8,
+) -> Result<Outcome, NoMemory>
     requires room { HasRoom state.old row }
     requires free { is_full (table_of state.old row.process) ≡ false }
     requires register { register < 8 }
@@ -72,12 +79,25 @@ pub fn with_handle(state: &mut State, thread: ThreadNo, row: ThreadRow, step: St
     };
     let effects = one_effect(Effect::Plus(Holder::InProcess(row.process, index as u8), object));
     set_place(state, row.process, index, place);
-    answered(state, thread, with_register(row, register, handle), step, effects, handle as i32)
+    answered(
+        state,
+        thread,
+        with_register(row, register, handle),
+        step,
+        effects,
+        handle as i32,
+    )
 }
 
 /// A new mutex and a handle of it, where the name is free and there is room for both.
 #[tactic(auto, unfolding(crate::specs::Create::create_mutex))]
-pub fn create_mutex(state: &mut State, thread: ThreadNo, row: ThreadRow, name: Name, register: u8) -> Result<Outcome, NoMemory>
+pub fn create_mutex(
+    state: &mut State,
+    thread: ThreadNo,
+    row: ThreadRow,
+    name: Name,
+    register: u8,
+) -> Result<Outcome, NoMemory>
     requires room { HasRoom state.old row }
     requires register { register < 8 }
     ensures { IfOk result (λ outcome. acted state.new outcome ≡ create_mutex state.old thread row name register) }

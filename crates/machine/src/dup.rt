@@ -47,7 +47,12 @@ pub fn stays_with_thread(row: Option<ObjectRow>) -> bool
 
 /// The first step: the thread uses the object that the handle names.
 #[tactic(auto, unfolding(crate::specs::Dup::dup_look))]
-fn dup_look(state: &mut State, thread: ThreadNo, row: ThreadRow, found: Option<ObjNo>) -> Result<Outcome, NoMemory>
+fn dup_look(
+    state: &mut State,
+    thread: ThreadNo,
+    row: ThreadRow,
+    found: Option<ObjNo>,
+) -> Result<Outcome, NoMemory>
     requires { HasRoom state.old row }
     ensures { IfOk result (λ outcome. acted state.new outcome ≡ dup_look state.old thread row found) }
 {
@@ -68,7 +73,13 @@ fn dup_look(state: &mut State, thread: ThreadNo, row: ThreadRow, found: Option<O
 
 /// The second step: one handle more of the object.
 #[tactic(auto, unfolding(crate::specs::Dup::dup_do))]
-fn dup_do(state: &mut State, thread: ThreadNo, row: ThreadRow, object: ObjNo, to: u8) -> Result<Outcome, NoMemory>
+fn dup_do(
+    state: &mut State,
+    thread: ThreadNo,
+    row: ThreadRow,
+    object: ObjNo,
+    to: u8,
+) -> Result<Outcome, NoMemory>
     requires room { HasRoom state.old row }
     requires register { to < 8 }
     ensures { IfOk result (λ outcome. acted state.new outcome ≡ dup_do state.old thread row object to) }
@@ -83,7 +94,13 @@ fn dup_do(state: &mut State, thread: ThreadNo, row: ThreadRow, object: ObjNo, to
 }
 
 /// The step of the thread's phase.
-pub fn dup_step(state: &mut State, thread: ThreadNo, row: ThreadRow, from: u8, to: u8) -> Result<Outcome, NoMemory>
+pub fn dup_step(
+    state: &mut State,
+    thread: ThreadNo,
+    row: ThreadRow,
+    from: u8,
+    to: u8,
+) -> Result<Outcome, NoMemory>
     requires room { HasRoom state.old row }
     requires from { from < 8 }
     requires to { to < 8 }

@@ -19,6 +19,7 @@ mod state;
 mod table;
 
 pub use act::instruction;
+pub use acted::{advanced, closed_effects, one_effect, with_register};
 pub use boot::{Born, all_born, boot_of};
 pub use choice::first_of_greatest;
 pub use count::count_of;
@@ -26,7 +27,6 @@ pub use create::has_name;
 pub use dup::stays_with_thread;
 pub use outcome::Outcome;
 pub use plain::{Plain, entry_of};
-pub use acted::{advanced, closed_effects, one_effect, with_register};
 pub use state::{MAX_OBJECTS, ObjectRow, Owed, Phase, Place, Queued, State, ThreadRow};
 pub use table::{
     FRESH_PLACE, MAX_HANDLES, free_index, handle_number, holder_of, index_of, instance_of, is_full,

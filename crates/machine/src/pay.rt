@@ -15,7 +15,12 @@ use sym_base::{NoMemory, ObjNo, ThreadNo};
 
 /// Gives a reference up.
 #[tactic(auto, unfolding(crate::specs::Pay::pay))]
-fn pay_close(state: &mut State, thread: ThreadNo, holder: Holder, object: ObjNo) -> Result<Outcome, NoMemory>
+fn pay_close(
+    state: &mut State,
+    thread: ThreadNo,
+    holder: Holder,
+    object: ObjNo,
+) -> Result<Outcome, NoMemory>
     requires { count_of state.old object < 65536 }
     ensures { IfOk result (λ outcome. acted state.new outcome ≡ pay state.old thread (Owed.Close holder object) (drop 1 (owed_of state.old thread))) }
 {

@@ -1,20 +1,50 @@
+ghost use Rattle.std.specs.Prelude.{◌≡◌, IfOk, length, replicate};
+ghost use Rattle.machine.specs.TwoHandles.{two_handles, two_handles_thread};
+
 use super::*;
 use entry_log::{Effect, Holder, Part, Step, Word};
 use script_types::{Instr, ProcessDecl, ThreadDecl};
 use std::test::Fail;
-use sym_base::{Name, read_name};
+use sym_base::{ObjNo, read_name};
 
-/// A script of process `p` with thread `a`, which makes a mutex, makes a second handle of it, closes both,
-/// and closes the second once more.
-fn script(alloc: Global, p: Name, a: Name, m: Name) -> Result<Script, NoMemory> {
-    let instrs = vec![in alloc; Instr::CreateMutex(m, 0), Instr::Dup(0, 1), Instr::Close(0), Instr::Close(1), Instr::Close(1)]?;
-    let thread = ThreadDecl {
-        name: a,
+/// The thread of the script.
+fn thread(alloc: Global) -> Result<ThreadDecl, NoMemory>
+    ensures { IfOk result (λ thread. thread ≡ two_handles_thread) }
+{
+    let mutex = read_name(b"m").unwrap();
+    let mut instrs = Vec::new(alloc);
+    instrs.push(Instr::CreateMutex(mutex, 0))?;
+    instrs.push(Instr::Dup(0, 1))?;
+    instrs.push(Instr::Close(0))?;
+    instrs.push(Instr::Close(1))?;
+    instrs.push(Instr::Close(1))?;
+    Ok(ThreadDecl {
+        name: read_name(b"a").unwrap(),
         priority: 10,
         held: false,
         process: Some(0),
         instrs: Items::new(instrs),
-    };
+    })
+}
+
+/// Ten slots.
+fn slots(alloc: Global) -> Result<Items<Slot>, NoMemory>
+    ensures { IfOk result (λ slots. slots ≡ replicate 10 Slot.Go) }
+{
+    Ok(Items::new(Vec::from_slice(alloc, &[Slot::Go; 10])?))
+}
+
+/// The script.
+#[tactic(auto, unfolding(crate::specs::TwoHandles::two_handles))]
+fn script(alloc: Global) -> Result<Script, NoMemory>
+    ensures { IfOk result (λ script. script ≡ two_handles) }
+{
+    let mut processes = Vec::new(alloc);
+    processes.push(ProcessDecl {
+        name: read_name(b"p").unwrap(),
+    })?;
+    let mut threads = Vec::new(alloc);
+    threads.push(thread(alloc)?)?;
     Ok(Script {
         pool: 0,
         fast: 0,
@@ -22,38 +52,75 @@ fn script(alloc: Global, p: Name, a: Name, m: Name) -> Result<Script, NoMemory> 
         dfcs: Items::new(Vec::new(alloc)),
         idfcs: Items::new(Vec::new(alloc)),
         irqs: Items::new(Vec::new(alloc)),
-        processes: Items::new(vec![in alloc; ProcessDecl { name: p }]?),
-        threads: Items::new(vec![in alloc; thread]?),
-        slots: Items::new(vec![in alloc; Slot::Go, Slot::Go, Slot::Go, Slot::Go, Slot::Go, Slot::Go, Slot::Go, Slot::Go, Slot::Go, Slot::Go]?),
+        processes: Items::new(processes),
+        threads: Items::new(threads),
+        slots: slots(alloc)?,
     })
 }
 
-#[test]
-fn two_handles_of_a_mutex(rt: HostRuntime) -> Result<(), Fail> {
-    let p = read_name(b"p").ok_or("name")?;
-    let a = read_name(b"a").ok_or("name")?;
-    let m = read_name(b"m").ok_or("name")?;
-    let script = script(rt.alloc(), p, a, m)?;
-    let mut plain = Plain::boot(rt.alloc(), script)?;
-    for _ in 0..10 {
+/// Ten actions of the machine.
+fn ten_actions(alloc: Global) -> Result<Plain, NoMemory>
+    ensures { IfOk result (λ plain. length plain.history ≡ 10) }
+{
+    let mut plain = Plain::boot(alloc, script(alloc)?)?;
+    for i in 0..10_u8 {
         plain.slot(Slot::Go)?;
     }
-    let history = plain.history();
-    assert_eq!(rt; history.len(), 10);
-    for e in history {
-        println!(rt; "{} {:?} {}", e.place, e.answer, e.effects.as_slice().len())?;
+    Ok(plain)
+}
+
+/// What the ten actions answer.
+const ANSWERS: [Option<i32>; 10] = [
+    Some(65_536),
+    None,
+    Some(65_537),
+    None,
+    Some(0),
+    Some(0),
+    None,
+    Some(-8),
+    None,
+    None,
+];
+
+/// How many effects each has.
+const EFFECTS: [usize; 10] = [1, 1, 1, 1, 1, 2, 1, 0, 0, 0];
+
+#[test]
+fn entries(rt: HostRuntime) -> Result<(), Fail> {
+    let plain = ten_actions(rt.alloc())?;
+    for (i, entry) in plain.history().iter().enumerate() {
+        assert_eq!(rt; entry.place as usize, i + 1);
+        assert_eq!(rt; entry.answer, ANSWERS[i]);
+        assert_eq!(rt; entry.effects.as_slice().len(), EFFECTS[i]);
     }
-    let mut from = 0;
-    for _ in 0..10 {
-        match plain.next_row(from) {
-            Some(row) => {
-                println!(rt; "{} {}", row.object.0, row.count)?;
-                from = row.object.0 + 1;
-            }
-            None => {
-                println!(rt; "none")?;
-            }
-        }
+    Ok(())
+}
+
+#[test]
+fn last_close(rt: HostRuntime) -> Result<(), Fail> {
+    let plain = ten_actions(rt.alloc())?;
+    let entry = &plain.history()[5];
+    assert!(rt; matches!(entry.step, Step::Of(Word::Close, Part::Do)));
+    let told = matches!(
+        entry.effects.as_slice(),
+        [
+            Effect::Minus(Holder::InProcess(ObjNo(2), 1), ObjNo(4)),
+            Effect::Dead(ObjNo(4))
+        ]
+    );
+    assert!(rt; told);
+    Ok(())
+}
+
+#[test]
+fn objects_left(rt: HostRuntime) -> Result<(), Fail> {
+    let plain = ten_actions(rt.alloc())?;
+    for number in 0..4 {
+        let row = plain.next_row(number).ok_or("no row")?;
+        assert_eq!(rt; row.object, ObjNo(number));
+        assert_eq!(rt; row.count, 1);
     }
+    assert!(rt; plain.next_row(4).is_none());
     Ok(())
 }
