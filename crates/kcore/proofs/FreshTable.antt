@@ -1,7 +1,7 @@
 -- A table whose places were never taken is one.
-use Rattle.std.proofs.Common.{ℕ, suc, zero, ◌≤◌, replicate, arith}
+use Rattle.std.proofs.Common.{replicate}
 use Rattle.std.proofs.lemmas.List.{length-replicate}
-use Rattle.machine.specs.Table.{fresh_place, place_at}
+use Rattle.machine.specs.Table.{fresh_place}
 use Rattle.machine.proofs.Boots.{fresh_instances}
 use Rattle.kcore.specs.HandleTable.{IsTable}
 

@@ -1,12 +1,10 @@
 -- A kernel goes on: after an actor's action its tables stand for one entry more.
-use Rattle.std.proofs.Common.{◌≡◌, ◌⊎◌, inl, inr, ℕ, ◌+◌, ◌<◌, ◌≤◌, List, [], ◌∷◌, ◌++◌, length, get_or, arith, refl, sym, ap, subst, ◌∙◌}
+use Rattle.std.proofs.Common.{◌≡◌, inl, inr, ℕ, ◌+◌, ◌<◌, List, [], ◌∷◌, ◌++◌, length, arith, refl, sym, ap, ◌∙◌}
 use Rattle.std.specs.Prelude.{slice_index}
 use Rattle.std.proofs.lemmas.Bool.{cases_lt}
 use Rattle.std.proofs.lemmas.List.{get_or_past, length-map}
-use Rattle.sym_base.specs.declared.number.ObjNo.{ObjNo}
 use Rattle.script_types.specs.declared.script.Script.{Script}
 use Rattle.script_types.specs.declared.script.Slot.{Slot}
-use Rattle.script_types.specs.Shape.{IsShaped}
 use Rattle.script_types.proofs.ShapeLaws.{valid_is_shaped}
 use Rattle.entry_log.specs.declared.entry.Actor.{Actor}
 use Rattle.entry_log.specs.declared.entry.Entry.{Entry}
@@ -16,12 +14,10 @@ use Rattle.machine.specs.Acted.{Acted}
 use Rattle.machine.specs.ActedBy.{acted}
 use Rattle.machine.specs.Boot.{boot, boot_of, born}
 use Rattle.machine.specs.Built.{IsBuilt}
-use Rattle.machine.specs.Good.{Good}
 use Rattle.machine.specs.History.{acted_by, entry_of}
-use Rattle.machine.specs.PlainView.{IsPlain}
 use Rattle.machine.specs.References.{count_of, pluses, minuses}
 use Rattle.machine.specs.Run.{slot_actor}
-use Rattle.machine.proofs.Boots.{good-boot, boot_count_inside}
+use Rattle.machine.proofs.Boots.{boot_count_inside}
 use Rattle.machine.proofs.PlainSteps.{good_plain, plain_goes_on_by}
 use Rattle.machine.proofs.RefsActor.{acted_by-refs}
 use Rattle.kcore.specs.declared.tables.Tables.{Tables}

@@ -1,5 +1,5 @@
 -- How kept counts move with one reference more or less.
-use Rattle.std.proofs.Common.{◌≡◌, ◌⊎◌, inl, inr, ℕ, suc, zero, ◌+◌, ◌-◌, ◌<◌, ◌≤◌, List, [], ◌∷◌, ◌++◌, length, get_or, arith, refl, sym, ap, subst, ◌∙◌, Result, Ok, Err}
+use Rattle.std.proofs.Common.{◌≡◌, ◌⊎◌, inl, inr, ℕ, suc, zero, ◌+◌, ◌-◌, ◌<◌, List, [], ◌∷◌, ◌++◌, length, get_or, arith, refl, sym, ap, subst, ◌∙◌, Result, Ok, Err}
 use Rattle.std.specs.Prelude.{slice_set, slice_index, Bool, true, false, IfOk}
 use Rattle.machine.specs.declared.outcome.Outcome.{Outcome}
 use Rattle.std.proofs.lemmas.Bool.{cases_eq}
@@ -7,11 +7,10 @@ use Rattle.std.proofs.lemmas.List.{get_or-set_same, get_or-set_other}
 use Rattle.sym_base.specs.declared.number.ObjNo.{ObjNo}
 use Rattle.entry_log.specs.declared.effect.Holder.{Holder}
 use Rattle.entry_log.specs.declared.effect.Effect.{Effect}
-use Rattle.entry_log.specs.declared.effect.Effect.TheVariants.{Plus, Minus, Dead}
-use Rattle.machine.specs.References.{same, pluses, minuses}
+use Rattle.entry_log.specs.declared.effect.Effect.TheVariants.{Plus}
+use Rattle.machine.specs.References.{same}
 use Rattle.machine.specs.Acted.{closed_effects}
 use Rattle.machine.proofs.Live.{same_self, same_other, same_object}
-use Rattle.machine.proofs.Lists.{set_either}
 use Rattle.kcore.specs.Counts.{CountsMove}
 
 -- a count that changes moves only at its object

@@ -1,5 +1,5 @@
 -- What well-formed tables have room for.
-use Rattle.std.proofs.Common.{◌≡◌, ℕ, suc, zero, ◌+◌, ◌<◌, ◌≤◌, List, [], ◌∷◌, length, get_or, arith, refl, sym, subst, ap, ◌∙◌, Option, Some, None, Bool, true, false}
+use Rattle.std.proofs.Common.{◌≡◌, ℕ, suc, zero, ◌+◌, ◌<◌, ◌≤◌, List, [], ◌∷◌, length, get_or, arith, refl, ap, ◌∙◌, Option, Some, None}
 use Rattle.std.specs.Prelude.{slice_get, slice_index}
 use Rattle.sym_base.specs.declared.number.ObjNo.{ObjNo}
 use Rattle.script_types.specs.declared.script.Script.{Script}
@@ -9,13 +9,13 @@ use Rattle.entry_log.specs.declared.effect.Holder.{Holder}
 use Rattle.machine.specs.declared.state.ObjectRow.{ObjectRow}
 use Rattle.machine.specs.declared.state.Owed.{Owed}
 use Rattle.machine.specs.declared.state.Owed.TheVariants.{Close, Sweep}
-use Rattle.machine.specs.declared.state.Phase.TheVariants.{Start, Using}
+use Rattle.machine.specs.declared.state.Phase.TheVariants.{Using}
 use Rattle.machine.specs.declared.state.ThreadRow.{ThreadRow}
 use Rattle.machine.specs.declared.state.State.{State}
 use Rattle.machine.specs.Act.{instructions_of, declared_of}
-use Rattle.machine.specs.Good.{Good, IsAlive, is_dead, owed_sweeps, sweeps_of}
+use Rattle.machine.specs.Good.{Good, is_dead, owed_sweeps}
 use Rattle.machine.specs.References.{total, same, count_of, place_names, option_names, thread_names, phase_names, owed_names}
-use Rattle.machine.specs.Rows.{object_of, thread_of, table_of, owed_of}
+use Rattle.machine.specs.Rows.{thread_of, table_of, owed_of}
 use Rattle.machine.specs.Table.{place_at, fresh_place, look, owner_of, index_of}
 use Rattle.machine.proofs.Totals.{inside, total_at_least}
 use Rattle.machine.proofs.Tables.{look_is, place_inside, table_inside}

@@ -1,28 +1,18 @@
 -- The state at boot is well-formed.
-use Rattle.std.proofs.Common.{◌≡◌, ◌≢◌, ◌⊎◌, inl, inr, ℕ, suc, zero, ◌+◌, ◌<◌, ◌≤◌, List, [], ◌∷◌, ◌++◌, length, get_or, arith, refl, sym, subst, ap, ◌∙◌, Option, Some, None, Bool, true, false, map, replicate}
-use Rattle.std.specs.Prelude.{codes, slice_get, is_some, ◌==◌, if◌then◌else◌}
-use Rattle.std.proofs.lemmas.List.{length-map, length-append, length-replicate, get_or-replicate, get_or-map, get_or_past, append_assoc}
-use Rattle.std.proofs.lemmas.Bool.{eqb-true, eq-eqb, cases_lt, cases_eq}
+use Rattle.std.proofs.Common.{◌≡◌, ℕ, ◌+◌, ◌<◌, ◌≤◌, List, [], ◌∷◌, ◌++◌, length, arith, refl, sym, subst, ap, ◌∙◌, Option, Some, None, Bool, true, false}
+use Rattle.std.specs.Prelude.{codes, slice_get, is_some, if◌then◌else◌}
+use Rattle.std.proofs.lemmas.List.{length-append, append_assoc}
 use Rattle.std.specs.Prelude.{nat_le}
-use Rattle.sym_base.specs.declared.number.ObjNo.{ObjNo}
 use Rattle.script_types.specs.declared.script.Script.{Script}
 use Rattle.script_types.specs.declared.declaration.ThreadDecl.{ThreadDecl}
 use Rattle.script_types.specs.declared.declaration.ProcessDecl.{ProcessDecl}
 use Rattle.script_types.specs.declared.instruction.Instr.{Instr}
 use Rattle.script_types.specs.Shape.{IsShaped}
 use Rattle.machine.specs.declared.boot.Born.{Born}
-use Rattle.machine.specs.declared.state.ObjectRow.{ObjectRow}
-use Rattle.machine.specs.declared.state.Owed.{Owed}
-use Rattle.machine.specs.declared.state.Phase.{Phase}
-use Rattle.machine.specs.declared.state.Phase.TheVariants.{Start, Using}
-use Rattle.machine.specs.declared.state.Place.{Place}
-use Rattle.machine.specs.declared.state.Queued.{Queued}
+use Rattle.machine.specs.declared.state.Phase.TheVariants.{Start}
 use Rattle.machine.specs.declared.state.ThreadRow.{ThreadRow}
-use Rattle.machine.specs.declared.state.State.{State}
-use Rattle.machine.specs.Act.{instruction, instructions_of, declared_of, is_ready, has_work}
-use Rattle.machine.specs.Boot.{boot, boot_of, born, born_process, born_thread, born_threads, born_processes, new_thread, has_any, is_of, ready_from}
-use Rattle.machine.specs.Good.{Good, EachReady}
-use Rattle.machine.specs.Rows.{thread_of, owed_of}
+use Rattle.machine.specs.Act.{instruction, instructions_of}
+use Rattle.machine.specs.Boot.{born, born_process, born_thread, born_threads, born_processes, new_thread, has_any, is_of}
 
 -- what holds of each that stands at boot, n being their number
 pub record IsBornThread (script : Script) (n : ℕ) (works : Bool) (row : ThreadRow) : Type 0 where

@@ -1,7 +1,7 @@
 -- The state at boot is well-formed, and so is every state that a history leaves.
-use Rattle.std.proofs.Common.{◌≡◌, ◌≢◌, ◌⊎◌, inl, inr, ℕ, suc, zero, ◌+◌, ◌<◌, ◌≤◌, List, [], ◌∷◌, ◌++◌, length, get_or, arith, refl, sym, subst, ap, ◌∙◌, Option, Some, None, Bool, true, false, map, replicate}
-use Rattle.std.specs.Prelude.{slice_get, is_some, ◌==◌, ◌||◌, if◌then◌else◌}
-use Rattle.std.proofs.lemmas.List.{length-map, length-append, length-replicate, get_or-replicate, get_or-map, get_or_past, append_assoc}
+use Rattle.std.proofs.Common.{◌≡◌, ◌⊎◌, inl, inr, ℕ, suc, zero, ◌+◌, ◌<◌, ◌≤◌, List, [], ◌∷◌, ◌++◌, length, get_or, arith, refl, sym, subst, ap, ◌∙◌, Option, Some, None, Bool, true, false, map, replicate}
+use Rattle.std.specs.Prelude.{is_some, if◌then◌else◌}
+use Rattle.std.proofs.lemmas.List.{length-map, length-append, length-replicate, get_or_past, append_assoc}
 use Rattle.std.proofs.lemmas.Bool.{cases_lt}
 use Rattle.sym_base.specs.declared.number.ObjNo.{ObjNo}
 use Rattle.script_types.specs.declared.script.Script.{Script}
@@ -10,20 +10,15 @@ use Rattle.script_types.specs.Valid.{IsValid}
 use Rattle.script_types.proofs.ShapeLaws.{valid_is_shaped}
 use Rattle.entry_log.specs.declared.entry.Entry.{Entry}
 use Rattle.machine.specs.declared.boot.Born.{Born}
-use Rattle.machine.specs.declared.state.ObjectRow.{ObjectRow}
 use Rattle.machine.specs.declared.state.Owed.{Owed}
-use Rattle.machine.specs.declared.state.Phase.{Phase}
-use Rattle.machine.specs.declared.state.Phase.TheVariants.{Start, Using}
 use Rattle.machine.specs.declared.state.Place.{Place}
-use Rattle.machine.specs.declared.state.Queued.{Queued}
 use Rattle.machine.specs.declared.state.ThreadRow.{ThreadRow}
-use Rattle.machine.specs.declared.state.State.{State}
-use Rattle.machine.specs.Act.{instruction, instructions_of, declared_of, is_ready, has_work}
+use Rattle.machine.specs.Act.{is_ready, has_work}
 use Rattle.machine.specs.Boot.{boot, boot_of, born, ready_from}
-use Rattle.machine.specs.Good.{Good, EachReady, IsGoodThread, IsAlive, is_dead, dead_bit, owed_sweeps, sweeps_of}
-use Rattle.machine.specs.History.{after, IsLegal}
-use Rattle.machine.specs.References.{total, same, count_of, place_names, option_names, phase_names, thread_names, kernel_names, owed_names}
-use Rattle.machine.specs.Rows.{object_of, thread_of, owed_of, table_of}
+use Rattle.machine.specs.Good.{Good, EachReady, IsGoodThread, IsAlive, is_dead, dead_bit, owed_sweeps}
+use Rattle.machine.specs.History.{after}
+use Rattle.machine.specs.References.{total, count_of, place_names, phase_names, thread_names, kernel_names, owed_names}
+use Rattle.machine.specs.Rows.{thread_of}
 use Rattle.machine.specs.Table.{fresh_place, place_at}
 use Rattle.machine.proofs.BootGood.{IsBorn, IsBornThread, EachBorn, each_born, born_few}
 use Rattle.machine.proofs.Histories.{good-after_from}

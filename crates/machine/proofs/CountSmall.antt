@@ -1,8 +1,7 @@
 -- Counts are small, since tables, threads and duties are few.
-use Rattle.std.proofs.Common.{◌≡◌, ℕ, ◌+◌, ◌*◌, ◌<◌, ◌≤◌, Bool, true, false, cond, eqb, length, Option, Some, None, is_some, slice_index_or, [], arith}
+use Rattle.std.proofs.Common.{◌≡◌, ◌*◌, ◌<◌, ◌≤◌, Bool, true, false, cond, eqb, length, Option, Some, None, is_some, slice_index_or, [], arith}
 use Rattle.sym_base.specs.declared.number.ObjNo.{ObjNo}
 use Rattle.script_types.specs.declared.script.Script.{Script}
-use Rattle.machine.specs.declared.state.Place.{Place}
 use Rattle.machine.specs.declared.state.Phase.{Phase}
 use Rattle.machine.specs.declared.state.Phase.TheVariants.{Start, Using}
 use Rattle.machine.specs.declared.state.ThreadRow.{ThreadRow}

@@ -1,7 +1,7 @@
 -- What changing a row does to the count of an object, and to the number of its owed sweeps.
-use Rattle.std.proofs.Common.{◌≡◌, ℕ, ◌+◌, ◌<◌, ◌≤◌, List, [], ◌∷◌, ◌++◌, length, get_or, arith, Option, Some, None, refl}
-use Rattle.std.proofs.Common.{sym, subst, ap}
-use Rattle.std.specs.Prelude.{slice_set, is_some, if◌then◌else◌, Bool}
+use Rattle.std.proofs.Common.{◌≡◌, ℕ, ◌+◌, ◌<◌, List, [], ◌++◌, length, arith, Some, None}
+use Rattle.std.proofs.Common.{ap}
+use Rattle.std.specs.Prelude.{slice_set, if◌then◌else◌}
 use Rattle.sym_base.specs.declared.number.ObjNo.{ObjNo}
 use Rattle.machine.specs.declared.state.Place.{Place}
 use Rattle.machine.specs.declared.state.Owed.{Owed}

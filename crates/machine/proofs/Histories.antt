@@ -1,18 +1,17 @@
 -- Facts over whole histories, from the facts about one action.
-use Rattle.std.proofs.Common.{◌≡◌, ℕ, ◌+◌, ◌<◌, ◌≤◌, List, [], ◌∷◌, ◌++◌, length, arith, refl, sym, subst, ap, ◌∙◌, Option, Some, None, Bool, true, false, add_assoc, add-zero}
+use Rattle.std.proofs.Common.{◌≡◌, ℕ, ◌+◌, List, [], ◌∷◌, ◌++◌, length, arith, refl, subst, ap, Option, Some, None, Bool, true, false}
 use Rattle.std.specs.Prelude.{IsTrue, find, ◌==◌, if◌then◌else◌}
-use Rattle.sym_base.specs.declared.number.ObjNo.{ObjNo}
 use Rattle.script_types.specs.declared.script.Script.{Script}
 use Rattle.entry_log.specs.declared.entry.Entry.{Entry}
 use Rattle.entry_log.specs.declared.entry.Actor.{Actor}
 use Rattle.entry_log.specs.declared.entry.Actor.TheVariants.{Thread, Irq, Idfc, Tick, Idle}
 use Rattle.machine.specs.declared.state.Queued.{Queued}
 use Rattle.machine.specs.declared.state.State.{State}
-use Rattle.machine.specs.Act.{act, is_ready}
+use Rattle.machine.specs.Act.{is_ready}
 use Rattle.machine.specs.Boot.{boot}
-use Rattle.machine.specs.Choice.{first_of_greatest, greatest, chosen, actor_of}
+use Rattle.machine.specs.Choice.{first_of_greatest, greatest, actor_of}
 use Rattle.machine.specs.Good.{Good, EachReady}
-use Rattle.machine.specs.History.{next, acted_by, after, after_from, entry_by, CanAct, IsNext, IsLegal, IsLegalFrom}
+use Rattle.machine.specs.History.{next, after, after_from, CanAct, IsNext, IsLegal, IsLegalFrom}
 use Rattle.machine.proofs.GoodAct.{good-act}
 
 -- the state after one more entry

@@ -1,45 +1,34 @@
 -- Each step of a thread leaves a well-formed state: the steps, one by one.
-use Rattle.std.proofs.Common.{◌≡◌, ◌≢◌, ◌⊎◌, inl, inr, ℕ, suc, zero, ◌+◌, ◌<◌, ◌≤◌, List, [], ◌∷◌, ◌++◌, length, get_or, arith, refl, sym, subst, ap, ◌∙◌, Option, Some, None, Bool, true, false}
-use Rattle.std.specs.Prelude.{ℤ, negsuc, pos, slice_set, slice_get, slice_index, ◌==◌, ◌||◌, if◌then◌else◌}
-use Rattle.std.proofs.lemmas.List.{get_or-set_same, get_or-set_other, length-set, length-append, get_or_push, length_push, get_or_past}
-use Rattle.std.proofs.lemmas.Bool.{eq-eqb, eqb-true}
+use Rattle.std.proofs.Common.{◌≡◌, ◌≢◌, ℕ, ◌+◌, ◌<◌, ◌≤◌, List, [], ◌∷◌, ◌++◌, length, arith, refl, sym, subst, ap, ◌∙◌, Option, Some, None, Bool, true, false}
+use Rattle.std.specs.Prelude.{slice_set, slice_index, ◌==◌, ◌||◌}
+use Rattle.std.proofs.lemmas.List.{get_or-set_other, length-set, length-append, get_or_push, length_push}
+use Rattle.std.proofs.lemmas.Bool.{eq-eqb}
 use Rattle.sym_base.specs.declared.number.ObjNo.{ObjNo}
 use Rattle.sym_base.specs.declared.kind.Kind.TheVariants.{Mutex}
-use Rattle.entry_log.specs.declared.effect.Holder.{Holder}
-use Rattle.entry_log.specs.declared.effect.Holder.TheVariants.{Temp}
 use Rattle.entry_log.specs.declared.step.Step.{Step}
 use Rattle.entry_log.specs.declared.step.Step.TheVariants.{Of}
 use Rattle.entry_log.specs.declared.step.Word.TheVariants.{Create, Dup}
 use Rattle.entry_log.specs.declared.step.Part.TheVariants.{Do}
 use Rattle.script_types.specs.declared.script.Script.{Script}
-use Rattle.script_types.specs.declared.instruction.Instr.{Instr}
-use Rattle.script_types.specs.declared.instruction.Instr.TheVariants.{CreateMutex, Dup as DupInstr, Close as CloseInstr}
-use Rattle.machine.specs.declared.state.Place.{Place}
 use Rattle.machine.specs.declared.state.Owed.{Owed}
-use Rattle.machine.specs.declared.state.Owed.TheVariants.{Close, Sweep}
+use Rattle.machine.specs.declared.state.Owed.TheVariants.{Sweep}
 use Rattle.machine.specs.declared.state.Phase.{Phase}
 use Rattle.machine.specs.declared.state.Phase.TheVariants.{Start, Using}
 use Rattle.machine.specs.declared.state.ThreadRow.{ThreadRow}
-use Rattle.machine.specs.declared.state.ObjectRow.{ObjectRow}
 use Rattle.machine.specs.declared.state.State.{State}
-use Rattle.machine.specs.Rows.{object_of, thread_of, table_of, owed_of, with_object, with_place, with_thread, with_owed, owing, advanced, with_register}
-use Rattle.machine.specs.Table.{place_at, fresh_place, free_index, new_instance, next_instance, new_handle, is_full, look, owner_of, index_of, holder_of}
-use Rattle.machine.specs.References.{total, same, count_of, place_names, option_names, phase_names, thread_names, owed_names}
-use Rattle.machine.specs.Acted.{Acted, answered, dead_row, answered_state, owed_use, died, is_last, closed_effects, owed_after_close, after_close}
+use Rattle.machine.specs.Rows.{object_of, thread_of, table_of, owed_of, with_thread, owing, with_register}
+use Rattle.machine.specs.Table.{place_at, fresh_place, new_handle, is_full, look, owner_of, index_of}
+use Rattle.machine.specs.References.{total, same, count_of, place_names, option_names, phase_names, thread_names}
+use Rattle.machine.specs.Acted.{Acted, dead_row, answered_state, died, is_last, owed_after_close, after_close}
 use Rattle.machine.specs.Create.{with_handle, made, create_mutex, name_taken}
 use Rattle.machine.specs.Dup.{dup_look, dup_do, dup_step, stays_with_thread}
-use Rattle.machine.specs.Close.{without_handle, close_do, close_step}
-use Rattle.machine.specs.Pay.{pay}
-use Rattle.machine.specs.Act.{instructions_of, declared_of}
-use Rattle.machine.specs.Good.{IsGoodThread, IsAlive, sweeps_of}
+use Rattle.machine.specs.Good.{IsAlive, sweeps_of}
 use Rattle.machine.proofs.Cases.{if_cases, or_false_left, or_false_right}
 use Rattle.machine.proofs.Totals.{total_at_least, inside}
-use Rattle.machine.proofs.Tables.{free_index_is_free, free_index_inside, look_is, place_inside, table_inside}
-use Rattle.machine.proofs.Counts.{count-with_place, count-with_thread}
-use Rattle.machine.proofs.RefsSteps.{count-answered}
-use Rattle.machine.proofs.RefsAct.{without_handle-count, without_duty-count}
-use Rattle.machine.proofs.Shape.{Shape, shape-with_place, shape-with_thread, shape-with_owed, shape-with_objects}
-use Rattle.machine.proofs.Live.{Live, live-kept, live-answered, live-made, live-close, live-sweep, alive_at, alive_by, same_self, same_other}
+use Rattle.machine.proofs.Tables.{look_is, place_inside, table_inside}
+use Rattle.machine.proofs.Counts.{count-with_thread}
+use Rattle.machine.proofs.Shape.{Shape, shape-with_thread, shape-with_owed, shape-with_objects}
+use Rattle.machine.proofs.Live.{Live, live-kept, live-made, live-close, alive_by, same_self}
 use Rattle.machine.proofs.GoodSteps.{Keeps, Amid, IsAtInstruction, keeps-answered, amid-placed}
 
 -- what is known where a thread makes a step of an instruction

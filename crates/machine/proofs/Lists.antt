@@ -1,5 +1,5 @@
 -- What a changed list holds at each index.
-use Rattle.std.proofs.Common.{◌≡◌, ◌≢◌, ◌⊎◌, inl, inr, ℕ, suc, zero, ◌+◌, ◌<◌, ◌≤◌, List, [], ◌∷◌, ◌++◌, length, get_or, arith, refl, sym, ap, subst, ◌∙◌}
+use Rattle.std.proofs.Common.{◌≡◌, ◌⊎◌, inl, inr, ℕ, suc, zero, List, [], ◌∷◌, get_or, refl, sym, ap, subst}
 use Rattle.std.specs.Prelude.{slice_set}
 
 set_either_suc : {A : Type 0} {i j : ℕ} {a b c : A} → ((j ≡ i) × (a ≡ b)) ⊎ (a ≡ c) → ((suc j ≡ suc i) × (a ≡ b)) ⊎ (a ≡ c)

@@ -1,24 +1,22 @@
 -- Objects with references are alive, and exactly the dead ones are owed a sweep: what each change keeps of it.
-use Rattle.std.proofs.Common.{◌≡◌, ◌≢◌, ◌⊎◌, inl, inr, ℕ, suc, zero, ◌+◌, ◌<◌, ◌≤◌, List, [], ◌∷◌, ◌++◌, length, get_or, arith, refl, sym, subst, ap, ◌∙◌, Option, Some, None, Bool, true, false}
+use Rattle.std.proofs.Common.{◌≡◌, inl, inr, ℕ, suc, zero, ◌+◌, ◌<◌, ◌≤◌, List, [], ◌∷◌, ◌++◌, length, get_or, arith, refl, sym, subst, ap, ◌∙◌, Option, Some, None, Bool, true, false}
 use Rattle.std.specs.Prelude.{slice_set, ◌==◌, if◌then◌else◌}
-use Rattle.std.proofs.lemmas.List.{get_or-set_same, get_or-set_other, length-set}
+use Rattle.std.proofs.lemmas.List.{get_or-set_same, get_or-set_other}
 use Rattle.std.proofs.lemmas.Bool.{eqb-true, eq-eqb, cases_eq}
 use Rattle.sym_base.specs.declared.number.ObjNo.{ObjNo}
 use Rattle.sym_base.specs.declared.kind.Kind.{Kind}
 use Rattle.machine.specs.declared.state.ObjectRow.{ObjectRow}
-use Rattle.machine.specs.declared.state.Owed.{Owed}
-use Rattle.machine.specs.declared.state.Owed.TheVariants.{Close, Sweep}
+use Rattle.machine.specs.declared.state.Owed.TheVariants.{Sweep}
 use Rattle.machine.specs.declared.state.Phase.{Phase}
 use Rattle.machine.specs.declared.state.Phase.TheVariants.{Start, Using}
 use Rattle.machine.specs.declared.state.ThreadRow.{ThreadRow}
 use Rattle.machine.specs.declared.state.State.{State}
-use Rattle.machine.specs.Rows.{object_of, thread_of, owed_of, with_object, with_thread, with_owed, owing, advanced}
+use Rattle.machine.specs.Rows.{object_of, with_object, with_thread, owing, advanced}
 use Rattle.machine.specs.References.{total, same, count_of}
 use Rattle.machine.specs.Acted.{answered_state, owed_use, dead_row, died, is_last, owed_after_close, after_close}
 use Rattle.machine.specs.Create.{made}
-use Rattle.machine.specs.Good.{Good, IsAlive, is_dead, dead_bit, owed_sweeps, sweeps_of}
-use Rattle.machine.proofs.Totals.{inside}
-use Rattle.machine.proofs.Counts.{sweeps-owing, sweeps-with_owed, count-owing}
+use Rattle.machine.specs.Good.{IsAlive, is_dead, dead_bit, owed_sweeps, sweeps_of}
+use Rattle.machine.proofs.Counts.{sweeps-owing, count-owing}
 
 pub record Live (S : State) : Type 0 where
   pub alive : (o : ObjNo) → 0 < count_of S o → IsAlive (object_of S o)

@@ -12,7 +12,7 @@ use Rattle.machine.specs.ActedBy.{acted}
 use Rattle.machine.specs.Built.{IsBuilt}
 use Rattle.machine.specs.Choice.{chosen}
 use Rattle.machine.specs.Good.{Good}
-use Rattle.machine.specs.History.{acted_by, after, entry_of, IsNext}
+use Rattle.machine.specs.History.{acted_by, entry_of, IsNext}
 use Rattle.machine.specs.PlainView.{IsPlain}
 use Rattle.machine.specs.Run.{slot_actor}
 use Rattle.machine.proofs.Boots.{good-after-valid}

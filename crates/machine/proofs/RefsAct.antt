@@ -1,8 +1,7 @@
 -- References move as the effects of a thread's action say.
-use Rattle.std.proofs.Common.{◌≡◌, ℕ, ◌+◌, ◌<◌, ◌≤◌, List, [], ◌∷◌, ◌++◌, length, get_or, arith, Option, Some, None, refl, sym, subst, ap, Bool, true, false}
-use Rattle.std.specs.Prelude.{ℤ, negsuc, pos, slice_set, slice_index, if◌then◌else◌}
+use Rattle.std.proofs.Common.{◌≡◌, ℕ, ◌+◌, ◌<◌, List, [], ◌∷◌, length, arith, Option, Some, None, refl, ap}
+use Rattle.std.specs.Prelude.{negsuc, pos, slice_set, slice_index}
 use Rattle.sym_base.specs.declared.number.ObjNo.{ObjNo}
-use Rattle.entry_log.specs.declared.effect.Holder.TheVariants.{Temp}
 use Rattle.entry_log.specs.declared.step.Step.TheVariants.{Of}
 use Rattle.entry_log.specs.declared.step.Word.TheVariants.{Dup, Close as CloseWord}
 use Rattle.entry_log.specs.declared.step.Part.TheVariants.{Do, Look}
@@ -16,15 +15,14 @@ use Rattle.machine.specs.declared.state.Phase.{Phase}
 use Rattle.machine.specs.declared.state.Phase.TheVariants.{Start, Using}
 use Rattle.machine.specs.declared.state.ThreadRow.{ThreadRow}
 use Rattle.machine.specs.declared.state.State.{State}
-use Rattle.machine.specs.Rows.{object_of, thread_of, table_of, owed_of, with_object, with_place, with_thread, with_owed, owing, advanced, with_register}
-use Rattle.machine.specs.Table.{place_at, fresh_place, is_full, look, owner_of, index_of, holder_of}
-use Rattle.machine.specs.References.{total, same, count_of, place_names, option_names, phase_names, thread_names, owed_names, RefsMove, pluses, minuses}
-use Rattle.machine.specs.Acted.{Acted, answered, is_last, closed_effects, owed_after_close, after_close}
-use Rattle.machine.specs.Create.{create_mutex}
+use Rattle.machine.specs.Rows.{object_of, table_of, owed_of, with_owed}
+use Rattle.machine.specs.Table.{place_at, is_full, look, owner_of, index_of, holder_of}
+use Rattle.machine.specs.References.{total, same, count_of, place_names, option_names, phase_names, owed_names, RefsMove}
+use Rattle.machine.specs.Acted.{Acted, is_last}
 use Rattle.machine.specs.Dup.{dup_look, dup_do, dup_step, stays_with_thread}
-use Rattle.machine.specs.Close.{without_handle, close_do, close_step}
+use Rattle.machine.specs.Close.{without_handle, close_do}
 use Rattle.machine.specs.Pay.{pay}
-use Rattle.machine.specs.Act.{act, act_of, act_by, settled, instruction, instruction_step, is_ready, nothing}
+use Rattle.machine.specs.Act.{act_by, settled, instruction_step, is_ready}
 use Rattle.machine.proofs.Counts.{count-with_place, count-with_thread, count-with_owed}
 use Rattle.machine.proofs.Tables.{look_is, place_inside, table_inside}
 use Rattle.machine.proofs.Cases.{if_cases}

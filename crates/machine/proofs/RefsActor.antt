@@ -1,5 +1,5 @@
 -- References move as an actor's effects say.
-use Rattle.std.proofs.Common.{◌≡◌, ℕ, ◌+◌, List, [], Option, Some, None, refl, arith}
+use Rattle.std.proofs.Common.{◌≡◌, Option, Some, None, refl, arith}
 use Rattle.sym_base.specs.declared.number.ObjNo.{ObjNo}
 use Rattle.script_types.specs.declared.script.Script.{Script}
 use Rattle.entry_log.specs.declared.entry.Actor.{Actor}
@@ -9,7 +9,7 @@ use Rattle.machine.specs.declared.state.State.{State}
 use Rattle.machine.specs.Act.{act, act_of, instruction}
 use Rattle.machine.specs.Good.{Good}
 use Rattle.machine.specs.History.{acted_by}
-use Rattle.machine.specs.References.{RefsMove, count_of}
+use Rattle.machine.specs.References.{RefsMove}
 use Rattle.machine.specs.Rows.{thread_of, owed_of}
 use Rattle.machine.proofs.RefsAct.{act_by-refs, nothing-refs, count-settled}
 use Rattle.machine.proofs.KeepsSteps.{duties_inside}

@@ -1,12 +1,10 @@
 -- References move as the effects of each step say.
-use Rattle.std.proofs.Common.{◌≡◌, ℕ, ◌+◌, ◌<◌, ◌≤◌, List, [], ◌∷◌, ◌++◌, length, get_or, arith, Option, Some, None, refl, sym, subst, ap, Bool, true, false}
-use Rattle.std.specs.Prelude.{ℤ, negsuc, pos, slice_set, ◌==◌, ◌||◌, if◌then◌else◌}
+use Rattle.std.proofs.Common.{◌≡◌, ℕ, ◌+◌, ◌<◌, List, [], ◌∷◌, ◌++◌, length, arith, Some, refl, ap, Bool, true, false}
+use Rattle.std.specs.Prelude.{ℤ, negsuc, slice_set, ◌==◌, ◌||◌}
 use Rattle.sym_base.specs.declared.number.ObjNo.{ObjNo}
-use Rattle.entry_log.specs.declared.effect.Effect.{Effect}
 use Rattle.entry_log.specs.declared.step.Step.{Step}
 use Rattle.machine.specs.declared.state.Place.{Place}
-use Rattle.machine.specs.declared.state.Owed.{Owed}
-use Rattle.machine.specs.declared.state.Owed.TheVariants.{Close, Sweep}
+use Rattle.machine.specs.declared.state.Owed.TheVariants.{Sweep}
 use Rattle.entry_log.specs.declared.effect.Holder.{Holder}
 use Rattle.sym_base.specs.declared.kind.Kind.TheVariants.{Mutex}
 use Rattle.entry_log.specs.declared.step.Step.TheVariants.{Of}
@@ -16,13 +14,13 @@ use Rattle.machine.specs.declared.state.Phase.{Phase}
 use Rattle.machine.specs.declared.state.Phase.TheVariants.{Start, Using}
 use Rattle.machine.specs.declared.state.ThreadRow.{ThreadRow}
 use Rattle.machine.specs.declared.state.State.{State}
-use Rattle.machine.specs.Rows.{thread_of, table_of, owed_of, with_place, with_thread, with_owed, owing, advanced, with_register}
-use Rattle.machine.specs.Table.{place_at, fresh_place, free_index, new_instance, new_handle, is_full}
-use Rattle.machine.specs.References.{total, same, count_of, place_names, option_names, phase_names, thread_names, owed_names, RefsMove, pluses, minuses}
-use Rattle.machine.specs.Acted.{Acted, answered, answered_state, owed_use, died, is_last, closed_effects, owed_after_close, after_close}
+use Rattle.machine.specs.Rows.{thread_of, table_of, owed_of, with_place, owing, advanced, with_register}
+use Rattle.machine.specs.Table.{place_at, free_index, new_instance, new_handle, is_full}
+use Rattle.machine.specs.References.{total, same, count_of, place_names, option_names, phase_names, owed_names, RefsMove}
+use Rattle.machine.specs.Acted.{Acted, answered, answered_state, owed_use, died, closed_effects, owed_after_close, after_close}
 use Rattle.machine.specs.Create.{with_handle, made, create_mutex, name_taken}
 use Rattle.machine.proofs.Counts.{count-with_place, count-with_thread, count-owing}
-use Rattle.machine.proofs.Tables.{free_index_is_free, free_index_inside, object_at_is}
+use Rattle.machine.proofs.Tables.{free_index_is_free, free_index_inside}
 use Rattle.machine.proofs.Cases.{if_cases, or_false_right}
 use Rattle.std.proofs.lemmas.List.{length-set}
 

@@ -1,5 +1,5 @@
 -- In a well-formed state the numbers of a step fit their types.
-use Rattle.std.proofs.Common.{◌≡◌, ℕ, ◌<◌, ◌≤◌, ◌⊎◌, inl, inr, length, Option, Some, None, slice_index_or, [], arith, ap, refl}
+use Rattle.std.proofs.Common.{◌≡◌, ℕ, ◌≤◌, inl, inr, length, Option, Some, None, slice_index_or, [], arith, ap, refl}
 use Rattle.std.specs.Prelude.{slice_get}
 use Rattle.std.proofs.lemmas.Bool.{cases_lt}
 use Rattle.std.proofs.lemmas.List.{get_or_past}
@@ -10,7 +10,7 @@ use Rattle.script_types.specs.declared.instruction.Instr.{Instr}
 use Rattle.script_types.specs.Shape.{HasRegisters, IsShaped}
 use Rattle.machine.specs.declared.state.ThreadRow.{ThreadRow}
 use Rattle.machine.specs.declared.state.State.{State}
-use Rattle.machine.specs.Rows.{thread_of, table_of}
+use Rattle.machine.specs.Rows.{thread_of}
 use Rattle.machine.specs.Act.{instructions_of, declared_of, instruction}
 use Rattle.machine.specs.Good.{Good}
 use Rattle.machine.specs.Room.{HasRoom}

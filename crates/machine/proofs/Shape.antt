@@ -1,7 +1,7 @@
 -- The shape of a state: lengths, instances, and rows of threads. Each change of a row keeps it.
-use Rattle.std.proofs.Common.{◌≡◌, ◌≢◌, ◌⊎◌, inl, inr, ℕ, suc, zero, ◌+◌, ◌<◌, ◌≤◌, List, [], ◌∷◌, ◌++◌, length, get_or, arith, refl, sym, subst, ap, ◌∙◌, Option, Some, None}
+use Rattle.std.proofs.Common.{◌≡◌, inl, inr, ℕ, suc, zero, ◌<◌, ◌≤◌, List, [], ◌∷◌, length, get_or, arith, refl, sym, subst, ◌∙◌, Option, Some, None}
 use Rattle.std.specs.Prelude.{slice_set}
-use Rattle.std.proofs.lemmas.List.{length-set, length-append}
+use Rattle.std.proofs.lemmas.List.{length-set}
 use Rattle.sym_base.specs.declared.number.ObjNo.{ObjNo}
 use Rattle.script_types.specs.declared.script.Script.{Script}
 use Rattle.machine.specs.declared.state.ObjectRow.{ObjectRow}
@@ -9,7 +9,7 @@ use Rattle.machine.specs.declared.state.Owed.{Owed}
 use Rattle.machine.specs.declared.state.Place.{Place}
 use Rattle.machine.specs.declared.state.ThreadRow.{ThreadRow}
 use Rattle.machine.specs.declared.state.State.{State}
-use Rattle.machine.specs.Rows.{thread_of, table_of, with_object, with_place, with_thread, with_owed}
+use Rattle.machine.specs.Rows.{thread_of, table_of, with_place, with_thread, with_owed}
 use Rattle.machine.specs.Table.{place_at, fresh_place}
 use Rattle.machine.specs.Good.{Good, IsGoodThread}
 use Rattle.machine.proofs.Lists.{set_either, set_keeps}

@@ -1,7 +1,7 @@
 -- The least free place of a table, and the place that a handle names.
-use Rattle.std.proofs.Common.{◌≡◌, ◌≢◌, ℕ, suc, zero, ◌+◌, ◌<◌, ◌≤◌, List, [], ◌∷◌, length, get_or, arith, add-one, Bool, true, false, refl, sym, ap, ◌∙◌, Option, Some, None}
+use Rattle.std.proofs.Common.{◌≡◌, ◌≢◌, ℕ, suc, zero, ◌+◌, ◌<◌, ◌≤◌, List, [], ◌∷◌, length, get_or, arith, add-one, Bool, true, false, refl, Option, Some, None}
 use Rattle.std.specs.Prelude.{◌==◌, is_none, if◌then◌else◌}
-use Rattle.std.proofs.lemmas.Bool.{eq-eqb, eqb-true}
+use Rattle.std.proofs.lemmas.Bool.{eq-eqb}
 use Rattle.sym_base.specs.declared.number.ObjNo.{ObjNo}
 use Rattle.machine.specs.declared.state.Place.{Place}
 use Rattle.machine.specs.declared.state.ThreadRow.{ThreadRow}

@@ -1,6 +1,6 @@
 -- Sums over rows, and what changing or adding a row does to them.
-use Rattle.std.proofs.Common.{◌≡◌, ℕ, suc, zero, ◌+◌, ◌*◌, ◌<◌, ◌≤◌, List, [], ◌∷◌, ◌++◌, length, get_or, arith, map}
-use Rattle.std.proofs.Common.{Option, Some, None, Bool, ap, sym, refl}
+use Rattle.std.proofs.Common.{◌≡◌, ℕ, suc, zero, ◌+◌, ◌*◌, ◌<◌, ◌≤◌, List, [], ◌∷◌, ◌++◌, length, get_or, arith}
+use Rattle.std.proofs.Common.{Option, Some, None, ap, sym, refl}
 use Rattle.std.specs.Prelude.{slice_set, is_some}
 use Rattle.machine.specs.References.{total}
 

@@ -1,7 +1,6 @@
 -- What an action leaves: the state, its step, its effects, and its answer.
-use Rattle.std.specs.Prelude.{◌≡◌, ℕ, Bool, ◌==◌, if◌then◌else◌, ℤ, pos, negsuc, true, List, [], ◌∷◌, ◌++◌, Option, Some, None}
+use Rattle.std.specs.Prelude.{Bool, ◌==◌, if◌then◌else◌, ℤ, true, List, [], ◌∷◌, Option, Some, None}
 use Rattle.sym_base.specs.declared.number.ObjNo.{ObjNo}
-use Rattle.sym_base.specs.declared.kind.Kind.{Kind}
 use Rattle.entry_log.specs.declared.effect.Holder.{Holder}
 use Rattle.entry_log.specs.declared.effect.Holder.TheVariants.{Temp}
 use Rattle.entry_log.specs.declared.effect.Effect.{Effect}

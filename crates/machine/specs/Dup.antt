@@ -1,5 +1,5 @@
 -- `dup`: a look at a handle, and a second handle of its object.
-use Rattle.std.specs.Prelude.{ℕ, ◌==◌, Bool, true, false, if◌then◌else◌, ℤ, negsuc, List, [], ◌∷◌, Option, Some, None}
+use Rattle.std.specs.Prelude.{ℕ, Bool, true, false, if◌then◌else◌, negsuc, [], ◌∷◌, Option, Some, None}
 use Rattle.std.specs.Prelude.{slice_index}
 use Rattle.sym_base.specs.declared.number.ObjNo.{ObjNo}
 use Rattle.sym_base.specs.declared.kind.Kind.{Kind}

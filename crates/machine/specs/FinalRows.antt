@@ -1,6 +1,5 @@
 -- The objects that are left, in order of number, with their counts.
 use Rattle.std.specs.Prelude.{◌≡◌, ℕ, ◌+◌, List, [], ◌∷◌, Option, Some, None, drop}
-use Rattle.sym_base.specs.declared.number.ObjNo.{ObjNo}
 use Rattle.entry_log.specs.declared.entry.FinalRow.{FinalRow}
 use Rattle.machine.specs.declared.state.ObjectRow.{ObjectRow}
 use Rattle.machine.specs.declared.state.State.{State}

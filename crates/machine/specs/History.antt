@@ -1,6 +1,5 @@
 -- Histories: each entry is what its actor does in the state before it.
-use Rattle.std.specs.Prelude.{◌≡◌, ℕ, ◌+◌, IsTrue, List, [], ◌∷◌, length}
-use Rattle.sym_base.specs.declared.number.ObjNo.{ObjNo}
+use Rattle.std.specs.Prelude.{◌≡◌, ℕ, ◌+◌, IsTrue, List, [], ◌∷◌}
 use Rattle.script_types.specs.declared.script.Script.{Script}
 use Rattle.entry_log.specs.declared.entry.Actor.{Actor}
 use Rattle.entry_log.specs.declared.entry.Actor.TheVariants.{Thread, Irq, Idfc, Tick, Idle}

@@ -1,5 +1,5 @@
 -- Paying what is owed: one item an action, the oldest first.
-use Rattle.std.specs.Prelude.{ℤ, List, [], ◌∷◌, Option, Some, None}
+use Rattle.std.specs.Prelude.{List, [], ◌∷◌, None}
 use Rattle.sym_base.specs.declared.number.ObjNo.{ObjNo}
 use Rattle.entry_log.specs.declared.effect.Effect.TheVariants.{Swept}
 use Rattle.entry_log.specs.declared.step.Step.TheVariants.{Drop, Sweep as SweepStep}

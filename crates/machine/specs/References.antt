@@ -1,10 +1,8 @@
 -- References are read off the rows, and the count of an object is the number of references to it.
 use Rattle.std.specs.Prelude.{◌≡◌, ℕ, ◌+◌, ◌==◌, if◌then◌else◌, is_some, List, [], ◌∷◌, Option, Some, None}
 use Rattle.sym_base.specs.declared.number.ObjNo.{ObjNo}
-use Rattle.entry_log.specs.declared.effect.Holder.{Holder}
 use Rattle.entry_log.specs.declared.effect.Effect.{Effect}
-use Rattle.entry_log.specs.declared.effect.Effect.TheVariants.{Plus, Minus, Dead, Swept}
-use Rattle.machine.specs.declared.state.ObjectRow.{ObjectRow}
+use Rattle.entry_log.specs.declared.effect.Effect.TheVariants.{Plus, Minus}
 use Rattle.machine.specs.declared.state.Place.{Place}
 use Rattle.machine.specs.declared.state.ThreadRow.{ThreadRow}
 use Rattle.machine.specs.declared.state.Phase.{Phase}
@@ -12,7 +10,7 @@ use Rattle.machine.specs.declared.state.Phase.TheVariants.{Start, Using}
 use Rattle.machine.specs.declared.state.Owed.{Owed}
 use Rattle.machine.specs.declared.state.Owed.TheVariants.{Close, Sweep}
 use Rattle.machine.specs.declared.state.State.{State}
-use Rattle.machine.specs.Rows.{thread_of, object_of}
+use Rattle.machine.specs.Rows.{thread_of}
 
 -- the sum of a number for each row
 abbrev pub total : {A : Type 0} → (A → ℕ) → List A → ℕ

@@ -1,11 +1,10 @@
 -- Reading and changing the rows of a state.
-use Rattle.std.specs.Prelude.{ℕ, ◌+◌, Bool, false, List, [], ◌∷◌, ◌++◌, length, Option, Some, None, slice_set}
+use Rattle.std.specs.Prelude.{ℕ, ◌+◌, List, [], ◌++◌, Option, Some, None, slice_set}
 use Rattle.std.specs.List.{slice_index_or}
 use Rattle.sym_base.specs.declared.number.ObjNo.{ObjNo}
 use Rattle.machine.specs.declared.state.ObjectRow.{ObjectRow}
 use Rattle.machine.specs.declared.state.Place.{Place}
 use Rattle.machine.specs.declared.state.ThreadRow.{ThreadRow}
-use Rattle.machine.specs.declared.state.Phase.{Phase}
 use Rattle.machine.specs.declared.state.Phase.TheVariants.{Start}
 use Rattle.machine.specs.declared.state.Owed.{Owed}
 use Rattle.machine.specs.declared.state.State.{State}

@@ -1,5 +1,5 @@
 -- Handle tables. A handle's number is index + 65536 × instance, and 1073741824 more for a thread's table.
-use Rattle.std.specs.Prelude.{ℕ, ◌+◌, ◌*◌, ◌/◌, ◌%◌, Bool, true, false, nat_lt, ◌==◌, ◌&&◌, is_none, if◌then◌else◌, List, [], ◌∷◌, length, Option, Some, None}
+use Rattle.std.specs.Prelude.{ℕ, ◌+◌, ◌*◌, ◌/◌, ◌%◌, Bool, nat_lt, ◌==◌, is_none, if◌then◌else◌, List, [], ◌∷◌, length, Option, None}
 use Rattle.std.specs.List.{slice_index_or}
 use Rattle.sym_base.specs.declared.number.ObjNo.{ObjNo}
 use Rattle.entry_log.specs.declared.effect.Holder.{Holder}

@@ -1,6 +1,6 @@
 -- The script of the test: a thread makes a mutex and a second handle of it, closes both, and closes the
 -- second once more.
-use Rattle.std.specs.Prelude.{codes, false, List, [], ◌∷◌, Some, replicate}
+use Rattle.std.specs.Prelude.{codes, false, [], ◌∷◌, Some, replicate}
 use Rattle.script_types.specs.declared.declaration.ThreadDecl.{ThreadDecl}
 use Rattle.script_types.specs.declared.instruction.Instr.TheVariants.{CreateMutex, Dup, Close}
 use Rattle.script_types.specs.declared.script.Script.{Script}

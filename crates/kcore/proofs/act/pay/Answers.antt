@@ -1,4 +1,3 @@
-use Rattle.std.proofs.Common.{◌∙◌, sym, subst, ap, ◌≡◌, ◌∷◌, drop, slice_index_or, List, []}
 use Rattle.kcore.specs.StateOf.{state_of}
 use Rattle.kcore.proofs.Rooms.{made, kept_some, owed_counted_by, swept_made_by}
 use Rattle.kcore.proofs.act.pay.Goals as goal

@@ -1,4 +1,4 @@
-use Rattle.std.proofs.Common.{◌≡◌, ℕ, ◌∙◌, ◌+◌, ◌<◌, ◌∷◌, ◌++◌, [], sym, ap, subst, length, arith, List}
+use Rattle.std.proofs.Common.{◌≡◌, ℕ, ◌∙◌, ◌+◌, ◌<◌, ◌∷◌, ◌++◌, [], sym, ap, subst, length, List}
 use Rattle.std.proofs.lemmas.List.{length_push}
 use Rattle.std.specs.Prelude.{slice_index}
 use Rattle.machine.specs.References.{count_of}

@@ -1,5 +1,4 @@
 use Rattle.std.proofs.Common.{◌∙◌, sym, ap, ℕ, None, ◌∷◌, ◌+◌}
-use Rattle.entry_log.specs.declared.entry.FinalRow.{FinalRow}
 use Rattle.machine.proofs.LeftRows.{rows_from_left}
 use Rattle.machine.specs.FinalRows.{rows_from}
 use Rattle.kcore.specs.StateOf.{state_of}
