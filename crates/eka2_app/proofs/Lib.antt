@@ -1,0 +1,5 @@
+mod Judged
+mod Rows
+mod Runs
+mod Texts
+mod Taken

@@ -1,0 +1,31 @@
+-- The history that a schedule makes.
+use Rattle.std.proofs.Common.{◌≡◌, ℕ, ◌+◌, ◌<◌, ◌≤◌, List, [], ◌∷◌, ◌++◌, length, drop, replicate, get_or, arith, refl, sym, ap, ◌∙◌, subst, append_assoc}
+use Rattle.std.proofs.lemmas.List.{drop_more, length-append}
+use Rattle.entry_log.specs.declared.entry.Entry.{Entry}
+use Rattle.machine.proofs.Histories.{after-push}
+use Rattle.machine.specs.History.{after, entry_by}
+use Rattle.machine.specs.Run.{run_from, slot_actor}
+use Rattle.script_types.specs.declared.script.Script.{Script}
+use Rattle.script_types.specs.declared.script.Slot.{Slot}
+use Rattle.script_types.specs.declared.script.Slot.TheVariants.{Go}
+
+-- the entry of the next slot
+abbrev pub next_entry : Script → List Entry → Slot → Entry
+next_entry script history slot = entry_by script (after script history) (length history + 1) (slot_actor (after script history) slot)
+
+-- a history and the run of the slots that are left, one slot later
+pub run_next : (script : Script) (history : List Entry) (slot : Slot) (rest : List Slot) (whole : List Entry) → history ++ run_from script (after script history) (length history + 1) (slot ∷ rest) ≡ whole → (history ++ next_entry script history slot ∷ []) ++ run_from script (after script (history ++ next_entry script history slot ∷ [])) (length (history ++ next_entry script history slot ∷ []) + 1) rest ≡ whole
+run_next script history slot rest whole h =
+    let e = next_entry script history slot in
+    rw (append_assoc, after-push script history e, length-append {A = Entry}) h
+
+-- one slot of the schedule was taken
+pub run_step : (script : Script) (history new : List Entry) (i : ℕ) (whole : List Entry) → i < length script.slots → new ≡ history ++ next_entry script history (get_or script.slots i Go) ∷ [] → history ++ run_from script (after script history) (length history + 1) (drop i script.slots) ≡ whole → new ++ run_from script (after script new) (length new + 1) (drop (i + 1) script.slots) ≡ whole
+run_step script history new i whole h made rest =
+    let left = drop_more script.slots i Go h in
+    let rest = rw left at rest in
+    rw made (run_next script history (get_or script.slots i Go) (drop (i + 1) script.slots) whole rest)
+
+-- the history has one entry more
+pub run_longer : (history new : List Entry) (e : Entry) → new ≡ history ++ e ∷ [] → length new ≡ length history + 1
+run_longer history new e made = ap length made ∙ length-append history (e ∷ [])

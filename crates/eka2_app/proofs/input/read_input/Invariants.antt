@@ -1,0 +1,15 @@
+use Rattle.std.proofs.Common.{◌≡◌, ◌≤◌, ◌-◌, vec_len}
+use Rattle.std.specs.Prelude.{is_some}
+use Rattle.edge_io.specs.Left.{preceded}
+use Rattle.eka2_app.proofs.input.read_input.Given as goal
+
+abbrev pub invariant-loop-buffer : goal.invariant-loop-buffer
+invariant-loop-buffer g l = record {
+  within : vec_len l.input ≤ 4097;
+  bytes : preceded l.input.items (g.S.Source.left l.source) ≡ g.S.Source.left l.fn.source;
+  tells : is_some (g.S.Source.left l.source) ≡ is_some (g.S.Source.left l.fn.source);
+  never_falls : g.S.Source.faults l.fn.source ≤ g.S.Source.faults l.source;
+}
+
+abbrev pub decreases-loop-buffer : goal.decreases-loop-buffer
+decreases-loop-buffer g l = 4097 - vec_len l.input

@@ -1,0 +1,31 @@
+//! The command `eka2`: reads a script, runs it on the kernel model, and prints its history and the
+//! objects that are left.
+#![tactic(auto)]
+
+mod input;
+mod output;
+mod run;
+mod status;
+#[cfg(test)]
+mod tests;
+mod top;
+mod words;
+
+use crate::status::Status;
+use edge_io::{StdSink, StdSource};
+use std::process::ExitCode;
+
+/// Runs the command's words over standard input and output. A status other than Done is told by one
+/// line on standard error, and is the number that the process ends with.
+fn main(rt: HostRuntime) -> ExitCode {
+    let mut source = StdSource::new(rt.stdin());
+    let mut sink = StdSink::new(rt.stdout());
+    let status = match words::given_words(&rt, rt.alloc()) {
+        Some(words) => top::eka2_main(rt.alloc(), words.as_slice(), &mut source, &mut sink),
+        None => Status::Usage,
+    };
+    if let Some(message) = status.message() {
+        let _ = eprintln!(rt; "eka2: {message}");
+    }
+    ExitCode::from(status.number())
+}

@@ -1,0 +1,118 @@
+//! Writing a history, or the line of a refusal. Each line goes out, with its line feed, as one piece.
+ghost use Rattle.std.specs.Prelude.{◌≡◌, ◌≤◌, true, decimal, is_some, OnOk, OnErr};
+ghost use Rattle.std.specs.List.{flat_map};
+ghost use Rattle.edge_io.specs.Faults.{Rose};
+ghost use Rattle.edge_io.specs.Written.{Wrote, WrotePrefix};
+ghost use Rattle.entry_log.specs.EntryLine.{entry_line};
+ghost use Rattle.entry_log.specs.FinalLine.{final_line};
+ghost use Rattle.entry_log.specs.HistoryText.{history_text};
+ghost use Rattle.machine.specs.FinalRows.{final_rows};
+ghost use Rattle.machine.specs.History.{after, IsLegal};
+ghost use Rattle.script_read.specs.Refusal.{refusal_text};
+ghost use Rattle.script_types.specs.Valid.{IsValid};
+
+use arrayvec::ArrayVec;
+use edge_io::{Failed, Sink, write_whole};
+use entry_log::{Entry, FinalRow, entry_text, final_text};
+use itoa::Buffer;
+use kcore::Kernel;
+use script_read::Reason;
+
+/// The bytes of a line, its line feed among them.
+type Line = ArrayVec<u8, 512>;
+
+/// The line of an entry.
+fn line_of_entry(entry: &Entry) -> Line
+    ensures { result.items ≡ entry_line entry.now }
+{
+    let mut line = Line::new();
+    let _ = entry_text(entry, &mut line);
+    line
+}
+
+/// The line of an object that is left.
+fn line_of_row(row: &FinalRow) -> Line
+    ensures { result.items ≡ final_line row.now }
+{
+    let mut line = Line::new();
+    let _ = final_text(row, &mut line);
+    line
+}
+
+/// The line of a refusal.
+fn line_of_refusal(line: u32, reason: Reason) -> Line
+    ensures { result.items ≡ refusal_text line reason }
+{
+    let mut text = Line::new();
+    let mut digits = Buffer::new();
+    let _ = text.try_extend_from_slice(b"refused line ");
+    let _ = text.try_extend_from_slice(digits.format(line).as_bytes());
+    let _ = text.try_extend_from_slice(b" ");
+    let _ = text.try_extend_from_slice(reason.word().as_bytes());
+    let _ = text.try_extend_from_slice(b"\n");
+    text
+}
+
+/// Writes the line of each entry.
+fn write_entries<K: Sink>(sink: &mut K, entries: &[Entry]) -> Result<(), Failed>
+    ensures whole { OnOk result (Wrote (K.written sink.old) (K.written sink.new) (flat_map entry_line entries.now)) }
+    ensures front { OnErr result (WrotePrefix (K.written sink.old) (K.written sink.new) (flat_map entry_line entries.now)) }
+    ensures tells { is_some (K.written sink.new) ≡ is_some (K.written sink.old) }
+    ensures fault { OnErr result (Rose (K.faults sink.old) (K.faults sink.new)) }
+    ensures never_falls { K.faults sink.old ≤ K.faults sink.new }
+{
+    for entry in entries {
+        write_whole(sink, line_of_entry(entry).as_slice())?;
+    }
+    Ok(())
+}
+
+/// Writes the line of each object that is left.
+fn write_rows<K: Sink>(sink: &mut K, kernel: &Kernel) -> Result<(), Failed>
+    requires usable { kernel.now.usable ≡ true }
+    requires valid { IsValid kernel.now.script }
+    ensures whole { OnOk result (Wrote (K.written sink.old) (K.written sink.new)
+        (flat_map final_line (final_rows (after kernel.now.script kernel.now.history)))) }
+    ensures front { OnErr result (WrotePrefix (K.written sink.old) (K.written sink.new)
+        (flat_map final_line (final_rows (after kernel.now.script kernel.now.history)))) }
+    ensures tells { is_some (K.written sink.new) ≡ is_some (K.written sink.old) }
+    ensures fault { OnErr result (Rose (K.faults sink.old) (K.faults sink.new)) }
+    ensures never_falls { K.faults sink.old ≤ K.faults sink.new }
+{
+    let mut from = 0;
+    while let Some(row) = kernel.next_row(from) {
+        write_whole(sink, line_of_row(&row).as_slice())?;
+        from = row.object.0 + 1;
+    }
+    Ok(())
+}
+
+/// Writes the whole history of a kernel: its entries, and the objects that are left.
+pub fn write_history<K: Sink>(sink: &mut K, kernel: &Kernel) -> Result<(), Failed>
+    requires usable { kernel.now.usable ≡ true }
+    requires valid { IsValid kernel.now.script }
+    ensures whole { OnOk result (Wrote (K.written sink.old) (K.written sink.new)
+        (history_text kernel.now.history (final_rows (after kernel.now.script kernel.now.history)))) }
+    ensures front { OnErr result (WrotePrefix (K.written sink.old) (K.written sink.new)
+        (history_text kernel.now.history (final_rows (after kernel.now.script kernel.now.history)))) }
+    ensures legal { IsLegal kernel.now.script kernel.now.history }
+    ensures tells { is_some (K.written sink.new) ≡ is_some (K.written sink.old) }
+    ensures fault { OnErr result (Rose (K.faults sink.old) (K.faults sink.new)) }
+    ensures never_falls { K.faults sink.old ≤ K.faults sink.new }
+{
+    write_entries(sink, kernel.history())?;
+    write_whole(sink, b"objects\n")?;
+    write_rows(sink, kernel)?;
+    write_whole(sink, b"end\n")
+}
+
+/// Writes the one line of a refused script.
+pub fn write_refusal<K: Sink>(sink: &mut K, line: u32, reason: Reason) -> Result<(), Failed>
+    ensures whole { OnOk result (Wrote (K.written sink.old) (K.written sink.new) (refusal_text line reason)) }
+    ensures front { OnErr result (WrotePrefix (K.written sink.old) (K.written sink.new) (refusal_text line reason)) }
+    ensures tells { is_some (K.written sink.new) ≡ is_some (K.written sink.old) }
+    ensures fault { OnErr result (Rose (K.faults sink.old) (K.faults sink.new)) }
+    ensures never_falls { K.faults sink.old ≤ K.faults sink.new }
+{
+    write_whole(sink, line_of_refusal(line, reason).as_slice())
+}

@@ -1,0 +1,102 @@
+//! The command `run`.
+ghost use Rattle.std.specs.Prelude.{◌≡◌, ◌≢◌, ◌≤◌, ◌⊎◌, ℕ, is_some, IsSomeAnd, IfOk, IfErr, OnOk, OnErr, Ok, Err};
+ghost use Rattle.edge_io.specs.Faults.{Rose};
+ghost use Rattle.edge_io.specs.Written.{Wrote, WrotePrefix};
+ghost use Rattle.eka2_app.specs.Complete.{Stayed, IsDoneOrNoMemory, IsRefusedOrNoMemory};
+ghost use Rattle.eka2_app.specs.Inputs.{IsAtEnd, IsUnaccepted, TookAtMost};
+ghost use Rattle.eka2_app.specs.Outputs.{WroteRun, WroteRefusal, WroteFront};
+ghost use Rattle.eka2_app.specs.RunText.{HasRun, run_text};
+ghost use Rattle.machine.specs.History.{IsLegal};
+ghost use Rattle.machine.specs.Run.{run};
+ghost use Rattle.script_read.specs.Refusal.{refusal_text};
+ghost use Rattle.script_types.specs.Accepted.{Accepted};
+ghost use Rattle.script_types.specs.Valid.{IsValid};
+ghost use Rattle.script_types.specs.declared.script.Script.{Script};
+
+use crate::input::read_input;
+use crate::output::{write_history, write_refusal};
+use edge_io::{Sink, Source};
+use kcore::Kernel;
+use script_read::{ReadScript, Reason, RunFault, read_script};
+use script_types::Script;
+use std::alloc::Global;
+use sym_base::NoMemory;
+
+/// Makes the whole history of a script: each slot of its schedule makes one entry.
+fn make_history(alloc: Global, script: Script) -> Result<Kernel, NoMemory>
+    requires { IsValid script }
+    ensures { IfOk result (λ kernel. HasRun script kernel) }
+{
+    let slots = script.slots.copied(alloc)?;
+    let room = slots.len() as u32;
+    let mut kernel = Kernel::boot(alloc, script, room)?;
+    for slot in slots.as_slice() {
+        kernel.slot(*slot)?;
+    }
+    Ok(kernel)
+}
+
+/// Runs a script and writes its history. Nothing is written before the whole history is made.
+fn run_script<K: Sink>(alloc: Global, script: Script, sink: &mut K) -> Result<(), RunFault>
+    requires { IsValid script }
+    ensures whole { OnOk result (Wrote (K.written sink.old) (K.written sink.new) (run_text script)) }
+    ensures legal { OnOk result (IsLegal script (run script)) }
+    ensures front { result ≡ Err RunFault.WriteFault → WrotePrefix (K.written sink.old) (K.written sink.new) (run_text script) }
+    ensures fault { result ≡ Err RunFault.WriteFault → Rose (K.faults sink.old) (K.faults sink.new) }
+    ensures silent { result ≡ Err RunFault.NoMemory → K.written sink.new ≡ K.written sink.old }
+    ensures faults { IfErr result (λ fault. (fault ≡ RunFault.WriteFault) ⊎ (fault ≡ RunFault.NoMemory)) }
+    ensures tells { is_some (K.written sink.new) ≡ is_some (K.written sink.old) }
+    ensures never_falls { K.faults sink.old ≤ K.faults sink.new }
+{
+    let Ok(kernel) = make_history(alloc, script) else {
+        return Err(RunFault::NoMemory);
+    };
+    if write_history(sink, &kernel).is_err() {
+        return Err(RunFault::WriteFault);
+    }
+    Ok(())
+}
+
+/// Reads a script, runs it and writes its history. The whole input is read before it is judged, and
+/// the whole history is made before its first byte is written. Of a script that isn't accepted one
+/// line is written, which says so; so it goes with more bytes than a script may have, of which one
+/// too many is read. After `WriteFault` a front of the text stands, and after the other faults
+/// nothing was written.
+pub fn run_schedule<S: Source, K: Sink>(
+    alloc: Global,
+    source: &mut S,
+    sink: &mut K,
+) -> Result<(), RunFault>
+    ensures done { OnOk result (WroteRun (S.left source.old) (K.written sink.old) (K.written sink.new)) }
+    ensures at_end { OnOk result (IsAtEnd (S.left source.new)) }
+    ensures refused { (line : ℕ) → (why : Reason) → result ≡ Err (RunFault.Refused line why)
+        → WroteRefusal (S.left source.old) (K.written sink.old) (K.written sink.new) }
+    ensures place { (line : ℕ) → (why : Reason) → result ≡ Err (RunFault.Refused line why)
+        → (line ≡ 0) × (why ≡ Reason.Unbuilt) }
+    ensures read_fault { result ≡ Err RunFault.ReadFault → Rose (S.faults source.old) (S.faults source.new) }
+    ensures write_fault { result ≡ Err RunFault.WriteFault → Rose (K.faults sink.old) (K.faults sink.new) }
+    ensures front { result ≡ Err RunFault.WriteFault
+        → WroteFront (S.left source.old) (K.written sink.old) (K.written sink.new) }
+    ensures read_silent { result ≡ Err RunFault.ReadFault → K.written sink.new ≡ K.written sink.old }
+    ensures memory_silent { result ≡ Err RunFault.NoMemory → K.written sink.new ≡ K.written sink.old }
+    ensures never_large { result ≢ Err RunFault.TooLarge }
+    ensures few { TookAtMost 4097 (S.left source.old) (S.left source.new) }
+
+    // Completeness: where no count of faults rose, the input alone decides, but for want of memory.
+    ensures accepted { (script : Script) → IsSomeAnd (S.left source.old) (λ bytes. Accepted bytes script)
+        → Stayed (S.faults source.old) (S.faults source.new) → Stayed (K.faults sink.old) (K.faults sink.new)
+        → IsDoneOrNoMemory result }
+    ensures unaccepted { IsSomeAnd (S.left source.old) IsUnaccepted
+        → Stayed (S.faults source.old) (S.faults source.new) → Stayed (K.faults sink.old) (K.faults sink.new)
+        → IsRefusedOrNoMemory result }
+{
+    let input = read_input(alloc, source)?;
+    match read_script(alloc, input.as_slice()) {
+        ReadScript::Script(script) => run_script(alloc, script, sink),
+        ReadScript::Refused { line, reason } => match write_refusal(sink, line, reason) {
+            Ok(()) => Err(RunFault::Refused { line, reason }),
+            Err(_) => Err(RunFault::WriteFault),
+        },
+        ReadScript::NoMemory => Err(RunFault::NoMemory),
+    }
+}

@@ -1,0 +1,55 @@
+//! How the command ends.
+ghost use Rattle.std.specs.Prelude.{◌≡◌};
+ghost use Rattle.std.specs.Option.{option_copied};
+ghost use Rattle.eka2_app.specs.StatusNumber.{status_number, status_message};
+
+/// How the command ended.
+#[derive(Clone, Copy, Debug, PartialEq, Eq)]
+pub enum Status {
+    /// The whole history was written.
+    Done,
+    /// The words are no command.
+    Usage,
+    /// The script is refused, and one line that says so was written.
+    Refused,
+    /// The source failed.
+    ReadFault,
+    /// The sink failed.
+    WriteFault,
+    /// The host had no memory left.
+    NoMemory,
+    /// The input has more bytes than a script may have. It doesn't come yet: such an input is refused.
+    TooLarge,
+}
+
+impl Status {
+    /// The number that the process ends with.
+    pub fn number(self) -> u8
+        ensures { result ≡ status_number self }
+    {
+        match self {
+            Status::Done => 0,
+            Status::Usage => 2,
+            Status::Refused => 3,
+            Status::ReadFault => 4,
+            Status::WriteFault => 5,
+            Status::NoMemory => 6,
+            Status::TooLarge => 7,
+        }
+    }
+
+    /// What standard error is told, behind `eka2: `. None where all went well.
+    pub fn message(self) -> Option<&'static str>
+        ensures { option_copied result ≡ status_message self }
+    {
+        match self {
+            Status::Done => None,
+            Status::Usage => Some("usage"),
+            Status::Refused => Some("refused"),
+            Status::ReadFault => Some("read fault"),
+            Status::WriteFault => Some("write fault"),
+            Status::NoMemory => Some("no memory"),
+            Status::TooLarge => Some("too large"),
+        }
+    }
+}

@@ -1,0 +1,72 @@
+//! The command as a whole.
+ghost use Rattle.std.specs.Prelude.{◌≡◌, ◌≢◌, ◌⊎◌, ◌↔◌, IsSomeAnd, None, map};
+ghost use Rattle.std.specs.String.{string_bytes};
+ghost use Rattle.edge_io.specs.Faults.{Rose};
+ghost use Rattle.eka2_app.specs.Complete.{Stayed};
+ghost use Rattle.eka2_app.specs.Inputs.{IsAtEnd, IsUnaccepted, TookAtMost};
+ghost use Rattle.eka2_app.specs.Outputs.{WroteRun, WroteRefusal, WroteFront};
+ghost use Rattle.eka2_app.specs.Readings.{reading_of};
+ghost use Rattle.script_types.specs.Accepted.{Accepted};
+ghost use Rattle.script_types.specs.declared.script.Script.{Script};
+
+use crate::run::run_schedule;
+use crate::status::Status;
+use crate::words::{Command, command_of};
+use edge_io::{Sink, Source};
+use script_read::RunFault;
+use std::alloc::Global;
+
+/// Does what the words behind the program's name ask for. `run` reads a script from the source and
+/// writes its history to the sink; all other words are Usage. What is said of the input holds where
+/// the source tells its bytes, and what is said of the text where the sink does.
+pub fn eka2_main<S: Source, K: Sink>(
+    alloc: Global,
+    words: &[String],
+    source: &mut S,
+    sink: &mut K,
+) -> Status
+    // Usage exactly where the words are no command, and then nothing is touched.
+    ensures usage { (result ≡ Status.Usage) ↔ (reading_of (map string_bytes words.now) ≡ None) }
+    ensures source_untouched { result ≡ Status.Usage → source.new ≡ source.old }
+    ensures sink_untouched { result ≡ Status.Usage → sink.new ≡ sink.old }
+
+    // Done: the whole input is accepted as a script, and the text of its run was written.
+    ensures done { result ≡ Status.Done → WroteRun (S.left source.old) (K.written sink.old) (K.written sink.new) }
+    ensures at_end { result ≡ Status.Done → IsAtEnd (S.left source.new) }
+
+    // Refused: the input is no script, and the line that says so was written.
+    ensures refused { result ≡ Status.Refused
+        → WroteRefusal (S.left source.old) (K.written sink.old) (K.written sink.new) }
+
+    // A fault comes only where its count rose.
+    ensures read_fault { result ≡ Status.ReadFault → Rose (S.faults source.old) (S.faults source.new) }
+    ensures write_fault { result ≡ Status.WriteFault → Rose (K.faults sink.old) (K.faults sink.new) }
+    ensures front { result ≡ Status.WriteFault
+        → WroteFront (S.left source.old) (K.written sink.old) (K.written sink.new) }
+    ensures read_silent { result ≡ Status.ReadFault → K.written sink.new ≡ K.written sink.old }
+    ensures memory_silent { result ≡ Status.NoMemory → K.written sink.new ≡ K.written sink.old }
+    ensures never_large { result ≢ Status.TooLarge }
+    ensures few { TookAtMost 4097 (S.left source.old) (S.left source.new) }
+
+    // Completeness: where no count of faults rose, words and input alone decide, but for want of memory.
+    ensures accepted { (script : Script) → reading_of (map string_bytes words.now) ≢ None
+        → IsSomeAnd (S.left source.old) (λ bytes. Accepted bytes script)
+        → Stayed (S.faults source.old) (S.faults source.new) → Stayed (K.faults sink.old) (K.faults sink.new)
+        → (result ≡ Status.Done) ⊎ (result ≡ Status.NoMemory) }
+    ensures unaccepted { reading_of (map string_bytes words.now) ≢ None
+        → IsSomeAnd (S.left source.old) IsUnaccepted
+        → Stayed (S.faults source.old) (S.faults source.new) → Stayed (K.faults sink.old) (K.faults sink.new)
+        → (result ≡ Status.Refused) ⊎ (result ≡ Status.NoMemory) }
+{
+    let Some(Command::Run) = command_of(words) else {
+        return Status::Usage;
+    };
+    match run_schedule(alloc, source, sink) {
+        Ok(()) => Status::Done,
+        Err(RunFault::Refused { .. }) => Status::Refused,
+        Err(RunFault::ReadFault) => Status::ReadFault,
+        Err(RunFault::WriteFault) => Status::WriteFault,
+        Err(RunFault::NoMemory) => Status::NoMemory,
+        Err(RunFault::TooLarge) => Status::TooLarge,
+    }
+}
