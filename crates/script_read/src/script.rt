@@ -1,6 +1,6 @@
 //! The lines of a script of one thread.
 ghost use Rattle.std.specs.Prelude.{◌≡◌, ◌<◌, ◌==◌, length, replicate, option_map, IfOk, IfSome};
-ghost use Rattle.script_read.specs.Scripts.{first_of, process_of, thread_of, instr_of, next_instr_of, go_of, is_header, is_schedule, is_end, head_of, instrs_of, foot_of, is_named, single_script, script_of};
+ghost use Rattle.script_read.specs.Scripts.{first_of, process_of, thread_of, instr_of, next_instr_of, go_of, is_header, is_schedule, is_end, head_of, instrs_of, foot_of, is_named, opens, opens_nothing, single_script, script_of};
 ghost use Rattle.script_types.specs.declared.script.Slot.TheVariants as slot;
 
 use crate::field::is_word;
@@ -170,6 +170,20 @@ fn is_named(head: &Head) -> bool
     !is_word(head.process.as_slice(), "kernel") && !is_word(head.thread.as_slice(), "supervisor")
 }
 
+/// Whether an instruction opens an object by its name.
+fn opens(what: &Instr) -> bool
+    ensures { result ≡ opens what.now }
+{
+    matches!(what, Instr::Open(..))
+}
+
+/// Whether no instruction opens an object by its name.
+fn opens_nothing(instrs: &[Instr]) -> bool
+    ensures { result ≡ opens_nothing instrs.now }
+{
+    instrs.iter().all(|what| !opens(what))
+}
+
 /// Slots in each of which the chosen actor acts once.
 fn go_slots(alloc: Global, count: u32) -> Result<Vec<Slot>, NoMemory>
     ensures { IfOk result (λ slots. slots.items ≡ replicate count slot.Go) }
@@ -215,7 +229,7 @@ pub fn script_of_lines(alloc: Global, lines: &[Line]) -> Result<Option<Script>, 
     let Some(slots) = read_foot(foot) else {
         return Ok(None);
     };
-    if !is_named(&head) {
+    if !is_named(&head) || !opens_nothing(&instrs) {
         return Ok(None);
     }
     Ok(Some(make_script(alloc, head, Items::new(instrs), slots)?))

@@ -18,6 +18,8 @@ pub enum Line {
     Schedule,
     /// `go N`: 1 to 65,536 slots in each of which the chosen actor acts once.
     Go(u32),
+    /// `tick`: one slot in which a time slice ends.
+    Tick,
     /// `end`: the last line.
     End,
 }
