@@ -1,9 +1,11 @@
 pub mod Cuts
+pub mod Declaring
 pub mod Forms
 pub mod Lines
 pub mod Names
 pub mod Numbers
 pub mod Reading
 pub mod Scripts
+pub mod Slots
 pub mod Steps
 pub mod Texts

@@ -29,7 +29,7 @@ use Rattle.script_types.specs.declared.script.Slot.{Slot}
 use Rattle.script_types.specs.declared.script.Slot.TheVariants as slot
 
 -- what each reader of a line took
-first_takes : (lines : List Line) (found : Line × List Line) → first_of lines ≡ Some found → lines ≡ found.0 ∷ found.1
+pub first_takes : (lines : List Line) (found : Line × List Line) → first_of lines ≡ Some found → lines ≡ found.0 ∷ found.1
 first_takes [] found e = absurd (cc)
 first_takes (l ∷ ls) found e = let is = some_is (l, ls) found e in ap (λ (f : Line × List Line). f.0 ∷ f.1) is
 

@@ -1,12 +1,14 @@
 //! Reads a script's text: which script the bytes spell, or where and why they are refused.
 #![tactic(auto)]
 
+mod declarations;
 mod fault;
 mod field;
 mod form;
 mod line;
 mod read;
 mod reason;
+mod schedule;
 mod script;
 #[cfg(test)]
 mod tests;

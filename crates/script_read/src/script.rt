@@ -17,7 +17,7 @@ struct Head {
 }
 
 /// The first line, and those after it.
-fn split_first(lines: &[Line]) -> Option<(Line, &[Line])>
+pub fn split_first(lines: &[Line]) -> Option<(Line, &[Line])>
     ensures { option_map (λ parts. (parts.0, parts.1.now)) result ≡ first_of lines.now }
 {
     if lines.is_empty() {
@@ -67,21 +67,21 @@ fn go_count(line: Line) -> Option<u32>
 }
 
 /// Whether a line is the first of a script.
-fn is_header(line: &Line) -> bool
+pub fn is_header(line: &Line) -> bool
     ensures { result ≡ is_header line.now }
 {
     matches!(line, Line::Header)
 }
 
 /// Whether a line is `schedule`.
-fn is_schedule(line: &Line) -> bool
+pub fn is_schedule(line: &Line) -> bool
     ensures { result ≡ is_schedule line.now }
 {
     matches!(line, Line::Schedule)
 }
 
 /// Whether a line is the last of a script.
-fn is_end(line: &Line) -> bool
+pub fn is_end(line: &Line) -> bool
     ensures { result ≡ is_end line.now }
 {
     matches!(line, Line::End)
@@ -129,7 +129,7 @@ fn next_instruction(lines: &[Line]) -> Option<(Instr, &[Line])>
 }
 
 /// The instructions at the front, and the lines after them.
-fn read_instructions(alloc: Global, lines: &[Line]) -> Result<(Vec<Instr>, &[Line]), NoMemory>
+pub fn read_instructions(alloc: Global, lines: &[Line]) -> Result<(Vec<Instr>, &[Line]), NoMemory>
     ensures { IfOk result (λ found. (found.0.items, found.1.now) ≡ instrs_of lines.now) }
 {
     let mut instrs = Vec::new(alloc);
