@@ -6,7 +6,7 @@ use Rattle.std.specs.Str.{bytes_eq}
 use Rattle.script_read.specs.Fields.{◌>>=◌, cut_of, number_of, register_of, object_name_of}
 use Rattle.script_read.specs.Forms.{process_form, thread_form, named_register_of, create_form, open_form, dup_form, close_form, go_form}
 use Rattle.script_read.proofs.Cuts.{has_none, cut_takes, cut_again}
-use Rattle.script_read.proofs.Names.{name_takes, name_again, name_has_none}
+use Rattle.script_read.proofs.ObjectNames.{name_takes, name_again, name_has_none}
 use Rattle.script_read.proofs.Numbers.{number_takes, number_again, number_has_none}
 use Rattle.script_read.proofs.Steps.{bind_some, some_is, guard_some, either_way, same_bytes}
 use Rattle.script_types.specs.LineText.{line_text}

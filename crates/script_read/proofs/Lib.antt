@@ -2,7 +2,7 @@ pub mod Cuts
 pub mod Declaring
 pub mod Forms
 pub mod Lines
-pub mod Names
+pub mod ObjectNames
 pub mod Numbers
 pub mod Reading
 pub mod Scripts

@@ -7,7 +7,7 @@ use Rattle.script_read.specs.Fields.{cut_of}
 use Rattle.script_read.specs.Forms.{lone_form, worded_form, cut_line, line_of}
 use Rattle.script_read.proofs.Cuts.{has_none, cut_takes}
 use Rattle.script_read.proofs.Forms.{Spells, process_takes, process_again, thread_takes, thread_again, create_takes, create_again, open_takes, open_again, dup_takes, dup_again, close_takes, close_again, go_takes, go_again}
-use Rattle.script_read.proofs.Names.{name_has_none}
+use Rattle.script_read.proofs.ObjectNames.{name_has_none}
 use Rattle.script_read.proofs.Numbers.{number_has_none}
 use Rattle.script_read.proofs.Steps.{some_is, guard_some, either_way, same_bytes}
 use Rattle.script_types.specs.LineText.{line_text}

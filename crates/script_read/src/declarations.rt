@@ -11,6 +11,7 @@ use sym_base::{Items, NoMemory};
 const MAX_PROCESSES: usize = 16;
 
 /// What lines declare, and the lines after the declarations.
+#[derive(Drop)]
 pub struct Declarations<'a> {
     pub processes: Vec<ProcessDecl>,
     pub threads: Vec<ThreadDecl>,

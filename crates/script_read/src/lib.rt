@@ -6,6 +6,7 @@ mod fault;
 mod field;
 mod form;
 mod line;
+mod names;
 mod read;
 mod reason;
 mod schedule;
@@ -13,6 +14,7 @@ mod script;
 #[cfg(test)]
 mod tests;
 mod text;
+mod wider;
 
 pub use fault::RunFault;
 pub use read::{MAX_SCRIPT_BYTES, ReadScript, read_script};
