@@ -5,6 +5,7 @@ pub mod Lines
 pub mod ObjectNames
 pub mod Numbers
 pub mod Reading
+pub mod Schedules
 pub mod Scripts
 pub mod Slots
 pub mod Steps

@@ -63,7 +63,7 @@ go_takes line.Schedule slots e = absurd (cc)
 go_takes line.Tick slots e = absurd (cc)
 go_takes line.End slots e = absurd (cc)
 
-header_is : (l : Line) → is_header l ≡ true → l ≡ line.Header
+pub header_is : (l : Line) → is_header l ≡ true → l ≡ line.Header
 header_is line.Header e = refl
 header_is (line.Process name) e = absurd (cc)
 header_is (line.Thread t p) e = absurd (cc)
@@ -73,7 +73,7 @@ header_is (line.Go slots) e = absurd (cc)
 header_is line.Tick e = absurd (cc)
 header_is line.End e = absurd (cc)
 
-schedule_is : (l : Line) → is_schedule l ≡ true → l ≡ line.Schedule
+pub schedule_is : (l : Line) → is_schedule l ≡ true → l ≡ line.Schedule
 schedule_is line.Schedule e = refl
 schedule_is line.Header e = absurd (cc)
 schedule_is (line.Process name) e = absurd (cc)
@@ -83,7 +83,7 @@ schedule_is (line.Go slots) e = absurd (cc)
 schedule_is line.Tick e = absurd (cc)
 schedule_is line.End e = absurd (cc)
 
-end_is : (l : Line) → is_end l ≡ true → l ≡ line.End
+pub end_is : (l : Line) → is_end l ≡ true → l ≡ line.End
 end_is line.End e = refl
 end_is line.Header e = absurd (cc)
 end_is (line.Process name) e = absurd (cc)
@@ -235,13 +235,13 @@ script_takes lines script valid short e =
     subst (λ (s : Script). IsValid s × (lines ≡ script_lines s)) named.1 (made, is_lines)
 
 -- a script and a thread of these parts
-make : ℕ → ℕ → List QueueDecl → List DfcDecl → List IdfcDecl → List IrqBody → List ProcessDecl → List ThreadDecl → List Slot → Script
+pub make : ℕ → ℕ → List QueueDecl → List DfcDecl → List IdfcDecl → List IrqBody → List ProcessDecl → List ThreadDecl → List Slot → Script
 make pool fast queues dfcs idfcs irqs processes threads slots = record { pool = pool; fast = fast; queues = queues; dfcs = dfcs; idfcs = idfcs; irqs = irqs; processes = processes; threads = threads; slots = slots }
 
 make_thread : List ℕ → ℕ → Bool → Option ℕ → List Instr → ThreadDecl
 make_thread name priority held process instrs = record { name = name; priority = priority; held = held; process = process; instrs = instrs }
 
-made : (script : Script) → make script.pool script.fast script.queues script.dfcs script.idfcs script.irqs script.processes script.threads script.slots ≡ script
+pub made : (script : Script) → make script.pool script.fast script.queues script.dfcs script.idfcs script.irqs script.processes script.threads script.slots ≡ script
 unfolding make
 made script = refl
 
