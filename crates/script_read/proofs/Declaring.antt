@@ -58,7 +58,7 @@ no_instrs_of_thread count name priority ls told e =
     let is = guard_some (nat_lt 0 count) (with_thread (count - 1) name priority inner.0) told inner.2 in
     ap (λ (t : Told). t.instrs) (sym is.1)
 
-no_instrs_of_threads : (count : ℕ) (ls : List Line) (told : Told) → starts_thread ls ≡ true → told_of count ls ≡ Some told → told.instrs ≡ []
+pub no_instrs_of_threads : (count : ℕ) (ls : List Line) (told : Told) → starts_thread ls ≡ true → told_of count ls ≡ Some told → told.instrs ≡ []
 no_instrs_of_threads count [] told starts e = absurd (cc)
 no_instrs_of_threads count (line.Thread name priority ∷ ls) told starts e = no_instrs_of_thread count name priority ls told e
 no_instrs_of_threads count (line.Instr what ∷ ls) told starts e = absurd (cc)

@@ -4,6 +4,7 @@ pub mod Forms
 pub mod Lines
 pub mod ObjectNames
 pub mod Numbers
+pub mod Parts
 pub mod Reading
 pub mod Schedules
 pub mod Scripts
