@@ -5,9 +5,11 @@ pub mod Lines
 pub mod ObjectNames
 pub mod Numbers
 pub mod Parts
+pub mod PartsAgain
 pub mod Reading
 pub mod Schedules
 pub mod Scripts
 pub mod Slots
 pub mod Steps
 pub mod Texts
+pub mod WiderScripts

@@ -10,7 +10,7 @@ use Rattle.std.specs.Str.{bytes_eq}
 use Rattle.script_read.specs.Fields.{◌>>=◌}
 use Rattle.script_read.specs.Scripts.{first_of, process_of, thread_of, go_of, is_header, is_schedule, is_end, head_of, instrs_of, foot_of, is_named, opens, opens_nothing, single_script, script_of}
 use Rattle.script_read.specs.declared.script.Head.{Head}
-use Rattle.script_read.proofs.Steps.{bind_some, some_is, guard_some, both}
+use Rattle.script_read.proofs.Steps.{bind_some, bind_to, some_is, guard_some, guard_to, both}
 use Rattle.script_types.specs.ScriptText.{lines_text, script_lines}
 use Rattle.script_types.specs.Valid.{IsOne, IsValidInstr, IsValidProcess, IsValidThread, IsValid}
 use Rattle.script_types.specs.ValidLine.{IsInRange, IsValidLine}
@@ -97,21 +97,22 @@ end_is line.Tick e = absurd (cc)
 head_takes : (lines : List Line) (found : Head × List Line) → head_of lines ≡ Some found → lines ≡ line.Header ∷ line.Process found.0.process ∷ line.Thread found.0.thread found.0.priority ∷ found.1
 unfolding head_of
 head_takes lines found e =
-    let P : (h p t : Line × List Line) (n : List ℕ) (d : List ℕ × ℕ) → Option (Head × List Line) = λ h p t n d. if is_header h.0 then Some (record { process = n; thread = d.0; priority = d.1 }, t.1) else None in
-    let header = bind_some (first_of lines) (λ h. first_of h.1 >>= λ p. first_of p.1 >>= λ t. process_of p.0 >>= λ n. thread_of t.0 >>= λ d. P h p t n d) found e in
-    let process = bind_some (first_of header.0.1) (λ p. first_of p.1 >>= λ t. process_of p.0 >>= λ n. thread_of t.0 >>= λ d. P header.0 p t n d) found header.2 in
-    let thread = bind_some (first_of process.0.1) (λ t. process_of process.0.0 >>= λ n. thread_of t.0 >>= λ d. P header.0 process.0 t n d) found process.2 in
-    let name = bind_some (process_of process.0.0) (λ n. thread_of thread.0.0 >>= λ d. P header.0 process.0 thread.0 n d) found thread.2 in
-    let declared = bind_some (thread_of thread.0.0) (λ d. P header.0 process.0 thread.0 name.0 d) found name.2 in
-    let test = guard_some (is_header header.0.0) (record { process = name.0; thread = declared.0.0; priority = declared.0.1 }, thread.0.1) found declared.2 in
-    let a = first_takes lines header.0 header.1 in
-    let b = first_takes header.0.1 process.0 process.1 in
-    let c = first_takes process.0.1 thread.0 thread.1 in
-    let l0 = header_is header.0.0 test.0 in
-    let l1 = process_takes process.0.0 name.0 name.1 in
-    let l2 = thread_takes thread.0.0 declared.0 declared.1 in
-    let whole : lines ≡ line.Header ∷ line.Process name.0 ∷ line.Thread declared.0.0 declared.0.1 ∷ thread.0.1 = cc in
-    subst (λ (f : Head × List Line). lines ≡ line.Header ∷ line.Process f.0.process ∷ line.Thread f.0.thread f.0.priority ∷ f.1) test.1 whole
+    let Q : Head × List Line → Type 0 = λ f. lines ≡ line.Header ∷ line.Process f.0.process ∷ line.Thread f.0.thread f.0.priority ∷ f.1 in
+    let end : (h p t : Line × List Line) (n : List ℕ) (d : List ℕ × ℕ) → Option (Head × List Line) = λ h p t n d. if is_header h.0 then Some (record { process = n; thread = d.0; priority = d.1 }, t.1) else None in
+    bind_to (Q found) (first_of lines) (λ h. first_of h.1 >>= λ p. first_of p.1 >>= λ t. process_of p.0 >>= λ n. thread_of t.0 >>= λ d. end h p t n d) found e (λ h a e1.
+    bind_to (Q found) (first_of h.1) (λ p. first_of p.1 >>= λ t. process_of p.0 >>= λ n. thread_of t.0 >>= λ d. end h p t n d) found e1 (λ p b e2.
+    bind_to (Q found) (first_of p.1) (λ t. process_of p.0 >>= λ n. thread_of t.0 >>= λ d. end h p t n d) found e2 (λ t c e3.
+    bind_to (Q found) (process_of p.0) (λ n. thread_of t.0 >>= λ d. end h p t n d) found e3 (λ n name e4.
+    bind_to (Q found) (thread_of t.0) (λ d. end h p t n d) found e4 (λ d declared e5.
+    guard_to (Q found) (is_header h.0) (record { process = n; thread = d.0; priority = d.1 }, t.1) found e5 (λ passed is.
+    let l0 = header_is h.0 passed in
+    let l1 = process_takes p.0 n name in
+    let l2 = thread_takes t.0 d declared in
+    let s0 = first_takes lines h a in
+    let s1 = first_takes h.1 p b in
+    let s2 = first_takes p.1 t c in
+    let whole : lines ≡ line.Header ∷ line.Process n ∷ line.Thread d.0 d.1 ∷ t.1 = cc in
+    subst Q is whole))))))
 
 -- instructions from the front
 instrs_take : (lines : List Line) → lines ≡ map line.Instr (instrs_of lines).0 ++ (instrs_of lines).1
@@ -133,23 +134,24 @@ instrs_again (what ∷ others) rest = ap (λ (x : List Instr × List Line). (wha
 foot_takes : (lines : List Line) (slots : ℕ) → foot_of lines ≡ Some slots → lines ≡ line.Schedule ∷ line.Go slots ∷ line.End ∷ []
 unfolding foot_of
 foot_takes lines slots e =
-    let P : (s g l : Line × List Line) (n : ℕ) → Option ℕ = λ s g l n. if is_schedule s.0 && is_end l.0 && (eqb (length l.1) 0) then Some n else None in
-    let schedule = bind_some (first_of lines) (λ s. first_of s.1 >>= λ g. first_of g.1 >>= λ l. go_of g.0 >>= λ n. P s g l n) slots e in
-    let go = bind_some (first_of schedule.0.1) (λ g. first_of g.1 >>= λ l. go_of g.0 >>= λ n. P schedule.0 g l n) slots schedule.2 in
-    let last = bind_some (first_of go.0.1) (λ l. go_of go.0.0 >>= λ n. P schedule.0 go.0 l n) slots go.2 in
-    let count = bind_some (go_of go.0.0) (λ n. P schedule.0 go.0 last.0 n) slots last.2 in
-    let test = guard_some (is_schedule schedule.0.0 && is_end last.0.0 && (eqb (length last.0.1) 0)) count.0 slots count.2 in
-    let parts = both (is_schedule schedule.0.0 && is_end last.0.0) (eqb (length last.0.1) 0) test.0 in
-    let ends = both (is_schedule schedule.0.0) (is_end last.0.0) parts.0 in
-    let nothing : last.0.1 ≡ [] = nil_from_length last.0.1 (eqb-true (length last.0.1) 0 parts.1) in
-    let a = first_takes lines schedule.0 schedule.1 in
-    let b = first_takes schedule.0.1 go.0 go.1 in
-    let c = first_takes go.0.1 last.0 last.1 in
-    let l0 = schedule_is schedule.0.0 ends.0 in
-    let l1 = go_takes go.0.0 count.0 count.1 in
-    let l2 = end_is last.0.0 ends.1 in
-    let same = test.1 in
-    cc
+    let Q : ℕ → Type 0 = λ n. lines ≡ line.Schedule ∷ line.Go n ∷ line.End ∷ [] in
+    let end : (s l : Line × List Line) (n : ℕ) → Option ℕ = λ s l n. if is_schedule s.0 && is_end l.0 && (eqb (length l.1) 0) then Some n else None in
+    bind_to (Q slots) (first_of lines) (λ s. first_of s.1 >>= λ g. first_of g.1 >>= λ l. go_of g.0 >>= λ n. end s l n) slots e (λ s a e1.
+    bind_to (Q slots) (first_of s.1) (λ g. first_of g.1 >>= λ l. go_of g.0 >>= λ n. end s l n) slots e1 (λ g b e2.
+    bind_to (Q slots) (first_of g.1) (λ l. go_of g.0 >>= λ n. end s l n) slots e2 (λ l c e3.
+    bind_to (Q slots) (go_of g.0) (λ n. end s l n) slots e3 (λ n count e4.
+    guard_to (Q slots) (is_schedule s.0 && is_end l.0 && (eqb (length l.1) 0)) n slots e4 (λ passed is.
+    let parts = both (is_schedule s.0 && is_end l.0) (eqb (length l.1) 0) passed in
+    let ends = both (is_schedule s.0) (is_end l.0) parts.0 in
+    let nothing : l.1 ≡ [] = nil_from_length l.1 (eqb-true (length l.1) 0 parts.1) in
+    let s0 = first_takes lines s a in
+    let s1 = first_takes s.1 g b in
+    let s2 = first_takes g.1 l c in
+    let l0 = schedule_is s.0 ends.0 in
+    let l1 = go_takes g.0 n count in
+    let l2 = end_is l.0 ends.1 in
+    let whole : lines ≡ line.Schedule ∷ line.Go n ∷ line.End ∷ [] = cc in
+    subst Q is whole)))))
 
 -- the lines of a script of one thread
 single_lines : (head : Head) (instrs : List Instr) (slots : ℕ) → script_lines (single_script head instrs slots) ≡ line.Header ∷ line.Process head.process ∷ line.Thread head.thread head.priority ∷ (map line.Instr instrs ++ line.Schedule ∷ line.Go slots ∷ line.End ∷ [])
