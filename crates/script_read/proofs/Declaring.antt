@@ -1,12 +1,11 @@
 -- Reading declarations, as a loop does.
-use Rattle.std.proofs.Common.{◌≡◌, ℕ, suc, ◌+◌, ◌-◌, ◌<◌, ◌≤◌, Bool, true, false, eqb, ltb, List, [], ◌∷◌, ◌++◌, length, refl, sym, subst, ap, ◌∙◌, append_assoc, arith, length-append, Option, Some, None}
+use Rattle.std.proofs.Common.{◌≡◌, ℕ, suc, ◌-◌, ◌<◌, ◌≤◌, Bool, true, false, List, [], ◌∷◌, ◌++◌, length, refl, sym, subst, ap, ◌∙◌, append_assoc, arith, length-append, Option, Some, None}
 use Rattle.std.proofs.lemmas.Bool.{lt-ltb}
-use Rattle.std.proofs.lemmas.Bool.Decides.{nat_tests}
 use Rattle.std.proofs.lemmas.List.{append-nil}
-use Rattle.std.specs.Prelude.{◌&&◌, ◌==◌, nat_lt, if◌then◌else◌}
+use Rattle.std.specs.Prelude.{◌&&◌, nat_lt, if◌then◌else◌}
 use Rattle.script_read.specs.Fields.{◌>>=◌}
 use Rattle.script_read.specs.Scripts.{first_of, instrs_of}
-use Rattle.script_read.specs.WiderScripts.{Told, told_by, nothing, with_instr, with_thread, with_process, starts_thread, told_of, joined, declared_of}
+use Rattle.script_read.specs.WiderScripts.{Told, nothing, with_instr, with_thread, with_process, starts_thread, told_of, joined, declared_of}
 use Rattle.script_read.proofs.Scripts.{first_takes}
 use Rattle.script_read.proofs.Steps.{bind_some, some_is, guard_some, both}
 use Rattle.script_types.specs.declared.declaration.ProcessDecl.{ProcessDecl}
@@ -136,7 +135,7 @@ thread_step processes threads rest lines l name priority after instrs behind so_
     let step = joined_thread processes threads (count - 1) name priority instrs (nat_lt 0 count) (told_of count behind) (lt-ltb 0 count some) none in
     let now : joined processes threads (told_of count (line.Thread name priority ∷ after)) ≡ declared_of lines = subst (λ (x : List Line). joined processes threads (told_of count x) ≡ declared_of lines) spelled so_far.all in
     let same : joined processes threads (told_of count (line.Thread name priority ∷ after)) ≡ joined processes threads (before instrs (told_of count behind) >>= λ t. if nat_lt 0 count then Some (with_thread (count - 1) name priority t) else None)
-        = ap (λ (f : Option Told). joined processes threads (f >>= λ t. if nat_lt 0 count then Some (with_thread (count - 1) name priority t) else None)) told in
+    = ap (λ (f : Option Told). joined processes threads (f >>= λ t. if nat_lt 0 count then Some (with_thread (count - 1) name priority t) else None)) told in
     record {
       few = so_far.few;
       all = sym step ∙ sym same ∙ now;

@@ -13,3 +13,4 @@ pub mod Slots
 pub mod Steps
 pub mod Texts
 pub mod WiderScripts
+pub mod WiderReading

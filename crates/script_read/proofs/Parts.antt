@@ -1,13 +1,12 @@
 -- The parts that lines tell, and the lines that parts have.
-use Rattle.std.proofs.Common.{◌≡◌, ℕ, suc, ◌+◌, ◌-◌, ◌<◌, ◌≤◌, Bool, true, false, eqb, ltb, List, [], ◌∷◌, ◌++◌, length, map, refl, sym, subst, ap, ◌∙◌, append_assoc, arith, Option, Some, None}
-use Rattle.std.proofs.lemmas.Bool.{eqb-true, ltb-true, lt-ltb}
-use Rattle.std.proofs.lemmas.List.{append-nil, nil_from_length}
+use Rattle.std.proofs.Common.{◌≡◌, ℕ, suc, ◌+◌, ◌-◌, ◌<◌, ◌≤◌, true, false, eqb, List, [], ◌∷◌, ◌++◌, length, map, refl, sym, subst, ap, ◌∙◌, append_assoc, arith, Some, None}
+use Rattle.std.proofs.lemmas.Bool.{eqb-true, ltb-true}
+use Rattle.std.proofs.lemmas.List.{nil_from_length}
 use Rattle.std.specs.List.{AllByRecursion, flat_map}
-use Rattle.std.specs.Prelude.{◌&&◌, ◌==◌, nat_lt, if◌then◌else◌}
-use Rattle.script_read.specs.Fields.{◌>>=◌}
-use Rattle.script_read.specs.WiderScripts.{Told, told_by, nothing, with_instr, with_thread, with_process, starts_thread, told_of, joined, declared_of}
+use Rattle.std.specs.Prelude.{◌==◌, nat_lt, if◌then◌else◌}
+use Rattle.script_read.specs.WiderScripts.{Told, told_by, nothing, with_instr, with_thread, with_process, starts_thread, told_of, declared_of}
 use Rattle.script_read.proofs.Declaring.{told_process, no_instrs_of_threads}
-use Rattle.script_read.proofs.Steps.{bind_some, some_is, guard_some, both}
+use Rattle.script_read.proofs.Steps.{bind_some, some_is, guard_some}
 use Rattle.script_types.specs.WiderGrammar.{ThreadPart, ProcessPart, thread_part_lines, process_part_lines, part_thread, parts_threads, part_process}
 use Rattle.script_types.specs.declared.declaration.ProcessDecl.{ProcessDecl}
 use Rattle.script_types.specs.declared.declaration.ThreadDecl.{ThreadDecl}
@@ -46,29 +45,35 @@ parted_thread : (count : ℕ) (name : List ℕ) (priority : ℕ) (ls : List Line
 parted_thread count name priority ls told some p =
     let lead = p.0 in
     let groups = p.1 in
-    let t : ThreadPart = record { name = name; priority = priority; instrs = told.instrs } in
-    (t ∷ lead, groups, record {
-      lines_are = ap (λ (x : List Line). line.Thread name priority ∷ x) (p.2.lines_are ∙ sym (append_assoc (map line.Instr told.instrs) (flat_map thread_part_lines lead) (flat_map process_part_lines groups ++ told.rest)));
-      threads_are = ap (λ (x : List ThreadDecl). part_thread (count - 1) t ∷ x) p.2.threads_are;
-      processes_are = p.2.processes_are;
-      each = p.2.each;
-      behind_process = λ h. some;
-      few = p.2.few;
-      stops = p.2.stops;
-    })
+    let t : ThreadPart = record { name = name; priority = priority; instrs = told.instrs } in (
+      t ∷ lead,
+      groups,
+      record {
+        lines_are = ap (λ (x : List Line). line.Thread name priority ∷ x) (p.2.lines_are ∙ sym (append_assoc (map line.Instr told.instrs) (flat_map thread_part_lines lead) (flat_map process_part_lines groups ++ told.rest)));
+        threads_are = ap (λ (x : List ThreadDecl). part_thread (count - 1) t ∷ x) p.2.threads_are;
+        processes_are = p.2.processes_are;
+        each = p.2.each;
+        behind_process = λ h. some;
+        few = p.2.few;
+        stops = p.2.stops;
+      },
+    )
 
 -- an instruction's line in front
 parted_instr : (count : ℕ) (what : Instr) (ls : List Line) (told : Told) → Parted count ls told → Parted count (line.Instr what ∷ ls) (with_instr what told)
-parted_instr count what ls told p =
-    (p.0, p.1, record {
-      lines_are = ap (λ (x : List Line). line.Instr what ∷ x) p.2.lines_are;
-      threads_are = p.2.threads_are;
-      processes_are = p.2.processes_are;
-      each = p.2.each;
-      behind_process = p.2.behind_process;
-      few = p.2.few;
-      stops = p.2.stops;
-    })
+parted_instr count what ls told p = (
+  p.0,
+  p.1,
+  record {
+    lines_are = ap (λ (x : List Line). line.Instr what ∷ x) p.2.lines_are;
+    threads_are = p.2.threads_are;
+    processes_are = p.2.processes_are;
+    each = p.2.each;
+    behind_process = p.2.behind_process;
+    few = p.2.few;
+    stops = p.2.stops;
+  },
+)
 
 -- lines that begin with a thread's have a thread in front
 lead_some : (lead : List ThreadPart) (groups : List ProcessPart) (rest : List Line) → starts_thread (lines_behind lead groups rest) ≡ true → starts_thread rest ≡ false → 0 < length lead
@@ -85,17 +90,20 @@ parted_process count name ls told none starts room p =
     let plain : ls ≡ lines_behind lead groups told.rest = p.2.lines_are ∙ ap (λ (x : List Instr). map line.Instr x ++ lines_behind lead groups told.rest) none in
     let begins : starts_thread (lines_behind lead groups told.rest) ≡ true = ap starts_thread (sym plain) ∙ starts in
     let number : suc count - 1 ≡ count = omega arith in
-    let more = p.2.few in
-    ([], g ∷ groups, record {
-      lines_are = ap (λ (x : List Line). line.Process name ∷ x) (plain ∙ sym (append_assoc (flat_map thread_part_lines lead) (flat_map process_part_lines groups) told.rest))
-        ∙ ap (λ (x : List Instr). map line.Instr x ++ lines_behind [] (g ∷ groups) told.rest) (sym none);
-      threads_are = p.2.threads_are ∙ ap (λ (n : ℕ). map (part_thread n) lead ++ parts_threads (suc count) groups) number;
-      processes_are = ap (λ (x : List ProcessDecl). part_process g ∷ x) p.2.processes_are;
-      each = (lead_some lead groups told.rest begins p.2.stops, p.2.each);
-      behind_process = λ h. absurd (omega arith);
-      few = λ h. let inner : suc count + length groups ≤ 16 = more (omega arith) in omega arith;
-      stops = p.2.stops;
-    })
+    let more = p.2.few in (
+      [],
+      g ∷ groups,
+      record {
+        lines_are = ap (λ (x : List Line). line.Process name ∷ x) (plain ∙ sym (append_assoc (flat_map thread_part_lines lead) (flat_map process_part_lines groups) told.rest))
+            ∙ ap (λ (x : List Instr). map line.Instr x ++ lines_behind [] (g ∷ groups) told.rest) (sym none);
+        threads_are = p.2.threads_are ∙ ap (λ (n : ℕ). map (part_thread n) lead ++ parts_threads (suc count) groups) number;
+        processes_are = ap (λ (x : List ProcessDecl). part_process g ∷ x) p.2.processes_are;
+        each = (lead_some lead groups told.rest begins p.2.stops, p.2.each);
+        behind_process = λ h. absurd (omega arith);
+        few = λ h. let inner : suc count + length groups ≤ 16 = more (omega arith) in omega arith;
+        stops = p.2.stops;
+      },
+    )
 
 -- the parts that lines tell
 told_takes : (count : ℕ) (lines : List Line) (told : Told) → told_of count lines ≡ Some told → Parted count lines told

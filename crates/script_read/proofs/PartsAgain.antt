@@ -1,12 +1,11 @@
 -- The lines of parts are read as what the parts declare.
-use Rattle.std.proofs.Common.{◌≡◌, ℕ, suc, ◌+◌, ◌-◌, ◌<◌, ◌≤◌, Bool, true, false, eqb, ltb, List, [], ◌∷◌, ◌++◌, length, map, refl, sym, subst, ap, ◌∙◌, append_assoc, arith, Option, Some, None}
+use Rattle.std.proofs.Common.{◌≡◌, ℕ, suc, ◌+◌, ◌-◌, ◌<◌, ◌≤◌, true, List, [], ◌∷◌, ◌++◌, length, map, refl, sym, ap, ◌∙◌, append_assoc, arith, Option, Some}
 use Rattle.std.proofs.lemmas.Bool.{lt-ltb}
-use Rattle.std.proofs.lemmas.List.{append-nil}
-use Rattle.std.specs.List.{AllByRecursion, flat_map}
-use Rattle.std.specs.Prelude.{◌&&◌, ◌==◌, nat_lt, if◌then◌else◌}
+use Rattle.std.specs.List.{flat_map}
+use Rattle.std.specs.Prelude.{nat_lt}
 use Rattle.script_read.specs.Fields.{◌>>=◌}
-use Rattle.script_read.specs.WiderScripts.{Told, told_by, nothing, with_instr, with_thread, with_process, starts_thread, told_of, joined, declared_of}
-use Rattle.script_read.proofs.Parts.{lines_behind, HaveThreads}
+use Rattle.script_read.specs.WiderScripts.{Told, told_by, nothing, with_instr, starts_thread, told_of, joined, declared_of}
+use Rattle.script_read.proofs.Parts.{HaveThreads}
 use Rattle.script_types.specs.WiderGrammar.{ThreadPart, ProcessPart, thread_part_lines, process_part_lines, part_thread, parts_threads, part_process}
 use Rattle.script_types.specs.declared.declaration.ProcessDecl.{ProcessDecl}
 use Rattle.script_types.specs.declared.declaration.ThreadDecl.{ThreadDecl}
@@ -52,7 +51,7 @@ groups_again count (g ∷ gs) rest each few ends =
     let inner = threads_again count g.threads behind (map part_process gs) (parts_threads (suc count) gs) rest later in
     let regroup : flat_map thread_part_lines g.threads ++ behind ≡ (flat_map thread_part_lines g.threads ++ flat_map process_part_lines gs) ++ rest = sym (append_assoc (flat_map thread_part_lines g.threads) (flat_map process_part_lines gs) rest) in
     let whole : told_of (suc count) ((flat_map thread_part_lines g.threads ++ flat_map process_part_lines gs) ++ rest) ≡ Some (told_by (map part_process gs) (map (part_thread count) g.threads ++ parts_threads (suc count) gs) rest)
-        = ap (told_of (suc count)) (sym regroup) ∙ inner in
+    = ap (told_of (suc count)) (sym regroup) ∙ inner in
     let starts : starts_thread ((flat_map thread_part_lines g.threads ++ flat_map process_part_lines gs) ++ rest) ≡ true = ap starts_thread (sym regroup) ∙ starts_again g.threads behind each.0 in
     let room : nat_lt count 16 ≡ true = lt-ltb count 16 (omega arith) in
     rw (whole, starts, room) refl

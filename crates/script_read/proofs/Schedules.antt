@@ -1,14 +1,13 @@
 -- The lines of a schedule that are read, and that are read again.
-use Rattle.std.proofs.Common.{◌≡◌, ℕ, ◌+◌, ◌<◌, ◌≤◌, Bool, true, false, eqb, List, [], ◌∷◌, ◌++◌, length, replicate, refl, sym, subst, ap, ◌∙◌, append_assoc, arith, Option, Some, None}
+use Rattle.std.proofs.Common.{◌≡◌, ◌≤◌, true, eqb, List, [], ◌∷◌, ◌++◌, length, replicate, refl, sym, subst, ap, ◌∙◌, arith, Option, Some, None}
 use Rattle.std.proofs.lemmas.Bool.{eqb-true, leb-true, le-leb}
 use Rattle.std.proofs.lemmas.List.{nil_from_length}
 use Rattle.std.specs.List.{AllByRecursion, flat_map}
-use Rattle.std.specs.Prelude.{◌&&◌, ◌==◌, nat_le, if◌then◌else◌}
-use Rattle.script_read.specs.Fields.{◌>>=◌}
+use Rattle.std.specs.Prelude.{◌&&◌, nat_le, if◌then◌else◌}
 use Rattle.script_read.specs.Scripts.{first_of, is_schedule, is_end}
 use Rattle.script_read.specs.WiderScripts.{slots_of, is_last, scheduled_of, unscheduled_of, schedule_of}
 use Rattle.script_read.proofs.Scripts.{first_takes, schedule_is, end_is}
-use Rattle.script_read.proofs.Steps.{bind_some, some_is, guard_some, either_way, both}
+use Rattle.script_read.proofs.Steps.{bind_some, guard_some, either_way, both}
 use Rattle.script_types.specs.WiderGrammar.{schedule_lines, line_slots, schedule_slots, IsSlotLine, IsSchedule}
 use Rattle.script_types.specs.declared.line.Line.{Line}
 use Rattle.script_types.specs.declared.line.Line.TheVariants as line
@@ -108,8 +107,8 @@ schedule_takes lines slots e =
     let spelled = first_takes lines first.0 first.1 in
     either_way (IsScheduled lines slots) (is_schedule first.0.0) (scheduled_of first.0.1) (unscheduled_of lines) slots first.2
     (λ is found.
-        let same : lines ≡ line.Schedule ∷ first.0.1 = spelled ∙ ap (λ (l : Line). l ∷ first.0.1) (schedule_is first.0.0 is) in
-        subst (λ (x : List Line). IsScheduled x slots) (sym same) (scheduled_takes first.0.1 slots found))
+    let same : lines ≡ line.Schedule ∷ first.0.1 = spelled ∙ ap (λ (l : Line). l ∷ first.0.1) (schedule_is first.0.0 is) in
+    subst (λ (x : List Line). IsScheduled x slots) (sym same) (scheduled_takes first.0.1 slots found))
     (λ other found. unscheduled_takes lines slots found)
 
 pub schedule_again : (schedule : Option (List Line)) → IsSchedule schedule → length (schedule_slots schedule) ≤ 65536 → schedule_of (schedule_lines schedule ++ line.End ∷ []) ≡ Some (schedule_slots schedule)

@@ -1,18 +1,18 @@
 -- Lines that are read as a script are those of its parts, and the lines of parts are read as their script.
-use Rattle.std.proofs.Common.{◌≡◌, ℕ, ◌≤◌, Bool, true, false, List, [], ◌∷◌, ◌++◌, length, map, refl, sym, subst, ap, ◌∙◌, arith, Option, Some, None}
+use Rattle.std.proofs.Common.{◌≡◌, ℕ, ◌≤◌, Bool, true, List, [], ◌∷◌, ◌++◌, length, map, refl, subst, ap, ◌∙◌, Option, Some, None}
 use Rattle.std.proofs.lemmas.Bool.{leb-true, le-leb}
 use Rattle.std.proofs.lemmas.List.{length-map}
 use Rattle.std.specs.List.{flat_map}
 use Rattle.std.specs.Prelude.{◌&&◌, nat_le, codes, if◌then◌else◌}
 use Rattle.script_read.specs.Fields.{◌>>=◌}
 use Rattle.script_read.specs.Scripts.{first_of, is_header}
-use Rattle.script_read.specs.WiderScripts.{Told, told_by, nothing, told_of, declared_of, schedule_of, is_within, script_with, wider_script_of}
+use Rattle.script_read.specs.WiderScripts.{Told, nothing, told_of, declared_of, schedule_of, is_within, script_with, wider_script_of}
 use Rattle.script_read.proofs.Parts.{HaveThreads, AreDeclared, declared_takes}
 use Rattle.script_read.proofs.PartsAgain.{declared_again}
 use Rattle.script_read.proofs.Schedules.{IsScheduled, schedule_takes, schedule_again}
 use Rattle.script_read.proofs.Scripts.{first_takes, header_is}
 use Rattle.script_read.proofs.Steps.{bind_to, guard_to, both}
-use Rattle.script_types.specs.WiderGrammar.{ProcessPart, Parts, process_part_lines, schedule_lines, parts_lines, schedule_slots, IsSchedule, part_process, parts_threads, parts_script, are_new, IsWithinLimits}
+use Rattle.script_types.specs.WiderGrammar.{ProcessPart, Parts, process_part_lines, schedule_lines, parts_lines, IsSchedule, parts_threads, parts_script, are_new, IsWithinLimits}
 use Rattle.script_types.specs.declared.declaration.ProcessDecl.{ProcessDecl}
 use Rattle.script_types.specs.declared.declaration.ThreadDecl.{ThreadDecl}
 use Rattle.script_types.specs.declared.line.Line.{Line}
@@ -47,14 +47,16 @@ parts_of : (lines body : List Line) (told : Told) (slots : List Slot) (groups : 
     → (parts : Parts) × ArePartsOf parts lines (script_with told.processes told.threads slots)
 parts_of lines body told slots groups spelled d s within =
     let parts : Parts = record { processes = groups; schedule = s.schedule } in
-    let few : length told.processes ≤ 16 = rw (d.processes_are, length-map) d.few in
-    (parts, record {
-      lines_are = spelled ∙ ap (λ (x : List Line). line.Header ∷ x) (d.lines_are ∙ ap (λ (x : List Line). flat_map process_part_lines groups ++ x) s.lines_are);
-      each = d.each;
-      schedule = s.each;
-      script_is = rw (d.processes_are, d.threads_are, s.slots_are) refl;
-      limits = within_limits told.processes told.threads slots within few s.few;
-    })
+    let few : length told.processes ≤ 16 = rw (d.processes_are, length-map) d.few in (
+      parts,
+      record {
+        lines_are = spelled ∙ ap (λ (x : List Line). line.Header ∷ x) (d.lines_are ∙ ap (λ (x : List Line). flat_map process_part_lines groups ++ x) s.lines_are);
+        each = d.each;
+        schedule = s.each;
+        script_is = rw (d.processes_are, d.threads_are, s.slots_are) refl;
+        limits = within_limits told.processes told.threads slots within few s.few;
+      },
+    )
 
 pub wider_takes : (lines : List Line) (script : Script) → wider_script_of lines ≡ Some script → (parts : Parts) × ArePartsOf parts lines script
 unfolding wider_script_of

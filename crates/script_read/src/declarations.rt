@@ -30,7 +30,10 @@ fn starts_thread(lines: &[Line]) -> bool
 
 /// The declarations at the front of some lines. None where a process has no thread, a thread no
 /// process, or an instruction no thread, or where there are too many processes.
-pub fn read_declarations(alloc: Global, lines: &[Line]) -> Result<Option<Declarations<'_>>, NoMemory>
+pub fn read_declarations(
+    alloc: Global,
+    lines: &[Line],
+) -> Result<Option<Declarations<'_>>, NoMemory>
     ensures { IfOk result (λ found.
         option_map (λ told. told_by told.processes.items told.threads.items told.rest.now) found ≡ declared_of lines.now) }
 {

@@ -19,3 +19,4 @@ mod wider;
 pub use fault::RunFault;
 pub use read::{MAX_SCRIPT_BYTES, ReadScript, read_script};
 pub use reason::Reason;
+pub use wider::read_wider;

@@ -70,7 +70,11 @@ pub fn read_schedule(alloc: Global, lines: &[Line]) -> Result<Option<Vec<Slot>>,
         return Ok(None);
     };
     if !is_schedule(&first) {
-        return Ok(if is_last(lines) { Some(Vec::new(alloc)) } else { None });
+        return Ok(if is_last(lines) {
+            Some(Vec::new(alloc))
+        } else {
+            None
+        });
     }
     let Some((slots, rest)) = read_slots(alloc, after)? else {
         return Ok(None);

@@ -1,5 +1,5 @@
 -- Which lines have the form of their words and the ranges of their numbers.
-use Rattle.std.specs.Prelude.{◌≡◌, ℕ, ◌<◌, ◌≤◌, IsTrue, ⊤}
+use Rattle.std.specs.Prelude.{◌≡◌, ◌<◌, ◌≤◌, IsTrue, ⊤}
 use Rattle.script_types.specs.ObjectName.{is_object_name}
 use Rattle.script_types.specs.declared.instruction.Instr.{Instr}
 use Rattle.script_types.specs.declared.instruction.Instr.TheVariants as instr

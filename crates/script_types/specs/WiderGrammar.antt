@@ -1,8 +1,7 @@
 -- The grammar of several processes and threads: what a text tells, its lines, and its script.
 use Rattle.std.specs.List.{AllByRecursion, flat_map, list_any}
-use Rattle.std.specs.Prelude.{◌≡◌, ℕ, zero, suc, ◌+◌, ◌<◌, ◌≤◌, Bool, true, false, ◌&&◌, not, IsTrue, List, [], ◌∷◌, ◌++◌, Option, Some, None, ⊤, length, map, sum_by, replicate, codes}
+use Rattle.std.specs.Prelude.{◌≡◌, ℕ, suc, ◌<◌, ◌≤◌, Bool, true, false, ◌&&◌, not, IsTrue, List, [], ◌∷◌, ◌++◌, Option, Some, None, ⊤, length, map, replicate, codes}
 use Rattle.std.specs.Str.{bytes_eq}
-use Rattle.script_types.specs.ScriptText.{lines_text}
 use Rattle.script_types.specs.TextLines.{IsText}
 use Rattle.script_types.specs.declared.declaration.ProcessDecl.{ProcessDecl}
 use Rattle.script_types.specs.declared.declaration.ThreadDecl.{ThreadDecl}

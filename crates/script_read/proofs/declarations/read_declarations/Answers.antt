@@ -1,4 +1,4 @@
-use Rattle.std.proofs.Common.{◌≡◌, ◌-◌, ◌<◌, true, length, sym, ◌∙◌, arith}
+use Rattle.std.proofs.Common.{◌≡◌, ◌-◌, ◌<◌, true, length, arith}
 use Rattle.std.proofs.lemmas.Bool.Decides.{nat_tests}
 use Rattle.script_read.specs.WiderScripts.{starts_thread}
 use Rattle.script_read.proofs.Declaring.{process_step, thread_step, behind_length}
@@ -19,6 +19,6 @@ pub loop-line-preserved : goal.loop-line-preserved
 loop-line-preserved c =
     let some : 0 < length c.loop-line.processes.items = grind (arith, nat_tests) in
     let step = thread_step c.loop-line.processes.items c.loop-line.threads.items c.loop-line.rest.now c.args.lines.now c.in-Some.line c.in-Thread.name c.in-Thread.priority c.in-Some.after.now c.in_ok-instrs-in-Thread.instrs.items c.in_ok-instrs-in-Thread.after.now
-        c.loop-line.invariant c.in-Some.ensures c.in-Thread.is some c.in_ok-instrs-in-Thread.ensures in
+    c.loop-line.invariant c.in-Some.ensures c.in-Thread.is some c.in_ok-instrs-in-Thread.ensures in
     let number : length c.loop-line.processes.items - 1 ≡ c.len-number.result - 1 = omega arith in
     rw (c.in_ok-push-in-Thread.ensures.items, ← number, c.new.ensures) step

@@ -1,5 +1,4 @@
-use Rattle.std.proofs.Common.{◌≡◌, ◌≤◌, ◌++◌, length}
-use Rattle.script_read.specs.WiderScripts.{slots_of}
+use Rattle.std.proofs.Common.{length}
 use Rattle.script_read.proofs.Slots.{IsSoFar}
 use Rattle.script_read.proofs.schedule.read_slots.Given as goal
 
