@@ -4,9 +4,9 @@ use Rattle.std.proofs.lemmas.Bool.{ltb-true, lt-ltb, eqb-true}
 use Rattle.std.specs.Prelude.{◌==◌, IsTrue, codes, decimal, nat_lt, if◌then◌else◌}
 use Rattle.std.specs.Str.{bytes_eq}
 use Rattle.script_read.specs.Fields.{◌>>=◌, cut_of, number_of, register_of, object_name_of}
-use Rattle.script_read.specs.Forms.{process_form, thread_form, named_register_of, create_form, dup_form, close_form, go_form}
+use Rattle.script_read.specs.Forms.{process_form, thread_form, named_register_of, create_form, open_form, dup_form, close_form, go_form}
 use Rattle.script_read.proofs.Cuts.{has_none, cut_takes, cut_again}
-use Rattle.script_read.proofs.Names.{name_takes, name_again, name_has_none}
+use Rattle.script_read.proofs.ObjectNames.{name_takes, name_again, name_has_none}
 use Rattle.script_read.proofs.Numbers.{number_takes, number_again, number_has_none}
 use Rattle.script_read.proofs.Steps.{bind_some, some_is, guard_some, either_way, same_bytes}
 use Rattle.script_types.specs.LineText.{line_text}
@@ -15,6 +15,7 @@ use Rattle.script_types.specs.ValidLine.{IsValidLine}
 use Rattle.script_types.specs.declared.instruction.Instr.TheVariants as instr
 use Rattle.script_types.specs.declared.line.Line.{Line}
 use Rattle.script_types.specs.declared.line.Line.TheVariants as line
+use Rattle.sym_base.specs.declared.kind.Kind.TheVariants as kind
 
 -- a line that is spelled by these bytes
 pub record Spells (bytes : List ℕ) (l : Line) : Type 0 where
@@ -106,6 +107,23 @@ create_takes rest l e =
 pub create_again : (name : List ℕ) (x : ℕ) → IsTrue (is_object_name name) → x < 8 → create_form (codes "mutex " ++ ((name ++ codes " r") ++ decimal x)) ≡ Some (line.Instr (instr.CreateMutex name x))
 unfolding create_form
 create_again name x h lt = rw (named_again name x h lt) refl
+
+pub open_takes : (rest : List ℕ) (l : Line) → open_form rest ≡ Some l → Spells (codes "open " ++ rest) l
+unfolding open_form
+open_takes rest l e =
+    let words = bind_some (cut_of 32 rest) (λ words. named_register_of words.1 >>= λ made. if bytes_eq words.0 (codes "mutex") then Some (line.Instr (instr.Open kind.Mutex made.0 made.1)) else None) l e in
+    let made = bind_some (named_register_of words.0.1) (λ made. if bytes_eq words.0.0 (codes "mutex") then Some (line.Instr (instr.Open kind.Mutex made.0 made.1)) else None) l words.2 in
+    let is = guard_some (bytes_eq words.0.0 (codes "mutex")) (line.Instr (instr.Open kind.Mutex made.0.0 made.0.1)) l made.2 in
+    let kind = same_bytes words.0.0 (codes "mutex") is.0 in
+    let joined = cut_takes 32 rest words.0 words.1 in
+    let named = named_takes words.0.1 made.0 made.1 in
+    let whole : rest ≡ codes "mutex " ++ ((made.0.0 ++ codes " r") ++ decimal made.0.1) = joined ∙ ap (λ (t : List ℕ). t ++ 32 ∷ words.0.1) kind ∙ ap (λ (t : List ℕ). codes "mutex " ++ t) named.0 in
+    subst (λ (m : Line). Spells (codes "open " ++ rest) m) is.1
+    (record { valid = (refl, named.1, named.2); text = ap (λ (x : List ℕ). codes "open " ++ x) whole })
+
+pub open_again : (name : List ℕ) (x : ℕ) → IsTrue (is_object_name name) → x < 8 → open_form (codes "mutex " ++ ((name ++ codes " r") ++ decimal x)) ≡ Some (line.Instr (instr.Open kind.Mutex name x))
+unfolding open_form
+open_again name x h lt = rw (named_again name x h lt) refl
 
 pub dup_takes : (rest : List ℕ) (l : Line) → dup_form rest ≡ Some l → Spells (codes "dup " ++ rest) l
 unfolding dup_form

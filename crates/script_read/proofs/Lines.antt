@@ -6,8 +6,8 @@ use Rattle.std.specs.Str.{bytes_eq}
 use Rattle.script_read.specs.Fields.{cut_of}
 use Rattle.script_read.specs.Forms.{lone_form, worded_form, cut_line, line_of}
 use Rattle.script_read.proofs.Cuts.{has_none, cut_takes}
-use Rattle.script_read.proofs.Forms.{Spells, process_takes, process_again, thread_takes, thread_again, create_takes, create_again, dup_takes, dup_again, close_takes, close_again, go_takes, go_again}
-use Rattle.script_read.proofs.Names.{name_has_none}
+use Rattle.script_read.proofs.Forms.{Spells, process_takes, process_again, thread_takes, thread_again, create_takes, create_again, open_takes, open_again, dup_takes, dup_again, close_takes, close_again, go_takes, go_again}
+use Rattle.script_read.proofs.ObjectNames.{name_has_none}
 use Rattle.script_read.proofs.Numbers.{number_has_none}
 use Rattle.script_read.proofs.Steps.{some_is, guard_some, either_way, same_bytes}
 use Rattle.script_types.specs.LineText.{line_text}
@@ -16,15 +16,19 @@ use Rattle.script_types.specs.declared.instruction.Instr.{Instr}
 use Rattle.script_types.specs.declared.instruction.Instr.TheVariants as instr
 use Rattle.script_types.specs.declared.line.Line.{Line}
 use Rattle.script_types.specs.declared.line.Line.TheVariants as line
+use Rattle.sym_base.specs.declared.kind.Kind.{Kind}
+
+-- a line of one word
+lone : (bytes word : List ℕ) (made l : Line) → bytes_eq bytes word ≡ true → word ≡ line_text made → Some made ≡ Some l → IsValidLine made → Spells bytes l
+lone bytes word made l is text found valid = subst (λ (m : Line). Spells bytes m) (some_is made l found) (record { valid = valid; text = same_bytes bytes word is ∙ text })
 
 lone_takes : (word : List ℕ) (l : Line) → lone_form word ≡ Some l → Spells word l
 unfolding lone_form
 lone_takes word l e =
-    either_way (Spells word l) (bytes_eq word (codes "schedule")) (Some line.Schedule) (if bytes_eq word (codes "end") then Some line.End else None) l e
-    (λ here found. subst (λ (m : Line). Spells word m) (some_is line.Schedule l found) (record { valid = tt; text = same_bytes word (codes "schedule") here }))
-    (λ other later.
-    let is = guard_some (bytes_eq word (codes "end")) line.End l later in
-    subst (λ (m : Line). Spells word m) is.1 (record { valid = tt; text = same_bytes word (codes "end") is.0 }))
+    let P : Type 0 = Spells word l in
+    either_way P (bytes_eq word (codes "schedule")) _ _ l e (λ is f. lone word (codes "schedule") line.Schedule l is refl f tt) (λ other1 e1.
+    either_way P (bytes_eq word (codes "tick")) _ _ l e1 (λ is f. lone word (codes "tick") line.Tick l is refl f tt) (λ other2 e2.
+    either_way P (bytes_eq word (codes "end")) _ _ l e2 (λ is f. lone word (codes "end") line.End l is refl f tt) (λ other3 e3. absurd (cc))))
 
 -- behind a first word
 behind : (first word rest : List ℕ) (l : Line) → bytes_eq first word ≡ true → Spells (word ++ 32 ∷ rest) l → Spells (first ++ 32 ∷ rest) l
@@ -43,9 +47,10 @@ worded_takes first rest l e =
     either_way P (bytes_eq first (codes "process")) _ _ l e1 (λ is f. behind first (codes "process") rest l is (process_takes rest l f)) (λ other2 e2.
     either_way P (bytes_eq first (codes "thread")) _ _ l e2 (λ is f. behind first (codes "thread") rest l is (thread_takes rest l f)) (λ other3 e3.
     either_way P (bytes_eq first (codes "create")) _ _ l e3 (λ is f. behind first (codes "create") rest l is (create_takes rest l f)) (λ other4 e4.
-    either_way P (bytes_eq first (codes "dup")) _ _ l e4 (λ is f. behind first (codes "dup") rest l is (dup_takes rest l f)) (λ other5 e5.
-    either_way P (bytes_eq first (codes "close")) _ _ l e5 (λ is f. behind first (codes "close") rest l is (close_takes rest l f)) (λ other6 e6.
-    either_way P (bytes_eq first (codes "go")) _ _ l e6 (λ is f. behind first (codes "go") rest l is (go_takes rest l f)) (λ other7 e7. absurd (cc))))))))
+    either_way P (bytes_eq first (codes "open")) _ _ l e4 (λ is f. behind first (codes "open") rest l is (open_takes rest l f)) (λ other5 e5.
+    either_way P (bytes_eq first (codes "dup")) _ _ l e5 (λ is f. behind first (codes "dup") rest l is (dup_takes rest l f)) (λ other6 e6.
+    either_way P (bytes_eq first (codes "close")) _ _ l e6 (λ is f. behind first (codes "close") rest l is (close_takes rest l f)) (λ other7 e7.
+    either_way P (bytes_eq first (codes "go")) _ _ l e7 (λ is f. behind first (codes "go") rest l is (go_takes rest l f)) (λ other8 e8. absurd (cc)))))))))
 
 -- the line of bytes that were cut
 cut_line_takes : (bytes : List ℕ) (found : Option (List ℕ × List ℕ)) (l : Line) → cut_of 32 bytes ≡ found → cut_line bytes found ≡ Some l → Spells bytes l
@@ -61,6 +66,8 @@ line_takes bytes l e = cut_line_takes bytes (cut_of 32 bytes) l refl e
 instr_again : (what : Instr) → IsValidLine (line.Instr what) → line_of (line_text (line.Instr what)) ≡ Some (line.Instr what)
 unfolding line_of worded_form
 instr_again (instr.CreateMutex name x) v = create_again name x v.0 v.1
+instr_again (instr.Open what name x) v =
+    subst (λ (k : Kind). line_of (line_text (line.Instr (instr.Open k name x))) ≡ Some (line.Instr (instr.Open k name x))) (sym v.0) (open_again name x v.1 v.2)
 instr_again (instr.Dup x y) v = dup_again x y v.0 v.1
 instr_again (instr.Close x) v = close_again x v
 
@@ -72,6 +79,7 @@ line_again (line.Thread name priority) v = thread_again name priority v.0 v.1
 line_again (line.Instr what) v = instr_again what v
 line_again line.Schedule v = refl
 line_again (line.Go slots) v = go_again slots v.0 v.1
+line_again line.Tick v = refl
 line_again line.End v = refl
 
 -- texts without a byte, joined
@@ -81,6 +89,9 @@ joined_has_none at a b ha hb = list_all-append (λ c. not (c == at)) a b ∙ rw 
 instr_has_none : (what : Instr) → IsValidLine (line.Instr what) → has_none 10 (line_text (line.Instr what)) ≡ true
 instr_has_none (instr.CreateMutex name x) v =
     joined_has_none 10 (name ++ codes " r") (decimal x) (joined_has_none 10 name (codes " r") (name_has_none 10 name (omega arith) v.0) refl) (number_has_none 10 x (omega arith) (omega (arith, v.1)))
+instr_has_none (instr.Open what name x) v =
+    subst (λ (k : Kind). has_none 10 (line_text (line.Instr (instr.Open k name x))) ≡ true) (sym v.0)
+    (joined_has_none 10 (name ++ codes " r") (decimal x) (joined_has_none 10 name (codes " r") (name_has_none 10 name (omega arith) v.1) refl) (number_has_none 10 x (omega arith) (omega (arith, v.2))))
 instr_has_none (instr.Dup x y) v =
     joined_has_none 10 (decimal x ++ codes " r") (decimal y) (joined_has_none 10 (decimal x) (codes " r") (number_has_none 10 x (omega arith) (omega (arith, v.0))) refl) (number_has_none 10 y (omega arith) (omega (arith, v.1)))
 instr_has_none (instr.Close x) v = number_has_none 10 x (omega arith) (omega arith)
@@ -94,4 +105,5 @@ line_has_none (line.Thread name priority) v =
 line_has_none (line.Instr what) v = instr_has_none what v
 line_has_none line.Schedule v = refl
 line_has_none (line.Go slots) v = number_has_none 10 slots (omega arith) (omega (arith, v.1))
+line_has_none line.Tick v = refl
 line_has_none line.End v = refl

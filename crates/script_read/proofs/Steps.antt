@@ -10,6 +10,11 @@ pub bind_some : {A B : Type 0} (found : Option A) (next : A → Option B) (y : B
 bind_some (Some x) next y e = (x, refl, e)
 bind_some None next y e = absurd (cc)
 
+-- the same, for what is proved with that value
+pub bind_to : {A B : Type 0} (P : Type 0) (found : Option A) (next : A → Option B) (y : B) → (found >>= next) ≡ Some y → ((x : A) → found ≡ Some x → next x ≡ Some y → P) → P
+bind_to P (Some x) next y e go = go x refl e
+bind_to P None next y e go = absurd (cc)
+
 -- the value that was mapped
 pub map_some : {A B : Type 0} (g : A → B) (found : Option A) (y : B) → option_map g found ≡ Some y → (x : A) × (found ≡ Some x) × (g x ≡ y)
 map_some g (Some x) y e = (x, refl, cc)
@@ -23,6 +28,11 @@ some_is x y e = cc
 pub guard_some : {A : Type 0} (test : Bool) (x y : A) → (if test then Some x else None) ≡ Some y → (test ≡ true) × (x ≡ y)
 guard_some true x y e = (refl, cc)
 guard_some false x y e = absurd (cc)
+
+-- the same, for what is proved where the test passed
+pub guard_to : {A : Type 0} (P : Type 0) (test : Bool) (x y : A) → (if test then Some x else None) ≡ Some y → (test ≡ true → x ≡ y → P) → P
+guard_to P true x y e go = go refl (cc)
+guard_to P false x y e go = absurd (cc)
 
 -- two ways to go on
 pub either_way : {A : Type 0} (P : Type 0) (test : Bool) (x y : Option A) (z : A) → (if test then x else y) ≡ Some z → (test ≡ true → x ≡ Some z → P) → (test ≡ false → y ≡ Some z → P) → P

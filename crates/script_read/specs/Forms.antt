@@ -5,6 +5,7 @@ use Rattle.script_read.specs.Fields.{◌>>=◌, cut_of, number_of, register_of, 
 use Rattle.script_types.specs.declared.instruction.Instr.TheVariants as instr
 use Rattle.script_types.specs.declared.line.Line.{Line}
 use Rattle.script_types.specs.declared.line.Line.TheVariants as line
+use Rattle.sym_base.specs.declared.kind.Kind.TheVariants as kind
 
 -- `process NAME`, behind its first word, and so on below
 unfoldable pub process_form : List ℕ → Option Line
@@ -35,6 +36,13 @@ create_form rest = do
   made ← named_register_of words.1
   if bytes_eq words.0 (codes "mutex") then Some (line.Instr (instr.CreateMutex made.0 made.1)) else None
 
+-- `open mutex NAME rX`
+unfoldable pub open_form : List ℕ → Option Line
+open_form rest = do
+  words ← cut_of 32 rest
+  found ← named_register_of words.1
+  if bytes_eq words.0 (codes "mutex") then Some (line.Instr (instr.Open kind.Mutex found.0 found.1)) else None
+
 -- `dup rX rY`
 unfoldable pub dup_form : List ℕ → Option Line
 dup_form rest = do
@@ -57,7 +65,11 @@ go_form rest = do
 
 -- the line of one word
 unfoldable pub lone_form : List ℕ → Option Line
-lone_form word = if bytes_eq word (codes "schedule") then Some line.Schedule else (if bytes_eq word (codes "end") then Some line.End else None)
+lone_form word =
+    if bytes_eq word (codes "schedule") then Some line.Schedule
+    else (if bytes_eq word (codes "tick") then Some line.Tick
+    else (if bytes_eq word (codes "end") then Some line.End
+    else None))
 
 -- the line that begins with this word and goes on with the rest
 unfoldable pub worded_form : List ℕ → List ℕ → Option Line
@@ -66,10 +78,11 @@ worded_form first rest =
     else (if bytes_eq first (codes "process") then process_form rest
     else (if bytes_eq first (codes "thread") then thread_form rest
     else (if bytes_eq first (codes "create") then create_form rest
+    else (if bytes_eq first (codes "open") then open_form rest
     else (if bytes_eq first (codes "dup") then dup_form rest
     else (if bytes_eq first (codes "close") then close_form rest
     else (if bytes_eq first (codes "go") then go_form rest
-    else None))))))
+    else None)))))))
 
 -- the line of bytes that were cut at their first space, if they have one
 abbrev pub cut_line : List ℕ → Option (List ℕ × List ℕ) → Option Line

@@ -4,3 +4,4 @@ pub mod Forms
 pub mod Refusal
 pub mod Scripts
 pub mod Texts
+pub mod WiderScripts

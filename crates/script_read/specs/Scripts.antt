@@ -1,9 +1,11 @@
 -- Reading the lines of a script of one thread.
 use Rattle.std.specs.Prelude.{ℕ, Bool, true, false, ◌&&◌, ◌==◌, not, if◌then◌else◌, List, [], ◌∷◌, length, replicate, Option, Some, None, codes}
+use Rattle.std.specs.List.{list_all}
 use Rattle.std.specs.Str.{bytes_eq}
 use Rattle.script_read.specs.Fields.{◌>>=◌}
 use Rattle.script_read.specs.declared.script.Head.{Head}
 use Rattle.script_types.specs.declared.instruction.Instr.{Instr}
+use Rattle.script_types.specs.declared.instruction.Instr.TheVariants as instr
 use Rattle.script_types.specs.declared.line.Line.{Line}
 use Rattle.script_types.specs.declared.line.Line.TheVariants as line
 use Rattle.script_types.specs.declared.script.Script.{Script}
@@ -82,6 +84,14 @@ foot_of lines = do
 abbrev pub is_named : Head → Bool
 is_named head = not (bytes_eq head.process (codes "kernel")) && not (bytes_eq head.thread (codes "supervisor"))
 
+-- whether an instruction opens an object by its name, and whether none does
+abbrev pub opens : Instr → Bool
+opens (instr.Open what name x) = true
+opens _ = false
+
+abbrev pub opens_nothing : List Instr → Bool
+opens_nothing instrs = list_all (λ what. not (opens what)) instrs
+
 -- the script of one thread
 unfoldable pub single_script : Head → List Instr → ℕ → Script
 single_script head instrs slots = record {
@@ -101,4 +111,4 @@ unfoldable pub script_of : List Line → Option Script
 script_of lines = do
   head ← head_of lines
   slots ← foot_of (instrs_of head.1).1
-  if is_named head.0 then Some (single_script head.0 (instrs_of head.1).0 slots) else None
+  if is_named head.0 && opens_nothing (instrs_of head.1).0 then Some (single_script head.0 (instrs_of head.1).0 slots) else None

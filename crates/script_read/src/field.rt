@@ -127,7 +127,7 @@ fn is_object_name(word: &[u8]) -> bool
 }
 
 /// The name of an object that a word is, if it is one.
-#[tactic(auto, unfolding(crate::specs::Fields::object_name_of), using(crate::proofs::Names::object_name_is_name))]
+#[tactic(auto, unfolding(crate::specs::Fields::object_name_of), using(crate::proofs::ObjectNames::object_name_is_name))]
 pub fn read_object_name(word: &[u8]) -> Option<Name>
     ensures { result ≡ object_name_of word.now }
 {

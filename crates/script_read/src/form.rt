@@ -1,10 +1,10 @@
 //! The forms of lines: what stands behind a line's first word.
 ghost use Rattle.std.specs.Prelude.{◌≡◌};
-ghost use Rattle.script_read.specs.Forms.{process_form, thread_form, named_register_of, create_form, dup_form, close_form, go_form};
+ghost use Rattle.script_read.specs.Forms.{process_form, thread_form, named_register_of, create_form, open_form, dup_form, close_form, go_form};
 
 use crate::field::{cut, is_word, read_number, read_object_name, read_register};
 use script_types::{Instr, Line};
-use sym_base::Name;
+use sym_base::{Kind, Name};
 
 /// The byte between two words.
 pub const SPACE: u8 = b' ';
@@ -47,6 +47,20 @@ pub fn read_create(rest: &[u8]) -> Option<Line>
     let (name, register) = read_named_register(rest)?;
     if is_word(kind, "mutex") {
         Some(Line::Instr(Instr::CreateMutex(name, register)))
+    } else {
+        None
+    }
+}
+
+/// `open mutex NAME rX`.
+#[tactic(auto, unfolding(crate::specs::Forms::open_form))]
+pub fn read_open(rest: &[u8]) -> Option<Line>
+    ensures { result ≡ open_form rest.now }
+{
+    let (kind, rest) = cut(rest, SPACE)?;
+    let (name, register) = read_named_register(rest)?;
+    if is_word(kind, "mutex") {
+        Some(Line::Instr(Instr::Open(Kind::Mutex, name, register)))
     } else {
         None
     }

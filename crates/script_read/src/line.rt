@@ -3,7 +3,9 @@ ghost use Rattle.std.specs.Prelude.{◌≡◌};
 ghost use Rattle.script_read.specs.Forms.{lone_form, worded_form, line_of};
 
 use crate::field::{cut, is_word};
-use crate::form::{SPACE, read_close, read_create, read_dup, read_go, read_process, read_thread};
+use crate::form::{
+    SPACE, read_close, read_create, read_dup, read_go, read_open, read_process, read_thread,
+};
 use script_types::Line;
 
 /// The line that is one word.
@@ -13,6 +15,8 @@ fn read_lone(word: &[u8]) -> Option<Line>
 {
     if is_word(word, "schedule") {
         Some(Line::Schedule)
+    } else if is_word(word, "tick") {
+        Some(Line::Tick)
     } else if is_word(word, "end") {
         Some(Line::End)
     } else {
@@ -40,6 +44,9 @@ fn read_worded(first: &[u8], rest: &[u8]) -> Option<Line>
     }
     if is_word(first, "create") {
         return read_create(rest);
+    }
+    if is_word(first, "open") {
+        return read_open(rest);
     }
     if is_word(first, "dup") {
         return read_dup(rest);

@@ -11,7 +11,7 @@ use script_types::Script;
 use std::alloc::Global;
 use sym_base::NoMemory;
 
-/// The most bytes that a script may have.
+/// The most bytes that a script may have. The limit is this project's own.
 pub const MAX_SCRIPT_BYTES: usize = 4096;
 
 /// What reading a script answers.

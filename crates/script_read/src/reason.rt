@@ -3,7 +3,8 @@ ghost use Rattle.std.specs.Prelude.{◌≡◌, ◌≤◌, length};
 
 use std::fmt;
 
-/// What is wrong with the first bad line of a script. The reasons are tried in this order.
+/// What is wrong with the first bad line of a script. The reasons are tried in this order. They are this
+/// project's own.
 #[derive(Clone, Copy, Debug, PartialEq, Eq)]
 pub enum Reason {
     /// A byte of the line isn't 32 to 126.

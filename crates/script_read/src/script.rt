@@ -1,6 +1,6 @@
 //! The lines of a script of one thread.
 ghost use Rattle.std.specs.Prelude.{◌≡◌, ◌<◌, ◌==◌, length, replicate, option_map, IfOk, IfSome};
-ghost use Rattle.script_read.specs.Scripts.{first_of, process_of, thread_of, instr_of, next_instr_of, go_of, is_header, is_schedule, is_end, head_of, instrs_of, foot_of, is_named, single_script, script_of};
+ghost use Rattle.script_read.specs.Scripts.{first_of, process_of, thread_of, instr_of, next_instr_of, go_of, is_header, is_schedule, is_end, head_of, instrs_of, foot_of, is_named, opens, opens_nothing, single_script, script_of};
 ghost use Rattle.script_types.specs.declared.script.Slot.TheVariants as slot;
 
 use crate::field::is_word;
@@ -17,7 +17,7 @@ struct Head {
 }
 
 /// The first line, and those after it.
-fn split_first(lines: &[Line]) -> Option<(Line, &[Line])>
+pub fn split_first(lines: &[Line]) -> Option<(Line, &[Line])>
     ensures { option_map (λ parts. (parts.0, parts.1.now)) result ≡ first_of lines.now }
 {
     if lines.is_empty() {
@@ -67,21 +67,21 @@ fn go_count(line: Line) -> Option<u32>
 }
 
 /// Whether a line is the first of a script.
-fn is_header(line: &Line) -> bool
+pub fn is_header(line: &Line) -> bool
     ensures { result ≡ is_header line.now }
 {
     matches!(line, Line::Header)
 }
 
 /// Whether a line is `schedule`.
-fn is_schedule(line: &Line) -> bool
+pub fn is_schedule(line: &Line) -> bool
     ensures { result ≡ is_schedule line.now }
 {
     matches!(line, Line::Schedule)
 }
 
 /// Whether a line is the last of a script.
-fn is_end(line: &Line) -> bool
+pub fn is_end(line: &Line) -> bool
     ensures { result ≡ is_end line.now }
 {
     matches!(line, Line::End)
@@ -129,7 +129,7 @@ fn next_instruction(lines: &[Line]) -> Option<(Instr, &[Line])>
 }
 
 /// The instructions at the front, and the lines after them.
-fn read_instructions(alloc: Global, lines: &[Line]) -> Result<(Vec<Instr>, &[Line]), NoMemory>
+pub fn read_instructions(alloc: Global, lines: &[Line]) -> Result<(Vec<Instr>, &[Line]), NoMemory>
     ensures { IfOk result (λ found. (found.0.items, found.1.now) ≡ instrs_of lines.now) }
 {
     let mut instrs = Vec::new(alloc);
@@ -168,6 +168,20 @@ fn is_named(head: &Head) -> bool
     ensures { result ≡ is_named head.now }
 {
     !is_word(head.process.as_slice(), "kernel") && !is_word(head.thread.as_slice(), "supervisor")
+}
+
+/// Whether an instruction opens an object by its name.
+fn opens(what: &Instr) -> bool
+    ensures { result ≡ opens what.now }
+{
+    matches!(what, Instr::Open(..))
+}
+
+/// Whether no instruction opens an object by its name.
+fn opens_nothing(instrs: &[Instr]) -> bool
+    ensures { result ≡ opens_nothing instrs.now }
+{
+    instrs.iter().all(|what| !opens(what))
 }
 
 /// Slots in each of which the chosen actor acts once.
@@ -215,7 +229,7 @@ pub fn script_of_lines(alloc: Global, lines: &[Line]) -> Result<Option<Script>, 
     let Some(slots) = read_foot(foot) else {
         return Ok(None);
     };
-    if !is_named(&head) {
+    if !is_named(&head) || !opens_nothing(&instrs) {
         return Ok(None);
     }
     Ok(Some(make_script(alloc, head, Items::new(instrs), slots)?))

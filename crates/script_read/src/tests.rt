@@ -1,6 +1,7 @@
 use super::*;
 use script_types::{Instr, Script, Slot};
 use std::test::Fail;
+use sym_base::Kind;
 
 /// A whole script of one thread.
 const SCRIPT: &str =
@@ -88,5 +89,77 @@ fn words_of_reasons(rt: HostRuntime) -> Result<(), Fail> {
     };
     let text = format!(in rt.alloc(); "{fault}")?;
     assert_eq!(rt; text.as_str(), "refused line 0 unbuilt");
+    Ok(())
+}
+
+/// A script in which a mutex dies between its search and its opening.
+const TWO_THREADS: &str =
+    "eka2 1\nprocess p\nthread a 10\ncreate mutex m r0\nclose r0\nthread b 10\nopen mutex m r1\nschedule\ngo 1\ntick\ngo 1\ntick\ngo 1\ntick\ngo 1\ntick\ngo 1\nend\n";
+
+fn is_script_of_two_threads(script: &Script) -> bool {
+    let threads = script.threads.as_slice();
+    if threads.len() != 2 || script.slots.len() != 9 {
+        return false;
+    }
+    let first = threads[0].instrs.as_slice();
+    let second = threads[1].instrs.as_slice();
+    script.processes.len() == 1
+        && first.len() == 2
+        && second.len() == 1
+        && threads[1].name.as_slice() == b"b".as_slice()
+        && threads[1].process == Some(0)
+        && matches!(first[0], Instr::CreateMutex(_, 0))
+        && matches!(first[1], Instr::Close(0))
+        && matches!(second[0], Instr::Open(Kind::Mutex, _, 1))
+        && matches!(script.slots.as_slice()[1], Slot::Tick)
+        && matches!(script.slots.as_slice()[8], Slot::Go)
+}
+
+#[test]
+fn reads_several_threads(rt: HostRuntime) -> Result<(), Fail> {
+    match read_wider(rt.alloc(), TWO_THREADS.as_bytes()) {
+        ReadScript::Script(script) => assert!(rt; is_script_of_two_threads(&script)),
+        _ => assert!(rt; false, "the script is refused"),
+    }
+    for text in [
+        "eka2 1\nend\n",
+        "eka2 1\nschedule\nend\n",
+        "eka2 1\nprocess p\nthread a 0\nprocess q\nthread b 0\nthread c 0\nend\n",
+    ] {
+        let answer = read_wider(rt.alloc(), text.as_bytes());
+        assert!(rt; matches!(answer, ReadScript::Script(_)), "{text}");
+    }
+    Ok(())
+}
+
+#[test]
+fn refuses_other_texts_of_several_threads(rt: HostRuntime) -> Result<(), Fail> {
+    let texts = [
+        "eka2 1\nprocess p\nprocess q\nthread a 0\nend\n",
+        "eka2 1\nprocess p\nend\n",
+        "eka2 1\nthread a 0\nend\n",
+        "eka2 1\nprocess p\nclose r0\nthread a 0\nend\n",
+        "eka2 1\nprocess p\nthread a 0\nthread a 0\nend\n",
+        "eka2 1\nprocess p\nthread a 0\nprocess p\nthread b 0\nend\n",
+        "eka2 1\nprocess p\nthread supervisor 0\nend\n",
+        "eka2 1\nprocess p\nthread a 0\ngo 1\nend\n",
+        "eka2 1\nprocess p\nthread a 0\nschedule\nschedule\nend\n",
+        "eka2 1\nprocess p\nthread a 0\nschedule\ngo 65536\ntick\nend\n",
+        "eka2 1\nprocess p\nthread a 0\nopen process m r0\nend\n",
+        "eka2 1\nprocess p\nthread a 0\nschedule\ngo 1\nend",
+    ];
+    for text in texts {
+        let answer = read_wider(rt.alloc(), text.as_bytes());
+        assert!(rt;
+            matches!(
+                answer,
+                ReadScript::Refused {
+                    line: 0,
+                    reason: Reason::Unbuilt
+                }
+            ),
+            "{text}"
+        );
+    }
     Ok(())
 }

@@ -4,8 +4,7 @@ use Rattle.std.proofs.lemmas.List.{length-map}
 use Rattle.std.specs.List.{AllByRecursion, flat_map, slice_get}
 use Rattle.script_types.specs.ScriptText.{lines_text, thread_lines, script_lines}
 use Rattle.script_types.specs.Shape.{HasRegisters, IsShaped}
-use Rattle.script_types.specs.ValidLine.{IsValidInstr}
-use Rattle.script_types.specs.Valid.{IsOne, IsValidProcess, IsValidThread, IsValid}
+use Rattle.script_types.specs.Valid.{IsOne, IsValidInstr, IsValidProcess, IsValidThread, IsValid}
 use Rattle.script_types.specs.declared.declaration.ThreadDecl.{ThreadDecl}
 use Rattle.script_types.specs.declared.instruction.Instr.{Instr}
 use Rattle.script_types.specs.declared.instruction.Instr.TheVariants as instr
@@ -33,6 +32,7 @@ one_at P (y ∷ z ∷ rest) one k x h = absurd one
 -- the registers of an instruction
 pub valid_registers : (what : Instr) → IsValidInstr what → HasRegisters what
 valid_registers (instr.CreateMutex name x) h = h.1
+valid_registers (instr.Open what name x) h = absurd h
 valid_registers (instr.Dup x y) h = h
 valid_registers (instr.Close x) h = h
 

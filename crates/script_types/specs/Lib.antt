@@ -6,3 +6,4 @@ pub mod Shape
 pub mod TextLines
 pub mod Valid
 pub mod ValidLine
+pub mod WiderGrammar

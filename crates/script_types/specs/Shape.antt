@@ -9,6 +9,7 @@ use Rattle.script_types.specs.declared.script.Script.{Script}
 -- each register that an instruction names is one of the eight
 abbrev pub HasRegisters : Instr → Type 0
 HasRegisters (instr.CreateMutex name x) = x < 8
+HasRegisters (instr.Open what name x) = x < 8
 HasRegisters (instr.Dup x y) = (x < 8) × (y < 8)
 HasRegisters (instr.Close x) = x < 8
 

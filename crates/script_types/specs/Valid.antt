@@ -3,9 +3,10 @@ use Rattle.std.specs.List.{AllByRecursion}
 use Rattle.std.specs.Prelude.{◌≡◌, ◌≢◌, ◌<◌, ◌≤◌, false, IsTrue, List, [], ◌∷◌, Some, length, replicate, codes}
 use Rattle.script_types.specs.ObjectName.{is_object_name}
 use Rattle.script_types.specs.ScriptText.{script_text}
-use Rattle.script_types.specs.ValidLine.{IsValidInstr}
 use Rattle.script_types.specs.declared.declaration.ProcessDecl.{ProcessDecl}
 use Rattle.script_types.specs.declared.declaration.ThreadDecl.{ThreadDecl}
+use Rattle.script_types.specs.declared.instruction.Instr.{Instr}
+use Rattle.script_types.specs.declared.instruction.Instr.TheVariants as instr
 use Rattle.script_types.specs.declared.script.Script.{Script}
 use Rattle.script_types.specs.declared.script.Slot.TheVariants as slot
 
@@ -14,6 +15,13 @@ abbrev pub IsOne : {A : Type 0} → (A → Type 0) → List A → Type 0
 IsOne P [] = ⊥
 IsOne P (item ∷ []) = P item
 IsOne P (item ∷ next ∷ rest) = ⊥
+
+-- an instruction: its name is one of an object, and its registers are 0 to 7. None opens an object
+abbrev pub IsValidInstr : Instr → Type 0
+IsValidInstr (instr.CreateMutex name x) = IsTrue (is_object_name name) × (x < 8)
+IsValidInstr (instr.Open what name x) = ⊥
+IsValidInstr (instr.Dup x y) = (x < 8) × (y < 8)
+IsValidInstr (instr.Close x) = x < 8
 
 -- a process. The kernel's own process is `kernel`
 pub record IsValidProcess (process : ProcessDecl) : Type 0 where

@@ -3,7 +3,7 @@ use crate::Instr;
 use sym_base::Name;
 
 /// One line of a script's text. The forms of its words are part of the line, and so are the ranges
-/// of its numbers; which lines may follow one another isn't.
+/// of its numbers; which lines may follow one another isn't. The lines are this project's own.
 #[derive(Clone, Copy)]
 pub enum Line {
     /// `eka2 1`: the first line of a script.
@@ -18,6 +18,8 @@ pub enum Line {
     Schedule,
     /// `go N`: 1 to 65,536 slots in each of which the chosen actor acts once.
     Go(u32),
+    /// `tick`: one slot in which a time slice ends.
+    Tick,
     /// `end`: the last line.
     End,
 }
