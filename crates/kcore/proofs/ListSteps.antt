@@ -1,6 +1,8 @@
 -- One item more of a list.
-use Rattle.std.proofs.Common.{◌≡◌, inl, inr, ℕ, suc, zero, ◌+◌, ◌<◌, List, [], ◌∷◌, ◌++◌, length, take, get_or, arith, sym, ap, ◌∙◌, add-one, Option, Some, None}
+use Rattle.std.proofs.Common.{◌≡◌, inl, inr, ℕ, suc, zero, ◌+◌, ◌<◌, List, [], ◌∷◌, ◌++◌, length, take, get_or, arith, sym, ap, ◌∙◌, add-one, Option, Some, None, true}
 use Rattle.std.specs.Prelude.{slice_get, slice_index}
+use Rattle.machine.specs.declared.state.ObjectRow.{ObjectRow}
+use Rattle.machine.specs.Open.{is_open}
 use Rattle.std.proofs.lemmas.Bool.{cases_lt}
 use Rattle.std.proofs.lemmas.List.{get_or_append_left, get_or_push}
 
@@ -22,3 +24,12 @@ counts_more counts n count P long each last k lt = elim (cases_lt k n) [
   | inl before ↦ get_or_append_left counts (count ∷ []) 0 k (omega arith) ∙ each k before
   | inr after ↦ let at : k ≡ n = omega arith in get_or_push counts count 0 k (long ∙ sym at) ∙ last ∙ ap P (sym at)
 ]
+
+open_inside : (rows : List (Option ObjectRow)) (i : ℕ) → is_open (get_or rows i None) ≡ true → i < length rows
+open_inside [] i h = cc
+open_inside (x ∷ xs) zero h = omega arith
+open_inside (x ∷ xs) (suc i) h = let r = open_inside xs i h in omega arith
+
+-- an object that may be opened is one of the rows
+pub open_made : (rows : List (Option ObjectRow)) (i : ℕ) (row : Option ObjectRow) → row ≡ get_or rows i None → is_open row ≡ true → i < length rows
+open_made rows i row e h = open_inside rows i (ap is_open (sym e) ∙ h)

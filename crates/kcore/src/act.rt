@@ -2,12 +2,14 @@
 ghost use Rattle.std.specs.Prelude.{◌≡◌, ◌<◌, [], ◌∷◌, Some, drop, length, IfOk};
 ghost use Rattle.std.specs.List.{slice_index_or};
 ghost use Rattle.script_types.specs.Shape.{HasRegisters};
-ghost use Rattle.machine.specs.Act.{act, act_by, act_of, instruction, instruction_step, is_ready, nothing, settled};
+ghost use Rattle.machine.specs.Act.{act, act_by, act_of, instruction, instruction_step, is_ready, settled};
+ghost use Rattle.machine.specs.Acted.{nothing};
 ghost use Rattle.machine.specs.ActedBy.{acted};
 ghost use Rattle.machine.specs.History.{acted_by};
 ghost use Rattle.machine.specs.Pay.{pay};
 ghost use Rattle.machine.specs.Rows.{owed_of, thread_of};
 ghost use Rattle.machine.specs.Table.{look};
+ghost use Rattle.machine.specs.Tick.{tick};
 ghost use Rattle.kcore.specs.Counts.{CountsMove};
 ghost use Rattle.kcore.specs.Standing.{AreGood, IsStanding};
 ghost use Rattle.kcore.specs.StateOf.{state_of, HasRows};
@@ -15,12 +17,13 @@ ghost use Rattle.kcore.specs.StateOf.{state_of, HasRows};
 use crate::close::close_do;
 use crate::create::create_mutex;
 use crate::dup::{dup_do, dup_look};
+use crate::open::{find_object, open_do, open_return, open_seek};
 use crate::pay::{pay_close, pay_sweep};
 use crate::tables::{Tables, first_owed};
 use entry_log::{Actor, Effects, Step};
 use machine::{Outcome, Owed, Phase, ThreadRow};
 use script_types::{Instr, Script};
-use sym_base::{NoMemory, ObjNo, ThreadNo};
+use sym_base::{Kind, Name, NoMemory, ObjNo, ThreadNo};
 
 /// Nobody acts.
 fn nothing(tables: &Tables) -> Outcome
@@ -66,7 +69,25 @@ fn dup_step(
             let found = look(tables, thread, &row, row.registers[from as usize]);
             dup_look(tables, thread, row, found)
         }
+        Phase::Found(_) => Ok(nothing(tables)),
         Phase::Using(object) => dup_do(tables, thread, row, object, to),
+    }
+}
+
+/// A step of `open`.
+fn open_step(script: &Script, tables: &mut Tables, thread: ThreadNo, row: ThreadRow, kind: Kind, name: Name, register: u8) -> Result<Outcome, NoMemory>
+    requires standing { IsStanding script.now tables.old thread row }
+    requires register { register < 8 }
+    ensures state { IfOk result (λ outcome. acted (state_of tables.new) outcome ≡ instruction_step (state_of tables.old) thread row (Instr.Open kind name register)) }
+    ensures counts { IfOk result (λ outcome. CountsMove tables.old.objects.counts tables.new.objects.counts outcome.effects) }
+{
+    match row.phase {
+        Phase::Start => {
+            let found = find_object(tables, kind, &name);
+            open_seek(tables, thread, row, found)
+        }
+        Phase::Found(object) => open_return(tables, thread, row, object),
+        Phase::Using(object) => open_do(tables, thread, row, object, register),
     }
 }
 
@@ -103,6 +124,7 @@ fn instruction_step(
 {
     match instr {
         Instr::CreateMutex(name, register) => create_mutex(tables, thread, row, name, register),
+        Instr::Open(kind, name, register) => open_step(script, tables, thread, row, kind, name, register),
         Instr::Dup(from, to) => dup_step(script, tables, thread, row, from, to),
         Instr::Close(register) => close_step(script, tables, thread, row, register),
     }
@@ -207,7 +229,21 @@ fn act(script: &Script, tables: &mut Tables, thread: ThreadNo) -> Result<Outcome
     Ok(outcome)
 }
 
-/// An action of an actor. Only threads do something yet.
+/// The end of a time slice.
+#[tactic(auto, unfolding(machine::specs::Tick::tick))]
+fn tick(tables: &mut Tables) -> Result<Outcome, NoMemory>
+    ensures state { IfOk result (λ outcome. acted (state_of tables.new) outcome ≡ tick (state_of tables.old)) }
+    ensures counts { IfOk result (λ outcome. CountsMove tables.old.objects.counts tables.new.objects.counts outcome.effects) }
+{
+    tables.ready.turn()?;
+    Ok(Outcome {
+        step: Step::Turn,
+        effects: Effects::new(),
+        answer: None,
+    })
+}
+
+/// An action of an actor. Interrupts and deferred calls do nothing yet.
 pub fn acted_by(script: &Script, tables: &mut Tables, actor: Actor) -> Result<Outcome, NoMemory>
     requires { AreGood script.now tables.old }
     ensures state { IfOk result (λ outcome. acted (state_of tables.new) outcome ≡ acted_by script.now (state_of tables.old) actor) }
@@ -215,6 +251,7 @@ pub fn acted_by(script: &Script, tables: &mut Tables, actor: Actor) -> Result<Ou
 {
     match actor {
         Actor::Thread(thread) => act(script, tables, thread),
-        Actor::Irq(_) | Actor::Idfc | Actor::Tick | Actor::Idle => Ok(nothing(tables)),
+        Actor::Tick => tick(tables),
+        Actor::Irq(_) | Actor::Idfc | Actor::Idle => Ok(nothing(tables)),
     }
 }

@@ -21,7 +21,7 @@ fn owe_use(tables: &mut Tables, thread: ThreadNo, phase: Phase) -> Result<(), No
     ensures counts { tables.new.objects.counts ≡ tables.old.objects.counts }
 {
     match phase {
-        Phase::Start => Ok(()),
+        Phase::Start | Phase::Found(_) => Ok(()),
         Phase::Using(object) => owe(
             &mut tables.owed,
             thread,

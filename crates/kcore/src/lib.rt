@@ -10,6 +10,7 @@ mod dup;
 mod handles;
 mod kernel;
 mod objects;
+mod open;
 mod pay;
 mod ready;
 mod tables;

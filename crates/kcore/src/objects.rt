@@ -1,8 +1,9 @@
 //! The table of objects: their rows by number, and how many references each has.
-ghost use Rattle.std.specs.Prelude.{◌≡◌, ◌+◌, ◌-◌, ◌<◌, ◌≤◌, ◌==◌, ◌↔◌, [], ◌∷◌, ◌++◌, length, false, IsTrue, IfOk, slice_index, slice_set};
+ghost use Rattle.std.specs.Prelude.{◌≡◌, ◌+◌, ◌-◌, ◌<◌, ◌≤◌, ◌==◌, ◌↔◌, [], ◌∷◌, ◌++◌, length, false, IsTrue, IfOk, IfSome, slice_index, slice_set};
 ghost use Rattle.std.specs.List.{list_any, slice_index_or};
 ghost use Rattle.machine.specs.Acted.{dead_row};
 ghost use Rattle.machine.specs.Create.{has_name};
+ghost use Rattle.machine.specs.Open.{named_from};
 
 use machine::{MAX_OBJECTS, ObjectRow};
 use std::alloc::Global;
@@ -54,6 +55,14 @@ impl Objects {
             .any(|row| machine::has_name(kind, name, row))
     }
 
+    /// The number of the unswept object of this kind and name.
+    pub fn named(&self, kind: Kind, name: &Name) -> Option<ObjNo>
+        ensures named { result ≡ named_from kind name.now 0 self.now.rows }
+        ensures within { IfSome result (λ object. object.0 < length self.now.rows) }
+    {
+        machine::named(kind, name, &self.rows)
+    }
+
     /// Whether as many objects were made as may be.
     pub fn is_full(&self) -> bool
         ensures full { result ≡ (length self.now.rows == 4096) }
@@ -76,12 +85,16 @@ impl Objects {
         ObjNo(number)
     }
 
-    /// The object's row; None once it is swept.
+    /// The object's row; None exactly where it isn't made or is swept.
     pub fn row(&self, object: ObjNo) -> Option<ObjectRow>
-        requires { object.0 < length self.now.rows }
         ensures { result ≡ slice_index_or self.now.rows object.0 None }
     {
-        self.rows[object.0 as usize]
+        let at = object.0 as usize;
+        if at < self.rows.len() {
+            self.rows[at]
+        } else {
+            None
+        }
     }
 
     /// The number of references to the object.

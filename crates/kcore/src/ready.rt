@@ -1,10 +1,11 @@
 //! The ready threads, in order of arrival.
-ghost use Rattle.std.specs.Prelude.{◌≡◌, ◌==◌, not, filter};
+ghost use Rattle.std.specs.Prelude.{◌≡◌, ◌==◌, not, filter, OnOk};
 ghost use Rattle.machine.specs.Choice.{greatest, first_of_greatest};
+ghost use Rattle.machine.specs.Tick.{turned, moved_behind};
 
 use machine::Queued;
 use std::marker::Model;
-use sym_base::ThreadNo;
+use sym_base::{NoMemory, ThreadNo};
 
 /// The ready threads with their priorities. A contract sees the list in order of arrival.
 #[derive(Drop)]
@@ -36,6 +37,14 @@ impl Ready {
         machine::first_of_greatest(&self.queue)
     }
 
+    /// Puts the thread that `pick` gives behind its equals.
+    pub fn turn(&mut self) -> Result<(), NoMemory>
+        ensures { OnOk result (self.new ≡ turned self.old) }
+    {
+        let first = self.pick();
+        move_behind(&mut self.queue, first)
+    }
+
     /// Takes a thread away.
     pub fn remove(&mut self, thread: ThreadNo)
         ensures { self.new ≡ filter (λ q. not (q.thread.0 == thread.0)) self.old }
@@ -49,4 +58,16 @@ fn remove_thread(queue: &mut Vec<Queued>, thread: u16)
     ensures { queue.new.items ≡ filter (λ q. not (q.thread.0 == thread)) queue.old.items }
 {
     queue.retain(|queued| queued.thread.0 != thread);
+}
+
+/// Gives a thread a new arrival.
+fn move_behind(queue: &mut Vec<Queued>, first: Option<Queued>) -> Result<(), NoMemory>
+    ensures { OnOk result (queue.new.items ≡ moved_behind queue.old.items first) }
+{
+    let Some(first) = first else {
+        return Ok(());
+    };
+    remove_thread(queue, first.thread.0);
+    queue.push(first)?;
+    Ok(())
 }

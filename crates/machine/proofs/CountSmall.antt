@@ -3,7 +3,7 @@ use Rattle.std.proofs.Common.{◌≡◌, ◌*◌, ◌<◌, ◌≤◌, Bool, true
 use Rattle.sym_base.specs.declared.number.ObjNo.{ObjNo}
 use Rattle.script_types.specs.declared.script.Script.{Script}
 use Rattle.machine.specs.declared.state.Phase.{Phase}
-use Rattle.machine.specs.declared.state.Phase.TheVariants.{Start, Using}
+use Rattle.machine.specs.declared.state.Phase.TheVariants.{Start, Using, Found}
 use Rattle.machine.specs.declared.state.ThreadRow.{ThreadRow}
 use Rattle.machine.specs.declared.state.Owed.{Owed}
 use Rattle.machine.specs.declared.state.Owed.TheVariants.{Close, Sweep}
@@ -27,6 +27,7 @@ option_le o (Some x) = same_le x o
 
 phase_le : (o : ObjNo) (phase : Phase) → phase_names o phase ≤ 1
 phase_le o Start = omega arith
+phase_le o (Found x) = omega arith
 phase_le o (Using x) = same_le x o
 
 thread_le : (o : ObjNo) (row : Option ThreadRow) → thread_names o row ≤ 2

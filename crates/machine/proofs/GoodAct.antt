@@ -5,7 +5,7 @@ use Rattle.std.proofs.lemmas.Bool.{eq-eqb, cases_eq}
 use Rattle.sym_base.specs.declared.number.ObjNo.{ObjNo}
 use Rattle.script_types.specs.declared.script.Script.{Script}
 use Rattle.script_types.specs.declared.instruction.Instr.{Instr}
-use Rattle.script_types.specs.declared.instruction.Instr.TheVariants.{CreateMutex, Dup as DupInstr, Close as CloseInstr}
+use Rattle.script_types.specs.declared.instruction.Instr.TheVariants.{CreateMutex, Dup as DupInstr, Close as CloseInstr, Open as OpenInstr}
 use Rattle.machine.specs.declared.state.Owed.{Owed}
 use Rattle.machine.specs.declared.state.ThreadRow.{ThreadRow}
 use Rattle.machine.specs.declared.state.State.{State}
@@ -17,7 +17,7 @@ use Rattle.machine.proofs.Cases.{if_cases}
 use Rattle.machine.proofs.Shape.{Shape}
 use Rattle.machine.proofs.Live.{same_object, Live}
 use Rattle.machine.proofs.GoodSteps.{Keeps}
-use Rattle.machine.proofs.KeepsSteps.{IsStepping}
+use Rattle.machine.proofs.KeepsSteps.{IsStepping, keeps-open_step}
 use Rattle.machine.proofs.KeepsSteps.{duties_inside, keeps-create_mutex, keeps-dup_step}
 use Rattle.machine.proofs.KeepsClose.{keeps-close_do, keeps-pay}
 use Rattle.machine.proofs.Shape.{shape_of}
@@ -38,6 +38,7 @@ slice_get_inside xs i x h = elim (cases_lt i (length xs)) [ inl lt ↦ lt | inr 
 
 pub keeps-instruction_step : (script : Script) (S : State) (t : ObjNo) (row : ThreadRow) (instr : Instr) → IsStepping script S t row → Keeps script S t (instruction_step S t row instr).state
 keeps-instruction_step script S t row (CreateMutex name x) h = keeps-create_mutex script S t row name x h
+keeps-instruction_step script S t row (OpenInstr kind name x) h = keeps-open_step script S t row kind name x row.phase h refl
 keeps-instruction_step script S t row (DupInstr x y) h = keeps-dup_step script S t row x y row.phase h refl
 keeps-instruction_step script S t row (CloseInstr x) h = keeps-close_do script S t row (slice_index row.registers x) (look S t row (slice_index row.registers x)) h refl
 
@@ -79,10 +80,10 @@ each-others script S t T [] others h = tt
 each-others script S t T (q ∷ qs) others h = others_step script S t T q qs (q.thread.0 == t.0) refl others h.0 (each-others script S t T qs others h.1)
 
 -- shape and readiness don't look at the ready list
-moved_shape : (script : Script) (T : State) (qs : List Queued) → Shape script T → Shape script (record T { ready = qs })
+pub moved_shape : (script : Script) (T : State) (qs : List Queued) → Shape script T → Shape script (record T { ready = qs })
 moved_shape script T qs s = record { tables = s.tables; duties = s.duties; first = s.first; threads_few = s.threads_few; objects_few = s.objects_few; places = s.places; instances = s.instances; rows = λ u r is. let g = s.rows u r is in record { process = g.process; place = g.place; registers = g.registers }; owed_few = s.owed_few }
 
-each_moved : (script : Script) (T : State) (qs ready : List Queued) → EachReady script T qs → EachReady script (record T { ready = ready }) qs
+pub each_moved : (script : Script) (T : State) (qs ready : List Queued) → EachReady script T qs → EachReady script (record T { ready = ready }) qs
 each_moved script T [] ready h = tt
 each_moved script T (q ∷ qs) ready h = (h.0, each_moved script T qs ready h.1)
 

@@ -7,7 +7,7 @@ use Rattle.sym_base.specs.declared.number.ObjNo.{ObjNo}
 use Rattle.script_types.specs.declared.script.Script.{Script}
 use Rattle.machine.specs.declared.state.Place.{Place}
 use Rattle.machine.specs.declared.state.Phase.{Phase}
-use Rattle.machine.specs.declared.state.Phase.TheVariants.{Start, Using}
+use Rattle.machine.specs.declared.state.Phase.TheVariants.{Start, Using, Found}
 use Rattle.machine.specs.declared.state.ThreadRow.{ThreadRow}
 use Rattle.machine.specs.declared.state.State.{State}
 use Rattle.machine.specs.Rows.{object_of, thread_of, table_of, owed_of, with_place, owing, advanced}
@@ -43,6 +43,7 @@ IsAtInstruction script row = row.place < length (instructions_of (declared_of sc
 -- an instruction's object is used, so it is alive
 owed_use_few : (t : ObjNo) (phase : Phase) → length (owed_use t phase) ≤ 1
 owed_use_few t Start = omega arith
+owed_use_few t (Found o) = omega arith
 owed_use_few t (Using o) = omega arith
 
 -- a step that answers; only registers may have changed in the row

@@ -1,10 +1,12 @@
 -- Facts over whole histories, from the facts about one action.
 use Rattle.std.proofs.Common.{◌≡◌, ℕ, ◌+◌, List, [], ◌∷◌, ◌++◌, length, arith, refl, subst, ap, Option, Some, None, Bool, true, false}
-use Rattle.std.specs.Prelude.{IsTrue, find, ◌==◌, if◌then◌else◌}
+use Rattle.std.specs.Prelude.{IsTrue, find, ◌==◌, if◌then◌else◌, filter, not}
 use Rattle.script_types.specs.declared.script.Script.{Script}
 use Rattle.entry_log.specs.declared.entry.Entry.{Entry}
 use Rattle.entry_log.specs.declared.entry.Actor.{Actor}
 use Rattle.entry_log.specs.declared.entry.Actor.TheVariants.{Thread, Irq, Idfc, Tick, Idle}
+use Rattle.machine.proofs.Shape.{shape_of}
+use Rattle.machine.specs.Tick.{tick, turned, moved_behind}
 use Rattle.machine.specs.declared.state.Queued.{Queued}
 use Rattle.machine.specs.declared.state.State.{State}
 use Rattle.machine.specs.Act.{is_ready}
@@ -12,7 +14,7 @@ use Rattle.machine.specs.Boot.{boot}
 use Rattle.machine.specs.Choice.{first_of_greatest, greatest, actor_of}
 use Rattle.machine.specs.Good.{Good, EachReady}
 use Rattle.machine.specs.History.{next, after, after_from, CanAct, IsNext, IsLegal, IsLegalFrom}
-use Rattle.machine.proofs.GoodAct.{good-act}
+use Rattle.machine.proofs.GoodAct.{good-act, good_of, moved_shape, each_moved}
 
 -- the state after one more entry
 pub after_from-push : (script : Script) (S : State) (es : List Entry) (e : Entry) → after_from script S (es ++ e ∷ []) ≡ next script (after_from script S es) e.actor
@@ -30,18 +32,6 @@ legal_from-push script S place (x ∷ xs) e h n = (h.0, legal_from-push script (
 pub legal-push : (script : Script) (history : List Entry) (e : Entry) → IsLegal script history → IsNext script (after script history) (length history + 1) e → IsLegal script (history ++ e ∷ [])
 legal-push script history e h n = legal_from-push script (boot script) 1 history e h (subst (λ (p : ℕ). IsNext script (after script history) p e) (omega arith) n)
 
--- whatever an actor does leaves a well-formed state
-pub good-next : (script : Script) (S : State) (actor : Actor) → Good script S → Good script (next script S actor)
-good-next script S (Thread t) g = good-act script S t g
-good-next script S (Irq k) g = g
-good-next script S Idfc g = g
-good-next script S Tick g = g
-good-next script S Idle g = g
-
-pub good-after_from : (script : Script) (S : State) (es : List Entry) → Good script S → Good script (after_from script S es)
-good-after_from script S [] g = g
-good-after_from script S (e ∷ es) g = good-after_from script (next script S e.actor) es (good-next script S e.actor g)
-
 -- the chosen thread has something to do
 find-ready_step : (script : Script) (S : State) (p : Queued → Bool) (x : Queued) (xs : List Queued) (b : Bool) (q : Queued) → (if b then Some x else find p xs) ≡ Some q → is_ready script S x.thread ≡ true → (find p xs ≡ Some q → is_ready script S q.thread ≡ true) → is_ready script S q.thread ≡ true
 find-ready_step script S p x xs true q found h rest = cc
@@ -50,6 +40,40 @@ find-ready_step script S p x xs false q found h rest = rest found
 find-ready : (script : Script) (S : State) (p : Queued → Bool) (xs : List Queued) (q : Queued) → find p xs ≡ Some q → EachReady script S xs → is_ready script S q.thread ≡ true
 find-ready script S p [] q found h = cc
 find-ready script S p (x ∷ xs) q found h = find-ready_step script S p x xs (p x) q found h.0 (λ f. find-ready script S p xs q f h.1)
+
+each-filtered_step : (script : Script) (S : State) (b : Bool) (q : Queued) (rest : List Queued) → is_ready script S q.thread ≡ true → EachReady script S rest → EachReady script S (if b then q ∷ rest else rest)
+each-filtered_step script S true q rest r h = (r, h)
+each-filtered_step script S false q rest r h = h
+
+each-filtered : (script : Script) (S : State) (p : Queued → Bool) (qs : List Queued) → EachReady script S qs → EachReady script S (filter p qs)
+each-filtered script S p [] h = tt
+each-filtered script S p (q ∷ qs) h = each-filtered_step script S (p q) q (filter p qs) h.0 (each-filtered script S p qs h.1)
+
+each-pushed : (script : Script) (S : State) (qs : List Queued) (q : Queued) → EachReady script S qs → is_ready script S q.thread ≡ true → EachReady script S (qs ++ q ∷ [])
+each-pushed script S [] q h r = (r, tt)
+each-pushed script S (x ∷ xs) q h r = (h.0, each-pushed script S xs q h.1 r)
+
+each-moved_behind : (script : Script) (S : State) (qs : List Queued) (found : Option Queued) → first_of_greatest qs ≡ found → EachReady script S qs → EachReady script S (moved_behind qs found)
+each-moved_behind script S qs None e h = h
+each-moved_behind script S qs (Some q) e h = each-pushed script S (filter (λ x. not (x.thread.0 == q.thread.0)) qs) q (each-filtered script S (λ x. not (x.thread.0 == q.thread.0)) qs h) (find-ready script S (λ x. x.priority == greatest qs) qs q e h)
+
+-- the end of a time slice leaves a well-formed state
+pub good-tick : (script : Script) (S : State) → Good script S → Good script (tick S).state
+unfolding tick
+good-tick script S g = good_of script (record S { ready = turned S.ready }) (moved_shape script S (turned S.ready) (shape_of g)) (record { alive = g.alive; sweeps = g.sweeps })
+  (each_moved script S (turned S.ready) (turned S.ready) (each-moved_behind script S S.ready (first_of_greatest S.ready) refl g.ready))
+
+-- whatever an actor does leaves a well-formed state
+pub good-next : (script : Script) (S : State) (actor : Actor) → Good script S → Good script (next script S actor)
+good-next script S (Thread t) g = good-act script S t g
+good-next script S (Irq k) g = g
+good-next script S Idfc g = g
+good-next script S Tick g = good-tick script S g
+good-next script S Idle g = g
+
+pub good-after_from : (script : Script) (S : State) (es : List Entry) → Good script S → Good script (after_from script S es)
+good-after_from script S [] g = g
+good-after_from script S (e ∷ es) g = good-after_from script (next script S e.actor) es (good-next script S e.actor g)
 
 pub chosen_is_ready : (script : Script) (S : State) (q : Queued) → Good script S → first_of_greatest S.ready ≡ Some q → is_ready script S q.thread ≡ true
 chosen_is_ready script S q g found = find-ready script S (λ x. x.priority == greatest S.ready) S.ready q found g.ready

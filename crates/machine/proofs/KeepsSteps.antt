@@ -1,19 +1,20 @@
 -- Each step of a thread leaves a well-formed state: the steps, one by one.
 use Rattle.std.proofs.Common.{◌≡◌, ◌≢◌, ℕ, ◌+◌, ◌<◌, ◌≤◌, List, [], ◌∷◌, ◌++◌, length, arith, refl, sym, subst, ap, ◌∙◌, Option, Some, None, Bool, true, false}
-use Rattle.std.specs.Prelude.{slice_set, slice_index, ◌==◌, ◌||◌}
+use Rattle.std.specs.Prelude.{slice_set, slice_index, ◌==◌, ◌||◌, if◌then◌else◌}
 use Rattle.std.proofs.lemmas.List.{get_or-set_other, length-set, length-append, get_or_push, length_push}
 use Rattle.std.proofs.lemmas.Bool.{eq-eqb}
 use Rattle.sym_base.specs.declared.number.ObjNo.{ObjNo}
 use Rattle.sym_base.specs.declared.kind.Kind.TheVariants.{Mutex}
 use Rattle.entry_log.specs.declared.step.Step.{Step}
 use Rattle.entry_log.specs.declared.step.Step.TheVariants.{Of}
-use Rattle.entry_log.specs.declared.step.Word.TheVariants.{Create, Dup}
+use Rattle.entry_log.specs.declared.step.Word.TheVariants.{Create, Dup, Open}
 use Rattle.entry_log.specs.declared.step.Part.TheVariants.{Do}
 use Rattle.script_types.specs.declared.script.Script.{Script}
+use Rattle.machine.specs.declared.state.ObjectRow.{ObjectRow}
 use Rattle.machine.specs.declared.state.Owed.{Owed}
 use Rattle.machine.specs.declared.state.Owed.TheVariants.{Sweep}
 use Rattle.machine.specs.declared.state.Phase.{Phase}
-use Rattle.machine.specs.declared.state.Phase.TheVariants.{Start, Using}
+use Rattle.machine.specs.declared.state.Phase.TheVariants.{Start, Using, Found}
 use Rattle.machine.specs.declared.state.ThreadRow.{ThreadRow}
 use Rattle.machine.specs.declared.state.State.{State}
 use Rattle.machine.specs.Rows.{object_of, thread_of, table_of, owed_of, with_thread, owing, with_register}
@@ -21,6 +22,8 @@ use Rattle.machine.specs.Table.{place_at, fresh_place, new_handle, is_full, look
 use Rattle.machine.specs.References.{total, same, count_of, place_names, option_names, phase_names, thread_names}
 use Rattle.machine.specs.Acted.{Acted, dead_row, answered_state, died, is_last, owed_after_close, after_close}
 use Rattle.machine.specs.Create.{with_handle, made, create_mutex, name_taken}
+use Rattle.machine.specs.Open.{find_object, open_seek, open_return, open_do, open_step, is_open}
+use Rattle.sym_base.specs.declared.kind.Kind.{Kind}
 use Rattle.machine.specs.Dup.{dup_look, dup_do, dup_step, stays_with_thread}
 use Rattle.machine.specs.Good.{IsAlive, sweeps_of}
 use Rattle.machine.proofs.Cases.{if_cases, or_false_left, or_false_right}
@@ -139,7 +142,55 @@ keeps-dup_do script S t row o y h uses =
 
 pub keeps-dup_step : (script : Script) (S : State) (t : ObjNo) (row : ThreadRow) (x y : ℕ) (phase : Phase) → IsStepping script S t row → row.phase ≡ phase → Keeps script S t (dup_step S t row x y phase).state
 keeps-dup_step script S t row x y Start h e = keeps-dup_look script S t row (slice_index row.registers x) (look S t row (slice_index row.registers x)) h e refl
+keeps-dup_step script S t row x y (Found o) h e = (amid-start script S t row h).keeps
 keeps-dup_step script S t row x y (Using o) h e = keeps-dup_do script S t row o y h e
+
+-- another phase that names no object
+keeps-phase : (script : Script) (S : State) (t : ObjNo) (row : ThreadRow) (phase : Phase) → IsStepping script S t row → ((p : ObjNo) → 0 < count_of S p + phase_names p phase → IsAlive (object_of S p)) → ((p : ObjNo) → phase_names p row.phase ≡ 0) → Keeps script S t (with_thread S t (record row { phase = phase }))
+keeps-phase script S t row phase h alive none =
+  let next : ThreadRow = record row { phase = phase } in
+  let good = h.shape.rows t row h.is in
+  record {
+    shape = shape-with_thread script S t next (record { process = good.process; place = good.place; registers = good.registers }) h.shape;
+    live = live-kept S (with_thread S t next) (λ p. refl) (λ p. refl)
+      (λ p c. alive p (let a = count-with_thread S t row next p h.is in let b = none p in omega arith)) h.live;
+    ready = refl;
+    rows = λ u apart. get_or-set_other S.threads t.0 u.0 (Some next) None apart;
+    duties = λ u apart. refl;
+  }
+
+pub keeps-open_seek : (script : Script) (S : State) (t : ObjNo) (row : ThreadRow) (found : Option ObjNo) → IsStepping script S t row → row.phase ≡ Start → Keeps script S t (open_seek S t row found).state
+unfolding open_seek
+keeps-open_seek script S t row None h start = keeps-refused script S t row h
+keeps-open_seek script S t row (Some o) h start = keeps-phase script S t row (Found o) h (λ p c. h.live.alive p (omega arith)) (λ p. ap (phase_names p) start)
+
+not_dead : (dead : Bool) → (if dead then false else true) ≡ true → dead ≡ false
+not_dead true e = cc
+not_dead false e = refl
+
+is_open_alive : (row : Option ObjectRow) → is_open row ≡ true → IsAlive row
+is_open_alive None e = cc
+is_open_alive (Some row) e = not_dead row.dead e
+
+pub keeps-open_return : (script : Script) (S : State) (t : ObjNo) (row : ThreadRow) (o found : ObjNo) → IsStepping script S t row → row.phase ≡ Found found → Keeps script S t (open_return S t row o).state
+unfolding open_return
+keeps-open_return script S t row o found h phase =
+  let P : Acted → Type 0 = λ a. Keeps script S t a.state in
+  if_cases P (is_open (object_of S o)) _ _
+    (λ e. keeps-phase script S t row (Using o) h (λ p c. alive_by S o p (is_open_alive (object_of S o) e) (h.live.alive p) c) (λ p. ap (phase_names p) phase))
+    (λ _. keeps-refused script S t row h)
+
+pub keeps-open_do : (script : Script) (S : State) (t : ObjNo) (row : ThreadRow) (o : ObjNo) (x : ℕ) → IsStepping script S t row → row.phase ≡ Using o → Keeps script S t (open_do S t row o x).state
+unfolding open_do
+keeps-open_do script S t row o x h uses =
+  let P : Acted → Type 0 = λ a. Keeps script S t a.state in
+  if_cases P (is_full (table_of S row.process)) _ _ (λ _. keeps-refused script S t row h)
+    (λ room. keeps-handle script S S t row (Of Open Do) o x (amid-start script S t row h) h.at room (used_is_alive S t row o h.live h.is uses))
+
+pub keeps-open_step : (script : Script) (S : State) (t : ObjNo) (row : ThreadRow) (kind : Kind) (name : List ℕ) (x : ℕ) (phase : Phase) → IsStepping script S t row → row.phase ≡ phase → Keeps script S t (open_step S t row kind name x phase).state
+keeps-open_step script S t row kind name x Start h e = keeps-open_seek script S t row (find_object S kind name) h e
+keeps-open_step script S t row kind name x (Found o) h e = keeps-open_return script S t row o o h e
+keeps-open_step script S t row kind name x (Using o) h e = keeps-open_do script S t row o x h e
 
 -- T lost a reference to o, and the close of it goes on
 pub keeps-closed : (last : Bool) (script : Script) (S T : State) (t o : ObjNo) → is_last S o ≡ last → t.0 < length T.owed → length (owed_of T t) ≤ 3 → Shape script T → Live S → ((p : ObjNo) → object_of T p ≡ object_of S p) → length T.objects ≡ length S.objects → ((p : ObjNo) → sweeps_of T p ≡ sweeps_of S p) → ((p : ObjNo) → count_of T p + same o p ≡ count_of S p) → T.ready ≡ S.ready → ((u : ObjNo) → (u.0 ≡ t.0 → ⊥) → thread_of T u ≡ thread_of S u) → ((u : ObjNo) → (u.0 ≡ t.0 → ⊥) → owed_of T u ≡ owed_of S u) → Keeps script S t (owing (after_close last o T) t (owed_after_close last o))

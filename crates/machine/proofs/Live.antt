@@ -8,7 +8,7 @@ use Rattle.sym_base.specs.declared.kind.Kind.{Kind}
 use Rattle.machine.specs.declared.state.ObjectRow.{ObjectRow}
 use Rattle.machine.specs.declared.state.Owed.TheVariants.{Sweep}
 use Rattle.machine.specs.declared.state.Phase.{Phase}
-use Rattle.machine.specs.declared.state.Phase.TheVariants.{Start, Using}
+use Rattle.machine.specs.declared.state.Phase.TheVariants.{Start, Using, Found}
 use Rattle.machine.specs.declared.state.ThreadRow.{ThreadRow}
 use Rattle.machine.specs.declared.state.State.{State}
 use Rattle.machine.specs.Rows.{object_of, with_object, with_thread, owing, advanced}
@@ -69,6 +69,7 @@ same_object x y e = let named : ℕ → ObjNo = λ n. record { 0 = n } in ap nam
 
 no_sweep : (t : ObjNo) (phase : Phase) (o : ObjNo) → total (owed_sweeps o) (owed_use t phase) ≡ 0
 no_sweep t Start o = refl
+no_sweep t (Found x) o = refl
 no_sweep t (Using x) o = refl
 
 -- an answer leaves what is alive

@@ -2,8 +2,9 @@
 use Rattle.std.proofs.Common.{◌≡◌, ℕ, ◌+◌, List, [], ◌∷◌, ◌++◌, length, ap, subst, sym, refl, ◌∙◌}
 use Rattle.script_types.specs.declared.script.Script.{Script}
 use Rattle.script_types.specs.declared.script.Slot.{Slot}
-use Rattle.script_types.specs.declared.script.Slot.TheVariants.{Go, Irq, Tick}
+use Rattle.script_types.specs.declared.script.Slot.TheVariants.{Go, Irq, Tick as TickSlot}
 use Rattle.entry_log.specs.declared.entry.Actor.{Actor}
+use Rattle.entry_log.specs.declared.entry.Actor.TheVariants.{Tick}
 use Rattle.entry_log.specs.declared.entry.Entry.{Entry}
 use Rattle.machine.specs.declared.outcome.Outcome.{Outcome}
 use Rattle.machine.specs.declared.state.State.{State}
@@ -12,7 +13,7 @@ use Rattle.machine.specs.ActedBy.{acted}
 use Rattle.machine.specs.Built.{IsBuilt}
 use Rattle.machine.specs.Choice.{chosen}
 use Rattle.machine.specs.Good.{Good}
-use Rattle.machine.specs.History.{acted_by, entry_of, IsNext}
+use Rattle.machine.specs.History.{acted_by, entry_of, IsNext, CanAct}
 use Rattle.machine.specs.PlainView.{IsPlain}
 use Rattle.machine.specs.Run.{slot_actor}
 use Rattle.machine.proofs.Boots.{good-after-valid}
@@ -22,21 +23,25 @@ use Rattle.machine.proofs.Histories.{after-push, legal-push, can_act_chosen}
 pub good_plain : (script : Script) (history : List Entry) (S : State) → IsPlain script history S → Good script S
 good_plain script history S plain = subst (Good script) (sym plain.state) (good-after-valid script history plain.valid)
 
--- the machine goes on by what the actor of a slot does
-pub plain_goes_on : (script : Script) (history : List Entry) (S T : State) (slot : Slot) (outcome : Outcome) → IsBuilt slot → IsPlain script history S → acted T outcome ≡ acted_by script S (slot_actor S slot) → IsPlain script (history ++ entry_of (length history + 1) (slot_actor S slot) outcome ∷ []) T
-plain_goes_on script history S T (Irq k) outcome built plain did = absurd built
-plain_goes_on script history S T Tick outcome built plain did = absurd built
-plain_goes_on script history S T Go outcome built plain did =
-    let e = entry_of (length history + 1) (chosen S) outcome in
+-- the machine goes on by what an actor does that may act
+plain_goes_by : (script : Script) (history : List Entry) (S T : State) (actor : Actor) (outcome : Outcome) → CanAct script S actor → IsPlain script history S → acted T outcome ≡ acted_by script S actor → IsPlain script (history ++ entry_of (length history + 1) actor outcome ∷ []) T
+plain_goes_by script history S T actor outcome able plain did =
+    let e = entry_of (length history + 1) actor outcome in
     let next : IsNext script S (length history + 1) e = record {
-      able = can_act_chosen script S _ (good_plain script history S plain) refl;
-      told = ap (λ (a : Acted). entry_of (length history + 1) (chosen S) a.outcome) did;
+      able = able;
+      told = ap (λ (a : Acted). entry_of (length history + 1) actor a.outcome) did;
     } in
     record {
       valid = plain.valid;
       legal = legal-push script history e plain.legal (subst (λ (s : State). IsNext script s (length history + 1) e) plain.state next);
-      state = ap (λ (a : Acted). a.state) did ∙ ap (λ (s : State). (acted_by script s (chosen S)).state) plain.state ∙ sym (after-push script history e);
+      state = ap (λ (a : Acted). a.state) did ∙ ap (λ (s : State). (acted_by script s actor).state) plain.state ∙ sym (after-push script history e);
     }
+
+-- the machine goes on by what the actor of a slot does
+pub plain_goes_on : (script : Script) (history : List Entry) (S T : State) (slot : Slot) (outcome : Outcome) → IsBuilt slot → IsPlain script history S → acted T outcome ≡ acted_by script S (slot_actor S slot) → IsPlain script (history ++ entry_of (length history + 1) (slot_actor S slot) outcome ∷ []) T
+plain_goes_on script history S T (Irq k) outcome built plain did = absurd built
+plain_goes_on script history S T TickSlot outcome built plain did = plain_goes_by script history S T Tick outcome tt plain did
+plain_goes_on script history S T Go outcome built plain did = plain_goes_by script history S T (chosen S) outcome (can_act_chosen script S _ (good_plain script history S plain) refl) plain did
 
 -- the same of a copy of the state, and of what is made in between
 pub plain_goes_on_by : (script : Script) (history new : List Entry) (S copy T : State) (slot : Slot) (actor : Actor) (outcome : Outcome) (place : ℕ) (e : Entry) → IsBuilt slot → IsPlain script history S → copy ≡ S → actor ≡ slot_actor S slot → acted T outcome ≡ acted_by script copy actor → place ≡ length history + 1 → e ≡ entry_of place actor outcome → new ≡ history ++ e ∷ [] → IsPlain script new T

@@ -3,16 +3,16 @@ use Rattle.std.proofs.Common.{◌≡◌, ℕ, ◌+◌, ◌<◌, List, [], ◌∷
 use Rattle.std.specs.Prelude.{negsuc, pos, slice_set, slice_index}
 use Rattle.sym_base.specs.declared.number.ObjNo.{ObjNo}
 use Rattle.entry_log.specs.declared.step.Step.TheVariants.{Of}
-use Rattle.entry_log.specs.declared.step.Word.TheVariants.{Dup, Close as CloseWord}
-use Rattle.entry_log.specs.declared.step.Part.TheVariants.{Do, Look}
+use Rattle.entry_log.specs.declared.step.Word.TheVariants.{Dup, Close as CloseWord, Open as OpenWord}
+use Rattle.entry_log.specs.declared.step.Part.TheVariants.{Do, Look, Seek, Return}
 use Rattle.script_types.specs.declared.script.Script.{Script}
 use Rattle.script_types.specs.declared.instruction.Instr.{Instr}
-use Rattle.script_types.specs.declared.instruction.Instr.TheVariants.{CreateMutex, Dup as DupInstr, Close as CloseInstr}
+use Rattle.script_types.specs.declared.instruction.Instr.TheVariants.{CreateMutex, Dup as DupInstr, Close as CloseInstr, Open as OpenInstr}
 use Rattle.machine.specs.declared.state.Place.{Place}
 use Rattle.machine.specs.declared.state.Owed.{Owed}
 use Rattle.machine.specs.declared.state.Owed.TheVariants.{Close, Sweep}
 use Rattle.machine.specs.declared.state.Phase.{Phase}
-use Rattle.machine.specs.declared.state.Phase.TheVariants.{Start, Using}
+use Rattle.machine.specs.declared.state.Phase.TheVariants.{Start, Using, Found}
 use Rattle.machine.specs.declared.state.ThreadRow.{ThreadRow}
 use Rattle.machine.specs.declared.state.State.{State}
 use Rattle.machine.specs.Rows.{object_of, table_of, owed_of, with_owed}
@@ -21,7 +21,9 @@ use Rattle.machine.specs.References.{total, same, count_of, place_names, option_
 use Rattle.machine.specs.Acted.{Acted, is_last}
 use Rattle.machine.specs.Dup.{dup_look, dup_do, dup_step, stays_with_thread}
 use Rattle.machine.specs.Close.{without_handle, close_do}
+use Rattle.machine.specs.Open.{find_object, open_seek, open_return, open_do, open_step, is_open}
 use Rattle.machine.specs.Pay.{pay}
+use Rattle.sym_base.specs.declared.kind.Kind.{Kind}
 use Rattle.machine.specs.Act.{act_by, settled, instruction_step, is_ready}
 use Rattle.machine.proofs.Counts.{count-with_place, count-with_thread, count-with_owed}
 use Rattle.machine.proofs.Tables.{look_is, place_inside, table_inside}
@@ -48,7 +50,37 @@ dup_do-refs S t row o y h =
 
 pub dup_step-refs : (S : State) (t : ObjNo) (row : ThreadRow) (x y : ℕ) (phase : Phase) → IsActing S t row → row.phase ≡ phase → RefsMove S (dup_step S t row x y phase).state (dup_step S t row x y phase).outcome.effects
 dup_step-refs S t row x y Start h e = dup_look-refs S t row (look S t row (slice_index row.registers x)) h e
+dup_step-refs S t row x y (Found o) h e = record { each = λ p. refl }
 dup_step-refs S t row x y (Using o) h e = dup_do-refs S t row o y h
+
+pub open_seek-refs : (S : State) (t : ObjNo) (row : ThreadRow) (found : Option ObjNo) → IsActing S t row → row.phase ≡ Start → RefsMove S (open_seek S t row found).state (open_seek S t row found).outcome.effects
+unfolding open_seek
+open_seek-refs S t row None h start = answered-refs S t row (Of OpenWord Seek) (negsuc 0) h
+open_seek-refs S t row (Some o) h start = record { each = λ p.
+  let a = count-with_thread S t row (record row { phase = Found o }) p h.is in
+  let b : phase_names p row.phase ≡ 0 = ap (phase_names p) start in omega arith }
+
+pub open_return-refs : (S : State) (t : ObjNo) (row : ThreadRow) (o found : ObjNo) → IsActing S t row → row.phase ≡ Found found → RefsMove S (open_return S t row o).state (open_return S t row o).outcome.effects
+unfolding open_return
+open_return-refs S t row o found h phase =
+  let P : Acted → Type 0 = λ a. RefsMove S a.state a.outcome.effects in
+  if_cases P (is_open (object_of S o)) _ _
+    (λ _. record { each = λ p.
+      let a = count-with_thread S t row (record row { phase = Using o }) p h.is in
+      let b : phase_names p row.phase ≡ 0 = ap (phase_names p) phase in omega arith })
+    (λ _. record { each = (answered-refs S t row (Of OpenWord Return) (negsuc 0) h).each })
+
+pub open_do-refs : (S : State) (t : ObjNo) (row : ThreadRow) (o : ObjNo) (x : ℕ) → IsActing S t row → RefsMove S (open_do S t row o x).state (open_do S t row o x).outcome.effects
+unfolding open_do
+open_do-refs S t row o x h =
+  let P : Acted → Type 0 = λ a. RefsMove S a.state a.outcome.effects in
+  if_cases P (is_full (table_of S row.process)) _ _ (λ _. answered-refs S t row (Of OpenWord Do) (negsuc 8) h)
+    (λ room. with_handle-refs S S t row (Of OpenWord Do) o x h room (λ p. refl))
+
+pub open_step-refs : (S : State) (t : ObjNo) (row : ThreadRow) (kind : Kind) (name : List ℕ) (x : ℕ) (phase : Phase) → IsActing S t row → row.phase ≡ phase → RefsMove S (open_step S t row kind name x phase).state (open_step S t row kind name x phase).outcome.effects
+open_step-refs S t row kind name x Start h e = open_seek-refs S t row (find_object S kind name) h e
+open_step-refs S t row kind name x (Found o) h e = open_return-refs S t row o o h e
+open_step-refs S t row kind name x (Using o) h e = open_do-refs S t row o x h
 
 -- without a handle its object has one reference less
 pub without_handle-count : (S : State) (t : ObjNo) (row : ThreadRow) (handle : ℕ) (o : ObjNo) → look S t row handle ≡ Some o → (p : ObjNo) → count_of (without_handle S (owner_of t row handle) (index_of handle)) p + same o p ≡ count_of S p
@@ -83,6 +115,7 @@ pay-refs S t (Sweep o) rest inside e = record { each = λ p. let a = without_dut
 
 pub instruction_step-refs : (S : State) (t : ObjNo) (row : ThreadRow) (instr : Instr) → IsActing S t row → RefsMove S (instruction_step S t row instr).state (instruction_step S t row instr).outcome.effects
 instruction_step-refs S t row (CreateMutex name x) h = create_mutex-refs S t row name x h
+instruction_step-refs S t row (OpenInstr kind name x) h = open_step-refs S t row kind name x row.phase h refl
 instruction_step-refs S t row (DupInstr x y) h = dup_step-refs S t row x y row.phase h refl
 instruction_step-refs S t row (CloseInstr x) h = close_do-refs S t row _ (look S t row (slice_index row.registers x)) h refl
 

@@ -4,6 +4,7 @@ use Rattle.sym_base.specs.declared.number.ObjNo.{ObjNo}
 use Rattle.script_types.specs.declared.script.Script.{Script}
 use Rattle.entry_log.specs.declared.entry.Actor.{Actor}
 use Rattle.entry_log.specs.declared.entry.Actor.TheVariants.{Thread, Irq, Idfc, Tick, Idle}
+use Rattle.machine.specs.Tick.{tick}
 use Rattle.machine.specs.declared.state.ThreadRow.{ThreadRow}
 use Rattle.machine.specs.declared.state.State.{State}
 use Rattle.machine.specs.Act.{act, act_of, instruction}
@@ -29,9 +30,13 @@ act-refs script S t g = record {
       omega arith;
 }
 
+tick-refs : (S : State) → RefsMove S (tick S).state (tick S).outcome.effects
+unfolding tick
+tick-refs S = record { each = λ o. refl }
+
 pub acted_by-refs : (script : Script) (S : State) (actor : Actor) → Good script S → RefsMove S (acted_by script S actor).state (acted_by script S actor).outcome.effects
 acted_by-refs script S (Thread t) g = act-refs script S t g
 acted_by-refs script S (Irq k) g = nothing-refs S
 acted_by-refs script S Idfc g = nothing-refs S
-acted_by-refs script S Tick g = nothing-refs S
+acted_by-refs script S Tick g = tick-refs S
 acted_by-refs script S Idle g = nothing-refs S

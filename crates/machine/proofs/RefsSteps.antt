@@ -11,7 +11,7 @@ use Rattle.entry_log.specs.declared.step.Step.TheVariants.{Of}
 use Rattle.entry_log.specs.declared.step.Word.TheVariants.{Create}
 use Rattle.entry_log.specs.declared.step.Part.TheVariants.{Do}
 use Rattle.machine.specs.declared.state.Phase.{Phase}
-use Rattle.machine.specs.declared.state.Phase.TheVariants.{Start, Using}
+use Rattle.machine.specs.declared.state.Phase.TheVariants.{Start, Using, Found}
 use Rattle.machine.specs.declared.state.ThreadRow.{ThreadRow}
 use Rattle.machine.specs.declared.state.State.{State}
 use Rattle.machine.specs.Rows.{thread_of, table_of, owed_of, with_place, owing, advanced, with_register}
@@ -27,6 +27,7 @@ use Rattle.std.proofs.lemmas.List.{length-set}
 -- what an answering step owes is what its phase used
 owed_use_names : (t : ObjNo) (phase : Phase) (o : ObjNo) → total (owed_names o) (owed_use t phase) ≡ phase_names o phase
 owed_use_names t Start o = refl
+owed_use_names t (Found x) o = refl
 owed_use_names t (Using x) o = omega arith
 
 -- a step that answers leaves each count

@@ -4,14 +4,14 @@ use Rattle.sym_base.specs.declared.number.ObjNo.{ObjNo}
 use Rattle.script_types.specs.declared.script.Script.{Script}
 use Rattle.script_types.specs.declared.declaration.ThreadDecl.{ThreadDecl}
 use Rattle.script_types.specs.declared.instruction.Instr.{Instr}
-use Rattle.script_types.specs.declared.instruction.Instr.TheVariants.{CreateMutex, Dup, Close}
-use Rattle.entry_log.specs.declared.step.Step.TheVariants.{Wait}
+use Rattle.script_types.specs.declared.instruction.Instr.TheVariants.{CreateMutex, Open, Dup, Close}
 use Rattle.machine.specs.declared.state.Owed.{Owed}
 use Rattle.machine.specs.declared.state.ThreadRow.{ThreadRow}
 use Rattle.machine.specs.declared.state.State.{State}
 use Rattle.machine.specs.Rows.{thread_of, owed_of}
-use Rattle.machine.specs.Acted.{Acted}
+use Rattle.machine.specs.Acted.{Acted, nothing}
 use Rattle.machine.specs.Create.{create_mutex}
+use Rattle.machine.specs.Open.{open_step}
 use Rattle.machine.specs.Dup.{dup_step}
 use Rattle.machine.specs.Close.{close_step}
 use Rattle.machine.specs.Pay.{pay}
@@ -29,13 +29,10 @@ declared_of script (Some k) = slice_get script.threads k
 abbrev pub instruction : Script → ThreadRow → Option Instr
 instruction script row = slice_get (instructions_of (declared_of script row.declared)) row.place
 
--- nobody acts
-abbrev pub nothing : State → Acted
-nothing S = record { state = S; outcome = record { step = Wait; effects = []; answer = None } }
-
 -- a step of an instruction
 abbrev pub instruction_step : State → ObjNo → ThreadRow → Instr → Acted
 instruction_step S t row (CreateMutex name x) = create_mutex S t row name x
+instruction_step S t row (Open kind name x) = open_step S t row kind name x row.phase
 instruction_step S t row (Dup x y) = dup_step S t row x y row.phase
 instruction_step S t row (Close x) = close_step S t row x
 

@@ -6,11 +6,12 @@ use Rattle.entry_log.specs.declared.effect.Holder.TheVariants.{Temp}
 use Rattle.entry_log.specs.declared.effect.Effect.{Effect}
 use Rattle.entry_log.specs.declared.effect.Effect.TheVariants.{Minus, Dead}
 use Rattle.entry_log.specs.declared.step.Step.{Step}
+use Rattle.entry_log.specs.declared.step.Step.TheVariants.{Wait}
 use Rattle.machine.specs.declared.outcome.Outcome.{Outcome}
 use Rattle.machine.specs.declared.state.ObjectRow.{ObjectRow}
 use Rattle.machine.specs.declared.state.ThreadRow.{ThreadRow}
 use Rattle.machine.specs.declared.state.Phase.{Phase}
-use Rattle.machine.specs.declared.state.Phase.TheVariants.{Start, Using}
+use Rattle.machine.specs.declared.state.Phase.TheVariants.{Start, Found, Using}
 use Rattle.machine.specs.declared.state.Owed.{Owed}
 use Rattle.machine.specs.declared.state.Owed.TheVariants.{Close, Sweep}
 use Rattle.machine.specs.declared.state.State.{State}
@@ -22,9 +23,14 @@ pub record Acted : Type 0 where
   pub state : State
   pub outcome : Outcome
 
+-- nobody acts
+abbrev pub nothing : State → Acted
+nothing S = record { state = S; outcome = record { step = Wait; effects = []; answer = None } }
+
 -- the temporary reference that the present instruction has is owed, where there is one
 abbrev pub owed_use : ObjNo → Phase → List Owed
 owed_use t Start = []
+owed_use t (Found o) = []
 owed_use t (Using o) = Close (Temp t) o ∷ []
 
 -- after an answer the thread is at its next instruction, and owes the close of what it used

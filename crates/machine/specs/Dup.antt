@@ -12,11 +12,11 @@ use Rattle.entry_log.specs.declared.step.Part.TheVariants.{Do, Look}
 use Rattle.machine.specs.declared.state.ObjectRow.{ObjectRow}
 use Rattle.machine.specs.declared.state.ThreadRow.{ThreadRow}
 use Rattle.machine.specs.declared.state.Phase.{Phase}
-use Rattle.machine.specs.declared.state.Phase.TheVariants.{Start, Using}
+use Rattle.machine.specs.declared.state.Phase.TheVariants.{Start, Found, Using}
 use Rattle.machine.specs.declared.state.State.{State}
 use Rattle.machine.specs.Rows.{object_of, table_of, with_thread}
 use Rattle.machine.specs.Table.{is_full, look}
-use Rattle.machine.specs.Acted.{Acted, answered}
+use Rattle.machine.specs.Acted.{Acted, answered, nothing}
 use Rattle.machine.specs.Create.{with_handle}
 
 -- servers and sessions stay with the thread that made them
@@ -44,7 +44,8 @@ dup_do S t row o y =
     else if is_full (table_of S row.process) then answered S t row (Of Dup Do) [] (negsuc 8)
     else with_handle S t row (Of Dup Do) o y
 
--- the step of the phase
+-- the step of the phase; it finds nothing by name
 abbrev pub dup_step : State → ObjNo → ThreadRow → ℕ → ℕ → Phase → Acted
 dup_step S t row x y Start = dup_look S t row (look S t row (slice_index row.registers x))
+dup_step S t row x y (Found o) = nothing S
 dup_step S t row x y (Using o) = dup_do S t row o y

@@ -6,14 +6,16 @@ use Rattle.entry_log.specs.declared.entry.Actor.TheVariants.{Thread, Irq, Idfc, 
 use Rattle.entry_log.specs.declared.entry.Entry.{Entry}
 use Rattle.machine.specs.declared.outcome.Outcome.{Outcome}
 use Rattle.machine.specs.declared.state.State.{State}
-use Rattle.machine.specs.Acted.{Acted}
-use Rattle.machine.specs.Act.{act, nothing, is_ready}
+use Rattle.machine.specs.Acted.{Acted, nothing}
+use Rattle.machine.specs.Act.{act, is_ready}
 use Rattle.machine.specs.Choice.{chosen}
+use Rattle.machine.specs.Tick.{tick}
 use Rattle.machine.specs.Boot.{boot}
 
--- what an actor does; interrupts, deferred calls and ticks come later, and do nothing yet
+-- what an actor does; interrupts and deferred calls come later, and do nothing yet
 abbrev pub acted_by : Script → State → Actor → Acted
 acted_by script S (Thread t) = act script S t
+acted_by script S Tick = tick S
 acted_by script S _ = nothing S
 
 -- the state that an actor's action leaves
@@ -36,13 +38,13 @@ after_from script S (e ∷ es) = after_from script (next script S e.actor) es
 abbrev pub after : Script → List Entry → State
 after script history = after_from script (boot script) history
 
--- a ready thread may act, and nobody where no thread is ready
+-- a ready thread may act, a time slice may end at any time, and nobody acts where no thread is ready
 abbrev pub CanAct : Script → State → Actor → Type 0
 CanAct script S (Thread t) = IsTrue (is_ready script S t)
 CanAct script S Idle = chosen S ≡ Idle
 CanAct script S (Irq k) = ⊥
 CanAct script S Idfc = ⊥
-CanAct script S Tick = ⊥
+CanAct script S Tick = Unit {0}
 
 -- an entry that may stand at a place: its actor may act, and it tells what the actor does
 pub record IsNext (script : Script) (S : State) (place : ℕ) (e : Entry) : Type 0 where

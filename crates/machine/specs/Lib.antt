@@ -4,9 +4,11 @@ pub mod References
 pub mod Acted
 pub mod Create
 pub mod Dup
+pub mod Open
 pub mod Close
 pub mod Pay
 pub mod Choice
+pub mod Tick
 pub mod Act
 pub mod Boot
 pub mod History

@@ -6,7 +6,7 @@ use Rattle.entry_log.specs.declared.effect.Effect.TheVariants.{Plus, Minus}
 use Rattle.machine.specs.declared.state.Place.{Place}
 use Rattle.machine.specs.declared.state.ThreadRow.{ThreadRow}
 use Rattle.machine.specs.declared.state.Phase.{Phase}
-use Rattle.machine.specs.declared.state.Phase.TheVariants.{Start, Using}
+use Rattle.machine.specs.declared.state.Phase.TheVariants.{Start, Found, Using}
 use Rattle.machine.specs.declared.state.Owed.{Owed}
 use Rattle.machine.specs.declared.state.Owed.TheVariants.{Close, Sweep}
 use Rattle.machine.specs.declared.state.State.{State}
@@ -33,6 +33,7 @@ place_names o place = option_names o place.object
 -- a thread's call in flight refers to the object that it uses
 abbrev pub phase_names : ObjNo → Phase → ℕ
 phase_names o Start = 0
+phase_names o (Found x) = 0
 phase_names o (Using x) = same x o
 
 -- a thread refers to its process, by its link, and to what it uses

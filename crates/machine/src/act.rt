@@ -1,34 +1,27 @@
 //! What a thread does when it acts: what it owes, else the next step of its instruction.
-ghost use Rattle.std.specs.Prelude.{◌≡◌, ℕ, ◌<◌, ◌==◌, not, filter, IfOk, OnOk, option_copied};
+ghost use Rattle.std.specs.Prelude.{◌≡◌, ℕ, ◌<◌, IfOk, OnOk, option_copied};
 ghost use Rattle.script_types.specs.Shape.{HasRegisters, IsShaped};
-ghost use Rattle.machine.specs.Act.{declared_of, instruction, instruction_step, act_by, act_of, is_ready, has_work, settled, act, nothing};
+ghost use Rattle.machine.specs.Acted.{nothing};
+ghost use Rattle.machine.specs.Act.{declared_of, instruction, instruction_step, act_by, act_of, is_ready, has_work, settled, act};
 ghost use Rattle.machine.specs.ActedBy.{acted};
 ghost use Rattle.machine.specs.Good.{Good};
 ghost use Rattle.machine.specs.History.{acted_by};
 ghost use Rattle.machine.specs.Room.{HasRoom};
 ghost use Rattle.machine.specs.Rows.{owed_of, thread_of};
 
+use crate::acted::nothing;
 use crate::close::close_step;
 use crate::create::create_mutex;
 use crate::dup::dup_step;
+use crate::open::open_step;
 use crate::pay::pay;
 use crate::rows::{owed_of, thread_of};
-use crate::{Outcome, Queued, State, ThreadRow};
-use entry_log::{Actor, Effects, Step};
+use crate::tick::{tick, without};
+use crate::{Outcome, State, ThreadRow};
+use entry_log::Actor;
 use script_types::{Instr, Script, ThreadDecl};
 use std::alloc::Global;
 use sym_base::{Items, NoMemory, ThreadNo};
-
-/// Nobody acts.
-fn nothing(state: &State) -> Outcome
-    ensures { acted state.now result ≡ nothing state.now }
-{
-    Outcome {
-        step: Step::Wait,
-        effects: Effects::new(),
-        answer: None,
-    }
-}
 
 /// The declaration of a thread; the supervisor has none.
 fn declared_of(script: &Script, declared: Option<u8>) -> Option<&ThreadDecl>
@@ -63,6 +56,7 @@ fn instruction_step(
 {
     match instr {
         Instr::CreateMutex(name, register) => create_mutex(state, thread, row, name, register),
+        Instr::Open(kind, name, register) => open_step(state, thread, row, kind, name, register),
         Instr::Dup(from, to) => dup_step(state, thread, row, from, to),
         Instr::Close(register) => close_step(state, thread, row, register),
     }
@@ -112,20 +106,6 @@ fn is_ready(script: &Script, state: &State, thread: ThreadNo) -> bool
     }
 }
 
-/// The queue without a thread.
-fn without(alloc: Global, queue: &[Queued], thread: ThreadNo) -> Result<Items<Queued>, NoMemory>
-    ensures { IfOk result (λ rest. rest ≡ filter (λ q. not (q.thread.0 == thread.0)) queue.now) }
-{
-    let mut rest = Vec::new(alloc);
-    for queued in queue {
-        if queued.thread.0 == thread.0 {
-            continue;
-        }
-        rest.push(*queued)?;
-    }
-    Ok(Items::new(rest))
-}
-
 /// A thread that has nothing left to do leaves the ready list.
 #[tactic(auto, unfolding(crate::specs::Act::settled))]
 fn settle(
@@ -139,7 +119,7 @@ fn settle(
     if is_ready(script, state, thread) {
         return Ok(());
     }
-    state.ready = without(alloc, state.ready.as_slice(), thread)?;
+    state.ready = Items::new(without(alloc, state.ready.as_slice(), thread)?);
     Ok(())
 }
 
@@ -160,7 +140,7 @@ fn act(
     Ok(outcome)
 }
 
-/// An action of an actor. Only threads do something yet.
+/// An action of an actor. Interrupts and deferred calls do nothing yet.
 pub fn acted_by(
     alloc: Global,
     script: &Script,
@@ -173,6 +153,7 @@ pub fn acted_by(
 {
     match actor {
         Actor::Thread(thread) => act(alloc, script, state, thread),
-        Actor::Irq(_) | Actor::Idfc | Actor::Tick | Actor::Idle => Ok(nothing(state)),
+        Actor::Tick => tick(alloc, state),
+        Actor::Irq(_) | Actor::Idfc | Actor::Idle => Ok(nothing(state)),
     }
 }

@@ -1,6 +1,6 @@
 //! What steps have in common: an answer, and the close of a reference.
 ghost use Rattle.std.specs.Prelude.{◌≡◌, ◌+◌, ◌<◌, ◌≤◌, slice_set, [], ◌∷◌, IfOk, OnOk, length};
-ghost use Rattle.machine.specs.Acted.{owed_use, answered, died, after_close, owed_after_close, closed_effects};
+ghost use Rattle.machine.specs.Acted.{nothing, owed_use, answered, died, after_close, owed_after_close, closed_effects};
 ghost use Rattle.machine.specs.ActedBy.{acted};
 ghost use Rattle.machine.specs.Rows.{owing, advanced, with_register};
 
@@ -8,6 +8,17 @@ use crate::rows::{object_of, owe, set_object, set_thread};
 use crate::{ObjectRow, Outcome, Owed, Phase, State, ThreadRow};
 use entry_log::{Effect, Effects, Holder, Step};
 use sym_base::{NoMemory, ObjNo, ThreadNo};
+
+/// Nobody acts.
+pub fn nothing(state: &State) -> Outcome
+    ensures { acted state.now result ≡ nothing state.now }
+{
+    Outcome {
+        step: Step::Wait,
+        effects: Effects::new(),
+        answer: None,
+    }
+}
 
 /// The thread's row, with another value in a register.
 pub fn with_register(row: ThreadRow, register: u8, value: u32) -> ThreadRow
@@ -36,7 +47,7 @@ fn owe_use(state: &mut State, thread: ThreadNo, phase: Phase) -> Result<(), NoMe
     ensures { OnOk result (state.new ≡ owing state.old thread (owed_use thread phase)) }
 {
     match phase {
-        Phase::Start => Ok(()),
+        Phase::Start | Phase::Found(_) => Ok(()),
         Phase::Using(object) => owe(state, thread, Owed::Close(Holder::Temp(thread), object)),
     }
 }

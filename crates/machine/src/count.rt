@@ -31,7 +31,7 @@ fn phase_names(object: ObjNo, phase: Phase) -> u32
     ensures bit { result ≤ 1 }
 {
     match phase {
-        Phase::Start => 0,
+        Phase::Start | Phase::Found(_) => 0,
         Phase::Using(one) => same(one, object),
     }
 }

@@ -4,7 +4,7 @@ ghost use Rattle.machine.specs.ActedBy.{acted};
 ghost use Rattle.machine.specs.Dup.{kind_stays, stays_with_thread, dup_look, dup_do, dup_step};
 ghost use Rattle.machine.specs.Room.{HasRoom};
 
-use crate::acted::{answered, one_effect};
+use crate::acted::{answered, nothing, one_effect};
 use crate::create::with_handle;
 use crate::rows::{object_of, set_thread, table_of};
 use crate::table::{is_full, look};
@@ -111,6 +111,7 @@ pub fn dup_step(
             let found = look(state, thread, &row, row.registers[from as usize]);
             dup_look(state, thread, row, found)
         }
+        Phase::Found(_) => Ok(nothing(state)),
         Phase::Using(object) => dup_do(state, thread, row, object, to),
     }
 }

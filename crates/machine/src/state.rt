@@ -30,6 +30,8 @@ pub struct Place {
 pub enum Phase {
     /// The instruction has made no step.
     Start,
+    /// It found this object by its name, and hasn't opened it yet. That is no reference.
+    Found(ObjNo),
     /// It uses this object, to which the thread has a temporary reference.
     Using(ObjNo),
 }

@@ -1,5 +1,5 @@
 use Rattle.std.proofs.Common.{◌≡◌, ◌++◌, drop, filter, not, nat_eq}
-use Rattle.machine.proofs.act.without.Given as goal
+use Rattle.machine.proofs.tick.without.Given as goal
 
 abbrev pub invariant-loop-queued : goal.invariant-loop-queued
 invariant-loop-queued l =

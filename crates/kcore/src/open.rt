@@ -1,0 +1,112 @@
+//! `open`: an object is found by its kind and name, opened, and gets a handle.
+ghost use Rattle.std.specs.Prelude.{◌≡◌, ◌<◌, None, Some, if◌then◌else◌, length, IfOk, slice_index};
+ghost use Rattle.machine.specs.ActedBy.{acted};
+ghost use Rattle.machine.specs.Open.{seen, find_object, open_seek, open_return, open_do};
+ghost use Rattle.kcore.specs.Counts.{Agrees, CountsMove};
+ghost use Rattle.kcore.specs.StateOf.{state_of, HasRows};
+
+use crate::answer::{answered, with_handle};
+use crate::tables::Tables;
+use entry_log::{Effect, Effects, Holder, Part, Step, Word};
+use machine::{Outcome, Phase, ThreadRow};
+use sym_base::{Kind, Name, NoMemory, ObjNo, ThreadNo};
+
+const SEEK: Step = Step::Of(Word::Open, Part::Seek);
+
+const RETURN: Step = Step::Of(Word::Open, Part::Return);
+
+const DO: Step = Step::Of(Word::Open, Part::Do);
+
+/// There is no such object.
+const NOT_FOUND: i32 = -1;
+
+/// There are as many handles as there may be.
+const OVERFLOW: i32 = -9;
+
+/// Whether an object is found: it is dead, or has a reference.
+fn is_seen(tables: &Tables, object: ObjNo) -> bool
+    requires made { object.0 < length tables.now.objects.rows }
+    requires agree { Agrees tables.now.objects.counts (state_of tables.now) }
+    ensures { seen (state_of tables.now) (Some object) ≡ (if result then Some object else None) }
+{
+    match tables.objects.row(object) {
+        Some(row) if row.dead => true,
+        _ => tables.objects.count(object) > 0,
+    }
+}
+
+/// The object that a find by kind and name finds.
+pub fn find_object(tables: &Tables, kind: Kind, name: &Name) -> Option<ObjNo>
+    requires { Agrees tables.now.objects.counts (state_of tables.now) }
+    ensures { result ≡ find_object (state_of tables.now) kind name.now }
+{
+    let object = tables.objects.named(kind, name)?;
+    if is_seen(tables, object) {
+        Some(object)
+    } else {
+        None
+    }
+}
+
+/// The first step: the object is found.
+#[tactic(auto, unfolding(machine::specs::Open::open_seek))]
+pub fn open_seek(tables: &mut Tables, thread: ThreadNo, row: ThreadRow, found: Option<ObjNo>) -> Result<Outcome, NoMemory>
+    requires { HasRows tables.old thread row }
+    ensures state { IfOk result (λ outcome. acted (state_of tables.new) outcome ≡ open_seek (state_of tables.old) thread row found) }
+    ensures counts { IfOk result (λ outcome. CountsMove tables.old.objects.counts tables.new.objects.counts outcome.effects) }
+{
+    let Some(object) = found else {
+        return answered(tables, thread, row, SEEK, Effects::new(), NOT_FOUND);
+    };
+    let waiting = ThreadRow {
+        phase: Phase::Found(object),
+        ..row
+    };
+    tables.threads.set(thread.0 as usize, Some(waiting));
+    Ok(Outcome {
+        step: SEEK,
+        effects: machine::one_effect(Effect::Seek(object)),
+        answer: None,
+    })
+}
+
+/// The second step: the thread uses the object, unless it died since.
+#[tactic(auto, unfolding(machine::specs::Open::open_return))]
+pub fn open_return(tables: &mut Tables, thread: ThreadNo, row: ThreadRow, object: ObjNo) -> Result<Outcome, NoMemory>
+    requires rows { HasRows tables.old thread row }
+    requires few { slice_index tables.old.objects.counts object.0 < 2147483648 }
+    ensures state { IfOk result (λ outcome. acted (state_of tables.new) outcome ≡ open_return (state_of tables.old) thread row object) }
+    ensures counts { IfOk result (λ outcome. CountsMove tables.old.objects.counts tables.new.objects.counts outcome.effects) }
+{
+    if !machine::is_open(tables.objects.row(object)) {
+        return answered(tables, thread, row, RETURN, machine::one_effect(Effect::Missed(object)), NOT_FOUND);
+    }
+    tables.objects.add_ref(object);
+    let using = ThreadRow {
+        phase: Phase::Using(object),
+        ..row
+    };
+    tables.threads.set(thread.0 as usize, Some(using));
+    Ok(Outcome {
+        step: RETURN,
+        effects: machine::one_effect(Effect::Plus(Holder::Temp(thread), object)),
+        answer: None,
+    })
+}
+
+/// The third step: a handle of the object.
+#[tactic(auto, unfolding(machine::specs::Open::open_do))]
+pub fn open_do(tables: &mut Tables, thread: ThreadNo, row: ThreadRow, object: ObjNo, register: u8) -> Result<Outcome, NoMemory>
+    requires rows { HasRows tables.old thread row }
+    requires made { object.0 < length tables.old.objects.rows }
+    requires few { slice_index tables.old.objects.counts object.0 < 2147483648 }
+    requires register { register < 8 }
+    ensures state { IfOk result (λ outcome. acted (state_of tables.new) outcome ≡ open_do (state_of tables.old) thread row object register) }
+    ensures counts { IfOk result (λ outcome. CountsMove tables.old.objects.counts tables.new.objects.counts outcome.effects) }
+{
+    if tables.handles.as_slice()[row.process.0 as usize].is_full() {
+        return answered(tables, thread, row, DO, Effects::new(), OVERFLOW);
+    }
+    tables.objects.add_ref(object);
+    with_handle(tables, thread, row, DO, object, register)
+}
