@@ -5,7 +5,7 @@ use Rattle.std.specs.List.{AllByRecursion, flat_map, slice_get}
 use Rattle.script_types.proofs.ShapeLaws.{at_place, lines_count}
 use Rattle.script_types.specs.Shape.{HasRegisters, IsShapedThread, IsShaped}
 use Rattle.script_types.specs.ValidLine.{IsInRange, IsValidLine}
-use Rattle.script_types.specs.WiderGrammar.{ThreadPart, ProcessPart, thread_part_lines, process_part_lines, schedule_lines, parts_lines, part_thread, parts_threads, part_process, AcceptedWider}
+use Rattle.script_types.specs.WiderGrammar.{ThreadPart, ProcessPart, thread_part_lines, process_part_lines, schedule_lines, parts_lines, part_thread, parts_threads, part_process, AcceptedWider, IsValidWider}
 use Rattle.script_types.specs.declared.declaration.ThreadDecl.{ThreadDecl}
 use Rattle.script_types.specs.declared.instruction.Instr.{Instr}
 use Rattle.script_types.specs.declared.instruction.Instr.TheVariants as instr
@@ -115,3 +115,6 @@ wider_is_shaped bytes script a =
           (at_place (IsHeld (length script.processes) (length (flat_map process_part_lines groups))) (parts_threads 0 groups) held k thread here);
       slots = a.limits.slots;
     }
+
+pub valid_wider_is_shaped : (script : Script) → IsValidWider script → IsShaped script
+valid_wider_is_shaped script valid = wider_is_shaped valid.0 script valid.1
