@@ -110,6 +110,10 @@ impl RefWords for PlainWords {
 
     ghost fits_on = { λ old new note fits same out. out };
 
+    fn place_of(note: &PlainNote) -> u32 {
+        note.slip.place
+    }
+
     fn create(&mut self, place: u32) {
         self.counts[place as usize] = 1;
         self.stages[place as usize] = Stage::InUse;

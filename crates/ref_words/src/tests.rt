@@ -18,7 +18,7 @@ fn found_while_known<W: RefWords>(words: &mut W, place: u32) -> Found
     words.create(place);
     words.open_known(place);
     let note = words.send_out(place);
-    let _ = words.close(place);
+    let _ = words.close(W::place_of(&note));
     words.take_back(note)
 }
 

@@ -34,6 +34,10 @@ pub trait RefWords {
     /// The note may come back to these words.
     ghost Fits: { Self → Self.Note → Type 0 };
 
+    /// The place that a note was made for.
+    fn place_of(note: &Self::Note) -> u32
+        ensures { result ≡ (slip note.now).place };
+
     /// Puts a fresh place in use, with one reference.
     fn create(&mut self, place: u32)
         requires { IsFresh (meaning self.old) place }
