@@ -1,18 +1,13 @@
 -- Each call keeps the table's counts, stages and names.
-use Rattle.std.proofs.Common.{◌≡◌, ◌≢◌, ℕ, zero, suc, ◌+◌, ◌-◌, ◌<◌, ◌≤◌, Bool, true, false, not, ◌&&◌, List, [], ◌∷◌, ◌++◌, length, get_or, set, replicate, refl, sym, ap, ◌∙◌, subst, arith, inl, inr, get_or-set_same, get_or-set_other, length-set, length-append, cond, ◌⊎◌}
+use Rattle.std.proofs.Common.{◌≡◌, ◌≢◌, ℕ, ◌<◌, ◌≤◌, true, false, List, [], ◌∷◌, ◌++◌, length, get_or, set, replicate, refl, sym, ap, ◌∙◌, arith, inl, inr, get_or-set_same, get_or-set_other, length-set, length-append, ◌⊎◌}
 use Rattle.std.specs.Prelude.{Option, Some, None, IsTrue, IfSome, position}
 use Rattle.std.proofs.lemmas.List.Quantifiers.{position-Some}
-use Rattle.std.specs.List.{list_any}
-use Rattle.std.proofs.lemmas.Bool.{cases_Bool, cases_eq, cases_lt, cases_order}
+use Rattle.std.proofs.lemmas.Bool.{cases_Bool, cases_eq, cases_lt}
 use Rattle.std.proofs.lemmas.List.{get_or_read, get_or_past, get_or_push, get_or_append_left, get_or-replicate, length-replicate}
 use Rattle.std.proofs.lemmas.List.Folds.{list_any_at}
-use Rattle.std.proofs.lemmas.Grind.{common_steps}
-use Rattle.ref_words.specs.declared.answer.Stage.{Stage}
-use Rattle.ref_words.specs.declared.answer.Stage.TheVariants.{Fresh, InUse, Gone}
-use Rattle.ref_words.specs.declared.answer.Found.TheVariants.{Held, Dead}
-use Rattle.ref_words.specs.declared.answer.Closed.TheVariants.{Stays, Last}
-use Rattle.ref_words.specs.declared.slip.Slip.{Slip}
-use Rattle.ref_words.specs.Words.{Words, own_at, stage_at, IsFresh, created, opened, sent_out, taken_back, closed}
+use Rattle.ref_words.specs.declared.answer.Stage.TheVariants.{Fresh, Gone}
+use Rattle.ref_words.specs.declared.answer.Closed.TheVariants.{Last}
+use Rattle.ref_words.specs.Words.{Words, own_at, created}
 use Rattle.sym_base.specs.declared.kind.Kind.{Kind}
 use Rattle.objects.specs.declared.row.Row.{Row}
 use Rattle.objects.specs.Rows.{row_at, is_there, is_dead, is_session, has_name, kept_name}

@@ -1,15 +1,13 @@
 -- Kinds and names are compared by tests.
-use Rattle.std.proofs.Common.{◌≡◌, ℕ, zero, suc, Bool, true, false, not, ◌&&◌, List, refl, sym, ap, ◌∙◌, eqb, cond}
-use Rattle.std.specs.Prelude.{Option, Some, None}
+use Rattle.std.proofs.Common.{◌≡◌, ℕ, zero, suc, true, List, refl, sym, ap, ◌∙◌}
+use Rattle.std.specs.Prelude.{Some}
 use Rattle.std.specs.Str.{bytes_eq}
-use Rattle.std.specs.List.{list_any}
 use Rattle.std.proofs.lemmas.Bool.{eqb-true, and_parts}
 use Rattle.std.proofs.lemmas.Slice.Eq.{bytes_eq-Decides}
 use Rattle.sym_base.specs.declared.kind.Kind.{Kind}
 use Rattle.sym_base.specs.declared.kind.Kind.TheVariants.{Process, Thread, Mutex, Semaphore, Server, Session}
 use Rattle.objects.specs.declared.row.Row.{Row}
-use Rattle.objects.specs.Rows.{kind_number, is_kind, is_session, kept_name, has_name}
-use Rattle.objects.specs.Calls.{is_taken}
+use Rattle.objects.specs.Rows.{kind_number, is_kind, has_name}
 
 -- the kind of a number
 kind_of : ℕ → Kind

@@ -1,5 +1,5 @@
 -- What the table of objects keeps.
-use Rattle.std.specs.Prelude.{◌≡◌, ℕ, ◌<◌, ◌≤◌, Bool, false, true, List, Option, IsTrue, length}
+use Rattle.std.specs.Prelude.{◌≡◌, ℕ, ◌<◌, ◌≤◌, false, List, Option, IsTrue, length}
 use Rattle.ref_words.specs.declared.answer.Stage.TheVariants.{InUse, Gone}
 use Rattle.ref_words.specs.Words.{Words, stage_at, IsFresh}
 use Rattle.sym_base.specs.declared.kind.Kind.{Kind}

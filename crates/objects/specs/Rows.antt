@@ -1,5 +1,5 @@
 -- Rows of objects, and which of them has a kind and a name.
-use Rattle.std.specs.Prelude.{ℕ, Bool, false, true, not, ◌&&◌, ◌==◌, if◌then◌else◌, List, [], Option, Some, None, slice_index_or}
+use Rattle.std.specs.Prelude.{ℕ, Bool, false, true, ◌&&◌, ◌==◌, if◌then◌else◌, List, [], Option, Some, None, slice_index_or}
 use Rattle.std.specs.Str.{bytes_eq}
 use Rattle.sym_base.specs.declared.kind.Kind.{Kind}
 use Rattle.sym_base.specs.declared.kind.Kind.TheVariants.{Process, Thread, Mutex, Semaphore, Server, Session}

@@ -1,6 +1,7 @@
 //! The table of objects, and its calls.
 ghost use Rattle.std.specs.Prelude.{◌≡◌, ℕ, false, ◌+◌, ◌^◌, ◌<◌, ◌≤◌, ◌↔◌, IsTrue, IfOk, IfSome, length, position, vec_capacity, []};
 ghost use Rattle.ref_words.specs.Words.{own_at, IsGone, IsOut, HasNoteOut, opened, sent_out, taken_back, closed};
+ghost use Rattle.sym_base.specs.declared.number.ObjNo.{ObjNo};
 ghost use Rattle.objects.specs.Rows.{row_at, is_there, is_dead, is_session, has_name};
 ghost use Rattle.objects.specs.Calls.{AreUnused, is_taken, is_findable, made_answer, rows_made, words_made, found, told, row_told, rows_closed, rows_swept};
 
@@ -67,6 +68,7 @@ impl<W: RefWords + Drop> Objects<W> {
         ensures answer { result ≡ made_answer kind name.now self.old.rows }
         ensures rows { self.new.rows ≡ rows_made result kind name.now self.old.rows }
         ensures words { W.meaning self.new.words ≡ words_made result (W.meaning self.old.words) }
+        ensures one { (o : ObjNo) → result ≡ Made.Made o → own_at (W.meaning self.new.words) o.0 ≡ 1 }
         ensures taken { result ≡ Made.NameTaken → self.new ≡ self.old }
         ensures full { result ≡ Made.Full → self.new ≡ self.old }
     {

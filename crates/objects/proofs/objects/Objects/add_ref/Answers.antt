@@ -1,5 +1,5 @@
-use Rattle.std.proofs.Common.{◌≡◌, ◌+◌, ◌<◌, set, ap, ◌∙◌, arith}
-use Rattle.ref_words.specs.Words.{Words, own_at}
+use Rattle.std.proofs.Common.{◌+◌, ◌<◌, ap, arith}
+use Rattle.ref_words.specs.Words.{Words}
 use Rattle.objects.proofs.Keeping.{there_made, kept_counts, read_own}
 use Rattle.objects.proofs.objects.Objects.add_ref.Goals as goal
 

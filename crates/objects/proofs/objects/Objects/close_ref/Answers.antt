@@ -1,4 +1,4 @@
-use Rattle.std.proofs.Common.{◌≡◌, ◌-◌, ◌<◌, ap, arith}
+use Rattle.std.proofs.Common.{◌-◌, ◌<◌, ap, arith}
 use Rattle.ref_words.specs.Words.{Words}
 use Rattle.objects.proofs.Keeping.{there_made, kept_counts, kept_dead, read_own}
 use Rattle.objects.proofs.objects.Objects.close_ref.Goals as goal

@@ -1,6 +1,5 @@
-use Rattle.std.proofs.Common.{◌≡◌, ◌<◌, length, false, sym, ◌∙◌, arith}
+use Rattle.std.proofs.Common.{◌≡◌, ◌<◌, length, sym, ◌∙◌, arith}
 use Rattle.objects.proofs.Keeping.{kept_made}
-use Rattle.objects.specs.Calls.{is_taken}
 use Rattle.objects.proofs.objects.Objects.make.Goals as goal
 
 pub invariant_of-self : goal.invariant_of-self

@@ -1,4 +1,4 @@
-use Rattle.std.proofs.Common.{◌≡◌, ◌+◌, ap}
+use Rattle.std.proofs.Common.{◌+◌, ap}
 use Rattle.ref_words.specs.Words.{Words}
 use Rattle.objects.proofs.Keeping.{kept_counts, kept_notes, read_own}
 use Rattle.objects.proofs.objects.Objects.take_back.Goals as goal
