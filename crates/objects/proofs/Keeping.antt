@@ -10,7 +10,7 @@ use Rattle.ref_words.specs.declared.answer.Closed.TheVariants.{Last}
 use Rattle.ref_words.specs.Words.{Words, own_at, created}
 use Rattle.sym_base.specs.declared.kind.Kind.{Kind}
 use Rattle.objects.specs.declared.row.Row.{Row}
-use Rattle.objects.specs.Rows.{row_at, is_there, is_dead, is_session, has_name, kept_name}
+use Rattle.objects.specs.Rows.{row_at, is_there, is_dead, is_alive, is_session, has_name, kept_name}
 use Rattle.objects.specs.Calls.{AreUnused, is_taken, dead_row, rows_closed, rows_swept}
 use Rattle.objects.specs.Kept.{AreKept}
 use Rattle.objects.proofs.SameKind.{has_name-kind, has_name-name}
@@ -34,6 +34,19 @@ dead_there (Some row) dead = refl
 pub dead_made : (rows : Rows) (p : ℕ) → IsTrue (is_dead (row_at rows p)) → p < length rows
 dead_made rows p dead = there_made rows p (dead_there (row_at rows p) dead)
 
+-- an object that isn't dead was made
+alive_there : (row : Option Row) → IsTrue (is_alive row) → IsTrue (is_there row)
+alive_there None alive = absurd (cc)
+alive_there (Some row) alive = refl
+
+alive_made : (rows : Rows) (p : ℕ) → IsTrue (is_alive (row_at rows p)) → p < length rows
+alive_made rows p alive = there_made rows p (alive_there (row_at rows p) alive)
+
+-- no object is dead and alive
+pub dead_alive : (row : Option Row) → IsTrue (is_dead row) → is_alive row ≡ false
+dead_alive None dead = refl
+dead_alive (Some row) dead = rw dead refl
+
 -- an object with a name was made
 named_made : (rows : Rows) (p : ℕ) (kind : Kind) (name : List ℕ) → IsTrue (has_name kind name (row_at rows p)) → p < length rows
 named_made rows p kind name named = elim (cases_lt p (length rows)) [
@@ -48,8 +61,8 @@ kept_new w unused = record {
   places = rw unused.0 (length-replicate {A = ℕ} 4096 0);
   limited = omega arith;
   fresh = λ p past within. (rw (unused.0, length-replicate) within, rw (unused.1, length-replicate) within, rw unused.1 (get_or-replicate 4096 p Fresh Fresh within));
-  in_use = λ p there alive. absurd (cc);
-  gone = λ p dead. absurd (cc);
+  in_use = λ p alive. absurd (cc);
+  gone = λ p inside dead. absurd (omega arith);
   unique = λ p q kind name named one other. absurd (cc);
 }
 
@@ -94,16 +107,16 @@ kept_made rows counts w kind name kept room untaken =
           let f = kept.fresh p (omega (arith, long)) within in
           let other : p ≢ length rows = omega (arith, long) in
           (rw length-set f.0, rw length-set f.1, rw get_or-set_other f.2);
-      in_use = λ p there alive. elim (made_cases rows row p (there_made (rows ++ Some row ∷ []) p there)) [
+      in_use = λ p alive. elim (made_cases rows row p (alive_made (rows ++ Some row ∷ []) p alive)) [
         | inl old ↦
             let other : p ≢ length rows = omega arith in
-            rw get_or-set_other (kept.in_use p (rw (row_at-made rows row p old) at there) (rw (row_at-made rows row p old) at alive))
+            rw get_or-set_other (kept.in_use p (rw (row_at-made rows row p old) at alive))
         | inr new ↦ let inside = place.1 in rw (new, get_or-set_same) refl
       ];
-      gone = λ p dead. elim (made_cases rows row p (dead_made (rows ++ Some row ∷ []) p dead)) [
+      gone = λ p inside dead. elim (made_cases rows row p inside) [
         | inl old ↦
             let other : p ≢ length rows = omega arith in
-            rw get_or-set_other (kept.gone p (rw (row_at-made rows row p old) at dead))
+            rw get_or-set_other (kept.gone p old (rw (row_at-made rows row p old) at dead))
         | inr new ↦ absurd (cc (rw (row_at-new rows row p new) at dead))
       ];
       unique = λ p q k n named one other.
@@ -138,8 +151,8 @@ kept_notes rows counts w v own stages kept = record {
   places = rw own kept.places;
   limited = kept.limited;
   fresh = λ p past within. rw (own, stages) (kept.fresh p past within);
-  in_use = λ p there alive. rw stages (kept.in_use p there alive);
-  gone = λ p dead. rw stages (kept.gone p dead);
+  in_use = λ p alive. rw stages (kept.in_use p alive);
+  gone = λ p inside dead. rw stages (kept.gone p inside dead);
   unique = kept.unique;
 }
 
@@ -148,25 +161,23 @@ dead_named : (kind : Kind) (name : List ℕ) (row : Option Row) → has_name kin
 dead_named kind name None = refl
 dead_named kind name (Some row) = refl
 
-dead_there_still : (row : Option Row) → is_there (dead_row row) ≡ is_there row
-dead_there_still None = refl
-dead_there_still (Some row) = refl
-
-dead_is : (row : Option Row) → is_dead (dead_row row) ≡ is_there row
-dead_is None = refl
-dead_is (Some row) = refl
+-- and isn't alive
+dead_row_alive : (row : Option Row) → is_alive (dead_row row) ≡ false
+dead_row_alive None = refl
+dead_row_alive (Some row) = refl
 
 -- the place of an unswept object was created
 there_created : (rows : Rows) (counts : List ℕ) (w : Words) (o : ℕ) → AreKept rows counts w → IsTrue (is_there (row_at rows o)) → o < length w.stages
-there_created rows counts w o kept there = elim (cases_lt o (length w.stages)) [
-  | inl inside ↦ inside
-  | inr past ↦
-      let fresh = get_or_past w.stages o Fresh past in
-      elim (cases_Bool (is_dead (row_at rows o))) [
-        | inl dead ↦ let is = kept.gone o dead in absurd (cc)
-        | inr alive ↦ let is = kept.in_use o there alive in absurd (cc)
-      ]
-]
+there_created rows counts w o kept there =
+    elim (cases_lt o (length w.stages)) [
+      | inl inside ↦ inside
+      | inr past ↦
+          let fresh = get_or_past w.stages o Fresh past in
+          elim (cases_Bool (is_alive (row_at rows o))) [
+            | inl alive ↦ let is = kept.in_use o alive in absurd (cc)
+            | inr dead ↦ let is = kept.gone o (there_made rows o there) dead in absurd (cc)
+          ]
+    ]
 
 -- the row of an object after its last reference went, and the other rows
 row_at-closed : (rows : Rows) (o : ℕ) → o < length rows → row_at (rows_closed Last rows o) o ≡ dead_row (row_at rows o)
@@ -196,19 +207,19 @@ kept_last rows counts w o n kept there =
           let f = kept.fresh p above within in
           let other : p ≢ o = omega arith in
           (rw length-set f.0, rw length-set f.1, rw get_or-set_other f.2);
-      in_use = λ p still alive. elim (cases_eq p o) [
+      in_use = λ p alive. elim (cases_eq p o) [
         | inl here ↦
-            let dead : is_dead (row_at (rows_closed Last rows o) o) ≡ true = rw (row_at-closed rows o inside) (dead_is (row_at rows o) ∙ there) in
-            absurd (cc (rw here at alive))
+            let dead = dead_row_alive (row_at rows o) in
+            absurd (cc (rw (here, row_at-closed rows o inside) at alive))
         | inr other ↦
             let same = row_at-other rows (dead_row (row_at rows o)) o p other in
-            rw get_or-set_other (kept.in_use p (rw same at still) (rw same at alive))
+            rw get_or-set_other (kept.in_use p (rw same at alive))
       ];
-      gone = λ p dead. elim (cases_eq p o) [
+      gone = λ p made dead. elim (cases_eq p o) [
         | inl here ↦ rw (here, get_or-set_same) refl
         | inr other ↦
             let same = row_at-other rows (dead_row (row_at rows o)) o p other in
-            rw get_or-set_other (kept.gone p (rw same at dead))
+            rw get_or-set_other (kept.gone p (rw length-set at made) (rw same at dead))
       ];
       unique = λ p q kind name named one other.
           kept.unique p q kind name named (sym (named_closed rows o p kind name inside) ∙ one) (sym (named_closed rows o q kind name inside) ∙ other);
@@ -222,25 +233,26 @@ named_swept rows o p kind name inside named = elim (cases_eq p o) [
 ]
 
 -- a dead object's row goes
-pub kept_swept : (rows : Rows) (counts : List ℕ) (w : Words) (o : ℕ) → AreKept rows counts w → o < length rows → AreKept (rows_swept rows o) counts w
-kept_swept rows counts w o kept inside = record {
-  counted = kept.counted;
-  places = kept.places;
-  limited = rw length-set kept.limited;
-  fresh = λ p past within. kept.fresh p (rw length-set at past) within;
-  in_use = λ p there alive. elim (cases_eq p o) [
-    | inl here ↦ let none = get_or-set_same rows o None None inside in absurd (cc (rw (here, none) at there))
-    | inr other ↦
-        let same = row_at-other rows None o p other in
-        kept.in_use p (rw same at there) (rw same at alive)
-  ];
-  gone = λ p dead. elim (cases_eq p o) [
-    | inl here ↦ let none = get_or-set_same rows o None None inside in absurd (cc (rw (here, none) at dead))
-    | inr other ↦ kept.gone p (rw (row_at-other rows None o p other) at dead)
-  ];
-  unique = λ p q kind name named one other.
-      kept.unique p q kind name named (named_swept rows o p kind name inside one) (named_swept rows o q kind name inside other);
-}
+pub kept_swept : (rows : Rows) (counts : List ℕ) (w : Words) (o : ℕ) → AreKept rows counts w → IsTrue (is_dead (row_at rows o)) → AreKept (rows_swept rows o) counts w
+kept_swept rows counts w o kept was_dead =
+    let inside = dead_made rows o was_dead in
+    let none = get_or-set_same rows o None None inside in
+    record {
+      counted = kept.counted;
+      places = kept.places;
+      limited = rw length-set kept.limited;
+      fresh = λ p past within. kept.fresh p (rw length-set at past) within;
+      in_use = λ p alive. elim (cases_eq p o) [
+        | inl here ↦ absurd (cc (rw (here, none) at alive))
+        | inr other ↦ kept.in_use p (rw (row_at-other rows None o p other) at alive)
+      ];
+      gone = λ p made dead. elim (cases_eq p o) [
+        | inl here ↦ rw here (kept.gone o inside (dead_alive (row_at rows o) was_dead))
+        | inr other ↦ kept.gone p (rw length-set at made) (rw (row_at-other rows None o p other) at dead)
+      ];
+      unique = λ p q kind name named one other.
+          kept.unique p q kind name named (named_swept rows o p kind name inside one) (named_swept rows o q kind name inside other);
+    }
 
 -- a call gives a place a count, and the words another meaning
 pub kept_counts : (rows : Rows) (counts : List ℕ) (w v : Words) (o n m : ℕ) → AreKept rows counts w → v.own ≡ set w.own o m → v.stages ≡ w.stages → n ≡ m → AreKept rows (set counts o n) v

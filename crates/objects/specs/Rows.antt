@@ -1,5 +1,5 @@
 -- Rows of objects, and which of them has a kind and a name.
-use Rattle.std.specs.Prelude.{ℕ, Bool, false, true, ◌&&◌, ◌==◌, if◌then◌else◌, List, [], Option, Some, None, slice_index_or}
+use Rattle.std.specs.Prelude.{ℕ, Bool, false, true, not, ◌&&◌, ◌==◌, if◌then◌else◌, List, [], Option, Some, None, slice_index_or}
 use Rattle.std.specs.Str.{bytes_eq}
 use Rattle.sym_base.specs.declared.kind.Kind.{Kind}
 use Rattle.sym_base.specs.declared.kind.Kind.TheVariants.{Process, Thread, Mutex, Semaphore, Server, Session}
@@ -39,6 +39,11 @@ is_there (Some row) = true
 abbrev pub is_dead : Option Row → Bool
 is_dead None = false
 is_dead (Some row) = row.dead
+
+-- whether an object isn't swept and its last reference stands
+abbrev pub is_alive : Option Row → Bool
+is_alive None = false
+is_alive (Some row) = not row.dead
 
 -- whether an object isn't swept and has a kind and a name
 abbrev pub has_name : Kind → List ℕ → Option Row → Bool

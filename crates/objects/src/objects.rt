@@ -2,7 +2,7 @@
 ghost use Rattle.std.specs.Prelude.{◌≡◌, ℕ, false, ◌+◌, ◌^◌, ◌<◌, ◌≤◌, ◌↔◌, IsTrue, IfOk, IfSome, length, position, vec_capacity, []};
 ghost use Rattle.ref_words.specs.Words.{own_at, IsGone, IsOut, HasNoteOut, opened, sent_out, taken_back, closed};
 ghost use Rattle.sym_base.specs.declared.number.ObjNo.{ObjNo};
-ghost use Rattle.objects.specs.Rows.{row_at, is_there, is_dead, is_session, has_name};
+ghost use Rattle.objects.specs.Rows.{row_at, is_there, is_dead, is_alive, is_session, has_name};
 ghost use Rattle.objects.specs.Calls.{AreUnused, is_taken, is_findable, made_answer, rows_made, words_made, found, told, row_told, rows_closed, rows_swept};
 
 use crate::row::{ObjRow, Row, has_name, is_dead, is_session, kept_name};
@@ -186,6 +186,9 @@ impl<W: RefWords + Drop> Objects<W> {
         ensures rows { self.new.rows ≡ self.old.rows }
         ensures words { W.meaning self.new.words ≡ taken_back result (W.meaning self.old.words) (W.slip note) }
         ensures dead { (result ≡ Found.Dead) ↔ IsGone (W.meaning self.old.words) (W.slip note).place }
+
+        // Of an object that was made, it is held exactly where it isn't dead, and so not swept either.
+        ensures held { (W.slip note).place < length self.old.rows → ((result ≡ Found.Held) ↔ IsTrue (is_alive (row_at self.old.rows (W.slip note).place))) }
         ensures was_out { IsOut (W.meaning self.old.words) (W.slip note) }
         ensures placed { (W.slip note).place < 4096 }
         ensures fewer { length (W.meaning self.new.words).out + 1 ≡ length (W.meaning self.old.words).out }
