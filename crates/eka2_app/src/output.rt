@@ -1,5 +1,5 @@
 //! Writing a history, or the line of a refusal. Each line goes out, with its line feed, as one piece.
-ghost use Rattle.std.specs.Prelude.{◌≡◌, ◌≤◌, true, decimal, is_some, OnOk, OnErr};
+ghost use Rattle.std.specs.Prelude.{◌≡◌, ◌≤◌, true, is_some, OnOk, OnErr};
 ghost use Rattle.std.specs.List.{flat_map};
 ghost use Rattle.edge_io.specs.Faults.{Rose};
 ghost use Rattle.edge_io.specs.Written.{Wrote, WrotePrefix};

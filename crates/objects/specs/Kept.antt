@@ -1,0 +1,19 @@
+-- What the table of objects keeps.
+use Rattle.std.specs.Prelude.{◌≡◌, ℕ, ◌<◌, ◌≤◌, false, List, Option, IsTrue, length}
+use Rattle.ref_words.specs.declared.answer.Stage.TheVariants.{InUse, Gone}
+use Rattle.ref_words.specs.Words.{Words, stage_at, IsFresh}
+use Rattle.sym_base.specs.declared.kind.Kind.{Kind}
+use Rattle.objects.specs.declared.row.Row.{Row}
+use Rattle.objects.specs.Rows.{row_at, is_alive, is_session, has_name}
+
+-- the counts are those of the words; a place beyond the objects made is fresh, and that of an object that
+-- was made is in use, or gone where it is dead or swept; and names are unique among the unswept objects of
+-- a kind
+pub record AreKept (rows : List (Option Row)) (counts : List ℕ) (w : Words) : Type 0 where
+  pub counted : counts ≡ w.own
+  pub places : length w.own ≡ 4096
+  pub limited : length rows ≤ 4096
+  pub fresh : (p : ℕ) → length rows ≤ p → p < 4096 → IsFresh w p
+  pub in_use : (p : ℕ) → IsTrue (is_alive (row_at rows p)) → stage_at w p ≡ InUse
+  pub gone : (p : ℕ) → p < length rows → is_alive (row_at rows p) ≡ false → stage_at w p ≡ Gone
+  pub unique : (p q : ℕ) (kind : Kind) (name : List ℕ) → is_session kind ≡ false → IsTrue (has_name kind name (row_at rows p)) → IsTrue (has_name kind name (row_at rows q)) → p ≡ q

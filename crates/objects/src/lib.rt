@@ -1,0 +1,10 @@
+//! Kernel objects: their kinds, names and reference counts.
+#![tactic(auto)]
+
+mod objects;
+mod row;
+#[cfg(test)]
+mod tests;
+
+pub use objects::{MAX_OBJECTS, Made, Objects};
+pub use row::{ObjRow, Row};

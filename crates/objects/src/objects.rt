@@ -1,0 +1,250 @@
+//! The table of objects, and its calls.
+ghost use Rattle.std.specs.Prelude.{◌≡◌, ℕ, false, ◌+◌, ◌^◌, ◌<◌, ◌≤◌, ◌↔◌, IsTrue, IfOk, IfSome, length, position, vec_capacity, []};
+ghost use Rattle.ref_words.specs.Words.{own_at, IsGone, IsOut, HasNoteOut, opened, sent_out, taken_back, closed};
+ghost use Rattle.sym_base.specs.declared.number.ObjNo.{ObjNo};
+ghost use Rattle.objects.specs.Rows.{row_at, is_there, is_dead, is_alive, is_session, has_name};
+ghost use Rattle.objects.specs.Calls.{AreUnused, is_taken, is_findable, made_answer, rows_made, words_made, found, told, row_told, rows_closed, rows_swept};
+
+use crate::row::{ObjRow, Row, has_name, is_dead, is_session, kept_name};
+use ref_words::{Closed, Found, RefWords};
+use std::alloc::Global;
+use std::marker::Model;
+use sym_base::{Kind, Name, NoMemory, ObjNo};
+
+/// The most objects that are made. The limit is this project's own.
+pub const MAX_OBJECTS: usize = 4096;
+
+/// What making an object answers.
+#[derive(Clone, Copy, Debug, PartialEq, Eq)]
+pub enum Made {
+    Made(ObjNo),
+    /// Another object of the kind has the name, and isn't swept.
+    NameTaken,
+    /// 4,096 objects were made.
+    Full,
+}
+
+/// The objects of the kernel, by number in order of making (Symbian OS Internals, the chapter on kernel
+/// services, on object containers). Names are unique among the unswept objects of a kind, and sessions
+/// have none. The numbers and their limit are this project's own.
+#[derive(Drop)]
+pub struct Objects<W: RefWords> {
+    words: W,
+    counts: Vec<u32>,
+    rows: Vec<Option<Row>>,
+}
+
+impl<W: RefWords> Model for Objects<W> {
+    ghost use Rattle.std.specs.Prelude.{◌≤◌, vec_capacity};
+    ghost use Rattle.objects.specs.Table.{Table};
+
+    ghost Value = { Table W };
+
+    ghost use Rattle.objects.specs.Kept.{AreKept};
+
+    ghost view = { λ a. record { rows = a.rows.items; words = a.words } };
+
+    ghost invariant = { λ a. AreKept a.rows.items a.counts.items (W.meaning a.words) × (4096 ≤ vec_capacity a.rows) };
+}
+
+impl<W: RefWords + Drop> Objects<W> {
+    /// A table of no object, over words of 4,096 places of which none is created. It takes all the
+    /// memory that the table ever needs.
+    pub fn new(alloc: Global, words: W) -> Result<Objects<W>, NoMemory>
+        requires { AreUnused (W.meaning words) }
+        ensures { IfOk result (λ objects. objects ≡ record { rows = []; words = words }) }
+    {
+        let counts = vec![in alloc; 0u32; MAX_OBJECTS]?;
+        let rows = Vec::with_capacity(alloc, MAX_OBJECTS)?;
+        Ok(Objects {
+            words,
+            counts,
+            rows,
+        })
+    }
+
+    /// Makes an object of a kind with a name, which has one reference. A session's name isn't looked at.
+    pub fn make(&mut self, kind: Kind, name: &Name) -> Made
+        ensures answer { result ≡ made_answer kind name.now self.old.rows }
+        ensures rows { self.new.rows ≡ rows_made result kind name.now self.old.rows }
+        ensures words { W.meaning self.new.words ≡ words_made result (W.meaning self.old.words) }
+        ensures one { (o : ObjNo) → result ≡ Made.Made o → own_at (W.meaning self.new.words) o.0 ≡ 1 }
+        ensures taken { result ≡ Made.NameTaken → self.new ≡ self.old }
+        ensures full { result ≡ Made.Full → self.new ≡ self.old }
+    {
+        if self.is_taken(kind, name) {
+            return Made::NameTaken;
+        }
+        let made = self.rows.len();
+        if made == MAX_OBJECTS {
+            return Made::Full;
+        }
+        self.rows.push_reserved(Some(Row {
+            kind,
+            name: kept_name(kind, name),
+            dead: false,
+        }));
+        self.counts[made] = 1;
+        self.words.create(made as u32);
+        Made::Made(ObjNo(made as u16))
+    }
+
+    /// Whether an unswept object has a kind and a name, which no session has.
+    fn is_taken(&self, kind: Kind, name: &Name) -> bool
+        ensures { result ≡ is_taken kind name.now self.now.rows }
+    {
+        !is_session(kind) && self.rows.iter().any(|row| has_name(row, kind, name))
+    }
+
+    /// The unswept object of a kind with a name. None exactly where there is none, or where it has no
+    /// reference and isn't dead: then it awaits a note that is out. No session is found.
+    pub fn find(&self, kind: Kind, name: &Name) -> Option<ObjNo>
+        ensures answer { result ≡ found kind name.now self.now.rows (W.meaning self.now.words).own }
+        ensures alone { IfSome result (λ o. (p : ℕ) → IsTrue (has_name kind name.now (row_at self.now.rows p)) → p ≡ o.0) }
+    {
+        if is_session(kind) {
+            return None;
+        }
+        let place = self.place_named(kind, name)?;
+        if !self.is_findable(place) {
+            return None;
+        }
+        Some(ObjNo(place as u16))
+    }
+
+    /// The place of the unswept object of a kind with a name.
+    fn place_named(&self, kind: Kind, name: &Name) -> Option<usize>
+        requires { is_session kind ≡ false }
+        ensures place { result ≡ position (has_name kind name.now) self.now.rows }
+        ensures made { IfSome result (λ p. (p < length self.now.rows) × (p < 4096)) }
+        ensures alone { IfSome result (λ p. (q : ℕ) → IsTrue (has_name kind name.now (row_at self.now.rows q)) → q ≡ p) }
+    {
+        self.rows.iter().position(|row| has_name(row, kind, name))
+    }
+
+    /// Whether an object has a reference or is dead.
+    fn is_findable(&self, place: usize) -> bool
+        requires { place < length self.now.rows }
+        ensures { result ≡ is_findable self.now.rows (W.meaning self.now.words).own place }
+    {
+        self.counts[place] != 0 || is_dead(&self.rows[place])
+    }
+
+    /// Adds a reference to an unswept object that has one.
+    pub fn add_ref(&mut self, o: ObjNo)
+        requires there { IsTrue (is_there (row_at self.old.rows o.0)) }
+        requires known { 0 < own_at (W.meaning self.old.words) o.0 }
+        requires small { own_at (W.meaning self.old.words) o.0 < 2 ^ 31 }
+        ensures rows { self.new.rows ≡ self.old.rows }
+        ensures words { W.meaning self.new.words ≡ opened (W.meaning self.old.words) o.0 }
+    {
+        self.counts[o.0 as usize] += 1;
+        self.words.open_known(u32::from(o.0));
+    }
+
+    /// Takes a reference of an unswept object away. At the last the object is dead.
+    pub fn close_ref(&mut self, o: ObjNo) -> Closed
+        requires there { IsTrue (is_there (row_at self.old.rows o.0)) }
+        requires known { 0 < own_at (W.meaning self.old.words) o.0 }
+        ensures rows { self.new.rows ≡ rows_closed result self.old.rows o.0 }
+        ensures words { W.meaning self.new.words ≡ closed result (W.meaning self.old.words) o.0 }
+
+        // At the last own count either answer may come, `Stays` only where a note of the object is out.
+        ensures last { result ≡ Closed.Last → own_at (W.meaning self.old.words) o.0 ≡ 1 }
+        ensures stays { result ≡ Closed.Stays → own_at (W.meaning self.old.words) o.0 ≡ 1 → HasNoteOut (W.meaning self.old.words) o.0 }
+    {
+        self.counts[o.0 as usize] -= 1;
+        let left = self.words.close(u32::from(o.0));
+        match left {
+            Closed::Stays => {}
+            Closed::Last => bury(&mut self.rows, o),
+        }
+        left
+    }
+
+    /// Sends a note out for an unswept object, which has a reference or is dead.
+    pub fn send_out(&mut self, o: ObjNo) -> W::Note
+        requires there { IsTrue (is_there (row_at self.old.rows o.0)) }
+        requires known_or_dead { own_at (W.meaning self.old.words) o.0 ≡ 0 → IsTrue (is_dead (row_at self.old.rows o.0)) }
+        requires small { own_at (W.meaning self.old.words) o.0 < 2 ^ 31 }
+        requires few_out { length (W.meaning self.old.words).out < 64 }
+        requires few_made { (W.meaning self.old.words).made < 4294967295 }
+        ensures rows { self.new.rows ≡ self.old.rows }
+        ensures words { W.meaning self.new.words ≡ sent_out (W.meaning self.old.words) o.0 }
+        ensures note { W.slip result ≡ record { place = o.0; number = (W.meaning self.old.words).made + 1 } }
+        ensures is_new { W.IsNew result }
+        ensures origin_is { W.origin result ≡ (W.meaning self.old.words).identity }
+        ensures fits { W.Fits self.new.words result }
+    {
+        self.words.send_out(u32::from(o.0))
+    }
+
+    /// Takes a note back. Where its object isn't gone, the reference that the note opened is counted.
+    pub fn take_back(&mut self, note: W::Note) -> Found
+        requires settled { W.IsSettled note }
+        requires fits { W.Fits self.old.words note }
+        ensures rows { self.new.rows ≡ self.old.rows }
+        ensures words { W.meaning self.new.words ≡ taken_back result (W.meaning self.old.words) (W.slip note) }
+        ensures dead { (result ≡ Found.Dead) ↔ IsGone (W.meaning self.old.words) (W.slip note).place }
+
+        // Of an object that was made, it is held exactly where it isn't dead, and so not swept either.
+        ensures held { (W.slip note).place < length self.old.rows → ((result ≡ Found.Held) ↔ IsTrue (is_alive (row_at self.old.rows (W.slip note).place))) }
+        ensures was_out { IsOut (W.meaning self.old.words) (W.slip note) }
+        ensures placed { (W.slip note).place < 4096 }
+        ensures fewer { length (W.meaning self.new.words).out + 1 ≡ length (W.meaning self.old.words).out }
+        ensures bounded { own_at (W.meaning self.new.words) (W.slip note).place ≤ 2147483712 }
+    {
+        let place = W::place_of(&note) as usize;
+        let found = self.words.take_back(note);
+        match found {
+            Found::Held => self.counts[place] += 1,
+            Found::Dead => {}
+        }
+        found
+    }
+
+    /// Takes the row of a dead object away, and frees its name.
+    pub fn sweep(&mut self, o: ObjNo)
+        requires { IsTrue (is_dead (row_at self.old.rows o.0)) }
+        ensures rows { self.new.rows ≡ rows_swept self.old.rows o.0 }
+        ensures words { self.new.words ≡ self.old.words }
+    {
+        self.rows[o.0 as usize] = None;
+    }
+
+    /// What is told of an object. None exactly where it isn't made or is swept.
+    pub fn row(&self, o: ObjNo) -> Option<ObjRow>
+        ensures { result ≡ row_told self.now.rows (W.meaning self.now.words).own o.0 }
+    {
+        if o.0 as usize >= self.rows.len() {
+            return None;
+        }
+        told(&self.rows[o.0 as usize], self.counts[o.0 as usize])
+    }
+}
+
+/// What is told of a row and its count.
+fn told(row: &Option<Row>, count: u32) -> Option<ObjRow>
+    ensures { result ≡ told row.now count }
+{
+    match row {
+        Some(row) => Some(ObjRow {
+            kind: row.kind,
+            name: row.name,
+            count,
+            dead: row.dead,
+        }),
+        None => None,
+    }
+}
+
+/// Notes that an object's last reference went.
+fn bury(rows: &mut Vec<Option<Row>>, o: ObjNo)
+    requires { o.0 < length rows.old.items }
+    ensures rows { rows.new.items ≡ rows_closed Closed.Last rows.old.items o.0 }
+    ensures room { vec_capacity rows.new ≡ vec_capacity rows.old }
+{
+    if let Some(row) = &mut rows[o.0 as usize] {
+        row.dead = true;
+    }
+}

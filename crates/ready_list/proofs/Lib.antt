@@ -1,0 +1,3 @@
+pub mod Arrival
+mod Highest
+mod Struck

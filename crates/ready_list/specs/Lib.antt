@@ -1,0 +1,3 @@
+pub mod Arrival
+pub mod Queue
+pub mod Ready

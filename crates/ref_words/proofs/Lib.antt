@@ -1,0 +1,3 @@
+mod Filters
+pub mod Notes
+mod Soundness
