@@ -75,7 +75,15 @@ fn dup_step(
 }
 
 /// A step of `open`.
-fn open_step(script: &Script, tables: &mut Tables, thread: ThreadNo, row: ThreadRow, kind: Kind, name: Name, register: u8) -> Result<Outcome, NoMemory>
+fn open_step(
+    script: &Script,
+    tables: &mut Tables,
+    thread: ThreadNo,
+    row: ThreadRow,
+    kind: Kind,
+    name: Name,
+    register: u8,
+) -> Result<Outcome, NoMemory>
     requires standing { IsStanding script.now tables.old thread row }
     requires register { register < 8 }
     ensures state { IfOk result (λ outcome. acted (state_of tables.new) outcome ≡ instruction_step (state_of tables.old) thread row (Instr.Open kind name register)) }
@@ -124,7 +132,9 @@ fn instruction_step(
 {
     match instr {
         Instr::CreateMutex(name, register) => create_mutex(tables, thread, row, name, register),
-        Instr::Open(kind, name, register) => open_step(script, tables, thread, row, kind, name, register),
+        Instr::Open(kind, name, register) => open_step(
+            script, tables, thread, row, kind, name, register,
+        ),
         Instr::Dup(from, to) => dup_step(script, tables, thread, row, from, to),
         Instr::Close(register) => close_step(script, tables, thread, row, register),
     }

@@ -50,7 +50,12 @@ pub fn find_object(tables: &Tables, kind: Kind, name: &Name) -> Option<ObjNo>
 
 /// The first step: the object is found.
 #[tactic(auto, unfolding(machine::specs::Open::open_seek))]
-pub fn open_seek(tables: &mut Tables, thread: ThreadNo, row: ThreadRow, found: Option<ObjNo>) -> Result<Outcome, NoMemory>
+pub fn open_seek(
+    tables: &mut Tables,
+    thread: ThreadNo,
+    row: ThreadRow,
+    found: Option<ObjNo>,
+) -> Result<Outcome, NoMemory>
     requires { HasRows tables.old thread row }
     ensures state { IfOk result (λ outcome. acted (state_of tables.new) outcome ≡ open_seek (state_of tables.old) thread row found) }
     ensures counts { IfOk result (λ outcome. CountsMove tables.old.objects.counts tables.new.objects.counts outcome.effects) }
@@ -72,14 +77,26 @@ pub fn open_seek(tables: &mut Tables, thread: ThreadNo, row: ThreadRow, found: O
 
 /// The second step: the thread uses the object, unless it died since.
 #[tactic(auto, unfolding(machine::specs::Open::open_return))]
-pub fn open_return(tables: &mut Tables, thread: ThreadNo, row: ThreadRow, object: ObjNo) -> Result<Outcome, NoMemory>
+pub fn open_return(
+    tables: &mut Tables,
+    thread: ThreadNo,
+    row: ThreadRow,
+    object: ObjNo,
+) -> Result<Outcome, NoMemory>
     requires rows { HasRows tables.old thread row }
     requires few { slice_index tables.old.objects.counts object.0 < 2147483648 }
     ensures state { IfOk result (λ outcome. acted (state_of tables.new) outcome ≡ open_return (state_of tables.old) thread row object) }
     ensures counts { IfOk result (λ outcome. CountsMove tables.old.objects.counts tables.new.objects.counts outcome.effects) }
 {
     if !machine::is_open(tables.objects.row(object)) {
-        return answered(tables, thread, row, RETURN, machine::one_effect(Effect::Missed(object)), NOT_FOUND);
+        return answered(
+            tables,
+            thread,
+            row,
+            RETURN,
+            machine::one_effect(Effect::Missed(object)),
+            NOT_FOUND,
+        );
     }
     tables.objects.add_ref(object);
     let using = ThreadRow {
@@ -96,7 +113,13 @@ pub fn open_return(tables: &mut Tables, thread: ThreadNo, row: ThreadRow, object
 
 /// The third step: a handle of the object.
 #[tactic(auto, unfolding(machine::specs::Open::open_do))]
-pub fn open_do(tables: &mut Tables, thread: ThreadNo, row: ThreadRow, object: ObjNo, register: u8) -> Result<Outcome, NoMemory>
+pub fn open_do(
+    tables: &mut Tables,
+    thread: ThreadNo,
+    row: ThreadRow,
+    object: ObjNo,
+    register: u8,
+) -> Result<Outcome, NoMemory>
     requires rows { HasRows tables.old thread row }
     requires made { object.0 < length tables.old.objects.rows }
     requires few { slice_index tables.old.objects.counts object.0 < 2147483648 }

@@ -11,7 +11,7 @@ use Rattle.script_types.specs.Shape.{IsShaped}
 use Rattle.machine.specs.declared.boot.Born.{Born}
 use Rattle.machine.specs.declared.state.Phase.TheVariants.{Start}
 use Rattle.machine.specs.declared.state.ThreadRow.{ThreadRow}
-use Rattle.machine.specs.Act.{instruction, instructions_of}
+use Rattle.machine.specs.Act.{instruction, instructions_of, has_work}
 use Rattle.machine.specs.Boot.{born, born_process, born_thread, born_threads, born_processes, new_thread, has_any, is_of}
 
 -- what holds of each that stands at boot, n being their number
@@ -26,6 +26,7 @@ pub record IsBorn (script : Script) (n : ℕ) (b : Born) : Type 0 where
   pub alive : b.object.dead ≡ false
   pub row : (row : ThreadRow) → b.thread ≡ Some row → IsBornThread script n b.works row
   pub thread : b.works ≡ true → is_some b.thread ≡ true
+  pub idle : has_work script [] b.thread ≡ true → b.works ≡ true
 
 abbrev pub EachBorn : Script → ℕ → List Born → Type 0
 EachBorn script n [] = Unit {0}
@@ -38,6 +39,10 @@ each_born-append script n (x ∷ xs) ys h k = (h.0, each_born-append script n xs
 works_has_first : (instrs : List Instr) → has_any instrs ≡ true → is_some (slice_get instrs 0) ≡ true
 works_has_first [] h = cc
 works_has_first (x ∷ xs) h = refl
+
+first_has_any : (instrs : List Instr) → is_some (slice_get instrs 0) ≡ true → has_any instrs ≡ true
+first_has_any [] h = cc
+first_has_any (x ∷ xs) h = refl
 
 slice_get-behind : (pre : List ThreadDecl) (d : ThreadDecl) (ds : List ThreadDecl) → slice_get (pre ++ d ∷ ds) (length pre) ≡ Some d
 slice_get-behind [] d ds = refl
@@ -54,6 +59,7 @@ is_born_thread script n p k d lt at = record {
     works_there = λ w. let there : instructions_of (slice_get script.threads k) ≡ d.instrs = ap instructions_of at in ap (λ l. is_some (slice_get l 0)) there ∙ works_has_first d.instrs w;
   });
   thread = λ w. refl;
+  idle = λ w. let there : instructions_of (slice_get script.threads k) ≡ d.instrs = ap instructions_of at in first_has_any d.instrs (sym (ap (λ l. is_some (slice_get l 0)) there) ∙ w);
 }
 
 each_born_threads_step : (script : Script) (n j p : ℕ) (k : ℕ) (d : ThreadDecl) (rest : List Born) (b : Bool) → IsBorn script n (born_thread p k d) → EachBorn script n rest → EachBorn script n (if b then born_thread p k d ∷ rest else rest)
@@ -73,7 +79,7 @@ none_some : (x : Option ThreadRow) (row : ThreadRow) → x ≡ None → x ≡ So
 none_some x row e h = cc
 
 is_born_process : (script : Script) (n : ℕ) (name : List ℕ) → IsBorn script n (born_process name)
-is_born_process script n name = record { alive = refl; row = λ row is. absurd (none_some None row refl is); thread = λ w. cc }
+is_born_process script n name = record { alive = refl; row = λ row is. absurd (none_some None row refl is); thread = λ w. cc; idle = λ w. cc }
 
 each_born_processes : (script : Script) (n j p : ℕ) (ds : List ProcessDecl) → p + length (born_processes script.threads j p ds) ≤ n → EachBorn script n (born_processes script.threads j p ds)
 each_born_processes script n j p [] le = tt
@@ -96,6 +102,7 @@ each_born script =
           alive = refl;
           row = λ row is. let e : new_thread 0 None ≡ row = cc in subst (λ (r : ThreadRow). IsBornThread script n false r) e (record { process = omega arith; start = refl; place = refl; registers = refl; works_there = λ w. cc });
           thread = λ w. cc;
+          idle = λ w. cc;
         },
         each_born_processes script n 0 2 script.processes (omega arith),
       ),

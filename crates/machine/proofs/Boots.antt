@@ -1,4 +1,5 @@
 -- The state at boot is well-formed, and so is every state that a history leaves.
+use Rattle.machine.specs.declared.state.Queued.{Queued}
 use Rattle.std.proofs.Common.{◌≡◌, ◌⊎◌, inl, inr, ℕ, suc, zero, ◌+◌, ◌<◌, ◌≤◌, List, [], ◌∷◌, ◌++◌, length, get_or, arith, refl, sym, subst, ap, ◌∙◌, Option, Some, None, Bool, true, false, map, replicate}
 use Rattle.std.specs.Prelude.{is_some, if◌then◌else◌}
 use Rattle.std.proofs.lemmas.List.{length-map, length-append, length-replicate, get_or_past, append_assoc}
@@ -15,11 +16,12 @@ use Rattle.machine.specs.declared.state.Place.{Place}
 use Rattle.machine.specs.declared.state.ThreadRow.{ThreadRow}
 use Rattle.machine.specs.Act.{is_ready, has_work}
 use Rattle.machine.specs.Boot.{boot, boot_of, born, ready_from}
-use Rattle.machine.specs.Good.{Good, EachReady, IsGoodThread, IsAlive, is_dead, dead_bit, owed_sweeps}
+use Rattle.machine.specs.Good.{Good, EachReady, IsGoodThread, IsAlive, is_dead, dead_bit, owed_sweeps, is_listed}
 use Rattle.machine.specs.History.{after}
 use Rattle.machine.specs.References.{total, count_of, place_names, phase_names, thread_names, kernel_names, owed_names}
 use Rattle.machine.specs.Rows.{thread_of}
 use Rattle.machine.specs.Table.{fresh_place, place_at}
+use Rattle.machine.proofs.Listed.{listed-cons, listed-first}
 use Rattle.machine.proofs.BootGood.{IsBorn, IsBornThread, EachBorn, each_born, born_few}
 use Rattle.machine.proofs.Histories.{good-after_from}
 use Rattle.machine.proofs.Live.{same_other}
@@ -133,6 +135,20 @@ each_ready_from script n pre (b ∷ bs) all e h =
     let rest : EachReady script (boot_of all) (ready_from (length (pre ++ b ∷ [])) bs) = each_ready_from script n (pre ++ b ∷ []) bs all (e ∙ sym (append_assoc pre (b ∷ []) bs)) h.1 in
     ready_step script n pre b bs all e h.0 b.works refl (subst (λ (k : ℕ). EachReady script (boot_of all) (ready_from k bs)) long rest)
 
+boot_listed_step : (script : Script) (n : ℕ) (b : Born) (rest : List Queued) (works : Bool) (u : ObjNo) → is_listed rest u ≡ true → is_listed (if works then record { thread = record { 0 = n }; priority = b.priority } ∷ rest else rest) u ≡ true
+boot_listed_step script n b rest true u h = listed-cons u (record { thread = record { 0 = n }; priority = b.priority }) rest h
+boot_listed_step script n b rest false u h = h
+
+boot_listed_first : (n : ℕ) (b : Born) (rest : List Queued) (works : Bool) (u : ObjNo) → works ≡ true → n ≡ u.0 → is_listed (if works then record { thread = record { 0 = n }; priority = b.priority } ∷ rest else rest) u ≡ true
+boot_listed_first n b rest true u works at = listed-first u (record { thread = record { 0 = n }; priority = b.priority }) rest at
+boot_listed_first n b rest false u works at = cc
+
+-- a thread that has something to do at boot is listed
+boot_listed : (script : Script) (m n : ℕ) (bs : List Born) (i : ℕ) (u : ObjNo) → u.0 ≡ n + i → EachBorn script m bs → has_work script [] (get_or (map (λ b. b.thread) bs) i None) ≡ true → is_listed (ready_from n bs) u ≡ true
+boot_listed script m n [] i u at h w = cc
+boot_listed script m n (b ∷ bs) zero u at h w = boot_listed_first n b (ready_from (n + 1) bs) b.works u (h.0.idle w) (omega arith)
+boot_listed script m n (b ∷ bs) (suc i) u at h w = boot_listed_step script n b (ready_from (n + 1) bs) b.works u (boot_listed script m (n + 1) bs i u (omega arith) h.1 w)
+
 owed_few_of : (owed : List Owed) → (owed ≡ []) ⊎ (owed ≡ []) → length owed ≤ 4
 owed_few_of owed (inl e) = subst (λ (l : List Owed). length l ≤ 4) (sym e) (omega arith)
 owed_few_of owed (inr e) = subst (λ (l : List Owed). length l ≤ 4) (sym e) (omega arith)
@@ -159,6 +175,7 @@ good-boot script shaped =
       ];
       sweeps = λ o. total-const (total (owed_sweeps o)) [] bs refl ∙ sym (born_dead script (length bs) bs o.0 eb);
       ready = each_ready_from script (length bs) [] bs bs refl eb;
+      listed = λ u r. boot_listed script (length bs) 0 bs u.0 u (omega arith) eb (ap (λ owed. has_work script owed (get_or (map (λ b. b.thread) bs) u.0 None)) (sym (owes_nothing_at bs u.0)) ∙ r);
     }
 
 -- every history of a shaped script leaves a well-formed state

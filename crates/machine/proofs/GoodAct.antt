@@ -1,7 +1,7 @@
 -- An action of a thread leaves a well-formed state.
-use Rattle.std.proofs.Common.{◌≡◌, inl, inr, ℕ, ◌<◌, List, [], ◌∷◌, length, refl, sym, subst, ◌∙◌, Option, Some, None, Bool, true, false}
-use Rattle.std.specs.Prelude.{slice_get, slice_index, ◌==◌, if◌then◌else◌}
-use Rattle.std.proofs.lemmas.Bool.{eq-eqb, cases_eq}
+use Rattle.std.proofs.Common.{◌≡◌, inl, inr, ℕ, ◌<◌, List, [], ◌∷◌, length, refl, sym, subst, ◌∙◌, Option, Some, None, Bool, true, false, ap}
+use Rattle.std.specs.Prelude.{slice_get, slice_index, ◌==◌, if◌then◌else◌, is_some, ◌||◌}
+use Rattle.std.proofs.lemmas.Bool.{eq-eqb, cases_eq, cases_Bool}
 use Rattle.sym_base.specs.declared.number.ObjNo.{ObjNo}
 use Rattle.script_types.specs.declared.script.Script.{Script}
 use Rattle.script_types.specs.declared.instruction.Instr.{Instr}
@@ -11,8 +11,8 @@ use Rattle.machine.specs.declared.state.ThreadRow.{ThreadRow}
 use Rattle.machine.specs.declared.state.State.{State}
 use Rattle.machine.specs.Rows.{thread_of, owed_of}
 use Rattle.machine.specs.Table.{look}
-use Rattle.machine.specs.Act.{instructions_of, declared_of, instruction, instruction_step, act, act_by, act_of, is_ready, settled}
-use Rattle.machine.specs.Good.{Good, EachReady}
+use Rattle.machine.specs.Act.{instructions_of, declared_of, instruction, instruction_step, act, act_by, act_of, is_ready, settled, owes, has_work}
+use Rattle.machine.specs.Good.{Good, EachReady, is_listed}
 use Rattle.machine.proofs.Cases.{if_cases}
 use Rattle.machine.proofs.Shape.{Shape}
 use Rattle.machine.proofs.Live.{same_object, Live}
@@ -21,6 +21,7 @@ use Rattle.machine.proofs.KeepsSteps.{IsStepping, keeps-open_step}
 use Rattle.machine.proofs.KeepsSteps.{duties_inside, keeps-create_mutex, keeps-dup_step}
 use Rattle.machine.proofs.KeepsClose.{keeps-close_do, keeps-pay}
 use Rattle.machine.proofs.Shape.{shape_of}
+use Rattle.machine.proofs.Listed.{listed-without}
 use Rattle.machine.specs.declared.state.Queued.{Queued}
 use Rattle.std.specs.Prelude.{not, filter}
 use Rattle.std.proofs.lemmas.Option.{slice_get_past}
@@ -29,8 +30,8 @@ use Rattle.std.proofs.lemmas.Bool.{cases_lt}
 pub live_of : {script : Script} {S : State} → Good script S → Live S
 live_of g = record { alive = g.alive; sweeps = g.sweeps }
 
-pub good_of : (script : Script) (S : State) → Shape script S → Live S → EachReady script S S.ready → Good script S
-good_of script S s l r = record { tables = s.tables; duties = s.duties; first = s.first; threads_few = s.threads_few; objects_few = s.objects_few; places = s.places; instances = s.instances; rows = s.rows; owed_few = s.owed_few; alive = l.alive; sweeps = l.sweeps; ready = r }
+pub good_of : (script : Script) (S : State) → Shape script S → Live S → EachReady script S S.ready → ((u : ObjNo) → is_ready script S u ≡ true → is_listed S.ready u ≡ true) → Good script S
+good_of script S s l r listed = record { tables = s.tables; duties = s.duties; first = s.first; threads_few = s.threads_few; objects_few = s.objects_few; places = s.places; instances = s.instances; rows = s.rows; owed_few = s.owed_few; alive = l.alive; sweeps = l.sweeps; ready = r; listed = listed }
 
 -- a number at which a list has something is inside the list
 pub slice_get_inside : {A : Type 0} (xs : List A) (i : ℕ) (x : A) → slice_get xs i ≡ Some x → i < length xs
@@ -87,18 +88,45 @@ pub each_moved : (script : Script) (T : State) (qs ready : List Queued) → Each
 each_moved script T [] ready h = tt
 each_moved script T (q ∷ qs) ready h = (h.0, each_moved script T qs ready h.1)
 
+not_both : (b : Bool) → b ≡ false → b ≡ true → ⊥
+not_both b f t = cc
+
+-- a thread that isn't ready does nothing
+act_by-idle : (S : State) (t : ObjNo) (row : ThreadRow) (owed : List Owed) (instr : Option Instr) → (owes owed || is_some instr) ≡ false → (act_by S t row owed instr).state ≡ S
+act_by-idle S t row (what ∷ rest) instr h = cc
+act_by-idle S t row [] (Some instr) h = cc
+act_by-idle S t row [] None h = refl
+
+act_of-idle : (script : Script) (S : State) (t : ObjNo) (row : Option ThreadRow) → has_work script (owed_of S t) row ≡ false → (act_of script S t row).state ≡ S
+act_of-idle script S t None h = refl
+act_of-idle script S t (Some row) h = act_by-idle S t row (owed_of S t) (instruction script row) h
+
+-- the threads that are ready afterwards were listed before
+was_listed : (script : Script) (S : State) (t : ObjNo) (T : State) → ((u : ObjNo) → (u.0 ≡ t.0 → ⊥) → is_ready script T u ≡ is_ready script S u) → (is_ready script S t ≡ false → T ≡ S) → ((u : ObjNo) → is_ready script S u ≡ true → is_listed S.ready u ≡ true) → (u : ObjNo) → is_ready script T u ≡ true → is_listed S.ready u ≡ true
+was_listed script S t T others idle listed u ready = elim (cases_eq u.0 t.0) as (λ _. is_listed S.ready u ≡ true) [
+  | inr apart ↦ listed u (sym (others u apart) ∙ ready)
+  | inl at ↦ elim (cases_Bool (is_ready script S t)) as (λ _. is_listed S.ready u ≡ true) [
+    | inl was ↦ subst (λ (x : ObjNo). is_listed S.ready x ≡ true) (same_object t u (sym at)) (listed t was)
+    | inr not_ready ↦
+        let same : is_ready script T u ≡ is_ready script S t = ap (λ (x : ObjNo). is_ready script T x) (same_object u t at) ∙ ap (λ (U : State). is_ready script U t) (idle not_ready) in
+        cc
+  ]
+]
+
 -- the end of an action: a thread with nothing left to do leaves the ready list
-pub good-settled : (script : Script) (S : State) (t : ObjNo) (T : State) → Keeps script S t T → EachReady script S S.ready → Good script (settled script t T)
+pub good-settled : (script : Script) (S : State) (t : ObjNo) (T : State) → Keeps script S t T → EachReady script S S.ready → ((u : ObjNo) → is_ready script S u ≡ true → is_listed S.ready u ≡ true) → (is_ready script S t ≡ false → T ≡ S) → Good script (settled script t T)
 unfolding settled
-good-settled script S t T k ready =
+good-settled script S t T k ready listed idle =
     let others : (u : ObjNo) → (u.0 ≡ t.0 → ⊥) → is_ready script T u ≡ is_ready script S u = λ u apart. ready_same script S T u (k.rows u apart) (k.duties u apart) in
+    let was : (u : ObjNo) → is_ready script T u ≡ true → is_listed T.ready u ≡ true = λ u r. subst (λ (qs : List Queued). is_listed qs u ≡ true) (sym k.ready) (was_listed script S t T others idle listed u r) in
     let P : State → Type 0 = λ U. Good script U in
     if_cases P (is_ready script T t) _ _
-    (λ self. good_of script T k.shape k.live (subst (λ (qs : List Queued). EachReady script T qs) (sym k.ready) (each-kept script S t T S.ready others self ready)))
-    (λ _. good_of script (record T { ready = filter (λ q. not (q.thread.0 == t.0)) T.ready }) (moved_shape script T (filter (λ q. not (q.thread.0 == t.0)) T.ready) k.shape) (record { alive = k.live.alive; sweeps = k.live.sweeps })
-    (each_moved script T _ (filter (λ q. not (q.thread.0 == t.0)) T.ready) (subst (λ (qs : List Queued). EachReady script T (filter (λ q. not (q.thread.0 == t.0)) qs)) (sym k.ready) (each-others script S t T S.ready others ready))))
+    (λ self. good_of script T k.shape k.live (subst (λ (qs : List Queued). EachReady script T qs) (sym k.ready) (each-kept script S t T S.ready others self ready)) was)
+    (λ self. good_of script (record T { ready = filter (λ q. not (q.thread.0 == t.0)) T.ready }) (moved_shape script T (filter (λ q. not (q.thread.0 == t.0)) T.ready) k.shape) (record { alive = k.live.alive; sweeps = k.live.sweeps })
+    (each_moved script T _ (filter (λ q. not (q.thread.0 == t.0)) T.ready) (subst (λ (qs : List Queued). EachReady script T (filter (λ q. not (q.thread.0 == t.0)) qs)) (sym k.ready) (each-others script S t T S.ready others ready)))
+    (λ u r. listed-without t u T.ready (λ at. absurd (not_both (is_ready script T t) self (ap (λ (x : ObjNo). is_ready script T x) (same_object t u (sym at)) ∙ r))) (was u r)))
 
 -- every action of a thread leaves a well-formed state
 pub good-act : (script : Script) (S : State) (t : ObjNo) → Good script S → Good script (act script S t).state
 unfolding act
-good-act script S t g = good-settled script S t _ (keeps-act_of script S t (thread_of S t) (shape_of g) (live_of g) refl) g.ready
+good-act script S t g = good-settled script S t _ (keeps-act_of script S t (thread_of S t) (shape_of g) (live_of g) refl) g.ready g.listed (act_of-idle script S t (thread_of S t))

@@ -1,5 +1,6 @@
 -- Facts over whole histories, from the facts about one action.
-use Rattle.std.proofs.Common.{◌≡◌, ℕ, ◌+◌, List, [], ◌∷◌, ◌++◌, length, arith, refl, subst, ap, Option, Some, None, Bool, true, false}
+use Rattle.sym_base.specs.declared.number.ObjNo.{ObjNo}
+use Rattle.std.proofs.Common.{◌≡◌, ℕ, ◌+◌, List, [], ◌∷◌, ◌++◌, length, arith, refl, subst, ap, Option, Some, None, Bool, true, false, inl, inr, ◌⊎◌, sym}
 use Rattle.std.specs.Prelude.{IsTrue, find, ◌==◌, if◌then◌else◌, filter, not}
 use Rattle.script_types.specs.declared.script.Script.{Script}
 use Rattle.entry_log.specs.declared.entry.Entry.{Entry}
@@ -12,8 +13,10 @@ use Rattle.machine.specs.declared.state.State.{State}
 use Rattle.machine.specs.Act.{is_ready}
 use Rattle.machine.specs.Boot.{boot}
 use Rattle.machine.specs.Choice.{first_of_greatest, greatest, actor_of}
-use Rattle.machine.specs.Good.{Good, EachReady}
+use Rattle.machine.specs.Good.{Good, EachReady, is_listed}
 use Rattle.machine.specs.History.{next, after, after_from, CanAct, IsNext, IsLegal, IsLegalFrom}
+use Rattle.machine.proofs.Listed.{listed-without, listed-push, listed-last}
+use Rattle.std.proofs.lemmas.Bool.{cases_eq}
 use Rattle.machine.proofs.GoodAct.{good-act, good_of, moved_shape, each_moved}
 
 -- the state after one more entry
@@ -57,11 +60,19 @@ each-moved_behind : (script : Script) (S : State) (qs : List Queued) (found : Op
 each-moved_behind script S qs None e h = h
 each-moved_behind script S qs (Some q) e h = each-pushed script S (filter (λ x. not (x.thread.0 == q.thread.0)) qs) q (each-filtered script S (λ x. not (x.thread.0 == q.thread.0)) qs h) (find-ready script S (λ x. x.priority == greatest qs) qs q e h)
 
+listed-moved_behind : (u : ObjNo) (qs : List Queued) (found : Option Queued) → is_listed qs u ≡ true → is_listed (moved_behind qs found) u ≡ true
+listed-moved_behind u qs None h = h
+listed-moved_behind u qs (Some q) h = elim (cases_eq u.0 q.thread.0) as (λ _. is_listed (moved_behind qs (Some q)) u ≡ true) [
+  | inl at ↦ listed-last u (filter (λ x. not (x.thread.0 == q.thread.0)) qs) q (sym at)
+  | inr apart ↦ listed-push u (filter (λ x. not (x.thread.0 == q.thread.0)) qs) q (listed-without q.thread u qs apart h)
+]
+
 -- the end of a time slice leaves a well-formed state
 pub good-tick : (script : Script) (S : State) → Good script S → Good script (tick S).state
 unfolding tick
 good-tick script S g = good_of script (record S { ready = turned S.ready }) (moved_shape script S (turned S.ready) (shape_of g)) (record { alive = g.alive; sweeps = g.sweeps })
-  (each_moved script S (turned S.ready) (turned S.ready) (each-moved_behind script S S.ready (first_of_greatest S.ready) refl g.ready))
+    (each_moved script S (turned S.ready) (turned S.ready) (each-moved_behind script S S.ready (first_of_greatest S.ready) refl g.ready))
+    (λ u r. listed-moved_behind u S.ready (first_of_greatest S.ready) (g.listed u r))
 
 -- whatever an actor does leaves a well-formed state
 pub good-next : (script : Script) (S : State) (actor : Actor) → Good script S → Good script (next script S actor)

@@ -148,16 +148,16 @@ keeps-dup_step script S t row x y (Using o) h e = keeps-dup_do script S t row o 
 -- another phase that names no object
 keeps-phase : (script : Script) (S : State) (t : ObjNo) (row : ThreadRow) (phase : Phase) → IsStepping script S t row → ((p : ObjNo) → 0 < count_of S p + phase_names p phase → IsAlive (object_of S p)) → ((p : ObjNo) → phase_names p row.phase ≡ 0) → Keeps script S t (with_thread S t (record row { phase = phase }))
 keeps-phase script S t row phase h alive none =
-  let next : ThreadRow = record row { phase = phase } in
-  let good = h.shape.rows t row h.is in
-  record {
-    shape = shape-with_thread script S t next (record { process = good.process; place = good.place; registers = good.registers }) h.shape;
-    live = live-kept S (with_thread S t next) (λ p. refl) (λ p. refl)
-      (λ p c. alive p (let a = count-with_thread S t row next p h.is in let b = none p in omega arith)) h.live;
-    ready = refl;
-    rows = λ u apart. get_or-set_other S.threads t.0 u.0 (Some next) None apart;
-    duties = λ u apart. refl;
-  }
+    let next : ThreadRow = record row { phase = phase } in
+    let good = h.shape.rows t row h.is in
+    record {
+      shape = shape-with_thread script S t next (record { process = good.process; place = good.place; registers = good.registers }) h.shape;
+      live = live-kept S (with_thread S t next) (λ p. refl) (λ p. refl)
+          (λ p c. alive p (let a = count-with_thread S t row next p h.is in let b = none p in omega arith)) h.live;
+      ready = refl;
+      rows = λ u apart. get_or-set_other S.threads t.0 u.0 (Some next) None apart;
+      duties = λ u apart. refl;
+    }
 
 pub keeps-open_seek : (script : Script) (S : State) (t : ObjNo) (row : ThreadRow) (found : Option ObjNo) → IsStepping script S t row → row.phase ≡ Start → Keeps script S t (open_seek S t row found).state
 unfolding open_seek
@@ -175,16 +175,16 @@ is_open_alive (Some row) e = not_dead row.dead e
 pub keeps-open_return : (script : Script) (S : State) (t : ObjNo) (row : ThreadRow) (o found : ObjNo) → IsStepping script S t row → row.phase ≡ Found found → Keeps script S t (open_return S t row o).state
 unfolding open_return
 keeps-open_return script S t row o found h phase =
-  let P : Acted → Type 0 = λ a. Keeps script S t a.state in
-  if_cases P (is_open (object_of S o)) _ _
+    let P : Acted → Type 0 = λ a. Keeps script S t a.state in
+    if_cases P (is_open (object_of S o)) _ _
     (λ e. keeps-phase script S t row (Using o) h (λ p c. alive_by S o p (is_open_alive (object_of S o) e) (h.live.alive p) c) (λ p. ap (phase_names p) phase))
     (λ _. keeps-refused script S t row h)
 
 pub keeps-open_do : (script : Script) (S : State) (t : ObjNo) (row : ThreadRow) (o : ObjNo) (x : ℕ) → IsStepping script S t row → row.phase ≡ Using o → Keeps script S t (open_do S t row o x).state
 unfolding open_do
 keeps-open_do script S t row o x h uses =
-  let P : Acted → Type 0 = λ a. Keeps script S t a.state in
-  if_cases P (is_full (table_of S row.process)) _ _ (λ _. keeps-refused script S t row h)
+    let P : Acted → Type 0 = λ a. Keeps script S t a.state in
+    if_cases P (is_full (table_of S row.process)) _ _ (λ _. keeps-refused script S t row h)
     (λ room. keeps-handle script S S t row (Of Open Do) o x (amid-start script S t row h) h.at room (used_is_alive S t row o h.live h.is uses))
 
 pub keeps-open_step : (script : Script) (S : State) (t : ObjNo) (row : ThreadRow) (kind : Kind) (name : List ℕ) (x : ℕ) (phase : Phase) → IsStepping script S t row → row.phase ≡ phase → Keeps script S t (open_step S t row kind name x phase).state

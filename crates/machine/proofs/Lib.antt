@@ -11,6 +11,7 @@ pub mod Histories
 pub mod KeepsClose
 pub mod KeepsSteps
 pub mod LeftRows
+pub mod Listed
 pub mod Lists
 pub mod Live
 pub mod RefsAct

@@ -56,25 +56,29 @@ dup_step-refs S t row x y (Using o) h e = dup_do-refs S t row o y h
 pub open_seek-refs : (S : State) (t : ObjNo) (row : ThreadRow) (found : Option ObjNo) → IsActing S t row → row.phase ≡ Start → RefsMove S (open_seek S t row found).state (open_seek S t row found).outcome.effects
 unfolding open_seek
 open_seek-refs S t row None h start = answered-refs S t row (Of OpenWord Seek) (negsuc 0) h
-open_seek-refs S t row (Some o) h start = record { each = λ p.
-  let a = count-with_thread S t row (record row { phase = Found o }) p h.is in
-  let b : phase_names p row.phase ≡ 0 = ap (phase_names p) start in omega arith }
+open_seek-refs S t row (Some o) h start = record {
+  each = λ p.
+      let a = count-with_thread S t row (record row { phase = Found o }) p h.is in
+      let b : phase_names p row.phase ≡ 0 = ap (phase_names p) start in omega arith;
+}
 
 pub open_return-refs : (S : State) (t : ObjNo) (row : ThreadRow) (o found : ObjNo) → IsActing S t row → row.phase ≡ Found found → RefsMove S (open_return S t row o).state (open_return S t row o).outcome.effects
 unfolding open_return
 open_return-refs S t row o found h phase =
-  let P : Acted → Type 0 = λ a. RefsMove S a.state a.outcome.effects in
-  if_cases P (is_open (object_of S o)) _ _
-    (λ _. record { each = λ p.
-      let a = count-with_thread S t row (record row { phase = Using o }) p h.is in
-      let b : phase_names p row.phase ≡ 0 = ap (phase_names p) phase in omega arith })
+    let P : Acted → Type 0 = λ a. RefsMove S a.state a.outcome.effects in
+    if_cases P (is_open (object_of S o)) _ _
+    (λ _. record {
+      each = λ p.
+          let a = count-with_thread S t row (record row { phase = Using o }) p h.is in
+          let b : phase_names p row.phase ≡ 0 = ap (phase_names p) phase in omega arith;
+    })
     (λ _. record { each = (answered-refs S t row (Of OpenWord Return) (negsuc 0) h).each })
 
 pub open_do-refs : (S : State) (t : ObjNo) (row : ThreadRow) (o : ObjNo) (x : ℕ) → IsActing S t row → RefsMove S (open_do S t row o x).state (open_do S t row o x).outcome.effects
 unfolding open_do
 open_do-refs S t row o x h =
-  let P : Acted → Type 0 = λ a. RefsMove S a.state a.outcome.effects in
-  if_cases P (is_full (table_of S row.process)) _ _ (λ _. answered-refs S t row (Of OpenWord Do) (negsuc 8) h)
+    let P : Acted → Type 0 = λ a. RefsMove S a.state a.outcome.effects in
+    if_cases P (is_full (table_of S row.process)) _ _ (λ _. answered-refs S t row (Of OpenWord Do) (negsuc 8) h)
     (λ room. with_handle-refs S S t row (Of OpenWord Do) o x h room (λ p. refl))
 
 pub open_step-refs : (S : State) (t : ObjNo) (row : ThreadRow) (kind : Kind) (name : List ℕ) (x : ℕ) (phase : Phase) → IsActing S t row → row.phase ≡ phase → RefsMove S (open_step S t row kind name x phase).state (open_step S t row kind name x phase).outcome.effects

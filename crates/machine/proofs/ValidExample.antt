@@ -31,12 +31,15 @@ two_handles_short =
 
 pub two_handles_is_valid : IsValidWider two_handles
 unfolding two_handles
-two_handles_is_valid = (lines_text (parts_lines two_handles_parts), record {
-  parts = two_handles_parts;
-  text = record { valid = (tt, (refl, ((refl, lit≤ tt), ((refl, lit< tt), ((lit< tt, lit< tt), (lit< tt, (lit< tt, (lit< tt, (tt, ((lit< tt, lit≤ tt), (tt, tt))))))))))); spelled = refl };
-  threads = (lit< tt, tt);
-  schedule = (tt, tt);
-  script_is = refl;
-  limits = record { process_names = refl; thread_names = refl; processes = lit≤ tt; threads = lit≤ tt; slots = lit≤ tt };
-  short = two_handles_short;
-})
+two_handles_is_valid = (
+  lines_text (parts_lines two_handles_parts),
+  record {
+    parts = two_handles_parts;
+    text = record { valid = (tt, (refl, ((refl, lit≤ tt), ((refl, lit< tt), ((lit< tt, lit< tt), (lit< tt, (lit< tt, (lit< tt, (tt, ((lit< tt, lit≤ tt), (tt, tt))))))))))); spelled = refl };
+    threads = (lit< tt, tt);
+    schedule = (tt, tt);
+    script_is = refl;
+    limits = record { process_names = refl; thread_names = refl; processes = lit≤ tt; threads = lit≤ tt; slots = lit≤ tt };
+    short = two_handles_short;
+  },
+)

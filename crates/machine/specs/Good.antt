@@ -1,6 +1,6 @@
 -- What holds of every state that a legal history leaves.
-use Rattle.std.specs.Prelude.{◌≡◌, ℕ, ◌<◌, ◌≤◌, Bool, true, false, List, [], ◌∷◌, length, Option, Some, None}
-use Rattle.std.specs.List.{slice_index_or}
+use Rattle.std.specs.Prelude.{◌≡◌, ℕ, ◌<◌, ◌≤◌, Bool, true, false, List, [], ◌∷◌, length, Option, Some, None, ◌==◌}
+use Rattle.std.specs.List.{list_any, slice_index_or}
 use Rattle.sym_base.specs.declared.number.ObjNo.{ObjNo}
 use Rattle.script_types.specs.declared.script.Script.{Script}
 use Rattle.machine.specs.declared.state.ObjectRow.{ObjectRow}
@@ -47,6 +47,10 @@ abbrev pub EachReady : Script → State → List Queued → Type 0
 EachReady script S [] = Unit {0}
 EachReady script S (q ∷ qs) = (is_ready script S q.thread ≡ true) × EachReady script S qs
 
+-- whether a thread stands in a list
+abbrev pub is_listed : List Queued → ObjNo → Bool
+is_listed qs t = list_any (λ q. q.thread.0 == t.0) qs
+
 pub record Good (script : Script) (S : State) : Type 0 where
   -- processes and threads have the least numbers, and a table and a list of duties each
   pub tables : length S.handles ≡ length S.threads
@@ -63,5 +67,6 @@ pub record Good (script : Script) (S : State) : Type 0 where
   -- an object with a reference is alive, and exactly a dead one's sweep is owed, once
   pub alive : (o : ObjNo) → 0 < count_of S o → IsAlive (object_of S o)
   pub sweeps : (o : ObjNo) → sweeps_of S o ≡ is_dead (object_of S o)
-  -- the ready list holds threads that have something to do
+  -- the ready list holds the threads that have something to do, and no others
   pub ready : EachReady script S S.ready
+  pub listed : (t : ObjNo) → is_ready script S t ≡ true → is_listed S.ready t ≡ true

@@ -54,17 +54,17 @@ is_open (Some row) = if row.dead then false else true
 -- the second step: the object died: missed, -1; else the thread uses it
 unfoldable pub open_return : State → ObjNo → ThreadRow → ObjNo → Acted
 open_return S t row o =
-  if is_open (object_of S o) then record {
-    state = with_thread S t (record row { phase = Using o });
-    outcome = record { step = Of Open Return; effects = Plus (Temp t) o ∷ []; answer = None };
-  }
-  else answered S t row (Of Open Return) (Missed o ∷ []) (negsuc 0)
+    if is_open (object_of S o) then record {
+      state = with_thread S t (record row { phase = Using o });
+      outcome = record { step = Of Open Return; effects = Plus (Temp t) o ∷ []; answer = None };
+    }
+    else answered S t row (Of Open Return) (Missed o ∷ []) (negsuc 0)
 
 -- the third step: handles are full: -9; else a handle of it
 unfoldable pub open_do : State → ObjNo → ThreadRow → ObjNo → ℕ → Acted
 open_do S t row o x =
-  if is_full (table_of S row.process) then answered S t row (Of Open Do) [] (negsuc 8)
-  else with_handle S t row (Of Open Do) o x
+    if is_full (table_of S row.process) then answered S t row (Of Open Do) [] (negsuc 8)
+    else with_handle S t row (Of Open Do) o x
 
 -- the step of the phase
 abbrev pub open_step : State → ObjNo → ThreadRow → Kind → List ℕ → ℕ → Phase → Acted

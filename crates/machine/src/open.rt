@@ -78,7 +78,12 @@ fn find_object(state: &State, kind: Kind, name: &Name) -> Option<ObjNo>
 
 /// The first step: the object is found.
 #[tactic(auto, unfolding(crate::specs::Open::open_seek))]
-fn open_seek(state: &mut State, thread: ThreadNo, row: ThreadRow, found: Option<ObjNo>) -> Result<Outcome, NoMemory>
+fn open_seek(
+    state: &mut State,
+    thread: ThreadNo,
+    row: ThreadRow,
+    found: Option<ObjNo>,
+) -> Result<Outcome, NoMemory>
     requires { HasRoom state.old row }
     ensures { IfOk result (λ outcome. acted state.new outcome ≡ open_seek state.old thread row found) }
 {
@@ -99,12 +104,24 @@ fn open_seek(state: &mut State, thread: ThreadNo, row: ThreadRow, found: Option<
 
 /// The second step: the thread uses the object, unless it died since.
 #[tactic(auto, unfolding(crate::specs::Open::open_return))]
-fn open_return(state: &mut State, thread: ThreadNo, row: ThreadRow, object: ObjNo) -> Result<Outcome, NoMemory>
+fn open_return(
+    state: &mut State,
+    thread: ThreadNo,
+    row: ThreadRow,
+    object: ObjNo,
+) -> Result<Outcome, NoMemory>
     requires { HasRoom state.old row }
     ensures { IfOk result (λ outcome. acted state.new outcome ≡ open_return state.old thread row object) }
 {
     if !is_open(object_of(state, object)) {
-        return answered(state, thread, row, RETURN, one_effect(Effect::Missed(object)), NOT_FOUND);
+        return answered(
+            state,
+            thread,
+            row,
+            RETURN,
+            one_effect(Effect::Missed(object)),
+            NOT_FOUND,
+        );
     }
     let using = ThreadRow {
         phase: Phase::Using(object),
@@ -120,7 +137,13 @@ fn open_return(state: &mut State, thread: ThreadNo, row: ThreadRow, object: ObjN
 
 /// The third step: a handle of the object.
 #[tactic(auto, unfolding(crate::specs::Open::open_do))]
-fn open_do(state: &mut State, thread: ThreadNo, row: ThreadRow, object: ObjNo, register: u8) -> Result<Outcome, NoMemory>
+fn open_do(
+    state: &mut State,
+    thread: ThreadNo,
+    row: ThreadRow,
+    object: ObjNo,
+    register: u8,
+) -> Result<Outcome, NoMemory>
     requires room { HasRoom state.old row }
     requires register { register < 8 }
     ensures { IfOk result (λ outcome. acted state.new outcome ≡ open_do state.old thread row object register) }
@@ -132,7 +155,14 @@ fn open_do(state: &mut State, thread: ThreadNo, row: ThreadRow, object: ObjNo, r
 }
 
 /// The step of the thread's phase.
-pub fn open_step(state: &mut State, thread: ThreadNo, row: ThreadRow, kind: Kind, name: Name, register: u8) -> Result<Outcome, NoMemory>
+pub fn open_step(
+    state: &mut State,
+    thread: ThreadNo,
+    row: ThreadRow,
+    kind: Kind,
+    name: Name,
+    register: u8,
+) -> Result<Outcome, NoMemory>
     requires room { HasRoom state.old row }
     requires register { register < 8 }
     ensures { IfOk result (λ outcome. acted state.new outcome ≡ open_step state.old thread row kind name register row.phase) }

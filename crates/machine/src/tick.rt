@@ -24,7 +24,11 @@ pub fn without(alloc: Global, queue: &[Queued], thread: ThreadNo) -> Result<Vec<
 }
 
 /// The queue, where this thread gets a new arrival.
-fn moved_behind(alloc: Global, queue: &[Queued], first: Option<Queued>) -> Result<Items<Queued>, NoMemory>
+fn moved_behind(
+    alloc: Global,
+    queue: &[Queued],
+    first: Option<Queued>,
+) -> Result<Items<Queued>, NoMemory>
     ensures { IfOk result (λ next. next ≡ moved_behind queue.now first) }
 {
     let Some(first) = first else {
