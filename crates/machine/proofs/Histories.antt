@@ -1,6 +1,6 @@
 -- Facts over whole histories, from the facts about one action.
 use Rattle.sym_base.specs.declared.number.ObjNo.{ObjNo}
-use Rattle.std.proofs.Common.{◌≡◌, ℕ, ◌+◌, List, [], ◌∷◌, ◌++◌, length, arith, refl, subst, ap, Option, Some, None, Bool, true, false, inl, inr, ◌⊎◌, sym}
+use Rattle.std.proofs.Common.{◌≡◌, ℕ, ◌+◌, List, [], ◌∷◌, ◌++◌, length, arith, refl, subst, ap, Option, Some, None, Bool, true, false, inl, inr, sym}
 use Rattle.std.specs.Prelude.{IsTrue, find, ◌==◌, if◌then◌else◌, filter, not}
 use Rattle.script_types.specs.declared.script.Script.{Script}
 use Rattle.entry_log.specs.declared.entry.Entry.{Entry}

@@ -1,5 +1,5 @@
 -- The script of the test is valid.
-use Rattle.std.proofs.Common.{◌≤◌, ℕ, List, [], ◌∷◌, length, refl, lit≤, lit<, arith, length-append, Some, Option}
+use Rattle.std.proofs.Common.{◌≤◌, [], ◌∷◌, length, refl, lit≤, lit<, arith, length-append, Some}
 use Rattle.std.specs.Prelude.{decimal, codes}
 use Rattle.std.proofs.lemmas.Fmt.{length-decimal-le}
 use Rattle.script_types.specs.ScriptText.{lines_text}

@@ -1,6 +1,6 @@
 -- `open`: an object is found by its kind and name, opened, and gets a handle. It may die between its
 -- find and its open.
-use Rattle.std.specs.Prelude.{ℕ, suc, ◌+◌, ◌==◌, nat_lt, ◌||◌, Bool, true, false, if◌then◌else◌, ℤ, negsuc, List, [], ◌∷◌, Option, Some, None}
+use Rattle.std.specs.Prelude.{ℕ, ◌+◌, nat_lt, ◌||◌, Bool, true, false, if◌then◌else◌, negsuc, List, [], ◌∷◌, Option, Some, None}
 use Rattle.sym_base.specs.declared.number.ObjNo.{ObjNo}
 use Rattle.sym_base.specs.declared.kind.Kind.{Kind}
 use Rattle.entry_log.specs.declared.effect.Holder.TheVariants.{Temp}
@@ -16,7 +16,7 @@ use Rattle.machine.specs.declared.state.State.{State}
 use Rattle.machine.specs.Rows.{object_of, table_of, with_thread}
 use Rattle.machine.specs.Table.{is_full}
 use Rattle.machine.specs.References.{count_of}
-use Rattle.machine.specs.Acted.{Acted, answered, nothing}
+use Rattle.machine.specs.Acted.{Acted, answered}
 use Rattle.machine.specs.Create.{has_name, with_handle}
 
 -- the number of the unswept object of this kind and name, n being the number of the first row
