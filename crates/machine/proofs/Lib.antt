@@ -1,5 +1,6 @@
 pub mod BootGood
 pub mod Boots
+pub mod BuiltSlots
 pub mod PlainSteps
 pub mod ValidExample
 pub mod Cases

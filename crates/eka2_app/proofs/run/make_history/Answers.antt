@@ -1,6 +1,10 @@
 use Rattle.std.proofs.Common.{rules, ◌∙◌, ap, ◌+◌}
+use Rattle.machine.proofs.BuiltSlots.{valid_slot_is_built}
 use Rattle.eka2_app.proofs.Runs.{run_step, run_longer}
 use Rattle.eka2_app.proofs.run.make_history.Goals as goal
+
+pub slot-requires-clause-built : goal.slot-requires-clause-built
+slot-requires-clause-built c = rw (c.as_slice-slot-items.ensures, c.in_ok-slots.ensures) (valid_slot_is_built c.args.script c.loop-slot.slot-index c.requires)
 
 pub loop-slot-preserved : goal.loop-slot-preserved
 loop-slot-preserved c =
