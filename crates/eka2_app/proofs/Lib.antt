@@ -1,3 +1,4 @@
+mod BuiltSlots
 mod Judged
 mod Rows
 mod Runs

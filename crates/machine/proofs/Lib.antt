@@ -1,6 +1,5 @@
 pub mod BootGood
 pub mod Boots
-pub mod BuiltSlots
 pub mod PlainSteps
 pub mod ValidExample
 pub mod Cases

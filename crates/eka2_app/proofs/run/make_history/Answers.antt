@@ -1,5 +1,5 @@
 use Rattle.std.proofs.Common.{rules, ◌∙◌, ap, ◌+◌}
-use Rattle.machine.proofs.BuiltSlots.{valid_slot_is_built}
+use Rattle.eka2_app.proofs.BuiltSlots.{valid_slot_is_built}
 use Rattle.eka2_app.proofs.Runs.{run_step, run_longer}
 use Rattle.eka2_app.proofs.run.make_history.Goals as goal
 
