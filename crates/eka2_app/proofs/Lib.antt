@@ -1,4 +1,4 @@
-mod BuiltSlots
+mod Wider
 mod Judged
 mod Rows
 mod Runs
