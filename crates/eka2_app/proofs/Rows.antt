@@ -7,7 +7,7 @@ use Rattle.machine.proofs.Boots.{good-after-valid}
 use Rattle.eka2_app.proofs.Wider.{valid_is_wider}
 use Rattle.machine.specs.FinalRows.{final_row, rows_of, rows_from}
 use Rattle.machine.specs.History.{after}
-use Rattle.machine.specs.declared.state.ObjectRow.{ObjectRow}
+use Rattle.state_rows.specs.declared.object.ObjectRow.{ObjectRow}
 use Rattle.machine.specs.declared.state.State.{State}
 use Rattle.script_types.specs.Valid.{IsValid}
 use Rattle.script_types.specs.declared.script.Script.{Script}

@@ -6,7 +6,7 @@ use Rattle.script_types.specs.declared.script.Script.{Script}
 use Rattle.script_types.specs.declared.declaration.ThreadDecl.{ThreadDecl}
 use Rattle.script_types.specs.Shape.{IsShaped}
 use Rattle.entry_log.specs.declared.effect.Holder.{Holder}
-use Rattle.machine.specs.declared.state.ObjectRow.{ObjectRow}
+use Rattle.state_rows.specs.declared.object.ObjectRow.{ObjectRow}
 use Rattle.machine.specs.declared.state.Owed.{Owed}
 use Rattle.machine.specs.declared.state.Owed.TheVariants.{Close, Sweep}
 use Rattle.machine.specs.declared.state.Phase.TheVariants.{Using}

@@ -1,6 +1,6 @@
 -- What a contract sees of the table of objects.
 use Rattle.std.specs.Prelude.{◌≡◌, ℕ, ◌≤◌, List, length, Option}
-use Rattle.machine.specs.declared.state.ObjectRow.{ObjectRow}
+use Rattle.state_rows.specs.declared.object.ObjectRow.{ObjectRow}
 
 -- the row of each object that was made, None once it is swept, and its count
 pub record ObjectsView : Type 0 where

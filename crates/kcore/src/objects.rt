@@ -1,8 +1,8 @@
 //! The table of objects: their rows by number, and how many references each has.
 ghost use Rattle.std.specs.Prelude.{◌≡◌, ◌+◌, ◌-◌, ◌<◌, ◌≤◌, ◌==◌, ◌↔◌, [], ◌∷◌, ◌++◌, length, false, IsTrue, IfOk, IfSome, slice_index, slice_set};
 ghost use Rattle.std.specs.List.{list_any, slice_index_or};
-ghost use Rattle.machine.specs.Acted.{dead_row};
-ghost use Rattle.machine.specs.Create.{has_name};
+ghost use Rattle.state_rows.specs.ObjectRows.{dead_row};
+ghost use Rattle.state_rows.specs.ObjectRows.{has_name};
 ghost use Rattle.machine.specs.Open.{named_from};
 
 use machine::{MAX_OBJECTS, ObjectRow};

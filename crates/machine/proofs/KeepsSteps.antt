@@ -10,7 +10,7 @@ use Rattle.entry_log.specs.declared.step.Step.TheVariants.{Of}
 use Rattle.entry_log.specs.declared.step.Word.TheVariants.{Create, Dup, Open}
 use Rattle.entry_log.specs.declared.step.Part.TheVariants.{Do}
 use Rattle.script_types.specs.declared.script.Script.{Script}
-use Rattle.machine.specs.declared.state.ObjectRow.{ObjectRow}
+use Rattle.state_rows.specs.declared.object.ObjectRow.{ObjectRow}
 use Rattle.machine.specs.declared.state.Owed.{Owed}
 use Rattle.machine.specs.declared.state.Owed.TheVariants.{Sweep}
 use Rattle.machine.specs.declared.state.Phase.{Phase}
@@ -20,7 +20,8 @@ use Rattle.machine.specs.declared.state.State.{State}
 use Rattle.machine.specs.Rows.{object_of, thread_of, table_of, owed_of, with_thread, owing, with_register}
 use Rattle.machine.specs.Table.{place_at, fresh_place, new_handle, is_full, look, owner_of, index_of}
 use Rattle.machine.specs.References.{total, same, count_of, place_names, option_names, phase_names, thread_names}
-use Rattle.machine.specs.Acted.{Acted, dead_row, answered_state, died, is_last, owed_after_close, after_close}
+use Rattle.machine.specs.Acted.{Acted, answered_state, died, is_last, owed_after_close, after_close}
+use Rattle.state_rows.specs.ObjectRows.{dead_row}
 use Rattle.machine.specs.Create.{with_handle, made, create_mutex, name_taken}
 use Rattle.machine.specs.Open.{find_object, open_seek, open_return, open_do, open_step, is_open}
 use Rattle.sym_base.specs.declared.kind.Kind.{Kind}

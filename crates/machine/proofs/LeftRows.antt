@@ -1,7 +1,7 @@
 -- The rows of the objects that are left, one number on.
 use Rattle.std.proofs.Common.{◌≡◌, ℕ, zero, suc, ◌+◌, List, [], ◌∷◌, Some, None, drop, ap, add-one}
 use Rattle.std.specs.Prelude.{slice_get}
-use Rattle.machine.specs.declared.state.ObjectRow.{ObjectRow}
+use Rattle.state_rows.specs.declared.object.ObjectRow.{ObjectRow}
 use Rattle.machine.specs.declared.state.State.{State}
 use Rattle.machine.specs.FinalRows.{final_row, rows_of, rows_from}
 

@@ -5,7 +5,7 @@ use Rattle.std.proofs.lemmas.List.{get_or-set_same, get_or-set_other}
 use Rattle.std.proofs.lemmas.Bool.{eqb-true, eq-eqb, cases_eq}
 use Rattle.sym_base.specs.declared.number.ObjNo.{ObjNo}
 use Rattle.sym_base.specs.declared.kind.Kind.{Kind}
-use Rattle.machine.specs.declared.state.ObjectRow.{ObjectRow}
+use Rattle.state_rows.specs.declared.object.ObjectRow.{ObjectRow}
 use Rattle.machine.specs.declared.state.Owed.TheVariants.{Sweep}
 use Rattle.machine.specs.declared.state.Phase.{Phase}
 use Rattle.machine.specs.declared.state.Phase.TheVariants.{Start, Using, Found}
@@ -13,7 +13,8 @@ use Rattle.machine.specs.declared.state.ThreadRow.{ThreadRow}
 use Rattle.machine.specs.declared.state.State.{State}
 use Rattle.machine.specs.Rows.{object_of, with_object, with_thread, owing, advanced}
 use Rattle.machine.specs.References.{total, same, count_of}
-use Rattle.machine.specs.Acted.{answered_state, owed_use, dead_row, died, is_last, owed_after_close, after_close}
+use Rattle.machine.specs.Acted.{answered_state, owed_use, died, is_last, owed_after_close, after_close}
+use Rattle.state_rows.specs.ObjectRows.{dead_row}
 use Rattle.machine.specs.Create.{made}
 use Rattle.machine.specs.Good.{IsAlive, is_dead, dead_bit, owed_sweeps, sweeps_of}
 use Rattle.machine.proofs.Counts.{sweeps-owing, count-owing}

@@ -4,7 +4,7 @@ use Rattle.std.specs.Prelude.{slice_set}
 use Rattle.std.proofs.lemmas.List.{length-set}
 use Rattle.sym_base.specs.declared.number.ObjNo.{ObjNo}
 use Rattle.script_types.specs.declared.script.Script.{Script}
-use Rattle.machine.specs.declared.state.ObjectRow.{ObjectRow}
+use Rattle.state_rows.specs.declared.object.ObjectRow.{ObjectRow}
 use Rattle.machine.specs.declared.state.Owed.{Owed}
 use Rattle.machine.specs.declared.state.Place.{Place}
 use Rattle.machine.specs.declared.state.ThreadRow.{ThreadRow}

@@ -1,5 +1,5 @@
 -- What an action leaves: the state, its step, its effects, and its answer.
-use Rattle.std.specs.Prelude.{Bool, ◌==◌, if◌then◌else◌, ℤ, true, List, [], ◌∷◌, Option, Some, None}
+use Rattle.std.specs.Prelude.{Bool, ◌==◌, if◌then◌else◌, ℤ, List, [], ◌∷◌, Some, None}
 use Rattle.sym_base.specs.declared.number.ObjNo.{ObjNo}
 use Rattle.entry_log.specs.declared.effect.Holder.{Holder}
 use Rattle.entry_log.specs.declared.effect.Holder.TheVariants.{Temp}
@@ -8,13 +8,13 @@ use Rattle.entry_log.specs.declared.effect.Effect.TheVariants.{Minus, Dead}
 use Rattle.entry_log.specs.declared.step.Step.{Step}
 use Rattle.entry_log.specs.declared.step.Step.TheVariants.{Wait}
 use Rattle.machine.specs.declared.outcome.Outcome.{Outcome}
-use Rattle.machine.specs.declared.state.ObjectRow.{ObjectRow}
 use Rattle.machine.specs.declared.state.ThreadRow.{ThreadRow}
 use Rattle.machine.specs.declared.state.Phase.{Phase}
 use Rattle.machine.specs.declared.state.Phase.TheVariants.{Start, Found, Using}
 use Rattle.machine.specs.declared.state.Owed.{Owed}
 use Rattle.machine.specs.declared.state.Owed.TheVariants.{Close, Sweep}
 use Rattle.machine.specs.declared.state.State.{State}
+use Rattle.state_rows.specs.ObjectRows.{dead_row}
 use Rattle.machine.specs.Rows.{object_of, with_object, with_thread, owing, advanced}
 use Rattle.machine.specs.References.{count_of}
 
@@ -43,11 +43,6 @@ answered S t row step effects code = record {
   state = answered_state S t row;
   outcome = record { step = step; effects = effects; answer = Some code };
 }
-
--- the row of an object that is dead
-abbrev pub dead_row : Option ObjectRow → Option ObjectRow
-dead_row None = None
-dead_row (Some row) = Some (record row { dead = true })
 
 -- an object without its last reference is dead
 abbrev pub died : State → ObjNo → State

@@ -7,7 +7,7 @@ use Rattle.script_types.specs.declared.script.Script.{Script}
 use Rattle.script_types.specs.declared.declaration.ThreadDecl.{ThreadDecl}
 use Rattle.script_types.specs.declared.declaration.ProcessDecl.{ProcessDecl}
 use Rattle.script_types.specs.declared.instruction.Instr.{Instr}
-use Rattle.machine.specs.declared.state.ObjectRow.{ObjectRow}
+use Rattle.state_rows.specs.declared.object.ObjectRow.{ObjectRow}
 use Rattle.machine.specs.declared.state.Phase.TheVariants.{Start}
 use Rattle.machine.specs.declared.state.Queued.{Queued}
 use Rattle.machine.specs.declared.state.ThreadRow.{ThreadRow}

@@ -1,8 +1,7 @@
 -- `create`: a new object and a handle of it.
-use Rattle.std.specs.Prelude.{ℕ, ◌==◌, ◌&&◌, ◌||◌, Bool, false, if◌then◌else◌, pos, negsuc, List, [], ◌∷◌, ◌++◌, length, Option, Some, None}
+use Rattle.std.specs.Prelude.{ℕ, ◌==◌, ◌||◌, Bool, false, if◌then◌else◌, pos, negsuc, List, [], ◌∷◌, ◌++◌, length, Some}
 use Rattle.std.specs.List.{list_any}
-use Rattle.std.specs.Str.{bytes_eq}
-use Rattle.sym_base.specs.KindNumber.{kind_number}
+use Rattle.state_rows.specs.ObjectRows.{has_name}
 use Rattle.sym_base.specs.declared.number.ObjNo.{ObjNo}
 use Rattle.sym_base.specs.declared.kind.Kind.{Kind}
 use Rattle.sym_base.specs.declared.kind.Kind.TheVariants.{Mutex}
@@ -12,18 +11,13 @@ use Rattle.entry_log.specs.declared.step.Step.{Step}
 use Rattle.entry_log.specs.declared.step.Step.TheVariants.{Of}
 use Rattle.entry_log.specs.declared.step.Word.TheVariants.{Create}
 use Rattle.entry_log.specs.declared.step.Part.TheVariants.{Do}
-use Rattle.machine.specs.declared.state.ObjectRow.{ObjectRow}
 use Rattle.machine.specs.declared.state.ThreadRow.{ThreadRow}
 use Rattle.machine.specs.declared.state.State.{State}
 use Rattle.machine.specs.Rows.{table_of, with_place, with_register}
 use Rattle.machine.specs.Table.{free_index, new_instance, new_handle, is_full}
 use Rattle.machine.specs.Acted.{Acted, answered}
 
--- whether an unswept object has this kind and name
-abbrev pub has_name : Kind → List ℕ → Option ObjectRow → Bool
-has_name kind name None = false
-has_name kind name (Some row) = kind_number row.kind == kind_number kind && bytes_eq row.name name
-
+-- whether an unswept object of this kind has this name
 abbrev pub name_taken : State → Kind → List ℕ → Bool
 name_taken S kind name = list_any (has_name kind name) S.objects
 

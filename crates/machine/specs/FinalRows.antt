@@ -1,7 +1,7 @@
 -- The objects that are left, in order of number, with their counts.
 use Rattle.std.specs.Prelude.{◌≡◌, ℕ, ◌+◌, List, [], ◌∷◌, Option, Some, None, drop}
 use Rattle.entry_log.specs.declared.entry.FinalRow.{FinalRow}
-use Rattle.machine.specs.declared.state.ObjectRow.{ObjectRow}
+use Rattle.state_rows.specs.declared.object.ObjectRow.{ObjectRow}
 use Rattle.machine.specs.declared.state.State.{State}
 use Rattle.machine.specs.References.{count_of}
 

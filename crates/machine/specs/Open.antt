@@ -1,6 +1,6 @@
 -- `open`: an object is found by its kind and name, opened, and gets a handle. It may die between its
 -- find and its open.
-use Rattle.std.specs.Prelude.{ℕ, ◌+◌, nat_lt, ◌||◌, Bool, true, false, if◌then◌else◌, negsuc, List, [], ◌∷◌, Option, Some, None}
+use Rattle.std.specs.Prelude.{ℕ, nat_lt, ◌||◌, Bool, true, false, if◌then◌else◌, negsuc, List, [], ◌∷◌, Option, Some, None, position}
 use Rattle.sym_base.specs.declared.number.ObjNo.{ObjNo}
 use Rattle.sym_base.specs.declared.kind.Kind.{Kind}
 use Rattle.entry_log.specs.declared.effect.Holder.TheVariants.{Temp}
@@ -8,7 +8,7 @@ use Rattle.entry_log.specs.declared.effect.Effect.TheVariants.{Plus, Seek as See
 use Rattle.entry_log.specs.declared.step.Step.TheVariants.{Of}
 use Rattle.entry_log.specs.declared.step.Word.TheVariants.{Open}
 use Rattle.entry_log.specs.declared.step.Part.TheVariants.{Do, Seek, Return}
-use Rattle.machine.specs.declared.state.ObjectRow.{ObjectRow}
+use Rattle.state_rows.specs.declared.object.ObjectRow.{ObjectRow}
 use Rattle.machine.specs.declared.state.ThreadRow.{ThreadRow}
 use Rattle.machine.specs.declared.state.Phase.{Phase}
 use Rattle.machine.specs.declared.state.Phase.TheVariants.{Start, Found, Using}
@@ -17,26 +17,25 @@ use Rattle.machine.specs.Rows.{object_of, table_of, with_thread}
 use Rattle.machine.specs.Table.{is_full}
 use Rattle.machine.specs.References.{count_of}
 use Rattle.machine.specs.Acted.{Acted, answered}
-use Rattle.machine.specs.Create.{has_name, with_handle}
+use Rattle.machine.specs.Create.{with_handle}
+use Rattle.state_rows.specs.ObjectRows.{has_name, is_dead_row, is_session}
 
--- the number of the unswept object of this kind and name, n being the number of the first row
-abbrev pub named_from : Kind → List ℕ → ℕ → List (Option ObjectRow) → Option ObjNo
-named_from kind name n [] = None
-named_from kind name n (row ∷ rows) = if has_name kind name row then Some (record { 0 = n }) else named_from kind name (n + 1) rows
+-- the number of the unswept object of this kind and name
+abbrev pub numbered : Option ℕ → Option ObjNo
+numbered None = None
+numbered (Some n) = Some (record { 0 = n })
 
--- whether a row is of a dead object
-abbrev pub is_dead_row : Option ObjectRow → Bool
-is_dead_row None = false
-is_dead_row (Some row) = row.dead
+abbrev pub named : Kind → List ℕ → List (Option ObjectRow) → Option ObjNo
+named kind name rows = numbered (position (has_name kind name) rows)
 
 -- an object that isn't dead and has no reference isn't found
 abbrev pub seen : State → Option ObjNo → Option ObjNo
 seen S None = None
 seen S (Some o) = if is_dead_row (object_of S o) || nat_lt 0 (count_of S o) then Some o else None
 
--- the object that a find by kind and name finds
+-- the object that a find by kind and name finds; nobody finds a session
 abbrev pub find_object : State → Kind → List ℕ → Option ObjNo
-find_object S kind name = seen S (named_from kind name 0 S.objects)
+find_object S kind name = if is_session kind then None else seen S (named kind name S.objects)
 
 -- the first step: no such object: -1; else the object is found
 unfoldable pub open_seek : State → ObjNo → ThreadRow → Option ObjNo → Acted

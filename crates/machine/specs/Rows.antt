@@ -2,7 +2,7 @@
 use Rattle.std.specs.Prelude.{ℕ, ◌+◌, List, [], ◌++◌, Option, Some, None, slice_set}
 use Rattle.std.specs.List.{slice_index_or}
 use Rattle.sym_base.specs.declared.number.ObjNo.{ObjNo}
-use Rattle.machine.specs.declared.state.ObjectRow.{ObjectRow}
+use Rattle.state_rows.specs.declared.object.ObjectRow.{ObjectRow}
 use Rattle.machine.specs.declared.state.Place.{Place}
 use Rattle.machine.specs.declared.state.ThreadRow.{ThreadRow}
 use Rattle.machine.specs.declared.state.Phase.TheVariants.{Start}

@@ -5,8 +5,9 @@ ghost use Rattle.machine.specs.ActedBy.{acted};
 ghost use Rattle.machine.specs.Rows.{owing, advanced, with_register};
 
 use crate::rows::{object_of, owe, set_object, set_thread};
-use crate::{ObjectRow, Outcome, Owed, Phase, State, ThreadRow};
+use crate::{Outcome, Owed, Phase, State, ThreadRow};
 use entry_log::{Effect, Effects, Holder, Step};
+use state_rows::dead_row;
 use sym_base::{NoMemory, ObjNo, ThreadNo};
 
 /// Nobody acts.
@@ -78,10 +79,7 @@ pub fn answered(
 fn die(state: &mut State, object: ObjNo)
     ensures { state.new ≡ died state.old object }
 {
-    let row = match object_of(state, object) {
-        Some(row) => Some(ObjectRow { dead: true, ..row }),
-        None => None,
-    };
+    let row = dead_row(object_of(state, object));
     set_object(state, object, row);
 }
 

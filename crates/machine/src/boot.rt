@@ -5,8 +5,9 @@ ghost use Rattle.machine.specs.Boot.{boot_object, born_process, new_thread, born
 ghost use Rattle.machine.specs.Table.{fresh_place};
 
 use crate::table::{FRESH_PLACE, MAX_HANDLES};
-use crate::{ObjectRow, Owed, Phase, Place, Queued, State, ThreadRow};
+use crate::{Owed, Phase, Place, Queued, State, ThreadRow};
 use script_types::{Script, ThreadDecl};
+use state_rows::ObjectRow;
 use std::alloc::Global;
 use sym_base::{Items, Kind, Name, NoMemory, ObjNo, read_name};
 

@@ -1,7 +1,7 @@
 //! `create`: a new object and a handle of it.
 ghost use Rattle.std.specs.Prelude.{◌≡◌, ◌+◌, ◌<◌, ◌≤◌, false, length, IfOk, OnOk};
 ghost use Rattle.machine.specs.ActedBy.{acted};
-ghost use Rattle.machine.specs.Create.{has_name, name_taken, with_handle, made, create_mutex};
+ghost use Rattle.machine.specs.Create.{name_taken, with_handle, made, create_mutex};
 ghost use Rattle.machine.specs.Room.{HasRoom};
 ghost use Rattle.machine.specs.Rows.{table_of};
 ghost use Rattle.machine.specs.Table.{is_full};
@@ -9,8 +9,9 @@ ghost use Rattle.machine.specs.Table.{is_full};
 use crate::acted::{answered, one_effect, with_register};
 use crate::rows::{set_place, table_of};
 use crate::table::{free_index, handle_number, is_full, next_instance, place_at};
-use crate::{MAX_OBJECTS, ObjectRow, Outcome, Place, State, ThreadRow};
+use crate::{Outcome, Place, State, ThreadRow};
 use entry_log::{Effect, Effects, Holder, Part, Step, Word};
+use state_rows::{MAX_OBJECTS, ObjectRow, has_name};
 use sym_base::{Kind, Name, NoMemory, ObjNo, ThreadNo};
 
 const STEP: Step = Step::Of(Word::Create, Part::Do);
@@ -20,16 +21,6 @@ const ALREADY_EXISTS: i32 = -11;
 
 /// There are as many objects or handles as there may be.
 const OVERFLOW: i32 = -9;
-
-/// Whether an unswept object has this kind and name.
-pub fn has_name(kind: Kind, name: &Name, row: &Option<ObjectRow>) -> bool
-    ensures { result ≡ has_name kind name.now row.now }
-{
-    match row {
-        Some(row) => row.kind.is(kind) && row.name.is(name),
-        None => false,
-    }
-}
 
 /// Whether an unswept object of this kind has this name.
 fn name_taken(state: &State, kind: Kind, name: &Name) -> bool

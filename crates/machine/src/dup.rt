@@ -8,8 +8,9 @@ use crate::acted::{answered, nothing, one_effect};
 use crate::create::with_handle;
 use crate::rows::{object_of, set_thread, table_of};
 use crate::table::{is_full, look};
-use crate::{ObjectRow, Outcome, Phase, State, ThreadRow};
+use crate::{Outcome, Phase, State, ThreadRow};
 use entry_log::{Effect, Effects, Holder, Part, Step, Word};
+use state_rows::ObjectRow;
 use sym_base::{Kind, NoMemory, ObjNo, ThreadNo};
 
 const LOOK: Step = Step::Of(Word::Dup, Part::Look);

@@ -25,12 +25,11 @@ pub use acted::{advanced, closed_effects, one_effect, with_register};
 pub use boot::{Born, all_born, boot_of};
 pub use choice::first_of_greatest;
 pub use count::count_of;
-pub use create::has_name;
 pub use dup::stays_with_thread;
-pub use open::{is_open, named};
+pub use open::is_open;
 pub use outcome::Outcome;
 pub use plain::{Plain, entry_of};
-pub use state::{MAX_OBJECTS, ObjectRow, Owed, Phase, Place, Queued, State, ThreadRow};
+pub use state::{Owed, Phase, Place, Queued, State, ThreadRow};
 pub use table::{
     FRESH_PLACE, MAX_HANDLES, free_index, handle_number, holder_of, index_of, instance_of, is_full,
     next_instance, object_at, owner_of, place_at,

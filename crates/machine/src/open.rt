@@ -1,18 +1,20 @@
 //! `open`: an object is found by its kind and name, opened, and gets a handle.
-ghost use Rattle.std.specs.Prelude.{◌≡◌, ◌<◌, ◌≤◌, if◌then◌else◌, None, Some, length, IfOk, IfSome};
+ghost use Rattle.std.specs.Prelude.{◌≡◌, ◌<◌, ◌≤◌, if◌then◌else◌, None, Some, length, position, IfOk, IfSome};
 ghost use Rattle.machine.specs.ActedBy.{acted};
-ghost use Rattle.machine.specs.Open.{named_from, seen, find_object, open_seek, is_open, open_return, open_do, open_step};
+ghost use Rattle.machine.specs.Open.{named, seen, find_object, open_seek, is_open, open_return, open_do, open_step};
 ghost use Rattle.machine.specs.References.{count_of};
 ghost use Rattle.machine.specs.Room.{HasRoom};
+ghost use Rattle.state_rows.specs.ObjectRows.{has_name};
 ghost use Rattle.sym_base.specs.declared.number.ObjNo.{ObjNo};
 
 use crate::acted::{answered, one_effect};
 use crate::count::count_of;
-use crate::create::{has_name, with_handle};
+use crate::create::with_handle;
 use crate::rows::{object_of, set_thread, table_of};
 use crate::table::is_full;
-use crate::{ObjectRow, Outcome, Phase, State, ThreadRow};
+use crate::{Outcome, Phase, State, ThreadRow};
 use entry_log::{Effect, Effects, Holder, Part, Step, Word};
+use state_rows::{ObjectRow, has_name, is_session};
 use sym_base::{Kind, Name, NoMemory, ObjNo, ThreadNo};
 
 const SEEK: Step = Step::Of(Word::Open, Part::Seek);
@@ -27,18 +29,21 @@ const NOT_FOUND: i32 = -1;
 /// There are as many handles as there may be.
 const OVERFLOW: i32 = -9;
 
-/// The number of the unswept object of this kind and name.
-pub fn named(kind: Kind, name: &Name, rows: &[Option<ObjectRow>]) -> Option<ObjNo>
-    requires { length rows.now ≤ 65536 }
-    ensures named { result ≡ named_from kind name.now 0 rows.now }
-    ensures within { IfSome result (λ object. object.0 < length rows.now) }
+/// The place of the unswept object of this kind and name.
+fn place_named(kind: Kind, name: &Name, rows: &[Option<ObjectRow>]) -> Option<usize>
+    ensures place { result ≡ position (has_name kind name.now) rows.now }
+    ensures within { IfSome result (λ p. p < length rows.now) }
 {
-    for (number, row) in rows.iter().enumerate() {
-        if has_name(kind, name, row) {
-            return Some(ObjNo(number as u16));
-        }
-    }
-    None
+    rows.iter().position(|row| has_name(kind, name, row))
+}
+
+/// The number of the unswept object of this kind and name.
+fn named(kind: Kind, name: &Name, rows: &[Option<ObjectRow>]) -> Option<ObjNo>
+    requires { length rows.now ≤ 65536 }
+    ensures { result ≡ named kind name.now rows.now }
+{
+    let number = place_named(kind, name, rows)?;
+    Some(ObjNo(number as u16))
 }
 
 /// Whether an object may be opened: it is there and isn't dead.
@@ -68,6 +73,9 @@ fn find_object(state: &State, kind: Kind, name: &Name) -> Option<ObjNo>
     requires counts { (object : ObjNo) → count_of state.now object < 65536 }
     ensures { result ≡ find_object state.now kind name.now }
 {
+    if is_session(kind) {
+        return None;
+    }
     let object = named(kind, name, state.objects.as_slice())?;
     if is_seen(state, object) {
         Some(object)

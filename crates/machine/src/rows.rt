@@ -3,7 +3,8 @@
 ghost use Rattle.std.specs.Prelude.{◌≡◌, [], ◌∷◌, OnOk, drop, slice_set};
 ghost use Rattle.machine.specs.Rows.{object_of, table_of, thread_of, owed_of, with_object, with_place, with_thread, with_owed, owing};
 
-use crate::{ObjectRow, Owed, Place, State, ThreadRow};
+use crate::{Owed, Place, State, ThreadRow};
+use state_rows::ObjectRow;
 use sym_base::{Items, NoMemory, ObjNo, ThreadNo};
 
 /// The object of this number, where it was made and isn't swept.

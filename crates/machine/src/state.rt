@@ -2,20 +2,9 @@
 ghost use Rattle.std.specs.Prelude.{◌≡◌, IfOk};
 
 use entry_log::Holder;
+use state_rows::ObjectRow;
 use std::alloc::{AllocError, Global};
-use sym_base::{Items, Kind, Name, ObjNo, ThreadNo};
-
-/// The most objects that a kernel makes. This project's own limit.
-pub const MAX_OBJECTS: usize = 4096;
-
-/// An object that isn't swept: its kind, its name, and whether its last reference is gone
-/// (the book's chapter on kernel services, on kernel objects).
-#[derive(Clone, Copy)]
-pub struct ObjectRow {
-    pub kind: Kind,
-    pub name: Name,
-    pub dead: bool,
-}
+use sym_base::{Items, ObjNo, ThreadNo};
 
 /// A place of a handle table: how often it was taken, 0 at first and counted from 1 to 16,383 and
 /// then from 1 again, and the object there.

@@ -9,14 +9,17 @@ use Rattle.ref_words.specs.declared.answer.Stage.TheVariants.{Fresh, Gone}
 use Rattle.ref_words.specs.declared.answer.Closed.TheVariants.{Last}
 use Rattle.ref_words.specs.Words.{Words, own_at, created}
 use Rattle.sym_base.specs.declared.kind.Kind.{Kind}
-use Rattle.objects.specs.declared.row.Row.{Row}
-use Rattle.objects.specs.Rows.{row_at, is_there, is_dead, is_alive, is_session, has_name, kept_name}
-use Rattle.objects.specs.Calls.{AreUnused, is_taken, dead_row, rows_closed, rows_swept}
+use Rattle.state_rows.specs.declared.object.ObjectRow.{ObjectRow}
+use Rattle.objects.specs.Rows.{row_at, is_there, is_alive, kept_name}
+use Rattle.state_rows.specs.ObjectRows.{is_session}
+use Rattle.state_rows.specs.ObjectRows.{is_dead_row, has_name}
+use Rattle.objects.specs.Calls.{AreUnused, is_taken, rows_closed, rows_swept}
+use Rattle.state_rows.specs.ObjectRows.{dead_row}
 use Rattle.objects.specs.Kept.{AreKept}
 use Rattle.objects.proofs.SameKind.{has_name-kind, has_name-name}
 
 abbrev Rows : Type 0
-Rows = List (Option Row)
+Rows = List (Option ObjectRow)
 
 -- an unswept object was made
 pub there_made : (rows : Rows) (p : ℕ) → IsTrue (is_there (row_at rows p)) → p < length rows
@@ -26,16 +29,16 @@ there_made rows p there = elim (cases_lt p (length rows)) [
 ]
 
 -- a dead object isn't swept
-dead_there : (row : Option Row) → IsTrue (is_dead row) → IsTrue (is_there row)
+dead_there : (row : Option ObjectRow) → IsTrue (is_dead_row row) → IsTrue (is_there row)
 dead_there None dead = absurd (cc)
 dead_there (Some row) dead = refl
 
 -- a dead object was made
-pub dead_made : (rows : Rows) (p : ℕ) → IsTrue (is_dead (row_at rows p)) → p < length rows
+pub dead_made : (rows : Rows) (p : ℕ) → IsTrue (is_dead_row (row_at rows p)) → p < length rows
 dead_made rows p dead = there_made rows p (dead_there (row_at rows p) dead)
 
 -- an object that isn't dead was made
-alive_there : (row : Option Row) → IsTrue (is_alive row) → IsTrue (is_there row)
+alive_there : (row : Option ObjectRow) → IsTrue (is_alive row) → IsTrue (is_there row)
 alive_there None alive = absurd (cc)
 alive_there (Some row) alive = refl
 
@@ -43,7 +46,7 @@ alive_made : (rows : Rows) (p : ℕ) → IsTrue (is_alive (row_at rows p)) → p
 alive_made rows p alive = there_made rows p (alive_there (row_at rows p) alive)
 
 -- no object is dead and alive
-pub dead_alive : (row : Option Row) → IsTrue (is_dead row) → is_alive row ≡ false
+pub dead_alive : (row : Option ObjectRow) → IsTrue (is_dead_row row) → is_alive row ≡ false
 dead_alive None dead = refl
 dead_alive (Some row) dead = rw dead refl
 
@@ -67,14 +70,14 @@ kept_new w unused = record {
 }
 
 -- the row of an object that is made now, and of the others
-row_at-made : (rows : Rows) (row : Row) (p : ℕ) → p < length rows → row_at (rows ++ Some row ∷ []) p ≡ row_at rows p
+row_at-made : (rows : Rows) (row : ObjectRow) (p : ℕ) → p < length rows → row_at (rows ++ Some row ∷ []) p ≡ row_at rows p
 row_at-made rows row p inside = get_or_append_left rows (Some row ∷ []) None p inside
 
-row_at-new : (rows : Rows) (row : Row) (p : ℕ) → p ≡ length rows → row_at (rows ++ Some row ∷ []) p ≡ Some row
+row_at-new : (rows : Rows) (row : ObjectRow) (p : ℕ) → p ≡ length rows → row_at (rows ++ Some row ∷ []) p ≡ Some row
 row_at-new rows row p is = get_or_push rows (Some row) None p (sym is)
 
 -- which rows there are after a making
-made_cases : (rows : Rows) (row : Row) (p : ℕ) → p < length (rows ++ Some row ∷ []) → (p < length rows) ⊎ (p ≡ length rows)
+made_cases : (rows : Rows) (row : ObjectRow) (p : ℕ) → p < length (rows ++ Some row ∷ []) → (p < length rows) ⊎ (p ≡ length rows)
 made_cases rows row p inside = elim (cases_lt p (length rows)) [
   | inl old ↦ inl old
   | inr past ↦ inr (omega (arith, length-append rows (Some row ∷ [])))
@@ -83,7 +86,7 @@ made_cases rows row p inside = elim (cases_lt p (length rows)) [
 -- the name of a new object is no other's
 new_name : (rows : Rows) (kind : Kind) (name : List ℕ) (q : ℕ) (k : Kind) (n : List ℕ) → is_taken kind name rows ≡ false → is_session k ≡ false → IsTrue (has_name k n (Some (record { kind = kind; name = kept_name kind name; dead = false }))) → IsTrue (has_name k n (row_at rows q)) → ⊥
 new_name rows kind name q k n untaken named new old =
-    let row : Row = record { kind = kind; name = kept_name kind name; dead = false } in
+    let row : ObjectRow = record { kind = kind; name = kept_name kind name; dead = false } in
     let same : kind ≡ k = has_name-kind k n row new in
     let named_kind : is_session kind ≡ false = rw same named in
     let kept : kept_name kind name ≡ name = rw named_kind refl in
@@ -96,7 +99,7 @@ new_name rows kind name q k n untaken named new old =
 -- one more object
 pub kept_made : (rows : Rows) (counts : List ℕ) (w : Words) (kind : Kind) (name : List ℕ) → AreKept rows counts w → length rows < 4096 → is_taken kind name rows ≡ false → AreKept (rows ++ Some (record { kind = kind; name = kept_name kind name; dead = false }) ∷ []) (set counts (length rows) 1) (created w (length rows))
 kept_made rows counts w kind name kept room untaken =
-    let row : Row = record { kind = kind; name = kept_name kind name; dead = false } in
+    let row : ObjectRow = record { kind = kind; name = kept_name kind name; dead = false } in
     let long = length-append rows (Some row ∷ []) in
     let place = kept.fresh (length rows) (omega arith) room in
     record {
@@ -157,12 +160,12 @@ kept_notes rows counts w v own stages kept = record {
 }
 
 -- a dead row keeps its name
-dead_named : (kind : Kind) (name : List ℕ) (row : Option Row) → has_name kind name (dead_row row) ≡ has_name kind name row
+dead_named : (kind : Kind) (name : List ℕ) (row : Option ObjectRow) → has_name kind name (dead_row row) ≡ has_name kind name row
 dead_named kind name None = refl
 dead_named kind name (Some row) = refl
 
 -- and isn't alive
-dead_row_alive : (row : Option Row) → is_alive (dead_row row) ≡ false
+dead_row_alive : (row : Option ObjectRow) → is_alive (dead_row row) ≡ false
 dead_row_alive None = refl
 dead_row_alive (Some row) = refl
 
@@ -183,7 +186,7 @@ there_created rows counts w o kept there =
 row_at-closed : (rows : Rows) (o : ℕ) → o < length rows → row_at (rows_closed Last rows o) o ≡ dead_row (row_at rows o)
 row_at-closed rows o inside = get_or-set_same rows o (dead_row (row_at rows o)) None inside
 
-row_at-other : (rows : Rows) (row : Option Row) (o p : ℕ) → p ≢ o → row_at (set rows o row) p ≡ row_at rows p
+row_at-other : (rows : Rows) (row : Option ObjectRow) (o p : ℕ) → p ≢ o → row_at (set rows o row) p ≡ row_at rows p
 row_at-other rows row o p other = get_or-set_other rows o p row None other
 
 -- no name changes as a last reference goes
@@ -233,7 +236,7 @@ named_swept rows o p kind name inside named = elim (cases_eq p o) [
 ]
 
 -- a dead object's row goes
-pub kept_swept : (rows : Rows) (counts : List ℕ) (w : Words) (o : ℕ) → AreKept rows counts w → IsTrue (is_dead (row_at rows o)) → AreKept (rows_swept rows o) counts w
+pub kept_swept : (rows : Rows) (counts : List ℕ) (w : Words) (o : ℕ) → AreKept rows counts w → IsTrue (is_dead_row (row_at rows o)) → AreKept (rows_swept rows o) counts w
 kept_swept rows counts w o kept was_dead =
     let inside = dead_made rows o was_dead in
     let none = get_or-set_same rows o None None inside in

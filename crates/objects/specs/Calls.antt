@@ -7,26 +7,28 @@ use Rattle.ref_words.specs.declared.answer.Closed.{Closed}
 use Rattle.ref_words.specs.declared.answer.Closed.TheVariants.{Stays, Last}
 use Rattle.ref_words.specs.declared.answer.Stage.TheVariants.{Fresh}
 use Rattle.ref_words.specs.Words.{Words, created}
-use Rattle.objects.specs.declared.row.Row.{Row}
+use Rattle.state_rows.specs.declared.object.ObjectRow.{ObjectRow}
 use Rattle.objects.specs.declared.row.ObjRow.{ObjRow}
 use Rattle.objects.specs.declared.objects.Made.{Made}
 use Rattle.objects.specs.declared.objects.Made.TheVariants.{Made as MadeObject, NameTaken, Full}
-use Rattle.objects.specs.Rows.{row_at, is_dead, is_session, has_name, kept_name}
+use Rattle.objects.specs.Rows.{row_at, kept_name}
+use Rattle.state_rows.specs.ObjectRows.{is_session}
+use Rattle.state_rows.specs.ObjectRows.{has_name, is_dead_row, dead_row}
 
 -- words of 4,096 places, of which none is created
 abbrev pub AreUnused : Words → Type 0
 AreUnused w = (w.own ≡ replicate 4096 0) × (w.stages ≡ replicate 4096 Fresh)
 
 -- whether an unswept object has the kind and the name, which no session has
-abbrev pub is_taken : Kind → List ℕ → List (Option Row) → Bool
+abbrev pub is_taken : Kind → List ℕ → List (Option ObjectRow) → Bool
 is_taken kind name rows = not (is_session kind) && list_any (has_name kind name) rows
 
 -- the answer of a making: the next number, unless the name is taken or 4,096 objects were made
-abbrev pub made_answer : Kind → List ℕ → List (Option Row) → Made
+abbrev pub made_answer : Kind → List ℕ → List (Option ObjectRow) → Made
 made_answer kind name rows = if is_taken kind name rows then NameTaken else (if length rows == 4096 then Full else MadeObject (record { 0 = length rows }))
 
 -- the rows after a making
-abbrev pub rows_made : Made → Kind → List ℕ → List (Option Row) → List (Option Row)
+abbrev pub rows_made : Made → Kind → List ℕ → List (Option ObjectRow) → List (Option ObjectRow)
 rows_made (MadeObject o) kind name rows = rows ++ Some (record { kind = kind; name = kept_name kind name; dead = false }) ∷ []
 rows_made NameTaken kind name rows = rows
 rows_made Full kind name rows = rows
@@ -38,37 +40,32 @@ words_made NameTaken w = w
 words_made Full w = w
 
 -- whether an object is found: it has a reference, or its last one went
-abbrev pub is_findable : List (Option Row) → List ℕ → ℕ → Bool
-is_findable rows own o = not (slice_index own o == 0) || is_dead (row_at rows o)
+abbrev pub is_findable : List (Option ObjectRow) → List ℕ → ℕ → Bool
+is_findable rows own o = not (slice_index own o == 0) || is_dead_row (row_at rows o)
 
 -- the object at a place, if it is found
-abbrev pub found_at : List (Option Row) → List ℕ → Option ℕ → Option ObjNo
+abbrev pub found_at : List (Option ObjectRow) → List ℕ → Option ℕ → Option ObjNo
 found_at rows own None = None
 found_at rows own (Some o) = if is_findable rows own o then Some (record { 0 = o }) else None
 
 -- the object of a kind with a name. Nobody finds a session
-abbrev pub found : Kind → List ℕ → List (Option Row) → List ℕ → Option ObjNo
+abbrev pub found : Kind → List ℕ → List (Option ObjectRow) → List ℕ → Option ObjNo
 found kind name rows own = if is_session kind then None else found_at rows own (position (has_name kind name) rows)
 
 -- what is told of a row and its count
-abbrev pub told : Option Row → ℕ → Option ObjRow
+abbrev pub told : Option ObjectRow → ℕ → Option ObjRow
 told None count = None
 told (Some row) count = Some (record { kind = row.kind; name = row.name; count = count; dead = row.dead })
 
 -- what is told of an object
-abbrev pub row_told : List (Option Row) → List ℕ → ℕ → Option ObjRow
+abbrev pub row_told : List (Option ObjectRow) → List ℕ → ℕ → Option ObjRow
 row_told rows own o = told (row_at rows o) (slice_index own o)
 
--- the row of an object whose last reference went
-abbrev pub dead_row : Option Row → Option Row
-dead_row None = None
-dead_row (Some row) = Some (record row { dead = true })
-
 -- the rows after a close
-abbrev pub rows_closed : Closed → List (Option Row) → ℕ → List (Option Row)
+abbrev pub rows_closed : Closed → List (Option ObjectRow) → ℕ → List (Option ObjectRow)
 rows_closed Stays rows o = rows
 rows_closed Last rows o = slice_set rows o (dead_row (row_at rows o))
 
 -- the rows after a sweep
-abbrev pub rows_swept : List (Option Row) → ℕ → List (Option Row)
+abbrev pub rows_swept : List (Option ObjectRow) → ℕ → List (Option ObjectRow)
 rows_swept rows o = slice_set rows o None

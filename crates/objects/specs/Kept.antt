@@ -3,13 +3,15 @@ use Rattle.std.specs.Prelude.{◌≡◌, ℕ, ◌<◌, ◌≤◌, false, List, O
 use Rattle.ref_words.specs.declared.answer.Stage.TheVariants.{InUse, Gone}
 use Rattle.ref_words.specs.Words.{Words, stage_at, IsFresh}
 use Rattle.sym_base.specs.declared.kind.Kind.{Kind}
-use Rattle.objects.specs.declared.row.Row.{Row}
-use Rattle.objects.specs.Rows.{row_at, is_alive, is_session, has_name}
+use Rattle.state_rows.specs.declared.object.ObjectRow.{ObjectRow}
+use Rattle.objects.specs.Rows.{row_at, is_alive}
+use Rattle.state_rows.specs.ObjectRows.{is_session}
+use Rattle.state_rows.specs.ObjectRows.{has_name}
 
 -- the counts are those of the words; a place beyond the objects made is fresh, and that of an object that
 -- was made is in use, or gone where it is dead or swept; and names are unique among the unswept objects of
 -- a kind
-pub record AreKept (rows : List (Option Row)) (counts : List ℕ) (w : Words) : Type 0 where
+pub record AreKept (rows : List (Option ObjectRow)) (counts : List ℕ) (w : Words) : Type 0 where
   pub counted : counts ≡ w.own
   pub places : length w.own ≡ 4096
   pub limited : length rows ≤ 4096

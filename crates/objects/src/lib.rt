@@ -6,5 +6,5 @@ mod row;
 #[cfg(test)]
 mod tests;
 
-pub use objects::{MAX_OBJECTS, Made, Objects};
-pub use row::{ObjRow, Row};
+pub use objects::{Made, Objects};
+pub use row::ObjRow;

@@ -2,17 +2,16 @@
 ghost use Rattle.std.specs.Prelude.{◌≡◌, ℕ, false, ◌+◌, ◌^◌, ◌<◌, ◌≤◌, ◌↔◌, IsTrue, IfOk, IfSome, length, position, vec_capacity, []};
 ghost use Rattle.ref_words.specs.Words.{own_at, IsGone, IsOut, HasNoteOut, opened, sent_out, taken_back, closed};
 ghost use Rattle.sym_base.specs.declared.number.ObjNo.{ObjNo};
-ghost use Rattle.objects.specs.Rows.{row_at, is_there, is_dead, is_alive, is_session, has_name};
+ghost use Rattle.objects.specs.Rows.{row_at, is_there, is_alive};
+ghost use Rattle.state_rows.specs.ObjectRows.{is_session, has_name, is_dead_row};
 ghost use Rattle.objects.specs.Calls.{AreUnused, is_taken, is_findable, made_answer, rows_made, words_made, found, told, row_told, rows_closed, rows_swept};
 
-use crate::row::{ObjRow, Row, has_name, is_dead, is_session, kept_name};
+use crate::row::{ObjRow, kept_name};
 use ref_words::{Closed, Found, RefWords};
+use state_rows::{MAX_OBJECTS, ObjectRow, has_name, is_dead_row, is_session};
 use std::alloc::Global;
 use std::marker::Model;
 use sym_base::{Kind, Name, NoMemory, ObjNo};
-
-/// The most objects that are made. The limit is this project's own.
-pub const MAX_OBJECTS: usize = 4096;
 
 /// What making an object answers.
 #[derive(Clone, Copy, Debug, PartialEq, Eq)]
@@ -31,7 +30,7 @@ pub enum Made {
 pub struct Objects<W: RefWords> {
     words: W,
     counts: Vec<u32>,
-    rows: Vec<Option<Row>>,
+    rows: Vec<Option<ObjectRow>>,
 }
 
 impl<W: RefWords> Model for Objects<W> {
@@ -79,7 +78,7 @@ impl<W: RefWords + Drop> Objects<W> {
         if made == MAX_OBJECTS {
             return Made::Full;
         }
-        self.rows.push_reserved(Some(Row {
+        self.rows.push_reserved(Some(ObjectRow {
             kind,
             name: kept_name(kind, name),
             dead: false,
@@ -90,10 +89,18 @@ impl<W: RefWords + Drop> Objects<W> {
     }
 
     /// Whether an unswept object has a kind and a name, which no session has.
-    fn is_taken(&self, kind: Kind, name: &Name) -> bool
+    pub fn is_taken(&self, kind: Kind, name: &Name) -> bool
         ensures { result ≡ is_taken kind name.now self.now.rows }
     {
-        !is_session(kind) && self.rows.iter().any(|row| has_name(row, kind, name))
+        !is_session(kind) && self.rows.iter().any(|row| has_name(kind, name, row))
+    }
+
+    /// How many objects were made.
+    pub fn len(&self) -> usize
+        ensures made { result ≡ length self.now.rows }
+        ensures few { result ≤ 4096 }
+    {
+        self.rows.len()
     }
 
     /// The unswept object of a kind with a name. None exactly where there is none, or where it has no
@@ -119,7 +126,7 @@ impl<W: RefWords + Drop> Objects<W> {
         ensures made { IfSome result (λ p. (p < length self.now.rows) × (p < 4096)) }
         ensures alone { IfSome result (λ p. (q : ℕ) → IsTrue (has_name kind name.now (row_at self.now.rows q)) → q ≡ p) }
     {
-        self.rows.iter().position(|row| has_name(row, kind, name))
+        self.rows.iter().position(|row| has_name(kind, name, row))
     }
 
     /// Whether an object has a reference or is dead.
@@ -127,7 +134,7 @@ impl<W: RefWords + Drop> Objects<W> {
         requires { place < length self.now.rows }
         ensures { result ≡ is_findable self.now.rows (W.meaning self.now.words).own place }
     {
-        self.counts[place] != 0 || is_dead(&self.rows[place])
+        self.counts[place] != 0 || is_dead_row(&self.rows[place])
     }
 
     /// Adds a reference to an unswept object that has one.
@@ -165,7 +172,7 @@ impl<W: RefWords + Drop> Objects<W> {
     /// Sends a note out for an unswept object, which has a reference or is dead.
     pub fn send_out(&mut self, o: ObjNo) -> W::Note
         requires there { IsTrue (is_there (row_at self.old.rows o.0)) }
-        requires known_or_dead { own_at (W.meaning self.old.words) o.0 ≡ 0 → IsTrue (is_dead (row_at self.old.rows o.0)) }
+        requires known_or_dead { own_at (W.meaning self.old.words) o.0 ≡ 0 → IsTrue (is_dead_row (row_at self.old.rows o.0)) }
         requires small { own_at (W.meaning self.old.words) o.0 < 2 ^ 31 }
         requires few_out { length (W.meaning self.old.words).out < 64 }
         requires few_made { (W.meaning self.old.words).made < 4294967295 }
@@ -205,7 +212,7 @@ impl<W: RefWords + Drop> Objects<W> {
 
     /// Takes the row of a dead object away, and frees its name.
     pub fn sweep(&mut self, o: ObjNo)
-        requires { IsTrue (is_dead (row_at self.old.rows o.0)) }
+        requires { IsTrue (is_dead_row (row_at self.old.rows o.0)) }
         ensures rows { self.new.rows ≡ rows_swept self.old.rows o.0 }
         ensures words { self.new.words ≡ self.old.words }
     {
@@ -224,7 +231,7 @@ impl<W: RefWords + Drop> Objects<W> {
 }
 
 /// What is told of a row and its count.
-fn told(row: &Option<Row>, count: u32) -> Option<ObjRow>
+fn told(row: &Option<ObjectRow>, count: u32) -> Option<ObjRow>
     ensures { result ≡ told row.now count }
 {
     match row {
@@ -239,7 +246,7 @@ fn told(row: &Option<Row>, count: u32) -> Option<ObjRow>
 }
 
 /// Notes that an object's last reference went.
-fn bury(rows: &mut Vec<Option<Row>>, o: ObjNo)
+fn bury(rows: &mut Vec<Option<ObjectRow>>, o: ObjNo)
     requires { o.0 < length rows.old.items }
     ensures rows { rows.new.items ≡ rows_closed Closed.Last rows.old.items o.0 }
     ensures room { vec_capacity rows.new ≡ vec_capacity rows.old }

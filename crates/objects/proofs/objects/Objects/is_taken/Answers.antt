@@ -1,7 +1,8 @@
 use Rattle.std.proofs.Common.{◌≡◌, false, rules, tests, sym, ◌∙◌}
 use Rattle.std.proofs.lemmas.Iterator.{YieldsList-from_slice}
 use Rattle.std.proofs.lemmas.Iterator.Search.{any_from_yields_List}
-use Rattle.objects.specs.Rows.{is_session, has_name}
+use Rattle.state_rows.specs.ObjectRows.{is_session}
+use Rattle.state_rows.specs.ObjectRows.{has_name}
 use Rattle.objects.proofs.objects.Objects.is_taken.Goals as goal
 
 pub returns-then-not-is_session : goal.returns-then-not-is_session

@@ -1,7 +1,7 @@
 use Rattle.std.proofs.Common.{rules, tests}
 use Rattle.std.proofs.lemmas.Iterator.{YieldsList-from_slice}
 use Rattle.std.proofs.lemmas.Iterator.Search.{position_from_yields_List}
-use Rattle.objects.specs.Rows.{has_name}
+use Rattle.state_rows.specs.ObjectRows.{has_name}
 use Rattle.objects.proofs.Keeping.{named_place, named_alone}
 use Rattle.objects.proofs.objects.Objects.place_named.Goals as goal
 

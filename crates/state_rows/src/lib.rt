@@ -1,0 +1,6 @@
+//! Rows of the kernel's state, which the definitions and the kernel's tables have in common.
+#![tactic(auto)]
+
+mod object;
+
+pub use object::{MAX_OBJECTS, ObjectRow, dead_row, has_name, is_dead_row, is_session};
