@@ -1,3 +1,4 @@
+pub mod BootCounted
 pub mod BootGood
 pub mod Boots
 pub mod PlainSteps

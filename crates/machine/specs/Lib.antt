@@ -15,6 +15,7 @@ pub mod History
 pub mod FinalRows
 pub mod Run
 pub mod Good
+pub mod Counted
 pub mod ActedBy
 pub mod Room
 pub mod Built
