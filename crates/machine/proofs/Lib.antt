@@ -1,5 +1,6 @@
 pub mod BootCounted
 pub mod BootGood
+pub mod BootNames
 pub mod Boots
 pub mod PlainSteps
 pub mod ValidExample
