@@ -16,6 +16,7 @@ pub mod LeftRows
 pub mod Listed
 pub mod Lists
 pub mod Live
+pub mod ReadyApart
 pub mod RefsAct
 pub mod RefsSteps
 pub mod RoomLaws

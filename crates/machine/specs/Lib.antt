@@ -16,6 +16,7 @@ pub mod FinalRows
 pub mod Run
 pub mod Good
 pub mod Counted
+pub mod ReadyApart
 pub mod ActedBy
 pub mod Room
 pub mod Built
