@@ -14,6 +14,7 @@ pub mod KeepsClose
 pub mod KeepsSteps
 pub mod LeftRows
 pub mod Listed
+pub mod ListedOnce
 pub mod Lists
 pub mod Live
 pub mod ReadyApart

@@ -17,6 +17,7 @@ pub mod Run
 pub mod Good
 pub mod Counted
 pub mod ReadyApart
+pub mod ListedOnce
 pub mod ActedBy
 pub mod Room
 pub mod Built
