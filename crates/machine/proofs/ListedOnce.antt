@@ -77,8 +77,8 @@ once_behind qs None h = h
 once_behind qs (Some q) h = once_push (filter (λ x. not (x.thread.0 == q.thread.0)) qs) q (once_without q.thread qs h) (gone q.thread qs)
 
 -- a time slice ends
-pub once_turned : (qs : List Queued) → IsOnce qs → IsOnce (turned qs)
-once_turned qs h = once_behind qs (first_of_greatest qs) h
+pub once-turned : (qs : List Queued) → IsOnce qs → IsOnce (turned qs)
+once-turned qs h = once_behind qs (first_of_greatest qs) h
 
 -- the threads at boot have numbers from n on, each its own
 before_boot_step : (n : ℕ) (b : Born) (rest : List Queued) (u : ObjNo) (works : Bool) → u.0 < n → is_listed rest u ≡ false → is_listed (if works then record { thread = record { 0 = n }; priority = b.priority } ∷ rest else rest) u ≡ false
@@ -111,7 +111,7 @@ once-act script S t h =
 
 once-tick : (S : State) → IsOnce S.ready → IsOnce (tick S).state.ready
 unfolding tick
-once-tick S h = once_turned S.ready h
+once-tick S h = once-turned S.ready h
 
 -- an actor acts
 pub once-next : (script : Script) (S : State) (actor : Actor) → IsOnce S.ready → IsOnce (next script S actor).ready
