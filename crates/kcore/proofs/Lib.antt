@@ -3,3 +3,4 @@ mod Moves
 mod Rooms
 mod Goes
 mod ListSteps
+pub mod ReadyQueues

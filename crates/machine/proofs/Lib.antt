@@ -1,4 +1,6 @@
+pub mod BootCounted
 pub mod BootGood
+pub mod BootNames
 pub mod Boots
 pub mod PlainSteps
 pub mod ValidExample
@@ -12,8 +14,10 @@ pub mod KeepsClose
 pub mod KeepsSteps
 pub mod LeftRows
 pub mod Listed
+pub mod ListedOnce
 pub mod Lists
 pub mod Live
+pub mod ReadyApart
 pub mod RefsAct
 pub mod RefsSteps
 pub mod RoomLaws

@@ -15,6 +15,9 @@ pub mod History
 pub mod FinalRows
 pub mod Run
 pub mod Good
+pub mod Counted
+pub mod ReadyApart
+pub mod ListedOnce
 pub mod ActedBy
 pub mod Room
 pub mod Built

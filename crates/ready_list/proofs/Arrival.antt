@@ -220,7 +220,7 @@ pub picked_is : (list : Listed) (r : Ready) → AreQueuesOf list r → first_of_
 picked_is list r are = picked_by list r (best list) are refl
 
 -- a thread that stands in a priority's queue is listed
-holds_listed : (t : ObjNo) (p : ℕ) (list : Listed) → holds t (queue_of p list) ≡ true → is_listed t list ≡ true
+pub holds_listed : (t : ObjNo) (p : ℕ) (list : Listed) → holds t (queue_of p list) ≡ true → is_listed t list ≡ true
 holds_listed t p [] held = held
 holds_listed t p (x ∷ later) held =
     elim (cases_Bool (eqb x.0.0 t.0)) [
