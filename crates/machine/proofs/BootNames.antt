@@ -14,9 +14,9 @@ use Rattle.script_types.specs.declared.declaration.ThreadDecl.{ThreadDecl}
 use Rattle.script_types.specs.declared.script.Script.{Script}
 use Rattle.script_types.specs.WiderGrammar.{ThreadPart, ProcessPart, part_thread, parts_threads, part_process, are_new, IsValidWider}
 use Rattle.machine.specs.declared.boot.Born.{Born}
-use Rattle.machine.specs.declared.state.ObjectRow.{ObjectRow}
+use Rattle.state_rows.specs.declared.object.ObjectRow.{ObjectRow}
 use Rattle.machine.specs.Boot.{boot, boot_of, born, born_thread, born_threads, born_processes, is_of}
-use Rattle.machine.specs.Create.{has_name}
+use Rattle.state_rows.specs.ObjectRows.{has_name}
 
 -- the rows of the objects of a list
 abbrev rows_of : List Born → List (Option ObjectRow)

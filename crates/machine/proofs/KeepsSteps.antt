@@ -169,7 +169,7 @@ not_dead : (dead : Bool) → (if dead then false else true) ≡ true → dead �
 not_dead true e = cc
 not_dead false e = refl
 
-is_open_alive : (row : Option ObjectRow) → is_open row ≡ true → IsAlive row
+pub is_open_alive : (row : Option ObjectRow) → is_open row ≡ true → IsAlive row
 is_open_alive None e = cc
 is_open_alive (Some row) e = not_dead row.dead e
 

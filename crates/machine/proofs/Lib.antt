@@ -25,3 +25,7 @@ pub mod Shape
 pub mod Tables
 pub mod Totals
 pub mod RefsActor
+pub mod Lives
+pub mod LivesClose
+pub mod LivesSteps
+pub mod CountedLaws

@@ -2,6 +2,8 @@
 use Rattle.std.proofs.Common.{◌≡◌, ℕ, ◌+◌, ◌<◌, List, [], ◌∷◌, length, arith, Option, Some, None, refl, ap}
 use Rattle.std.specs.Prelude.{negsuc, pos, slice_set, slice_index}
 use Rattle.sym_base.specs.declared.number.ObjNo.{ObjNo}
+use Rattle.entry_log.specs.declared.effect.Holder.TheVariants.{Temp}
+use Rattle.entry_log.specs.declared.effect.Effect.TheVariants.{Plus}
 use Rattle.entry_log.specs.declared.step.Step.TheVariants.{Of}
 use Rattle.entry_log.specs.declared.step.Word.TheVariants.{Dup, Close as CloseWord, Open as OpenWord}
 use Rattle.entry_log.specs.declared.step.Part.TheVariants.{Do, Look, Seek, Return}
@@ -15,7 +17,7 @@ use Rattle.machine.specs.declared.state.Phase.{Phase}
 use Rattle.machine.specs.declared.state.Phase.TheVariants.{Start, Using, Found}
 use Rattle.machine.specs.declared.state.ThreadRow.{ThreadRow}
 use Rattle.machine.specs.declared.state.State.{State}
-use Rattle.machine.specs.Rows.{object_of, table_of, owed_of, with_owed}
+use Rattle.machine.specs.Rows.{object_of, table_of, owed_of, with_owed, with_thread}
 use Rattle.machine.specs.Table.{place_at, is_full, look, owner_of, index_of, holder_of}
 use Rattle.machine.specs.References.{total, same, count_of, place_names, option_names, phase_names, owed_names, RefsMove}
 use Rattle.machine.specs.Acted.{Acted, is_last}
@@ -31,14 +33,18 @@ use Rattle.machine.proofs.Cases.{if_cases}
 use Rattle.std.proofs.lemmas.List.{length-set}
 use Rattle.machine.proofs.RefsSteps.{IsActing, answered-refs, with_handle-refs, create_mutex-refs, close-refs, close-answered-refs}
 
+-- a thread that used nothing uses an object
+pub phase-refs : (S : State) (t : ObjNo) (row : ThreadRow) (o : ObjNo) → IsActing S t row → ((p : ObjNo) → phase_names p row.phase ≡ 0) → RefsMove S (with_thread S t (record row { phase = Using o })) (Plus (Temp t) o ∷ [])
+phase-refs S t row o h none = record {
+  each = λ p.
+      let a = count-with_thread S t row (record row { phase = Using o }) p h.is in
+      let b = none p in omega arith;
+}
+
 pub dup_look-refs : (S : State) (t : ObjNo) (row : ThreadRow) (found : Option ObjNo) → IsActing S t row → row.phase ≡ Start → RefsMove S (dup_look S t row found).state (dup_look S t row found).outcome.effects
 unfolding dup_look
 dup_look-refs S t row None h start = answered-refs S t row (Of Dup Look) (negsuc 7) h
-dup_look-refs S t row (Some o) h start = record {
-  each = λ p.
-      let a = count-with_thread S t row (record row { phase = Using o }) p h.is in
-      let b : phase_names p row.phase ≡ 0 = ap (phase_names p) start in omega arith;
-}
+dup_look-refs S t row (Some o) h start = phase-refs S t row o h (λ p. ap (phase_names p) start)
 
 pub dup_do-refs : (S : State) (t : ObjNo) (row : ThreadRow) (o : ObjNo) (y : ℕ) → IsActing S t row → RefsMove S (dup_do S t row o y).state (dup_do S t row o y).outcome.effects
 unfolding dup_do
@@ -67,11 +73,7 @@ unfolding open_return
 open_return-refs S t row o found h phase =
     let P : Acted → Type 0 = λ a. RefsMove S a.state a.outcome.effects in
     if_cases P (is_open (object_of S o)) _ _
-    (λ _. record {
-      each = λ p.
-          let a = count-with_thread S t row (record row { phase = Using o }) p h.is in
-          let b : phase_names p row.phase ≡ 0 = ap (phase_names p) phase in omega arith;
-    })
+    (λ _. phase-refs S t row o h (λ p. ap (phase_names p) phase))
     (λ _. record { each = (answered-refs S t row (Of OpenWord Return) (negsuc 0) h).each })
 
 pub open_do-refs : (S : State) (t : ObjNo) (row : ThreadRow) (o : ObjNo) (x : ℕ) → IsActing S t row → RefsMove S (open_do S t row o x).state (open_do S t row o x).outcome.effects

@@ -23,3 +23,5 @@ pub mod Room
 pub mod Built
 pub mod PlainView
 pub mod TwoHandles
+pub mod Counted
+pub mod Told
