@@ -23,5 +23,4 @@ pub mod Room
 pub mod Built
 pub mod PlainView
 pub mod TwoHandles
-pub mod Counted
 pub mod Told
