@@ -4,3 +4,5 @@ mod Rooms
 mod Goes
 mod ListSteps
 pub mod ReadyQueues
+mod Finds
+mod BootTables

@@ -1,9 +1,9 @@
 -- How kept counts move with one reference more or less.
-use Rattle.std.proofs.Common.{◌≡◌, ◌⊎◌, inl, inr, ℕ, suc, zero, ◌+◌, ◌-◌, ◌<◌, List, [], ◌∷◌, ◌++◌, length, get_or, arith, refl, sym, ap, subst, ◌∙◌, Result, Ok, Err}
+use Rattle.std.proofs.Common.{◌≡◌, ◌⊎◌, inl, inr, ℕ, suc, zero, ◌+◌, ◌-◌, ◌<◌, List, [], ◌∷◌, length, get_or, arith, refl, sym, ap, subst, ◌∙◌, Result, Ok, Err}
 use Rattle.std.specs.Prelude.{slice_set, slice_index, Bool, true, false, IfOk}
 use Rattle.machine.specs.declared.outcome.Outcome.{Outcome}
 use Rattle.std.proofs.lemmas.Bool.{cases_eq}
-use Rattle.std.proofs.lemmas.List.{get_or-set_same, get_or-set_other}
+use Rattle.std.proofs.lemmas.List.{get_or-set_same, get_or-set_other, length-set}
 use Rattle.sym_base.specs.declared.number.ObjNo.{ObjNo}
 use Rattle.entry_log.specs.declared.effect.Holder.{Holder}
 use Rattle.entry_log.specs.declared.effect.Effect.{Effect}
@@ -27,21 +27,17 @@ pub counts-minus : (last : Bool) (counts : List ℕ) (x : ObjNo) (holder : Holde
 counts-minus true counts x holder lt some o = elim (at_one counts x (slice_index counts x.0 - 1) o lt) [ inl h ↦ omega arith | inr h ↦ omega arith ]
 counts-minus false counts x holder lt some o = elim (at_one counts x (slice_index counts x.0 - 1) o lt) [ inl h ↦ omega arith | inr h ↦ omega arith ]
 
-push_at : (counts : List ℕ) (i j : ℕ) → i ≡ length counts → ((j ≡ i) × (get_or (counts ++ 1 ∷ []) j 0 ≡ 1) × (get_or counts j 0 ≡ 0)) ⊎ ((j ≡ i → ⊥) × (get_or (counts ++ 1 ∷ []) j 0 ≡ get_or counts j 0))
-push_at [] i zero e = inl (omega arith, refl, refl)
-push_at [] i (suc j) e = inr (λ q. absurd (omega arith), refl)
-push_at (n ∷ counts) zero j e = absurd (omega arith)
-push_at (n ∷ counts) (suc i) zero e = inr (λ q. absurd (omega arith), refl)
-push_at (n ∷ counts) (suc i) (suc j) e = elim (push_at counts i j (omega arith)) [
-  | inl h ↦ inl (ap suc h.0, h.1, h.2)
-  | inr h ↦ inr (λ q. h.0 (omega arith), h.1)
-]
+pub inside_of : (counts : List ℕ) (i : ℕ) → 0 < get_or counts i 0 → i < length counts
+inside_of [] i h = absurd (omega arith)
+inside_of (n ∷ counts) zero h = omega arith
+inside_of (n ∷ counts) (suc i) h = let r = inside_of counts i h in omega arith
 
-pub counts-push : (counts : List ℕ) (x : ObjNo) (holder : Holder) → x.0 ≡ length counts → CountsMove counts (counts ++ 1 ∷ []) (Plus holder x ∷ [])
-counts-push counts x holder at o = elim (push_at counts x.0 o.0 at) [
-  | inl h ↦ let s : same x o ≡ 1 = ap (λ p. same x p) (sym (same_object x o (sym h.0))) ∙ same_self x in omega arith
-  | inr h ↦ let s = same_other x o (λ q. h.0 (sym q)) in omega arith
-]
+-- the first reference of an object
+pub counts-first : (counts : List ℕ) (x : ObjNo) (holder : Holder) → slice_index counts x.0 ≡ 0 → slice_index (slice_set counts x.0 1) x.0 ≡ 1 → CountsMove counts (slice_set counts x.0 1) (Plus holder x ∷ [])
+counts-first counts x holder none one o =
+    let long = length-set counts x.0 1 in
+    let inside = inside_of (slice_set counts x.0 1) x.0 (omega arith) in
+    elim (at_one counts x 1 o (omega arith)) [ inl h ↦ omega arith | inr h ↦ omega arith ]
 
 pub counts-stay : (counts : List ℕ) → CountsMove counts counts []
 counts-stay counts o = refl
@@ -51,5 +47,7 @@ counts-known (Ok outcome) old new effects moves is = subst (λ (es : List Effect
 counts-known (Err e) old new effects moves is = tt
 
 -- where an object is made with one reference
-pub counts-made : {E : Type 0} (result : Result Outcome E) (old new : List ℕ) (x : ObjNo) (holder : Holder) → x.0 ≡ length old → new ≡ old ++ 1 ∷ [] → IfOk result (λ outcome. outcome.effects ≡ Plus holder x ∷ []) → IfOk result (λ outcome. CountsMove old new outcome.effects)
-counts-made result old new x holder at made is = counts-known result old new (Plus holder x ∷ []) (subst (λ (l : List ℕ). CountsMove old l (Plus holder x ∷ [])) (sym made) (counts-push old x holder at)) is
+pub counts-made : {E : Type 0} (result : Result Outcome E) (old new : List ℕ) (x : ObjNo) (holder : Holder) → new ≡ slice_set old x.0 1 → slice_index old x.0 ≡ 0 → slice_index new x.0 ≡ 1 → IfOk result (λ outcome. outcome.effects ≡ Plus holder x ∷ []) → IfOk result (λ outcome. CountsMove old new outcome.effects)
+counts-made result old new x holder made none one is =
+    let first : slice_index (slice_set old x.0 1) x.0 ≡ 1 = ap (λ (l : List ℕ). slice_index l x.0) (sym made) ∙ one in
+    counts-known result old new (Plus holder x ∷ []) (subst (λ (l : List ℕ). CountsMove old l (Plus holder x ∷ [])) (sym made) (counts-first old x holder none first)) is

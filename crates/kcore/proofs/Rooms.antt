@@ -1,6 +1,8 @@
 -- What well-formed tables have room for.
-use Rattle.std.proofs.Common.{◌≡◌, ℕ, suc, zero, ◌+◌, ◌<◌, ◌≤◌, List, [], ◌∷◌, length, get_or, arith, refl, ap, ◌∙◌, Option, Some, None}
-use Rattle.std.specs.Prelude.{slice_get, slice_index}
+use Rattle.std.proofs.Common.{◌≡◌, inl, inr, ℕ, ◌+◌, ◌<◌, ◌≤◌, List, [], ◌∷◌, length, arith, refl, ap, ◌∙◌, Option, Some, None}
+use Rattle.std.specs.Prelude.{slice_get, slice_index, IsTrue, Bool, true, false}
+use Rattle.std.specs.List.{slice_index_or}
+use Rattle.std.proofs.lemmas.Bool.{cases_lt}
 use Rattle.sym_base.specs.declared.number.ObjNo.{ObjNo}
 use Rattle.script_types.specs.declared.script.Script.{Script}
 use Rattle.script_types.specs.declared.declaration.ThreadDecl.{ThreadDecl}
@@ -13,15 +15,20 @@ use Rattle.machine.specs.declared.state.Phase.TheVariants.{Using}
 use Rattle.machine.specs.declared.state.ThreadRow.{ThreadRow}
 use Rattle.machine.specs.declared.state.State.{State}
 use Rattle.machine.specs.Act.{instructions_of, declared_of}
-use Rattle.machine.specs.Good.{Good, is_dead, owed_sweeps}
+use Rattle.machine.specs.Good.{Good, IsAlive, is_dead, dead_bit, owed_sweeps}
+use Rattle.machine.specs.Open.{is_open}
 use Rattle.machine.specs.References.{total, same, count_of, place_names, option_names, thread_names, phase_names, owed_names}
-use Rattle.machine.specs.Rows.{thread_of, table_of, owed_of}
+use Rattle.machine.specs.Rows.{object_of, thread_of, table_of, owed_of}
 use Rattle.machine.specs.Table.{place_at, fresh_place, look, owner_of, index_of}
 use Rattle.machine.proofs.Totals.{inside, total_at_least}
 use Rattle.machine.proofs.Tables.{look_is, place_inside, table_inside}
 use Rattle.machine.proofs.Live.{same_self, alive_is_some}
 use Rattle.machine.proofs.CountSmall.{count_small}
+use Rattle.machine.proofs.KeepsSteps.{is_open_alive}
+use Rattle.objects.specs.Rows.{is_there}
+use Rattle.state_rows.specs.ObjectRows.{is_dead_row}
 use Rattle.kcore.specs.declared.tables.Tables.{Tables}
+use Rattle.kcore.specs.ObjectsView.{IsHeld}
 use Rattle.kcore.specs.Standing.{AreGood, IsStanding}
 use Rattle.kcore.specs.StateOf.{state_of, HasRows}
 
@@ -33,7 +40,7 @@ instructions_few : (script : Script) → IsShaped script → (declared : Option 
 instructions_few script shaped None = omega arith
 instructions_few script shaped (Some k) = few_of script shaped k (slice_get script.threads k) refl
 
-pub has_rows : (script : Script) (tables : Tables) (t : ObjNo) (row : ThreadRow) → IsStanding script tables t row → HasRows tables t row
+pub has_rows : {W N : Type 0} (script : Script) (tables : Tables W N) (t : ObjNo) (row : ThreadRow) → IsStanding script tables t row → HasRows tables t row
 has_rows script tables t row h =
     let g = h.tables_good.good in
     let there = inside tables.threads t.0 row h.is in
@@ -44,15 +51,35 @@ has_rows script tables t row h =
     let b = g.duties in
     record { process = good_row.process; own = omega arith; thread = there; duties = omega arith; place = omega arith }
 
--- a counted object is made, and its kept count is small and not 0
-pub made : (script : Script) (tables : Tables) (o : ObjNo) → AreGood script tables → 0 < count_of (state_of tables) o → o.0 < length tables.objects.rows
-made script tables o h counted = alive_is_some tables.objects.rows o.0 (h.good.alive o counted)
+-- an object that is alive isn't swept
+alive_there : (row : Option ObjectRow) → IsAlive row → IsTrue (is_there row)
+alive_there None h = absurd h
+alive_there (Some row) h = refl
 
-pub kept_some : (script : Script) (tables : Tables) (o : ObjNo) → AreGood script tables → 0 < count_of (state_of tables) o → 0 < slice_index tables.objects.counts o.0
-kept_some script tables o h counted = let e = h.agree o in omega arith
+-- a counted object isn't swept, and its kept count is small and not 0
+pub held : {W N : Type 0} (script : Script) (tables : Tables W N) (o : ObjNo) → AreGood script tables → 0 < count_of (state_of tables) o → IsHeld tables.objects o
+held script tables o h counted =
+    let e = h.agree o in
+    let small = count_small script (state_of tables) h.good o in
+    record {
+      there = alive_there (slice_index_or tables.objects.rows o.0 None) (h.good.alive o counted);
+      known = omega arith;
+      few = omega arith;
+    }
 
-pub kept_small : (script : Script) (tables : Tables) (o : ObjNo) → AreGood script tables → slice_index tables.objects.counts o.0 < 2147483648
-kept_small script tables o h = let e = h.agree o in let small = count_small script (state_of tables) h.good o in omega arith
+-- an object that may be opened is held
+pub open_held : {W N : Type 0} (script : Script) (tables : Tables W N) (o : ObjNo) → AreGood script tables → is_open (slice_index_or tables.objects.rows o.0 None) ≡ true → IsHeld tables.objects o
+open_held script tables o h e = held script tables o h (h.counted o (is_open_alive (slice_index_or tables.objects.rows o.0 None) e))
+
+-- the next object has no count yet
+pub next_fresh : {W N : Type 0} (script : Script) (tables : Tables W N) → AreGood script tables → slice_index tables.objects.counts (length tables.objects.rows) ≡ 0
+next_fresh script tables h =
+    let next : ObjNo = record { 0 = length tables.objects.rows } in
+    let e = h.agree next in
+    elim (cases_lt 0 (count_of (state_of tables) next)) [
+      | inl some ↦ let lt = alive_is_some tables.objects.rows (length tables.objects.rows) (h.good.alive next some) in absurd (omega arith)
+      | inr none ↦ omega arith
+    ]
 
 -- an object that a handle names is counted
 pub look_counted : (S : State) (t : ObjNo) (row : ThreadRow) (handle : ℕ) (o : ObjNo) → look S t row handle ≡ Some o → 0 < count_of S o
@@ -93,23 +120,26 @@ owed_counted S t holder o rest lt is =
     let self = same_self o in
     omega arith
 
-dead_inside : (objects : List (Option ObjectRow)) (i : ℕ) → 0 < is_dead (get_or objects i None) → i < length objects
-dead_inside [] i h = absurd (omega arith)
-dead_inside (x ∷ xs) zero h = omega arith
-dead_inside (x ∷ xs) (suc i) h = let r = dead_inside xs i h in omega arith
+bit_true : (b : Bool) → 0 < dead_bit b → b ≡ true
+bit_true true h = refl
+bit_true false h = absurd (omega arith)
 
--- an object whose sweep is owed is made
-pub swept_made : (script : Script) (S : State) (t o : ObjNo) (rest : List Owed) → Good script S → t.0 < length S.owed → owed_of S t ≡ Sweep o ∷ rest → o.0 < length S.objects
-swept_made script S t o rest g lt is =
+counted_dead : (row : Option ObjectRow) → 0 < is_dead row → IsTrue (is_dead_row row)
+counted_dead None h = absurd (omega arith)
+counted_dead (Some row) h = bit_true row.dead h
+
+-- an object whose sweep is owed is dead
+pub swept_dead : (script : Script) (S : State) (t o : ObjNo) (rest : List Owed) → Good script S → t.0 < length S.owed → owed_of S t ≡ Sweep o ∷ rest → IsTrue (is_dead_row (object_of S o))
+swept_dead script S t o rest g lt is =
     let at = total_at_least (total (owed_sweeps o)) S.owed t.0 [] lt in
     let was : total (owed_sweeps o) (owed_of S t) ≡ same o o + total (owed_sweeps o) rest = ap (total (owed_sweeps o)) is in
     let self = same_self o in
     let dead = g.sweeps o in
-    dead_inside S.objects o.0 (omega arith)
+    counted_dead (object_of S o) (omega arith)
 
 -- the same of what is owed first, by another name
 pub owed_counted_by : (S : State) (t : ObjNo) (holder : Holder) (o : ObjNo) (what : Owed) (rest : List Owed) → t.0 < length S.owed → what ≡ Close holder o → owed_of S t ≡ what ∷ rest → 0 < count_of S o
 owed_counted_by S t holder o what rest lt is first = owed_counted S t holder o rest lt (first ∙ ap (λ x. x ∷ rest) is)
 
-pub swept_made_by : (script : Script) (S : State) (t o : ObjNo) (what : Owed) (rest : List Owed) → Good script S → t.0 < length S.owed → what ≡ Sweep o → owed_of S t ≡ what ∷ rest → o.0 < length S.objects
-swept_made_by script S t o what rest g lt is first = swept_made script S t o rest g lt (first ∙ ap (λ x. x ∷ rest) is)
+pub swept_dead_by : (script : Script) (S : State) (t o : ObjNo) (what : Owed) (rest : List Owed) → Good script S → t.0 < length S.owed → what ≡ Sweep o → owed_of S t ≡ what ∷ rest → IsTrue (is_dead_row (object_of S o))
+swept_dead_by script S t o what rest g lt is first = swept_dead script S t o rest g lt (first ∙ ap (λ x. x ∷ rest) is)

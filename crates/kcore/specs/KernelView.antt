@@ -16,12 +16,12 @@ pub record KernelView : Type 0 where
 
 -- The script is valid, the history is a legal one of it, and the tables stand for the state after it,
 -- with the counts of that state.
-pub record Stands (script : Script) (history : List Entry) (tables : Tables) : Type 0 where
+pub record Stands {W N : Type 0} (script : Script) (history : List Entry) (tables : Tables W N) : Type 0 where
   pub plain : IsPlain script history (state_of tables)
   pub agree : Agrees tables.objects.counts (state_of tables)
 
 -- a kernel that may be used stands for its history, and there is room for its entries
-pub record IsKernel (script : Script) (history : List Entry) (tables : Tables) (room capacity : ℕ) (usable : Bool) : Type 0 where
+pub record IsKernel {W N : Type 0} (script : Script) (history : List Entry) (tables : Tables W N) (room capacity : ℕ) (usable : Bool) : Type 0 where
   pub fits : room ≤ capacity
   pub few : room ≤ 131072
   pub stands : usable ≡ true → Stands script history tables

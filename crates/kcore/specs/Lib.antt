@@ -6,3 +6,4 @@ pub mod StateOf
 pub mod ReadyPairs
 pub mod KernelView
 pub mod Standing
+pub mod BootTable

@@ -1,15 +1,17 @@
 -- What a contract sees of the table of objects.
-use Rattle.std.specs.Prelude.{◌≡◌, ℕ, ◌≤◌, List, length, Option}
+use Rattle.std.specs.Prelude.{ℕ, ◌<◌, List, Option, None, IsTrue, slice_index}
+use Rattle.std.specs.List.{slice_index_or}
+use Rattle.sym_base.specs.declared.number.ObjNo.{ObjNo}
+use Rattle.objects.specs.Rows.{is_there}
 use Rattle.state_rows.specs.declared.object.ObjectRow.{ObjectRow}
 
--- the row of each object that was made, None once it is swept, and its count
+-- the row of each object that was made, None once it is swept, and the counts of references by number
 pub record ObjectsView : Type 0 where
   pub rows : List (Option ObjectRow)
   pub counts : List ℕ
 
--- each object has a count, and there is room for 4,096 without taking memory
-pub record HasCounts (rows : List (Option ObjectRow)) (counts : List ℕ) (row_room count_room : ℕ) : Type 0 where
-  pub each : length counts ≡ length rows
-  pub few : length rows ≤ 4096
-  pub rows_fit : 4096 ≤ row_room
-  pub counts_fit : 4096 ≤ count_room
+-- an object that isn't swept and has references, so many that one more may come
+pub record IsHeld (objects : ObjectsView) (o : ObjNo) : Type 0 where
+  pub there : IsTrue (is_there (slice_index_or objects.rows o.0 None))
+  pub known : 0 < slice_index objects.counts o.0
+  pub few : slice_index objects.counts o.0 < 2147483648

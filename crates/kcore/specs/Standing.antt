@@ -4,19 +4,21 @@ use Rattle.sym_base.specs.declared.number.ObjNo.{ObjNo}
 use Rattle.script_types.specs.declared.script.Script.{Script}
 use Rattle.script_types.specs.Shape.{IsShaped}
 use Rattle.machine.specs.declared.state.ThreadRow.{ThreadRow}
+use Rattle.machine.specs.Counted.{Counted}
 use Rattle.machine.specs.Good.{Good}
 use Rattle.machine.specs.Rows.{thread_of}
 use Rattle.kcore.specs.declared.tables.Tables.{Tables}
 use Rattle.kcore.specs.Counts.{Agrees}
 use Rattle.kcore.specs.StateOf.{state_of}
 
--- the state is well-formed, and the kept counts are its counts
-pub record AreGood (script : Script) (tables : Tables) : Type 0 where
+-- the state is well-formed, each object that isn't dead has a reference, and the kept counts are its counts
+pub record AreGood {W N : Type 0} (script : Script) (tables : Tables W N) : Type 0 where
   pub shaped : IsShaped script
   pub good : Good script (state_of tables)
+  pub counted : Counted (state_of tables)
   pub agree : Agrees tables.objects.counts (state_of tables)
 
 -- the thread has this row
-pub record IsStanding (script : Script) (tables : Tables) (t : ObjNo) (row : ThreadRow) : Type 0 where
+pub record IsStanding {W N : Type 0} (script : Script) (tables : Tables W N) (t : ObjNo) (row : ThreadRow) : Type 0 where
   pub tables_good : AreGood script tables
   pub is : thread_of (state_of tables) t ≡ Some row

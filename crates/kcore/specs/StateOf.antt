@@ -6,11 +6,11 @@ use Rattle.machine.specs.declared.state.State.{State}
 use Rattle.kcore.specs.declared.tables.Tables.{Tables}
 
 -- each field of the state is the value of one table
-abbrev pub state_of : Tables → State
+abbrev pub state_of : {W N : Type 0} → Tables W N → State
 state_of tables = record { objects = tables.objects.rows; handles = tables.handles; threads = tables.threads; ready = tables.ready; owed = tables.owed }
 
 -- the tables have a row for each number that a thread's step speaks of
-pub record HasRows (tables : Tables) (t : ObjNo) (row : ThreadRow) : Type 0 where
+pub record HasRows {W N : Type 0} (tables : Tables W N) (t : ObjNo) (row : ThreadRow) : Type 0 where
   pub process : row.process.0 < length tables.handles
   pub own : t.0 < length tables.handles
   pub thread : t.0 < length tables.threads

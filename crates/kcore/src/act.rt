@@ -22,11 +22,12 @@ use crate::pay::{pay_close, pay_sweep};
 use crate::tables::{Tables, first_owed};
 use entry_log::{Actor, Effects, Step};
 use machine::{Outcome, Owed, Phase, ThreadRow};
+use ref_words::RefWords;
 use script_types::{Instr, Script};
 use sym_base::{Kind, Name, NoMemory, ObjNo, ThreadNo};
 
 /// Nobody acts.
-fn nothing(tables: &Tables) -> Outcome
+fn nothing<W: RefWords + Drop>(tables: &Tables<W>) -> Outcome
     ensures state { acted (state_of tables.now) result ≡ nothing (state_of tables.now) }
     ensures counts { CountsMove tables.now.objects.counts tables.now.objects.counts result.effects }
 {
@@ -38,7 +39,12 @@ fn nothing(tables: &Tables) -> Outcome
 }
 
 /// The object that a thread's handle names.
-fn look(tables: &Tables, thread: ThreadNo, row: &ThreadRow, handle: u32) -> Option<ObjNo>
+fn look<W: RefWords + Drop>(
+    tables: &Tables<W>,
+    thread: ThreadNo,
+    row: &ThreadRow,
+    handle: u32,
+) -> Option<ObjNo>
     requires { HasRows tables.now thread row.now }
     ensures { result ≡ look (state_of tables.now) thread row.now handle }
 {
@@ -50,9 +56,9 @@ fn look(tables: &Tables, thread: ThreadNo, row: &ThreadRow, handle: u32) -> Opti
 }
 
 /// A step of `dup`.
-fn dup_step(
+fn dup_step<W: RefWords + Drop>(
     script: &Script,
-    tables: &mut Tables,
+    tables: &mut Tables<W>,
     thread: ThreadNo,
     row: ThreadRow,
     from: u8,
@@ -75,9 +81,9 @@ fn dup_step(
 }
 
 /// A step of `open`.
-fn open_step(
+fn open_step<W: RefWords + Drop>(
     script: &Script,
-    tables: &mut Tables,
+    tables: &mut Tables<W>,
     thread: ThreadNo,
     row: ThreadRow,
     kind: Kind,
@@ -100,9 +106,9 @@ fn open_step(
 }
 
 /// Closes the handle in a register.
-fn close_step(
+fn close_step<W: RefWords + Drop>(
     script: &Script,
-    tables: &mut Tables,
+    tables: &mut Tables<W>,
     thread: ThreadNo,
     row: ThreadRow,
     register: u8,
@@ -118,9 +124,9 @@ fn close_step(
 }
 
 /// A step of an instruction.
-fn instruction_step(
+fn instruction_step<W: RefWords + Drop>(
     script: &Script,
-    tables: &mut Tables,
+    tables: &mut Tables<W>,
     thread: ThreadNo,
     row: ThreadRow,
     instr: Instr,
@@ -141,9 +147,9 @@ fn instruction_step(
 }
 
 /// Pays the oldest item that a thread owes.
-fn pay(
+fn pay<W: RefWords + Drop>(
     script: &Script,
-    tables: &mut Tables,
+    tables: &mut Tables<W>,
     thread: ThreadNo,
     what: Owed,
 ) -> Result<Outcome, NoMemory>
@@ -161,9 +167,9 @@ fn pay(
 
 /// The step that the thread of this row makes. What is owed comes first.
 #[tactic(auto, using(machine::proofs::RoomLaws::has_registers))]
-fn act_by(
+fn act_by<W: RefWords + Drop>(
     script: &Script,
-    tables: &mut Tables,
+    tables: &mut Tables<W>,
     thread: ThreadNo,
     row: ThreadRow,
 ) -> Result<Outcome, NoMemory>
@@ -181,7 +187,11 @@ fn act_by(
 }
 
 /// The step that the thread of this number makes.
-fn act_of(script: &Script, tables: &mut Tables, thread: ThreadNo) -> Result<Outcome, NoMemory>
+fn act_of<W: RefWords + Drop>(
+    script: &Script,
+    tables: &mut Tables<W>,
+    thread: ThreadNo,
+) -> Result<Outcome, NoMemory>
     requires { AreGood script.now tables.old }
     ensures state { IfOk result (λ outcome. acted (state_of tables.new) outcome ≡ act_of script.now (state_of tables.old) thread (thread_of (state_of tables.old) thread)) }
     ensures counts { IfOk result (λ outcome. CountsMove tables.old.objects.counts tables.new.objects.counts outcome.effects) }
@@ -193,7 +203,7 @@ fn act_of(script: &Script, tables: &mut Tables, thread: ThreadNo) -> Result<Outc
 }
 
 /// The row of the thread of this number.
-fn thread_row(tables: &Tables, thread: ThreadNo) -> Option<ThreadRow>
+fn thread_row<W: RefWords + Drop>(tables: &Tables<W>, thread: ThreadNo) -> Option<ThreadRow>
     ensures { result ≡ thread_of (state_of tables.now) thread }
 {
     let at = thread.0 as usize;
@@ -205,7 +215,7 @@ fn thread_row(tables: &Tables, thread: ThreadNo) -> Option<ThreadRow>
 }
 
 /// Whether a thread has something to do: it owes something, or isn't at its list's end.
-fn is_ready(script: &Script, tables: &Tables, thread: ThreadNo) -> bool
+pub fn is_ready<W: RefWords + Drop>(script: &Script, tables: &Tables<W>, thread: ThreadNo) -> bool
     ensures { result ≡ is_ready script.now (state_of tables.now) thread }
 {
     let Some(row) = thread_row(tables, thread) else {
@@ -218,7 +228,7 @@ fn is_ready(script: &Script, tables: &Tables, thread: ThreadNo) -> bool
 
 /// A thread that has nothing left to do leaves the ready list.
 #[tactic(auto, unfolding(machine::specs::Act::settled))]
-fn settle(script: &Script, tables: &mut Tables, thread: ThreadNo)
+fn settle<W: RefWords + Drop>(script: &Script, tables: &mut Tables<W>, thread: ThreadNo)
     ensures state { state_of tables.new ≡ settled script.now thread (state_of tables.old) }
     ensures counts { tables.new.objects.counts ≡ tables.old.objects.counts }
 {
@@ -229,7 +239,11 @@ fn settle(script: &Script, tables: &mut Tables, thread: ThreadNo)
 
 /// An action of a thread.
 #[tactic(auto, unfolding(machine::specs::Act::act))]
-fn act(script: &Script, tables: &mut Tables, thread: ThreadNo) -> Result<Outcome, NoMemory>
+fn act<W: RefWords + Drop>(
+    script: &Script,
+    tables: &mut Tables<W>,
+    thread: ThreadNo,
+) -> Result<Outcome, NoMemory>
     requires { AreGood script.now tables.old }
     ensures state { IfOk result (λ outcome. acted (state_of tables.new) outcome ≡ act script.now (state_of tables.old) thread) }
     ensures counts { IfOk result (λ outcome. CountsMove tables.old.objects.counts tables.new.objects.counts outcome.effects) }
@@ -241,7 +255,7 @@ fn act(script: &Script, tables: &mut Tables, thread: ThreadNo) -> Result<Outcome
 
 /// The end of a time slice.
 #[tactic(auto, unfolding(machine::specs::Tick::tick))]
-fn tick(tables: &mut Tables) -> Result<Outcome, NoMemory>
+fn tick<W: RefWords + Drop>(tables: &mut Tables<W>) -> Result<Outcome, NoMemory>
     ensures state { IfOk result (λ outcome. acted (state_of tables.new) outcome ≡ tick (state_of tables.old)) }
     ensures counts { IfOk result (λ outcome. CountsMove tables.old.objects.counts tables.new.objects.counts outcome.effects) }
 {
@@ -254,7 +268,11 @@ fn tick(tables: &mut Tables) -> Result<Outcome, NoMemory>
 }
 
 /// An action of an actor. Interrupts and deferred calls do nothing yet.
-pub fn acted_by(script: &Script, tables: &mut Tables, actor: Actor) -> Result<Outcome, NoMemory>
+pub fn acted_by<W: RefWords + Drop>(
+    script: &Script,
+    tables: &mut Tables<W>,
+    actor: Actor,
+) -> Result<Outcome, NoMemory>
     requires { AreGood script.now tables.old }
     ensures state { IfOk result (λ outcome. acted (state_of tables.new) outcome ≡ acted_by script.now (state_of tables.old) actor) }
     ensures counts { IfOk result (λ outcome. CountsMove tables.old.objects.counts tables.new.objects.counts outcome.effects) }

@@ -6,16 +6,21 @@ ghost use Rattle.machine.specs.ActedBy.{acted};
 ghost use Rattle.machine.specs.Create.{with_handle};
 ghost use Rattle.machine.specs.Rows.{owing};
 ghost use Rattle.machine.specs.Table.{is_full};
+ghost use Rattle.kcore.specs.ObjectsView.{IsHeld};
 ghost use Rattle.kcore.specs.StateOf.{state_of, HasRows};
 
-use crate::objects::Closed;
 use crate::tables::{Tables, owe};
 use entry_log::{Effect, Effects, Holder, Step};
 use machine::{Outcome, Owed, Phase, ThreadRow};
+use ref_words::{Closed, RefWords};
 use sym_base::{NoMemory, ObjNo, ThreadNo};
 
 /// The thread owes the close of what its instruction used.
-fn owe_use(tables: &mut Tables, thread: ThreadNo, phase: Phase) -> Result<(), NoMemory>
+fn owe_use<W: RefWords + Drop>(
+    tables: &mut Tables<W>,
+    thread: ThreadNo,
+    phase: Phase,
+) -> Result<(), NoMemory>
     requires { thread.0 < length tables.old.owed }
     ensures state { OnOk result (state_of tables.new ≡ owing (state_of tables.old) thread (owed_use thread phase)) }
     ensures counts { tables.new.objects.counts ≡ tables.old.objects.counts }
@@ -32,8 +37,8 @@ fn owe_use(tables: &mut Tables, thread: ThreadNo, phase: Phase) -> Result<(), No
 
 /// The step answers: the thread is at its next instruction, and owes the close of what it used.
 #[tactic(auto, unfolding(machine::specs::Acted::answered_state))]
-pub fn answered(
-    tables: &mut Tables,
+pub fn answered<W: RefWords + Drop>(
+    tables: &mut Tables<W>,
     thread: ThreadNo,
     row: ThreadRow,
     step: Step,
@@ -58,8 +63,8 @@ pub fn answered(
 
 /// A new handle in the process's table goes to a register and is answered. The object has the
 /// handle's reference already.
-pub fn with_handle(
-    tables: &mut Tables,
+pub fn with_handle<W: RefWords + Drop>(
+    tables: &mut Tables<W>,
     thread: ThreadNo,
     row: ThreadRow,
     step: Step,
@@ -90,9 +95,12 @@ pub fn with_handle(
 }
 
 /// A reference to an object goes. The thread owes the sweep where it was the last.
-pub fn close(tables: &mut Tables, thread: ThreadNo, object: ObjNo) -> Result<(), NoMemory>
-    requires made { object.0 < length tables.old.objects.rows }
-    requires counted { 0 < slice_index tables.old.objects.counts object.0 }
+pub fn close<W: RefWords + Drop>(
+    tables: &mut Tables<W>,
+    thread: ThreadNo,
+    object: ObjNo,
+) -> Result<(), NoMemory>
+    requires held { IsHeld tables.old.objects object }
     requires duties { thread.0 < length tables.old.owed }
     ensures state { let last = slice_index tables.old.objects.counts object.0 == 1 in OnOk result (state_of tables.new ≡ owing (after_close last object (state_of tables.old)) thread (owed_after_close last object)) }
     ensures counts { tables.new.objects.counts ≡ slice_set tables.old.objects.counts object.0 (slice_index tables.old.objects.counts object.0 - 1) }

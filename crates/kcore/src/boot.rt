@@ -1,34 +1,62 @@
 //! The tables at boot.
-ghost use Rattle.std.specs.Prelude.{◌≡◌, ℕ, ◌<◌, ◌≤◌, length, map, replicate, IfOk, slice_index};
+ghost use Rattle.std.specs.Prelude.{◌≡◌, ◌<◌, ◌≤◌, ◌++◌, [], ◌∷◌, Some, false, length, map, replicate, IfOk, slice_index, slice_set};
 ghost use Rattle.sym_base.specs.declared.number.ObjNo.{ObjNo};
-ghost use Rattle.script_types.specs.Shape.{IsShaped};
+ghost use Rattle.script_types.specs.WiderGrammar.{IsValidWider};
 ghost use Rattle.machine.specs.Boot.{boot};
 ghost use Rattle.machine.specs.References.{count_of};
 ghost use Rattle.machine.specs.Table.{fresh_place};
+ghost use Rattle.kcore.specs.BootTable.{IsUnused, AreNew, FirstStand};
 ghost use Rattle.kcore.specs.Counts.{Agrees};
+ghost use Rattle.state_rows.specs.ObjectRows.{has_name, is_session};
+ghost use Rattle.std.specs.List.{list_any};
 ghost use Rattle.kcore.specs.StateOf.{state_of};
 
 use crate::handles::Handles;
-use crate::objects::Objects;
+use crate::object_table::ObjectTable;
 use crate::ready::Ready;
 use crate::tables::Tables;
 use machine::{Born, State, all_born, boot_of, count_of};
+use ref_words::RefWords;
 use script_types::Script;
+use state_rows::ObjectRow;
 use std::alloc::Global;
 use sym_base::{Items, NoMemory, ObjNo};
 
-/// The objects of a state, each with the number of its references.
-fn counted(alloc: Global, state: &State) -> Result<Objects, NoMemory>
-    requires few { length state.now.objects ≤ 4096 }
-    requires small { (o : ObjNo) → count_of state.now o < 65536 }
-    ensures rows { IfOk result (λ objects. objects.rows ≡ state.now.objects) }
-    ensures size { IfOk result (λ objects. length objects.counts ≡ length state.now.objects) }
-    ensures counts { IfOk result (λ objects. (k : ℕ) → k < length state.now.objects → slice_index objects.counts k ≡ count_of state.now (record { 0 = k })) }
+/// An object with so many references, at least one.
+fn make_counted<W: RefWords + Drop>(objects: &mut ObjectTable<W>, row: &ObjectRow, count: u32)
+    requires named { is_session row.now.kind ≡ false }
+    requires alive { row.now.dead ≡ false }
+    requires fresh { list_any (has_name row.now.kind row.now.name) objects.old.rows ≡ false }
+    requires room { length objects.old.rows < 4096 }
+    requires some { 0 < count }
+    requires small { count < 65536 }
+    ensures rows { objects.new.rows ≡ objects.old.rows ++ Some row.now ∷ [] }
+    ensures counts { objects.new.counts ≡ slice_set objects.old.counts (length objects.old.rows) count }
+    ensures last { slice_index objects.new.counts (length objects.old.rows) ≡ count }
 {
-    let mut objects = Objects::new(alloc)?;
-    for number in 0..state.objects.len() as u16 {
-        let count = count_of(state, ObjNo(number));
-        objects.make(state.objects.get(number as usize), count);
+    let object = objects.make(row.kind, &row.name);
+    for _held in 1..count {
+        objects.add_ref(object);
+    }
+}
+
+/// The objects at boot, each with the number of its references.
+fn counted<W: RefWords + Drop>(
+    alloc: Global,
+    words: W,
+    all: &[Born],
+    state: &State,
+) -> Result<ObjectTable<W>, NoMemory>
+    requires unused { IsUnused (W.meaning words) }
+    requires few { length all.now ≤ 4096 }
+    requires small { (o : ObjNo) → count_of state.now o < 65536 }
+    requires born { AreNew all.now state.now }
+    ensures { IfOk result (λ objects. FirstStand all.now state.now objects.rows objects.counts (length all.now)) }
+{
+    let mut objects = ObjectTable::new(alloc, words)?;
+    for (number, born) in all.iter().enumerate() {
+        let count = count_of(state, ObjNo(number as u16));
+        make_counted(&mut objects, &born.object, count);
     }
     Ok(objects)
 }
@@ -46,15 +74,20 @@ fn fresh_handles(alloc: Global, all: &[Born]) -> Result<Items<Handles>, NoMemory
 
 /// The tables at boot.
 #[tactic(auto, unfolding(machine::specs::Boot::boot_of))]
-pub fn boot(alloc: Global, script: &Script) -> Result<Tables, NoMemory>
-    requires { IsShaped script.now }
+pub fn boot<W: RefWords + Drop>(
+    alloc: Global,
+    script: &Script,
+    words: W,
+) -> Result<Tables<W>, NoMemory>
+    requires valid { IsValidWider script.now }
+    requires unused { IsUnused (W.meaning words) }
     ensures state { IfOk result (λ tables. state_of tables ≡ boot script.now) }
     ensures agree { IfOk result (λ tables. Agrees tables.objects.counts (boot script.now)) }
 {
     let all = all_born(alloc, script)?;
     let handles = fresh_handles(alloc, all.as_slice())?;
     let state = boot_of(alloc, all.as_slice())?;
-    let objects = counted(alloc, &state)?;
+    let objects = counted(alloc, words, all.as_slice(), &state)?;
     Ok(Tables {
         objects,
         handles,

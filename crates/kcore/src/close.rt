@@ -5,12 +5,14 @@ ghost use Rattle.machine.specs.Close.{close_do};
 ghost use Rattle.machine.specs.References.{count_of};
 ghost use Rattle.machine.specs.Table.{index_of, owner_of};
 ghost use Rattle.kcore.specs.Counts.{Agrees, CountsMove};
+ghost use Rattle.kcore.specs.ObjectsView.{IsHeld};
 ghost use Rattle.kcore.specs.StateOf.{state_of, HasRows};
 
 use crate::answer::{answered, close};
 use crate::tables::Tables;
 use entry_log::{Effects, Part, Step, Word};
 use machine::{Outcome, ThreadRow};
+use ref_words::RefWords;
 use sym_base::{NoMemory, ObjNo, ThreadNo};
 
 const STEP: Step = Step::Of(Word::Close, Part::Do);
@@ -20,8 +22,8 @@ const BAD_HANDLE: i32 = -8;
 
 /// The handle and its reference go, where there is such a handle.
 #[tactic(auto, unfolding(machine::specs::Close::close_do))]
-pub fn close_do(
-    tables: &mut Tables,
+pub fn close_do<W: RefWords + Drop>(
+    tables: &mut Tables<W>,
     thread: ThreadNo,
     row: ThreadRow,
     handle: u32,
@@ -30,8 +32,7 @@ pub fn close_do(
     requires rows { HasRows tables.old thread row }
     requires agree { Agrees tables.old.objects.counts (state_of tables.old) }
     requires index { (o : ObjNo) → found ≡ Some o → index_of handle < 256 }
-    requires made { (o : ObjNo) → found ≡ Some o → o.0 < length tables.old.objects.rows }
-    requires counted { (o : ObjNo) → found ≡ Some o → 0 < slice_index tables.old.objects.counts o.0 }
+    requires held { (o : ObjNo) → found ≡ Some o → IsHeld tables.old.objects o }
     ensures state { IfOk result (λ outcome. acted (state_of tables.new) outcome ≡ close_do (state_of tables.old) thread row handle found) }
     ensures counts { IfOk result (λ outcome. CountsMove tables.old.objects.counts tables.new.objects.counts outcome.effects) }
 {

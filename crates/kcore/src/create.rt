@@ -1,5 +1,5 @@
 //! `create`: a new object and a handle of it.
-ghost use Rattle.std.specs.Prelude.{◌≡◌, ◌<◌, IfOk};
+ghost use Rattle.std.specs.Prelude.{◌≡◌, ◌<◌, length, IfOk, slice_index};
 ghost use Rattle.machine.specs.ActedBy.{acted};
 ghost use Rattle.machine.specs.Create.{create_mutex, made};
 ghost use Rattle.kcore.specs.Counts.{CountsMove};
@@ -8,7 +8,8 @@ ghost use Rattle.kcore.specs.StateOf.{state_of, HasRows};
 use crate::answer::{answered, with_handle};
 use crate::tables::Tables;
 use entry_log::{Effects, Part, Step, Word};
-use machine::{ObjectRow, Outcome, ThreadRow};
+use machine::{Outcome, ThreadRow};
+use ref_words::RefWords;
 use sym_base::{Kind, Name, NoMemory, ThreadNo};
 
 const STEP: Step = Step::Of(Word::Create, Part::Do);
@@ -21,8 +22,8 @@ const OVERFLOW: i32 = -9;
 
 /// A new mutex and a handle of it, where the name is free and there is room for both.
 #[tactic(auto, unfolding(machine::specs::Create::create_mutex))]
-pub fn create_mutex(
-    tables: &mut Tables,
+pub fn create_mutex<W: RefWords + Drop>(
+    tables: &mut Tables<W>,
     thread: ThreadNo,
     row: ThreadRow,
     name: Name,
@@ -30,6 +31,7 @@ pub fn create_mutex(
 ) -> Result<Outcome, NoMemory>
     requires rows { HasRows tables.old thread row }
     requires register { register < 8 }
+    requires fresh { slice_index tables.old.objects.counts (length tables.old.objects.rows) ≡ 0 }
     ensures state { IfOk result (λ outcome. acted (state_of tables.new) outcome ≡ create_mutex (state_of tables.old) thread row name register) }
     ensures counts { IfOk result (λ outcome. CountsMove tables.old.objects.counts tables.new.objects.counts outcome.effects) }
 {
@@ -39,11 +41,6 @@ pub fn create_mutex(
     if tables.objects.is_full() || tables.handles.as_slice()[row.process.0 as usize].is_full() {
         return answered(tables, thread, row, STEP, Effects::new(), OVERFLOW);
     }
-    let mutex = ObjectRow {
-        kind: Kind::Mutex,
-        name,
-        dead: false,
-    };
-    let object = tables.objects.make(Some(mutex), 1);
+    let object = tables.objects.make(Kind::Mutex, &name);
     with_handle(tables, thread, row, STEP, object, register)
 }

@@ -3,12 +3,14 @@ ghost use Rattle.std.specs.Prelude.{◌≡◌, ◌<◌, Some, length, IfOk, slic
 ghost use Rattle.machine.specs.ActedBy.{acted};
 ghost use Rattle.machine.specs.Dup.{dup_look, dup_do};
 ghost use Rattle.kcore.specs.Counts.{CountsMove};
+ghost use Rattle.kcore.specs.ObjectsView.{IsHeld};
 ghost use Rattle.kcore.specs.StateOf.{state_of, HasRows};
 
 use crate::answer::{answered, with_handle};
 use crate::tables::Tables;
 use entry_log::{Effect, Effects, Holder, Part, Step, Word};
 use machine::{Outcome, Phase, ThreadRow};
+use ref_words::RefWords;
 use sym_base::{NoMemory, ObjNo, ThreadNo};
 
 const LOOK: Step = Step::Of(Word::Dup, Part::Look);
@@ -26,15 +28,14 @@ const PERMISSION_DENIED: i32 = -46;
 
 /// The first step: the thread uses the object that the handle names.
 #[tactic(auto, unfolding(machine::specs::Dup::dup_look))]
-pub fn dup_look(
-    tables: &mut Tables,
+pub fn dup_look<W: RefWords + Drop>(
+    tables: &mut Tables<W>,
     thread: ThreadNo,
     row: ThreadRow,
     found: Option<ObjNo>,
 ) -> Result<Outcome, NoMemory>
     requires rows { HasRows tables.old thread row }
-    requires made { (o : ObjNo) → found ≡ Some o → o.0 < length tables.old.objects.rows }
-    requires few { (o : ObjNo) → found ≡ Some o → slice_index tables.old.objects.counts o.0 < 2147483648 }
+    requires held { (o : ObjNo) → found ≡ Some o → IsHeld tables.old.objects o }
     ensures state { IfOk result (λ outcome. acted (state_of tables.new) outcome ≡ dup_look (state_of tables.old) thread row found) }
     ensures counts { IfOk result (λ outcome. CountsMove tables.old.objects.counts tables.new.objects.counts outcome.effects) }
 {
@@ -56,16 +57,15 @@ pub fn dup_look(
 
 /// The second step: one handle more of the object.
 #[tactic(auto, unfolding(machine::specs::Dup::dup_do))]
-pub fn dup_do(
-    tables: &mut Tables,
+pub fn dup_do<W: RefWords + Drop>(
+    tables: &mut Tables<W>,
     thread: ThreadNo,
     row: ThreadRow,
     object: ObjNo,
     to: u8,
 ) -> Result<Outcome, NoMemory>
     requires rows { HasRows tables.old thread row }
-    requires made { object.0 < length tables.old.objects.rows }
-    requires few { slice_index tables.old.objects.counts object.0 < 2147483648 }
+    requires held { IsHeld tables.old.objects object }
     requires register { to < 8 }
     ensures state { IfOk result (λ outcome. acted (state_of tables.new) outcome ≡ dup_do (state_of tables.old) thread row object to) }
     ensures counts { IfOk result (λ outcome. CountsMove tables.old.objects.counts tables.new.objects.counts outcome.effects) }

@@ -1,35 +1,39 @@
 //! The kernel that a script's schedule drives.
-ghost use Rattle.std.specs.Prelude.{◌≡◌, ◌+◌, ◌<◌, ◌≤◌, ◌++◌, [], ◌∷◌, true, length, IfOk, OnOk};
+ghost use Rattle.std.specs.Prelude.{◌≡◌, ◌+◌, ◌<◌, ◌≤◌, ◌++◌, [], ◌∷◌, true, length, IsTrue, IfOk, OnOk};
 ghost use Rattle.script_types.specs.WiderGrammar.{IsValidWider};
 ghost use Rattle.machine.specs.Built.{IsBuilt};
 ghost use Rattle.machine.specs.FinalRows.{rows_from, IsNextRow};
-ghost use Rattle.machine.specs.History.{after, entry_by, IsLegal};
+ghost use Rattle.entry_log.specs.declared.entry.Actor.TheVariants as Actor;
+ghost use Rattle.machine.specs.Act.{is_ready};
+ghost use Rattle.machine.specs.History.{after, entry_by, CanAct, IsLegal};
 ghost use Rattle.machine.specs.Run.{slot_actor};
 ghost use Rattle.kcore.specs.Counts.{Agrees};
+ghost use Rattle.kcore.specs.BootTable.{IsUnused};
 ghost use Rattle.kcore.specs.StateOf.{state_of};
 
-use crate::act::acted_by;
+use crate::act::{acted_by, is_ready};
 use crate::boot;
 use crate::tables::Tables;
 use entry_log::{Actor, Entry, FinalRow};
 use machine::entry_of;
+use ref_words::{PlainWords, RefWords};
 use script_types::{Script, Slot};
 use std::alloc::Global;
 use std::marker::Model;
-use sym_base::{NoMemory, ObjNo};
+use sym_base::{NoMemory, ObjNo, ThreadNo};
 
 /// A kernel that runs a script. A contract sees its script, its history, the number of entries that it
 /// has room for, and whether it may be used: once it met want of memory it may not.
 #[derive(Drop)]
-pub struct Kernel {
+pub struct Kernel<W: RefWords> {
     script: Script,
-    tables: Tables,
+    tables: Tables<W>,
     history: Vec<Entry>,
     room: u32,
     usable: bool,
 }
 
-impl Model for Kernel {
+impl<W: RefWords> Model for Kernel<W> {
     ghost use Rattle.std.specs.Prelude.{vec_capacity};
     ghost use Rattle.kcore.specs.KernelView.{KernelView, IsKernel};
 
@@ -41,7 +45,7 @@ impl Model for Kernel {
 }
 
 /// Whom a slot lets act.
-fn slot_actor(tables: &Tables, slot: Slot) -> Actor
+fn slot_actor<W: RefWords + Drop>(tables: &Tables<W>, slot: Slot) -> Actor
     ensures { result ≡ slot_actor (state_of tables.now) slot }
 {
     match slot {
@@ -55,7 +59,7 @@ fn slot_actor(tables: &Tables, slot: Slot) -> Actor
 }
 
 /// The first object that isn't swept of the numbers from `from` on, with its count.
-fn next_row(tables: &Tables, from: u16) -> Option<FinalRow>
+fn next_row<W: RefWords + Drop>(tables: &Tables<W>, from: u16) -> Option<FinalRow>
     requires { Agrees tables.now.objects.counts (state_of tables.now) }
     ensures { IsNextRow (rows_from (state_of tables.now)) from result }
 {
@@ -73,14 +77,15 @@ fn next_row(tables: &Tables, from: u16) -> Option<FinalRow>
     None
 }
 
-impl Kernel {
+impl<W: RefWords + Drop> Kernel<W> {
     /// The kernel at boot, with room for so many entries. All tables of fixed size take their memory here.
-    pub fn boot(alloc: Global, script: Script, room: u32) -> Result<Kernel, NoMemory>
+    pub fn boot(alloc: Global, script: Script, words: W, room: u32) -> Result<Kernel<W>, NoMemory>
         requires valid { IsValidWider script }
+        requires unused { IsUnused (W.meaning words) }
         requires room { room ≤ 131072 }
         ensures { IfOk result (λ kernel. kernel ≡ record { script = script; history = []; room = room; usable = true }) }
     {
-        let tables = boot::boot(alloc, &script)?;
+        let tables = boot::boot(alloc, &script, words)?;
         let history = Vec::with_capacity(alloc, room as usize)?;
         Ok(Kernel {
             script,
@@ -91,18 +96,16 @@ impl Kernel {
         })
     }
 
-    /// One atomic action of the actor that the slot lets act, told by one entry more. After want of
-    /// memory the kernel isn't used again.
-    pub fn slot(&mut self, slot: Slot) -> Result<(), NoMemory>
-        requires built { IsBuilt slot }
+    /// One atomic action of an actor that may act, told by one entry more.
+    fn go(&mut self, actor: Actor) -> Result<(), NoMemory>
+        requires can { CanAct self.old.script (after self.old.script self.old.history) actor }
         requires usable { self.old.usable ≡ true }
         requires room { length self.old.history < self.old.room }
         ensures script { self.new.script ≡ self.old.script }
         ensures room { self.new.room ≡ self.old.room }
         ensures usable { OnOk result (self.new.usable ≡ true) }
-        ensures ok { let S = after self.old.script self.old.history in OnOk result (self.new.history ≡ self.old.history ++ entry_by self.old.script S (length self.old.history + 1) (slot_actor S slot) ∷ []) }
+        ensures ok { OnOk result (self.new.history ≡ self.old.history ++ entry_by self.old.script (after self.old.script self.old.history) (length self.old.history + 1) actor ∷ []) }
     {
-        let actor = slot_actor(&self.tables, slot);
         self.usable = false;
         let outcome = acted_by(&self.script, &mut self.tables, actor)?;
         let place = self.history.as_slice().len() as u32 + 1;
@@ -110,6 +113,14 @@ impl Kernel {
         self.history.push(entry).unwrap();
         self.usable = true;
         Ok(())
+    }
+
+    /// Whether a thread may act: it owes something, or isn't at its list's end.
+    pub fn able(&self, t: ThreadNo) -> bool
+        requires { self.now.usable ≡ true }
+        ensures { result ≡ is_ready self.now.script (after self.now.script self.now.history) t }
+    {
+        is_ready(&self.script, &self.tables, t)
     }
 
     /// What happened so far, in order. It is a legal history of the script.
@@ -127,5 +138,36 @@ impl Kernel {
         ensures { IsNextRow (rows_from (after self.now.script self.now.history)) from result }
     {
         next_row(&self.tables, from)
+    }
+}
+
+impl Kernel<PlainWords> {
+    /// One atomic action of the actor that the slot lets act, told by one entry more. After want of
+    /// memory the kernel isn't used again.
+    pub fn slot(&mut self, slot: Slot) -> Result<(), NoMemory>
+        requires built { IsBuilt slot }
+        requires usable { self.old.usable ≡ true }
+        requires room { length self.old.history < self.old.room }
+        ensures script { self.new.script ≡ self.old.script }
+        ensures room { self.new.room ≡ self.old.room }
+        ensures usable { OnOk result (self.new.usable ≡ true) }
+        ensures ok { let S = after self.old.script self.old.history in OnOk result (self.new.history ≡ self.old.history ++ entry_by self.old.script S (length self.old.history + 1) (slot_actor S slot) ∷ []) }
+    {
+        let actor = slot_actor(&self.tables, slot);
+        self.go(actor)
+    }
+
+    /// One atomic action of an able thread, told by one entry more, whoever the schedule would choose.
+    /// After want of memory the kernel isn't used again.
+    pub fn act(&mut self, t: ThreadNo) -> Result<(), NoMemory>
+        requires able { IsTrue (is_ready self.old.script (after self.old.script self.old.history) t) }
+        requires usable { self.old.usable ≡ true }
+        requires room { length self.old.history < self.old.room }
+        ensures script { self.new.script ≡ self.old.script }
+        ensures room { self.new.room ≡ self.old.room }
+        ensures usable { OnOk result (self.new.usable ≡ true) }
+        ensures ok { OnOk result (self.new.history ≡ self.old.history ++ entry_by self.old.script (after self.old.script self.old.history) (length self.old.history + 1) (Actor.Thread t) ∷ []) }
+    {
+        self.go(Actor::Thread(t))
     }
 }

@@ -9,7 +9,7 @@ mod create;
 mod dup;
 mod handles;
 mod kernel;
-mod objects;
+mod object_table;
 mod open;
 mod pay;
 mod ready;

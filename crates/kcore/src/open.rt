@@ -1,14 +1,17 @@
 //! `open`: an object is found by its kind and name, opened, and gets a handle.
-ghost use Rattle.std.specs.Prelude.{◌≡◌, ◌<◌, None, Some, if◌then◌else◌, length, IfOk, slice_index};
+ghost use Rattle.std.specs.Prelude.{◌≡◌, ◌<◌, true, None, IfOk};
+ghost use Rattle.std.specs.List.{slice_index_or};
 ghost use Rattle.machine.specs.ActedBy.{acted};
-ghost use Rattle.machine.specs.Open.{seen, find_object, open_seek, open_return, open_do};
+ghost use Rattle.machine.specs.Open.{find_object, is_open, open_seek, open_return, open_do};
 ghost use Rattle.kcore.specs.Counts.{Agrees, CountsMove};
+ghost use Rattle.kcore.specs.ObjectsView.{IsHeld};
 ghost use Rattle.kcore.specs.StateOf.{state_of, HasRows};
 
 use crate::answer::{answered, with_handle};
 use crate::tables::Tables;
 use entry_log::{Effect, Effects, Holder, Part, Step, Word};
 use machine::{Outcome, Phase, ThreadRow};
+use ref_words::RefWords;
 use sym_base::{Kind, Name, NoMemory, ObjNo, ThreadNo};
 
 const SEEK: Step = Step::Of(Word::Open, Part::Seek);
@@ -23,35 +26,18 @@ const NOT_FOUND: i32 = -1;
 /// There are as many handles as there may be.
 const OVERFLOW: i32 = -9;
 
-/// Whether an object is found: it is dead, or has a reference.
-fn is_seen(tables: &Tables, object: ObjNo) -> bool
-    requires made { object.0 < length tables.now.objects.rows }
-    requires agree { Agrees tables.now.objects.counts (state_of tables.now) }
-    ensures { seen (state_of tables.now) (Some object) ≡ (if result then Some object else None) }
-{
-    match tables.objects.row(object) {
-        Some(row) if row.dead => true,
-        _ => tables.objects.count(object) > 0,
-    }
-}
-
 /// The object that a find by kind and name finds.
-pub fn find_object(tables: &Tables, kind: Kind, name: &Name) -> Option<ObjNo>
+pub fn find_object<W: RefWords + Drop>(tables: &Tables<W>, kind: Kind, name: &Name) -> Option<ObjNo>
     requires { Agrees tables.now.objects.counts (state_of tables.now) }
     ensures { result ≡ find_object (state_of tables.now) kind name.now }
 {
-    let object = tables.objects.named(kind, name)?;
-    if is_seen(tables, object) {
-        Some(object)
-    } else {
-        None
-    }
+    tables.objects.find(kind, name)
 }
 
 /// The first step: the object is found.
 #[tactic(auto, unfolding(machine::specs::Open::open_seek))]
-pub fn open_seek(
-    tables: &mut Tables,
+pub fn open_seek<W: RefWords + Drop>(
+    tables: &mut Tables<W>,
     thread: ThreadNo,
     row: ThreadRow,
     found: Option<ObjNo>,
@@ -77,14 +63,14 @@ pub fn open_seek(
 
 /// The second step: the thread uses the object, unless it died since.
 #[tactic(auto, unfolding(machine::specs::Open::open_return))]
-pub fn open_return(
-    tables: &mut Tables,
+pub fn open_return<W: RefWords + Drop>(
+    tables: &mut Tables<W>,
     thread: ThreadNo,
     row: ThreadRow,
     object: ObjNo,
 ) -> Result<Outcome, NoMemory>
     requires rows { HasRows tables.old thread row }
-    requires few { slice_index tables.old.objects.counts object.0 < 2147483648 }
+    requires held { is_open (slice_index_or tables.old.objects.rows object.0 None) ≡ true → IsHeld tables.old.objects object }
     ensures state { IfOk result (λ outcome. acted (state_of tables.new) outcome ≡ open_return (state_of tables.old) thread row object) }
     ensures counts { IfOk result (λ outcome. CountsMove tables.old.objects.counts tables.new.objects.counts outcome.effects) }
 {
@@ -113,16 +99,15 @@ pub fn open_return(
 
 /// The third step: a handle of the object.
 #[tactic(auto, unfolding(machine::specs::Open::open_do))]
-pub fn open_do(
-    tables: &mut Tables,
+pub fn open_do<W: RefWords + Drop>(
+    tables: &mut Tables<W>,
     thread: ThreadNo,
     row: ThreadRow,
     object: ObjNo,
     register: u8,
 ) -> Result<Outcome, NoMemory>
     requires rows { HasRows tables.old thread row }
-    requires made { object.0 < length tables.old.objects.rows }
-    requires few { slice_index tables.old.objects.counts object.0 < 2147483648 }
+    requires held { IsHeld tables.old.objects object }
     requires register { register < 8 }
     ensures state { IfOk result (λ outcome. acted (state_of tables.new) outcome ≡ open_do (state_of tables.old) thread row object register) }
     ensures counts { IfOk result (λ outcome. CountsMove tables.old.objects.counts tables.new.objects.counts outcome.effects) }

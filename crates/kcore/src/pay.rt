@@ -1,29 +1,31 @@
 //! Paying what is owed: one item an action, the oldest first.
-ghost use Rattle.std.specs.Prelude.{◌≡◌, ◌<◌, [], drop, length, IfOk, slice_index};
+ghost use Rattle.std.specs.Prelude.{◌≡◌, ◌<◌, [], drop, None, length, IsTrue, IfOk};
 ghost use Rattle.std.specs.List.{slice_index_or};
 ghost use Rattle.machine.specs.ActedBy.{acted};
 ghost use Rattle.machine.specs.Pay.{pay};
 ghost use Rattle.kcore.specs.Counts.{Agrees, CountsMove};
+ghost use Rattle.kcore.specs.ObjectsView.{IsHeld};
 ghost use Rattle.kcore.specs.StateOf.{state_of};
+ghost use Rattle.state_rows.specs.ObjectRows.{is_dead_row};
 
 use crate::answer::close;
 use crate::tables::{Tables, drop_first};
 use entry_log::{Effect, Holder, Step};
 use machine::{Outcome, Owed};
+use ref_words::RefWords;
 use sym_base::{NoMemory, ObjNo, ThreadNo};
 
 /// Gives a reference up.
 #[tactic(auto, unfolding(machine::specs::Pay::pay))]
-pub fn pay_close(
-    tables: &mut Tables,
+pub fn pay_close<W: RefWords + Drop>(
+    tables: &mut Tables<W>,
     thread: ThreadNo,
     holder: Holder,
     object: ObjNo,
 ) -> Result<Outcome, NoMemory>
     requires duties { thread.0 < length tables.old.owed }
     requires agree { Agrees tables.old.objects.counts (state_of tables.old) }
-    requires made { object.0 < length tables.old.objects.rows }
-    requires counted { 0 < slice_index tables.old.objects.counts object.0 }
+    requires held { IsHeld tables.old.objects object }
     ensures state { IfOk result (λ outcome. acted (state_of tables.new) outcome ≡ pay (state_of tables.old) thread (Owed.Close holder object) (drop 1 (slice_index_or tables.old.owed thread.0 []))) }
     ensures counts { IfOk result (λ outcome. CountsMove tables.old.objects.counts tables.new.objects.counts outcome.effects) }
 {
@@ -39,9 +41,13 @@ pub fn pay_close(
 
 /// Removes the row of a dead object.
 #[tactic(auto, unfolding(machine::specs::Pay::pay))]
-pub fn pay_sweep(tables: &mut Tables, thread: ThreadNo, object: ObjNo) -> Outcome
+pub fn pay_sweep<W: RefWords + Drop>(
+    tables: &mut Tables<W>,
+    thread: ThreadNo,
+    object: ObjNo,
+) -> Outcome
     requires duties { thread.0 < length tables.old.owed }
-    requires made { object.0 < length tables.old.objects.rows }
+    requires dead { IsTrue (is_dead_row (slice_index_or tables.old.objects.rows object.0 None)) }
     ensures state { acted (state_of tables.new) result ≡ pay (state_of tables.old) thread (Owed.Sweep object) (drop 1 (slice_index_or tables.old.owed thread.0 [])) }
     ensures counts { CountsMove tables.old.objects.counts tables.new.objects.counts result.effects }
 {

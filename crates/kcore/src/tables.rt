@@ -4,15 +4,16 @@ ghost use Rattle.std.specs.List.{slice_index_or};
 ghost use Rattle.kcore.specs.FirstOwed.{FirstOwed};
 
 use crate::handles::Handles;
-use crate::objects::Objects;
+use crate::object_table::ObjectTable;
 use crate::ready::Ready;
 use machine::{Owed, ThreadRow};
+use ref_words::RefWords;
 use sym_base::{Items, NoMemory, ThreadNo};
 
 /// All tables but the history. Each list but the ready one is indexed by object number.
 #[derive(Drop)]
-pub struct Tables {
-    pub objects: Objects,
+pub struct Tables<W: RefWords> {
+    pub objects: ObjectTable<W>,
     /// The handle table of each process and thread.
     pub handles: Items<Handles>,
     /// The row of each thread, None at the number of a process.

@@ -29,4 +29,4 @@ pub mod Lives
 pub mod LivesClose
 pub mod LivesSteps
 pub mod CountedLaws
-mod CountedAfter
+pub mod CountedAfter

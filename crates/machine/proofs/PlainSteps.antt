@@ -37,11 +37,21 @@ plain_goes_by script history S T actor outcome able plain did =
       state = ap (λ (a : Acted). a.state) did ∙ ap (λ (s : State). (acted_by script s actor).state) plain.state ∙ sym (after-push script history e);
     }
 
+-- the same of what is made in between
+pub plain_goes : (script : Script) (history new : List Entry) (S T : State) (actor : Actor) (outcome : Outcome) (place : ℕ) (e : Entry) → CanAct script S actor → IsPlain script history S → acted T outcome ≡ acted_by script S actor → place ≡ length history + 1 → e ≡ entry_of place actor outcome → new ≡ history ++ e ∷ [] → IsPlain script new T
+plain_goes script history new S T actor outcome place e able plain did at told pushed =
+    let told_so : e ≡ entry_of (length history + 1) actor outcome = told ∙ ap (λ (n : ℕ). entry_of n actor outcome) at in
+    subst (λ (h : List Entry). IsPlain script h T) (sym (pushed ∙ ap (λ (x : Entry). history ++ x ∷ []) told_so)) (plain_goes_by script history S T actor outcome able plain did)
+
+-- the actor of a slot may act
+pub slot_can : (script : Script) (S : State) (slot : Slot) → IsBuilt slot → Good script S → CanAct script S (slot_actor S slot)
+slot_can script S (Irq k) built good = absurd built
+slot_can script S TickSlot built good = tt
+slot_can script S Go built good = can_act_chosen script S _ good refl
+
 -- the machine goes on by what the actor of a slot does
-pub plain_goes_on : (script : Script) (history : List Entry) (S T : State) (slot : Slot) (outcome : Outcome) → IsBuilt slot → IsPlain script history S → acted T outcome ≡ acted_by script S (slot_actor S slot) → IsPlain script (history ++ entry_of (length history + 1) (slot_actor S slot) outcome ∷ []) T
-plain_goes_on script history S T (Irq k) outcome built plain did = absurd built
-plain_goes_on script history S T TickSlot outcome built plain did = plain_goes_by script history S T Tick outcome tt plain did
-plain_goes_on script history S T Go outcome built plain did = plain_goes_by script history S T (chosen S) outcome (can_act_chosen script S _ (good_plain script history S plain) refl) plain did
+plain_goes_on : (script : Script) (history : List Entry) (S T : State) (slot : Slot) (outcome : Outcome) → IsBuilt slot → IsPlain script history S → acted T outcome ≡ acted_by script S (slot_actor S slot) → IsPlain script (history ++ entry_of (length history + 1) (slot_actor S slot) outcome ∷ []) T
+plain_goes_on script history S T slot outcome built plain did = plain_goes_by script history S T (slot_actor S slot) outcome (slot_can script S slot built (good_plain script history S plain)) plain did
 
 -- the same of a copy of the state, and of what is made in between
 pub plain_goes_on_by : (script : Script) (history new : List Entry) (S copy T : State) (slot : Slot) (actor : Actor) (outcome : Outcome) (place : ℕ) (e : Entry) → IsBuilt slot → IsPlain script history S → copy ≡ S → actor ≡ slot_actor S slot → acted T outcome ≡ acted_by script copy actor → place ≡ length history + 1 → e ≡ entry_of place actor outcome → new ≡ history ++ e ∷ [] → IsPlain script new T

@@ -1,16 +1,13 @@
 use Rattle.std.proofs.Common.{◌∙◌, sym}
 use Rattle.kcore.specs.StateOf.{state_of}
-use Rattle.kcore.proofs.Rooms.{has_rows, made, kept_some, look_counted}
+use Rattle.kcore.proofs.Rooms.{has_rows, held, look_counted}
 use Rattle.kcore.proofs.act.close_step.Goals as goal
 
 pub look-found-requires : goal.look-found-requires
-look-found-requires c = has_rows c.args.script.now c.args.tables.now c.args.thread c.args.row c.requires.standing
+look-found-requires g c = has_rows c.args.script.now c.args.tables.now c.args.thread c.args.row c.requires.standing
 
 pub close_do-requires-clause-rows : goal.close_do-requires-clause-rows
-close_do-requires-clause-rows c = has_rows c.args.script.now c.args.tables.now c.args.thread c.args.row c.requires.standing
+close_do-requires-clause-rows g c = has_rows c.args.script.now c.args.tables.now c.args.thread c.args.row c.requires.standing
 
-pub close_do-requires-clause-made : goal.close_do-requires-clause-made
-close_do-requires-clause-made c = λ o e. made c.args.script.now c.args.tables.now o c.requires.standing.tables_good (look_counted (state_of c.args.tables.now) c.args.thread c.args.row _ o (sym c.look-found.ensures ∙ e))
-
-pub close_do-requires-clause-counted : goal.close_do-requires-clause-counted
-close_do-requires-clause-counted c = λ o e. kept_some c.args.script.now c.args.tables.now o c.requires.standing.tables_good (look_counted (state_of c.args.tables.now) c.args.thread c.args.row _ o (sym c.look-found.ensures ∙ e))
+pub close_do-requires-clause-held : goal.close_do-requires-clause-held
+close_do-requires-clause-held g c = λ o e. held c.args.script.now c.args.tables.now o c.requires.standing.tables_good (look_counted (state_of c.args.tables.now) c.args.thread c.args.row _ o (sym c.look-found.ensures ∙ e))

@@ -1,22 +1,43 @@
-use Rattle.std.proofs.Common.{◌≤◌, ◌<◌, ◌∙◌, sym, ap, subst, length, arith}
+use Rattle.std.proofs.Common.{◌≡◌, ◌<◌, ◌∙◌, List, sym, ap, subst, length, arith}
 use Rattle.sym_base.specs.declared.number.ObjNo.{ObjNo}
+use Rattle.script_types.proofs.WiderLaws.{valid_wider_is_shaped}
+use Rattle.machine.specs.declared.boot.Born.{Born}
 use Rattle.machine.specs.declared.state.State.{State}
-use Rattle.machine.specs.Boot.{boot, boot_of}
+use Rattle.machine.specs.Boot.{boot, boot_of, born}
 use Rattle.machine.specs.References.{count_of}
 use Rattle.machine.proofs.BootGood.{born_few}
 use Rattle.machine.proofs.Boots.{good-boot}
 use Rattle.machine.proofs.CountSmall.{count_small}
-use Rattle.kcore.proofs.Goes.{agrees_at_boot}
+use Rattle.kcore.specs.BootTable.{AreNew, FirstStand}
+use Rattle.kcore.proofs.BootTables.{new_at_boot, agrees_at_boot}
 use Rattle.kcore.proofs.boot.boot.Goals as goal
 
+pub all_born-requires : goal.all_born-requires
+all_born-requires g c = valid_wider_is_shaped c.args.script.now c.requires.valid
+
 pub boot_of-requires : goal.boot_of-requires
-boot_of-requires c = let few = born_few c.args.script.now c.requires in let e = ap length (c.as_slice-2.ensures ∙ c.in_ok-all.ensures) in omega arith
+boot_of-requires g c = let few = born_few c.args.script.now (valid_wider_is_shaped c.args.script.now c.requires.valid) in let e = ap length (c.as_slice-2.ensures ∙ c.in_ok-all.ensures) in omega arith
 
 pub counted-requires-clause-few : goal.counted-requires-clause-few
-counted-requires-clause-few c = subst (λ (S : State). length S.objects ≤ 4096) (sym (c.in_ok-state.ensures ∙ ap boot_of (c.as_slice-2.ensures ∙ c.in_ok-all.ensures))) (good-boot c.args.script.now c.requires).objects_few
+counted-requires-clause-few g c = let few = born_few c.args.script.now (valid_wider_is_shaped c.args.script.now c.requires.valid) in let e = ap length (c.as_slice-3.ensures ∙ c.in_ok-all.ensures) in omega arith
 
 pub counted-requires-clause-small : goal.counted-requires-clause-small
-counted-requires-clause-small c = subst (λ (S : State). (o : ObjNo) → count_of S o < 65536) (sym (c.in_ok-state.ensures ∙ ap boot_of (c.as_slice-2.ensures ∙ c.in_ok-all.ensures))) (count_small c.args.script.now (boot c.args.script.now) (good-boot c.args.script.now c.requires))
+counted-requires-clause-small g c =
+    let script = c.args.script.now in
+    let is : c.in_ok-state.state ≡ boot script = c.in_ok-state.ensures ∙ ap boot_of (c.as_slice-2.ensures ∙ c.in_ok-all.ensures) in
+    subst (λ (S : State). (o : ObjNo) → count_of S o < 65536) (sym is) (count_small script (boot script) (good-boot script (valid_wider_is_shaped script c.requires.valid)))
+
+pub counted-requires-clause-born : goal.counted-requires-clause-born
+counted-requires-clause-born g c =
+    let script = c.args.script.now in
+    let is : c.in_ok-state.state ≡ boot script = c.in_ok-state.ensures ∙ ap boot_of (c.as_slice-2.ensures ∙ c.in_ok-all.ensures) in
+    let all : c.as_slice-3.result.now ≡ born script = c.as_slice-3.ensures ∙ c.in_ok-all.ensures in
+    subst (λ (S : State). AreNew c.as_slice-3.result.now S) (sym is) (subst (λ (bs : List Born). AreNew bs (boot script)) (sym all) (new_at_boot script c.requires.valid))
 
 pub returns-clause-agree : goal.returns-clause-agree
-returns-clause-agree c = agrees_at_boot c.args.script.now c.in_ok-objects.objects.counts c.in_ok-state.state (c.in_ok-state.ensures ∙ ap boot_of (c.as_slice-2.ensures ∙ c.in_ok-all.ensures)) c.in_ok-objects.ensures.size c.in_ok-objects.ensures.counts
+returns-clause-agree g c =
+    let script = c.args.script.now in
+    let is : c.in_ok-state.state ≡ boot script = c.in_ok-state.ensures ∙ ap boot_of (c.as_slice-2.ensures ∙ c.in_ok-all.ensures) in
+    let all : c.as_slice-3.result.now ≡ born script = c.as_slice-3.ensures ∙ c.in_ok-all.ensures in
+    let bs = c.as_slice-3.result.now in
+    agrees_at_boot script bs _ c.in_ok-objects.objects.counts all (subst (λ (S : State). FirstStand bs S c.in_ok-objects.objects.rows c.in_ok-objects.objects.counts (length bs)) is c.in_ok-objects.ensures)

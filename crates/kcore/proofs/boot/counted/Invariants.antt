@@ -1,11 +1,5 @@
-use Rattle.std.proofs.Common.{◌≡◌, ℕ, ◌<◌, take, length}
-use Rattle.std.specs.Prelude.{slice_index}
-use Rattle.machine.specs.References.{count_of}
+use Rattle.kcore.specs.BootTable.{FirstStand}
 use Rattle.kcore.proofs.boot.counted.Given as goal
 
 abbrev pub invariant-loop-number : goal.invariant-loop-number
-invariant-loop-number l = record {
-  rows : l.objects.rows ≡ take l.number l.state.objects;
-  size : length l.objects.counts ≡ l.number;
-  counts : (k : ℕ) → k < l.number → slice_index l.objects.counts k ≡ count_of l.state (record { 0 = k });
-}
+invariant-loop-number g l = FirstStand l.all l.state l.objects.rows l.objects.counts l.number

@@ -6,7 +6,7 @@ use Rattle.kcore.proofs.ListSteps.{slice_get_row}
 use Rattle.kcore.proofs.kernel.next_row.Goals as goal
 
 pub returns-in-Some : goal.returns-in-Some
-returns-in-Some c =
+returns-in-Some g c =
     let S = state_of c.args.tables.now in
     let n = c.loop-number.number in
     let row = c.in-Some.row in

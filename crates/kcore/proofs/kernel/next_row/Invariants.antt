@@ -4,4 +4,4 @@ use Rattle.kcore.specs.StateOf.{state_of}
 use Rattle.kcore.proofs.kernel.next_row.Given as goal
 
 abbrev pub invariant-loop-number : goal.invariant-loop-number
-invariant-loop-number l = rows_from (state_of l.tables) l.number ≡ rows_from (state_of l.tables) l.from
+invariant-loop-number g l = rows_from (state_of l.tables) l.number ≡ rows_from (state_of l.tables) l.from

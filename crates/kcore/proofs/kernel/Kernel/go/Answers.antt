@@ -1,20 +1,20 @@
 use Rattle.std.proofs.Common.{◌≡◌, length, ap, ◌+◌, ◌∙◌, ℕ, arith, true}
 use Rattle.kcore.specs.KernelView.{KernelView}
 use Rattle.kcore.proofs.Goes.{are_good, kernel_goes_on}
-use Rattle.kcore.proofs.kernel.Kernel.slot.Goals as goal
+use Rattle.kcore.proofs.kernel.Kernel.go.Goals as goal
 
 pub acted_by-requires : goal.acted_by-requires
-acted_by-requires c =
+acted_by-requires g c =
     let k = c.self.inside in
     let usable : k.usable ≡ true = ap (λ (v : KernelView). v.usable) c.self.view_is ∙ c.requires.usable in
     are_good k.script k.history.items k.tables (c.self.invariant.stands usable)
 
 pub invariant_of-self-2 : goal.invariant_of-self-2
-invariant_of-self-2 c =
+invariant_of-self-2 g c =
     let k = c.self.inside in
     let usable : k.usable ≡ true = ap (λ (v : KernelView). v.usable) c.self.view_is ∙ c.requires.usable in
     record {
       fits = let a = c.push.ensures.capacity in let b = c.self.invariant.fits in omega (arith, a);
       few = c.self.invariant.few;
-      stands = λ _. kernel_goes_on k.script k.history.items _ k.tables c.acted_by.new.tables c.args.slot c.slot_actor-actor.result c.in_ok-outcome.outcome (length c.as_slice.result.now + 1) c.entry_of-entry.result c.requires.built (c.self.invariant.stands usable) c.slot_actor-actor.ensures c.in_ok-outcome.ensures.state c.in_ok-outcome.ensures.counts (ap (λ (n : ℕ). n + 1) (ap length c.as_slice.ensures.value)) c.entry_of-entry.ensures (rw c.unwrap.ensures at c.push.ensures.items);
+      stands = λ _. kernel_goes_on k.script k.history.items _ k.tables c.acted_by.new.tables c.args.actor c.in_ok-outcome.outcome (length c.as_slice.result.now + 1) c.entry_of-entry.result (rw (← c.self.view_is) at c.requires.can) (c.self.invariant.stands usable) c.in_ok-outcome.ensures.state c.in_ok-outcome.ensures.counts (ap (λ (n : ℕ). n + 1) (ap length c.as_slice.ensures.value)) c.entry_of-entry.ensures (rw c.unwrap.ensures at c.push.ensures.items);
     }
