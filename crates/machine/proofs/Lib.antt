@@ -1,3 +1,4 @@
+pub mod BootCounted
 pub mod BootGood
 pub mod Boots
 pub mod PlainSteps
@@ -25,3 +26,12 @@ pub mod Lives
 pub mod LivesClose
 pub mod LivesSteps
 pub mod CountedLaws
+pub mod Holders
+pub mod Owning
+pub mod HoldersRows
+pub mod HoldersSteps
+pub mod HoldersAct
+pub mod BootHolders
+pub mod Effects
+pub mod SafeRuns
+pub mod SafeHistories

@@ -15,10 +15,13 @@ pub mod History
 pub mod FinalRows
 pub mod Run
 pub mod Good
+pub mod Counted
 pub mod ActedBy
 pub mod Room
 pub mod Built
 pub mod PlainView
 pub mod TwoHandles
-pub mod Counted
 pub mod Told
+pub mod Holding
+pub mod CountAfter
+pub mod SafeReferences
