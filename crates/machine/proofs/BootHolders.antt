@@ -19,7 +19,8 @@ use Rattle.machine.specs.Boot.{boot, boot_of, born, born_process, born_thread, b
 use Rattle.machine.specs.Holding.{held_at_boot}
 use Rattle.machine.proofs.BootGood.{EachBorn, each_born}
 use Rattle.machine.proofs.Boots.{total-const, const_either, at_seam, owes_nothing_at, born_row}
-use Rattle.machine.proofs.Holders.{cell, use_names, rows_hold, owed_by, held_in, EachMayOwe, Owns}
+use Rattle.machine.specs.HeldIn.{own_place, use_names, rows_hold, owed_by, held_in}
+use Rattle.machine.proofs.Holders.{EachMayOwe, Owns}
 use Rattle.machine.proofs.Lives.{gone, gone_bit, unmade}
 use Rattle.machine.specs.Good.{dead_bit}
 
@@ -79,19 +80,19 @@ owns-boot script = record {
   links = λ t row is. linked_at (born script) (born script) t.0 row (each_linked script) is;
 }
 
-fresh_cell : (c : Bool) (n i : ℕ) (x : ObjNo) → cell c x (place_at (replicate n fresh_place) i) ≡ 0
-fresh_cell true n i x = refl
-fresh_cell false zero i x = refl
-fresh_cell false (suc n) zero x = refl
-fresh_cell false (suc n) (suc i) x = fresh_cell false n i x
+fresh_own_place : (c : Bool) (n i : ℕ) (x : ObjNo) → own_place c x (place_at (replicate n fresh_place) i) ≡ 0
+fresh_own_place true n i x = refl
+fresh_own_place false zero i x = refl
+fresh_own_place false (suc n) zero x = refl
+fresh_own_place false (suc n) (suc i) x = fresh_own_place false n i x
 
-empty_cell : (c : Bool) (i : ℕ) (x : ObjNo) → cell c x (place_at [] i) ≡ 0
-empty_cell true i x = refl
-empty_cell false i x = refl
+empty_own_place : (c : Bool) (i : ℕ) (x : ObjNo) → own_place c x (place_at [] i) ≡ 0
+empty_own_place true i x = refl
+empty_own_place false i x = refl
 
-cell_of : (c : Bool) (table : List Place) (i : ℕ) (x : ObjNo) → (table ≡ replicate 256 fresh_place) ⊎ (table ≡ []) → cell c x (place_at table i) ≡ 0
-cell_of c table i x (inl e) = ap (λ (l : List Place). cell c x (place_at l i)) e ∙ fresh_cell c 256 i x
-cell_of c table i x (inr e) = ap (λ (l : List Place). cell c x (place_at l i)) e ∙ empty_cell c i x
+own_place_of : (c : Bool) (table : List Place) (i : ℕ) (x : ObjNo) → (table ≡ replicate 256 fresh_place) ⊎ (table ≡ []) → own_place c x (place_at table i) ≡ 0
+own_place_of c table i x (inl e) = ap (λ (l : List Place). own_place c x (place_at l i)) e ∙ fresh_own_place c 256 i x
+own_place_of c table i x (inr e) = ap (λ (l : List Place). own_place c x (place_at l i)) e ∙ empty_own_place c i x
 
 nothing_used_by : (script : Script) (n : ℕ) (bs : List Born) (i : ℕ) (x : ObjNo) (thread : Option ThreadRow) → EachBorn script n bs → get_or (map (λ b. b.thread) bs) i None ≡ thread → use_names x thread ≡ 0
 nothing_used_by script n bs i x None h is = refl
@@ -112,8 +113,8 @@ held-boot script g x = let a = rows g in let b = owed in omega arith
     owed = total-const (total (owed_by g x)) [] bs refl
 
     rows : (g : Holder) → rows_hold tables (map (λ b. b.thread) bs) g x ≡ held_at_boot script g x
-    rows (InProcess p i) = cell_of (is_some (get_or (map (λ b. b.thread) bs) p.0 None)) (get_or tables p.0 []) i x (const_either (replicate 256 fresh_place) [] bs p.0)
-    rows (InThread t i) = cell_of (not (is_some (get_or (map (λ b. b.thread) bs) t.0 None))) (get_or tables t.0 []) i x (const_either (replicate 256 fresh_place) [] bs t.0)
+    rows (InProcess p i) = own_place_of (is_some (get_or (map (λ b. b.thread) bs) p.0 None)) (get_or tables p.0 []) i x (const_either (replicate 256 fresh_place) [] bs p.0)
+    rows (InThread t i) = own_place_of (not (is_some (get_or (map (λ b. b.thread) bs) t.0 None))) (get_or tables t.0 []) i x (const_either (replicate 256 fresh_place) [] bs t.0)
     rows (Temp t) = nothing_used_by script (length bs) bs t.0 x (get_or (map (λ b. b.thread) bs) t.0 None) (each_born script) refl
     rows (Own t) = refl
     rows (Link t) = refl

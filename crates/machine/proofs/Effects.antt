@@ -11,9 +11,8 @@ use Rattle.entry_log.specs.declared.entry.Actor.TheVariants.{Thread}
 use Rattle.entry_log.specs.declared.entry.Entry.{Entry}
 use Rattle.machine.specs.References.{same, pluses, minuses}
 use Rattle.machine.specs.Told.{deaths, removals, finds}
-use Rattle.machine.specs.Holding.{is_holder, held_after, FitsHolders, EachFitsHolders}
+use Rattle.machine.specs.Holding.{is_holder, held_after, FitsHolders, EachFitsHolders, held_after_all}
 use Rattle.machine.specs.CountAfter.{effects_of, is_by, first_by, pluses_by, opens, opens_later, finds_to_open}
-use Rattle.machine.proofs.Holders.{held_after_all}
 
 pub pluses-append : (xs ys : List Effect) (o : ObjNo) → pluses (xs ++ ys) o ≡ pluses xs o + pluses ys o
 pluses-append [] ys o = omega arith
@@ -50,7 +49,7 @@ fits_same_one held other (Plus h o) same h1 = let a = same h o in omega arith
 fits_same_one held other (Minus h o) same h1 = let a = same h o in omega arith
 fits_same_one held other _ same h1 = tt
 
-after_same_one : (held other : Holder → ObjNo → ℕ) (e : Effect) → ((g : Holder) (x : ObjNo) → held g x ≡ other g x) → (g : Holder) (x : ObjNo) → held_after held e g x ≡ held_after other e g x
+pub after_same_one : (held other : Holder → ObjNo → ℕ) (e : Effect) → ((g : Holder) (x : ObjNo) → held g x ≡ other g x) → (g : Holder) (x : ObjNo) → held_after held e g x ≡ held_after other e g x
 after_same_one held other (Plus h o) same g x = let a = same g x in omega arith
 after_same_one held other (Minus h o) same g x = let a = same g x in omega arith
 after_same_one held other _ same g x = same g x
@@ -60,7 +59,7 @@ pub fits-same : (held other : Holder → ObjNo → ℕ) (es : List Effect) → (
 fits-same held other [] same h = tt
 fits-same held other (e ∷ es) same h = (fits_same_one held other e same h.0, fits-same (held_after held e) (held_after other e) es (after_same_one held other e same) h.1)
 
-if_le : (b : Bool) (n : ℕ) → (if b then n else 0) ≤ n
+pub if_le : (b : Bool) (n : ℕ) → (if b then n else 0) ≤ n
 if_le true n = omega arith
 if_le false n = omega arith
 

@@ -1,56 +1,22 @@
 -- Who holds what in a state, and what a step does to it.
-use Rattle.std.proofs.Common.{◌≡◌, ℕ, ◌+◌, ◌-◌, ◌<◌, List, [], ◌∷◌, get_or, arith, refl, sym, Option, Some, None, Bool, true, false}
-use Rattle.std.specs.Prelude.{◌==◌, is_some, not, if◌then◌else◌}
+use Rattle.std.proofs.Common.{◌≡◌, ℕ, ◌+◌, ◌-◌, ◌<◌, List, [], ◌∷◌, arith, refl, sym, Some, None, Bool, true, false}
+use Rattle.std.specs.Prelude.{◌==◌, if◌then◌else◌}
 use Rattle.std.proofs.lemmas.Bool.{eq-eqb, eqb-true}
 use Rattle.sym_base.specs.declared.number.ObjNo.{ObjNo}
 use Rattle.entry_log.specs.declared.effect.Holder.{Holder}
 use Rattle.entry_log.specs.declared.effect.Holder.TheVariants.{InProcess, InThread, Temp, Own, Link, Message, Kernel}
 use Rattle.entry_log.specs.declared.effect.Effect.{Effect}
 use Rattle.entry_log.specs.declared.effect.Effect.TheVariants.{Plus}
-use Rattle.machine.specs.declared.state.Place.{Place}
 use Rattle.machine.specs.declared.state.Owed.{Owed}
 use Rattle.machine.specs.declared.state.Owed.TheVariants.{Close, Sweep}
 use Rattle.machine.specs.declared.state.ThreadRow.{ThreadRow}
 use Rattle.machine.specs.declared.state.State.{State}
 use Rattle.machine.specs.Rows.{thread_of, owed_of}
-use Rattle.machine.specs.Table.{place_at}
-use Rattle.machine.specs.References.{total, same, place_names, phase_names}
+use Rattle.machine.specs.References.{same}
 use Rattle.machine.specs.Acted.{closed_effects}
-use Rattle.machine.specs.Holding.{is_holder, same_pair, held_after, EachFitsHolders, link_names}
+use Rattle.machine.specs.Holding.{is_holder, same_pair, EachFitsHolders, held_after_all}
+use Rattle.machine.specs.HeldIn.{held_in}
 use Rattle.machine.proofs.Live.{same_self}
-
--- a place that is of another table than the holder's isn't counted
-abbrev pub cell : Bool → ObjNo → Place → ℕ
-cell true x place = 0
-cell false x place = place_names x place
-
--- the object that a thread uses
-abbrev pub use_names : ObjNo → Option ThreadRow → ℕ
-use_names x None = 0
-use_names x (Some row) = phase_names x row.phase
-
--- how often the tables and the threads' rows refer to an object for a holder
-abbrev pub rows_hold : List (List Place) → List (Option ThreadRow) → Holder → ObjNo → ℕ
-rows_hold tables threads (InProcess p i) x = cell (is_some (get_or threads p.0 None)) x (place_at (get_or tables p.0 []) i)
-rows_hold tables threads (InThread t i) x = cell (not (is_some (get_or threads t.0 None))) x (place_at (get_or tables t.0 []) i)
-rows_hold tables threads (Temp t) x = use_names x (get_or threads t.0 None)
-rows_hold tables threads (Link t) x = link_names x (get_or threads t.0 None)
-rows_hold tables threads Kernel x = if is_some (get_or threads x.0 None) then 1 else 0
-rows_hold tables threads _ x = 0
-
--- an owed close stands for its holder's reference
-abbrev pub owed_by : Holder → ObjNo → Owed → ℕ
-owed_by g x (Close h o) = same_pair h o g x
-owed_by g x (Sweep o) = 0
-
--- how many references a holder has to an object
-abbrev pub held_in : State → Holder → ObjNo → ℕ
-held_in S g x = rows_hold S.handles S.threads g x + total (total (owed_by g x)) S.owed
-
--- who holds what after effects
-abbrev pub held_after_all : (Holder → ObjNo → ℕ) → List Effect → Holder → ObjNo → ℕ
-held_after_all held [] g x = held g x
-held_after_all held (e ∷ es) g x = held_after_all (held_after held e) es g x
 
 -- a thread owes the closes of its own temporary references only
 abbrev pub MayOwe : ObjNo → Holder → Type 0

@@ -18,7 +18,8 @@ use Rattle.machine.specs.References.{total, same, place_names, phase_names}
 use Rattle.machine.specs.Acted.{answered_state, owed_use}
 use Rattle.machine.specs.Holding.{is_holder, link_names}
 use Rattle.machine.proofs.Totals.{total-set, total-append, inside, is_some-set}
-use Rattle.machine.proofs.Holders.{cell, use_names, rows_hold, owed_by, held_in, if_is, if_not, eqb_apart}
+use Rattle.machine.specs.HeldIn.{own_place, use_names, rows_hold, owed_by, held_in}
+use Rattle.machine.proofs.Holders.{if_is, if_not, eqb_apart}
 
 pub held-with_owed : (S : State) (t : ObjNo) (what : List Owed) (g : Holder) (x : ObjNo) → t.0 < length S.owed → held_in (with_owed S t what) g x + total (owed_by g x) (owed_of S t) ≡ held_in S g x + total (owed_by g x) what
 held-with_owed S t what g x h = let d = total-set (total (owed_by g x)) S.owed t.0 what [] h in omega arith
@@ -44,11 +45,11 @@ rows-with_thread : (tables : List (List Place)) (threads : List (Option ThreadRo
 rows-with_thread tables threads t old row is process (InProcess p i) x =
     let a = use_apart t old.phase (InProcess p i) x refl in
     let b = use_apart t row.phase (InProcess p i) x refl in
-    let c = ap (λ (s : Bool). cell s x (place_at (get_or tables p.0 []) i)) (is_some-set threads t.0 old row p.0 is) in omega arith
+    let c = ap (λ (s : Bool). own_place s x (place_at (get_or tables p.0 []) i)) (is_some-set threads t.0 old row p.0 is) in omega arith
 rows-with_thread tables threads t old row is process (InThread p i) x =
     let a = use_apart t old.phase (InThread p i) x refl in
     let b = use_apart t row.phase (InThread p i) x refl in
-    let c = ap (λ (s : Bool). cell (not s) x (place_at (get_or tables p.0 []) i)) (is_some-set threads t.0 old row p.0 is) in omega arith
+    let c = ap (λ (s : Bool). own_place (not s) x (place_at (get_or tables p.0 []) i)) (is_some-set threads t.0 old row p.0 is) in omega arith
 rows-with_thread tables threads t old row is process (Temp u) x = elim (cases_eq t.0 u.0) as (λ _. use_names x (get_or (slice_set threads t.0 (Some row)) u.0 None) + total (owed_by (Temp u) x) (owed_use t old.phase) ≡ use_names x (get_or threads u.0 None) + total (owed_by (Temp u) x) (owed_use t row.phase)) [
   | inl at ↦
       let a = use_at t u old.phase x at in
@@ -113,49 +114,49 @@ placed_beside tables owner i place p j h at apart =
 placed_other : (tables : List (List Place)) (owner : ObjNo) (i : ℕ) (place : Place) (p j : ℕ) → (owner.0 ≡ p → ⊥) → place_at (get_or (placed tables owner i place) p []) j ≡ place_at (get_or tables p []) j
 placed_other tables owner i place p j apart = ap (λ (l : List Place). place_at l j) (get_or-set_other tables owner.0 p (slice_set (get_or tables owner.0 []) i place) [] (λ e. apart (sym e)))
 
-pub cell_false : (c : Bool) (x : ObjNo) (place : Place) → c ≡ false → cell c x place ≡ place_names x place
-cell_false true x place e = cc
-cell_false false x place e = refl
+pub own_place_false : (c : Bool) (x : ObjNo) (place : Place) → c ≡ false → own_place c x place ≡ place_names x place
+own_place_false true x place e = cc
+own_place_false false x place e = refl
 
-cell_true : (c : Bool) (x : ObjNo) (place : Place) → c ≡ true → cell c x place ≡ 0
-cell_true true x place e = refl
-cell_true false x place e = cc
+own_place_true : (c : Bool) (x : ObjNo) (place : Place) → c ≡ true → own_place c x place ≡ 0
+own_place_true true x place e = refl
+own_place_true false x place e = cc
 
 and_false : (a b : Bool) → b ≡ false → (a && b) ≡ false
 and_false true b e = e
 and_false false b e = refl
 
 -- a place of the holder's own table
-cell_placed : (tables : List (List Place)) (owner : ObjNo) (i : ℕ) (place : Place) (p : ObjNo) (j : ℕ) (x : ObjNo) (c : Bool) → owner.0 < length tables → i < length (get_or tables owner.0 []) → (owner.0 ≡ p.0 → c ≡ false) → cell c x (place_at (get_or (placed tables owner i place) p.0 []) j) + (if owner.0 == p.0 && i == j then place_names x (place_at (get_or tables owner.0 []) i) else 0) ≡ cell c x (place_at (get_or tables p.0 []) j) + (if owner.0 == p.0 && i == j then place_names x place else 0)
-cell_placed tables owner i place p j x c h k own = elim (cases_eq owner.0 p.0) as (λ _. cell c x (place_at (get_or (placed tables owner i place) p.0 []) j) + (if owner.0 == p.0 && i == j then place_names x (place_at (get_or tables owner.0 []) i) else 0) ≡ cell c x (place_at (get_or tables p.0 []) j) + (if owner.0 == p.0 && i == j then place_names x place else 0)) [
-  | inl at ↦ elim (cases_eq i j) as (λ _. cell c x (place_at (get_or (placed tables owner i place) p.0 []) j) + (if owner.0 == p.0 && i == j then place_names x (place_at (get_or tables owner.0 []) i) else 0) ≡ cell c x (place_at (get_or tables p.0 []) j) + (if owner.0 == p.0 && i == j then place_names x place else 0)) [
+own_place_set : (tables : List (List Place)) (owner : ObjNo) (i : ℕ) (place : Place) (p : ObjNo) (j : ℕ) (x : ObjNo) (c : Bool) → owner.0 < length tables → i < length (get_or tables owner.0 []) → (owner.0 ≡ p.0 → c ≡ false) → own_place c x (place_at (get_or (placed tables owner i place) p.0 []) j) + (if owner.0 == p.0 && i == j then place_names x (place_at (get_or tables owner.0 []) i) else 0) ≡ own_place c x (place_at (get_or tables p.0 []) j) + (if owner.0 == p.0 && i == j then place_names x place else 0)
+own_place_set tables owner i place p j x c h k own = elim (cases_eq owner.0 p.0) as (λ _. own_place c x (place_at (get_or (placed tables owner i place) p.0 []) j) + (if owner.0 == p.0 && i == j then place_names x (place_at (get_or tables owner.0 []) i) else 0) ≡ own_place c x (place_at (get_or tables p.0 []) j) + (if owner.0 == p.0 && i == j then place_names x place else 0)) [
+  | inl at ↦ elim (cases_eq i j) as (λ _. own_place c x (place_at (get_or (placed tables owner i place) p.0 []) j) + (if owner.0 == p.0 && i == j then place_names x (place_at (get_or tables owner.0 []) i) else 0) ≡ own_place c x (place_at (get_or tables p.0 []) j) + (if owner.0 == p.0 && i == j then place_names x place else 0)) [
     | inl ij ↦
         let test : (owner.0 == p.0 && i == j) ≡ true = rw (eq-eqb owner.0 p.0 at, eq-eqb i j ij) refl in
         let a = if_is (owner.0 == p.0 && i == j) (place_names x (place_at (get_or tables owner.0 []) i)) test in
         let b = if_is (owner.0 == p.0 && i == j) (place_names x place) test in
-        let d : cell c x (place_at (get_or (placed tables owner i place) p.0 []) j) ≡ place_names x place = cell_false c x (place_at (get_or (placed tables owner i place) p.0 []) j) (own at) ∙ ap (place_names x) (placed_same tables owner i place p.0 j h k at ij) in
-        let f : cell c x (place_at (get_or tables p.0 []) j) ≡ place_names x (place_at (get_or tables owner.0 []) i) = cell_false c x (place_at (get_or tables p.0 []) j) (own at) ∙ ap (λ (n : ℕ). place_names x (place_at (get_or tables n []) j)) (sym at) ∙ ap (λ (n : ℕ). place_names x (place_at (get_or tables owner.0 []) n)) (sym ij) in
+        let d : own_place c x (place_at (get_or (placed tables owner i place) p.0 []) j) ≡ place_names x place = own_place_false c x (place_at (get_or (placed tables owner i place) p.0 []) j) (own at) ∙ ap (place_names x) (placed_same tables owner i place p.0 j h k at ij) in
+        let f : own_place c x (place_at (get_or tables p.0 []) j) ≡ place_names x (place_at (get_or tables owner.0 []) i) = own_place_false c x (place_at (get_or tables p.0 []) j) (own at) ∙ ap (λ (n : ℕ). place_names x (place_at (get_or tables n []) j)) (sym at) ∙ ap (λ (n : ℕ). place_names x (place_at (get_or tables owner.0 []) n)) (sym ij) in
         omega arith
     | inr apart ↦
         let test : (owner.0 == p.0 && i == j) ≡ false = and_false (owner.0 == p.0) (i == j) (eqb_apart i j apart) in
         let a = if_not (owner.0 == p.0 && i == j) (place_names x (place_at (get_or tables owner.0 []) i)) test in
         let b = if_not (owner.0 == p.0 && i == j) (place_names x place) test in
-        let d = ap (cell c x) (placed_beside tables owner i place p.0 j h at apart) in
+        let d = ap (own_place c x) (placed_beside tables owner i place p.0 j h at apart) in
         omega arith
   ]
   | inr apart ↦
       let test : (owner.0 == p.0 && i == j) ≡ false = ap (λ (s : Bool). s && i == j) (eqb_apart owner.0 p.0 apart) in
       let a = if_not (owner.0 == p.0 && i == j) (place_names x (place_at (get_or tables owner.0 []) i)) test in
       let b = if_not (owner.0 == p.0 && i == j) (place_names x place) test in
-      let d = ap (cell c x) (placed_other tables owner i place p.0 j apart) in
+      let d = ap (own_place c x) (placed_other tables owner i place p.0 j apart) in
       omega arith
 ]
 
 -- a place of another kind of table
-cell_stays : (tables : List (List Place)) (owner : ObjNo) (i : ℕ) (place : Place) (p : ObjNo) (j : ℕ) (x : ObjNo) (c : Bool) → (owner.0 ≡ p.0 → c ≡ true) → cell c x (place_at (get_or (placed tables owner i place) p.0 []) j) ≡ cell c x (place_at (get_or tables p.0 []) j)
-cell_stays tables owner i place p j x c own = elim (cases_eq owner.0 p.0) [
-  | inl at ↦ cell_true c x (place_at (get_or (placed tables owner i place) p.0 []) j) (own at) ∙ sym (cell_true c x (place_at (get_or tables p.0 []) j) (own at))
-  | inr apart ↦ ap (cell c x) (placed_other tables owner i place p.0 j apart)
+own_place_stays : (tables : List (List Place)) (owner : ObjNo) (i : ℕ) (place : Place) (p : ObjNo) (j : ℕ) (x : ObjNo) (c : Bool) → (owner.0 ≡ p.0 → c ≡ true) → own_place c x (place_at (get_or (placed tables owner i place) p.0 []) j) ≡ own_place c x (place_at (get_or tables p.0 []) j)
+own_place_stays tables owner i place p j x c own = elim (cases_eq owner.0 p.0) [
+  | inl at ↦ own_place_true c x (place_at (get_or (placed tables owner i place) p.0 []) j) (own at) ∙ sym (own_place_true c x (place_at (get_or tables p.0 []) j) (own at))
+  | inr apart ↦ ap (own_place c x) (placed_other tables owner i place p.0 j apart)
 ]
 
 -- whose reference a place of a table is, `thread` telling whether the owner is a thread
@@ -164,12 +165,12 @@ place_holder false owner i = InProcess owner i
 place_holder true owner i = InThread owner i
 
 rows-with_place : (tables : List (List Place)) (threads : List (Option ThreadRow)) (owner : ObjNo) (i : ℕ) (place : Place) (thread : Bool) → is_some (get_or threads owner.0 None) ≡ thread → owner.0 < length tables → i < length (get_or tables owner.0 []) → (g : Holder) (x : ObjNo) → rows_hold (placed tables owner i place) threads g x + (if is_holder (place_holder thread owner i) g then place_names x (place_at (get_or tables owner.0 []) i) else 0) ≡ rows_hold tables threads g x + (if is_holder (place_holder thread owner i) g then place_names x place else 0)
-rows-with_place tables threads owner i place false e h k (InProcess p j) x = cell_placed tables owner i place p j x (is_some (get_or threads p.0 None)) h k (λ at. ap (λ (n : ℕ). is_some (get_or threads n None)) (sym at) ∙ e)
+rows-with_place tables threads owner i place false e h k (InProcess p j) x = own_place_set tables owner i place p j x (is_some (get_or threads p.0 None)) h k (λ at. ap (λ (n : ℕ). is_some (get_or threads n None)) (sym at) ∙ e)
 rows-with_place tables threads owner i place false e h k (InThread p j) x =
-    let a = cell_stays tables owner i place p j x (not (is_some (get_or threads p.0 None))) (λ at. ap (λ (n : ℕ). not (is_some (get_or threads n None))) (sym at) ∙ ap not e) in omega arith
+    let a = own_place_stays tables owner i place p j x (not (is_some (get_or threads p.0 None))) (λ at. ap (λ (n : ℕ). not (is_some (get_or threads n None))) (sym at) ∙ ap not e) in omega arith
 rows-with_place tables threads owner i place true e h k (InProcess p j) x =
-    let a = cell_stays tables owner i place p j x (is_some (get_or threads p.0 None)) (λ at. ap (λ (n : ℕ). is_some (get_or threads n None)) (sym at) ∙ e) in omega arith
-rows-with_place tables threads owner i place true e h k (InThread p j) x = cell_placed tables owner i place p j x (not (is_some (get_or threads p.0 None))) h k (λ at. ap (λ (n : ℕ). not (is_some (get_or threads n None))) (sym at) ∙ ap not e)
+    let a = own_place_stays tables owner i place p j x (is_some (get_or threads p.0 None)) (λ at. ap (λ (n : ℕ). is_some (get_or threads n None)) (sym at) ∙ e) in omega arith
+rows-with_place tables threads owner i place true e h k (InThread p j) x = own_place_set tables owner i place p j x (not (is_some (get_or threads p.0 None))) h k (λ at. ap (λ (n : ℕ). not (is_some (get_or threads n None))) (sym at) ∙ ap not e)
 rows-with_place tables threads owner i place false e h k _ x = refl
 rows-with_place tables threads owner i place true e h k _ x = refl
 

@@ -32,9 +32,10 @@ use Rattle.machine.specs.Holding.{is_holder, same_pair}
 use Rattle.machine.proofs.Cases.{if_cases, or_false_right}
 use Rattle.machine.proofs.Tables.{free_index_is_free, free_index_inside, look_is, place_inside, table_inside}
 use Rattle.machine.proofs.RefsSteps.{IsActing}
-use Rattle.machine.proofs.Holders.{use_names, owed_by, held_in, EachMayOwe, Owns, HoldersMove, holders-none, holders-plus, holders-closed, if_zero}
+use Rattle.machine.specs.HeldIn.{use_names, owed_by, held_in}
+use Rattle.machine.proofs.Holders.{EachMayOwe, Owns, HoldersMove, holders-none, holders-plus, holders-closed, if_zero}
 use Rattle.machine.proofs.Owning.{none_owed, none_owed_temp, owns-with_owed, owns-owing, owns-with_thread, owns-answered}
-use Rattle.machine.proofs.HoldersRows.{held-with_owed, held-owing, held-with_thread, held-answered, cell_false, place_holder, held-with_place}
+use Rattle.machine.proofs.HoldersRows.{held-with_owed, held-owing, held-with_thread, held-answered, own_place_false, place_holder, held-with_place}
 
 -- what is known where a thread makes a step of an instruction
 pub record IsOwning (S : State) (t : ObjNo) (row : ThreadRow) : Type 0 where
@@ -61,7 +62,7 @@ holders-handle S t row told o r h room =
     let process : is_some (thread_of S p) ≡ false = ap is_some (h.owns.links t row h.acting.is) in
     let free : (x : ObjNo) → place_names x (place_at (table_of S p) i) ≡ 0 = λ x. ap (option_names x) (free_index_is_free (table_of S p)) in
     holders-plus S (with_handle S t row told o r).state (InProcess p i) o
-    (let a = cell_false (is_some (thread_of S p)) o (place_at (table_of S p) i) process in
+    (let a = own_place_false (is_some (thread_of S p)) o (place_at (table_of S p) i) process in
     let b = free o in
     let c = none_owed S (InProcess p i) o h.owns (λ u m. m) in omega arith)
     (λ g x.

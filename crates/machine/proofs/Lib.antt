@@ -35,3 +35,5 @@ pub mod BootHolders
 pub mod Effects
 pub mod SafeRuns
 pub mod SafeHistories
+pub mod HeldLaws
+pub mod CountLaws

@@ -18,7 +18,8 @@ use Rattle.machine.specs.Holding.{same_pair}
 use Rattle.machine.proofs.Lists.{set_either}
 use Rattle.machine.proofs.Live.{same_object}
 use Rattle.machine.proofs.Totals.{total_at_most, is_some-set}
-use Rattle.machine.proofs.Holders.{MayOwe, EachMayOwe, Owns, owed_by, if_not, eqb_apart}
+use Rattle.machine.specs.HeldIn.{owed_by}
+use Rattle.machine.proofs.Holders.{MayOwe, EachMayOwe, Owns, if_not, eqb_apart}
 
 pair_apart : (t : ObjNo) (h g : Holder) (o x : ObjNo) → MayOwe t h → (MayOwe t g → ⊥) → same_pair h o g x ≡ 0
 pair_apart t (Temp u) (Temp v) o x own apart = if_not (u.0 == v.0) (same o x) (eqb_apart u.0 v.0 (λ e. apart (sym e ∙ own)))

@@ -16,7 +16,7 @@ use Rattle.machine.specs.SafeReferences.{IsSafeReferences, IsOver, DiesOnlyAtZer
 use Rattle.machine.proofs.Boots.{good-boot}
 use Rattle.machine.proofs.BootHolders.{owns-boot, held-boot, not_gone-boot}
 use Rattle.machine.proofs.Effects.{fits-same, no_find_to_open}
-use Rattle.machine.proofs.Holders.{held_in}
+use Rattle.machine.specs.HeldIn.{held_in}
 use Rattle.machine.proofs.Lives.{gone}
 use Rattle.machine.proofs.SafeRuns.{IsSafeStep, IsSafeRun, legal_runs, run-front, run-rest, run-last, run-counts, run-gone, run-swept, run-closed, run-fits, gone_le, swept_le}
 
@@ -88,7 +88,10 @@ run-safe script history run = record {
   over = is_over script history run;
 }
 
+-- the entries of a legal history are a run of safe steps from boot
+pub legal_run : (script : Script) (history : List Entry) → IsValidWider script → IsLegal script history → IsSafeRun script (boot script) history
+legal_run script history valid legal = legal_runs script (boot script) 1 history (good-boot script (valid_wider_is_shaped script valid)) (owns-boot script) legal
+
 -- in every legal history of a valid script an object dies exactly where its last reference goes, and nobody opens it afterwards
 pub legal_safe : (script : Script) (history : List Entry) → IsValidWider script → IsLegal script history → IsSafeReferences script history
-legal_safe script history valid legal = run-safe script history
-    (legal_runs script (boot script) 1 history (good-boot script (valid_wider_is_shaped script valid)) (owns-boot script) legal)
+legal_safe script history valid legal = run-safe script history (legal_run script history valid legal)

@@ -9,14 +9,15 @@ use Rattle.machine.specs.declared.state.ObjectRow.{ObjectRow}
 use Rattle.machine.specs.declared.state.State.{State}
 use Rattle.machine.specs.References.{count_of, pluses, minuses}
 use Rattle.machine.specs.Told.{deaths, removals}
-use Rattle.machine.specs.Holding.{EachFitsHolders}
+use Rattle.machine.specs.Holding.{EachFitsHolders, held_after_all}
 use Rattle.machine.specs.CountAfter.{effects_of}
 use Rattle.machine.specs.Good.{Good, dead_bit}
 use Rattle.machine.specs.History.{acted_by, next, after_from, IsLegalFrom}
 use Rattle.machine.proofs.CountedLaws.{acted_by-lives}
 use Rattle.machine.proofs.Effects.{pluses-append, minuses-append, deaths-append, removals-append, fits-append, fits-same}
 use Rattle.machine.proofs.Histories.{good-next, after_from-push}
-use Rattle.machine.proofs.Holders.{Owns, HoldersMove, held_in, held_after_all}
+use Rattle.machine.specs.HeldIn.{held_in}
+use Rattle.machine.proofs.Holders.{Owns, HoldersMove}
 use Rattle.machine.proofs.HoldersAct.{acted_by-holders}
 use Rattle.machine.proofs.Lives.{LivesMove, gone, swept, gone_bit, swept_bit, unmade}
 

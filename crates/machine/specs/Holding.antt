@@ -32,6 +32,11 @@ held_after held (Plus h o) g x = held g x + same_pair h o g x
 held_after held (Minus h o) g x = held g x - same_pair h o g x
 held_after held _ g x = held g x
 
+-- who holds what after several effects
+abbrev pub held_after_all : (Holder → ObjNo → ℕ) → List Effect → Holder → ObjNo → ℕ
+held_after_all held [] g x = held g x
+held_after_all held (e ∷ es) g x = held_after_all (held_after held e) es g x
+
 -- a Plus names a holder that doesn't hold the object, and a Minus one that does
 abbrev pub FitsHolders : (Holder → ObjNo → ℕ) → Effect → Type 0
 FitsHolders held (Plus h o) = held h o ≡ 0

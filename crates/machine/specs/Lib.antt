@@ -23,5 +23,6 @@ pub mod PlainView
 pub mod TwoHandles
 pub mod Told
 pub mod Holding
+pub mod HeldIn
 pub mod CountAfter
 pub mod SafeReferences
