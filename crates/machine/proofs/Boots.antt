@@ -30,11 +30,11 @@ total-replicate : {A : Type 0} (f : A → ℕ) (x : A) (n : ℕ) → f x ≡ 0 �
 total-replicate f x zero h = refl
 total-replicate f x (suc n) h = let r = total-replicate f x n h in omega arith
 
-total-const : {A B : Type 0} (f : B → ℕ) (y : B) (xs : List A) → f y ≡ 0 → total f (map (λ _. y) xs) ≡ 0
+pub total-const : {A B : Type 0} (f : B → ℕ) (y : B) (xs : List A) → f y ≡ 0 → total f (map (λ _. y) xs) ≡ 0
 total-const f y [] h = refl
 total-const f y (x ∷ xs) h = let r = total-const f y xs h in omega arith
 
-const_either : {A B : Type 0} (y d : B) (xs : List A) (i : ℕ) → (get_or (map (λ _. y) xs) i d ≡ y) ⊎ (get_or (map (λ _. y) xs) i d ≡ d)
+pub const_either : {A B : Type 0} (y d : B) (xs : List A) (i : ℕ) → (get_or (map (λ _. y) xs) i d ≡ y) ⊎ (get_or (map (λ _. y) xs) i d ≡ d)
 const_either y d [] i = inr refl
 const_either y d (x ∷ xs) zero = inl refl
 const_either y d (x ∷ xs) (suc i) = const_either y d xs i
@@ -71,7 +71,7 @@ born_threads_past script n o (b ∷ bs) le h =
     let r = born_threads_past script n o bs le h.1 in omega arith
 
 -- each row at boot is good
-born_row : (script : Script) (n : ℕ) (bs : List Born) (i : ℕ) (row : ThreadRow) → EachBorn script n bs → get_or (map (λ b. b.thread) bs) i None ≡ Some row → (works : Bool) × IsBornThread script n works row
+pub born_row : (script : Script) (n : ℕ) (bs : List Born) (i : ℕ) (row : ThreadRow) → EachBorn script n bs → get_or (map (λ b. b.thread) bs) i None ≡ Some row → (works : Bool) × IsBornThread script n works row
 born_row script n [] i row h is = cc
 born_row script n (b ∷ bs) zero row h is = (b.works, h.0.row row is)
 born_row script n (b ∷ bs) (suc i) row h is = born_row script n bs i row h.1 is
@@ -108,11 +108,11 @@ born_ready : (script : Script) (n : ℕ) (b : Born) → IsBorn script n b → b.
 born_ready script n b h works None is = let there = h.thread works in let gone : is_some b.thread ≡ false = ap is_some is in cc
 born_ready script n b h works (Some row) is = (h.row row is).works_there works
 
-at_seam : (pre : List Born) (b : Born) (bs : List Born) → get_or (map (λ x. x.thread) (pre ++ b ∷ bs)) (length pre) None ≡ b.thread
+pub at_seam : (pre : List Born) (b : Born) (bs : List Born) → get_or (map (λ x. x.thread) (pre ++ b ∷ bs)) (length pre) None ≡ b.thread
 at_seam [] b bs = refl
 at_seam (x ∷ xs) b bs = at_seam xs b bs
 
-owes_nothing_at : (bs : List Born) (i : ℕ) → ◌≡◌ {A = List Owed} (get_or (map (λ _. []) bs) i []) []
+pub owes_nothing_at : (bs : List Born) (i : ℕ) → ◌≡◌ {A = List Owed} (get_or (map (λ _. []) bs) i []) []
 owes_nothing_at [] i = refl
 owes_nothing_at (b ∷ bs) zero = refl
 owes_nothing_at (b ∷ bs) (suc i) = owes_nothing_at bs i

@@ -14,11 +14,11 @@ use Rattle.machine.specs.References.{total, same, option_names, place_names, pha
 use Rattle.machine.specs.Good.{Good}
 use Rattle.machine.proofs.Totals.{total_at_most}
 
-bit_le : (b : Bool) → cond b 1 0 ≤ 1
+pub bit_le : (b : Bool) → cond b 1 0 ≤ 1
 bit_le true = omega arith
 bit_le false = omega arith
 
-same_le : (x o : ObjNo) → same x o ≤ 1
+pub same_le : (x o : ObjNo) → same x o ≤ 1
 same_le x o = bit_le (eqb x.0 o.0)
 
 option_le : (o : ObjNo) (x : Option ObjNo) → option_names o x ≤ 1

@@ -30,3 +30,14 @@ pub mod LivesClose
 pub mod LivesSteps
 pub mod CountedLaws
 pub mod CountedAfter
+pub mod Holders
+pub mod Owning
+pub mod HoldersRows
+pub mod HoldersSteps
+pub mod HoldersAct
+pub mod BootHolders
+pub mod Effects
+pub mod SafeRuns
+pub mod SafeHistories
+pub mod HeldLaws
+pub mod CountLaws

@@ -24,3 +24,7 @@ pub mod Built
 pub mod PlainView
 pub mod TwoHandles
 pub mod Told
+pub mod Holding
+pub mod HeldIn
+pub mod CountAfter
+pub mod SafeReferences

@@ -16,6 +16,7 @@ mod outcome;
 mod pay;
 mod plain;
 mod rows;
+mod safe_references;
 mod state;
 mod table;
 mod tick;
@@ -29,6 +30,7 @@ pub use dup::stays_with_thread;
 pub use open::is_open;
 pub use outcome::Outcome;
 pub use plain::{Plain, entry_of};
+pub use safe_references::legal_is_safe;
 pub use state::{Owed, Phase, Place, Queued, State, ThreadRow};
 pub use table::{
     FRESH_PLACE, MAX_HANDLES, free_index, handle_number, holder_of, index_of, instance_of, is_full,
