@@ -14,7 +14,7 @@ use Rattle.machine.specs.Counted.{Counted}
 use Rattle.machine.specs.History.{acted_by, entry_of, after, CanAct}
 use Rattle.machine.specs.References.{count_of, pluses, minuses}
 use Rattle.machine.specs.Run.{slot_actor}
-use Rattle.machine.proofs.CountedAfter.{counted-after-valid}
+use Rattle.machine.proofs.CountedLaws.{counted-after-valid}
 use Rattle.machine.proofs.PlainSteps.{good_plain, plain_goes, slot_can}
 use Rattle.machine.proofs.RefsActor.{acted_by-refs}
 use Rattle.kcore.specs.declared.tables.Tables.{Tables}

@@ -29,7 +29,6 @@ pub mod Lives
 pub mod LivesClose
 pub mod LivesSteps
 pub mod CountedLaws
-pub mod CountedAfter
 pub mod Holders
 pub mod Owning
 pub mod HoldersRows
