@@ -6,7 +6,6 @@ pub mod ObjectNames
 pub mod Numbers
 pub mod Parts
 pub mod PartsAgain
-pub mod Reading
 pub mod Schedules
 pub mod Scripts
 pub mod Slots

@@ -17,6 +17,6 @@ mod text;
 mod wider;
 
 pub use fault::RunFault;
-pub use read::{MAX_SCRIPT_BYTES, ReadScript, read_script};
+pub use read::{MAX_SCRIPT_BYTES, ReadScript};
 pub use reason::Reason;
 pub use wider::read_wider;

@@ -29,7 +29,7 @@ fn is_worked_script(script: &Script) -> bool {
 
 #[test]
 fn reads_a_script(rt: HostRuntime) -> Result<(), Fail> {
-    match read_script(rt.alloc(), SCRIPT.as_bytes()) {
+    match read_wider(rt.alloc(), SCRIPT.as_bytes()) {
         ReadScript::Script(script) => assert!(rt; is_worked_script(&script)),
         _ => assert!(rt; false, "the script is refused"),
     }
@@ -51,12 +51,10 @@ fn refuses_other_texts(rt: HostRuntime) -> Result<(), Fail> {
         "eka2 1\nprocess kernel\nthread a 10\nschedule\ngo 1\nend\n",
         "eka2 1\nprocess p\nthread supervisor 10\nschedule\ngo 1\nend\n",
         "eka2 1\nprocess p\nthread abcdefghijklmnopq 10\nschedule\ngo 1\nend\n",
-        "eka2 1\nprocess p\nthread a 10\nprocess q\nthread b 10\nschedule\ngo 1\nend\n",
-        "eka2 1\nprocess p\nthread a 10\nschedule\ngo 1\ngo 1\nend\n",
         "eka2 1\nprocess p\nthread a 10\nschedule\ngo 1\nend\nend\n",
     ];
     for text in texts {
-        let answer = read_script(rt.alloc(), text.as_bytes());
+        let answer = read_wider(rt.alloc(), text.as_bytes());
         assert!(rt;
             matches!(
                 answer,
@@ -74,7 +72,7 @@ fn refuses_other_texts(rt: HostRuntime) -> Result<(), Fail> {
 #[test]
 fn reads_a_thread_without_instructions(rt: HostRuntime) -> Result<(), Fail> {
     let text = "eka2 1\nprocess p\nthread abcdefghijklmnop 63\nschedule\ngo 65536\nend\n";
-    match read_script(rt.alloc(), text.as_bytes()) {
+    match read_wider(rt.alloc(), text.as_bytes()) {
         ReadScript::Script(script) => assert_eq!(rt; script.slots.len(), 65_536),
         _ => assert!(rt; false, "the script is refused"),
     }
