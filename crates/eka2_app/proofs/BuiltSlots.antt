@@ -2,7 +2,7 @@
 use Rattle.std.proofs.Common.{ℕ, zero, suc, List, [], ◌∷◌, ◌++◌, Option, Some, None, replicate, get_or, sym, subst}
 use Rattle.std.specs.List.{AllByRecursion}
 use Rattle.machine.specs.Built.{IsBuilt}
-use Rattle.script_types.specs.WiderGrammar.{line_slots, schedule_slots, IsSlotLine, IsSchedule, AcceptedWider, IsValidWider}
+use Rattle.script_types.specs.Grammar.{line_slots, schedule_slots, IsSlotLine, IsSchedule, Accepted, IsValid}
 use Rattle.script_types.specs.declared.line.Line.{Line}
 use Rattle.script_types.specs.declared.line.Line.TheVariants as line
 use Rattle.script_types.specs.declared.script.Script.{Script}
@@ -31,7 +31,7 @@ built_schedule : (schedule : Option (List Line)) → IsSchedule schedule → All
 built_schedule None h = tt
 built_schedule (Some lines) h = built_lines lines h
 
-pub accepted_slots_are_built : (bytes : List ℕ) (script : Script) → AcceptedWider bytes script → AllByRecursion IsBuilt script.slots
+pub accepted_slots_are_built : (bytes : List ℕ) (script : Script) → Accepted bytes script → AllByRecursion IsBuilt script.slots
 accepted_slots_are_built bytes script a = subst (λ (s : Script). AllByRecursion IsBuilt s.slots) (sym a.script_is) (built_schedule a.parts.schedule a.schedule)
 
 -- so is the slot at any place, where `go` stands for what is past the end
@@ -40,5 +40,5 @@ built_at [] i all = tt
 built_at (x ∷ xs) zero all = all.0
 built_at (x ∷ xs) (suc i) all = built_at xs i all.1
 
-pub valid_slot_is_built : (script : Script) (i : ℕ) → IsValidWider script → IsBuilt (get_or script.slots i slot.Go)
+pub valid_slot_is_built : (script : Script) (i : ℕ) → IsValid script → IsBuilt (get_or script.slots i slot.Go)
 valid_slot_is_built script i valid = built_at script.slots i (accepted_slots_are_built valid.0 script valid.1)

@@ -7,13 +7,13 @@ use Rattle.machine.specs.History.{IsLegal}
 use Rattle.machine.specs.Run.{run}
 use Rattle.script_read.specs.Refusal.{refusal_text}
 use Rattle.script_read.specs.declared.reason.Reason.TheVariants.{Unbuilt}
-use Rattle.script_types.specs.WiderGrammar.{AcceptedWider}
+use Rattle.script_types.specs.Grammar.{Accepted}
 use Rattle.script_types.specs.declared.script.Script.{Script}
 
 -- the input is accepted as a script, whose run has this text
 pub record IsRunText (input : Option (List ℕ)) (text : List ℕ) : Type 0 where
   pub script : Script
-  pub accepted : IfSome input (λ bytes. AcceptedWider bytes script)
+  pub accepted : IfSome input (λ bytes. Accepted bytes script)
   pub same : text ≡ run_text script
 
 -- the input isn't accepted, and the text is the line that says so
@@ -24,7 +24,7 @@ pub record IsRefusalText (input : Option (List ℕ)) (text : List ℕ) : Type 0 
 -- the input is accepted as a script, and the whole text of its run was written, whose history is legal
 pub record WroteRun (input old new : Option (List ℕ)) : Type 0 where
   pub script : Script
-  pub accepted : IfSome input (λ bytes. AcceptedWider bytes script)
+  pub accepted : IfSome input (λ bytes. Accepted bytes script)
   pub wrote : Wrote old new (run_text script)
   pub legal : IsLegal script (run script)
 

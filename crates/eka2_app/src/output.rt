@@ -9,7 +9,7 @@ ghost use Rattle.entry_log.specs.HistoryText.{history_text};
 ghost use Rattle.machine.specs.FinalRows.{final_rows};
 ghost use Rattle.machine.specs.History.{after, IsLegal};
 ghost use Rattle.script_read.specs.Refusal.{refusal_text};
-ghost use Rattle.script_types.specs.WiderGrammar.{IsValidWider};
+ghost use Rattle.script_types.specs.Grammar.{IsValid};
 
 use arrayvec::ArrayVec;
 use edge_io::{Failed, Sink, write_whole};
@@ -70,7 +70,7 @@ fn write_entries<K: Sink>(sink: &mut K, entries: &[Entry]) -> Result<(), Failed>
 /// Writes the line of each object that is left.
 fn write_rows<K: Sink>(sink: &mut K, kernel: &Kernel) -> Result<(), Failed>
     requires usable { kernel.now.usable ≡ true }
-    requires valid { IsValidWider kernel.now.script }
+    requires valid { IsValid kernel.now.script }
     ensures whole { OnOk result (Wrote (K.written sink.old) (K.written sink.new)
         (flat_map final_line (final_rows (after kernel.now.script kernel.now.history)))) }
     ensures front { OnErr result (WrotePrefix (K.written sink.old) (K.written sink.new)
@@ -90,7 +90,7 @@ fn write_rows<K: Sink>(sink: &mut K, kernel: &Kernel) -> Result<(), Failed>
 /// Writes the whole history of a kernel: its entries, and the objects that are left.
 pub fn write_history<K: Sink>(sink: &mut K, kernel: &Kernel) -> Result<(), Failed>
     requires usable { kernel.now.usable ≡ true }
-    requires valid { IsValidWider kernel.now.script }
+    requires valid { IsValid kernel.now.script }
     ensures whole { OnOk result (Wrote (K.written sink.old) (K.written sink.new)
         (history_text kernel.now.history (final_rows (after kernel.now.script kernel.now.history)))) }
     ensures front { OnErr result (WrotePrefix (K.written sink.old) (K.written sink.new)

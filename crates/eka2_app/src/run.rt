@@ -9,21 +9,21 @@ ghost use Rattle.eka2_app.specs.RunText.{HasRun, run_text};
 ghost use Rattle.machine.specs.History.{IsLegal};
 ghost use Rattle.machine.specs.Run.{run};
 ghost use Rattle.script_read.specs.Refusal.{refusal_text};
-ghost use Rattle.script_types.specs.WiderGrammar.{AcceptedWider, IsValidWider};
+ghost use Rattle.script_types.specs.Grammar.{Accepted, IsValid};
 ghost use Rattle.script_types.specs.declared.script.Script.{Script};
 
 use crate::input::read_input;
 use crate::output::{write_history, write_refusal};
 use edge_io::{Sink, Source};
 use kcore::Kernel;
-use script_read::{ReadScript, Reason, RunFault, read_wider};
+use script_read::{ReadScript, Reason, RunFault, read_script};
 use script_types::Script;
 use std::alloc::Global;
 use sym_base::NoMemory;
 
 /// Makes the whole history of a script: each slot of its schedule makes one entry.
 fn make_history(alloc: Global, script: Script) -> Result<Kernel, NoMemory>
-    requires { IsValidWider script }
+    requires { IsValid script }
     ensures { IfOk result (λ kernel. HasRun script kernel) }
 {
     let slots = script.slots.copied(alloc)?;
@@ -37,7 +37,7 @@ fn make_history(alloc: Global, script: Script) -> Result<Kernel, NoMemory>
 
 /// Runs a script and writes its history. Nothing is written before the whole history is made.
 fn run_script<K: Sink>(alloc: Global, script: Script, sink: &mut K) -> Result<(), RunFault>
-    requires { IsValidWider script }
+    requires { IsValid script }
     ensures whole { OnOk result (Wrote (K.written sink.old) (K.written sink.new) (run_text script)) }
     ensures legal { OnOk result (IsLegal script (run script)) }
     ensures front { result ≡ Err RunFault.WriteFault → WrotePrefix (K.written sink.old) (K.written sink.new) (run_text script) }
@@ -82,7 +82,7 @@ pub fn run_schedule<S: Source, K: Sink>(
     ensures few { TookAtMost 4097 (S.left source.old) (S.left source.new) }
 
     // Completeness: where no count of faults rose, the input alone decides, but for want of memory.
-    ensures accepted { (script : Script) → IsSomeAnd (S.left source.old) (λ bytes. AcceptedWider bytes script)
+    ensures accepted { (script : Script) → IsSomeAnd (S.left source.old) (λ bytes. Accepted bytes script)
         → Stayed (S.faults source.old) (S.faults source.new) → Stayed (K.faults sink.old) (K.faults sink.new)
         → IsDoneOrNoMemory result }
     ensures unaccepted { IsSomeAnd (S.left source.old) IsUnaccepted
@@ -90,7 +90,7 @@ pub fn run_schedule<S: Source, K: Sink>(
         → IsRefusedOrNoMemory result }
 {
     let input = read_input(alloc, source)?;
-    match read_wider(alloc, input.as_slice()) {
+    match read_script(alloc, input.as_slice()) {
         ReadScript::Script(script) => run_script(alloc, script, sink),
         ReadScript::Refused { line, reason } => match write_refusal(sink, line, reason) {
             Ok(()) => Err(RunFault::Refused { line, reason }),

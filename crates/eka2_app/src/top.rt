@@ -6,7 +6,7 @@ ghost use Rattle.eka2_app.specs.Complete.{Stayed};
 ghost use Rattle.eka2_app.specs.Inputs.{IsAtEnd, IsUnaccepted, TookAtMost};
 ghost use Rattle.eka2_app.specs.Outputs.{WroteRun, WroteRefusal, WroteFront};
 ghost use Rattle.eka2_app.specs.Readings.{reading_of};
-ghost use Rattle.script_types.specs.WiderGrammar.{AcceptedWider};
+ghost use Rattle.script_types.specs.Grammar.{Accepted};
 ghost use Rattle.script_types.specs.declared.script.Script.{Script};
 
 use crate::run::run_schedule;
@@ -50,7 +50,7 @@ pub fn eka2_main<S: Source, K: Sink>(
 
     // Completeness: where no count of faults rose, words and input alone decide, but for want of memory.
     ensures accepted { (script : Script) → reading_of (map string_bytes words.now) ≢ None
-        → IsSomeAnd (S.left source.old) (λ bytes. AcceptedWider bytes script)
+        → IsSomeAnd (S.left source.old) (λ bytes. Accepted bytes script)
         → Stayed (S.faults source.old) (S.faults source.new) → Stayed (K.faults sink.old) (K.faults sink.new)
         → (result ≡ Status.Done) ⊎ (result ≡ Status.NoMemory) }
     ensures unaccepted { reading_of (map string_bytes words.now) ≢ None

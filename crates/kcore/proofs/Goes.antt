@@ -5,7 +5,7 @@ use Rattle.std.proofs.lemmas.Bool.{cases_lt}
 use Rattle.std.proofs.lemmas.List.{get_or_past, length-map}
 use Rattle.script_types.specs.declared.script.Script.{Script}
 use Rattle.script_types.specs.declared.script.Slot.{Slot}
-use Rattle.script_types.proofs.WiderLaws.{valid_wider_is_shaped}
+use Rattle.script_types.proofs.ShapeLaws.{valid_is_shaped}
 use Rattle.entry_log.specs.declared.entry.Actor.{Actor}
 use Rattle.entry_log.specs.declared.entry.Entry.{Entry}
 use Rattle.machine.specs.declared.outcome.Outcome.{Outcome}
@@ -29,7 +29,7 @@ use Rattle.kcore.specs.StateOf.{state_of}
 -- tables that stand for a history are well-formed
 pub are_good : (script : Script) (history : List Entry) (tables : Tables) → Stands script history tables → AreGood script tables
 are_good script history tables h = record {
-  shaped = valid_wider_is_shaped script h.plain.valid;
+  shaped = valid_is_shaped script h.plain.valid;
   good = good_plain script history (state_of tables) h.plain;
   agree = h.agree;
 }

@@ -1,6 +1,6 @@
 //! The kernel that a script's schedule drives.
 ghost use Rattle.std.specs.Prelude.{◌≡◌, ◌+◌, ◌<◌, ◌≤◌, ◌++◌, [], ◌∷◌, true, length, IfOk, OnOk};
-ghost use Rattle.script_types.specs.WiderGrammar.{IsValidWider};
+ghost use Rattle.script_types.specs.Grammar.{IsValid};
 ghost use Rattle.machine.specs.Built.{IsBuilt};
 ghost use Rattle.machine.specs.FinalRows.{rows_from, IsNextRow};
 ghost use Rattle.machine.specs.History.{after, entry_by, IsLegal};
@@ -76,7 +76,7 @@ fn next_row(tables: &Tables, from: u16) -> Option<FinalRow>
 impl Kernel {
     /// The kernel at boot, with room for so many entries. All tables of fixed size take their memory here.
     pub fn boot(alloc: Global, script: Script, room: u32) -> Result<Kernel, NoMemory>
-        requires valid { IsValidWider script }
+        requires valid { IsValid script }
         requires room { room ≤ 131072 }
         ensures { IfOk result (λ kernel. kernel ≡ record { script = script; history = []; room = room; usable = true }) }
     {

@@ -1,15 +1,15 @@
 pub mod Cuts
 pub mod Declaring
 pub mod Forms
+pub mod Fronts
 pub mod Lines
 pub mod ObjectNames
 pub mod Numbers
 pub mod Parts
 pub mod PartsAgain
+pub mod Reading
 pub mod Schedules
 pub mod Scripts
 pub mod Slots
 pub mod Steps
 pub mod Texts
-pub mod WiderScripts
-pub mod WiderReading

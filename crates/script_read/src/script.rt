@@ -1,73 +1,78 @@
-//! Taking lines from the front.
-ghost use Rattle.std.specs.Prelude.{◌≡◌, ◌<◌, length, option_map, IfOk, IfSome};
-ghost use Rattle.script_read.specs.Scripts.{first_of, instr_of, next_instr_of, is_header, is_schedule, is_end, instrs_of};
+//! The script that lines are.
+ghost use Rattle.std.specs.Prelude.{◌≡◌, IfOk};
+ghost use Rattle.script_read.specs.Scripts.{is_within, script_with, script_of};
 
-use script_types::{Instr, Line};
+use crate::declarations::{Declarations, read_declarations};
+use crate::front::{is_header, split_first};
+use crate::names::{are_new, process_names, thread_names};
+use crate::schedule::read_schedule;
+use script_types::{Line, ProcessDecl, Script, Slot, ThreadDecl};
 use std::alloc::Global;
-use sym_base::NoMemory;
+use sym_base::{Items, NoMemory};
 
-/// The first line, and those after it.
-pub fn split_first(lines: &[Line]) -> Option<(Line, &[Line])>
-    ensures { option_map (λ parts. (parts.0, parts.1.now)) result ≡ first_of lines.now }
+/// The most threads that a script declares: the kernel has 64, and the supervisor is one of them.
+const MAX_THREADS: usize = 63;
+
+/// Whether the names are new and the threads have room.
+fn is_within(
+    alloc: Global,
+    processes: &[ProcessDecl],
+    threads: &[ThreadDecl],
+) -> Result<bool, NoMemory>
+    ensures { IfOk result (λ within. within ≡ is_within processes.now threads.now) }
 {
-    if lines.is_empty() {
-        return None;
+    let of_processes = process_names(alloc, processes)?;
+    let of_threads = thread_names(alloc, threads)?;
+    Ok(
+        are_new("kernel", &of_processes)
+            && are_new("supervisor", &of_threads)
+            && threads.len() <= MAX_THREADS,
+    )
+}
+
+/// The script of these processes, threads and slots.
+fn script_with(
+    alloc: Global,
+    processes: Vec<ProcessDecl>,
+    threads: Vec<ThreadDecl>,
+    slots: Vec<Slot>,
+) -> Script
+    ensures { result ≡ script_with processes.items threads.items slots.items }
+{
+    Script {
+        pool: 0,
+        fast: 0,
+        queues: Items::new(Vec::new(alloc)),
+        dfcs: Items::new(Vec::new(alloc)),
+        idfcs: Items::new(Vec::new(alloc)),
+        irqs: Items::new(Vec::new(alloc)),
+        processes: Items::new(processes),
+        threads: Items::new(threads),
+        slots: Items::new(slots),
     }
-    Some((lines[0], &lines[1..]))
 }
 
-/// The instruction that a line is.
-fn instruction(line: Line) -> Option<Instr>
-    ensures { result ≡ instr_of line }
+/// The script that lines are. None where they aren't those of a script.
+#[tactic(auto, unfolding(crate::specs::Scripts::script_of))]
+pub fn script_of_lines(alloc: Global, lines: &[Line]) -> Result<Option<Script>, NoMemory>
+    ensures { IfOk result (λ script. script ≡ script_of lines.now) }
 {
-    match line {
-        Line::Instr(what) => Some(what),
-        _ => None,
-    }
-}
-
-/// Whether a line is the first of a script.
-pub fn is_header(line: &Line) -> bool
-    ensures { result ≡ is_header line.now }
-{
-    matches!(line, Line::Header)
-}
-
-/// Whether a line is `schedule`.
-pub fn is_schedule(line: &Line) -> bool
-    ensures { result ≡ is_schedule line.now }
-{
-    matches!(line, Line::Schedule)
-}
-
-/// Whether a line is the last of a script.
-pub fn is_end(line: &Line) -> bool
-    ensures { result ≡ is_end line.now }
-{
-    matches!(line, Line::End)
-}
-
-/// The instruction at the front, and the lines after it.
-fn next_instruction(lines: &[Line]) -> Option<(Instr, &[Line])>
-    ensures next { option_map (λ found. (found.0, found.1.now)) result ≡ next_instr_of lines.now }
-    ensures shorter { IfSome result (λ found. length found.1.now < length lines.now) }
-{
-    let Some((line, rest)) = split_first(lines) else {
-        return None;
+    let Some((header, body)) = split_first(lines) else {
+        return Ok(None);
     };
-    let what = instruction(line)?;
-    Some((what, rest))
-}
-
-/// The instructions at the front, and the lines after them.
-pub fn read_instructions(alloc: Global, lines: &[Line]) -> Result<(Vec<Instr>, &[Line]), NoMemory>
-    ensures { IfOk result (λ found. (found.0.items, found.1.now) ≡ instrs_of lines.now) }
-{
-    let mut instrs = Vec::new(alloc);
-    let mut rest = lines;
-    while let Some((what, after)) = next_instruction(rest) {
-        instrs.push(what)?;
-        rest = after;
+    let Some(declared) = read_declarations(alloc, body)? else {
+        return Ok(None);
+    };
+    let Declarations {
+        processes,
+        threads,
+        rest,
+    } = declared;
+    let Some(slots) = read_schedule(alloc, rest)? else {
+        return Ok(None);
+    };
+    if !is_header(&header) || !is_within(alloc, &processes, &threads)? {
+        return Ok(None);
     }
-    Ok((instrs, rest))
+    Ok(Some(script_with(alloc, processes, threads, slots)))
 }

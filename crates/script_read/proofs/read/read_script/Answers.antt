@@ -1,5 +1,5 @@
-use Rattle.script_read.proofs.WiderReading.{one_script}
-use Rattle.script_read.proofs.wider.read_wider.Goals as goal
+use Rattle.script_read.proofs.Reading.{one_script}
+use Rattle.script_read.proofs.read.read_script.Goals as goal
 
 pub returns-in-Ok-Some-clause-only : goal.returns-in-Ok-Some-clause-only
 returns-in-Ok-Some-clause-only c = λ script accepted.
