@@ -1,4 +1,4 @@
-mod Wider
+mod BuiltSlots
 mod Judged
 mod Rows
 mod Runs

@@ -1,15 +1,14 @@
 -- The rows of the objects that are left.
-use Rattle.std.proofs.Common.{◌≡◌, ℕ, ◌+◌, ◌<◌, ◌≤◌, List, [], ◌∷◌, length, drop, suc, arith, refl, ap, Option, Some, None}
+use Rattle.std.proofs.Common.{◌≡◌, ℕ, ◌+◌, ◌<◌, List, [], ◌∷◌, length, drop, suc, arith, ap, Option, Some, None}
 use Rattle.std.proofs.lemmas.List.{length-drop}
 use Rattle.entry_log.specs.declared.entry.Entry.{Entry}
 use Rattle.entry_log.specs.declared.entry.FinalRow.{FinalRow}
 use Rattle.machine.proofs.Boots.{good-after-valid}
-use Rattle.eka2_app.proofs.Wider.{valid_is_wider}
 use Rattle.machine.specs.FinalRows.{final_row, rows_of, rows_from}
 use Rattle.machine.specs.History.{after}
 use Rattle.state_rows.specs.declared.object.ObjectRow.{ObjectRow}
 use Rattle.machine.specs.declared.state.State.{State}
-use Rattle.script_types.specs.Valid.{IsValid}
+use Rattle.script_types.specs.Grammar.{IsValid}
 use Rattle.script_types.specs.declared.script.Script.{Script}
 
 -- a row's number lies among those of the list, which then isn't empty
@@ -32,5 +31,5 @@ row_among S n (Some object ∷ objects) row rest e =
 pub row_number : (script : Script) (history : List Entry) (n : ℕ) (row : FinalRow) (rest : List FinalRow) → IsValid script → rows_from (after script history) n ≡ row ∷ rest → row.object.0 < 4096
 row_number script history n row rest valid e =
     let among = row_among (after script history) n (drop n (after script history).objects) row rest e in
-    let few = (good-after-valid script history (valid_is_wider script valid)).objects_few in
+    let few = (good-after-valid script history valid).objects_few in
     omega (arith, length-drop n (after script history).objects)

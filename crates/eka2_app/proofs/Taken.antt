@@ -1,5 +1,5 @@
 -- Bytes that were taken from a source.
-use Rattle.std.proofs.Common.{◌≡◌, ℕ, ◌+◌, ◌≤◌, List, ◌++◌, length, take, arith}
+use Rattle.std.proofs.Common.{ℕ, ◌+◌, ◌≤◌, List, ◌++◌, length, take, arith}
 use Rattle.std.proofs.lemmas.List.{length-append, length-take}
 
 -- at most n of some bytes behind others

@@ -1,8 +1,6 @@
 -- Which answers are left where nothing failed.
 use Rattle.std.specs.Prelude.{ℕ, ⊤, Result, Ok, Err}
 use Rattle.edge_io.specs.Faults.{Rose}
-use Rattle.eka2_app.specs.declared.status.Status.{Status}
-use Rattle.eka2_app.specs.declared.status.Status.TheVariants as status
 use Rattle.script_read.specs.declared.fault.RunFault.{RunFault}
 use Rattle.script_read.specs.declared.fault.RunFault.TheVariants as fault
 

@@ -1,7 +1,7 @@
 -- What the bytes of an input are to this program.
 use Rattle.std.specs.Prelude.{◌≡◌, ℕ, ◌<◌, ◌≤◌, ◌⊎◌, List, [], Option, IfSome, length}
 use Rattle.edge_io.specs.Left.{preceded}
-use Rattle.script_types.specs.Accepted.{Accepted}
+use Rattle.script_types.specs.Grammar.{Accepted}
 use Rattle.script_types.specs.declared.script.Script.{Script}
 
 -- the bytes are too many for a script, or they are accepted as none

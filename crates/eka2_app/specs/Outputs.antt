@@ -7,7 +7,7 @@ use Rattle.machine.specs.History.{IsLegal}
 use Rattle.machine.specs.Run.{run}
 use Rattle.script_read.specs.Refusal.{refusal_text}
 use Rattle.script_read.specs.declared.reason.Reason.TheVariants.{Unbuilt}
-use Rattle.script_types.specs.Accepted.{Accepted}
+use Rattle.script_types.specs.Grammar.{Accepted}
 use Rattle.script_types.specs.declared.script.Script.{Script}
 
 -- the input is accepted as a script, whose run has this text

@@ -9,7 +9,7 @@ ghost use Rattle.entry_log.specs.HistoryText.{history_text};
 ghost use Rattle.machine.specs.FinalRows.{final_rows};
 ghost use Rattle.machine.specs.History.{after, IsLegal};
 ghost use Rattle.script_read.specs.Refusal.{refusal_text};
-ghost use Rattle.script_types.specs.Valid.{IsValid};
+ghost use Rattle.script_types.specs.Grammar.{IsValid};
 
 use arrayvec::ArrayVec;
 use edge_io::{Failed, Sink, write_whole};

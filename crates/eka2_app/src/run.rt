@@ -9,8 +9,7 @@ ghost use Rattle.eka2_app.specs.RunText.{HasRun, run_text};
 ghost use Rattle.machine.specs.History.{IsLegal};
 ghost use Rattle.machine.specs.Run.{run};
 ghost use Rattle.script_read.specs.Refusal.{refusal_text};
-ghost use Rattle.script_types.specs.Accepted.{Accepted};
-ghost use Rattle.script_types.specs.Valid.{IsValid};
+ghost use Rattle.script_types.specs.Grammar.{Accepted, IsValid};
 ghost use Rattle.script_types.specs.declared.script.Script.{Script};
 
 use crate::input::read_input;

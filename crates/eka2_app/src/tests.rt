@@ -28,6 +28,36 @@ objects
 end
 ";
 
+/// An object dies between its find and its open, and its last close and its sweep stand apart.
+const DYING_SCRIPT: &str =
+    "eka2 1\nprocess p\nthread a 10\ncreate mutex m r0\nclose r0\nthread b 10\nopen mutex m r1\nschedule\ngo 1\ntick\ngo 1\ntick\ngo 1\ntick\ngo 1\ntick\ngo 1\nend\n";
+
+const DYING_HISTORY: &str = "\
+1 t3 create.do +p2.0:5 = 65536
+2 tick turn
+3 t4 open.seek seek:5
+4 tick turn
+5 t3 close.do -p2.0:5 dead:5 = 0
+6 tick turn
+7 t4 open.return missed:5 = -1
+8 tick turn
+9 t3 sweep swept:5
+objects
+0 process kernel 1
+1 thread supervisor 1 live
+2 process p 2
+3 thread a 1 live
+4 thread b 1 live
+end
+";
+
+const EMPTY_HISTORY: &str = "\
+objects
+0 process kernel 1
+1 thread supervisor 1 live
+end
+";
+
 const FIRST_TWO_LINES: &str = "1 t3 create.do +p2.0:4 = 65536\n2 t3 dup.look +tmp3:4\n";
 
 /// The words of a command line.
@@ -75,7 +105,19 @@ const WELL: Case<'static> = Case {
 
 #[test]
 fn a_script_is_run(rt: HostRuntime) -> Result<(), Fail> {
-    expect_case(&rt, rt.alloc(), &WELL)
+    expect_case(&rt, rt.alloc(), &WELL)?;
+    let dying = Case {
+        script: DYING_SCRIPT,
+        written: DYING_HISTORY,
+        ..WELL
+    };
+    expect_case(&rt, rt.alloc(), &dying)?;
+    let empty = Case {
+        script: "eka2 1\nend\n",
+        written: EMPTY_HISTORY,
+        ..WELL
+    };
+    expect_case(&rt, rt.alloc(), &empty)
 }
 
 #[test]

@@ -6,7 +6,7 @@ ghost use Rattle.eka2_app.specs.Complete.{Stayed};
 ghost use Rattle.eka2_app.specs.Inputs.{IsAtEnd, IsUnaccepted, TookAtMost};
 ghost use Rattle.eka2_app.specs.Outputs.{WroteRun, WroteRefusal, WroteFront};
 ghost use Rattle.eka2_app.specs.Readings.{reading_of};
-ghost use Rattle.script_types.specs.Accepted.{Accepted};
+ghost use Rattle.script_types.specs.Grammar.{Accepted};
 ghost use Rattle.script_types.specs.declared.script.Script.{Script};
 
 use crate::run::run_schedule;

@@ -8,7 +8,7 @@ use Rattle.std.proofs.lemmas.Option.{slice_get-map}
 use Rattle.state_rows.specs.declared.object.ObjectRow.{ObjectRow}
 use Rattle.state_rows.specs.ObjectRows.{has_name}
 use Rattle.script_types.specs.declared.script.Script.{Script}
-use Rattle.script_types.specs.WiderGrammar.{IsValidWider}
+use Rattle.script_types.specs.Grammar.{IsValid}
 use Rattle.machine.specs.declared.boot.Born.{Born}
 use Rattle.machine.specs.declared.state.State.{State}
 use Rattle.machine.specs.Boot.{boot, boot_of, born}
@@ -93,7 +93,7 @@ alive_at_boot script k lt =
     let r = boot_rows script k (omega arith) in
     alive_of (boot script).objects k r.0 r.1 r.2
 
-pub new_at_boot : (script : Script) → IsValidWider script → AreNew (born script) (boot script)
+pub new_at_boot : (script : Script) → IsValid script → AreNew (born script) (boot script)
 new_at_boot script valid = record {
   named = λ k b at. boot_no_session script k b.object (boot_row script k b at);
   alive = λ k b at. (boot_kinds script k b.object (boot_row script k b at)).0;

@@ -2,7 +2,7 @@
 use Rattle.std.proofs.Common.{◌≡◌, ℕ, ◌+◌, List, [], ◌∷◌, ◌++◌, length, arith, sym, ap, subst}
 use Rattle.script_types.specs.declared.script.Script.{Script}
 use Rattle.script_types.specs.declared.script.Slot.{Slot}
-use Rattle.script_types.proofs.WiderLaws.{valid_wider_is_shaped}
+use Rattle.script_types.proofs.ShapeLaws.{valid_is_shaped}
 use Rattle.entry_log.specs.declared.entry.Actor.{Actor}
 use Rattle.entry_log.specs.declared.entry.Entry.{Entry}
 use Rattle.machine.specs.declared.outcome.Outcome.{Outcome}
@@ -26,7 +26,7 @@ use Rattle.kcore.specs.StateOf.{state_of}
 -- tables that stand for a history are well-formed
 pub are_good : {W N : Type 0} (script : Script) (history : List Entry) (tables : Tables W N) → Stands script history tables → AreGood script tables
 are_good script history tables h = record {
-  shaped = valid_wider_is_shaped script h.plain.valid;
+  shaped = valid_is_shaped script h.plain.valid;
   good = good_plain script history (state_of tables) h.plain;
   counted = subst Counted (sym h.plain.state) (counted-after-valid script history h.plain.valid);
   agree = h.agree;

@@ -1,7 +1,7 @@
 //! The tables at boot.
 ghost use Rattle.std.specs.Prelude.{◌≡◌, ◌<◌, ◌≤◌, ◌++◌, [], ◌∷◌, Some, false, length, map, replicate, IfOk, slice_index, slice_set};
 ghost use Rattle.sym_base.specs.declared.number.ObjNo.{ObjNo};
-ghost use Rattle.script_types.specs.WiderGrammar.{IsValidWider};
+ghost use Rattle.script_types.specs.Grammar.{IsValid};
 ghost use Rattle.machine.specs.Boot.{boot};
 ghost use Rattle.machine.specs.References.{count_of};
 ghost use Rattle.machine.specs.Table.{fresh_place};
@@ -79,7 +79,7 @@ pub fn boot<W: RefWords + Drop>(
     script: &Script,
     words: W,
 ) -> Result<Tables<W>, NoMemory>
-    requires valid { IsValidWider script.now }
+    requires valid { IsValid script.now }
     requires unused { IsUnused (W.meaning words) }
     ensures state { IfOk result (λ tables. state_of tables ≡ boot script.now) }
     ensures agree { IfOk result (λ tables. Agrees tables.objects.counts (boot script.now)) }

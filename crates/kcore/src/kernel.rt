@@ -1,6 +1,6 @@
 //! The kernel that a script's schedule drives.
 ghost use Rattle.std.specs.Prelude.{◌≡◌, ◌+◌, ◌<◌, ◌≤◌, ◌++◌, [], ◌∷◌, true, length, IsTrue, IfOk, OnOk};
-ghost use Rattle.script_types.specs.WiderGrammar.{IsValidWider};
+ghost use Rattle.script_types.specs.Grammar.{IsValid};
 ghost use Rattle.machine.specs.Built.{IsBuilt};
 ghost use Rattle.machine.specs.FinalRows.{rows_from, IsNextRow};
 ghost use Rattle.entry_log.specs.declared.entry.Actor.TheVariants as Actor;
@@ -80,7 +80,7 @@ fn next_row<W: RefWords + Drop>(tables: &Tables<W>, from: u16) -> Option<FinalRo
 impl<W: RefWords + Drop> Kernel<W> {
     /// The kernel at boot, with room for so many entries. All tables of fixed size take their memory here.
     pub fn boot(alloc: Global, script: Script, words: W, room: u32) -> Result<Kernel<W>, NoMemory>
-        requires valid { IsValidWider script }
+        requires valid { IsValid script }
         requires unused { IsUnused (W.meaning words) }
         requires room { room ≤ 131072 }
         ensures { IfOk result (λ kernel. kernel ≡ record { script = script; history = []; room = room; usable = true }) }

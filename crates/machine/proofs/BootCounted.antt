@@ -9,7 +9,7 @@ use Rattle.sym_base.specs.declared.number.ObjNo.{ObjNo}
 use Rattle.script_types.specs.declared.declaration.ProcessDecl.{ProcessDecl}
 use Rattle.script_types.specs.declared.declaration.ThreadDecl.{ThreadDecl}
 use Rattle.script_types.specs.declared.script.Script.{Script}
-use Rattle.script_types.specs.WiderGrammar.{ThreadPart, ProcessPart, part_thread, parts_threads, part_process, IsValidWider}
+use Rattle.script_types.specs.Grammar.{ThreadPart, ProcessPart, part_thread, parts_threads, part_process, IsValid}
 use Rattle.machine.specs.declared.boot.Born.{Born}
 use Rattle.machine.specs.declared.state.ThreadRow.{ThreadRow}
 use Rattle.machine.specs.Boot.{boot, boot_of, born, born_thread, born_threads, born_processes, is_of}
@@ -89,14 +89,14 @@ parts_have number (g ∷ gs) all i above below =
       | inr apart ↦ or_right (has_thread i own) (has_thread i others) (parts_have (suc number) gs all.1 i (omega arith) (omega arith))
     ]
 
-valid_has : (script : Script) → IsValidWider script → (i : ℕ) → i < length script.processes → has_thread i script.threads ≡ true
+valid_has : (script : Script) → IsValid script → (i : ℕ) → i < length script.processes → has_thread i script.threads ≡ true
 valid_has script valid i below =
     let a = valid.1 in
     let groups = a.parts.processes in
     let count : length script.processes ≡ length groups = ap (λ (s : Script). length s.processes) a.script_is ∙ length-map groups part_process in
     ap (λ (s : Script). has_thread i s.threads) a.script_is ∙ parts_have 0 groups a.threads i (omega arith) (omega arith)
 
-born_held : (script : Script) → IsValidWider script → EachHeld (born script) 0 (born script)
+born_held : (script : Script) → IsValid script → EachHeld (born script) 0 (born script)
 born_held script valid = (
   omega arith,
   (omega arith, each_held_processes (born script) script.threads 0 2 script.processes (λ i above below. valid_has script valid i (omega arith)) (λ o. omega arith)),
@@ -108,7 +108,7 @@ held_at all n (b ∷ bs) zero o at h inside = subst (λ (x : ObjNo). 0 < links x
 held_at all n (b ∷ bs) (suc i) o at h inside = held_at all (n + 1) bs i o (omega arith) h.1 (omega arith)
 
 -- each object that stands at boot has a reference
-pub counted-boot : (script : Script) → IsValidWider script → Counted (boot script)
+pub counted-boot : (script : Script) → IsValid script → Counted (boot script)
 unfolding boot_of
 counted-boot script valid o alive =
     let bs = born script in

@@ -12,7 +12,7 @@ use Rattle.sym_base.specs.declared.kind.Kind.TheVariants.{Process, Thread}
 use Rattle.script_types.specs.declared.declaration.ProcessDecl.{ProcessDecl}
 use Rattle.script_types.specs.declared.declaration.ThreadDecl.{ThreadDecl}
 use Rattle.script_types.specs.declared.script.Script.{Script}
-use Rattle.script_types.specs.WiderGrammar.{ThreadPart, ProcessPart, part_thread, parts_threads, part_process, are_new, IsValidWider}
+use Rattle.script_types.specs.Grammar.{ThreadPart, ProcessPart, part_thread, parts_threads, part_process, are_new, IsValid}
 use Rattle.machine.specs.declared.boot.Born.{Born}
 use Rattle.state_rows.specs.declared.object.ObjectRow.{ObjectRow}
 use Rattle.machine.specs.Boot.{boot, boot_of, born, born_thread, born_threads, born_processes, is_of}
@@ -193,10 +193,10 @@ thread_names threads before j p (g ∷ gs) is others =
     (λ i above. own-append i before here ∙ (ap (λ (l : List (List ℕ)). l ++ own_names i here) (others i (omega arith)) ∙ other_part i j g.threads (λ e. absurd (omega arith))))) in
     names_of-append 1 own rest ∙ (ap (λ (l : List (List ℕ)). l ++ names_of 1 rest) first ∙ (ap (λ (l : List (List ℕ)). decl_names here ++ l) more ∙ sym (map-append (λ (d : ThreadDecl). d.name) here later)))
 
-processes_new : (script : Script) → IsValidWider script → IsTrue (are_new [] (names_of 0 (born script)))
+processes_new : (script : Script) → IsValid script → IsTrue (are_new [] (names_of 0 (born script)))
 processes_new script valid = subst (λ (l : List (List ℕ)). IsTrue (are_new (codes "kernel" ∷ []) l)) (sym (process_names script.threads 0 2 script.processes)) valid.1.limits.process_names
 
-threads_new : (script : Script) → IsValidWider script → IsTrue (are_new [] (names_of 1 (born script)))
+threads_new : (script : Script) → IsValid script → IsTrue (are_new [] (names_of 1 (born script)))
 threads_new script valid =
     let a = valid.1 in
     let groups = a.parts.processes in
@@ -205,7 +205,7 @@ threads_new script valid =
     subst (λ (l : List (List ℕ)). IsTrue (are_new (codes "supervisor" ∷ []) l)) (sym names) a.limits.thread_names
 
 -- no two objects at boot have one kind and one name
-pub boot_names_new : (script : Script) → IsValidWider script → (k : ℕ) (row : ObjectRow) → slice_get (boot script).objects k ≡ Some (Some row) → list_any (has_name row.kind row.name) (take k (boot script).objects) ≡ false
+pub boot_names_new : (script : Script) → IsValid script → (k : ℕ) (row : ObjectRow) → slice_get (boot script).objects k ≡ Some (Some row) → list_any (has_name row.kind row.name) (take k (boot script).objects) ≡ false
 unfolding boot_of
 boot_names_new script valid k row at = elim (boot_kinds script k row at).1 as (λ _. list_any (has_name row.kind row.name) (take k (boot script).objects) ≡ false) [
   | inl process ↦ (new_at 0 [] (born script) k row (ap kind_number process) (processes_new script valid) at).1

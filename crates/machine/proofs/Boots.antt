@@ -7,8 +7,8 @@ use Rattle.std.proofs.lemmas.Bool.{cases_lt}
 use Rattle.sym_base.specs.declared.number.ObjNo.{ObjNo}
 use Rattle.script_types.specs.declared.script.Script.{Script}
 use Rattle.script_types.specs.Shape.{IsShaped}
-use Rattle.script_types.specs.WiderGrammar.{IsValidWider}
-use Rattle.script_types.proofs.WiderLaws.{valid_wider_is_shaped}
+use Rattle.script_types.specs.Grammar.{IsValid}
+use Rattle.script_types.proofs.ShapeLaws.{valid_is_shaped}
 use Rattle.entry_log.specs.declared.entry.Entry.{Entry}
 use Rattle.machine.specs.declared.boot.Born.{Born}
 use Rattle.machine.specs.declared.state.Owed.{Owed}
@@ -182,5 +182,5 @@ good-boot script shaped =
 pub good-after : (script : Script) (history : List Entry) → IsShaped script → Good script (after script history)
 good-after script history shaped = good-after_from script (boot script) history (good-boot script shaped)
 
-pub good-after-valid : (script : Script) (history : List Entry) → IsValidWider script → Good script (after script history)
-good-after-valid script history valid = good-after script history (valid_wider_is_shaped script valid)
+pub good-after-valid : (script : Script) (history : List Entry) → IsValid script → Good script (after script history)
+good-after-valid script history valid = good-after script history (valid_is_shaped script valid)

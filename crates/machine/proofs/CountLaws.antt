@@ -3,7 +3,7 @@ use Rattle.std.proofs.Common.{◌≡◌, inl, inr, ◌<◌, ◌≤◌, List, [],
 use Rattle.std.proofs.lemmas.Bool.{cases_lt}
 use Rattle.sym_base.specs.declared.number.ObjNo.{ObjNo}
 use Rattle.script_types.specs.declared.script.Script.{Script}
-use Rattle.script_types.specs.WiderGrammar.{IsValidWider}
+use Rattle.script_types.specs.Grammar.{IsValid}
 use Rattle.entry_log.specs.declared.entry.Entry.{Entry}
 use Rattle.machine.specs.declared.state.State.{State}
 use Rattle.machine.specs.References.{count_of}
@@ -59,7 +59,7 @@ none_to_open script first later o front rest counted zero = elim (cases_lt 0 (fi
 ]
 
 -- In a legal history of a valid script the finds that open an object later never turn a count of 0 into another number.
-pub count_after-zero : (script : Script) (first later : List Entry) (o : ObjNo) → IsValidWider script → IsLegal script (first ++ later) → count_of (after script first) o ≡ 0 → count_after script first later o ≡ 0
+pub count_after-zero : (script : Script) (first later : List Entry) (o : ObjNo) → IsValid script → IsLegal script (first ++ later) → count_of (after script first) o ≡ 0 → count_after script first later o ≡ 0
 count_after-zero script first later o valid legal zero =
     let run = legal_run script (first ++ later) valid legal in
     let front = run-front script (boot script) first later run in
@@ -67,7 +67,7 @@ count_after-zero script first later o valid legal zero =
     let none = none_to_open script first later o front rest (counted-after-valid script first valid) zero in
     let is = count_after-is script first later o front in omega arith
 
-pub count_zero-after : (script : Script) (first later : List Entry) (o : ObjNo) → IsValidWider script → IsLegal script (first ++ later) → count_after script first later o ≡ 0 → count_of (after script first) o ≡ 0
+pub count_zero-after : (script : Script) (first later : List Entry) (o : ObjNo) → IsValid script → IsLegal script (first ++ later) → count_after script first later o ≡ 0 → count_of (after script first) o ≡ 0
 count_zero-after script first later o valid legal zero =
     let front = run-front script (boot script) first later (legal_run script (first ++ later) valid legal) in
     let is = count_after-is script first later o front in omega arith

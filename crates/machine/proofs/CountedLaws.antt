@@ -6,8 +6,8 @@ use Rattle.script_types.specs.declared.script.Script.{Script}
 use Rattle.script_types.specs.declared.instruction.Instr.{Instr}
 use Rattle.script_types.specs.declared.instruction.Instr.TheVariants.{CreateMutex, Dup as DupInstr, Close as CloseInstr, Open as OpenInstr}
 use Rattle.script_types.specs.Shape.{IsShaped}
-use Rattle.script_types.specs.WiderGrammar.{IsValidWider}
-use Rattle.script_types.proofs.WiderLaws.{valid_wider_is_shaped}
+use Rattle.script_types.specs.Grammar.{IsValid}
+use Rattle.script_types.proofs.ShapeLaws.{valid_is_shaped}
 use Rattle.std.specs.Prelude.{slice_index}
 use Rattle.entry_log.specs.declared.effect.Effect.{Effect}
 use Rattle.entry_log.specs.declared.entry.Actor.{Actor}
@@ -103,5 +103,5 @@ counted-after_from script S (e ∷ es) g counted = counted-after_from script (ne
 pub counted-after : (script : Script) (history : List Entry) → IsShaped script → Counted (boot script) → Counted (after script history)
 counted-after script history shaped counted = counted-after_from script (boot script) history (good-boot script shaped) counted
 
-pub counted-after-valid : (script : Script) (history : List Entry) → IsValidWider script → Counted (after script history)
-counted-after-valid script history valid = counted-after script history (valid_wider_is_shaped script valid) (counted-boot script valid)
+pub counted-after-valid : (script : Script) (history : List Entry) → IsValid script → Counted (after script history)
+counted-after-valid script history valid = counted-after script history (valid_is_shaped script valid) (counted-boot script valid)

@@ -5,7 +5,7 @@ use Rattle.std.proofs.lemmas.Bool.{eqb-true, and_parts, cases_lt}
 use Rattle.sym_base.specs.declared.number.ObjNo.{ObjNo}
 use Rattle.sym_base.specs.declared.number.MsgNo.{MsgNo}
 use Rattle.script_types.specs.declared.script.Script.{Script}
-use Rattle.script_types.specs.WiderGrammar.{IsValidWider}
+use Rattle.script_types.specs.Grammar.{IsValid}
 use Rattle.entry_log.specs.declared.effect.Holder.{Holder}
 use Rattle.entry_log.specs.declared.effect.Holder.TheVariants.{InProcess, InThread, Temp, Own, Link, Message, Kernel}
 use Rattle.entry_log.specs.declared.effect.Effect.{Effect}
@@ -46,7 +46,7 @@ run-held script S (e ∷ es) g x h =
 
 -- after each legal history a holder has the references that it had at boot, with those that its effects add and without
 -- those that they take away
-pub held_as_told : (script : Script) (history : List Entry) → IsValidWider script → IsLegal script history → (g : Holder) (x : ObjNo) → held_in (after script history) g x ≡ held_after_all (held_at_boot script) (effects_of history) g x
+pub held_as_told : (script : Script) (history : List Entry) → IsValid script → IsLegal script history → (g : Holder) (x : ObjNo) → held_in (after script history) g x ≡ held_after_all (held_at_boot script) (effects_of history) g x
 held_as_told script history valid legal g x =
     sym (run-held script (boot script) history g x (legal_run script history valid legal))
     ∙ after_all-same (held_in (boot script)) (held_at_boot script) (effects_of history) (held-boot script) g x
@@ -97,7 +97,7 @@ once_at_boot script Kernel x = bit_le (is_some (thread_of (boot script) x))
 once_at_boot script _ x = omega arith
 
 -- a holder has one reference to an object at most
-pub held_once : (script : Script) (history : List Entry) → IsValidWider script → IsLegal script history → (g : Holder) (x : ObjNo) → held_in (after script history) g x ≤ 1
+pub held_once : (script : Script) (history : List Entry) → IsValid script → IsLegal script history → (g : Holder) (x : ObjNo) → held_in (after script history) g x ≤ 1
 held_once script history valid legal g x =
     let told = held_as_told script history valid legal g x in
     let few = once_all (held_at_boot script) (effects_of history) (legal_safe script history valid legal).holders (once_at_boot script) g x in omega arith

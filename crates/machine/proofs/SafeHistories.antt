@@ -3,8 +3,8 @@ use Rattle.std.proofs.Common.{◌≡◌, ◌+◌, ◌<◌, List, [], ◌∷◌, 
 use Rattle.std.proofs.lemmas.List.{append_assoc}
 use Rattle.sym_base.specs.declared.number.ObjNo.{ObjNo}
 use Rattle.script_types.specs.declared.script.Script.{Script}
-use Rattle.script_types.specs.WiderGrammar.{IsValidWider}
-use Rattle.script_types.proofs.WiderLaws.{valid_wider_is_shaped}
+use Rattle.script_types.specs.Grammar.{IsValid}
+use Rattle.script_types.proofs.ShapeLaws.{valid_is_shaped}
 use Rattle.entry_log.specs.declared.entry.Entry.{Entry}
 use Rattle.machine.specs.References.{count_of}
 use Rattle.machine.specs.Boot.{boot}
@@ -89,9 +89,9 @@ run-safe script history run = record {
 }
 
 -- the entries of a legal history are a run of safe steps from boot
-pub legal_run : (script : Script) (history : List Entry) → IsValidWider script → IsLegal script history → IsSafeRun script (boot script) history
-legal_run script history valid legal = legal_runs script (boot script) 1 history (good-boot script (valid_wider_is_shaped script valid)) (owns-boot script) legal
+pub legal_run : (script : Script) (history : List Entry) → IsValid script → IsLegal script history → IsSafeRun script (boot script) history
+legal_run script history valid legal = legal_runs script (boot script) 1 history (good-boot script (valid_is_shaped script valid)) (owns-boot script) legal
 
 -- in every legal history of a valid script an object dies exactly where its last reference goes, and nobody opens it afterwards
-pub legal_safe : (script : Script) (history : List Entry) → IsValidWider script → IsLegal script history → IsSafeReferences script history
+pub legal_safe : (script : Script) (history : List Entry) → IsValid script → IsLegal script history → IsSafeReferences script history
 legal_safe script history valid legal = run-safe script history (legal_run script history valid legal)

@@ -3,7 +3,7 @@ use Rattle.std.proofs.Common.{◌≤◌, [], ◌∷◌, length, refl, lit≤, li
 use Rattle.std.specs.Prelude.{decimal, codes}
 use Rattle.std.proofs.lemmas.Fmt.{length-decimal-le}
 use Rattle.script_types.specs.ScriptText.{lines_text}
-use Rattle.script_types.specs.WiderGrammar.{IsValidWider, Parts, parts_lines}
+use Rattle.script_types.specs.Grammar.{IsValid, Parts, parts_lines}
 use Rattle.script_types.specs.declared.instruction.Instr.TheVariants.{CreateMutex, Dup, Close}
 use Rattle.script_types.specs.declared.line.Line.TheVariants as line
 use Rattle.machine.specs.TwoHandles.{two_handles}
@@ -29,7 +29,7 @@ two_handles_short =
     let ten_digits : length (decimal 10) ≤ 2 = length-decimal-le 2 10 (lit< tt) (lit< tt) (lit< tt) in
     simp length-append (omega arith)
 
-pub two_handles_is_valid : IsValidWider two_handles
+pub two_handles_is_valid : IsValid two_handles
 unfolding two_handles
 two_handles_is_valid = (
   lines_text (parts_lines two_handles_parts),

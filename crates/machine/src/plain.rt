@@ -1,6 +1,6 @@
 //! The plain machine: the definitions, run over plain lists.
 ghost use Rattle.std.specs.Prelude.{◌≡◌, ◌+◌, ◌<◌, ◌++◌, [], ◌∷◌, length, IfOk, OnOk, OnErr};
-ghost use Rattle.script_types.specs.WiderGrammar.{IsValidWider};
+ghost use Rattle.script_types.specs.Grammar.{IsValid};
 ghost use Rattle.machine.specs.Built.{IsBuilt};
 ghost use Rattle.machine.specs.FinalRows.{rows_from, IsNextRow};
 ghost use Rattle.machine.specs.History.{after, entry_of, entry_by};
@@ -68,7 +68,7 @@ pub fn entry_of(place: u32, actor: Actor, outcome: Outcome) -> Entry
 impl Plain {
     /// The machine at boot.
     pub fn boot(alloc: Global, script: Script) -> Result<Plain, NoMemory>
-        requires { IsValidWider script }
+        requires { IsValid script }
         ensures { IfOk result (λ plain. plain ≡ record { script = script; history = [] }) }
     {
         let state = boot(alloc, &script)?;

@@ -1,5 +1,5 @@
 //! The law of references over whole histories.
-ghost use Rattle.script_types.specs.WiderGrammar.{IsValidWider};
+ghost use Rattle.script_types.specs.Grammar.{IsValid};
 ghost use Rattle.machine.specs.History.{IsLegal};
 ghost use Rattle.machine.specs.SafeReferences.{IsSafeReferences};
 
@@ -11,7 +11,7 @@ use script_types::Script;
 /// doesn't hold the object, and taken away only where it does. This call only states it, and changes
 /// nothing.
 pub fn legal_is_safe(script: &Script, history: &[Entry])
-    requires valid { IsValidWider script.now }
+    requires valid { IsValid script.now }
     requires legal { IsLegal script.now history.now }
     ensures safe { IsSafeReferences script.now history.now }
 {}

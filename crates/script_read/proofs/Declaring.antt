@@ -4,9 +4,9 @@ use Rattle.std.proofs.lemmas.Bool.{lt-ltb}
 use Rattle.std.proofs.lemmas.List.{append-nil}
 use Rattle.std.specs.Prelude.{◌&&◌, nat_lt, if◌then◌else◌}
 use Rattle.script_read.specs.Fields.{◌>>=◌}
-use Rattle.script_read.specs.Scripts.{first_of, instrs_of}
-use Rattle.script_read.specs.WiderScripts.{Told, nothing, with_instr, with_thread, with_process, starts_thread, told_of, joined, declared_of}
-use Rattle.script_read.proofs.Scripts.{first_takes}
+use Rattle.script_read.specs.Fronts.{first_of, instrs_of}
+use Rattle.script_read.specs.Scripts.{Told, nothing, with_instr, with_thread, with_process, starts_thread, told_of, joined, declared_of}
+use Rattle.script_read.proofs.Fronts.{first_takes}
 use Rattle.script_read.proofs.Steps.{bind_some, some_is, guard_some, both}
 use Rattle.script_types.specs.declared.declaration.ProcessDecl.{ProcessDecl}
 use Rattle.script_types.specs.declared.declaration.ThreadDecl.{ThreadDecl}

@@ -1,6 +1,7 @@
 pub mod Cuts
 pub mod Declaring
 pub mod Forms
+pub mod Fronts
 pub mod Lines
 pub mod ObjectNames
 pub mod Numbers
@@ -12,5 +13,3 @@ pub mod Scripts
 pub mod Slots
 pub mod Steps
 pub mod Texts
-pub mod WiderScripts
-pub mod WiderReading

@@ -4,10 +4,10 @@ use Rattle.std.proofs.lemmas.Bool.{eqb-true, ltb-true}
 use Rattle.std.proofs.lemmas.List.{nil_from_length}
 use Rattle.std.specs.List.{AllByRecursion, flat_map}
 use Rattle.std.specs.Prelude.{◌==◌, nat_lt, if◌then◌else◌}
-use Rattle.script_read.specs.WiderScripts.{Told, told_by, nothing, with_instr, with_thread, with_process, starts_thread, told_of, declared_of}
+use Rattle.script_read.specs.Scripts.{Told, told_by, nothing, with_instr, with_thread, with_process, starts_thread, told_of, declared_of}
 use Rattle.script_read.proofs.Declaring.{told_process, no_instrs_of_threads}
 use Rattle.script_read.proofs.Steps.{bind_some, some_is, guard_some}
-use Rattle.script_types.specs.WiderGrammar.{ThreadPart, ProcessPart, thread_part_lines, process_part_lines, part_thread, parts_threads, part_process}
+use Rattle.script_types.specs.Grammar.{ThreadPart, ProcessPart, thread_part_lines, process_part_lines, part_thread, parts_threads, part_process}
 use Rattle.script_types.specs.declared.declaration.ProcessDecl.{ProcessDecl}
 use Rattle.script_types.specs.declared.declaration.ThreadDecl.{ThreadDecl}
 use Rattle.script_types.specs.declared.instruction.Instr.{Instr}

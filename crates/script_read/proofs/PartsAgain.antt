@@ -4,9 +4,9 @@ use Rattle.std.proofs.lemmas.Bool.{lt-ltb}
 use Rattle.std.specs.List.{flat_map}
 use Rattle.std.specs.Prelude.{nat_lt}
 use Rattle.script_read.specs.Fields.{◌>>=◌}
-use Rattle.script_read.specs.WiderScripts.{Told, told_by, nothing, with_instr, starts_thread, told_of, joined, declared_of}
+use Rattle.script_read.specs.Scripts.{Told, told_by, nothing, with_instr, starts_thread, told_of, joined, declared_of}
 use Rattle.script_read.proofs.Parts.{HaveThreads}
-use Rattle.script_types.specs.WiderGrammar.{ThreadPart, ProcessPart, thread_part_lines, process_part_lines, part_thread, parts_threads, part_process}
+use Rattle.script_types.specs.Grammar.{ThreadPart, ProcessPart, thread_part_lines, process_part_lines, part_thread, parts_threads, part_process}
 use Rattle.script_types.specs.declared.declaration.ProcessDecl.{ProcessDecl}
 use Rattle.script_types.specs.declared.declaration.ThreadDecl.{ThreadDecl}
 use Rattle.script_types.specs.declared.instruction.Instr.{Instr}

@@ -4,11 +4,11 @@ use Rattle.std.proofs.lemmas.Bool.{eqb-true, leb-true, le-leb}
 use Rattle.std.proofs.lemmas.List.{nil_from_length}
 use Rattle.std.specs.List.{AllByRecursion, flat_map}
 use Rattle.std.specs.Prelude.{◌&&◌, nat_le, if◌then◌else◌}
-use Rattle.script_read.specs.Scripts.{first_of, is_schedule, is_end}
-use Rattle.script_read.specs.WiderScripts.{slots_of, is_last, scheduled_of, unscheduled_of, schedule_of}
-use Rattle.script_read.proofs.Scripts.{first_takes, schedule_is, end_is}
+use Rattle.script_read.specs.Fronts.{first_of, is_schedule, is_end}
+use Rattle.script_read.specs.Scripts.{slots_of, is_last, scheduled_of, unscheduled_of, schedule_of}
+use Rattle.script_read.proofs.Fronts.{first_takes, schedule_is, end_is}
 use Rattle.script_read.proofs.Steps.{bind_some, guard_some, either_way, both}
-use Rattle.script_types.specs.WiderGrammar.{schedule_lines, line_slots, schedule_slots, IsSlotLine, IsSchedule}
+use Rattle.script_types.specs.Grammar.{schedule_lines, line_slots, schedule_slots, IsSlotLine, IsSchedule}
 use Rattle.script_types.specs.declared.line.Line.{Line}
 use Rattle.script_types.specs.declared.line.Line.TheVariants as line
 use Rattle.script_types.specs.declared.script.Slot.{Slot}

@@ -1,6 +1,6 @@
 -- Reading the slots of a schedule, as a loop does.
 use Rattle.std.proofs.Common.{◌≡◌, ◌≤◌, List, ◌++◌, length}
-use Rattle.script_read.specs.WiderScripts.{slots_of}
+use Rattle.script_read.specs.Scripts.{slots_of}
 use Rattle.script_types.specs.declared.line.Line.{Line}
 use Rattle.script_types.specs.declared.script.Slot.{Slot}
 

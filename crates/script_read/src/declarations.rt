@@ -1,8 +1,8 @@
 //! The processes and threads that the lines of a script declare.
 ghost use Rattle.std.specs.Prelude.{◌≡◌, option_map, IfOk};
-ghost use Rattle.script_read.specs.WiderScripts.{starts_thread, told_by, declared_of};
+ghost use Rattle.script_read.specs.Scripts.{starts_thread, told_by, declared_of};
 
-use crate::script::{read_instructions, split_first};
+use crate::front::{read_instructions, split_first};
 use script_types::{Line, ProcessDecl, ThreadDecl};
 use std::alloc::Global;
 use sym_base::{Items, NoMemory};

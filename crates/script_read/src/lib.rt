@@ -5,6 +5,7 @@ mod declarations;
 mod fault;
 mod field;
 mod form;
+mod front;
 mod line;
 mod names;
 mod read;
@@ -14,9 +15,7 @@ mod script;
 #[cfg(test)]
 mod tests;
 mod text;
-mod wider;
 
 pub use fault::RunFault;
 pub use read::{MAX_SCRIPT_BYTES, ReadScript, read_script};
 pub use reason::Reason;
-pub use wider::read_wider;

@@ -2,7 +2,7 @@
 ghost use Rattle.std.specs.Prelude.{◌≡◌, ◌∷◌, [], map, IfOk};
 ghost use Rattle.std.specs.List.{list_any};
 ghost use Rattle.std.specs.Str.{bytes_eq};
-ghost use Rattle.script_types.specs.WiderGrammar.{are_new};
+ghost use Rattle.script_types.specs.Grammar.{are_new};
 
 use crate::field::is_word;
 use script_types::{ProcessDecl, ThreadDecl};

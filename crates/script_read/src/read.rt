@@ -1,7 +1,7 @@
 //! Reading a whole script.
 ghost use Rattle.std.specs.Prelude.{◌≡◌, IfOk, MatchOption};
 ghost use Rattle.script_read.specs.Answer.{IsAnswer, Tells};
-ghost use Rattle.script_types.specs.Accepted.{Accepted};
+ghost use Rattle.script_types.specs.Grammar.{Accepted};
 ghost use Rattle.script_types.specs.declared.script.Script.{Script};
 
 use crate::Reason;
@@ -40,8 +40,8 @@ fn accepted_script(alloc: Global, bytes: &[u8]) -> Result<Option<Script>, NoMemo
     script_of_lines(alloc, &lines)
 }
 
-/// Reads a script. Any bytes may be given. A script is read of one process with one thread, and only
-/// from its canonical text; all other bytes are refused, without their place.
+/// Reads a script. Any bytes may be given. The text has one space between two words and a line feed
+/// behind each line; all other bytes are refused, without their place.
 pub fn read_script(alloc: Global, bytes: &[u8]) -> ReadScript
     ensures answer { IsAnswer bytes.now result }
     ensures only { (script : Script) → Accepted bytes.now script → Tells result script }

@@ -1,8 +1,8 @@
-//! The schedule of a script of several threads.
+//! The schedule of a script.
 ghost use Rattle.std.specs.Prelude.{◌≡◌, ◌++◌, ◌<◌, ◌≤◌, length, replicate, vec_len, option_map, IfOk, IfSome, MatchOption, OnOk};
-ghost use Rattle.script_read.specs.WiderScripts.{next_slots_of, slots_of, is_last, schedule_of};
+ghost use Rattle.script_read.specs.Scripts.{next_slots_of, slots_of, is_last, schedule_of};
 
-use crate::script::{is_end, is_schedule, split_first};
+use crate::front::{is_end, is_schedule, split_first};
 use script_types::{Line, Slot};
 use std::alloc::Global;
 use sym_base::NoMemory;
@@ -62,7 +62,7 @@ fn is_last(lines: &[Line]) -> bool
 }
 
 /// The slots in the lines from `schedule` or `end` on.
-#[tactic(auto, unfolding(crate::specs::WiderScripts::schedule_of))]
+#[tactic(auto, unfolding(crate::specs::Scripts::schedule_of))]
 pub fn read_schedule(alloc: Global, lines: &[Line]) -> Result<Option<Vec<Slot>>, NoMemory>
     ensures { IfOk result (λ found. option_map (λ slots. slots.items) found ≡ schedule_of lines.now) }
 {

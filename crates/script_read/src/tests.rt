@@ -3,7 +3,7 @@ use script_types::{Instr, Script, Slot};
 use std::test::Fail;
 use sym_base::Kind;
 
-/// A whole script of one thread.
+/// A whole script.
 const SCRIPT: &str =
     "eka2 1\nprocess p\nthread a 10\ncreate mutex m r0\ndup r0 r1\nclose r0\nclose r1\nclose r1\nschedule\ngo 10\nend\n";
 
@@ -51,8 +51,6 @@ fn refuses_other_texts(rt: HostRuntime) -> Result<(), Fail> {
         "eka2 1\nprocess kernel\nthread a 10\nschedule\ngo 1\nend\n",
         "eka2 1\nprocess p\nthread supervisor 10\nschedule\ngo 1\nend\n",
         "eka2 1\nprocess p\nthread abcdefghijklmnopq 10\nschedule\ngo 1\nend\n",
-        "eka2 1\nprocess p\nthread a 10\nprocess q\nthread b 10\nschedule\ngo 1\nend\n",
-        "eka2 1\nprocess p\nthread a 10\nschedule\ngo 1\ngo 1\nend\n",
         "eka2 1\nprocess p\nthread a 10\nschedule\ngo 1\nend\nend\n",
     ];
     for text in texts {
@@ -117,7 +115,7 @@ fn is_script_of_two_threads(script: &Script) -> bool {
 
 #[test]
 fn reads_several_threads(rt: HostRuntime) -> Result<(), Fail> {
-    match read_wider(rt.alloc(), TWO_THREADS.as_bytes()) {
+    match read_script(rt.alloc(), TWO_THREADS.as_bytes()) {
         ReadScript::Script(script) => assert!(rt; is_script_of_two_threads(&script)),
         _ => assert!(rt; false, "the script is refused"),
     }
@@ -126,7 +124,7 @@ fn reads_several_threads(rt: HostRuntime) -> Result<(), Fail> {
         "eka2 1\nschedule\nend\n",
         "eka2 1\nprocess p\nthread a 0\nprocess q\nthread b 0\nthread c 0\nend\n",
     ] {
-        let answer = read_wider(rt.alloc(), text.as_bytes());
+        let answer = read_script(rt.alloc(), text.as_bytes());
         assert!(rt; matches!(answer, ReadScript::Script(_)), "{text}");
     }
     Ok(())
@@ -149,7 +147,7 @@ fn refuses_other_texts_of_several_threads(rt: HostRuntime) -> Result<(), Fail> {
         "eka2 1\nprocess p\nthread a 0\nschedule\ngo 1\nend",
     ];
     for text in texts {
-        let answer = read_wider(rt.alloc(), text.as_bytes());
+        let answer = read_script(rt.alloc(), text.as_bytes());
         assert!(rt;
             matches!(
                 answer,

@@ -1,2 +1,1 @@
 pub mod ShapeLaws
-pub mod WiderLaws

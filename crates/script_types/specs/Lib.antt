@@ -1,9 +1,7 @@
-pub mod Accepted
+pub mod Grammar
 pub mod LineText
 pub mod ObjectName
 pub mod ScriptText
 pub mod Shape
 pub mod TextLines
-pub mod Valid
 pub mod ValidLine
-pub mod WiderGrammar

@@ -1,7 +1,10 @@
 use Rattle.std.proofs.Common.{rules, ◌∙◌, ap, ◌+◌}
-use Rattle.eka2_app.proofs.Wider.{valid_is_wider}
+use Rattle.eka2_app.proofs.BuiltSlots.{valid_slot_is_built}
 use Rattle.eka2_app.proofs.Runs.{run_step, run_longer}
 use Rattle.eka2_app.proofs.run.make_history.Goals as goal
+
+pub slot-requires-clause-built : goal.slot-requires-clause-built
+slot-requires-clause-built c = rw (c.as_slice-slot-items.ensures, c.in_ok-slots.ensures) (valid_slot_is_built c.args.script c.loop-slot.slot-index c.requires)
 
 pub loop-slot-preserved : goal.loop-slot-preserved
 loop-slot-preserved c =
@@ -14,6 +17,3 @@ loop-slot-preserved c =
       count = run_longer c.loop-slot.kernel.history c.slot.new.self.history _ made ∙ ap (λ n. n + 1) c.loop-slot.invariant.count;
       rest = run_step c.args.script c.loop-slot.kernel.history c.slot.new.self.history c.loop-slot.slot-index _ below made c.loop-slot.invariant.rest;
     }
-
-pub boot-requires-clause-valid : goal.boot-requires-clause-valid
-boot-requires-clause-valid c = valid_is_wider c.args.script c.requires

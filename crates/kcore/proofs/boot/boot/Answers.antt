@@ -1,6 +1,6 @@
 use Rattle.std.proofs.Common.{◌≡◌, ◌<◌, ◌∙◌, List, sym, ap, subst, length, arith}
 use Rattle.sym_base.specs.declared.number.ObjNo.{ObjNo}
-use Rattle.script_types.proofs.WiderLaws.{valid_wider_is_shaped}
+use Rattle.script_types.proofs.ShapeLaws.{valid_is_shaped}
 use Rattle.machine.specs.declared.boot.Born.{Born}
 use Rattle.machine.specs.declared.state.State.{State}
 use Rattle.machine.specs.Boot.{boot, boot_of, born}
@@ -13,19 +13,19 @@ use Rattle.kcore.proofs.BootTables.{new_at_boot, agrees_at_boot}
 use Rattle.kcore.proofs.boot.boot.Goals as goal
 
 pub all_born-requires : goal.all_born-requires
-all_born-requires g c = valid_wider_is_shaped c.args.script.now c.requires.valid
+all_born-requires g c = valid_is_shaped c.args.script.now c.requires.valid
 
 pub boot_of-requires : goal.boot_of-requires
-boot_of-requires g c = let few = born_few c.args.script.now (valid_wider_is_shaped c.args.script.now c.requires.valid) in let e = ap length (c.as_slice-2.ensures ∙ c.in_ok-all.ensures) in omega arith
+boot_of-requires g c = let few = born_few c.args.script.now (valid_is_shaped c.args.script.now c.requires.valid) in let e = ap length (c.as_slice-2.ensures ∙ c.in_ok-all.ensures) in omega arith
 
 pub counted-requires-clause-few : goal.counted-requires-clause-few
-counted-requires-clause-few g c = let few = born_few c.args.script.now (valid_wider_is_shaped c.args.script.now c.requires.valid) in let e = ap length (c.as_slice-3.ensures ∙ c.in_ok-all.ensures) in omega arith
+counted-requires-clause-few g c = let few = born_few c.args.script.now (valid_is_shaped c.args.script.now c.requires.valid) in let e = ap length (c.as_slice-3.ensures ∙ c.in_ok-all.ensures) in omega arith
 
 pub counted-requires-clause-small : goal.counted-requires-clause-small
 counted-requires-clause-small g c =
     let script = c.args.script.now in
     let is : c.in_ok-state.state ≡ boot script = c.in_ok-state.ensures ∙ ap boot_of (c.as_slice-2.ensures ∙ c.in_ok-all.ensures) in
-    subst (λ (S : State). (o : ObjNo) → count_of S o < 65536) (sym is) (count_small script (boot script) (good-boot script (valid_wider_is_shaped script c.requires.valid)))
+    subst (λ (S : State). (o : ObjNo) → count_of S o < 65536) (sym is) (count_small script (boot script) (good-boot script (valid_is_shaped script c.requires.valid)))
 
 pub counted-requires-clause-born : goal.counted-requires-clause-born
 counted-requires-clause-born g c =

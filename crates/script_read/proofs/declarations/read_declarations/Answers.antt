@@ -1,6 +1,6 @@
 use Rattle.std.proofs.Common.{◌≡◌, ◌-◌, ◌<◌, true, length, arith}
 use Rattle.std.proofs.lemmas.Bool.Decides.{nat_tests}
-use Rattle.script_read.specs.WiderScripts.{starts_thread}
+use Rattle.script_read.specs.Scripts.{starts_thread}
 use Rattle.script_read.proofs.Declaring.{process_step, thread_step, behind_length}
 use Rattle.script_read.proofs.declarations.read_declarations.Goals as goal
 

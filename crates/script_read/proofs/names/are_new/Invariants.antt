@@ -1,5 +1,5 @@
 use Rattle.std.proofs.Common.{◌≡◌, [], ◌∷◌, take, drop}
-use Rattle.script_types.specs.WiderGrammar.{are_new}
+use Rattle.script_types.specs.Grammar.{are_new}
 use Rattle.script_read.proofs.names.are_new.Given as goal
 
 -- the names so far are new, and those of the rest decide

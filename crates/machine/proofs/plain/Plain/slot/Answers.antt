@@ -1,12 +1,12 @@
 use Rattle.std.proofs.Common.{ℕ, ◌+◌, ap, subst, sym}
-use Rattle.script_types.proofs.WiderLaws.{valid_wider_is_shaped}
+use Rattle.script_types.proofs.ShapeLaws.{valid_is_shaped}
 use Rattle.machine.specs.declared.state.State.{State}
 use Rattle.machine.specs.Good.{Good}
 use Rattle.machine.proofs.PlainSteps.{good_plain, plain_goes_on_by}
 use Rattle.machine.proofs.plain.Plain.slot.Goals as goal
 
 pub acted_by-requires-clause-shaped : goal.acted_by-requires-clause-shaped
-acted_by-requires-clause-shaped c = valid_wider_is_shaped c.self.inside.script c.self.invariant.valid
+acted_by-requires-clause-shaped c = valid_is_shaped c.self.inside.script c.self.invariant.valid
 
 pub acted_by-requires-clause-good : goal.acted_by-requires-clause-good
 acted_by-requires-clause-good c =

@@ -1,4 +1,4 @@
--- The grammar of several processes and threads: what a text tells, its lines, and its script.
+-- The grammar: what a text tells, its lines, and its script.
 use Rattle.std.specs.List.{AllByRecursion, flat_map, list_any}
 use Rattle.std.specs.Prelude.{◌≡◌, ℕ, suc, ◌<◌, ◌≤◌, Bool, true, false, ◌&&◌, not, IsTrue, List, [], ◌∷◌, ◌++◌, Option, Some, None, ⊤, length, map, replicate, codes}
 use Rattle.std.specs.Str.{bytes_eq}
@@ -103,7 +103,7 @@ pub record IsWithinLimits (script : Script) : Type 0 where
   pub slots : length script.slots ≤ 65536
 
 -- the bytes are accepted as the script: they are the lines of some parts whose script it is
-pub record AcceptedWider (bytes : List ℕ) (script : Script) : Type 0 where
+pub record Accepted (bytes : List ℕ) (script : Script) : Type 0 where
   pub parts : Parts
   pub text : IsText bytes (parts_lines parts)
   pub threads : AllByRecursion (λ (p : ProcessPart). 0 < length p.threads) parts.processes
@@ -112,6 +112,6 @@ pub record AcceptedWider (bytes : List ℕ) (script : Script) : Type 0 where
   pub limits : IsWithinLimits script
   pub short : length bytes ≤ 4096
 
--- a script is valid in this grammar where some bytes are accepted as it
-abbrev pub IsValidWider : Script → Type 0
-IsValidWider script = (bytes : List ℕ) × AcceptedWider bytes script
+-- a script is valid where some bytes are accepted as it
+abbrev pub IsValid : Script → Type 0
+IsValid script = (bytes : List ℕ) × Accepted bytes script

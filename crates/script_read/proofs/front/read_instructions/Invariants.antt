@@ -1,6 +1,6 @@
 use Rattle.std.proofs.Common.{◌≡◌, ◌++◌, length}
-use Rattle.script_read.specs.Scripts.{instrs_of}
-use Rattle.script_read.proofs.script.read_instructions.Given as goal
+use Rattle.script_read.specs.Fronts.{instrs_of}
+use Rattle.script_read.proofs.front.read_instructions.Given as goal
 
 -- the instructions so far, and those at the front of the rest
 abbrev pub invariant-loop-what : goal.invariant-loop-what
