@@ -5,6 +5,7 @@ use Rattle.eka2_app.specs.Inputs.{IsUnaccepted}
 use Rattle.eka2_app.specs.RunText.{run_text}
 use Rattle.machine.specs.History.{IsLegal}
 use Rattle.machine.specs.Run.{run}
+use Rattle.machine.specs.SafeReferences.{IsSafeReferences}
 use Rattle.script_read.specs.Refusal.{refusal_text}
 use Rattle.script_read.specs.declared.reason.Reason.TheVariants.{Unbuilt}
 use Rattle.script_types.specs.Grammar.{Accepted}
@@ -21,12 +22,14 @@ pub record IsRefusalText (input : Option (List ℕ)) (text : List ℕ) : Type 0 
   pub unaccepted : IfSome input IsUnaccepted
   pub same : text ≡ refusal_text 0 Unbuilt
 
--- the input is accepted as a script, and the whole text of its run was written, whose history is legal
+-- the input is accepted as a script, and the whole text of its run was written, whose history is legal, and
+-- in which each object died exactly where its last reference went
 pub record WroteRun (input old new : Option (List ℕ)) : Type 0 where
   pub script : Script
   pub accepted : IfSome input (λ bytes. Accepted bytes script)
   pub wrote : Wrote old new (run_text script)
   pub legal : IsLegal script (run script)
+  pub safe : IsSafeReferences script (run script)
 
 -- the input isn't accepted, and the line that says so was written, and nothing else
 pub record WroteRefusal (input old new : Option (List ℕ)) : Type 0 where

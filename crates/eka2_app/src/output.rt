@@ -16,6 +16,7 @@ use edge_io::{Failed, Sink, write_whole};
 use entry_log::{Entry, FinalRow, entry_text, final_text};
 use itoa::Buffer;
 use kcore::Kernel;
+use ref_words::PlainWords;
 use script_read::Reason;
 
 /// The bytes of a line, its line feed among them.
@@ -68,7 +69,7 @@ fn write_entries<K: Sink>(sink: &mut K, entries: &[Entry]) -> Result<(), Failed>
 }
 
 /// Writes the line of each object that is left.
-fn write_rows<K: Sink>(sink: &mut K, kernel: &Kernel) -> Result<(), Failed>
+fn write_rows<K: Sink>(sink: &mut K, kernel: &Kernel<PlainWords>) -> Result<(), Failed>
     requires usable { kernel.now.usable ≡ true }
     requires valid { IsValid kernel.now.script }
     ensures whole { OnOk result (Wrote (K.written sink.old) (K.written sink.new)
@@ -88,7 +89,7 @@ fn write_rows<K: Sink>(sink: &mut K, kernel: &Kernel) -> Result<(), Failed>
 }
 
 /// Writes the whole history of a kernel: its entries, and the objects that are left.
-pub fn write_history<K: Sink>(sink: &mut K, kernel: &Kernel) -> Result<(), Failed>
+pub fn write_history<K: Sink>(sink: &mut K, kernel: &Kernel<PlainWords>) -> Result<(), Failed>
     requires usable { kernel.now.usable ≡ true }
     requires valid { IsValid kernel.now.script }
     ensures whole { OnOk result (Wrote (K.written sink.old) (K.written sink.new)

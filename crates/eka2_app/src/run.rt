@@ -8,6 +8,7 @@ ghost use Rattle.eka2_app.specs.Outputs.{WroteRun, WroteRefusal, WroteFront};
 ghost use Rattle.eka2_app.specs.RunText.{HasRun, run_text};
 ghost use Rattle.machine.specs.History.{IsLegal};
 ghost use Rattle.machine.specs.Run.{run};
+ghost use Rattle.machine.specs.SafeReferences.{IsSafeReferences};
 ghost use Rattle.script_read.specs.Refusal.{refusal_text};
 ghost use Rattle.script_types.specs.Grammar.{Accepted, IsValid};
 ghost use Rattle.script_types.specs.declared.script.Script.{Script};
@@ -16,19 +17,24 @@ use crate::input::read_input;
 use crate::output::{write_history, write_refusal};
 use edge_io::{Sink, Source};
 use kcore::Kernel;
+use ref_words::PlainWords;
 use script_read::{ReadScript, Reason, RunFault, read_script};
 use script_types::Script;
 use std::alloc::Global;
 use sym_base::NoMemory;
 
+/// The places of the count words: one for each object that a kernel may make.
+const PLACES: u32 = 4096;
+
 /// Makes the whole history of a script: each slot of its schedule makes one entry.
-fn make_history(alloc: Global, script: Script) -> Result<Kernel, NoMemory>
+fn make_history(alloc: Global, script: Script) -> Result<Kernel<PlainWords>, NoMemory>
     requires { IsValid script }
     ensures { IfOk result (λ kernel. HasRun script kernel) }
 {
     let slots = script.slots.copied(alloc)?;
     let room = slots.len() as u32;
-    let mut kernel = Kernel::boot(alloc, script, room)?;
+    let words = PlainWords::new(alloc, PLACES)?;
+    let mut kernel = Kernel::boot(alloc, script, words, room)?;
     for slot in slots.as_slice() {
         kernel.slot(*slot)?;
     }
@@ -40,6 +46,7 @@ fn run_script<K: Sink>(alloc: Global, script: Script, sink: &mut K) -> Result<()
     requires { IsValid script }
     ensures whole { OnOk result (Wrote (K.written sink.old) (K.written sink.new) (run_text script)) }
     ensures legal { OnOk result (IsLegal script (run script)) }
+    ensures safe { OnOk result (IsSafeReferences script (run script)) }
     ensures front { result ≡ Err RunFault.WriteFault → WrotePrefix (K.written sink.old) (K.written sink.new) (run_text script) }
     ensures fault { result ≡ Err RunFault.WriteFault → Rose (K.faults sink.old) (K.faults sink.new) }
     ensures silent { result ≡ Err RunFault.NoMemory → K.written sink.new ≡ K.written sink.old }

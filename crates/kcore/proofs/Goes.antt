@@ -17,6 +17,8 @@ use Rattle.machine.specs.Run.{slot_actor}
 use Rattle.machine.proofs.CountedLaws.{counted-after-valid}
 use Rattle.machine.proofs.PlainSteps.{good_plain, plain_goes, slot_can}
 use Rattle.machine.proofs.RefsActor.{acted_by-refs}
+use Rattle.machine.proofs.SafeHistories.{legal_safe}
+use Rattle.machine.specs.SafeReferences.{IsSafeReferences}
 use Rattle.kcore.specs.declared.tables.Tables.{Tables}
 use Rattle.kcore.specs.Counts.{CountsMove}
 use Rattle.kcore.specs.KernelView.{Stands}
@@ -52,3 +54,7 @@ slot_goes script history tables slot actor built h is =
     let S = state_of tables in
     let can = slot_can script S slot built (good_plain script history S h.plain) in
     subst (λ (T : State). CanAct script T actor) h.plain.state (subst (CanAct script S) (sym is) can)
+
+-- references are safe in the history that tables stand for
+pub safe_history : {W N : Type 0} (script : Script) (history : List Entry) (tables : Tables W N) → Stands script history tables → IsSafeReferences script history
+safe_history script history tables h = legal_safe script history h.plain.valid h.plain.legal

@@ -7,6 +7,7 @@ ghost use Rattle.entry_log.specs.declared.entry.Actor.TheVariants as Actor;
 ghost use Rattle.machine.specs.Act.{is_ready};
 ghost use Rattle.machine.specs.History.{after, entry_by, CanAct, IsLegal};
 ghost use Rattle.machine.specs.Run.{slot_actor};
+ghost use Rattle.machine.specs.SafeReferences.{IsSafeReferences};
 ghost use Rattle.kcore.specs.Counts.{Agrees};
 ghost use Rattle.kcore.specs.BootTable.{IsUnused};
 ghost use Rattle.kcore.specs.StateOf.{state_of};
@@ -105,6 +106,7 @@ impl<W: RefWords + Drop> Kernel<W> {
         ensures room { self.new.room ≡ self.old.room }
         ensures usable { OnOk result (self.new.usable ≡ true) }
         ensures ok { OnOk result (self.new.history ≡ self.old.history ++ entry_by self.old.script (after self.old.script self.old.history) (length self.old.history + 1) actor ∷ []) }
+        ensures safe { OnOk result (IsSafeReferences self.new.script self.new.history) }
     {
         self.usable = false;
         let outcome = acted_by(&self.script, &mut self.tables, actor)?;
@@ -123,10 +125,12 @@ impl<W: RefWords + Drop> Kernel<W> {
         is_ready(&self.script, &self.tables, t)
     }
 
-    /// What happened so far, in order. It is a legal history of the script.
+    /// What happened so far, in order. It is a legal history of the script, in which each object died
+    /// exactly where its last reference went.
     pub fn history(&self) -> &[Entry]
         ensures entries { result.now ≡ self.now.history }
         ensures legal { self.now.usable ≡ true → IsLegal self.now.script self.now.history }
+        ensures safe { self.now.usable ≡ true → IsSafeReferences self.now.script self.now.history }
     {
         self.history.as_slice()
     }
@@ -152,6 +156,7 @@ impl Kernel<PlainWords> {
         ensures room { self.new.room ≡ self.old.room }
         ensures usable { OnOk result (self.new.usable ≡ true) }
         ensures ok { let S = after self.old.script self.old.history in OnOk result (self.new.history ≡ self.old.history ++ entry_by self.old.script S (length self.old.history + 1) (slot_actor S slot) ∷ []) }
+        ensures safe { OnOk result (IsSafeReferences self.new.script self.new.history) }
     {
         let actor = slot_actor(&self.tables, slot);
         self.go(actor)
@@ -167,6 +172,7 @@ impl Kernel<PlainWords> {
         ensures room { self.new.room ≡ self.old.room }
         ensures usable { OnOk result (self.new.usable ≡ true) }
         ensures ok { OnOk result (self.new.history ≡ self.old.history ++ entry_by self.old.script (after self.old.script self.old.history) (length self.old.history + 1) (Actor.Thread t) ∷ []) }
+        ensures safe { OnOk result (IsSafeReferences self.new.script self.new.history) }
     {
         self.go(Actor::Thread(t))
     }

@@ -1,6 +1,6 @@
 use Rattle.std.proofs.Common.{◌≡◌, length, ap, ◌+◌, ◌∙◌, ℕ, arith, true}
 use Rattle.kcore.specs.KernelView.{KernelView}
-use Rattle.kcore.proofs.Goes.{are_good, kernel_goes_on}
+use Rattle.kcore.proofs.Goes.{are_good, kernel_goes_on, safe_history}
 use Rattle.kcore.proofs.kernel.Kernel.go.Goals as goal
 
 pub acted_by-requires : goal.acted_by-requires
@@ -18,3 +18,9 @@ invariant_of-self-2 g c =
       few = c.self.invariant.few;
       stands = λ _. kernel_goes_on k.script k.history.items _ k.tables c.acted_by.new.tables c.args.actor c.in_ok-outcome.outcome (length c.as_slice.result.now + 1) c.entry_of-entry.result (rw (← c.self.view_is) at c.requires.can) (c.self.invariant.stands usable) c.in_ok-outcome.ensures.state c.in_ok-outcome.ensures.counts (ap (λ (n : ℕ). n + 1) (ap length c.as_slice.ensures.value)) c.entry_of-entry.ensures (rw c.unwrap.ensures at c.push.ensures.items);
     }
+
+pub returns-clause-safe : goal.returns-clause-safe
+returns-clause-safe g c =
+    let k = c.self.inside in
+    let usable : k.usable ≡ true = ap (λ (v : KernelView). v.usable) c.self.view_is ∙ c.requires.usable in
+    safe_history k.script c.push.new.self.items c.acted_by.new.tables (kernel_goes_on k.script k.history.items _ k.tables c.acted_by.new.tables c.args.actor c.in_ok-outcome.outcome (length c.as_slice.result.now + 1) c.entry_of-entry.result (rw (← c.self.view_is) at c.requires.can) (c.self.invariant.stands usable) c.in_ok-outcome.ensures.state c.in_ok-outcome.ensures.counts (ap (λ (n : ℕ). n + 1) (ap length c.as_slice.ensures.value)) c.entry_of-entry.ensures (rw c.unwrap.ensures at c.push.ensures.items))
