@@ -4,14 +4,12 @@ use Rattle.script_types.specs.declared.script.Script.{Script}
 use Rattle.script_types.specs.declared.script.Slot.{Slot}
 use Rattle.script_types.specs.declared.script.Slot.TheVariants.{Go, Irq, Tick as TickSlot}
 use Rattle.entry_log.specs.declared.entry.Actor.{Actor}
-use Rattle.entry_log.specs.declared.entry.Actor.TheVariants.{Tick}
 use Rattle.entry_log.specs.declared.entry.Entry.{Entry}
 use Rattle.machine.specs.declared.outcome.Outcome.{Outcome}
 use Rattle.machine.specs.declared.state.State.{State}
 use Rattle.machine.specs.Acted.{Acted}
 use Rattle.machine.specs.ActedBy.{acted}
 use Rattle.machine.specs.Built.{IsBuilt}
-use Rattle.machine.specs.Choice.{chosen}
 use Rattle.machine.specs.Good.{Good}
 use Rattle.machine.specs.History.{acted_by, entry_of, IsNext, CanAct}
 use Rattle.machine.specs.PlainView.{IsPlain}
