@@ -4,5 +4,8 @@ mod Rooms
 mod Goes
 mod ListSteps
 pub mod ReadyQueues
+mod ReadyChanges
+mod ReadyActs
+mod BootReady
 mod Finds
 mod BootTables

@@ -113,7 +113,7 @@ pub removed_queued : (qs : List Queued) (r : Ready) (t : ObjNo) → AreQueuesOf 
 removed_queued qs r t are = subst (λ (l : List (ObjNo × ℕ)). AreQueuesOf l (removed r t)) (sym (pairs_without t qs)) (removed_unlisted (pairs qs) r t are)
 
 -- what is found is listed
-found_listed : (p : ℕ) (qs : List Queued) (q : Queued) → find (λ x. x.priority == p) qs ≡ Some q → is_listed qs q.thread ≡ true
+pub found_listed : (p : ℕ) (qs : List Queued) (q : Queued) → find (λ x. x.priority == p) qs ≡ Some q → is_listed qs q.thread ≡ true
 found_listed p [] q is = absurd (cc)
 found_listed p (x ∷ xs) q is =
     elim (cases_Bool (x.priority == p)) [
@@ -125,13 +125,13 @@ found_listed p (x ∷ xs) q is =
     ]
 
 -- a thread that isn't listed is another than one that is
-other_thread : (x q : Queued) (xs : List Queued) → is_listed xs x.thread ≡ false → is_listed xs q.thread ≡ true → (x.thread.0 == q.thread.0) ≡ false
+pub other_thread : (x q : Queued) (xs : List Queued) → is_listed xs x.thread ≡ false → is_listed xs q.thread ≡ true → (x.thread.0 == q.thread.0) ≡ false
 other_thread x q xs none some =
     false_from_ne_true (x.thread.0 == q.thread.0) (λ same.
     let at : is_listed xs x.thread ≡ is_listed xs q.thread = ap (λ (n : ℕ). list_any (λ (y : Queued). y.thread.0 == n) xs) (eqb-true x.thread.0 q.thread.0 same) in cc)
 
 -- without a thread that isn't listed the list is the same
-without_unlisted : (t : ObjNo) (qs : List Queued) → is_listed qs t ≡ false → filter (λ q. not (q.thread.0 == t.0)) qs ≡ qs
+pub without_unlisted : (t : ObjNo) (qs : List Queued) → is_listed qs t ≡ false → filter (λ q. not (q.thread.0 == t.0)) qs ≡ qs
 without_unlisted t [] none = refl
 without_unlisted t (q ∷ qs) none =
     let parts = or_parts (q.thread.0 == t.0) (is_listed qs t) none in

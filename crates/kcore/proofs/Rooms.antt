@@ -17,6 +17,7 @@ use Rattle.machine.specs.declared.state.State.{State}
 use Rattle.machine.specs.Act.{instructions_of, declared_of}
 use Rattle.machine.specs.Good.{Good, IsAlive, is_dead, dead_bit, owed_sweeps}
 use Rattle.machine.specs.Open.{is_open}
+use Rattle.machine.specs.ReadyApart.{with_ready}
 use Rattle.machine.specs.References.{total, same, count_of, place_names, option_names, thread_names, phase_names, owed_names}
 use Rattle.machine.specs.Rows.{object_of, thread_of, table_of, owed_of}
 use Rattle.machine.specs.Table.{place_at, fresh_place, look, owner_of, index_of}
@@ -60,7 +61,7 @@ alive_there (Some row) h = refl
 pub held : {W N : Type 0} (script : Script) (tables : Tables W N) (o : ObjNo) → AreGood script tables → 0 < count_of (state_of tables) o → IsHeld tables.objects o
 held script tables o h counted =
     let e = h.agree o in
-    let small = count_small script (state_of tables) h.good o in
+    let small : count_of (state_of tables) o < 65536 = count_small script (with_ready (state_of tables) h.listed) h.good o in
     record {
       there = alive_there (slice_index_or tables.objects.rows o.0 None) (h.good.alive o counted);
       known = omega arith;

@@ -4,6 +4,7 @@ pub mod HandleTable
 pub mod FirstOwed
 pub mod StateOf
 pub mod ReadyPairs
+pub mod ReadyQueues
 pub mod KernelView
 pub mod Standing
 pub mod BootTable

@@ -1,5 +1,5 @@
 //! What a thread does when it acts: what it owes, else the next step of its instruction.
-ghost use Rattle.std.specs.Prelude.{◌≡◌, ◌<◌, [], ◌∷◌, Some, drop, length, IfOk};
+ghost use Rattle.std.specs.Prelude.{◌≡◌, ◌<◌, [], ◌∷◌, Some, None, drop, length, IfOk};
 ghost use Rattle.std.specs.List.{slice_index_or};
 ghost use Rattle.script_types.specs.Shape.{HasRegisters};
 ghost use Rattle.machine.specs.Act.{act, act_by, act_of, instruction, instruction_step, is_ready, settled};
@@ -9,8 +9,10 @@ ghost use Rattle.machine.specs.History.{acted_by};
 ghost use Rattle.machine.specs.Pay.{pay};
 ghost use Rattle.machine.specs.Rows.{owed_of, thread_of};
 ghost use Rattle.machine.specs.Table.{look};
-ghost use Rattle.machine.specs.Tick.{tick};
+ghost use Rattle.machine.specs.ReadyApart.{with_ready};
+ghost use Rattle.machine.specs.Tick.{turned};
 ghost use Rattle.kcore.specs.Counts.{CountsMove};
+ghost use Rattle.kcore.specs.ReadyQueues.{SomeReady, Follow, Does};
 ghost use Rattle.kcore.specs.Standing.{AreGood, IsStanding};
 ghost use Rattle.kcore.specs.StateOf.{state_of, HasRows};
 
@@ -19,9 +21,11 @@ use crate::create::create_mutex;
 use crate::dup::{dup_do, dup_look};
 use crate::open::{find_object, open_do, open_return, open_seek};
 use crate::pay::{pay_close, pay_sweep};
+use crate::ready::{leave, turn};
 use crate::tables::{Tables, first_owed};
 use entry_log::{Actor, Effects, Step};
 use machine::{Outcome, Owed, Phase, ThreadRow};
+use ready_list::ReadyList;
 use ref_words::RefWords;
 use script_types::{Instr, Script};
 use sym_base::{Kind, Name, NoMemory, ObjNo, ThreadNo};
@@ -226,60 +230,67 @@ pub fn is_ready<W: RefWords + Drop>(script: &Script, tables: &Tables<W>, thread:
         || machine::instruction(script, &row).is_some()
 }
 
-/// A thread that has nothing left to do leaves the ready list.
-#[tactic(auto, unfolding(machine::specs::Act::settled))]
-fn settle<W: RefWords + Drop>(script: &Script, tables: &mut Tables<W>, thread: ThreadNo)
-    ensures state { state_of tables.new ≡ settled script.now thread (state_of tables.old) }
-    ensures counts { tables.new.objects.counts ≡ tables.old.objects.counts }
+/// A thread that has nothing left to do leaves the queues.
+fn settle<W: RefWords + Drop>(
+    script: &Script,
+    tables: &Tables<W>,
+    ready: &mut ReadyList,
+    thread: ThreadNo,
+)
+    requires { SomeReady ready.old }
+    ensures { Follow (λ qs. (settled script.now thread (with_ready (state_of tables.now) qs)).ready) ready.old ready.new }
 {
     if !is_ready(script, tables, thread) {
-        tables.ready.remove(thread);
+        leave(ready, thread);
     }
 }
 
 /// An action of a thread.
-#[tactic(auto, unfolding(machine::specs::Act::act))]
 fn act<W: RefWords + Drop>(
     script: &Script,
     tables: &mut Tables<W>,
+    ready: &mut ReadyList,
     thread: ThreadNo,
 ) -> Result<Outcome, NoMemory>
-    requires { AreGood script.now tables.old }
-    ensures state { IfOk result (λ outcome. acted (state_of tables.new) outcome ≡ act script.now (state_of tables.old) thread) }
+    requires good { AreGood script.now tables.old }
+    requires queues { SomeReady ready.old }
+    ensures state { IfOk result (λ outcome. Does tables.old ready.old tables.new ready.new outcome (λ S. act script.now S thread)) }
     ensures counts { IfOk result (λ outcome. CountsMove tables.old.objects.counts tables.new.objects.counts outcome.effects) }
 {
     let outcome = act_of(script, tables, thread)?;
-    settle(script, tables, thread);
+    settle(script, tables, ready, thread);
     Ok(outcome)
 }
 
 /// The end of a time slice.
-#[tactic(auto, unfolding(machine::specs::Tick::tick))]
-fn tick<W: RefWords + Drop>(tables: &mut Tables<W>) -> Result<Outcome, NoMemory>
-    ensures state { IfOk result (λ outcome. acted (state_of tables.new) outcome ≡ tick (state_of tables.old)) }
-    ensures counts { IfOk result (λ outcome. CountsMove tables.old.objects.counts tables.new.objects.counts outcome.effects) }
+fn tick(ready: &mut ReadyList) -> Outcome
+    requires { SomeReady ready.old }
+    ensures queues { Follow turned ready.old ready.new }
+    ensures told { result ≡ record { step = Step.Turn; effects = []; answer = None } }
 {
-    tables.ready.turn()?;
-    Ok(Outcome {
+    turn(ready);
+    Outcome {
         step: Step::Turn,
         effects: Effects::new(),
         answer: None,
-    })
+    }
 }
 
 /// An action of an actor. Interrupts and deferred calls do nothing yet.
 pub fn acted_by<W: RefWords + Drop>(
     script: &Script,
     tables: &mut Tables<W>,
+    ready: &mut ReadyList,
     actor: Actor,
 ) -> Result<Outcome, NoMemory>
-    requires { AreGood script.now tables.old }
-    ensures state { IfOk result (λ outcome. acted (state_of tables.new) outcome ≡ acted_by script.now (state_of tables.old) actor) }
+    requires good { AreGood script.now tables.old }
+    requires queues { SomeReady ready.old }
+    ensures state { IfOk result (λ outcome. Does tables.old ready.old tables.new ready.new outcome (λ S. acted_by script.now S actor)) }
     ensures counts { IfOk result (λ outcome. CountsMove tables.old.objects.counts tables.new.objects.counts outcome.effects) }
 {
     match actor {
-        Actor::Thread(thread) => act(script, tables, thread),
-        Actor::Tick => tick(tables),
+        Actor::Thread(thread) => act(script, tables, ready, thread),
+        Actor::Tick => Ok(tick(ready)),
         Actor::Irq(_) | Actor::Idfc | Actor::Idle => Ok(nothing(tables)),
     }
 }

@@ -9,13 +9,17 @@ ghost use Rattle.kcore.specs.BootTable.{IsUnused, AreNew, FirstStand};
 ghost use Rattle.kcore.specs.Counts.{Agrees};
 ghost use Rattle.state_rows.specs.ObjectRows.{has_name, is_session};
 ghost use Rattle.std.specs.List.{list_any};
+ghost use Rattle.ready_list.specs.Arrival.{AreQueuesOf};
+ghost use Rattle.machine.specs.ReadyApart.{with_ready};
+ghost use Rattle.kcore.specs.ReadyPairs.{pairs};
 ghost use Rattle.kcore.specs.StateOf.{state_of};
 
 use crate::handles::Handles;
 use crate::object_table::ObjectTable;
-use crate::ready::Ready;
+use crate::ready::queues_of;
 use crate::tables::Tables;
 use machine::{Born, State, all_born, boot_of, count_of};
+use ready_list::ReadyList;
 use ref_words::RefWords;
 use script_types::Script;
 use state_rows::ObjectRow;
@@ -72,27 +76,30 @@ fn fresh_handles(alloc: Global, all: &[Born]) -> Result<Items<Handles>, NoMemory
     Ok(Items::new(tables))
 }
 
-/// The tables at boot.
+/// The tables and the queues of ready threads at boot.
 #[tactic(auto, unfolding(machine::specs::Boot::boot_of))]
 pub fn boot<W: RefWords + Drop>(
     alloc: Global,
     script: &Script,
     words: W,
-) -> Result<Tables<W>, NoMemory>
+) -> Result<(Tables<W>, ReadyList), NoMemory>
     requires valid { IsValid script.now }
     requires unused { IsUnused (W.meaning words) }
-    ensures state { IfOk result (λ tables. state_of tables ≡ boot script.now) }
-    ensures agree { IfOk result (λ tables. Agrees tables.objects.counts (boot script.now)) }
+    ensures state { IfOk result (λ made. with_ready (state_of made.0) (boot script.now).ready ≡ boot script.now) }
+    ensures agree { IfOk result (λ made. Agrees made.0.objects.counts (boot script.now)) }
+    ensures queues { IfOk result (λ made. AreQueuesOf (pairs (boot script.now).ready) made.1) }
+    ensures size { IfOk result (λ made. made.1.threads ≡ 81) }
 {
     let all = all_born(alloc, script)?;
     let handles = fresh_handles(alloc, all.as_slice())?;
     let state = boot_of(alloc, all.as_slice())?;
     let objects = counted(alloc, words, all.as_slice(), &state)?;
-    Ok(Tables {
+    let ready = queues_of(alloc, state.ready.as_slice())?;
+    let tables = Tables {
         objects,
         handles,
         threads: state.threads,
-        ready: Ready::new(state.ready.into_vec()),
         owed: state.owed,
-    })
+    };
+    Ok((tables, ready))
 }

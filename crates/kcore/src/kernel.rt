@@ -10,13 +10,18 @@ ghost use Rattle.machine.specs.Run.{slot_actor};
 ghost use Rattle.machine.specs.SafeReferences.{IsSafeReferences};
 ghost use Rattle.kcore.specs.Counts.{Agrees};
 ghost use Rattle.kcore.specs.BootTable.{IsUnused};
+ghost use Rattle.ready_list.specs.Arrival.{AreQueuesOf};
+ghost use Rattle.machine.specs.declared.state.State.{State};
+ghost use Rattle.kcore.specs.ReadyPairs.{pairs};
 ghost use Rattle.kcore.specs.StateOf.{state_of};
 
 use crate::act::{acted_by, is_ready};
 use crate::boot;
+use crate::ready::chosen;
 use crate::tables::Tables;
 use entry_log::{Actor, Entry, FinalRow};
 use machine::entry_of;
+use ready_list::ReadyList;
 use ref_words::{PlainWords, RefWords};
 use script_types::{Script, Slot};
 use std::alloc::Global;
@@ -29,6 +34,7 @@ use sym_base::{NoMemory, ObjNo, ThreadNo};
 pub struct Kernel<W: RefWords> {
     script: Script,
     tables: Tables<W>,
+    ready: ReadyList,
     history: Vec<Entry>,
     room: u32,
     usable: bool,
@@ -42,18 +48,15 @@ impl<W: RefWords> Model for Kernel<W> {
 
     ghost view = { λ k. record { script = k.script; history = k.history.items; room = k.room; usable = k.usable } };
 
-    ghost invariant = { λ k. IsKernel k.script k.history.items k.tables k.room (vec_capacity k.history) k.usable };
+    ghost invariant = { λ k. IsKernel k.script k.history.items k.tables k.ready k.room (vec_capacity k.history) k.usable };
 }
 
 /// Whom a slot lets act.
-fn slot_actor<W: RefWords + Drop>(tables: &Tables<W>, slot: Slot) -> Actor
-    ensures { result ≡ slot_actor (state_of tables.now) slot }
+fn slot_actor(ready: &ReadyList, slot: Slot) -> Actor
+    ensures { (S : State) → AreQueuesOf (pairs S.ready) ready.now → result ≡ slot_actor S slot }
 {
     match slot {
-        Slot::Go => match tables.ready.pick() {
-            Some(queued) => Actor::Thread(queued.thread),
-            None => Actor::Idle,
-        },
+        Slot::Go => chosen(ready),
         Slot::Irq(number) => Actor::Irq(number),
         Slot::Tick => Actor::Tick,
     }
@@ -86,11 +89,12 @@ impl<W: RefWords + Drop> Kernel<W> {
         requires room { room ≤ 131072 }
         ensures { IfOk result (λ kernel. kernel ≡ record { script = script; history = []; room = room; usable = true }) }
     {
-        let tables = boot::boot(alloc, &script, words)?;
+        let (tables, ready) = boot::boot(alloc, &script, words)?;
         let history = Vec::with_capacity(alloc, room as usize)?;
         Ok(Kernel {
             script,
             tables,
+            ready,
             history,
             room,
             usable: true,
@@ -109,7 +113,7 @@ impl<W: RefWords + Drop> Kernel<W> {
         ensures safe { OnOk result (IsSafeReferences self.new.script self.new.history) }
     {
         self.usable = false;
-        let outcome = acted_by(&self.script, &mut self.tables, actor)?;
+        let outcome = acted_by(&self.script, &mut self.tables, &mut self.ready, actor)?;
         let place = self.history.as_slice().len() as u32 + 1;
         let entry = entry_of(place, actor, outcome);
         self.history.push(entry).unwrap();
@@ -158,7 +162,7 @@ impl Kernel<PlainWords> {
         ensures ok { let S = after self.old.script self.old.history in OnOk result (self.new.history ≡ self.old.history ++ entry_by self.old.script S (length self.old.history + 1) (slot_actor S slot) ∷ []) }
         ensures safe { OnOk result (IsSafeReferences self.new.script self.new.history) }
     {
-        let actor = slot_actor(&self.tables, slot);
+        let actor = slot_actor(&self.ready, slot);
         self.go(actor)
     }
 

@@ -1,73 +1,71 @@
-//! The ready threads, in order of arrival.
-ghost use Rattle.std.specs.Prelude.{◌≡◌, ◌==◌, not, filter, OnOk};
-ghost use Rattle.machine.specs.Choice.{greatest, first_of_greatest};
-ghost use Rattle.machine.specs.Tick.{turned, moved_behind};
+//! The kernel's use of the queues of ready threads.
+ghost use Rattle.std.specs.Prelude.{◌≡◌, ◌<◌, ◌==◌, true, not, filter, All, List, IfOk};
+ghost use Rattle.sym_base.specs.declared.number.ObjNo.{ObjNo};
+ghost use Rattle.ready_list.specs.Arrival.{AreQueuesOf};
+ghost use Rattle.machine.specs.declared.state.Queued.{Queued};
+ghost use Rattle.machine.specs.Choice.{actor_of, first_of_greatest};
+ghost use Rattle.machine.specs.Good.{is_listed};
+ghost use Rattle.machine.specs.ListedOnce.{IsOnce};
+ghost use Rattle.machine.specs.Tick.{turned};
+ghost use Rattle.kcore.specs.ReadyPairs.{pairs};
+ghost use Rattle.kcore.specs.ReadyQueues.{SomeReady, Follow};
 
+use entry_log::Actor;
 use machine::Queued;
-use std::marker::Model;
+use ready_list::ReadyList;
+use std::alloc::Global;
 use sym_base::{NoMemory, ThreadNo};
 
-/// The ready threads with their priorities. A contract sees the list in order of arrival.
-#[derive(Drop)]
-pub struct Ready {
-    queue: Vec<Queued>,
-}
+/// The numbers of processes and threads are below this.
+const THREADS: u16 = 81;
 
-impl Model for Ready {
-    ghost use Rattle.std.specs.Prelude.{List};
-    ghost use Rattle.machine.specs.declared.state.Queued.{Queued};
-
-    ghost Value = { List Queued };
-
-    ghost view = { λ r. r.queue.items };
-}
-
-impl Ready {
-    /// These threads, in this order.
-    pub fn new(queue: Vec<Queued>) -> Self
-        ensures { result ≡ queue.items }
-    {
-        Ready { queue }
-    }
-
-    /// The thread of greatest priority that has been ready longest; None exactly where nobody is ready.
-    pub fn pick(&self) -> Option<Queued>
-        ensures { result ≡ first_of_greatest self.now }
-    {
-        machine::first_of_greatest(&self.queue)
-    }
-
-    /// Puts the thread that `pick` gives behind its equals.
-    pub fn turn(&mut self) -> Result<(), NoMemory>
-        ensures { OnOk result (self.new ≡ turned self.old) }
-    {
-        let first = self.pick();
-        move_behind(&mut self.queue, first)
-    }
-
-    /// Takes a thread away.
-    pub fn remove(&mut self, thread: ThreadNo)
-        ensures { self.new ≡ filter (λ q. not (q.thread.0 == thread.0)) self.old }
-    {
-        remove_thread(&mut self.queue, thread.0);
-    }
-}
-
-/// Takes each item of a thread away.
-fn remove_thread(queue: &mut Vec<Queued>, thread: u16)
-    ensures { queue.new.items ≡ filter (λ q. not (q.thread.0 == thread)) queue.old.items }
+/// The queues of these ready threads.
+pub fn queues_of(alloc: Global, ready: &[Queued]) -> Result<ReadyList, NoMemory>
+    requires once { IsOnce ready.now }
+    requires known { (t : ObjNo) → is_listed ready.now t ≡ true → t.0 < 81 }
+    requires ranged { All (λ q. q.priority < 64) ready.now }
+    ensures queues { IfOk result (λ list. AreQueuesOf (pairs ready.now) list) }
+    ensures size { IfOk result (λ list. list.threads ≡ 81) }
 {
-    queue.retain(|queued| queued.thread.0 != thread);
+    let mut list = ReadyList::new(alloc, THREADS)?;
+    for queued in ready {
+        list.add(queued.thread, queued.priority)?;
+    }
+    Ok(list)
 }
 
-/// Gives a thread a new arrival.
-fn move_behind(queue: &mut Vec<Queued>, first: Option<Queued>) -> Result<(), NoMemory>
-    ensures { OnOk result (queue.new.items ≡ moved_behind queue.old.items first) }
+/// Whom the queues let act: the first thread of the highest queue, or nobody.
+pub fn chosen(ready: &ReadyList) -> Actor
+    ensures { (qs : List Queued) → AreQueuesOf (pairs qs) ready.now → result ≡ actor_of (first_of_greatest qs) }
 {
-    let Some(first) = first else {
-        return Ok(());
+    match ready.pick() {
+        Some(thread) => Actor::Thread(thread),
+        None => Actor::Idle,
+    }
+}
+
+/// Puts the thread that would be chosen behind its equals.
+pub fn turn(ready: &mut ReadyList)
+    requires { SomeReady ready.old }
+    ensures { Follow turned ready.old ready.new }
+{
+    let Some(first) = ready.pick() else {
+        return;
     };
-    remove_thread(queue, first.thread.0);
-    queue.push(first)?;
-    Ok(())
+    if let Some(priority) = ready.priority_of(first) {
+        ready.rotate(priority);
+    }
+}
+
+/// Takes a thread off the queues, where it stands in one.
+pub fn leave(ready: &mut ReadyList, thread: ThreadNo)
+    requires { SomeReady ready.old }
+    ensures { Follow (λ qs. filter (λ q. not (q.thread.0 == thread.0)) qs) ready.old ready.new }
+{
+    if thread.0 >= THREADS {
+        return;
+    }
+    if ready.priority_of(thread).is_some() {
+        ready.remove(thread);
+    }
 }

@@ -5,12 +5,11 @@ ghost use Rattle.kcore.specs.FirstOwed.{FirstOwed};
 
 use crate::handles::Handles;
 use crate::object_table::ObjectTable;
-use crate::ready::Ready;
 use machine::{Owed, ThreadRow};
 use ref_words::RefWords;
 use sym_base::{Items, NoMemory, ThreadNo};
 
-/// All tables but the history. Each list but the ready one is indexed by object number.
+/// All tables but the history and the queues of ready threads. Each list is indexed by object number.
 #[derive(Drop)]
 pub struct Tables<W: RefWords> {
     pub objects: ObjectTable<W>,
@@ -18,7 +17,6 @@ pub struct Tables<W: RefWords> {
     pub handles: Items<Handles>,
     /// The row of each thread, None at the number of a process.
     pub threads: Items<Option<ThreadRow>>,
-    pub ready: Ready,
     /// What each thread owes, the oldest first.
     pub owed: Items<Items<Owed>>,
 }
