@@ -57,7 +57,10 @@ fn expect_same<R: Abort>(rt: &R, alloc: Global, text: &str) -> Result<(), Fail> 
     assert_eq!(rt; plain.history().len(), kernel.history().len());
     for (i, entry) in plain.history().iter().enumerate() {
         let other = kernel.history().get(i).ok_or("no entry")?;
-        assert_eq!(rt; line_of_entry(entry).as_slice(), line_of_entry(other).as_slice());
+        assert_eq!(rt;
+            line_of_entry(entry).as_slice(),
+            line_of_entry(other).as_slice()
+        );
     }
     for number in 0..8 {
         assert!(rt; is_same_row(plain.next_row(number), kernel.next_row(number)));
@@ -90,6 +93,9 @@ fn a_thread_that_is_not_chosen_acts(rt: HostRuntime) -> Result<(), Fail> {
     }
     kernel.act(ObjNo(4))?;
     let entry = kernel.history().first().ok_or("no entry")?;
-    assert_eq!(rt; line_of_entry(entry).as_slice(), b"1 t4 open.seek = -1\n".as_slice());
+    assert_eq!(rt;
+        line_of_entry(entry).as_slice(),
+        b"1 t4 open.seek = -1\n".as_slice()
+    );
     Ok(())
 }
