@@ -2,8 +2,6 @@
 //! objects that are left.
 #![tactic(auto)]
 
-#[cfg(test)]
-mod compared;
 mod input;
 mod output;
 mod run;

@@ -23,7 +23,7 @@ use script_read::Reason;
 type Line = ArrayVec<u8, 512>;
 
 /// The line of an entry.
-pub fn line_of_entry(entry: &Entry) -> Line
+fn line_of_entry(entry: &Entry) -> Line
     ensures { result.items ≡ entry_line entry.now }
 {
     let mut line = Line::new();
@@ -32,7 +32,7 @@ pub fn line_of_entry(entry: &Entry) -> Line
 }
 
 /// The line of an object that is left.
-pub fn line_of_row(row: &FinalRow) -> Line
+fn line_of_row(row: &FinalRow) -> Line
     ensures { result.items ≡ final_line row.now }
 {
     let mut line = Line::new();

@@ -24,10 +24,10 @@ use std::alloc::Global;
 use sym_base::NoMemory;
 
 /// The places of the count words: one for each object that a kernel may make.
-pub const PLACES: u32 = 4096;
+const PLACES: u32 = 4096;
 
 /// Makes the whole history of a script: each slot of its schedule makes one entry.
-pub fn make_history(alloc: Global, script: Script) -> Result<Kernel<PlainWords>, NoMemory>
+fn make_history(alloc: Global, script: Script) -> Result<Kernel<PlainWords>, NoMemory>
     requires { IsValid script }
     ensures { IfOk result (λ kernel. HasRun script kernel) }
 {

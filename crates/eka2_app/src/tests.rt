@@ -6,7 +6,7 @@ use std::alloc::{AllocError, Global};
 use std::process::Abort;
 use std::test::Fail;
 
-pub const SCRIPT: &str =
+const SCRIPT: &str =
     "eka2 1\nprocess p\nthread a 10\ncreate mutex m r0\ndup r0 r1\nclose r0\nclose r1\nclose r1\nschedule\ngo 10\nend\n";
 
 const HISTORY: &str = "\
@@ -29,7 +29,7 @@ end
 ";
 
 /// An object dies between its find and its open, and its last close and its sweep stand apart.
-pub const DYING_SCRIPT: &str =
+const DYING_SCRIPT: &str =
     "eka2 1\nprocess p\nthread a 10\ncreate mutex m r0\nclose r0\nthread b 10\nopen mutex m r1\nschedule\ngo 1\ntick\ngo 1\ntick\ngo 1\ntick\ngo 1\ntick\ngo 1\nend\n";
 
 const DYING_HISTORY: &str = "\
