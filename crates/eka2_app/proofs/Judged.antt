@@ -1,23 +1,28 @@
--- Accepted inputs.
-use Rattle.std.proofs.Common.{◌≡◌, ℕ, ◌≤◌, List, ◌++◌, length, Option, Some, None, IfSome, arith, ap, subst, inr}
-use Rattle.std.proofs.lemmas.List.{length-append}
-use Rattle.std.specs.Prelude.{IsSomeAnd}
-use Rattle.edge_io.specs.Left.{preceded}
-use Rattle.eka2_app.specs.Inputs.{IsUnaccepted}
-use Rattle.script_types.specs.Grammar.{Accepted}
-use Rattle.script_types.specs.declared.script.Script.{Script}
+-- Inputs that are accepted, and those that have a first bad line.
+use Rattle.std.proofs.Common.{◌≡◌, ℕ, ◌≤◌, ◌<◌, List, length, Option, Some, None, IfSome, arith, subst, sym}
+use Rattle.std.specs.Prelude.{IsSomeAnd, Result, Err}
+use Rattle.eka2_app.specs.Inputs.{IsLargeInput}
+use Rattle.script_read.specs.declared.fault.RunFault.{RunFault}
+use Rattle.script_read.specs.declared.fault.RunFault.TheVariants as fault
+use Rattle.script_read.specs.declared.reason.Reason.{Reason}
 
--- an input that is accepted isn't judged by a front of it that is accepted as none
-pub not_refused : (left new : Option (List ℕ)) (input : List ℕ) (script : Script) → preceded input new ≡ left → (length input ≤ 4096 → IfSome left (λ bytes. bytes ≡ input)) → ((other : Script) → Accepted input other → ⊥) → IsSomeAnd left (λ bytes. Accepted bytes script) → ⊥
-not_refused None new input script read whole refused accepted = accepted
-not_refused (Some bytes) None input script read whole refused accepted = cc
-not_refused (Some bytes) (Some rest) input script read whole refused accepted =
-    let e : input ++ rest ≡ bytes = cc in
-    let short = accepted.short in
-    let size : length input ≤ 4096 = omega (arith, simp length-append at (ap length e)) in
-    refused script (subst (λ (b : List ℕ). Accepted b script) (whole size) accepted)
+-- what holds of the input holds of the bytes that a source told
+pub of_told : (P : List ℕ → Type 0) (left : Option (List ℕ)) (input : List ℕ) → IfSome left (λ bytes. bytes ≡ input) → P input → IfSome left P
+of_told P None input same holds = tt
+of_told P (Some bytes) input same holds = subst P (sym same) holds
 
--- an input of which a front is accepted as none is accepted as none
-pub is_unaccepted : (left new : Option (List ℕ)) (input : List ℕ) → preceded input new ≡ left → (length input ≤ 4096 → IfSome left (λ bytes. bytes ≡ input)) → ((other : Script) → Accepted input other → ⊥) → IfSome left IsUnaccepted
-is_unaccepted None new input read whole refused = tt
-is_unaccepted (Some bytes) new input read whole refused = inr (λ script a. not_refused (Some bytes) new input script read whole refused a)
+-- and what holds of those holds of the input
+pub of_input : (P : List ℕ → Type 0) (left : Option (List ℕ)) (input : List ℕ) → IfSome left (λ bytes. bytes ≡ input) → IsSomeAnd left P → P input
+of_input P None input same holds = absurd holds
+of_input P (Some bytes) input same holds = subst P same holds
+
+-- an input within the limit isn't too large
+pub not_large : (left : Option (List ℕ)) (input : List ℕ) → IfSome left (λ bytes. bytes ≡ input) → length input ≤ 1048576 → IsSomeAnd left IsLargeInput → ⊥
+not_large left input same few large = let big : 1048576 < length input = of_input IsLargeInput left input same large in absurd (omega arith)
+
+-- what holds of a refusal's line and reason holds of those of an equal one
+pub same_refusal : (P : ℕ → Reason → Type 0) (l line : ℕ) (r why : Reason) → ◌≡◌ {A = Result (Unit {0}) RunFault} (Err (fault.Refused l r)) (Err (fault.Refused line why)) → P l r → P line why
+same_refusal P l line r why same holds =
+    let at : l ≡ line = cc in
+    let reason : r ≡ why = cc in
+    subst (λ (n : ℕ). P n why) at (subst (P l) reason holds)

@@ -2,5 +2,5 @@ mod BuiltSlots
 mod Judged
 mod Rows
 mod Runs
-mod Texts
 mod Taken
+mod Texts

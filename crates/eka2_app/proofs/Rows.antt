@@ -8,7 +8,7 @@ use Rattle.machine.specs.FinalRows.{final_row, rows_of, rows_from}
 use Rattle.machine.specs.History.{after}
 use Rattle.state_rows.specs.declared.object.ObjectRow.{ObjectRow}
 use Rattle.machine.specs.declared.state.State.{State}
-use Rattle.script_types.specs.Grammar.{IsValid}
+use Rattle.script_types.specs.Source.{IsValid}
 use Rattle.script_types.specs.declared.script.Script.{Script}
 
 -- a row's number lies among those of the list, which then isn't empty

@@ -2,6 +2,8 @@
 //! objects that are left.
 #![tactic(auto)]
 
+#[cfg(test)]
+mod compared;
 mod input;
 mod output;
 mod run;

@@ -9,7 +9,7 @@ ghost use Rattle.entry_log.specs.HistoryText.{history_text};
 ghost use Rattle.machine.specs.FinalRows.{final_rows};
 ghost use Rattle.machine.specs.History.{after, IsLegal};
 ghost use Rattle.script_read.specs.Refusal.{refusal_text};
-ghost use Rattle.script_types.specs.Grammar.{IsValid};
+ghost use Rattle.script_types.specs.Source.{IsValid};
 
 use arrayvec::ArrayVec;
 use edge_io::{Failed, Sink, write_whole};
@@ -20,10 +20,10 @@ use ref_words::PlainWords;
 use script_read::Reason;
 
 /// The bytes of a line, its line feed among them.
-type Line = ArrayVec<u8, 512>;
+pub type Line = ArrayVec<u8, 512>;
 
 /// The line of an entry.
-fn line_of_entry(entry: &Entry) -> Line
+pub fn line_of_entry(entry: &Entry) -> Line
     ensures { result.items ≡ entry_line entry.now }
 {
     let mut line = Line::new();
@@ -32,7 +32,7 @@ fn line_of_entry(entry: &Entry) -> Line
 }
 
 /// The line of an object that is left.
-fn line_of_row(row: &FinalRow) -> Line
+pub fn line_of_row(row: &FinalRow) -> Line
     ensures { result.items ≡ final_line row.now }
 {
     let mut line = Line::new();

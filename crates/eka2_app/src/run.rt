@@ -1,16 +1,17 @@
 //! The command `run`.
-ghost use Rattle.std.specs.Prelude.{◌≡◌, ◌≢◌, ◌≤◌, ◌⊎◌, ℕ, is_some, IsSomeAnd, IfOk, IfErr, OnOk, OnErr, Ok, Err};
+ghost use Rattle.std.specs.Prelude.{◌≡◌, ◌≢◌, ◌≤◌, ◌⊎◌, ℕ, is_some, IsSomeAnd, IfOk, IfErr, IsOk, OnOk, OnErr, Err};
 ghost use Rattle.edge_io.specs.Faults.{Rose};
 ghost use Rattle.edge_io.specs.Written.{Wrote, WrotePrefix};
-ghost use Rattle.eka2_app.specs.Complete.{Stayed, IsDoneOrNoMemory, IsRefusedOrNoMemory};
-ghost use Rattle.eka2_app.specs.Inputs.{IsAtEnd, IsUnaccepted, TookAtMost};
-ghost use Rattle.eka2_app.specs.Outputs.{WroteRun, WroteRefusal, WroteFront};
+ghost use Rattle.eka2_app.specs.Complete.{Stayed};
+ghost use Rattle.eka2_app.specs.Inputs.{IsAtEnd, IsInput, IsBadInput, IsLargeInput, Took, TookAtMost};
+ghost use Rattle.eka2_app.specs.Outputs.{WroteRun, WroteRefusalOf, WroteFront};
 ghost use Rattle.eka2_app.specs.RunText.{HasRun, run_text};
 ghost use Rattle.machine.specs.History.{IsLegal};
 ghost use Rattle.machine.specs.Run.{run};
 ghost use Rattle.machine.specs.SafeReferences.{IsSafeReferences};
 ghost use Rattle.script_read.specs.Refusal.{refusal_text};
-ghost use Rattle.script_types.specs.Grammar.{Accepted, IsValid};
+ghost use Rattle.script_read.specs.declared.reason.Reason.{Reason};
+ghost use Rattle.script_types.specs.Source.{IsValid};
 ghost use Rattle.script_types.specs.declared.script.Script.{Script};
 
 use crate::input::read_input;
@@ -24,10 +25,11 @@ use std::alloc::Global;
 use sym_base::NoMemory;
 
 /// The places of the count words: one for each object that a kernel may make.
-const PLACES: u32 = 4096;
+pub const PLACES: u32 = 4096;
 
 /// Makes the whole history of a script: each slot of its schedule makes one entry.
-fn make_history(alloc: Global, script: Script) -> Result<Kernel<PlainWords>, NoMemory>
+#[tactic(auto, using(crate::proofs::BuiltSlots::valid_slots_few))]
+pub fn make_history(alloc: Global, script: Script) -> Result<Kernel<PlainWords>, NoMemory>
     requires { IsValid script }
     ensures { IfOk result (λ kernel. HasRun script kernel) }
 {
@@ -64,10 +66,10 @@ fn run_script<K: Sink>(alloc: Global, script: Script, sink: &mut K) -> Result<()
 }
 
 /// Reads a script, runs it and writes its history. The whole input is read before it is judged, and
-/// the whole history is made before its first byte is written. Of a script that isn't accepted one
-/// line is written, which says so; so it goes with more bytes than a script may have, of which one
-/// too many is read. After `WriteFault` a front of the text stands, and after the other faults
-/// nothing was written.
+/// the whole history is made before its first byte is written. Of a script that is refused one line is
+/// written, which tells its first bad line, from 1, and why it is bad. Of an input of more than
+/// 1,048,576 bytes one byte too many is read, and nothing is written. After `WriteFault` a front of the
+/// text stands, and after the other faults nothing was written.
 pub fn run_schedule<S: Source, K: Sink>(
     alloc: Global,
     source: &mut S,
@@ -76,25 +78,32 @@ pub fn run_schedule<S: Source, K: Sink>(
     ensures done { OnOk result (WroteRun (S.left source.old) (K.written sink.old) (K.written sink.new)) }
     ensures at_end { OnOk result (IsAtEnd (S.left source.new)) }
     ensures refused { (line : ℕ) → (why : Reason) → result ≡ Err (RunFault.Refused line why)
-        → WroteRefusal (S.left source.old) (K.written sink.old) (K.written sink.new) }
-    ensures place { (line : ℕ) → (why : Reason) → result ≡ Err (RunFault.Refused line why)
-        → (line ≡ 0) × (why ≡ Reason.Unbuilt) }
+        → WroteRefusalOf line why (S.left source.old) (K.written sink.old) (K.written sink.new) }
+    ensures refused_at_end { (line : ℕ) → (why : Reason) → result ≡ Err (RunFault.Refused line why)
+        → IsAtEnd (S.left source.new) }
+
+    // TooLarge exactly where more bytes were taken than a script may have.
+    ensures large { result ≡ Err RunFault.TooLarge → Took 1048577 (S.left source.old) (S.left source.new) }
+    ensures few { result ≢ Err RunFault.TooLarge → TookAtMost 1048576 (S.left source.old) (S.left source.new) }
+    ensures large_silent { result ≡ Err RunFault.TooLarge → K.written sink.new ≡ K.written sink.old }
+
     ensures read_fault { result ≡ Err RunFault.ReadFault → Rose (S.faults source.old) (S.faults source.new) }
     ensures write_fault { result ≡ Err RunFault.WriteFault → Rose (K.faults sink.old) (K.faults sink.new) }
     ensures front { result ≡ Err RunFault.WriteFault
         → WroteFront (S.left source.old) (K.written sink.old) (K.written sink.new) }
     ensures read_silent { result ≡ Err RunFault.ReadFault → K.written sink.new ≡ K.written sink.old }
     ensures memory_silent { result ≡ Err RunFault.NoMemory → K.written sink.new ≡ K.written sink.old }
-    ensures never_large { result ≢ Err RunFault.TooLarge }
-    ensures few { TookAtMost 4097 (S.left source.old) (S.left source.new) }
 
     // Completeness: where no count of faults rose, the input alone decides, but for want of memory.
-    ensures accepted { (script : Script) → IsSomeAnd (S.left source.old) (λ bytes. Accepted bytes script)
+    ensures accepted { (script : Script) → IsSomeAnd (S.left source.old) (λ bytes. IsInput bytes script)
         → Stayed (S.faults source.old) (S.faults source.new) → Stayed (K.faults sink.old) (K.faults sink.new)
-        → IsDoneOrNoMemory result }
-    ensures unaccepted { IsSomeAnd (S.left source.old) IsUnaccepted
+        → IsOk result ⊎ (result ≡ Err RunFault.NoMemory) }
+    ensures bad { (line : ℕ) → (why : Reason) → IsSomeAnd (S.left source.old) (λ bytes. IsBadInput bytes line why)
         → Stayed (S.faults source.old) (S.faults source.new) → Stayed (K.faults sink.old) (K.faults sink.new)
-        → IsRefusedOrNoMemory result }
+        → (result ≡ Err (RunFault.Refused line why)) ⊎ (result ≡ Err RunFault.NoMemory) }
+    ensures too_large { IsSomeAnd (S.left source.old) IsLargeInput
+        → Stayed (S.faults source.old) (S.faults source.new)
+        → (result ≡ Err RunFault.TooLarge) ⊎ (result ≡ Err RunFault.NoMemory) }
 {
     let input = read_input(alloc, source)?;
     match read_script(alloc, input.as_slice()) {

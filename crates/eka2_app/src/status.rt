@@ -18,7 +18,7 @@ pub enum Status {
     WriteFault,
     /// The host had no memory left.
     NoMemory,
-    /// The input has more bytes than a script may have. It doesn't come yet: such an input is refused.
+    /// The input has more than the 1,048,576 bytes that a script may have.
     TooLarge,
 }
 

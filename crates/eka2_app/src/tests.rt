@@ -6,7 +6,7 @@ use std::alloc::{AllocError, Global};
 use std::process::Abort;
 use std::test::Fail;
 
-const SCRIPT: &str =
+pub const SCRIPT: &str =
     "eka2 1\nprocess p\nthread a 10\ncreate mutex m r0\ndup r0 r1\nclose r0\nclose r1\nclose r1\nschedule\ngo 10\nend\n";
 
 const HISTORY: &str = "\
@@ -29,7 +29,7 @@ end
 ";
 
 /// An object dies between its find and its open, and its last close and its sweep stand apart.
-const DYING_SCRIPT: &str =
+pub const DYING_SCRIPT: &str =
     "eka2 1\nprocess p\nthread a 10\ncreate mutex m r0\nclose r0\nthread b 10\nopen mutex m r1\nschedule\ngo 1\ntick\ngo 1\ntick\ngo 1\ntick\ngo 1\ntick\ngo 1\nend\n";
 
 const DYING_HISTORY: &str = "\
@@ -57,6 +57,10 @@ objects
 1 thread supervisor 1 live
 end
 ";
+
+/// The seventh line begins with a word that begins no line.
+const UNKNOWN_WORD_SCRIPT: &str =
+    "eka2 1\nprocess p\nthread a 10\ncreate mutex m r0\ndup r0 r1\nclose r0\nclone r1\nclose r1\nschedule\ngo 16\nend\n";
 
 const FIRST_TWO_LINES: &str = "1 t3 create.do +p2.0:4 = 65536\n2 t3 dup.look +tmp3:4\n";
 
@@ -143,13 +147,45 @@ fn other_words_are_usage(rt: HostRuntime) -> Result<(), Fail> {
 
 #[test]
 fn a_refused_script_writes_its_refusal(rt: HostRuntime) -> Result<(), Fail> {
-    let case = Case {
+    let unended = Case {
         script: "eka2 1\nschedule\ngo 3\n",
         status: Status::Refused,
-        written: "refused line 0 unbuilt\n",
+        written: "refused line 4 end\n",
         ..WELL
     };
-    expect_case(&rt, rt.alloc(), &case)
+    expect_case(&rt, rt.alloc(), &unended)?;
+    let unknown_word = Case {
+        script: UNKNOWN_WORD_SCRIPT,
+        written: "refused line 7 word\n",
+        ..unended
+    };
+    expect_case(&rt, rt.alloc(), &unknown_word)
+}
+
+/// Runs an input of so many line feeds, and compares the status and what was written.
+fn expect_line_feeds<R: Abort>(
+    rt: &R,
+    alloc: Global,
+    count: usize,
+    status: Status,
+    written: &str,
+) -> Result<(), Fail> {
+    let words = words_of(alloc, &["run"])?;
+    let bytes = vec![in alloc; b'\n'; count]?;
+    let mut source = MemSource::new(bytes, 512, Vec::new(alloc));
+    let mut sink = MemSink::new(alloc, 100, 100, Vec::new(alloc))?;
+    let found = eka2_main(alloc, words.as_slice(), &mut source, &mut sink);
+    assert_eq!(rt; found, status);
+    assert_eq!(rt; sink.bytes(), written.as_bytes());
+    Ok(())
+}
+
+#[test]
+fn an_input_of_a_byte_too_many_is_too_large(rt: HostRuntime) -> Result<(), Fail> {
+    let alloc = rt.alloc();
+    expect_line_feeds(&rt, alloc, 1_048_577, Status::TooLarge, "")?;
+    let refusal = "refused line 1048577 end\n";
+    expect_line_feeds(&rt, alloc, 1_048_576, Status::Refused, refusal)
 }
 
 #[test]

@@ -1,12 +1,12 @@
 //! The command as a whole.
-ghost use Rattle.std.specs.Prelude.{◌≡◌, ◌≢◌, ◌⊎◌, ◌↔◌, IsSomeAnd, None, map};
+ghost use Rattle.std.specs.Prelude.{◌≡◌, ◌≢◌, ◌⊎◌, ◌↔◌, ℕ, IsSomeAnd, None, map};
 ghost use Rattle.std.specs.String.{string_bytes};
 ghost use Rattle.edge_io.specs.Faults.{Rose};
 ghost use Rattle.eka2_app.specs.Complete.{Stayed};
-ghost use Rattle.eka2_app.specs.Inputs.{IsAtEnd, IsUnaccepted, TookAtMost};
+ghost use Rattle.eka2_app.specs.Inputs.{IsAtEnd, IsInput, IsBadInput, IsLargeInput, Took, TookAtMost};
 ghost use Rattle.eka2_app.specs.Outputs.{WroteRun, WroteRefusal, WroteFront};
 ghost use Rattle.eka2_app.specs.Readings.{reading_of};
-ghost use Rattle.script_types.specs.Grammar.{Accepted};
+ghost use Rattle.script_read.specs.declared.reason.Reason.{Reason};
 ghost use Rattle.script_types.specs.declared.script.Script.{Script};
 
 use crate::run::run_schedule;
@@ -34,9 +34,15 @@ pub fn eka2_main<S: Source, K: Sink>(
     ensures done { result ≡ Status.Done → WroteRun (S.left source.old) (K.written sink.old) (K.written sink.new) }
     ensures at_end { result ≡ Status.Done → IsAtEnd (S.left source.new) }
 
-    // Refused: the input is no script, and the line that says so was written.
+    // Refused: the input has a first bad line, and the line that names it and its reason was written.
     ensures refused { result ≡ Status.Refused
         → WroteRefusal (S.left source.old) (K.written sink.old) (K.written sink.new) }
+    ensures refused_at_end { result ≡ Status.Refused → IsAtEnd (S.left source.new) }
+
+    // TooLarge exactly where more bytes were taken than a script may have, and then nothing was written.
+    ensures large { result ≡ Status.TooLarge → Took 1048577 (S.left source.old) (S.left source.new) }
+    ensures few { result ≢ Status.TooLarge → TookAtMost 1048576 (S.left source.old) (S.left source.new) }
+    ensures large_silent { result ≡ Status.TooLarge → K.written sink.new ≡ K.written sink.old }
 
     // A fault comes only where its count rose.
     ensures read_fault { result ≡ Status.ReadFault → Rose (S.faults source.old) (S.faults source.new) }
@@ -45,18 +51,20 @@ pub fn eka2_main<S: Source, K: Sink>(
         → WroteFront (S.left source.old) (K.written sink.old) (K.written sink.new) }
     ensures read_silent { result ≡ Status.ReadFault → K.written sink.new ≡ K.written sink.old }
     ensures memory_silent { result ≡ Status.NoMemory → K.written sink.new ≡ K.written sink.old }
-    ensures never_large { result ≢ Status.TooLarge }
-    ensures few { TookAtMost 4097 (S.left source.old) (S.left source.new) }
 
     // Completeness: where no count of faults rose, words and input alone decide, but for want of memory.
     ensures accepted { (script : Script) → reading_of (map string_bytes words.now) ≢ None
-        → IsSomeAnd (S.left source.old) (λ bytes. Accepted bytes script)
+        → IsSomeAnd (S.left source.old) (λ bytes. IsInput bytes script)
         → Stayed (S.faults source.old) (S.faults source.new) → Stayed (K.faults sink.old) (K.faults sink.new)
         → (result ≡ Status.Done) ⊎ (result ≡ Status.NoMemory) }
-    ensures unaccepted { reading_of (map string_bytes words.now) ≢ None
-        → IsSomeAnd (S.left source.old) IsUnaccepted
+    ensures bad { (line : ℕ) → (why : Reason) → reading_of (map string_bytes words.now) ≢ None
+        → IsSomeAnd (S.left source.old) (λ bytes. IsBadInput bytes line why)
         → Stayed (S.faults source.old) (S.faults source.new) → Stayed (K.faults sink.old) (K.faults sink.new)
         → (result ≡ Status.Refused) ⊎ (result ≡ Status.NoMemory) }
+    ensures too_large { reading_of (map string_bytes words.now) ≢ None
+        → IsSomeAnd (S.left source.old) IsLargeInput
+        → Stayed (S.faults source.old) (S.faults source.new)
+        → (result ≡ Status.TooLarge) ⊎ (result ≡ Status.NoMemory) }
 {
     let Some(Command::Run) = command_of(words) else {
         return Status::Usage;

@@ -8,7 +8,7 @@ use Rattle.std.proofs.lemmas.Option.{slice_get-map}
 use Rattle.state_rows.specs.declared.object.ObjectRow.{ObjectRow}
 use Rattle.state_rows.specs.ObjectRows.{has_name}
 use Rattle.script_types.specs.declared.script.Script.{Script}
-use Rattle.script_types.specs.Grammar.{IsValid}
+use Rattle.script_types.specs.Source.{IsValid}
 use Rattle.machine.specs.declared.boot.Born.{Born}
 use Rattle.machine.specs.declared.state.State.{State}
 use Rattle.machine.specs.Boot.{boot, boot_of, born}

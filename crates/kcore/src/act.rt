@@ -127,7 +127,7 @@ fn close_step<W: RefWords + Drop>(
     close_do(tables, thread, row, handle, found)
 }
 
-/// A step of an instruction.
+/// A step of an instruction. A form that isn't built yet does nothing.
 fn instruction_step<W: RefWords + Drop>(
     script: &Script,
     tables: &mut Tables<W>,
@@ -147,6 +147,7 @@ fn instruction_step<W: RefWords + Drop>(
         ),
         Instr::Dup(from, to) => dup_step(script, tables, thread, row, from, to),
         Instr::Close(register) => close_step(script, tables, thread, row, register),
+        _ => Ok(nothing(tables)),
     }
 }
 

@@ -1,7 +1,7 @@
 //! The tables at boot.
 ghost use Rattle.std.specs.Prelude.{◌≡◌, ◌<◌, ◌≤◌, ◌++◌, [], ◌∷◌, Some, false, length, map, replicate, IfOk, slice_index, slice_set};
 ghost use Rattle.sym_base.specs.declared.number.ObjNo.{ObjNo};
-ghost use Rattle.script_types.specs.Grammar.{IsValid};
+ghost use Rattle.script_types.specs.Source.{IsValid};
 ghost use Rattle.machine.specs.Boot.{boot};
 ghost use Rattle.machine.specs.References.{count_of};
 ghost use Rattle.machine.specs.Table.{fresh_place};

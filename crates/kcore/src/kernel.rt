@@ -1,6 +1,6 @@
 //! The kernel that a script's schedule drives.
 ghost use Rattle.std.specs.Prelude.{◌≡◌, ◌+◌, ◌<◌, ◌≤◌, ◌++◌, [], ◌∷◌, true, length, IsTrue, IfOk, OnOk};
-ghost use Rattle.script_types.specs.Grammar.{IsValid};
+ghost use Rattle.script_types.specs.Source.{IsValid};
 ghost use Rattle.machine.specs.Built.{IsBuilt};
 ghost use Rattle.machine.specs.FinalRows.{rows_from, IsNextRow};
 ghost use Rattle.entry_log.specs.declared.entry.Actor.TheVariants as Actor;

@@ -1,15 +1,15 @@
 -- Each object that stands at boot has a reference: a thread the kernel's own, a process its threads'.
 use Rattle.std.proofs.Common.{◌≡◌, inl, inr, ℕ, suc, zero, ◌+◌, ◌<◌, ◌≤◌, List, [], ◌∷◌, ◌++◌, length, get_or, arith, refl, subst, ap, ◌∙◌, Option, Some, None, Bool, true, false, map}
-use Rattle.std.specs.Prelude.{is_some, if◌then◌else◌, ◌||◌, ◌==◌}
-use Rattle.std.specs.List.{AllByRecursion, list_any}
-use Rattle.std.proofs.lemmas.Bool.{cases_eq, eq-eqb, or_left, or_right}
+use Rattle.std.specs.Prelude.{is_some, if◌then◌else◌, ◌||◌}
+use Rattle.std.specs.List.{list_any}
+use Rattle.std.proofs.lemmas.Bool.{eq-eqb, or_left, or_right}
 use Rattle.std.proofs.lemmas.List.{length-map}
-use Rattle.std.proofs.lemmas.List.Folds.{list_any-append}
 use Rattle.sym_base.specs.declared.number.ObjNo.{ObjNo}
 use Rattle.script_types.specs.declared.declaration.ProcessDecl.{ProcessDecl}
 use Rattle.script_types.specs.declared.declaration.ThreadDecl.{ThreadDecl}
 use Rattle.script_types.specs.declared.script.Script.{Script}
-use Rattle.script_types.specs.Grammar.{ThreadPart, ProcessPart, part_thread, parts_threads, part_process, IsValid}
+use Rattle.script_types.specs.Source.{IsValid}
+use Rattle.script_types.proofs.ThreadOrder.{HasThread, valid_threads_ordered}
 use Rattle.machine.specs.declared.boot.Born.{Born}
 use Rattle.machine.specs.declared.state.ThreadRow.{ThreadRow}
 use Rattle.machine.specs.Boot.{boot, boot_of, born, born_thread, born_threads, born_processes, is_of}
@@ -72,29 +72,14 @@ each_held_processes all threads j p (d ∷ ds) some part =
           (each_held_processes all threads (j + 1) (p + 1 + length own) ds (λ i above below. some i (omega arith) (omega arith)) (λ o. let a = part o in let b = links-append o own rest in omega arith)),
     )
 
--- a thread of a process's part is that process's
-own_has : (number : ℕ) (threads : List ThreadPart) → 0 < length threads → has_thread number (map (part_thread number) threads) ≡ true
-own_has number [] some = absurd (omega arith)
-own_has number (t ∷ ts) some = or_left (number == number) (has_thread number (map (part_thread number) ts)) (eq-eqb number number refl)
-
--- each process of a text has a thread
-parts_have : (number : ℕ) (groups : List ProcessPart) → AllByRecursion (λ (p : ProcessPart). 0 < length p.threads) groups → (i : ℕ) → number ≤ i → i < number + length groups → has_thread i (parts_threads number groups) ≡ true
-parts_have number [] all i above below = absurd (omega arith)
-parts_have number (g ∷ gs) all i above below =
-    let own = map (part_thread number) g.threads in
-    let others = parts_threads (suc number) gs in
-    let test : ThreadDecl → Bool = λ d. is_of i d.process in
-    list_any-append test own others ∙ elim (cases_eq number i) as (λ _. (has_thread i own || has_thread i others) ≡ true) [
-      | inl at ↦ or_left (has_thread i own) (has_thread i others) (subst (λ (k : ℕ). has_thread k own ≡ true) at (own_has number g.threads all.0))
-      | inr apart ↦ or_right (has_thread i own) (has_thread i others) (parts_have (suc number) gs all.1 i (omega arith) (omega arith))
-    ]
+-- a process that has a thread has one in the list
+has_one : (i : ℕ) (ds : List ThreadDecl) → HasThread i ds → has_thread i ds ≡ true
+has_one i [] h = absurd h
+has_one i (d ∷ ds) (inl here) = or_left (is_of i d.process) (has_thread i ds) (ap (is_of i) here ∙ eq-eqb i i refl)
+has_one i (d ∷ ds) (inr later) = or_right (is_of i d.process) (has_thread i ds) (has_one i ds later)
 
 valid_has : (script : Script) → IsValid script → (i : ℕ) → i < length script.processes → has_thread i script.threads ≡ true
-valid_has script valid i below =
-    let a = valid.1 in
-    let groups = a.parts.processes in
-    let count : length script.processes ≡ length groups = ap (λ (s : Script). length s.processes) a.script_is ∙ length-map groups part_process in
-    ap (λ (s : Script). has_thread i s.threads) a.script_is ∙ parts_have 0 groups a.threads i (omega arith) (omega arith)
+valid_has script valid i below = has_one i script.threads ((valid_threads_ordered script valid).each i below)
 
 born_held : (script : Script) → IsValid script → EachHeld (born script) 0 (born script)
 born_held script valid = (

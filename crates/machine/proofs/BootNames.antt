@@ -1,10 +1,10 @@
 -- What stands at boot: processes and threads that are alive, each with a new name among its kind.
-use Rattle.std.proofs.Common.{◌≡◌, ◌⊎◌, inl, inr, ℕ, suc, zero, ◌+◌, ◌<◌, ◌≤◌, List, [], ◌∷◌, ◌++◌, length, take, arith, refl, sym, subst, ap, ◌∙◌, Option, Some, Bool, true, false, map, append-nil}
+use Rattle.std.proofs.Common.{◌≡◌, ◌⊎◌, inl, inr, ℕ, suc, zero, ◌+◌, ◌<◌, List, [], ◌∷◌, ◌++◌, length, take, arith, refl, sym, subst, ap, ◌∙◌, Option, Some, Bool, true, false, map}
 use Rattle.std.specs.Prelude.{if◌then◌else◌, ◌||◌, ◌==◌, not, IsTrue, codes, slice_get}
 use Rattle.std.specs.List.{AllByRecursion, list_any}
 use Rattle.std.specs.Str.{bytes_eq}
-use Rattle.std.proofs.lemmas.Bool.{eq-eqb, ne_eqb, not-true, and_parts, and_left, and_right, or_parts, or_from, false_from_ne_true}
-use Rattle.std.proofs.lemmas.List.{length-map, append_assoc, map-append}
+use Rattle.std.proofs.lemmas.Bool.{cases_eq, eq-eqb, ne_eqb, not-true, and_parts, and_left, and_right, or_parts, or_from, false_from_ne_true}
+use Rattle.std.proofs.lemmas.List.{length-map}
 use Rattle.std.proofs.lemmas.List.Folds.{list_any-append}
 use Rattle.std.proofs.lemmas.Slice.Eq.{bytes_eq-Decides}
 use Rattle.sym_base.specs.KindNumber.{kind_number}
@@ -12,7 +12,9 @@ use Rattle.sym_base.specs.declared.kind.Kind.TheVariants.{Process, Thread}
 use Rattle.script_types.specs.declared.declaration.ProcessDecl.{ProcessDecl}
 use Rattle.script_types.specs.declared.declaration.ThreadDecl.{ThreadDecl}
 use Rattle.script_types.specs.declared.script.Script.{Script}
-use Rattle.script_types.specs.Grammar.{ThreadPart, ProcessPart, part_thread, parts_threads, part_process, are_new, IsValid}
+use Rattle.script_types.specs.Source.{IsValid}
+use Rattle.script_types.proofs.NewNames.{are_new, process_names, thread_names, valid_names_new}
+use Rattle.script_types.proofs.ThreadOrder.{AreInOrder, valid_threads_ordered}
 use Rattle.machine.specs.declared.boot.Born.{Born}
 use Rattle.state_rows.specs.declared.object.ObjectRow.{ObjectRow}
 use Rattle.machine.specs.Boot.{boot, boot_of, born, born_thread, born_threads, born_processes, is_of}
@@ -132,21 +134,18 @@ no_process : (j p k : ℕ) (ds : List ThreadDecl) → names_of 0 (born_threads j
 no_process j p k [] = refl
 no_process j p k (d ∷ ds) = no_process_step p k d (born_threads j p (k + 1) ds) (is_of j d.process) (no_process j p (k + 1) ds)
 
-process_names : (threads : List ThreadDecl) (j p : ℕ) (ds : List ProcessDecl) → names_of 0 (born_processes threads j p ds) ≡ map (λ (d : ProcessDecl). d.name) ds
-process_names threads j p [] = refl
-process_names threads j p (d ∷ ds) =
+born_processes-names : (threads : List ThreadDecl) (j p : ℕ) (ds : List ProcessDecl) → names_of 0 (born_processes threads j p ds) ≡ process_names ds
+born_processes-names threads j p [] = refl
+born_processes-names threads j p (d ∷ ds) =
     let own = born_threads j p 0 threads in
     let rest = born_processes threads (j + 1) (p + 1 + length own) ds in
     ap (λ (l : List (List ℕ)). d.name ∷ l)
-    (names_of-append 0 own rest ∙ (ap (λ (l : List (List ℕ)). l ++ names_of 0 rest) (no_process j p 0 threads) ∙ process_names threads (j + 1) (p + 1 + length own) ds))
+    (names_of-append 0 own rest ∙ (ap (λ (l : List (List ℕ)). l ++ names_of 0 rest) (no_process j p 0 threads) ∙ born_processes-names threads (j + 1) (p + 1 + length own) ds))
 
 -- the names of the declared threads of the j-th process
 abbrev own_names : ℕ → List ThreadDecl → List (List ℕ)
 own_names j [] = []
 own_names j (d ∷ ds) = if is_of j d.process then d.name ∷ own_names j ds else own_names j ds
-
-abbrev decl_names : List ThreadDecl → List (List ℕ)
-decl_names ds = map (λ (d : ThreadDecl). d.name) ds
 
 born_names_step : (p k : ℕ) (d : ThreadDecl) (rest : List Born) (names : List (List ℕ)) (own : Bool) → names_of 1 rest ≡ names → names_of 1 (if own then born_thread p k d ∷ rest else rest) ≡ (if own then d.name ∷ names else names)
 born_names_step p k d rest names true e = ap (λ (l : List (List ℕ)). d.name ∷ l) e
@@ -156,53 +155,66 @@ born_names : (j p k : ℕ) (ds : List ThreadDecl) → names_of 1 (born_threads j
 born_names j p k [] = refl
 born_names j p k (d ∷ ds) = born_names_step p k d (born_threads j p (k + 1) ds) (own_names j ds) (is_of j d.process) (born_names j p (k + 1) ds)
 
-own-append : (j : ℕ) (xs ys : List ThreadDecl) → own_names j (xs ++ ys) ≡ own_names j xs ++ own_names j ys
-own-append j [] ys = refl
-own-append j (x ∷ xs) ys = names_step (is_of j x.process) x.name (own_names j xs) (own_names j ys) (own_names j (xs ++ ys)) (own-append j xs ys)
+-- the names of the threads of the processes from the j-th on, one process after another
+abbrev names_from : ℕ → List ProcessDecl → List ThreadDecl → List (List ℕ)
+names_from j [] ts = []
+names_from j (d ∷ ds) ts = own_names j ts ++ names_from (j + 1) ds ts
 
-own_part : (j : ℕ) (ts : List ThreadPart) → own_names j (map (part_thread j) ts) ≡ decl_names (map (part_thread j) ts)
-own_part j [] = refl
-own_part j (t ∷ ts) = rw (eq-eqb j j refl) (ap (λ (l : List (List ℕ)). t.name ∷ l) (own_part j ts))
-
-other_part : (i j : ℕ) (ts : List ThreadPart) → (j ≡ i → ⊥) → own_names i (map (part_thread j) ts) ≡ []
-other_part i j [] apart = refl
-other_part i j (t ∷ ts) apart = rw (ne_eqb j i apart) (other_part i j ts apart)
-
-later_parts : (i j : ℕ) (gs : List ProcessPart) → i < j → own_names i (parts_threads j gs) ≡ []
-later_parts i j [] lt = refl
-later_parts i j (g ∷ gs) lt =
-    let here = map (part_thread j) g.threads in
-    let later = parts_threads (suc j) gs in
-    own-append i here later ∙ (ap (λ (l : List (List ℕ)). l ++ own_names i later) (other_part i j g.threads (λ e. absurd (omega arith))) ∙ later_parts i (suc j) gs (omega arith))
-
--- the names of the threads of processes, where those before them are of other processes
-thread_names : (threads before : List ThreadDecl) (j p : ℕ) (gs : List ProcessPart) → threads ≡ before ++ parts_threads j gs → ((i : ℕ) → j ≤ i → own_names i before ≡ []) → names_of 1 (born_processes threads j p (map part_process gs)) ≡ decl_names (parts_threads j gs)
-thread_names threads before j p [] is others = refl
-thread_names threads before j p (g ∷ gs) is others =
+born_threads-names : (threads : List ThreadDecl) (j p : ℕ) (ds : List ProcessDecl) → names_of 1 (born_processes threads j p ds) ≡ names_from j ds threads
+born_threads-names threads j p [] = refl
+born_threads-names threads j p (d ∷ ds) =
     let own = born_threads j p 0 threads in
-    let rest = born_processes threads (j + 1) (p + 1 + length own) (map part_process gs) in
-    let here = map (part_thread j) g.threads in
-    let later = parts_threads (suc j) gs in
-    let next : suc j ≡ j + 1 = omega arith in
-    let first : names_of 1 own ≡ decl_names here =
-    born_names j p 0 threads ∙ (ap (own_names j) is ∙ (own-append j before (here ++ later) ∙ (ap (λ (l : List (List ℕ)). l ++ own_names j (here ++ later)) (others j (omega arith)) ∙ (own-append j here later
-    ∙ (ap (λ (l : List (List ℕ)). l ++ own_names j later) (own_part j g.threads) ∙ (ap (λ (l : List (List ℕ)). decl_names here ++ l) (later_parts j (suc j) gs (omega arith)) ∙ append-nil (decl_names here))))))) in
-    let more : names_of 1 rest ≡ decl_names later =
-    subst (λ (n : ℕ). names_of 1 (born_processes threads n (p + 1 + length own) (map part_process gs)) ≡ decl_names later) next
-    (thread_names threads (before ++ here) (suc j) (p + 1 + length own) gs (is ∙ sym (append_assoc before here later))
-    (λ i above. own-append i before here ∙ (ap (λ (l : List (List ℕ)). l ++ own_names i here) (others i (omega arith)) ∙ other_part i j g.threads (λ e. absurd (omega arith))))) in
-    names_of-append 1 own rest ∙ (ap (λ (l : List (List ℕ)). l ++ names_of 1 rest) first ∙ (ap (λ (l : List (List ℕ)). decl_names here ++ l) more ∙ sym (map-append (λ (d : ThreadDecl). d.name) here later)))
+    let rest = born_processes threads (j + 1) (p + 1 + length own) ds in
+    names_of-append 1 own rest
+    ∙ (ap (λ (l : List (List ℕ)). l ++ names_of 1 rest) (born_names j p 0 threads) ∙ ap (λ (l : List (List ℕ)). own_names j threads ++ l) (born_threads-names threads (j + 1) (p + 1 + length own) ds))
+
+-- a thread of another process adds no name
+is_of_other : (j p : ℕ) (process : Option ℕ) → process ≡ Some p → (p ≡ j → ⊥) → is_of j process ≡ false
+is_of_other j p process e apart = ap (is_of j) e ∙ ne_eqb p j apart
+
+own-other : (j p : ℕ) (t : ThreadDecl) (ts : List ThreadDecl) → t.process ≡ Some p → (p ≡ j → ⊥) → own_names j (t ∷ ts) ≡ own_names j ts
+own-other j p t ts e apart = ap (λ own. if own then t.name ∷ own_names j ts else own_names j ts) (is_of_other j p t.process e apart)
+
+own-same : (j : ℕ) (t : ThreadDecl) (ts : List ThreadDecl) → t.process ≡ Some j → own_names j (t ∷ ts) ≡ t.name ∷ own_names j ts
+own-same j t ts e = ap (λ own. if own then t.name ∷ own_names j ts else own_names j ts) (ap (is_of j) e ∙ eq-eqb j j refl)
+
+from-other : (j p : ℕ) (ds : List ProcessDecl) (t : ThreadDecl) (ts : List ThreadDecl) → t.process ≡ Some p → p < j → names_from j ds (t ∷ ts) ≡ names_from j ds ts
+from-other j p [] t ts e lt = refl
+from-other j p (d ∷ ds) t ts e lt =
+    ap (λ (l : List (List ℕ)). l ++ names_from (j + 1) ds (t ∷ ts)) (own-other j p t ts e (λ same. absurd (omega arith)))
+    ∙ ap (λ (l : List (List ℕ)). own_names j ts ++ l) (from-other (j + 1) p ds t ts e (omega arith))
+
+own-none : (j from past : ℕ) (ts : List ThreadDecl) → j < from → AreInOrder from past ts → own_names j ts ≡ []
+own-none j from past [] lt o = refl
+own-none j from past (t ∷ ts) lt o = let le = o.2 in own-other j o.0 t ts o.1 (λ same. absurd (omega arith)) ∙ own-none j o.0 past ts (omega arith) o.4
+
+-- threads in the order of their processes: those of the j-th come first
+first_names : (j past : ℕ) (d : ProcessDecl) (ds : List ProcessDecl) (ts : List ThreadDecl) → ((us : List ThreadDecl) → AreInOrder (j + 1) past us → names_from (j + 1) ds us ≡ thread_names us) → AreInOrder j past ts → names_from j (d ∷ ds) ts ≡ thread_names ts
+first_names j past d ds [] later o = later [] tt
+first_names j past d ds (t ∷ ts) later o =
+    let le = o.2 in
+    elim (cases_eq o.0 j) as (λ _. names_from j (d ∷ ds) (t ∷ ts) ≡ thread_names (t ∷ ts)) [
+      | inl same ↦
+          let rest = first_names j past d ds ts later (subst (λ (n : ℕ). AreInOrder n past ts) same o.4) in
+          ap (λ (l : List (List ℕ)). l ++ names_from (j + 1) ds (t ∷ ts)) (own-same j t ts (o.1 ∙ ap Some same))
+          ∙ (ap (λ (l : List (List ℕ)). t.name ∷ (own_names j ts ++ l)) (from-other (j + 1) o.0 ds t ts o.1 (omega arith)) ∙ ap (λ (l : List (List ℕ)). t.name ∷ l) rest)
+      | inr apart ↦
+          ap (λ (l : List (List ℕ)). l ++ names_from (j + 1) ds (t ∷ ts)) (own-other j o.0 t ts o.1 apart ∙ own-none j o.0 past ts (omega arith) o.4)
+          ∙ later (t ∷ ts) (o.0, o.1, omega arith, o.3, o.4)
+    ]
+
+names_in_order : (j past : ℕ) (ds : List ProcessDecl) (ts : List ThreadDecl) → past ≡ j + length ds → AreInOrder j past ts → names_from j ds ts ≡ thread_names ts
+names_in_order j past [] [] end o = refl
+names_in_order j past [] (t ∷ ts) end o = let le = o.2 in let lt = o.3 in absurd (omega arith)
+names_in_order j past (d ∷ ds) ts end o = first_names j past d ds ts (λ us later. names_in_order (j + 1) past ds us (omega arith) later) o
 
 processes_new : (script : Script) → IsValid script → IsTrue (are_new [] (names_of 0 (born script)))
-processes_new script valid = subst (λ (l : List (List ℕ)). IsTrue (are_new (codes "kernel" ∷ []) l)) (sym (process_names script.threads 0 2 script.processes)) valid.1.limits.process_names
+processes_new script valid = subst (λ (l : List (List ℕ)). IsTrue (are_new (codes "kernel" ∷ []) l)) (sym (born_processes-names script.threads 0 2 script.processes)) (valid_names_new script valid).processes
 
 threads_new : (script : Script) → IsValid script → IsTrue (are_new [] (names_of 1 (born script)))
 threads_new script valid =
-    let a = valid.1 in
-    let groups = a.parts.processes in
-    let names : names_of 1 (born_processes script.threads 0 2 script.processes) ≡ decl_names script.threads =
-    ap (λ (s : Script). names_of 1 (born_processes s.threads 0 2 s.processes)) a.script_is ∙ (thread_names (parts_threads 0 groups) [] 0 2 groups refl (λ i above. refl) ∙ ap (λ (s : Script). decl_names s.threads) (sym a.script_is)) in
-    subst (λ (l : List (List ℕ)). IsTrue (are_new (codes "supervisor" ∷ []) l)) (sym names) a.limits.thread_names
+    let names = born_threads-names script.threads 0 2 script.processes ∙ names_in_order 0 (length script.processes) script.processes script.threads (omega arith) (valid_threads_ordered script valid).order in
+    subst (λ (l : List (List ℕ)). IsTrue (are_new (codes "supervisor" ∷ []) l)) (sym names) (valid_names_new script valid).threads
 
 -- no two objects at boot have one kind and one name
 pub boot_names_new : (script : Script) → IsValid script → (k : ℕ) (row : ObjectRow) → slice_get (boot script).objects k ≡ Some (Some row) → list_any (has_name row.kind row.name) (take k (boot script).objects) ≡ false

@@ -6,7 +6,7 @@ use Rattle.script_types.specs.declared.script.Script.{Script}
 use Rattle.script_types.specs.declared.instruction.Instr.{Instr}
 use Rattle.script_types.specs.declared.instruction.Instr.TheVariants.{CreateMutex, Dup as DupInstr, Close as CloseInstr, Open as OpenInstr}
 use Rattle.script_types.specs.Shape.{IsShaped}
-use Rattle.script_types.specs.Grammar.{IsValid}
+use Rattle.script_types.specs.Source.{IsValid}
 use Rattle.script_types.proofs.ShapeLaws.{valid_is_shaped}
 use Rattle.std.specs.Prelude.{slice_index}
 use Rattle.entry_log.specs.declared.effect.Effect.{Effect}
@@ -36,14 +36,15 @@ use Rattle.machine.proofs.BootCounted.{counted-boot}
 use Rattle.machine.proofs.Lives.{LivesMove, lives-none, alive_not_gone, not_gone_alive}
 use Rattle.machine.proofs.LivesSteps.{LivesBy, create_mutex-lives, open_step-lives, dup_step-lives, close_do-lives, pay-lives}
 
+nothing-lives : (S : State) → LivesMove S S []
+nothing-lives S = lives-none S S refl (record { each = λ p. refl })
+
 pub instruction_step-lives : (script : Script) (S : State) (t : ObjNo) (row : ThreadRow) (instr : Instr) → IsStepping script S t row → LivesBy S (instruction_step S t row instr)
 instruction_step-lives script S t row (CreateMutex name x) h = create_mutex-lives script S t row name x h
 instruction_step-lives script S t row (OpenInstr kind name x) h = open_step-lives script S t row kind name x row.phase h refl
 instruction_step-lives script S t row (DupInstr x y) h = dup_step-lives script S t row x y row.phase h refl
 instruction_step-lives script S t row (CloseInstr x) h = close_do-lives script S t row (slice_index row.registers x) (look S t row (slice_index row.registers x)) h refl
-
-nothing-lives : (S : State) → LivesMove S S []
-nothing-lives S = lives-none S S refl (record { each = λ p. refl })
+instruction_step-lives script S t row _ h = nothing-lives S
 
 act_by-lives : (script : Script) (S : State) (t : ObjNo) (row : ThreadRow) (owed : List Owed) (instr : Option Instr) → Shape script S → Live S → thread_of S t ≡ Some row → owed_of S t ≡ owed → instruction script row ≡ instr → LivesBy S (act_by S t row owed instr)
 act_by-lives script S t row (what ∷ rest) instr s l is owed at = pay-lives S t what rest l (duties_inside script S t row s is) owed

@@ -37,14 +37,15 @@ good_of script S s l r listed = record { tables = s.tables; duties = s.duties; f
 pub slice_get_inside : {A : Type 0} (xs : List A) (i : ℕ) (x : A) → slice_get xs i ≡ Some x → i < length xs
 slice_get_inside xs i x h = elim (cases_lt i (length xs)) [ inl lt ↦ lt | inr le ↦ let past = slice_get_past xs i le in cc ]
 
+keeps-nothing : (script : Script) (S : State) (t : ObjNo) → Shape script S → Live S → Keeps script S t S
+keeps-nothing script S t s l = record { shape = s; live = l; ready = refl; rows = λ u apart. refl; duties = λ u apart. refl }
+
 pub keeps-instruction_step : (script : Script) (S : State) (t : ObjNo) (row : ThreadRow) (instr : Instr) → IsStepping script S t row → Keeps script S t (instruction_step S t row instr).state
 keeps-instruction_step script S t row (CreateMutex name x) h = keeps-create_mutex script S t row name x h
 keeps-instruction_step script S t row (OpenInstr kind name x) h = keeps-open_step script S t row kind name x row.phase h refl
 keeps-instruction_step script S t row (DupInstr x y) h = keeps-dup_step script S t row x y row.phase h refl
 keeps-instruction_step script S t row (CloseInstr x) h = keeps-close_do script S t row (slice_index row.registers x) (look S t row (slice_index row.registers x)) h refl
-
-keeps-nothing : (script : Script) (S : State) (t : ObjNo) → Shape script S → Live S → Keeps script S t S
-keeps-nothing script S t s l = record { shape = s; live = l; ready = refl; rows = λ u apart. refl; duties = λ u apart. refl }
+keeps-instruction_step script S t row _ h = keeps-nothing script S t h.shape h.live
 
 pub keeps-act_by : (script : Script) (S : State) (t : ObjNo) (row : ThreadRow) (owed : List Owed) (instr : Option Instr) → Shape script S → Live S → thread_of S t ≡ Some row → owed_of S t ≡ owed → instruction script row ≡ instr → Keeps script S t (act_by S t row owed instr).state
 keeps-act_by script S t row (what ∷ rest) instr s l is owed at = keeps-pay script S t what rest s l (duties_inside script S t row s is) owed

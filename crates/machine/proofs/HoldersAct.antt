@@ -24,14 +24,15 @@ use Rattle.machine.proofs.RefsSteps.{IsActing}
 use Rattle.machine.proofs.Holders.{Owns, HoldersMove, holders-none}
 use Rattle.machine.proofs.HoldersSteps.{IsOwning, HoldersBy, create_mutex-holders, open_step-holders, dup_step-holders, close_do-holders, pay-holders}
 
+nothing-holders : (S : State) → Owns S → HoldersMove S S []
+nothing-holders S owns = holders-none S S (λ g x. refl) owns
+
 pub instruction_step-holders : (S : State) (t : ObjNo) (row : ThreadRow) (instr : Instr) → IsOwning S t row → HoldersBy S (instruction_step S t row instr)
 instruction_step-holders S t row (CreateMutex name x) h = create_mutex-holders S t row name x h
 instruction_step-holders S t row (OpenInstr kind name x) h = open_step-holders S t row kind name x row.phase h refl
 instruction_step-holders S t row (DupInstr x y) h = dup_step-holders S t row x y row.phase h refl
 instruction_step-holders S t row (CloseInstr x) h = close_do-holders S t row (slice_index row.registers x) (look S t row (slice_index row.registers x)) h refl
-
-nothing-holders : (S : State) → Owns S → HoldersMove S S []
-nothing-holders S owns = holders-none S S (λ g x. refl) owns
+instruction_step-holders S t row _ h = nothing-holders S h.owns
 
 act_by-holders : (S : State) (t : ObjNo) (row : ThreadRow) (owed : List Owed) (instr : Option Instr) → IsActing S t row → Owns S → owed_of S t ≡ owed → HoldersBy S (act_by S t row owed instr)
 act_by-holders S t row (what ∷ rest) instr h owns e = pay-holders S t what rest owns h.owes e

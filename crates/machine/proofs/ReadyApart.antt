@@ -121,6 +121,7 @@ instruction_step-apart S t row (CreateMutex name x) qs = create_mutex-apart S t 
 instruction_step-apart S t row (OpenInstr kind name x) qs = open_step-apart S t row kind name x row.phase qs
 instruction_step-apart S t row (DupInstr x y) qs = dup_step-apart S t row x y row.phase qs
 instruction_step-apart S t row (CloseInstr x) qs = close_do-apart S t row (slice_index row.registers x) (look S t row (slice_index row.registers x)) qs
+instruction_step-apart S t row _ qs = nothing-apart S qs
 
 act_by-apart : (S : State) (t : ObjNo) (row : ThreadRow) (owed : List Owed) (instr : Option Instr) (qs : List Queued) → act_by (with_ready S qs) t row owed instr ≡ acted_with_ready (act_by S t row owed instr) qs
 act_by-apart S t row (what ∷ rest) instr qs = pay-apart S t what rest qs

@@ -119,14 +119,15 @@ pay-refs S t (Close holder o) rest inside e =
     close-refs (is_last S o) S (with_owed S t rest) t o holder more (without_duty-count S t (Close holder o) rest inside e)
 pay-refs S t (Sweep o) rest inside e = record { each = λ p. let a = without_duty-count S t (Sweep o) rest inside e p in omega arith }
 
+pub nothing-refs : (S : State) → RefsMove S S []
+nothing-refs S = record { each = λ p. refl }
+
 pub instruction_step-refs : (S : State) (t : ObjNo) (row : ThreadRow) (instr : Instr) → IsActing S t row → RefsMove S (instruction_step S t row instr).state (instruction_step S t row instr).outcome.effects
 instruction_step-refs S t row (CreateMutex name x) h = create_mutex-refs S t row name x h
 instruction_step-refs S t row (OpenInstr kind name x) h = open_step-refs S t row kind name x row.phase h refl
 instruction_step-refs S t row (DupInstr x y) h = dup_step-refs S t row x y row.phase h refl
 instruction_step-refs S t row (CloseInstr x) h = close_do-refs S t row _ (look S t row (slice_index row.registers x)) h refl
-
-pub nothing-refs : (S : State) → RefsMove S S []
-nothing-refs S = record { each = λ p. refl }
+instruction_step-refs S t row _ h = nothing-refs S
 
 pub act_by-refs : (S : State) (t : ObjNo) (row : ThreadRow) (owed : List Owed) (instr : Option Instr) → IsActing S t row → owed_of S t ≡ owed → RefsMove S (act_by S t row owed instr).state (act_by S t row owed instr).outcome.effects
 act_by-refs S t row (what ∷ rest) instr h e = pay-refs S t what rest h.owes e

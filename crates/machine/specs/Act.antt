@@ -29,12 +29,13 @@ declared_of script (Some k) = slice_get script.threads k
 abbrev pub instruction : Script → ThreadRow → Option Instr
 instruction script row = slice_get (instructions_of (declared_of script row.declared)) row.place
 
--- a step of an instruction
+-- a step of an instruction. A form that isn't built yet does nothing
 abbrev pub instruction_step : State → ObjNo → ThreadRow → Instr → Acted
 instruction_step S t row (CreateMutex name x) = create_mutex S t row name x
 instruction_step S t row (Open kind name x) = open_step S t row kind name x row.phase
 instruction_step S t row (Dup x y) = dup_step S t row x y row.phase
 instruction_step S t row (Close x) = close_step S t row x
+instruction_step S t row _ = nothing S
 
 -- what is owed comes first
 abbrev pub act_by : State → ObjNo → ThreadRow → List Owed → Option Instr → Acted

@@ -1,7 +1,7 @@
 -- What a contract sees of the plain machine, and what holds of its parts.
 use Rattle.std.specs.Prelude.{◌≡◌, List}
 use Rattle.script_types.specs.declared.script.Script.{Script}
-use Rattle.script_types.specs.Grammar.{IsValid}
+use Rattle.script_types.specs.Source.{IsValid}
 use Rattle.entry_log.specs.declared.entry.Entry.{Entry}
 use Rattle.machine.specs.declared.state.State.{State}
 use Rattle.machine.specs.History.{after, IsLegal}

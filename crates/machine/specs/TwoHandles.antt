@@ -19,6 +19,7 @@ two_handles_thread = record {
 -- process `p` with that thread, and ten slots
 unfoldable pub two_handles : Script
 two_handles = record {
+  version = 1;
   pool = 0;
   fast = 0;
   queues = [];

@@ -43,7 +43,7 @@ pub fn instruction(script: &Script, row: &ThreadRow) -> Option<Instr>
     }
 }
 
-/// A step of an instruction.
+/// A step of an instruction. A form that isn't built yet does nothing.
 fn instruction_step(
     state: &mut State,
     thread: ThreadNo,
@@ -59,6 +59,7 @@ fn instruction_step(
         Instr::Open(kind, name, register) => open_step(state, thread, row, kind, name, register),
         Instr::Dup(from, to) => dup_step(state, thread, row, from, to),
         Instr::Close(register) => close_step(state, thread, row, register),
+        _ => Ok(nothing(state)),
     }
 }
 

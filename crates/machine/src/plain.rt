@@ -1,6 +1,6 @@
 //! The plain machine: the definitions, run over plain lists.
 ghost use Rattle.std.specs.Prelude.{◌≡◌, ◌+◌, ◌<◌, ◌++◌, [], ◌∷◌, length, IfOk, OnOk, OnErr};
-ghost use Rattle.script_types.specs.Grammar.{IsValid};
+ghost use Rattle.script_types.specs.Source.{IsValid};
 ghost use Rattle.machine.specs.Built.{IsBuilt};
 ghost use Rattle.machine.specs.FinalRows.{rows_from, IsNextRow};
 ghost use Rattle.machine.specs.History.{after, entry_of, entry_by};

@@ -1,5 +1,5 @@
 //! The law of references over whole histories.
-ghost use Rattle.script_types.specs.Grammar.{IsValid};
+ghost use Rattle.script_types.specs.Source.{IsValid};
 ghost use Rattle.machine.specs.History.{IsLegal};
 ghost use Rattle.machine.specs.SafeReferences.{IsSafeReferences};
 

@@ -1,7 +1,9 @@
 pub mod Answer
-pub mod Fields
-pub mod Forms
-pub mod Fronts
+pub mod Counts
+pub mod FirstBad
+pub mod Judged
+pub mod Judging
+pub mod Knows
+pub mod Progress
+pub mod Reasons
 pub mod Refusal
-pub mod Scripts
-pub mod Texts

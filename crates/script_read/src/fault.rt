@@ -5,7 +5,7 @@ use thiserror::Error;
 /// A run that ended without its whole history.
 #[derive(Debug, Drop, Error)]
 pub enum RunFault {
-    /// The script is refused: its first bad line, from 1, or 0 where the place isn't told, and why.
+    /// The script is refused: its first bad line, from 1, and why it is bad.
     #[error("refused line {line} {reason}")]
     Refused { line: u32, reason: Reason },
     /// The source failed.

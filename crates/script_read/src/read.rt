@@ -1,57 +1,40 @@
 //! Reading a whole script.
-ghost use Rattle.std.specs.Prelude.{◌≡◌, IfOk, MatchOption};
-ghost use Rattle.script_read.specs.Answer.{IsAnswer, Tells};
-ghost use Rattle.script_types.specs.Grammar.{Accepted};
+ghost use Rattle.std.specs.Prelude.{◌<◌, ℕ, length};
+ghost use Rattle.script_read.specs.Answer.{IsAnswer, Tells, Refuses};
+ghost use Rattle.script_read.specs.FirstBad.{IsFirstBad};
+ghost use Rattle.script_read.specs.declared.reason.Reason.{Reason};
+ghost use Rattle.script_types.specs.Source.{IsAccepted};
 ghost use Rattle.script_types.specs.declared.script.Script.{Script};
 
 use crate::Reason;
-use crate::script::script_of_lines;
-use crate::text::read_lines;
+use crate::reading::{Reading, read_text};
 use script_types::Script;
 use std::alloc::Global;
-use sym_base::NoMemory;
-
-/// The most bytes that a script may have. The limit is this project's own.
-pub const MAX_SCRIPT_BYTES: usize = 4096;
 
 /// What reading a script answers.
 #[derive(Drop)]
 pub enum ReadScript {
     /// The script that the bytes spell.
     Script(Script),
-    /// The bytes spell no script: the first bad line, from 1, or 0 where the place isn't told, and
-    /// what is wrong with it.
+    /// The bytes spell no script: the first bad line, from 1, and what is wrong with it. A last line that
+    /// is missing has the number behind the last.
     Refused { line: u32, reason: Reason },
     /// The host had no memory left.
     NoMemory,
 }
 
-/// The script that bytes are accepted as, if they are accepted.
-fn accepted_script(alloc: Global, bytes: &[u8]) -> Result<Option<Script>, NoMemory>
-    ensures { IfOk result (λ found. MatchOption found
-        ((script : Script) → Accepted bytes.now script → ⊥) (λ script. Accepted bytes.now script)) }
-{
-    if bytes.len() > MAX_SCRIPT_BYTES {
-        return Ok(None);
-    }
-    let Some(lines) = read_lines(alloc, bytes)? else {
-        return Ok(None);
-    };
-    script_of_lines(alloc, &lines)
-}
-
-/// Reads a script. Any bytes may be given. The text has one space between two words and a line feed
-/// behind each line; all other bytes are refused, without their place.
+/// Reads a script. Any bytes may be given, as long as 32 bits can number their lines.
 pub fn read_script(alloc: Global, bytes: &[u8]) -> ReadScript
+    requires few { length bytes.now < 4294967295 }
     ensures answer { IsAnswer bytes.now result }
-    ensures only { (script : Script) → Accepted bytes.now script → Tells result script }
+
+    // Memory aside, the bytes decide the answer.
+    ensures only { (script : Script) → IsAccepted bytes.now script → Tells result script }
+    ensures first_bad { (line : ℕ) → (why : Reason) → IsFirstBad bytes.now line why → Refuses result line why }
 {
-    match accepted_script(alloc, bytes) {
-        Ok(Some(script)) => ReadScript::Script(script),
-        Ok(None) => ReadScript::Refused {
-            line: 0,
-            reason: Reason::Unbuilt,
-        },
+    match read_text(alloc, bytes) {
+        Ok(Reading::Whole(context)) => ReadScript::Script(context.script),
+        Ok(Reading::Bad { line, reason }) => ReadScript::Refused { line, reason },
         Err(_) => ReadScript::NoMemory,
     }
 }

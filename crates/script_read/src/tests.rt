@@ -1,11 +1,118 @@
 use super::*;
 use script_types::{Instr, Script, Slot};
+use std::alloc::Global;
+use std::process::Abort;
 use std::test::Fail;
 use sym_base::Kind;
 
 /// A whole script.
 const SCRIPT: &str =
     "eka2 1\nprocess p\nthread a 10\ncreate mutex m r0\ndup r0 r1\nclose r0\nclose r1\nclose r1\nschedule\ngo 10\nend\n";
+
+/// The same script with comments, empty lines and more spaces, and without its last line feed.
+const SPACED_SCRIPT: &str =
+    "# a script\n\neka2   1\n process p \n   \nthread a 10\n create mutex m r0\ndup  r0  r1\nclose r0\nclose r1\n  # twice\nclose r1\nschedule\ngo 4\ngo 6\nend\n#";
+
+/// A script in which a mutex dies between its search and its opening.
+const TWO_THREADS: &str =
+    "eka2 1\nprocess p\nthread a 10\ncreate mutex m r0\nclose r0\nthread b 10\nopen mutex m r1\nschedule\ngo 1\ntick\ngo 1\ntick\ngo 1\ntick\ngo 1\ntick\ngo 1\nend\n";
+
+/// A text, and its first bad line.
+struct BadText {
+    text: &'static str,
+    line: u32,
+    reason: Reason,
+}
+
+/// A text for each reason.
+const BAD_TEXTS: [BadText; 13] = [
+    BadText {
+        text: "eka2 1\n# a\tb\nend\n",
+        line: 2,
+        reason: Reason::Byte,
+    },
+    BadText {
+        text: "eka2 1\n#01234567890123456789012345678901234567890123456789012345678901234567890123456789012345678901234567890123456789012345678901234567890123456789012345678901234567890123456789012345678901234567890123456789\nend\n",
+        line: 2,
+        reason: Reason::Long,
+    },
+    BadText {
+        text: "eka2 1\nEND\n",
+        line: 2,
+        reason: Reason::Word,
+    },
+    BadText {
+        text: "eka2 1\nprocess p\nclose r0 r0\n",
+        line: 3,
+        reason: Reason::Order,
+    },
+    BadText {
+        text: "eka2 1\nprocess p\nthread a 10\ndup r00\n",
+        line: 4,
+        reason: Reason::Count,
+    },
+    BadText {
+        text: "eka2 1\nprocess p\nthread a 10\ndup r8 r00\n",
+        line: 4,
+        reason: Reason::Form,
+    },
+    BadText {
+        text: "eka2 1\nprocess p\nthread a 10\nflock f16\n",
+        line: 4,
+        reason: Reason::Range,
+    },
+    BadText {
+        text: "eka2 1\nprocess p\nthread a 10\nflock f15\n",
+        line: 4,
+        reason: Reason::Kind,
+    },
+    BadText {
+        text: "eka2 1\nprocess p\nthread a 10\nthread a 10 held\n",
+        line: 4,
+        reason: Reason::Twice,
+    },
+    BadText {
+        text: "eka2 1\n\ndfc d q 0 queue d\n",
+        line: 3,
+        reason: Reason::Unknown,
+    },
+    BadText {
+        text: "eka2 1\nschedule\ngo 65536\ntick\nirq 1\n",
+        line: 4,
+        reason: Reason::Limit,
+    },
+    BadText {
+        text: "eka2 1\nprocess p\n",
+        line: 3,
+        reason: Reason::End,
+    },
+    BadText {
+        text: "eka2 1\nprocess p\nthread a 10 held\nthread a 64\n",
+        line: 3,
+        reason: Reason::Unbuilt,
+    },
+];
+
+/// What reading a text answers. No text of the tests is too long.
+fn answer(alloc: Global, text: &[u8]) -> ReadScript {
+    if text.len() > 1_000_000 {
+        return ReadScript::NoMemory;
+    }
+    read_script(alloc, text)
+}
+
+/// Whether a text is accepted.
+fn is_accepted(alloc: Global, text: &[u8]) -> bool {
+    matches!(answer(alloc, text), ReadScript::Script(_))
+}
+
+/// Whether this line of a text is its first bad one, for this reason.
+fn is_refused(alloc: Global, bad: &BadText) -> bool {
+    match answer(alloc, bad.text.as_bytes()) {
+        ReadScript::Refused { line, reason } => line == bad.line && reason == bad.reason,
+        _ => false,
+    }
+}
 
 fn is_worked_script(script: &Script) -> bool {
     if script.processes.len() != 1 || script.threads.len() != 1 || script.slots.len() != 10 {
@@ -27,73 +134,6 @@ fn is_worked_script(script: &Script) -> bool {
         && matches!(script.slots.as_slice()[9], Slot::Go)
 }
 
-#[test]
-fn reads_a_script(rt: HostRuntime) -> Result<(), Fail> {
-    match read_script(rt.alloc(), SCRIPT.as_bytes()) {
-        ReadScript::Script(script) => assert!(rt; is_worked_script(&script)),
-        _ => assert!(rt; false, "the script is refused"),
-    }
-    Ok(())
-}
-
-#[test]
-fn refuses_other_texts(rt: HostRuntime) -> Result<(), Fail> {
-    let texts = [
-        "",
-        "eka2  1\nprocess p\nthread a 10\nschedule\ngo 10\nend\n",
-        "eka2 1\nprocess p\nthread a 10\nschedule\ngo 10\nend",
-        "eka2 1\nprocess p\nthread a 10\nschedule\ngo 0\nend\n",
-        "eka2 1\nprocess p\nthread a 10\nschedule\ngo 65537\nend\n",
-        "eka2 1\nprocess p\nthread a 010\nschedule\ngo 1\nend\n",
-        "eka2 1\nprocess p\nthread a 64\nschedule\ngo 1\nend\n",
-        "eka2 1\nprocess p\nthread a 10\nclose r8\nschedule\ngo 1\nend\n",
-        "eka2 1\nprocess Kernel\nthread a 10\nschedule\ngo 1\nend\n",
-        "eka2 1\nprocess kernel\nthread a 10\nschedule\ngo 1\nend\n",
-        "eka2 1\nprocess p\nthread supervisor 10\nschedule\ngo 1\nend\n",
-        "eka2 1\nprocess p\nthread abcdefghijklmnopq 10\nschedule\ngo 1\nend\n",
-        "eka2 1\nprocess p\nthread a 10\nschedule\ngo 1\nend\nend\n",
-    ];
-    for text in texts {
-        let answer = read_script(rt.alloc(), text.as_bytes());
-        assert!(rt;
-            matches!(
-                answer,
-                ReadScript::Refused {
-                    line: 0,
-                    reason: Reason::Unbuilt
-                }
-            ),
-            "{text}"
-        );
-    }
-    Ok(())
-}
-
-#[test]
-fn reads_a_thread_without_instructions(rt: HostRuntime) -> Result<(), Fail> {
-    let text = "eka2 1\nprocess p\nthread abcdefghijklmnop 63\nschedule\ngo 65536\nend\n";
-    match read_script(rt.alloc(), text.as_bytes()) {
-        ReadScript::Script(script) => assert_eq!(rt; script.slots.len(), 65_536),
-        _ => assert!(rt; false, "the script is refused"),
-    }
-    Ok(())
-}
-
-#[test]
-fn words_of_reasons(rt: HostRuntime) -> Result<(), Fail> {
-    let fault = RunFault::Refused {
-        line: 0,
-        reason: Reason::Unbuilt,
-    };
-    let text = format!(in rt.alloc(); "{fault}")?;
-    assert_eq!(rt; text.as_str(), "refused line 0 unbuilt");
-    Ok(())
-}
-
-/// A script in which a mutex dies between its search and its opening.
-const TWO_THREADS: &str =
-    "eka2 1\nprocess p\nthread a 10\ncreate mutex m r0\nclose r0\nthread b 10\nopen mutex m r1\nschedule\ngo 1\ntick\ngo 1\ntick\ngo 1\ntick\ngo 1\ntick\ngo 1\nend\n";
-
 fn is_script_of_two_threads(script: &Script) -> bool {
     let threads = script.threads.as_slice();
     if threads.len() != 2 || script.slots.len() != 9 {
@@ -113,51 +153,69 @@ fn is_script_of_two_threads(script: &Script) -> bool {
         && matches!(script.slots.as_slice()[8], Slot::Go)
 }
 
-#[test]
-fn reads_several_threads(rt: HostRuntime) -> Result<(), Fail> {
-    match read_script(rt.alloc(), TWO_THREADS.as_bytes()) {
-        ReadScript::Script(script) => assert!(rt; is_script_of_two_threads(&script)),
+/// Expects that a text is accepted as the worked script.
+fn expect_worked_script(rt: &impl Abort, alloc: Global, text: &str) {
+    match answer(alloc, text.as_bytes()) {
+        ReadScript::Script(script) => assert!(rt; is_worked_script(&script)),
         _ => assert!(rt; false, "the script is refused"),
     }
-    for text in [
-        "eka2 1\nend\n",
-        "eka2 1\nschedule\nend\n",
-        "eka2 1\nprocess p\nthread a 0\nprocess q\nthread b 0\nthread c 0\nend\n",
-    ] {
-        let answer = read_script(rt.alloc(), text.as_bytes());
-        assert!(rt; matches!(answer, ReadScript::Script(_)), "{text}");
+}
+
+#[test]
+fn reads_a_script(rt: HostRuntime) -> Result<(), Fail> {
+    expect_worked_script(&rt, rt.alloc(), SCRIPT);
+    expect_worked_script(&rt, rt.alloc(), SPACED_SCRIPT);
+    Ok(())
+}
+
+#[test]
+fn reads_several_threads(rt: HostRuntime) -> Result<(), Fail> {
+    match answer(rt.alloc(), TWO_THREADS.as_bytes()) {
+        ReadScript::Script(script) => assert!(rt; is_script_of_two_threads(&script)),
+        _ => assert!(rt; false, "the script is refused"),
     }
     Ok(())
 }
 
 #[test]
-fn refuses_other_texts_of_several_threads(rt: HostRuntime) -> Result<(), Fail> {
-    let texts = [
-        "eka2 1\nprocess p\nprocess q\nthread a 0\nend\n",
-        "eka2 1\nprocess p\nend\n",
-        "eka2 1\nthread a 0\nend\n",
-        "eka2 1\nprocess p\nclose r0\nthread a 0\nend\n",
-        "eka2 1\nprocess p\nthread a 0\nthread a 0\nend\n",
-        "eka2 1\nprocess p\nthread a 0\nprocess p\nthread b 0\nend\n",
-        "eka2 1\nprocess p\nthread supervisor 0\nend\n",
-        "eka2 1\nprocess p\nthread a 0\ngo 1\nend\n",
-        "eka2 1\nprocess p\nthread a 0\nschedule\nschedule\nend\n",
-        "eka2 1\nprocess p\nthread a 0\nschedule\ngo 65536\ntick\nend\n",
-        "eka2 1\nprocess p\nthread a 0\nopen process m r0\nend\n",
-        "eka2 1\nprocess p\nthread a 0\nschedule\ngo 1\nend",
-    ];
-    for text in texts {
-        let answer = read_script(rt.alloc(), text.as_bytes());
-        assert!(rt;
-            matches!(
-                answer,
-                ReadScript::Refused {
-                    line: 0,
-                    reason: Reason::Unbuilt
-                }
-            ),
-            "{text}"
-        );
+fn tells_the_first_bad_line(rt: HostRuntime) -> Result<(), Fail> {
+    for bad in &BAD_TEXTS {
+        let text = bad.text;
+        assert!(rt; is_refused(rt.alloc(), bad), "{text}");
     }
+    Ok(())
+}
+
+/// A script is accepted whole, and where only its last line feed is missing.
+#[test]
+fn refuses_a_script_that_is_cut(rt: HostRuntime) -> Result<(), Fail> {
+    let text = SCRIPT.as_bytes();
+    for end in 0..text.len() + 1 {
+        let is_whole = end + 1 >= text.len();
+        assert!(rt; is_accepted(rt.alloc(), &text[..end]) == is_whole, "{end}");
+    }
+    Ok(())
+}
+
+/// Names of 16 letters, priority 63, 65,536 slots and lines of 200 bytes are the most.
+#[test]
+fn reads_the_greatest_numbers(rt: HostRuntime) -> Result<(), Fail> {
+    let text =
+        "eka2 1\nprocess p\nthread abcdefghijklmnop 63\nschedule\ngo 65536\nend\n#0123456789012345678901234567890123456789012345678901234567890123456789012345678901234567890123456789012345678901234567890123456789012345678901234567890123456789012345678901234567890123456789012345678\n";
+    match answer(rt.alloc(), text.as_bytes()) {
+        ReadScript::Script(script) => assert_eq!(rt; script.slots.len(), 65_536),
+        _ => assert!(rt; false, "the script is refused"),
+    }
+    Ok(())
+}
+
+#[test]
+fn words_of_reasons(rt: HostRuntime) -> Result<(), Fail> {
+    let fault = RunFault::Refused {
+        line: 3,
+        reason: Reason::Unbuilt,
+    };
+    let text = format!(in rt.alloc(); "{fault}")?;
+    assert_eq!(rt; text.as_str(), "refused line 3 unbuilt");
     Ok(())
 }

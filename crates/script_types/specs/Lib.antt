@@ -1,7 +1,11 @@
-pub mod Grammar
-pub mod LineText
+pub mod BuiltLine
+pub mod Context
+pub mod InstrWords
+pub mod Names
 pub mod ObjectName
-pub mod ScriptText
+pub mod Ranges
 pub mod Shape
-pub mod TextLines
-pub mod ValidLine
+pub mod Source
+pub mod SourceText
+pub mod SourceWords
+pub mod Stands

@@ -1,17 +1,41 @@
 -- What holds of every valid script, whichever forms of line the grammar has: the kernel's tables have
 -- room for it, and what it names by number is there.
-use Rattle.std.specs.Prelude.{◌≡◌, ℕ, ◌+◌, ◌<◌, ◌≤◌, Some, length, slice_get}
+use Rattle.std.specs.Prelude.{◌≡◌, ℕ, ◌+◌, ◌<◌, ◌≤◌, ⊤, Some, length, slice_get}
 use Rattle.script_types.specs.declared.declaration.ThreadDecl.{ThreadDecl}
 use Rattle.script_types.specs.declared.instruction.Instr.{Instr}
 use Rattle.script_types.specs.declared.instruction.Instr.TheVariants as instr
 use Rattle.script_types.specs.declared.script.Script.{Script}
 
--- each register that an instruction names is one of the eight
+-- each register that an instruction names is one of the eight, and so is each register of a message
 abbrev pub HasRegisters : Instr → Type 0
 HasRegisters (instr.CreateMutex name x) = x < 8
+HasRegisters (instr.CreateSemaphore name count x) = x < 8
 HasRegisters (instr.Open what name x) = x < 8
 HasRegisters (instr.Dup x y) = (x < 8) × (y < 8)
+HasRegisters (instr.DupLocal x y) = (x < 8) × (y < 8)
 HasRegisters (instr.Close x) = x < 8
+HasRegisters (instr.Lock x) = x < 8
+HasRegisters (instr.Unlock x) = x < 8
+HasRegisters (instr.Wait x) = x < 8
+HasRegisters (instr.Signal x) = x < 8
+HasRegisters (instr.Suspend x) = x < 8
+HasRegisters (instr.Resume x) = x < 8
+HasRegisters (instr.Priority x priority) = x < 8
+HasRegisters (instr.Kill x code) = x < 8
+HasRegisters (instr.Terminate x code) = x < 8
+HasRegisters (instr.Panic x category code) = x < 8
+HasRegisters (instr.ExitType x) = x < 8
+HasRegisters (instr.Logon x y) = x < 8
+HasRegisters (instr.Server name x) = x < 8
+HasRegisters (instr.Connect name slots x) = x < 8
+HasRegisters (instr.Send x function y args) = x < 8
+HasRegisters (instr.Call x function args) = x < 8
+HasRegisters (instr.Receive x y) = (x < 8) × (y < 8)
+HasRegisters (instr.Complete x code) = x < 8
+HasRegisters (instr.Function x) = x < 8
+HasRegisters (instr.Read x a offset length at) = x < 8
+HasRegisters (instr.Write x a offset length from) = x < 8
+HasRegisters _ = ⊤
 
 -- a thread of a script with so many processes
 pub record IsShapedThread (processes : ℕ) (thread : ThreadDecl) : Type 0 where

@@ -1,12 +1,16 @@
 //! A script as plain values: what it declares, each thread's instructions, and the schedule.
 #![tactic(auto)]
 
+mod context;
 mod declaration;
 mod instruction;
-mod line;
+mod limits;
 mod script;
+mod source_line;
 
+pub use context::Context;
 pub use declaration::{DfcDecl, IdfcDecl, IrqBody, Op, Ops, ProcessDecl, QueueDecl, ThreadDecl};
-pub use instruction::{Instr, Instrs};
-pub use line::Line;
+pub use instruction::{Args, Instr, Instrs};
+pub use limits::Limits;
 pub use script::{Script, Slot};
+pub use source_line::{LineKind, SourceLine};

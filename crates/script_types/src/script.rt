@@ -13,10 +13,11 @@ pub enum Slot {
     Tick,
 }
 
-/// A script: the slots of the kernel's message pool, the number of fast mutexes, what it declares,
+/// A script: the version of its instructions, which is 1, the slots of the kernel's message pool, the number of fast mutexes, what it declares,
 /// in the order of its lines, and its schedule.
 #[derive(Drop)]
 pub struct Script {
+    pub version: u8,
     pub pool: u8,
     pub fast: u8,
     pub queues: Items<QueueDecl>,

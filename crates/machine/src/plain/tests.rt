@@ -46,6 +46,7 @@ fn script(alloc: Global) -> Result<Script, NoMemory>
     let mut threads = Vec::new(alloc);
     threads.push(thread(alloc)?)?;
     Ok(Script {
+        version: 1,
         pool: 0,
         fast: 0,
         queues: Items::new(Vec::new(alloc)),

@@ -3,13 +3,13 @@ use Rattle.std.specs.Prelude.{is_some}
 use Rattle.edge_io.specs.Left.{preceded}
 use Rattle.eka2_app.proofs.input.read_input.Given as goal
 
-abbrev pub invariant-loop-buffer : goal.invariant-loop-buffer
-invariant-loop-buffer g l = record {
-  within : vec_len l.input ≤ 4097;
+abbrev pub invariant-loop-count : goal.invariant-loop-count
+invariant-loop-count g l = record {
+  within : vec_len l.input ≤ 1048576;
   bytes : preceded l.input.items (g.S.Source.left l.source) ≡ g.S.Source.left l.fn.source;
   tells : is_some (g.S.Source.left l.source) ≡ is_some (g.S.Source.left l.fn.source);
   never_falls : g.S.Source.faults l.fn.source ≤ g.S.Source.faults l.source;
 }
 
-abbrev pub decreases-loop-buffer : goal.decreases-loop-buffer
-decreases-loop-buffer g l = 4097 - vec_len l.input
+abbrev pub decreases-loop-count : goal.decreases-loop-count
+decreases-loop-count g l = 1048576 - vec_len l.input

@@ -1,5 +1,5 @@
 use Rattle.std.proofs.Common.{subst, sym}
-use Rattle.script_types.specs.Grammar.{IsValid}
+use Rattle.script_types.specs.Source.{IsValid}
 use Rattle.machine.proofs.ValidExample.{two_handles_is_valid}
 use Rattle.machine.proofs.plain.tests.ten_actions.Goals as goal
 

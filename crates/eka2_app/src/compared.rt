@@ -1,0 +1,176 @@
+//! The plain machine and the kernel make one history of a script, and leave the same objects.
+ghost use Rattle.std.specs.Prelude.{◌≡◌, [], true, IfOk, IfSome};
+ghost use Rattle.script_types.specs.Source.{IsValid};
+
+use crate::output::{Line, line_of_entry, line_of_row};
+use crate::run::{PLACES, make_history};
+use crate::tests::{DYING_SCRIPT, SCRIPT};
+use entry_log::{Entry, FinalRow};
+use kcore::Kernel;
+use machine::Plain;
+use ref_words::PlainWords;
+use script_read::{ReadScript, read_script};
+use script_types::{Limits, Script};
+use std::alloc::Global;
+use std::test::Fail;
+use sym_base::{NoMemory, ObjNo};
+
+/// Rows are asked from each number below it. The scripts make fewer objects.
+const NUMBERS: u16 = 8;
+
+/// The script of a text.
+fn script_of(alloc: Global, text: &str) -> Option<Script>
+    ensures { IfSome result IsValid }
+{
+    if text.len() > Limits::INPUT {
+        return None;
+    }
+    match read_script(alloc, text.as_bytes()) {
+        ReadScript::Script(script) => Some(script),
+        ReadScript::Refused { .. } | ReadScript::NoMemory => None,
+    }
+}
+
+/// The plain machine after each slot of a script's schedule.
+fn make_plain(alloc: Global, script: Script) -> Result<Plain, NoMemory>
+    requires { IsValid script }
+{
+    let slots = script.slots.copied(alloc)?;
+    let mut plain = Plain::boot(alloc, script)?;
+    for slot in slots.as_slice() {
+        plain.slot(*slot)?;
+    }
+    Ok(plain)
+}
+
+/// The plain machine after a text's schedule.
+fn plain_after(alloc: Global, text: &str) -> Option<Plain> {
+    match script_of(alloc, text) {
+        Some(script) => make_plain(alloc, script).ok(),
+        None => None,
+    }
+}
+
+/// The kernel after a text's schedule.
+fn kernel_after(alloc: Global, text: &str) -> Option<Kernel<PlainWords>>
+    ensures { IfSome result (λ kernel. kernel.usable ≡ true) }
+{
+    match script_of(alloc, text) {
+        Some(script) => make_history(alloc, script).ok(),
+        None => None,
+    }
+}
+
+/// Whether two entries have one line.
+fn is_same_entry(one: &Entry, other: &Entry) -> bool {
+    line_of_entry(one).as_slice() == line_of_entry(other).as_slice()
+}
+
+/// Whether two histories have the same lines.
+fn is_same_history(one: &[Entry], other: &[Entry]) -> bool {
+    for (entry, like) in one.iter().zip(other) {
+        if !is_same_entry(entry, like) {
+            return false;
+        }
+    }
+    one.len() == other.len()
+}
+
+/// The line of a row. Empty where there is no row.
+fn line_left(row: Option<FinalRow>) -> Line {
+    match row {
+        Some(row) => line_of_row(&row),
+        None => Line::new(),
+    }
+}
+
+/// Whether both machines have one first row of the numbers from `from` on, or neither has one.
+fn is_same_row(plain: &Plain, kernel: &Kernel<PlainWords>, from: u16) -> bool
+    requires { kernel.now.usable ≡ true }
+{
+    line_left(plain.next_row(from)).as_slice() == line_left(kernel.next_row(from)).as_slice()
+}
+
+/// Whether the same objects are left on both machines.
+fn are_same_rows(plain: &Plain, kernel: &Kernel<PlainWords>) -> bool
+    requires { kernel.now.usable ≡ true }
+{
+    for from in 0..NUMBERS {
+        if !is_same_row(plain, kernel, from) {
+            return false;
+        }
+    }
+    true
+}
+
+/// Whether both machines have one history, and the same objects are left.
+fn is_same(plain: &Plain, kernel: &Kernel<PlainWords>) -> bool
+    requires { kernel.now.usable ≡ true }
+{
+    is_same_history(plain.history(), kernel.history()) && are_same_rows(plain, kernel)
+}
+
+/// Whether both machines make the same of a text. None where one of them has no run.
+fn is_same_run(alloc: Global, text: &str) -> Option<bool> {
+    let Some(plain) = plain_after(alloc, text) else {
+        return None;
+    };
+    let Some(kernel) = kernel_after(alloc, text) else {
+        return None;
+    };
+    Some(is_same(&plain, &kernel))
+}
+
+#[test]
+fn both_machines_make_one_history(rt: HostRuntime) {
+    assert_eq!(rt; is_same_run(rt.alloc(), SCRIPT), Some(true));
+    assert_eq!(rt; is_same_run(rt.alloc(), DYING_SCRIPT), Some(true));
+}
+
+/// The kernel of a script at boot, with room for one entry.
+fn short_kernel(alloc: Global, script: Script) -> Result<Kernel<PlainWords>, NoMemory>
+    requires { IsValid script }
+    ensures usable { IfOk result (λ kernel. kernel.usable ≡ true) }
+    ensures room { IfOk result (λ kernel. kernel.room ≡ 1) }
+    ensures empty { IfOk result (λ kernel. kernel.history ≡ []) }
+{
+    let words = PlainWords::new(alloc, PLACES)?;
+    Kernel::boot(alloc, script, words, 1)
+}
+
+/// The kernel at boot of the script in which an object dies between its find and its open, with room
+/// for one entry.
+fn dying_kernel(alloc: Global) -> Option<Kernel<PlainWords>>
+    ensures usable { IfSome result (λ kernel. kernel.usable ≡ true) }
+    ensures room { IfSome result (λ kernel. kernel.room ≡ 1) }
+    ensures empty { IfSome result (λ kernel. kernel.history ≡ []) }
+{
+    match script_of(alloc, DYING_SCRIPT) {
+        Some(script) => short_kernel(alloc, script).ok(),
+        None => None,
+    }
+}
+
+/// The line of a history's first entry. Empty where there is none.
+fn first_line(history: &[Entry]) -> Line {
+    match history.first() {
+        Some(entry) => line_of_entry(entry),
+        None => Line::new(),
+    }
+}
+
+#[test]
+fn a_thread_that_is_not_chosen_acts(rt: HostRuntime) -> Result<(), Fail> {
+    let Some(mut kernel) = dying_kernel(rt.alloc()) else {
+        return Err("no kernel".into());
+    };
+    assert!(rt; !kernel.able(ObjNo(1)));
+    assert!(rt; kernel.able(ObjNo(4)));
+    kernel.act(ObjNo(4))?;
+    assert_eq!(rt; kernel.history().len(), 1);
+    assert_eq!(rt;
+        first_line(kernel.history()).as_slice(),
+        b"1 t4 open.seek = -1\n".as_slice()
+    );
+    Ok(())
+}

@@ -1,0 +1,71 @@
+-- The canonical text of an accepted script is accepted as this script.
+use Rattle.std.proofs.Common.{◌≡◌, ℕ, true, List, [], ◌∷◌, ◌++◌, map, refl, ap, sym, subst, ◌∙◌}
+use Rattle.std.specs.List.{AllByRecursion, flat_map}
+use Rattle.script_print.specs.CanonicalText.{spaced, source_text, canonical_lines, canonical_text}
+use Rattle.script_print.proofs.CutAgain.{words_again, words_clean, lines_again}
+use Rattle.script_print.proofs.LinesAgain.{canonical_stands}
+use Rattle.script_print.proofs.PlainLines.{line_printed}
+use Rattle.script_print.proofs.ScheduleAgain.{AreBuilt, Stand}
+use Rattle.script_types.specs.Context.{start, after, after_all, is_ended}
+use Rattle.script_types.specs.Names.{Declared, file_declares}
+use Rattle.script_types.specs.Source.{IsClean, IsAccepted}
+use Rattle.script_types.specs.SourceText.{text_lines, told_words, words_of}
+use Rattle.script_types.specs.SourceWords.{source_words}
+use Rattle.script_types.specs.Stands.{AllStand}
+use Rattle.script_types.specs.declared.context.Context.{Context}
+use Rattle.script_types.specs.declared.script.Script.{Script}
+use Rattle.script_types.specs.declared.source_line.SourceLine.{SourceLine}
+
+-- the texts of lines, without their line feeds
+texts_of : List SourceLine → List (List ℕ)
+texts_of lines = map (λ l. spaced (source_words l)) lines
+
+-- lines that stand somewhere, as they are printed
+record Printed (lines : List SourceLine) : Type 0 where
+  clean : AllByRecursion IsClean (texts_of lines)
+  told : told_words (texts_of lines) ≡ map source_words lines
+
+printed : (file : List Declared) (c : Context) (lines : List SourceLine) → AllStand file c lines → AreBuilt lines → Printed lines
+unfolding texts_of
+printed file c [] stand built = record { clean = tt; told = refl }
+printed file c (l ∷ ls) stand built =
+    let p = line_printed l stand.0.ranges built.0 in
+    let later = printed file (after c l) ls stand.1 built.1 in
+    let words : words_of (spaced (source_words l)) ≡ source_words l = words_again (source_words l) p.some p.plain in
+    record {
+      clean = (words_clean (source_words l) p.few p.plain, later.clean);
+      told = rw (words, p.told) (ap (λ (ws : List (List (List ℕ))). source_words l ∷ ws) later.told);
+    }
+
+joined : (lines : List SourceLine) → flat_map source_text lines ≡ flat_map (λ (t : List ℕ). t ++ 10 ∷ []) (texts_of lines)
+unfolding texts_of
+joined [] = refl
+joined (l ∷ ls) = ap (λ t. source_text l ++ t) (joined ls)
+
+-- lines that stand are accepted as they are printed
+lines_accepted : (lines : List SourceLine) (made : Context) → ((file : List Declared) → Stand file start lines made) → is_ended made ≡ true → IsAccepted (flat_map source_text lines) made.script
+lines_accepted lines made stands ended =
+    let texts = texts_of lines in
+    let here = stands [] in
+    let p = printed [] start lines here.stand here.built in
+    let cut : text_lines (flat_map source_text lines) ≡ texts = ap text_lines (joined lines) ∙ lines_again texts p.clean in
+    let file = file_declares (text_lines (flat_map source_text lines)) in
+    let h = stands file in
+    record {
+      lines = lines;
+      are = record {
+        clean = subst (λ (ts : List (List ℕ)). AllByRecursion IsClean ts) (sym cut) p.clean;
+        spelled = ap told_words cut ∙ p.told;
+        stand = h.stand;
+      };
+      ended = ap is_ended h.makes ∙ ended;
+      built = h.built;
+      same = ap (λ (c : Context). c.script) (sym h.makes);
+    }
+
+pub canonical_accepted : (bytes : List ℕ) (script : Script) → IsAccepted bytes script → IsAccepted (canonical_text script) script
+unfolding canonical_text
+canonical_accepted bytes script a =
+    let made : Context = after_all start a.lines in
+    let accepted = lines_accepted (canonical_lines made.script) made (λ other. canonical_stands (file_declares (text_lines bytes)) other a.lines a.are.stand a.ended a.built) a.ended in
+    subst (λ (s : Script). IsAccepted (flat_map source_text (canonical_lines s)) s) (sym a.same) accepted

@@ -1,0 +1,165 @@
+-- The canonical lines of a schedule stand where its own lines stood, and make the same slots.
+use Rattle.std.proofs.Common.{◌≡◌, ℕ, zero, suc, ◌+◌, ◌<◌, ◌≤◌, true, false, List, [], ◌∷◌, ◌++◌, append_assoc, length, length-append, replicate, refl, ap, sym, subst, ◌∙◌, Some, arith}
+use Rattle.std.proofs.lemmas.Bool.{le-leb, lt-ltb, leb-true, ltb-true}
+use Rattle.std.proofs.lemmas.List.{length-replicate}
+use Rattle.std.specs.List.{AllByRecursion}
+use Rattle.std.specs.Prelude.{IsTrue, ⊤, ◌&&◌, nat_le}
+use Rattle.script_print.specs.CanonicalText.{with_slot, slots_lines, schedule_lines}
+use Rattle.script_types.specs.BuiltLine.{is_built_line}
+use Rattle.script_types.specs.Context.{after, after_all, is_ended, is_in_order}
+use Rattle.script_types.specs.Names.{Declared}
+use Rattle.script_types.specs.Stands.{AllStand}
+use Rattle.script_types.specs.declared.context.Context.{Context}
+use Rattle.script_types.specs.declared.script.Script.{Script}
+use Rattle.script_types.specs.declared.script.Slot.{Slot}
+use Rattle.script_types.specs.declared.script.Slot.TheVariants as slot
+use Rattle.script_types.specs.declared.source_line.LineKind.TheVariants as of
+use Rattle.script_types.specs.declared.source_line.SourceLine.{SourceLine}
+use Rattle.script_types.specs.declared.source_line.SourceLine.TheVariants as line
+
+abbrev pub AreBuilt : List SourceLine → Type 0
+AreBuilt lines = AllByRecursion (λ l. IsTrue (is_built_line l)) lines
+
+-- a script with these slots, behind lines of this rank
+abbrev pub at_rank : Script → ℕ → List Slot → Context
+at_rank s rank slots = record { script = record s { slots = slots }; rank = Some rank; awaits_thread = false }
+
+-- no interrupt comes
+abbrev pub IsQuiet : Slot → Type 0
+IsQuiet (slot.Irq k) = ⊥
+IsQuiet _ = ⊤
+
+quiet_append : (xs ys : List Slot) → AllByRecursion IsQuiet xs → AllByRecursion IsQuiet ys → AllByRecursion IsQuiet (xs ++ ys)
+quiet_append [] ys all more = more
+quiet_append (x ∷ xs) ys all more = (all.0, quiet_append xs ys all.1 more)
+
+quiet_run : (count : ℕ) → AllByRecursion IsQuiet (replicate count slot.Go)
+quiet_run zero = tt
+quiet_run (suc n) = (tt, quiet_run n)
+
+-- what the lines of a schedule make
+pub record IsScheduled (s : Script) (made : Context) : Type 0 where
+  pub slots : List Slot
+  pub makes : made ≡ at_rank s 11 slots
+  pub few : length slots ≤ 65536
+  pub quiet : AllByRecursion IsQuiet slots
+
+-- behind `end` no line stands
+pub last_line : (file : List Declared) (s : Script) (slots : List Slot) (lines : List SourceLine) → AllStand file (at_rank s 11 slots) lines → lines ≡ []
+last_line file s slots [] stand = refl
+last_line file s slots (line.Instr what ∷ ls) stand = let order = stand.0.order in absurd (cc)
+last_line file s slots (l ∷ ls) stand = let order = stand.0.order in absurd (cc)
+
+-- the lines of a schedule behind its first
+slots_make : (file : List Declared) (s : Script) (slots : List Slot) (lines : List SourceLine) → length slots ≤ 65536 → AllByRecursion IsQuiet slots → AllStand file (at_rank s 10 slots) lines → is_ended (after_all (at_rank s 10 slots) lines) ≡ true → AreBuilt lines → IsScheduled s (after_all (at_rank s 10 slots) lines)
+slots_make file s slots [] few quiet stand ended built = absurd (cc)
+slots_make file s slots (line.Go count ∷ ls) few quiet stand ended built =
+    let room = leb-true (length slots + count) 65536 stand.0.within in
+    let size : length (slots ++ replicate count slot.Go) ≤ 65536 = simp (length-append, length-replicate) room in
+    slots_make file s (slots ++ replicate count slot.Go) ls size (quiet_append slots (replicate count slot.Go) quiet (quiet_run count)) stand.1 ended built.1
+slots_make file s slots (line.Tick ∷ ls) few quiet stand ended built =
+    let room = ltb-true (length slots) 65536 stand.0.within in
+    let size : length (slots ++ slot.Tick ∷ []) ≤ 65536 = simp length-append (omega arith) in
+    slots_make file s (slots ++ slot.Tick ∷ []) ls size (quiet_append slots (slot.Tick ∷ []) quiet (tt, tt)) stand.1 ended built.1
+slots_make file s slots (line.End ∷ ls) few quiet stand ended built =
+    let none = last_line file s slots ls stand.1 in
+    record { slots = slots; makes = ap (after_all (at_rank s 11 slots)) none; few = few; quiet = quiet }
+slots_make file s slots (line.Instr what ∷ ls) few quiet stand ended built = let order = stand.0.order in absurd (cc)
+slots_make file s slots (line.IrqSlot k ∷ ls) few quiet stand ended built = let b = built.0 in absurd (cc)
+slots_make file s slots (l ∷ ls) few quiet stand ended built = let order = stand.0.order in absurd (cc)
+
+-- all lines behind `schedule`
+pub schedule_makes : (file : List Declared) (s : Script) (lines : List SourceLine) → AllStand file (at_rank s 9 []) lines → is_ended (after_all (at_rank s 9 []) lines) ≡ true → AreBuilt lines → IsScheduled s (after_all (at_rank s 9 []) lines)
+schedule_makes file s [] stand ended built = absurd (cc)
+schedule_makes file s (line.Go count ∷ ls) stand ended built =
+    let room = leb-true (0 + count) 65536 stand.0.within in
+    let size : length (replicate count slot.Go) ≤ 65536 = simp length-replicate (omega arith) in
+    slots_make file s (replicate count slot.Go) ls size (quiet_run count) stand.1 ended built.1
+schedule_makes file s (line.Tick ∷ ls) stand ended built = slots_make file s (slot.Tick ∷ []) ls (omega arith) (tt, tt) stand.1 ended built.1
+schedule_makes file s (line.End ∷ ls) stand ended built =
+    let none = last_line file s [] ls stand.1 in
+    record { slots = []; makes = ap (after_all (at_rank s 11 [])) none; few = omega arith; quiet = tt }
+schedule_makes file s (line.Instr what ∷ ls) stand ended built = let order = stand.0.order in absurd (cc)
+schedule_makes file s (line.IrqSlot k ∷ ls) stand ended built = let b = built.0 in absurd (cc)
+schedule_makes file s (l ∷ ls) stand ended built = let order = stand.0.order in absurd (cc)
+
+-- lines one behind another
+pub stand_append : (file : List Declared) (c : Context) (xs ys : List SourceLine) → AllStand file c xs → AllStand file (after_all c xs) ys → AllStand file c (xs ++ ys)
+stand_append file c [] ys one other = other
+stand_append file c (x ∷ xs) ys one other = (one.0, stand_append file (after c x) xs ys one.1 other)
+
+pub after_append : (c : Context) (xs ys : List SourceLine) → after_all c (xs ++ ys) ≡ after_all (after_all c xs) ys
+after_append c [] ys = refl
+after_append c (x ∷ xs) ys = after_append (after c x) xs ys
+
+pub built_append : (xs ys : List SourceLine) → AreBuilt xs → AreBuilt ys → AreBuilt (xs ++ ys)
+built_append [] ys one other = other
+built_append (x ∷ xs) ys one other = (one.0, built_append xs ys one.1 other)
+
+-- lines that stand behind others, and make this
+pub record Stand (file : List Declared) (c : Context) (lines : List SourceLine) (made : Context) : Type 0 where
+  pub stand : AllStand file c lines
+  pub built : AreBuilt lines
+  pub makes : after_all c lines ≡ made
+
+-- behind slots
+abbrev behind : Context → List Slot → Context
+behind c [] = c
+behind c (x ∷ xs) = at_rank c.script 10 (c.script.slots ++ x ∷ xs)
+
+-- a run grows by one slot in front
+run_grows : (file : List Declared) (c : Context) (count : ℕ) (ls : List SourceLine) (made : Context) → is_in_order c of.Slot ≡ true → Stand file (after c (line.Go 1)) (line.Go count ∷ ls) made → Stand file c (line.Go (suc count) ∷ ls) made
+run_grows file c count ls made order h =
+    let size : length (c.script.slots ++ slot.Go ∷ []) ≡ length c.script.slots + 1 = simp length-append in
+    let room = leb-true (length (c.script.slots ++ slot.Go ∷ []) + count) 65536 h.stand.0.within in
+    let ranges : (nat_le 1 (suc count) && nat_le (suc count) 65536) ≡ true = rw (le-leb 1 (suc count) (omega arith), le-leb (suc count) 65536 (omega arith)) refl in
+    let within : nat_le (length c.script.slots + suc count) 65536 ≡ true = le-leb (length c.script.slots + suc count) 65536 (omega arith) in
+    let same : after (after c (line.Go 1)) (line.Go count) ≡ after c (line.Go (suc count)) = ap (λ (xs : List Slot). at_rank c.script 10 xs) (append_assoc c.script.slots (slot.Go ∷ []) (replicate count slot.Go)) in
+    record {
+      stand = (record { order = order; ranges = ranges; kind = refl; new = refl; known = refl; within = within }, subst (λ (d : Context). AllStand file d ls) same h.stand.1);
+      built = (refl, h.built.1);
+      makes = ap (λ (d : Context). after_all d ls) (sym same) ∙ h.makes;
+    }
+
+go_joins : (file : List Declared) (c : Context) (ls : List SourceLine) (made : Context) → is_in_order c of.Slot ≡ true → length c.script.slots < 65536 → Stand file (after c (line.Go 1)) ls made → Stand file c (with_slot slot.Go ls) made
+go_joins file c (line.Go count ∷ ls) made order few h = run_grows file c count ls made order h
+go_joins file c ls made order few h =
+    let within : nat_le (length c.script.slots + 1) 65536 ≡ true = le-leb (length c.script.slots + 1) 65536 (omega arith) in
+    record { stand = (record { order = order; ranges = refl; kind = refl; new = refl; known = refl; within = within }, h.stand); built = (refl, h.built); makes = h.makes }
+
+tick_joins : (file : List Declared) (c : Context) (ls : List SourceLine) (made : Context) → is_in_order c of.Slot ≡ true → length c.script.slots < 65536 → Stand file (after c line.Tick) ls made → Stand file c (line.Tick ∷ ls) made
+tick_joins file c ls made order few h =
+    record { stand = (record { order = order; ranges = refl; kind = refl; new = refl; known = refl; within = lt-ltb (length c.script.slots) 65536 few }, h.stand); built = (refl, h.built); makes = h.makes }
+
+behind_more : (s : Script) (xs ys : List Slot) (x : Slot) → behind (at_rank s 10 (xs ++ x ∷ [])) ys ≡ at_rank s 10 (xs ++ x ∷ ys)
+behind_more s xs [] x = refl
+behind_more s xs (y ∷ ys) x = ap (λ (zs : List Slot). at_rank s 10 zs) (append_assoc xs (x ∷ []) (y ∷ ys))
+
+slots_stand : (file : List Declared) (c : Context) (slots : List Slot) → is_in_order c of.Slot ≡ true → length c.script.slots + length slots ≤ 65536 → AllByRecursion IsQuiet slots → Stand file c (slots_lines slots) (behind c slots)
+slots_stand file c [] order few quiet = record { stand = tt; built = tt; makes = refl }
+slots_stand file c (slot.Go ∷ xs) order few quiet =
+    let size : length (c.script.slots ++ slot.Go ∷ []) ≡ length c.script.slots + 1 = simp length-append in
+    let later = slots_stand file (at_rank c.script 10 (c.script.slots ++ slot.Go ∷ [])) xs refl (omega arith) quiet.1 in
+    let h : Stand file (after c (line.Go 1)) (slots_lines xs) (behind c (slot.Go ∷ xs)) = record { stand = later.stand; built = later.built; makes = later.makes ∙ behind_more c.script c.script.slots xs slot.Go } in
+    go_joins file c (slots_lines xs) (behind c (slot.Go ∷ xs)) order (omega arith) h
+slots_stand file c (slot.Tick ∷ xs) order few quiet =
+    let size : length (c.script.slots ++ slot.Tick ∷ []) ≡ length c.script.slots + 1 = simp length-append in
+    let later = slots_stand file (at_rank c.script 10 (c.script.slots ++ slot.Tick ∷ [])) xs refl (omega arith) quiet.1 in
+    let h : Stand file (after c line.Tick) (slots_lines xs) (behind c (slot.Tick ∷ xs)) = record { stand = later.stand; built = later.built; makes = later.makes ∙ behind_more c.script c.script.slots xs slot.Tick } in
+    tick_joins file c (slots_lines xs) (behind c (slot.Tick ∷ xs)) order (omega arith) h
+slots_stand file c (slot.Irq k ∷ xs) order few quiet = absurd quiet.0
+
+-- the canonical lines from `schedule` or `end` on
+pub schedule_stands : (file : List Declared) (s : Script) (rank : ℕ) (slots : List Slot) → nat_le rank 8 ≡ true → nat_le rank 10 ≡ true → length slots ≤ 65536 → AllByRecursion IsQuiet slots → Stand file (at_rank s rank []) (schedule_lines slots ++ line.End ∷ []) (at_rank s 11 slots)
+schedule_stands file s rank [] before under few quiet =
+    record { stand = (record { order = under; ranges = refl; kind = refl; new = refl; known = refl; within = refl }, tt); built = (refl, tt); makes = refl }
+schedule_stands file s rank (x ∷ xs) before under few quiet =
+    let c : Context = at_rank s 9 [] in
+    let h = slots_stand file c (x ∷ xs) refl (omega arith) quiet in
+    let ends : AllStand file (behind c (x ∷ xs)) (line.End ∷ []) = (record { order = refl; ranges = refl; kind = refl; new = refl; known = refl; within = refl }, tt) in
+    let stand = stand_append file c (slots_lines (x ∷ xs)) (line.End ∷ []) h.stand (subst (λ (d : Context). AllStand file d (line.End ∷ [])) (sym h.makes) ends) in
+    record {
+      stand = (record { order = before; ranges = refl; kind = refl; new = refl; known = refl; within = refl }, stand);
+      built = (refl, built_append (slots_lines (x ∷ xs)) (line.End ∷ []) h.built (refl, tt));
+      makes = after_append c (slots_lines (x ∷ xs)) (line.End ∷ []) ∙ ap (λ (d : Context). after d line.End) h.makes;
+    }

@@ -1,0 +1,224 @@
+-- A text is read exactly where it is accepted.
+use Rattle.std.proofs.Common.{◌≡◌, ℕ, Bool, true, false, List, [], ◌∷◌, map, drop, refl, sym, subst, ap, ◌∙◌, Option, Some, None, inl, inr}
+use Rattle.std.specs.List.{AllByRecursion}
+use Rattle.std.specs.Prelude.{◌⊎◌, not, IsTrue}
+use Rattle.std.specs.Str.{bytes_eq}
+use Rattle.script_read.specs.FirstBad.{HasNone, Make, IsRead, IsFirstBad}
+use Rattle.script_words.specs.Keywords.{keyword_of, keyword_text, keyword_kind, keywords}
+use Rattle.script_words.specs.LineAt.{line_at}
+use Rattle.script_words.specs.LineSigns.{word_at, signs_of, is_counted, have_forms, are_in_range, body_of, body_part, body_passes}
+use Rattle.script_read.specs.Reasons.{reasons, keyword_in, is_scheduled, after_text}
+use Rattle.script_words.specs.Signs.{each_passes, has_form, is_in_range}
+use Rattle.script_words.specs.declared.keyword.Keyword.{Keyword}
+use Rattle.script_read.specs.declared.reason.Reason.{Reason}
+use Rattle.script_read.proofs.FirstBads.{find_is, read_or_bad, read_not_bad, one_script_read}
+use Rattle.script_words.proofs.LineWords.{by_test, kind_at, all_words, takes}
+use Rattle.script_words.proofs.SourceRanges.{line_in_range}
+use Rattle.script_words.proofs.Steps.{both, same_bytes}
+use Rattle.script_words.proofs.WordsAgain.{again, keyword_again}
+use Rattle.script_types.specs.BuiltLine.{is_built_line}
+use Rattle.script_types.specs.Context.{start, after, after_all, is_in_order, is_ended, kind_of}
+use Rattle.script_types.specs.declared.context.Context.{Context}
+use Rattle.script_types.specs.Names.{Declared, file_declares, is_known, is_new}
+use Rattle.script_types.specs.Source.{IsClean, IsAccepted}
+use Rattle.script_types.specs.SourceText.{text_lines, words_of, told_words, is_skipped, is_printed, is_short}
+use Rattle.script_types.specs.SourceWords.{source_words}
+use Rattle.script_types.specs.Stands.{Stands, AllStand, is_right_kind, is_within}
+use Rattle.script_types.specs.declared.script.Script.{Script}
+use Rattle.script_types.specs.declared.source_line.SourceLine.{SourceLine}
+
+keyword_takes : (word : List ℕ) (k : Keyword) → keyword_of word ≡ Some k → word ≡ keyword_text k
+unfolding keyword_of
+keyword_takes word k h = let f = find_is (λ (k : Keyword). bytes_eq word (keyword_text k)) keywords k h in same_bytes word (keyword_text k) f.passes
+
+not_not : (b : Bool) → not b ≡ false → b ≡ true
+not_not true h = refl
+not_not false h = absurd (cc)
+
+-- a text that isn't skipped and is a line that may stand here
+record IsLine (file : List Declared) (c : Context) (text : List ℕ) : Type 0 where
+  line : SourceLine
+  spelled : words_of text ≡ source_words line
+  stands : Stands file c line
+  built : is_built_line line ≡ true
+  makes : after_text c text ≡ after c line
+
+line_by : (file : List Declared) (c : Context) (text : List ℕ) (k : Keyword) → is_skipped (words_of text) ≡ false → keyword_in (words_of text) ≡ Some k → HasNone reasons file c text → IsLine file c text
+unfolding after_text
+line_by file c text k told e none =
+    let s : Bool = is_scheduled c in
+    let words : List (List ℕ) = words_of text in
+    let l : SourceLine = line_at s k words in
+    let n3 = none.1.1.1.0 in
+    let n4 = none.1.1.1.1.0 in
+    let n5 = none.1.1.1.1.1.0 in
+    let n6 = none.1.1.1.1.1.1.0 in
+    let n7 = none.1.1.1.1.1.1.1.0 in
+    let n8 = none.1.1.1.1.1.1.1.1.0 in
+    let n9 = none.1.1.1.1.1.1.1.1.1.0 in
+    let n10 = none.1.1.1.1.1.1.1.1.1.1.0 in
+    let n12 = none.1.1.1.1.1.1.1.1.1.1.1.1.0 in
+    let order : is_in_order c (keyword_kind s k) ≡ true = not_not (is_in_order c (keyword_kind s k)) (rw (told, e) at n3) in
+    let count : is_counted s k words ≡ true = not_not (is_counted s k words) (rw (told, e) at n4) in
+    let forms : have_forms s k words ≡ true = not_not (have_forms s k words) (rw (told, e) at n5) in
+    let ranges : are_in_range s k words ≡ true = not_not (are_in_range s k words) (rw (told, e) at n6) in
+    let right : is_right_kind c l ≡ true = not_not (is_right_kind c l) (rw (told, e) at n7) in
+    let new : is_new c l ≡ true = not_not (is_new c l) (rw (told, e) at n8) in
+    let known : is_known file c l ≡ true = not_not (is_known file c l) (rw (told, e) at n9) in
+    let within : is_within c l ≡ true = not_not (is_within c l) (rw (told, e) at n10) in
+    let built : is_built_line l ≡ true = not_not (is_built_line l) (rw (told, e) at n12) in
+    let f = both (each_passes has_form (signs_of k words) (drop 1 words)) (body_passes has_form (body_of s k) (body_part (signs_of k words) words)) forms in
+    let r = both (each_passes is_in_range (signs_of k words) (drop 1 words)) (body_passes is_in_range (body_of s k) (body_part (signs_of k words) words)) ranges in
+    let t = takes s k words count (keyword_takes (word_at words 0) k e) (all_words (signs_of k words) (drop 1 words) f.0 r.0) built in
+    record {
+      line = l;
+      spelled = t;
+      stands = record { order = ap (is_in_order c) (kind_at s k words) ∙ order; ranges = line_in_range s k words forms ranges; kind = right; new = new; known = known; within = within };
+      built = built;
+      makes = rw (told, e) refl;
+    }
+
+line_of_text : (file : List Declared) (c : Context) (text : List ℕ) (found : Option Keyword) → keyword_in (words_of text) ≡ found → is_skipped (words_of text) ≡ false → HasNone reasons file c text → IsLine file c text
+line_of_text file c text None e told none =
+    let n2 = none.1.1.0 in
+    let bad : true ≡ false = rw (told, e) at n2 in
+    absurd (cc)
+line_of_text file c text (Some k) e told none = line_by file c text k told e none
+
+clean_text : (file : List Declared) (c : Context) (text : List ℕ) → HasNone reasons file c text → IsClean text
+clean_text file c text none = record { printed = not_not (is_printed text) none.0; short = not_not (is_short text) none.1.0 }
+
+-- the lines of texts
+record HasLines (file : List Declared) (c : Context) (texts : List (List ℕ)) (made : Context) : Type 0 where
+  lines : List SourceLine
+  clean : AllByRecursion IsClean texts
+  spelled : told_words texts ≡ map source_words lines
+  stand : AllStand file c lines
+  built : AllByRecursion (λ l. IsTrue (is_built_line l)) lines
+  makes : after_all c lines ≡ made
+
+told_front : (text : List ℕ) (texts : List (List ℕ)) → is_skipped (words_of text) ≡ false → told_words (text ∷ texts) ≡ words_of text ∷ told_words texts
+told_front text texts h = rw h refl
+
+skipped_front : (text : List ℕ) (texts : List (List ℕ)) → is_skipped (words_of text) ≡ true → told_words (text ∷ texts) ≡ told_words texts
+skipped_front text texts h = rw h refl
+
+both_same : {A : Type 0} (x y : A) (xs ys : List A) → x ≡ y → xs ≡ ys → x ∷ xs ≡ y ∷ ys
+both_same x y xs ys h more = ap (λ z. z ∷ xs) h ∙ ap (λ zs. y ∷ zs) more
+
+skipped_stays : (c : Context) (text : List ℕ) → is_skipped (words_of text) ≡ true → after_text c text ≡ c
+unfolding after_text
+skipped_stays c text h = rw h refl
+
+make_lines : (file : List Declared) (c : Context) (texts : List (List ℕ)) (made : Context) → Make file c texts made → HasLines file c texts made
+make_lines file c [] made good = record { lines = []; clean = tt; spelled = refl; stand = tt; built = tt; makes = sym good }
+make_lines file c (text ∷ texts) made good =
+    let clean = clean_text file c text good.0 in
+    by_test {P = HasLines file c (text ∷ texts) made} (is_skipped (words_of text))
+    (λ skipped.
+    let same = skipped_stays c text skipped in
+    let h = make_lines file c texts made (subst (λ (d : Context). Make file d texts made) same good.1) in
+    record { lines = h.lines; clean = (clean, h.clean); spelled = rw skipped h.spelled; stand = h.stand; built = h.built; makes = h.makes })
+    (λ told.
+    let l = line_of_text file c text (keyword_in (words_of text)) refl told good.0 in
+    let h = make_lines file (after c l.line) texts made (subst (λ (d : Context). Make file d texts made) l.makes good.1) in
+    let spelled = l.spelled in
+    let others = h.spelled in
+    record { lines = l.line ∷ h.lines; clean = (clean, h.clean); spelled = told_front text texts told ∙ both_same (words_of text) (source_words l.line) (told_words texts) (map source_words h.lines) spelled others; stand = (l.stands, h.stand); built = (l.built, h.built); makes = h.makes })
+
+-- what is read is accepted
+pub read_is_accepted : (bytes : List ℕ) (script : Script) → IsRead bytes script → IsAccepted bytes script
+read_is_accepted bytes script r =
+    let h = make_lines (file_declares (text_lines bytes)) start (text_lines bytes) r.made r.good in
+    record {
+      lines = h.lines;
+      are = record { clean = h.clean; spelled = h.spelled; stand = h.stand };
+      ended = ap is_ended h.makes ∙ r.ended;
+      built = h.built;
+      same = r.same ∙ ap (λ (c : Context). c.script) (sym h.makes);
+    }
+
+off : (b : Bool) → b ≡ true → not b ≡ false
+off b h = rw h refl
+
+-- a skipped text has no reason
+skipped_none : (file : List Declared) (c : Context) (text : List ℕ) → IsClean text → is_skipped (words_of text) ≡ true → HasNone reasons file c text
+skipped_none file c text clean h =
+    (off (is_printed text) clean.printed, (off (is_short text) clean.short, (rw h refl, (rw h refl, (rw h refl, (rw h refl, (rw h refl, (rw h refl, (rw h refl, (rw h refl, (rw h refl, (refl, (rw h refl, tt)))))))))))))
+
+-- a line that may stand here has no reason
+record IsGood (file : List Declared) (c : Context) (text : List ℕ) (l : SourceLine) : Type 0 where
+  none : HasNone reasons file c text
+  makes : after_text c text ≡ after c l
+
+line_good : (file : List Declared) (c : Context) (text : List ℕ) (l : SourceLine) → IsClean text → is_skipped (words_of text) ≡ false → words_of text ≡ source_words l → Stands file c l → is_built_line l ≡ true → IsGood file c text l
+unfolding after_text
+line_good file c text l clean told spelled stands built =
+    let s : Bool = is_scheduled c in
+    let words : List (List ℕ) = words_of text in
+    let a = again s l stands.ranges built in
+    let k : Keyword = a.keyword in
+    let e : keyword_in (words_of text) ≡ Some k = ap keyword_of (ap (λ (ws : List (List ℕ)). word_at ws 0) spelled ∙ a.first) ∙ keyword_again k in
+    let here : line_at s k words ≡ l = ap (line_at s k) spelled ∙ a.same in
+    let kind : keyword_kind s k ≡ kind_of l = sym (kind_at s k words) ∙ ap kind_of here in
+    let order : is_in_order c (keyword_kind s k) ≡ true = ap (is_in_order c) kind ∙ stands.order in
+    let count : is_counted s k words ≡ true = ap (is_counted s k) spelled ∙ a.counted in
+    let forms : have_forms s k words ≡ true = ap (have_forms s k) spelled ∙ a.forms in
+    let ranges : are_in_range s k words ≡ true = ap (are_in_range s k) spelled ∙ a.ranges in
+    let right : is_right_kind c (line_at s k words) ≡ true = ap (is_right_kind c) here ∙ stands.kind in
+    let new : is_new c (line_at s k words) ≡ true = ap (is_new c) here ∙ stands.new in
+    let known : is_known file c (line_at s k words) ≡ true = ap (is_known file c) here ∙ stands.known in
+    let within : is_within c (line_at s k words) ≡ true = ap (is_within c) here ∙ stands.within in
+    let runs : is_built_line (line_at s k words) ≡ true = ap is_built_line here ∙ built in
+    record {
+      none = (off (is_printed text) clean.printed, (off (is_short text) clean.short, (rw (told, e) refl, (rw (told, e) (off (is_in_order c (keyword_kind s k)) order), (rw (told, e) (off (is_counted s k words) count), (rw (told, e) (off (have_forms s k words) forms), (rw (told, e) (off (are_in_range s k words) ranges), (rw (told, e) (off (is_right_kind c (line_at s k words)) right), (rw (told, e) (off (is_new c (line_at s k words)) new), (rw (told, e) (off (is_known file c (line_at s k words)) known), (rw (told, e) (off (is_within c (line_at s k words)) within), (refl, (rw (told, e) (off (is_built_line (line_at s k words)) runs), tt)))))))))))));
+      makes = let same : after_text c text ≡ after c (line_at s k words) = rw (told, e) refl in same ∙ ap (after c) here;
+    }
+
+-- the first words of lines
+record AreFront (words : List (List ℕ)) (others : List (List (List ℕ))) (lines : List SourceLine) : Type 0 where
+  line : SourceLine
+  rest : List SourceLine
+  are : lines ≡ line ∷ rest
+  spelled : words ≡ source_words line
+  later : others ≡ map source_words rest
+
+front_of : (words : List (List ℕ)) (others : List (List (List ℕ))) (lines : List SourceLine) → words ∷ others ≡ map source_words lines → AreFront words others lines
+front_of words others [] h = absurd (cc)
+front_of words others (l ∷ ls) h = record { line = l; rest = ls; are = refl; spelled = cc; later = cc }
+
+lines_make : (file : List Declared) (c : Context) (texts : List (List ℕ)) (lines : List SourceLine) → AllByRecursion IsClean texts → told_words texts ≡ map source_words lines → AllStand file c lines → AllByRecursion (λ l. IsTrue (is_built_line l)) lines → Make file c texts (after_all c lines)
+lines_make file c [] [] clean spelled stand built = refl
+lines_make file c [] (l ∷ ls) clean spelled stand built = absurd (cc)
+lines_make file c (text ∷ texts) lines clean spelled stand built =
+    by_test {P = Make file c (text ∷ texts) (after_all c lines)} (is_skipped (words_of text))
+    (λ skipped.
+    let later = lines_make file c texts lines clean.1 (sym (skipped_front text texts skipped) ∙ spelled) stand built in
+    (skipped_none file c text clean.0 skipped, subst (λ (d : Context). Make file d texts (after_all c lines)) (sym (skipped_stays c text skipped)) later))
+    (λ told.
+    let f = front_of (words_of text) (told_words texts) lines (sym (told_front text texts told) ∙ spelled) in
+    let stand_here : AllStand file c (f.line ∷ f.rest) = subst (λ (ls : List SourceLine). AllStand file c ls) f.are stand in
+    let built_here : AllByRecursion (λ l. IsTrue (is_built_line l)) (f.line ∷ f.rest) = subst (λ (ls : List SourceLine). AllByRecursion (λ l. IsTrue (is_built_line l)) ls) f.are built in
+    let g = line_good file c text f.line clean.0 told f.spelled stand_here.0 built_here.0 in
+    let later = lines_make file (after c f.line) texts f.rest clean.1 f.later stand_here.1 built_here.1 in
+    let whole : Make file c (text ∷ texts) (after_all c (f.line ∷ f.rest)) = (g.none, subst (λ (d : Context). Make file d texts (after_all (after c f.line) f.rest)) (sym g.makes) later) in
+    subst (λ (ls : List SourceLine). Make file c (text ∷ texts) (after_all c ls)) (sym f.are) whole)
+
+-- what is accepted is read
+pub accepted_is_read : (bytes : List ℕ) (script : Script) → IsAccepted bytes script → IsRead bytes script
+accepted_is_read bytes script a = record {
+  made = after_all start a.lines;
+  good = lines_make (file_declares (text_lines bytes)) start (text_lines bytes) a.lines a.are.clean a.are.spelled a.are.stand a.built;
+  ended = a.ended;
+  same = a.same;
+}
+
+-- Each list of bytes is accepted as one script, or has one first bad line with one reason, and not both.
+pub accepted_or_bad : (bytes : List ℕ) → ((script : Script) × IsAccepted bytes script) ⊎ ((number : ℕ) × (why : Reason) × IsFirstBad bytes number why)
+accepted_or_bad bytes = elim (read_or_bad bytes) [ inl r ↦ inl (r.0, read_is_accepted bytes r.0 r.1) | inr b ↦ inr b ]
+
+pub accepted_not_bad : (bytes : List ℕ) (script : Script) (number : ℕ) (why : Reason) → IsAccepted bytes script → IsFirstBad bytes number why → ⊥
+accepted_not_bad bytes script number why a b = read_not_bad bytes script number why (accepted_is_read bytes script a) b
+
+pub one_accepted : (bytes : List ℕ) (one other : Script) → IsAccepted bytes one → IsAccepted bytes other → one ≡ other
+one_accepted bytes one other a b = one_script_read bytes one other (accepted_is_read bytes one a) (accepted_is_read bytes other b)

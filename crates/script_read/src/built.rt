@@ -1,0 +1,33 @@
+//! Which lines this program runs so far.
+ghost use Rattle.std.specs.Prelude.{◌≡◌};
+ghost use Rattle.script_types.specs.BuiltLine.{is_built_instr, is_built_line};
+
+use script_types::{Instr, SourceLine};
+use sym_base::Kind;
+
+/// Whether this program runs the instruction.
+fn is_built_instr(what: &Instr) -> bool
+    ensures { result ≡ is_built_instr what.now }
+{
+    matches!(
+        what,
+        Instr::CreateMutex(..) | Instr::Open(Kind::Mutex, ..) | Instr::Dup(..) | Instr::Close(_)
+    )
+}
+
+/// Whether this program runs the line.
+pub fn is_built_line(line: &SourceLine) -> bool
+    ensures { result ≡ is_built_line line.now }
+{
+    match line {
+        SourceLine::Header
+        | SourceLine::Process(_)
+        | SourceLine::Schedule
+        | SourceLine::Go(_)
+        | SourceLine::Tick
+        | SourceLine::End => true,
+        SourceLine::Thread(_, _, held) => !*held,
+        SourceLine::Instr(what) => is_built_instr(what),
+        _ => false,
+    }
+}

@@ -1,0 +1,134 @@
+//! What a line of a text is: bad, and for which reason, or a line.
+ghost use Rattle.std.specs.Prelude.{◌≡◌, IsTrue, IfNone, IfOk, List};
+ghost use Rattle.script_read.specs.Judging.{refused, word_tests, line_tests, judged_as, IsJudged, IsJudgedWithin};
+ghost use Rattle.script_read.specs.Knows.{Knows};
+ghost use Rattle.script_words.specs.Pieces.{pieces};
+ghost use Rattle.script_types.specs.Names.{Declared};
+ghost use Rattle.script_types.specs.Stands.{all_instrs, is_within};
+
+use crate::Reason;
+use crate::built::is_built_line;
+use crate::known::is_known;
+use crate::known_names::Declarations;
+use crate::limits::is_within;
+use crate::order::{is_in_order, is_scheduled};
+use crate::standing::{is_new, is_right_kind};
+use script_types::{Context, SourceLine};
+use script_words::{
+    Keyword, have_line_forms, is_counted, is_line_in_range, is_printed, is_short, is_skipped,
+    keyword_kind, keyword_of, line_at, word_at, words_of,
+};
+use std::alloc::Global;
+use sym_base::NoMemory;
+
+/// What a line of a text is, behind the lines before it.
+#[derive(Drop)]
+pub enum Judged {
+    /// It has no words, or is a comment.
+    Skipped,
+    /// It may stand here, and this is the line.
+    Line(SourceLine),
+    /// It is bad, and this is the first reason.
+    Bad(Reason),
+}
+
+/// The first reason why words may not be a line here: its place, their number, their forms, their ranges.
+fn reason_of_words(context: &Context, keyword: Keyword, words: &[&[u8]]) -> Option<Reason>
+    ensures { result ≡ refused (word_tests context.now keyword (pieces words.now)) }
+{
+    let scheduled = is_scheduled(context);
+    if !is_in_order(context, keyword_kind(scheduled, keyword)) {
+        return Some(Reason::Order);
+    }
+    if !is_counted(scheduled, keyword, words) {
+        return Some(Reason::Count);
+    }
+    if !have_line_forms(scheduled, keyword, words) {
+        return Some(Reason::Form);
+    }
+    if !is_line_in_range(scheduled, keyword, words) {
+        return Some(Reason::Range);
+    }
+    None
+}
+
+/// The first reason why a line may not stand here: its thread, its names, the limits, or that it isn't
+/// built.
+fn reason_of_line(
+    declarations: &Declarations<'_>,
+    context: &Context,
+    instructions: usize,
+    line: &SourceLine,
+) -> Option<Reason>
+    requires { instructions ≡ all_instrs context.now.script.threads }
+    ensures tests { (file : List Declared) → Knows declarations.now file → result ≡ refused (line_tests file context.now line.now) }
+    ensures within { IfNone result (IsTrue (is_within context.now line.now)) }
+{
+    if !is_right_kind(context, line) {
+        return Some(Reason::Kind);
+    }
+    if !is_new(context, line) {
+        return Some(Reason::Twice);
+    }
+    if !is_known(declarations, context, line) {
+        return Some(Reason::Unknown);
+    }
+    if !is_within(context, instructions, line) {
+        return Some(Reason::Limit);
+    }
+    if !is_built_line(line) {
+        return Some(Reason::Unbuilt);
+    }
+    None
+}
+
+/// What the words of a line are whose first word begins one.
+fn judge_words(
+    alloc: Global,
+    declarations: &Declarations<'_>,
+    context: &Context,
+    instructions: usize,
+    keyword: Keyword,
+    words: &[&[u8]],
+) -> Result<Judged, NoMemory>
+    requires { instructions ≡ all_instrs context.now.script.threads }
+    ensures judged { (file : List Declared) → Knows declarations.now file → IfOk result (λ judged. judged ≡ judged_as file context.now keyword (pieces words.now)) }
+    ensures within { IfOk result (IsJudgedWithin context.now) }
+{
+    if let Some(reason) = reason_of_words(context, keyword, words) {
+        return Ok(Judged::Bad(reason));
+    }
+    let line = line_at(alloc, is_scheduled(context), keyword, words)?;
+    if let Some(reason) = reason_of_line(declarations, context, instructions, &line) {
+        return Ok(Judged::Bad(reason));
+    }
+    Ok(Judged::Line(line))
+}
+
+/// What a line of a text is, behind lines that make the context and have so many instructions.
+pub fn judge_text(
+    alloc: Global,
+    declarations: &Declarations<'_>,
+    context: &Context,
+    instructions: usize,
+    text: &[u8],
+) -> Result<Judged, NoMemory>
+    requires { instructions ≡ all_instrs context.now.script.threads }
+    ensures judged { (file : List Declared) → Knows declarations.now file → IfOk result (IsJudged file context.now text.now) }
+    ensures within { IfOk result (IsJudgedWithin context.now) }
+{
+    if !is_printed(text) {
+        return Ok(Judged::Bad(Reason::Byte));
+    }
+    if !is_short(text) {
+        return Ok(Judged::Bad(Reason::Long));
+    }
+    let words = words_of(alloc, text)?;
+    if is_skipped(&words) {
+        return Ok(Judged::Skipped);
+    }
+    let Some(keyword) = keyword_of(word_at(&words, 0)) else {
+        return Ok(Judged::Bad(Reason::Word));
+    };
+    judge_words(alloc, declarations, context, instructions, keyword, &words)
+}

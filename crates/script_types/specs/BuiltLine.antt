@@ -1,0 +1,25 @@
+-- Which lines this program runs so far.
+use Rattle.std.specs.Prelude.{Bool, true, false, not}
+use Rattle.script_types.specs.declared.instruction.Instr.{Instr}
+use Rattle.script_types.specs.declared.instruction.Instr.TheVariants as instr
+use Rattle.script_types.specs.declared.source_line.SourceLine.{SourceLine}
+use Rattle.script_types.specs.declared.source_line.SourceLine.TheVariants as line
+use Rattle.sym_base.specs.declared.kind.Kind.TheVariants as kind
+
+abbrev pub is_built_instr : Instr → Bool
+is_built_instr (instr.CreateMutex name x) = true
+is_built_instr (instr.Open kind.Mutex name x) = true
+is_built_instr (instr.Dup x y) = true
+is_built_instr (instr.Close x) = true
+is_built_instr _ = false
+
+abbrev pub is_built_line : SourceLine → Bool
+is_built_line line.Header = true
+is_built_line (line.Process name) = true
+is_built_line (line.Thread name priority held) = not held
+is_built_line (line.Instr what) = is_built_instr what
+is_built_line line.Schedule = true
+is_built_line (line.Go count) = true
+is_built_line line.Tick = true
+is_built_line line.End = true
+is_built_line _ = false

@@ -1,0 +1,37 @@
+-- The grammar: which bytes are accepted as which script, and which scripts are valid.
+use Rattle.std.specs.List.{AllByRecursion}
+use Rattle.std.specs.Prelude.{◌≡◌, ℕ, IsTrue, List, map}
+use Rattle.script_types.specs.BuiltLine.{is_built_line}
+use Rattle.script_types.specs.Context.{start, after_all, is_ended}
+use Rattle.script_types.specs.Names.{file_declares}
+use Rattle.script_types.specs.SourceText.{text_lines, told_words, is_printed, is_short}
+use Rattle.script_types.specs.SourceWords.{source_words}
+use Rattle.script_types.specs.Stands.{AllStand}
+use Rattle.script_types.specs.declared.script.Script.{Script}
+use Rattle.script_types.specs.declared.source_line.SourceLine.{SourceLine}
+
+-- a line has no byte that may not stand in it, and not too many
+pub record IsClean (text : List ℕ) : Type 0 where
+  pub printed : IsTrue (is_printed text)
+  pub short : IsTrue (is_short text)
+
+-- Texts are lines: each is clean, and the words of those that aren't skipped are the words of the lines, which
+-- may stand where they do in a file with these lines.
+pub record AreLines (file texts : List (List ℕ)) (lines : List SourceLine) : Type 0 where
+  pub clean : AllByRecursion IsClean texts
+  pub spelled : told_words texts ≡ map source_words lines
+  pub stand : AllStand (file_declares file) start lines
+
+-- The bytes are accepted as the script: they are lines, the last of them `end`, and the lines make the script.
+-- This program runs each of them.
+pub record IsAccepted (bytes : List ℕ) (script : Script) : Type 0 where
+  pub lines : List SourceLine
+  pub are : AreLines (text_lines bytes) (text_lines bytes) lines
+  pub ended : IsTrue (is_ended (after_all start lines))
+  pub built : AllByRecursion (λ l. IsTrue (is_built_line l)) lines
+  pub same : script ≡ (after_all start lines).script
+
+-- a script is valid where some bytes are accepted as it
+pub record IsValid (script : Script) : Type 0 where
+  pub bytes : List ℕ
+  pub accepted : IsAccepted bytes script

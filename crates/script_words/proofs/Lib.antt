@@ -1,0 +1,14 @@
+pub mod Arguments
+pub mod Bodies
+pub mod Cuts
+pub mod Fields
+pub mod LineWords
+pub mod Numbers
+pub mod ObjectNames
+pub mod Operands
+pub mod SourceLines
+pub mod SourceRanges
+pub mod Steps
+pub mod Tested
+pub mod WordPlaces
+pub mod WordsAgain

@@ -1,0 +1,8 @@
+pub mod Fields
+pub mod Keywords
+pub mod LineAt
+pub mod LineSigns
+pub mod Operands
+pub mod Pieces
+pub mod Signs
+pub mod Tests

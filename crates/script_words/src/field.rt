@@ -1,0 +1,127 @@
+//! The parts of a line: words, numbers and names.
+ghost use Rattle.std.specs.Prelude.{◌≡◌, ◌^◌, IsTrue, ◌≢◌, ◌==◌, All, IfNone, ◌<◌, ◌≤◌, length, position, option_map, IfSome};
+ghost use Rattle.std.specs.List.{list_all};
+ghost use Rattle.std.specs.Option.{SomeIff};
+ghost use Rattle.std.specs.Str.{bytes_eq};
+ghost use Rattle.std.specs.Str.Parse.{digits_value};
+ghost use Rattle.std.specs.Char.{is_ascii_digit};
+ghost use Rattle.script_words.specs.Fields.{cut_of, is_number, number_of};
+ghost use Rattle.script_types.specs.ObjectName.{is_lower_case, is_object_byte, is_object_name};
+
+/// The place of the first such byte.
+fn place_of(bytes: &[u8], at: u8) -> Option<usize>
+    ensures value { result ≡ position (λ byte. byte == at) bytes.now }
+    ensures within { IfSome result (λ place. place < length bytes.now) }
+    ensures missing { IfNone result (All (λ byte. byte ≢ at) bytes.now) }
+{
+    bytes.iter().position(|byte| *byte == at)
+}
+
+/// The bytes before the first `at`, and those after it. None where there is no such byte.
+#[tactic(auto, using(crate::proofs::Cuts::cut_some, crate::proofs::Cuts::cut_none))]
+pub fn cut(bytes: &[u8], at: u8) -> Option<(&[u8], &[u8])>
+    ensures parts { option_map (λ parts. (parts.0.now, parts.1.now)) result ≡ cut_of at bytes.now }
+    ensures shorter { IfSome result (λ parts. length parts.1.now < length bytes.now) }
+{
+    let place = place_of(bytes, at)?;
+    Some((&bytes[..place], &bytes[place + 1..]))
+}
+
+/// Whether the bytes are this word.
+pub fn is_word(bytes: &[u8], word: &str) -> bool
+    ensures { result ≡ bytes_eq bytes.now word.now }
+{
+    bytes == word.as_bytes()
+}
+
+/// Whether each byte of a word is a digit.
+fn are_digits(word: &[u8]) -> bool
+    ensures { result ≡ list_all is_ascii_digit word.now }
+{
+    word.iter().all(|digit| digit.is_ascii_digit())
+}
+
+/// Whether a word is a number without a sign: digits, and no zero before another.
+pub fn is_number(word: &[u8]) -> bool
+    ensures { result ≡ is_number word.now }
+{
+    !word.is_empty() && are_digits(word) && (word.len() == 1 || word[0] != b'0')
+}
+
+/// Digits as a text.
+#[tactic(auto, using(crate::proofs::Numbers::digits_are_text))]
+fn digits_text(digits: &[u8]) -> &str
+    requires { IsTrue (list_all is_ascii_digit digits.now) }
+    ensures { result.now ≡ digits.now }
+{
+    str::from_utf8(digits).unwrap()
+}
+
+/// The number that digits spell. None where 32 bits don't hold it.
+fn parsed_number(digits: &[u8]) -> Option<u32>
+    requires digits { IsTrue (list_all is_ascii_digit digits.now) }
+    requires some { 0 < length digits.now }
+    ensures { SomeIff result (digits_value 10 digits.now < 2 ^ 32) (digits_value 10 digits.now) }
+{
+    digits_text(digits).parse().ok()
+}
+
+/// The number that digits spell. Most numbers of a script have one digit.
+#[tactic(auto, using(crate::proofs::Numbers::one_digit))]
+fn digits_number(digits: &[u8]) -> Option<u32>
+    requires digits { IsTrue (list_all is_ascii_digit digits.now) }
+    requires some { 0 < length digits.now }
+    ensures { SomeIff result (digits_value 10 digits.now < 2 ^ 32) (digits_value 10 digits.now) }
+{
+    match digits {
+        [digit] => Some(u32::from(*digit - b'0')),
+        _ => parsed_number(digits),
+    }
+}
+
+/// The number that a word spells. None where it spells none, or one greater than `max`.
+#[tactic(auto, unfolding(crate::specs::Fields::number_of))]
+pub fn read_natural(word: &[u8], max: u32) -> Option<u32>
+    ensures value { result ≡ number_of max word.now }
+    ensures small { IfSome result (λ number. number ≤ max) }
+{
+    if !is_number(word) {
+        return None;
+    }
+    let number = digits_number(word)?;
+    (number <= max).then_some(number)
+}
+
+/// Whether a byte is a lower-case letter.
+fn is_lower_case(byte: u8) -> bool
+    ensures { result ≡ is_lower_case byte }
+{
+    byte.is_ascii_lowercase()
+}
+
+/// Whether a byte may stand in an object's name after its first letter.
+fn is_object_byte(byte: u8) -> bool
+    ensures { result ≡ is_object_byte byte }
+{
+    is_lower_case(byte) || byte.is_ascii_digit() || byte == b'_'
+}
+
+/// Whether each byte of a word may stand in an object's name.
+fn are_object_bytes(word: &[u8]) -> bool
+    ensures { result ≡ list_all is_object_byte word.now }
+{
+    word.iter().all(|byte| is_object_byte(*byte))
+}
+
+/// Whether a word is the name of an object: a lower-case letter, and at most 15 more bytes, each a
+/// lower-case letter, a digit or `_`.
+pub fn is_object_name(word: &[u8]) -> bool
+    ensures { result ≡ is_object_name word.now }
+{
+    match word {
+        [] => false,
+        [first, rest @ ..] => {
+            is_lower_case(*first) && rest.len() <= 15 && are_object_bytes(rest)
+        }
+    }
+}

@@ -1,0 +1,166 @@
+//! The forms and the ranges of a whole line.
+ghost use Rattle.std.specs.List.{list_all};
+ghost use Rattle.std.specs.Prelude.{◌≡◌, drop, option_map, codes};
+ghost use Rattle.std.specs.Str.{bytes_eq};
+ghost use Rattle.script_words.specs.LineSigns.{op_signs, are_words, is_op, operations, body_passes, body_part, all_pass, have_forms, are_in_range};
+ghost use Rattle.script_words.specs.Pieces.{pieces};
+ghost use Rattle.script_words.specs.Signs.{each_passes};
+ghost use Rattle.script_words.specs.Tests.{passes};
+
+use crate::field::is_word;
+use crate::keyword::Keyword;
+use crate::line_signs::{DEVICE, body_of, signs_of};
+use crate::sign::{BodyKind, Sign, has_form, is_in_range};
+
+/// What is tested of a word.
+#[derive(Clone, Copy)]
+pub enum Test {
+    /// Whether it has the form of its sign.
+    Form,
+    /// Whether its numbers are in the range of its sign.
+    Range,
+}
+
+/// Whether a word passes the test of its sign.
+fn passes(test: Test, sign: Sign, word: &[u8]) -> bool
+    ensures { result ≡ passes test sign word.now }
+{
+    match test {
+        Test::Form => has_form(sign, word),
+        Test::Range => is_in_range(sign, word),
+    }
+}
+
+/// Whether each word passes the test of its sign.
+fn each_passes(test: Test, signs: &[Sign], words: &[&[u8]]) -> bool
+    ensures { result ≡ each_passes (passes test) signs.now (pieces words.now) }
+{
+    for i in 0..signs.len() {
+        if i >= words.len() {
+            return false;
+        }
+        if !passes(test, signs[i], words[i]) {
+            return false;
+        }
+    }
+    true
+}
+
+/// The words behind so many.
+#[tactic(auto, using(crate::proofs::WordPlaces::pieces_behind, crate::proofs::WordPlaces::none_behind))]
+pub fn words_behind<'s, 'w>(words: &'s [&'w [u8]], count: usize) -> &'s [&'w [u8]]
+    ensures { pieces result.now ≡ drop count (pieces words.now) }
+{
+    if count <= words.len() {
+        &words[count..]
+    } else {
+        &[]
+    }
+}
+
+/// The signs of an operation that begins with this word. None where none of the body's list does.
+fn operation_signs(kind: BodyKind, first: &[u8]) -> Option<&'static [Sign]>
+    ensures { option_map (λ signs. signs.now) result ≡ op_signs kind first.now }
+{
+    match kind {
+        BodyKind::Interrupt => interrupt_signs(first),
+        BodyKind::Call => call_signs(first),
+    }
+}
+
+/// The signs of an interrupt's operation.
+fn interrupt_signs(first: &[u8]) -> Option<&'static [Sign]>
+    ensures { option_map (λ signs. signs.now) result ≡ op_signs BodyKind.Interrupt first.now }
+{
+    if is_word(first, "idfc") || is_word(first, "dfc") {
+        Some(&[Sign::Name])
+    } else {
+        None
+    }
+}
+
+/// The signs of a deferred function call's operation.
+fn call_signs(first: &[u8]) -> Option<&'static [Sign]>
+    ensures { option_map (λ signs. signs.now) result ≡ op_signs BodyKind.Call first.now }
+{
+    if is_word(first, "fssignal") || is_word(first, "queue") {
+        Some(&[Sign::Name])
+    } else if is_word(first, "device") {
+        Some(&[DEVICE, Sign::Code])
+    } else {
+        None
+    }
+}
+
+/// Whether there are as many words as signs, and each passes the test.
+#[tactic(auto, using(crate::proofs::WordPlaces::pieces_length))]
+fn are_words(test: Test, signs: &[Sign], words: &[&[u8]]) -> bool
+    ensures { result ≡ are_words (passes test) signs.now (pieces words.now) }
+{
+    words.len() == signs.len() && each_passes(test, signs, words)
+}
+
+/// Whether words are an operation of a body that passes the test.
+fn is_operation(test: Test, kind: BodyKind, words: &[&[u8]]) -> bool
+    ensures { result ≡ is_op (passes test) kind (pieces words.now) }
+{
+    if words.is_empty() {
+        return false;
+    }
+    match operation_signs(kind, words[0]) {
+        Some(signs) => are_words(test, signs, &words[1..]),
+        None => false,
+    }
+}
+
+/// Whether a word stands between two operations.
+pub fn ends_operation(word: &[u8]) -> bool
+    ensures { result ≡ bytes_eq word.now (codes ";") }
+{
+    is_word(word, ";")
+}
+
+/// Whether each operation of a body passes the test.
+fn are_operations(test: Test, kind: BodyKind, words: &[&[u8]]) -> bool
+    ensures { result ≡ list_all (is_op (passes test) kind) (operations (pieces words.now)) }
+{
+    words
+        .split(|word| ends_operation(word))
+        .all(|operation| is_operation(test, kind, operation))
+}
+
+/// Whether the body behind so many signs passes the test, where the line has one.
+fn body_passes(test: Test, kind: Option<BodyKind>, words: &[&[u8]]) -> bool
+    ensures { result ≡ body_passes (passes test) kind (pieces words.now) }
+{
+    match kind {
+        None => true,
+        Some(kind) => are_operations(test, kind, words),
+    }
+}
+
+/// Whether each word behind the first passes the test.
+fn all_pass(test: Test, scheduled: bool, keyword: Keyword, words: &[&[u8]]) -> bool
+    ensures { result ≡ all_pass (passes test) scheduled keyword (pieces words.now) }
+{
+    let signs = signs_of(keyword, words);
+    if !each_passes(test, signs, words_behind(words, 1)) {
+        return false;
+    }
+    let body = words_behind(words, signs.len() + 1);
+    body_passes(test, body_of(scheduled, keyword), body)
+}
+
+/// Whether each word of a line has its form.
+pub fn have_line_forms(scheduled: bool, keyword: Keyword, words: &[&[u8]]) -> bool
+    ensures { result ≡ have_forms scheduled keyword (pieces words.now) }
+{
+    all_pass(Test::Form, scheduled, keyword, words)
+}
+
+/// Whether each number of a line is in its range.
+pub fn is_line_in_range(scheduled: bool, keyword: Keyword, words: &[&[u8]]) -> bool
+    ensures { result ≡ are_in_range scheduled keyword (pieces words.now) }
+{
+    all_pass(Test::Range, scheduled, keyword, words)
+}
