@@ -1,7 +1,7 @@
 -- A word is read again from its text.
-use Rattle.entry_log.specs.WordText.{word_text}
-use Rattle.entry_log.specs.declared.step.Word.{Word}
-use Rattle.entry_log.specs.declared.step.Word.TheVariants.{Create, Open, Dup, Duplocal, Close, Lock, Unlock, Wait, Signal, Suspend, Resume, Priority, Kill, Terminate, Panic, Exittype, Logon, Exit, Flock, Funlock, Fswait, Fssignal, Enter, Leave, Queue, Request, Cancel, Waitany, Waitfor, Status, Server, Connect, Send, Call, Receive, Complete, Function, Read, Write, Fill, Peek}
+use Rattle.sym_base.specs.WordText.{word_text}
+use Rattle.sym_base.specs.declared.word.Word.{Word}
+use Rattle.sym_base.specs.declared.word.Word.TheVariants.{Create, Open, Dup, Duplocal, Close, Lock, Unlock, Wait, Signal, Suspend, Resume, Priority, Kill, Terminate, Panic, Exittype, Logon, Exit, Flock, Funlock, Fswait, Fssignal, Enter, Leave, Queue, Request, Cancel, Waitany, Waitfor, Status, Server, Connect, Send, Call, Receive, Complete, Function, Read, Write, Fill, Peek}
 use Rattle.std.proofs.Common.{◌≡◌, ℕ, true, List, [], ◌∷◌, unwrap_or, refl}
 use Rattle.std.specs.List.{find, list_all}
 use Rattle.std.specs.Str.{bytes_eq}

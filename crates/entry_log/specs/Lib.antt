@@ -8,4 +8,3 @@ pub mod IsEntry
 pub mod Joined
 pub mod PartText
 pub mod StepText
-pub mod WordText

@@ -1,7 +1,7 @@
 -- How a step is printed: its words, with a dot between them.
 use Rattle.entry_log.specs.Joined.{joined}
 use Rattle.entry_log.specs.PartText.{part_text}
-use Rattle.entry_log.specs.WordText.{word_text}
+use Rattle.sym_base.specs.WordText.{word_text}
 use Rattle.entry_log.specs.declared.step.Step.{Step}
 use Rattle.entry_log.specs.declared.step.Step.TheVariants.{Of, RunOf, MoveOf, Drop, Sweep, Finish, Detach, Stop, Free, Shut, Tell, Clean, Flush, End, Bury, Run, Turn, Wait}
 use Rattle.std.specs.Prelude.{ℕ, List, [], ◌∷◌, codes}

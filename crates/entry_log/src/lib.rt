@@ -12,5 +12,6 @@ pub use effect::{Effect, Holder, LockNo, StatusNo};
 pub use effects::Effects;
 pub use entry::{Actor, Entry, FinalRow};
 pub use law::{known_effect, known_effects, known_entries, known_entry, same_texts};
-pub use step::{Part, Step, Word};
+pub use step::{Part, Step};
+pub use sym_base::Word;
 pub use text::{entry_text, final_text};

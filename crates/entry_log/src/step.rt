@@ -1,51 +1,5 @@
 //! The step that an entry tells.
-use sym_base::Name;
-
-/// The first word of an instruction, one variant for each.
-#[derive(Clone, Copy)]
-pub enum Word {
-    Create,
-    Open,
-    Dup,
-    Duplocal,
-    Close,
-    Lock,
-    Unlock,
-    Wait,
-    Signal,
-    Suspend,
-    Resume,
-    Priority,
-    Kill,
-    Terminate,
-    Panic,
-    Exittype,
-    Logon,
-    Exit,
-    Flock,
-    Funlock,
-    Fswait,
-    Fssignal,
-    Enter,
-    Leave,
-    Queue,
-    Request,
-    Cancel,
-    Waitany,
-    Waitfor,
-    Status,
-    Server,
-    Connect,
-    Send,
-    Call,
-    Receive,
-    Complete,
-    Function,
-    Read,
-    Write,
-    Fill,
-    Peek,
-}
+use sym_base::{Name, Word};
 
 /// A part of an instruction that is one atomic action.
 #[derive(Clone, Copy)]

@@ -10,7 +10,7 @@ use Rattle.entry_log.specs.declared.effect.Holder.TheVariants.{InProcess, InThre
 use Rattle.entry_log.specs.declared.effect.Effect.TheVariants.{Plus}
 use Rattle.entry_log.specs.declared.step.Step.{Step}
 use Rattle.entry_log.specs.declared.step.Step.TheVariants.{Of}
-use Rattle.entry_log.specs.declared.step.Word.TheVariants.{Create, Dup, Close as CloseWord, Open as OpenWord}
+use Rattle.sym_base.specs.declared.word.Word.TheVariants.{Create, Dup, Close as CloseWord, Open as OpenWord}
 use Rattle.entry_log.specs.declared.step.Part.TheVariants.{Do, Look, Seek, Return}
 use Rattle.machine.specs.declared.state.Place.{Place}
 use Rattle.machine.specs.declared.state.Owed.{Owed}

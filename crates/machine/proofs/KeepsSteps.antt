@@ -7,7 +7,7 @@ use Rattle.sym_base.specs.declared.number.ObjNo.{ObjNo}
 use Rattle.sym_base.specs.declared.kind.Kind.TheVariants.{Mutex}
 use Rattle.entry_log.specs.declared.step.Step.{Step}
 use Rattle.entry_log.specs.declared.step.Step.TheVariants.{Of}
-use Rattle.entry_log.specs.declared.step.Word.TheVariants.{Create, Dup, Open}
+use Rattle.sym_base.specs.declared.word.Word.TheVariants.{Create, Dup, Open}
 use Rattle.entry_log.specs.declared.step.Part.TheVariants.{Do}
 use Rattle.script_types.specs.declared.script.Script.{Script}
 use Rattle.state_rows.specs.declared.object.ObjectRow.{ObjectRow}

@@ -9,7 +9,7 @@ use Rattle.entry_log.specs.declared.effect.Effect.TheVariants.{Missed}
 use Rattle.entry_log.specs.declared.effect.Holder.TheVariants.{InProcess, Temp}
 use Rattle.entry_log.specs.declared.step.Step.{Step}
 use Rattle.entry_log.specs.declared.step.Step.TheVariants.{Of}
-use Rattle.entry_log.specs.declared.step.Word.TheVariants.{Create, Dup, Close as CloseWord, Open as OpenWord}
+use Rattle.sym_base.specs.declared.word.Word.TheVariants.{Create, Dup, Close as CloseWord, Open as OpenWord}
 use Rattle.entry_log.specs.declared.step.Part.TheVariants.{Do, Look, Seek, Return}
 use Rattle.script_types.specs.declared.script.Script.{Script}
 use Rattle.state_rows.specs.declared.object.ObjectRow.{ObjectRow}

@@ -7,7 +7,7 @@ use Rattle.sym_base.specs.declared.kind.Kind.TheVariants.{Mutex}
 use Rattle.entry_log.specs.declared.effect.Effect.{Effect}
 use Rattle.entry_log.specs.declared.step.Step.{Step}
 use Rattle.entry_log.specs.declared.step.Step.TheVariants.{Of}
-use Rattle.entry_log.specs.declared.step.Word.TheVariants.{Close as CloseWord}
+use Rattle.sym_base.specs.declared.word.Word.TheVariants.{Close as CloseWord}
 use Rattle.entry_log.specs.declared.step.Part.TheVariants.{Do}
 use Rattle.script_types.specs.declared.script.Script.{Script}
 use Rattle.script_types.specs.declared.instruction.Instr.{Instr}

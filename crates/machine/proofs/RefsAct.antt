@@ -5,7 +5,7 @@ use Rattle.sym_base.specs.declared.number.ObjNo.{ObjNo}
 use Rattle.entry_log.specs.declared.effect.Holder.TheVariants.{Temp}
 use Rattle.entry_log.specs.declared.effect.Effect.TheVariants.{Plus}
 use Rattle.entry_log.specs.declared.step.Step.TheVariants.{Of}
-use Rattle.entry_log.specs.declared.step.Word.TheVariants.{Dup, Close as CloseWord, Open as OpenWord}
+use Rattle.sym_base.specs.declared.word.Word.TheVariants.{Dup, Close as CloseWord, Open as OpenWord}
 use Rattle.entry_log.specs.declared.step.Part.TheVariants.{Do, Look, Seek, Return}
 use Rattle.script_types.specs.declared.script.Script.{Script}
 use Rattle.script_types.specs.declared.instruction.Instr.{Instr}

@@ -8,7 +8,7 @@ use Rattle.machine.specs.declared.state.Owed.TheVariants.{Sweep}
 use Rattle.entry_log.specs.declared.effect.Holder.{Holder}
 use Rattle.sym_base.specs.declared.kind.Kind.TheVariants.{Mutex}
 use Rattle.entry_log.specs.declared.step.Step.TheVariants.{Of}
-use Rattle.entry_log.specs.declared.step.Word.TheVariants.{Create}
+use Rattle.sym_base.specs.declared.word.Word.TheVariants.{Create}
 use Rattle.entry_log.specs.declared.step.Part.TheVariants.{Do}
 use Rattle.machine.specs.declared.state.Phase.{Phase}
 use Rattle.machine.specs.declared.state.Phase.TheVariants.{Start, Using, Found}

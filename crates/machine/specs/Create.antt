@@ -9,7 +9,7 @@ use Rattle.entry_log.specs.declared.effect.Holder.TheVariants.{InProcess}
 use Rattle.entry_log.specs.declared.effect.Effect.TheVariants.{Plus}
 use Rattle.entry_log.specs.declared.step.Step.{Step}
 use Rattle.entry_log.specs.declared.step.Step.TheVariants.{Of}
-use Rattle.entry_log.specs.declared.step.Word.TheVariants.{Create}
+use Rattle.sym_base.specs.declared.word.Word.TheVariants.{Create}
 use Rattle.entry_log.specs.declared.step.Part.TheVariants.{Do}
 use Rattle.machine.specs.declared.state.ThreadRow.{ThreadRow}
 use Rattle.machine.specs.declared.state.State.{State}

@@ -7,7 +7,7 @@ use Rattle.sym_base.specs.declared.kind.Kind.TheVariants.{Server, Session}
 use Rattle.entry_log.specs.declared.effect.Holder.TheVariants.{Temp}
 use Rattle.entry_log.specs.declared.effect.Effect.TheVariants.{Plus}
 use Rattle.entry_log.specs.declared.step.Step.TheVariants.{Of}
-use Rattle.entry_log.specs.declared.step.Word.TheVariants.{Dup}
+use Rattle.sym_base.specs.declared.word.Word.TheVariants.{Dup}
 use Rattle.entry_log.specs.declared.step.Part.TheVariants.{Do, Look}
 use Rattle.state_rows.specs.declared.object.ObjectRow.{ObjectRow}
 use Rattle.machine.specs.declared.state.ThreadRow.{ThreadRow}

@@ -6,7 +6,7 @@ use Rattle.sym_base.specs.declared.kind.Kind.{Kind}
 use Rattle.entry_log.specs.declared.effect.Holder.TheVariants.{Temp}
 use Rattle.entry_log.specs.declared.effect.Effect.TheVariants.{Plus, Seek as SeekEffect, Missed}
 use Rattle.entry_log.specs.declared.step.Step.TheVariants.{Of}
-use Rattle.entry_log.specs.declared.step.Word.TheVariants.{Open}
+use Rattle.sym_base.specs.declared.word.Word.TheVariants.{Open}
 use Rattle.entry_log.specs.declared.step.Part.TheVariants.{Do, Seek, Return}
 use Rattle.state_rows.specs.declared.object.ObjectRow.{ObjectRow}
 use Rattle.machine.specs.declared.state.ThreadRow.{ThreadRow}

@@ -4,13 +4,12 @@
 mod context;
 mod declaration;
 mod instruction;
-mod limits;
 mod script;
 mod source_line;
 
 pub use context::Context;
 pub use declaration::{DfcDecl, IdfcDecl, IrqBody, Op, Ops, ProcessDecl, QueueDecl, ThreadDecl};
 pub use instruction::{Args, Instr, Instrs};
-pub use limits::Limits;
 pub use script::{Script, Slot};
 pub use source_line::{LineKind, SourceLine};
+pub use sym_base::Limits;

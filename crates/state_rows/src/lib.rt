@@ -1,6 +1,8 @@
 //! Rows of the kernel's state, which the definitions and the kernel's tables have in common.
 #![tactic(auto)]
 
+mod duty;
 mod object;
 
+pub use duty::{Held, Owed};
 pub use object::{MAX_OBJECTS, ObjectRow, dead_row, has_name, is_dead_row, is_session};

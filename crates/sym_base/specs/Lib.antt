@@ -1,5 +1,7 @@
 pub mod Appends
+pub mod ErrorCode
 pub mod KindNumber
 pub mod NameText
 pub mod Padded
 pub mod Spells
+pub mod WordText

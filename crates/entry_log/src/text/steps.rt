@@ -3,62 +3,10 @@ ghost use Rattle.std.specs.Prelude.{◌≡◌, ◌+◌, ◌≤◌, [], ◌∷◌
 ghost use Rattle.entry_log.specs.Joined.{joined};
 ghost use Rattle.entry_log.specs.PartText.{part_text};
 ghost use Rattle.entry_log.specs.StepText.{step_text};
-ghost use Rattle.entry_log.specs.WordText.{word_text};
 
 use super::line::{Line, put};
-use crate::{Part, Step, Word};
+use crate::{Part, Step};
 use sym_base::Name;
-
-/// An instruction's first word.
-#[tactic(auto, unfolding(crate::specs::WordText::word_text))]
-fn word_bytes(word: Word) -> &'static [u8]
-    ensures text { result.now ≡ word_text word }
-    ensures short { length result.now ≤ 9 }
-{
-    match word {
-        Word::Create => b"create",
-        Word::Open => b"open",
-        Word::Dup => b"dup",
-        Word::Duplocal => b"duplocal",
-        Word::Close => b"close",
-        Word::Lock => b"lock",
-        Word::Unlock => b"unlock",
-        Word::Wait => b"wait",
-        Word::Signal => b"signal",
-        Word::Suspend => b"suspend",
-        Word::Resume => b"resume",
-        Word::Priority => b"priority",
-        Word::Kill => b"kill",
-        Word::Terminate => b"terminate",
-        Word::Panic => b"panic",
-        Word::Exittype => b"exittype",
-        Word::Logon => b"logon",
-        Word::Exit => b"exit",
-        Word::Flock => b"flock",
-        Word::Funlock => b"funlock",
-        Word::Fswait => b"fswait",
-        Word::Fssignal => b"fssignal",
-        Word::Enter => b"enter",
-        Word::Leave => b"leave",
-        Word::Queue => b"queue",
-        Word::Request => b"request",
-        Word::Cancel => b"cancel",
-        Word::Waitany => b"waitany",
-        Word::Waitfor => b"waitfor",
-        Word::Status => b"status",
-        Word::Server => b"server",
-        Word::Connect => b"connect",
-        Word::Send => b"send",
-        Word::Call => b"call",
-        Word::Receive => b"receive",
-        Word::Complete => b"complete",
-        Word::Function => b"function",
-        Word::Read => b"read",
-        Word::Write => b"write",
-        Word::Fill => b"fill",
-        Word::Peek => b"peek",
-    }
-}
 
 /// The word of a part.
 #[tactic(auto, unfolding(crate::specs::PartText::part_text))]
@@ -97,7 +45,7 @@ pub fn put_step(line: &mut Line, step: &Step)
     ensures short { length line.new.items ≤ length line.old.items + 21 }
 {
     match step {
-        Step::Of(word, part) => put_two(line, word_bytes(*word), part_bytes(*part)),
+        Step::Of(word, part) => put_two(line, word.text(), part_bytes(*part)),
         Step::RunOf(name) => put_two(line, name.as_slice(), b"run"),
         Step::MoveOf(name) => put_two(line, name.as_slice(), b"move"),
         Step::Drop => put(line, b"drop"),

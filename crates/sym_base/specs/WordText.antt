@@ -1,6 +1,6 @@
 -- How an instruction's first word is printed.
-use Rattle.entry_log.specs.declared.step.Word.{Word}
-use Rattle.entry_log.specs.declared.step.Word.TheVariants.{Create, Open, Dup, Duplocal, Close, Lock, Unlock, Wait, Signal, Suspend, Resume, Priority, Kill, Terminate, Panic, Exittype, Logon, Exit, Flock, Funlock, Fswait, Fssignal, Enter, Leave, Queue, Request, Cancel, Waitany, Waitfor, Status, Server, Connect, Send, Call, Receive, Complete, Function, Read, Write, Fill, Peek}
+use Rattle.sym_base.specs.declared.word.Word.{Word}
+use Rattle.sym_base.specs.declared.word.Word.TheVariants.{Create, Open, Dup, Duplocal, Close, Lock, Unlock, Wait, Signal, Suspend, Resume, Priority, Kill, Terminate, Panic, Exittype, Logon, Exit, Flock, Funlock, Fswait, Fssignal, Enter, Leave, Queue, Request, Cancel, Waitany, Waitfor, Status, Server, Connect, Send, Call, Receive, Complete, Function, Read, Write, Fill, Peek}
 use Rattle.std.specs.Prelude.{ℕ, List, codes}
 
 -- as it stands in a script

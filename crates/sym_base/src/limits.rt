@@ -1,6 +1,7 @@
-//! The limits of a script and of its run.
+//! The limits of a script, of the kernel that runs it, and of its history.
 
-/// The greatest numbers that a script and its run may have. All are this project's own.
+/// The greatest numbers that a script and its run may have. All are this project's own. Code, specs and
+/// proofs cite them by these names.
 pub struct Limits;
 
 impl Limits {
@@ -34,6 +35,9 @@ impl Limits {
     pub const FAST_MUTEXES: usize = 16;
     /// The devices.
     pub const DEVICES: usize = 16;
+    /// The processes and threads that stand at boot: the declared processes and the kernel's own, and the
+    /// threads.
+    pub const BOOT_OBJECTS: usize = 81;
     /// The objects that a kernel makes.
     pub const OBJECTS: usize = 4_096;
     /// The handles of a table.
