@@ -1,6 +1,0 @@
-use Rattle.std.proofs.Common.{◌≡◌, ◌+◌, drop}
-use Rattle.machine.specs.References.{total, owed_names}
-use Rattle.machine.proofs.count.owed_total.Given as goal
-
-abbrev pub invariant-loop-duties : goal.invariant-loop-duties
-invariant-loop-duties l = l.count + total (total (owed_names l.object)) (drop l.duties-index l.owed) ≡ total (total (owed_names l.object)) l.owed
