@@ -26,9 +26,9 @@ answer t step moves code = record { step = step; moves = moves ++ Advance t ∷ 
 abbrev pub refuse : ObjNo → Step → Error → Decision
 refuse t step error = answer t step [] (error_code error)
 
--- after this move the instruction goes on to another step
+-- the instruction goes on to another step, with this move
 abbrev pub go_on : ObjNo → Step → Move → Part → Decision
-go_on t step move part = record { step = step; moves = move ∷ GoOn t part ∷ []; answer = None }
+go_on t step move part = record { step = step; moves = GoOn t part ∷ move ∷ []; answer = None }
 
 -- the instruction is over: after this move a new handle's number goes to a register and is answered
 abbrev pub answer_handle : ObjNo → Step → Move → ℕ → ℕ → Decision

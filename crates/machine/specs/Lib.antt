@@ -8,6 +8,7 @@ pub mod Decide
 pub mod Dup
 pub mod FinalRows
 pub mod Find
+pub mod Fits
 pub mod Greatest
 pub mod Handles
 pub mod HeldIn

@@ -4,7 +4,10 @@ use Rattle.std.specs.List.{slice_index_or}
 use Rattle.sym_base.specs.declared.limits.TheConstants.Limits.{OBJECTS, BOOT_OBJECTS, HANDLES}
 use Rattle.sym_base.specs.declared.number.ObjNo.{ObjNo}
 use Rattle.script_types.specs.declared.script.Script.{Script}
-use Rattle.entry_log.specs.declared.effect.Holder.TheVariants.{Link}
+use Rattle.entry_log.specs.declared.effect.Holder.{Holder}
+use Rattle.entry_log.specs.declared.effect.Holder.TheVariants.{Temp, Link}
+use Rattle.entry_log.specs.declared.step.Part.{Part}
+use Rattle.entry_log.specs.declared.step.Part.TheVariants as part
 use Rattle.state_rows.specs.declared.duty.Owed.{Owed}
 use Rattle.state_rows.specs.declared.duty.Owed.TheVariants.{Close, Sweep}
 use Rattle.state_rows.specs.declared.object.ObjectRow.{ObjectRow}
@@ -14,7 +17,7 @@ use Rattle.machine.specs.declared.state.State.{State}
 use Rattle.machine.specs.Rows.{object_of}
 use Rattle.machine.specs.Handles.{slot_at}
 use Rattle.machine.specs.References.{total, same, count_of}
-use Rattle.machine.specs.Task.{instructions_of, is_ready}
+use Rattle.machine.specs.Task.{instructions_of, is_ready, is_returning}
 use Rattle.machine.specs.Arrivals.{is_listed}
 
 -- processes and threads have the least numbers, and a handle table and a list of duties each
@@ -33,14 +36,26 @@ pub record IsTable (table : List HandleSlot) : Type 0 where
 abbrev pub AreTables : List (List HandleSlot) → Type 0
 AreTables tables = (k : ℕ) → k < length tables → IsTable (slice_index_or tables k [])
 
--- a thread's row: its process is one of so many, and its next instruction is in its list or at the list's end
+-- whether a step is one before the thread uses anything: its first, or the return
+abbrev pub is_before_use : Option Part → Bool
+is_before_use None = true
+is_before_use (Some part.Return) = true
+is_before_use _ = false
+
+-- A thread's row: its process is one of so many, and is what it is linked to; its next instruction is in its list or
+-- at the list's end; and it uses nothing before its look or its return.
 pub record IsThread (script : Script) (count : ℕ) (row : ThreadRow) : Type 0 where
   pub process : row.process.0 < count
+  pub link : (p : ObjNo) → row.link ≡ Some p → p.0 ≡ row.process.0
+  pub priority : row.priority ≤ 63
   pub next_instruction : row.next_instruction ≤ length (instructions_of script row.role)
+  pub unused : is_before_use row.part ≡ true → row.uses ≡ None
   pub registers : length row.registers ≡ 8
 
-abbrev pub AreThreads : Script → List (Option ThreadRow) → Type 0
-AreThreads script threads = (k : ℕ) (row : ThreadRow) → slice_index_or threads k None ≡ Some row → IsThread script (length threads) row
+-- each thread's row is one, and no process is a thread
+pub record AreThreads (script : Script) (threads : List (Option ThreadRow)) : Type 0 where
+  pub rows : (k : ℕ) (row : ThreadRow) → slice_index_or threads k None ≡ Some row → IsThread script (length threads) row
+  pub processes : (k : ℕ) (row : ThreadRow) → slice_index_or threads k None ≡ Some row → slice_index_or threads row.process.0 None ≡ None
 
 -- what a duty weighs: each duty done leaves less, since a close may owe the close of a link and a sweep, and the
 -- close of a link a sweep
@@ -49,9 +64,27 @@ weight (Close (Link x) o) = 2
 weight (Close _ o) = 4
 weight (Sweep o) = 1
 
--- what a thread owes weighs no more than eight moves can add
-abbrev pub AreDuties : List (List Owed) → Type 0
-AreDuties owed = (k : ℕ) → total weight (slice_index_or owed k []) ≤ 32
+-- the next step of a thread, None also where there is no thread
+abbrev pub part_of : Option ThreadRow → Option Part
+part_of None = None
+part_of (Some row) = row.part
+
+-- whose closes a thread may owe: its own temporary reference's, unless it is between a find and its return; and the
+-- link's of an object that is gone, to what has no link itself
+abbrev pub MayOwe : List (Option ThreadRow) → ℕ → Holder → ObjNo → Type 0
+MayOwe threads k (Temp u) o = (u.0 ≡ k) × (is_returning (part_of (slice_index_or threads k None)) ≡ false)
+MayOwe threads k (Link x) o = slice_index_or threads o.0 None ≡ None
+MayOwe threads k _ o = ⊥
+
+abbrev pub EachMayOwe : List (Option ThreadRow) → ℕ → List Owed → Type 0
+EachMayOwe threads k [] = Unit {0}
+EachMayOwe threads k (Close h o ∷ rest) = MayOwe threads k h o × EachMayOwe threads k rest
+EachMayOwe threads k (Sweep o ∷ rest) = EachMayOwe threads k rest
+
+-- what each thread owes is its own, and weighs no more than eight moves can add
+pub record AreDuties (threads : List (Option ThreadRow)) (owed : List (List Owed)) : Type 0 where
+  pub own : (k : ℕ) → EachMayOwe threads k (slice_index_or owed k [])
+  pub few : (k : ℕ) → total weight (slice_index_or owed k []) ≤ 32
 
 -- an object that is there and has a reference left
 abbrev pub IsAlive : Option ObjectRow → Type 0
@@ -92,10 +125,14 @@ pub record IsReadyList (script : Script) (S : State) (qs : List ObjNo) : Type 0 
   pub exact : (t : ObjNo) → is_listed qs t ≡ is_ready script S t
   pub once : AreApart qs
 
-pub record IsWellFormed (script : Script) (S : State) : Type 0 where
+-- the rows of every state, also of one in the middle of an action
+pub record AreRows (script : Script) (S : State) : Type 0 where
   pub sized : AreSized S
   pub tables : AreTables S.handles
   pub threads : AreThreads script S.threads
-  pub duties : AreDuties S.owed
+  pub duties : AreDuties S.threads S.owed
   pub lives : AreLives S
+
+pub record IsWellFormed (script : Script) (S : State) : Type 0 where
+  pub rows : AreRows script S
   pub ready : IsReadyList script S S.ready
