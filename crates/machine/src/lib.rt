@@ -3,16 +3,32 @@
 #![tactic(auto)]
 
 mod boot;
+mod close;
+mod create;
+mod decide;
 mod decision;
+mod dup;
+mod find;
 mod handles;
+mod look;
 mod moves;
+mod open;
+mod reads;
 mod state;
+mod steps;
 mod task;
 
 pub use boot::Born;
 pub use decision::{Decision, Outcome};
-pub use handles::NewHandle;
+pub use find::is_open;
+pub use handles::{
+    FRESH_SLOT, NewHandle, free_index, holder_of, index_of, instance_of, next_handle,
+    next_instance, object_in, owner_of, slot_at,
+};
+pub use look::object_at;
 pub use moves::{MAX_MOVES, Move, Moves};
+pub use reads::Reads;
 pub use state::{Found, HandleSlot, Role, State, ThreadRow};
 pub use state_rows::Owed;
-pub use task::Task;
+pub use steps::decision_of;
+pub use task::{Task, instruction, is_ready, task_of};
