@@ -14,8 +14,8 @@ use Rattle.state_rows.specs.declared.object.ObjectRow.{ObjectRow}
 use Rattle.objects.specs.declared.objects.Made.TheVariants.{Made as MadeObject}
 use Rattle.objects.specs.Rows.{row_at, is_there, is_alive, kept_name}
 use Rattle.state_rows.specs.ObjectRows.{is_session}
-use Rattle.state_rows.specs.ObjectRows.{is_dead_row, has_name}
-use Rattle.objects.specs.Calls.{is_taken, made_answer, rows_closed, rows_swept}
+use Rattle.state_rows.specs.ObjectRows.{is_dead_row, is_taken, has_name}
+use Rattle.objects.specs.Calls.{made_answer, rows_closed, rows_swept}
 use Rattle.state_rows.specs.ObjectRows.{dead_row}
 use Rattle.objects.specs.Kept.{AreKept}
 use Rattle.objects.proofs.SameKind.{has_name-kind, has_name-name}

@@ -3,8 +3,8 @@ ghost use Rattle.std.specs.Prelude.{◌≡◌, ℕ, false, ◌+◌, ◌^◌, ◌
 ghost use Rattle.ref_words.specs.Words.{own_at, IsGone, IsOut, HasNoteOut, NoneCreated, opened, sent_out, taken_back, closed};
 ghost use Rattle.sym_base.specs.declared.number.ObjNo.{ObjNo};
 ghost use Rattle.objects.specs.Rows.{row_at, is_there, is_alive};
-ghost use Rattle.state_rows.specs.ObjectRows.{is_session, has_name, is_dead_row};
-ghost use Rattle.objects.specs.Calls.{is_taken, is_findable, made_answer, rows_made, words_made, found, told, row_told, rows_closed, rows_swept};
+ghost use Rattle.state_rows.specs.ObjectRows.{is_session, has_name, is_taken, is_dead_row};
+ghost use Rattle.objects.specs.Calls.{is_findable, made_answer, rows_made, words_made, found, told, row_told, rows_closed, rows_swept};
 
 use crate::row::{ObjRow, kept_name};
 use ref_words::{Closed, Found, RefWords};

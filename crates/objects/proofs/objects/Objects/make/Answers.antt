@@ -1,5 +1,4 @@
 use Rattle.std.proofs.Common.{◌≡◌, ◌<◌, ◌≤◌, length, false, sym, ◌∙◌, arith, length-set}
-use Rattle.objects.specs.Calls.{is_taken}
 use Rattle.objects.proofs.Keeping.{kept_made, answer_is}
 use Rattle.objects.proofs.objects.Objects.make.Goals as goal
 
