@@ -4,6 +4,7 @@
 
 mod boot;
 mod close;
+mod count;
 mod create;
 mod decide;
 mod decision;
@@ -14,11 +15,13 @@ mod look;
 mod moves;
 mod open;
 mod reads;
+mod rows;
 mod state;
 mod steps;
 mod task;
 
 pub use boot::Born;
+pub use count::{count_of, is_last};
 pub use decision::{Decision, Outcome};
 pub use find::is_open;
 pub use handles::{
