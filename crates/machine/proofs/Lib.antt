@@ -1,1 +1,5 @@
+pub mod Lists
+pub mod References
+pub mod Lives
+pub mod Holders
 pub mod WorkedExample
