@@ -2,4 +2,5 @@ pub mod Lists
 pub mod References
 pub mod Lives
 pub mod Holders
+pub mod RowLaws
 pub mod WorkedExample
