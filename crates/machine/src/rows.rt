@@ -1,15 +1,15 @@
 //! Reading and changing lists of rows by number. A number without a row reads as none, and changing it
 //! changes nothing.
-ghost use Rattle.std.specs.Prelude.{◌≡◌, [], ◌∷◌, None, drop, slice_set};
+ghost use Rattle.std.specs.Prelude.{◌≡◌, [], None, slice_set};
 ghost use Rattle.std.specs.List.{slice_index_or};
-ghost use Rattle.machine.specs.Rows.{object_of, thread_of, table_of, owed_of, first_owed, without_first};
+ghost use Rattle.machine.specs.Rows.{object_of, thread_of, table_of, owed_of, first_owed};
 
 use crate::{HandleSlot, Owed, State, ThreadRow};
 use state_rows::ObjectRow;
 use sym_base::{Items, ObjNo, ThreadNo};
 
 /// The row of a number, None past the list's end.
-fn row_of<T: Copy>(rows: &Items<Option<T>>, number: ObjNo) -> Option<T>
+pub fn row_of<T: Copy>(rows: &Items<Option<T>>, number: ObjNo) -> Option<T>
     ensures { result ≡ slice_index_or rows.now number.0 None }
 {
     let at = number.0 as usize;
@@ -87,16 +87,5 @@ pub fn set_slot(tables: &mut Items<Items<HandleSlot>>, owner: ObjNo, index: usiz
     let at = owner.0 as usize;
     if at < tables.len() {
         set_in_table(tables.get_mut(at), index, slot);
-    }
-}
-
-/// Takes the oldest item that a thread owes away.
-pub fn drop_first_owed(owed: &mut Items<Items<Owed>>, thread: ThreadNo)
-    ensures { owed.new ≡ without_first owed.old thread }
-{
-    let at = thread.0 as usize;
-    if at < owed.len() {
-        let duties = owed.get_mut(at);
-        let _ = duties.take_first();
     }
 }
