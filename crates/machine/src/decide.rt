@@ -47,12 +47,12 @@ pub fn refuse(thread: ThreadNo, step: Step, error: Error) -> Decision
     answer(thread, step, Moves::new(), error.code())
 }
 
-/// After this move the instruction goes on to another step.
+/// The instruction goes on to another step, with this move.
 pub fn go_on(thread: ThreadNo, step: Step, change: Move, part: Part) -> Decision
     ensures { result ≡ go_on thread step change part }
 {
-    let mut moves = one_move(change);
-    moves.push(Move::GoOn(thread, part));
+    let mut moves = one_move(Move::GoOn(thread, part));
+    moves.push(change);
     Decision {
         step,
         moves,

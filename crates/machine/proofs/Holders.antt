@@ -1,0 +1,4 @@
+-- Who holds what, and what changes of rows do to it.
+pub mod HoldersMove
+pub mod SlotRows
+pub mod ThreadRows

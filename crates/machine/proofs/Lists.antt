@@ -1,0 +1,4 @@
+-- Facts about lists of any items.
+pub mod Cases
+pub mod Sets
+pub mod Totals

@@ -1,0 +1,5 @@
+-- The lives of objects: made, dead with the last reference, and swept.
+pub mod Bits
+pub mod LivesMove
+pub mod Kinds
+pub mod Closes
