@@ -1,1 +1,3 @@
+mod Finds
 mod FreshTable
+mod Sets

@@ -2,6 +2,7 @@
 #![tactic(auto)]
 
 mod handles;
+mod moves;
 mod object_table;
 mod reading;
 mod rows;

@@ -53,6 +53,7 @@ impl<W: RefWords + Drop> Objects<W> {
         requires { NoneCreated (W.meaning words) }
         ensures table { IfOk result (λ objects. objects ≡ record { rows = []; words = words }) }
         ensures none_out { IfOk result (λ objects. (W.meaning objects.words).out ≡ []) }
+        ensures uncounted { IfOk result (λ objects. (p : ℕ) → own_at (W.meaning objects.words) p ≡ 0) }
     {
         let places = words.places().min(Limits::OBJECTS);
         let counts = vec![in alloc; 0u32; places]?;
