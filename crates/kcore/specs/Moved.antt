@@ -1,18 +1,17 @@
 -- Moves in the kernel's tables: when one can be made, and what it leaves.
-use Rattle.std.specs.Prelude.{◌≡◌, ℕ, ◌-◌, ◌<◌, ◌==◌, Bool, false, List, ◌++◌, length, IsTrue, Option, Some, slice_index, slice_set}
+use Rattle.std.specs.Prelude.{◌≡◌, ◌-◌, ◌<◌, ◌==◌, Bool, false, length, IsTrue, Option, slice_index, slice_set}
 use Rattle.std.specs.List.{slice_index_or}
 use Rattle.sym_base.specs.declared.limits.TheConstants.Limits.{OBJECTS}
 use Rattle.sym_base.specs.declared.number.ObjNo.{ObjNo}
-use Rattle.entry_log.specs.declared.effect.Effect.{Effect}
 use Rattle.state_rows.specs.declared.duty.Owed.TheVariants.{Close, Sweep}
 use Rattle.state_rows.specs.ObjectRows.{is_session, is_taken, is_dead_row}
 use Rattle.machine.specs.declared.moves.Move.{Move}
 use Rattle.machine.specs.declared.moves.Move.TheVariants.{Make, Gain, Lose, Find, Miss, GoOn, Write, Advance, Pay}
-use Rattle.machine.specs.declared.state.ThreadRow.{ThreadRow}
 use Rattle.machine.specs.declared.state.State.{State}
 use Rattle.machine.specs.Moves.{moved, told, objects_closed, threads_closed, owed_by_close}
 use Rattle.machine.specs.References.{count_of}
-use Rattle.machine.specs.Rows.{object_of, thread_of, owing}
+use Rattle.machine.specs.Room.{MayAdvance}
+use Rattle.machine.specs.Rows.{object_of, owing}
 use Rattle.kcore.specs.declared.tables.Tables.{Tables}
 use Rattle.kcore.specs.Counts.{CountsMove}
 use Rattle.kcore.specs.ObjectsView.{IsThere}
@@ -38,17 +37,16 @@ CanMove (Lose h o) S = IsReferred S o
 CanMove (Find u o) S = Unit {0}
 CanMove (Miss o) S = Unit {0}
 CanMove (GoOn u part) S = Unit {0}
-CanMove (Write u x value) S = x < 8
-CanMove (Advance u) S = (row : ThreadRow) → thread_of S u ≡ Some row → row.next_instruction < 4294967295
+CanMove (Write u x value) S = Unit {0}
+CanMove (Advance u) S = MayAdvance 1 S.threads
 CanMove (Pay (Close h o)) S = IsReferred S o
 CanMove (Pay (Sweep o)) S = IsTrue (is_dead_row (object_of S o))
 
--- A move of an action of thread t was made: the tables stand for the state that it leaves, the counts moved with what
--- it tells, and that stands behind the effects before it.
-pub record IsMoved {W N : Type 0} (t : ObjNo) (m : Move) (old new : Tables W N) (before after : List Effect) : Type 0 where
+-- A move of an action of thread t was made: the tables stand for the state that it leaves, and the counts moved with
+-- what it tells.
+pub record IsMoved {W N : Type 0} (t : ObjNo) (m : Move) (old new : Tables W N) : Type 0 where
   pub state : state_of new ≡ moved t m (state_of old)
   pub counts : CountsMove old.objects.counts new.objects.counts (told m (state_of old))
-  pub told : after ≡ before ++ told m (state_of old)
 
 -- what tables stand for once a reference of an object with this link went, the last or not: the object is dead then,
 -- its link is off its row, and thread t owes the close of the link, and then the sweep
@@ -59,8 +57,7 @@ closed last t o link S = record S {
   owed = owing S.owed t (owed_by_close last o link);
 }
 
--- and it was the last where it was the only one
-pub record IsClosed {W N : Type 0} (t o : ObjNo) (link : Option ObjNo) (old new : Tables W N) (last : Bool) : Type 0 where
-  pub only : last ≡ (slice_index old.objects.counts o.0 == 1)
-  pub state : state_of new ≡ closed last t o link (state_of old)
+-- it was the last where it was the only one
+pub record IsClosed {W N : Type 0} (t o : ObjNo) (link : Option ObjNo) (old new : Tables W N) : Type 0 where
+  pub state : state_of new ≡ closed (slice_index old.objects.counts o.0 == 1) t o link (state_of old)
   pub counts : new.objects.counts ≡ slice_set old.objects.counts o.0 (slice_index old.objects.counts o.0 - 1)

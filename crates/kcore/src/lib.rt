@@ -5,5 +5,4 @@ mod handles;
 mod moves;
 mod object_table;
 mod reading;
-mod rows;
 mod tables;
