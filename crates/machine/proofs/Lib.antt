@@ -3,4 +3,5 @@ pub mod References
 pub mod Lives
 pub mod Holders
 pub mod RowLaws
+pub mod MoveLaws
 pub mod WorkedExample

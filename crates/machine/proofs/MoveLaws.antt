@@ -1,0 +1,3 @@
+-- What each kind of move does, and several in a row.
+pub mod Sound
+pub mod RowMoves
