@@ -1,3 +1,5 @@
 -- What each kind of move does, and several in a row.
 pub mod Sound
 pub mod RowMoves
+pub mod Advance
+pub mod Gains
