@@ -1,7 +1,9 @@
-pub mod Lists
-pub mod References
-pub mod Lives
+pub mod Capped
 pub mod Holders
+pub mod Lists
+pub mod Lives
+pub mod References
+pub mod Registers
 pub mod RowLaws
 pub mod MoveLaws
 pub mod WorkedExample

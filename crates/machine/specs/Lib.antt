@@ -19,6 +19,7 @@ pub mod Moves
 pub mod Open
 pub mod PlainView
 pub mod References
+pub mod Room
 pub mod Rows
 pub mod Run
 pub mod SafeReferences

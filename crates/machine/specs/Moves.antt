@@ -8,6 +8,7 @@ use Rattle.entry_log.specs.declared.effect.Holder.{Holder}
 use Rattle.entry_log.specs.declared.effect.Holder.TheVariants.{InProcess, InThread, Temp, Link}
 use Rattle.entry_log.specs.declared.effect.Effect.{Effect}
 use Rattle.entry_log.specs.declared.effect.Effect.TheVariants.{Plus, Minus, Dead, Swept, Seek, Missed}
+use Rattle.entry_log.specs.declared.step.Part.{Part}
 use Rattle.state_rows.specs.declared.duty.Owed.{Owed}
 use Rattle.state_rows.specs.declared.duty.Owed.TheVariants.{Close, Sweep}
 use Rattle.state_rows.specs.declared.object.ObjectRow.{ObjectRow}
@@ -30,6 +31,26 @@ next_object S = record { 0 = length S.objects }
 abbrev pub new_object : Kind → List ℕ → ObjectRow
 new_object kind name = record { kind = kind; name = name; dead = false }
 
+-- a thread's row with another use, without its link, with what it found, with another next step, with a value in a
+-- register, and at its next instruction
+abbrev pub with_use : Option ObjNo → ThreadRow → ThreadRow
+with_use uses row = record row { uses = uses }
+
+abbrev pub unlinked : ThreadRow → ThreadRow
+unlinked row = record row { link = None }
+
+abbrev pub with_found : ObjNo → ThreadRow → ThreadRow
+with_found o row = record row { found = Object o }
+
+abbrev pub with_part : Part → ThreadRow → ThreadRow
+with_part part row = record row { part = Some part }
+
+abbrev pub with_register : ℕ → ℕ → ThreadRow → ThreadRow
+with_register x value row = record row { registers = slice_set row.registers x value }
+
+abbrev pub advanced : ThreadRow → ThreadRow
+advanced row = record row { next_instruction = row.next_instruction + 1; part = None; found = Nothing; uses = None }
+
 -- the handle tables and the threads' rows, where a holder gets a reference
 abbrev pub tables_gain : Holder → ObjNo → List (List HandleSlot) → List (List HandleSlot)
 tables_gain (InProcess p i) o tables = with_slot tables p i (taken_slot o)
@@ -37,7 +58,7 @@ tables_gain (InThread t i) o tables = with_slot tables t i (taken_slot o)
 tables_gain _ o tables = tables
 
 abbrev pub threads_gain : Holder → ObjNo → List (Option ThreadRow) → List (Option ThreadRow)
-threads_gain (Temp t) o threads = with_row threads t (λ row. record row { uses = Some o })
+threads_gain (Temp t) o threads = with_row threads t (with_use (Some o))
 threads_gain _ o threads = threads
 
 -- the same where a holder gives its reference up
@@ -47,7 +68,7 @@ tables_lose (InThread t i) tables = with_slot tables t i freed_slot
 tables_lose _ tables = tables
 
 abbrev pub threads_lose : Holder → List (Option ThreadRow) → List (Option ThreadRow)
-threads_lose (Temp t) threads = with_row threads t (λ row. record row { uses = None })
+threads_lose (Temp t) threads = with_row threads t (with_use None)
 threads_lose _ threads = threads
 
 -- an object's own reference: a thread's link to its process
@@ -63,7 +84,7 @@ abbrev pub objects_closed : Bool → ObjNo → List (Option ObjectRow) → List 
 objects_closed last o objects = if last then slice_set objects o.0 (dead_row (slice_index_or objects o.0 None)) else objects
 
 abbrev pub threads_closed : Bool → ObjNo → List (Option ThreadRow) → List (Option ThreadRow)
-threads_closed last o threads = if last then with_row threads o (λ row. record row { link = None }) else threads
+threads_closed last o threads = if last then with_row threads o unlinked else threads
 
 -- whoever closes it owes the close of that link, and then the sweep
 abbrev pub owed_link : ObjNo → Option ObjNo → List Owed
@@ -90,10 +111,6 @@ use_of_row (Some row) = row.uses
 abbrev pub use_of : State → ObjNo → Option ObjNo
 use_of S t = use_of_row (thread_of S t)
 
--- a thread's row at its next instruction
-abbrev pub advanced : ThreadRow → ThreadRow
-advanced row = record row { next_instruction = row.next_instruction + 1; part = None; found = Nothing; uses = None }
-
 -- the state after one move in an action of thread t
 abbrev pub moved : ObjNo → Move → State → State
 moved t (Make kind name h) S = record S {
@@ -111,10 +128,10 @@ moved t (Lose h o) S = record S {
   threads = threads_closed (is_last S o) o (threads_lose h S.threads);
   owed = owing S.owed t (owed_by_close (is_last S o) o (link_of S o));
 }
-moved t (Find u o) S = record S { threads = with_row S.threads u (λ row. record row { found = Object o }) }
+moved t (Find u o) S = record S { threads = with_row S.threads u (with_found o) }
 moved t (Miss o) S = S
-moved t (GoOn u part) S = record S { threads = with_row S.threads u (λ row. record row { part = Some part }) }
-moved t (Write u x value) S = record S { threads = with_row S.threads u (λ row. record row { registers = slice_set row.registers x value }) }
+moved t (GoOn u part) S = record S { threads = with_row S.threads u (with_part part) }
+moved t (Write u x value) S = record S { threads = with_row S.threads u (with_register x value) }
 moved t (Advance u) S = record S {
   threads = with_row S.threads u advanced;
   owed = owing S.owed u (owed_use u (use_of S u));

@@ -1,6 +1,6 @@
 -- Reading and changing lists of rows by number. A number without a row reads as none, and changing it changes
 -- nothing.
-use Rattle.std.specs.Prelude.{ℕ, List, [], ◌++◌, Option, Some, None, slice_set, option_map, drop}
+use Rattle.std.specs.Prelude.{ℕ, List, [], ◌∷◌, ◌++◌, Option, Some, None, slice_set, option_map, drop}
 use Rattle.std.specs.List.{slice_index_or}
 use Rattle.sym_base.specs.declared.number.ObjNo.{ObjNo}
 use Rattle.state_rows.specs.declared.duty.Owed.{Owed}
@@ -24,6 +24,14 @@ thread_of S t = slice_index_or S.threads t.0 None
 -- what a thread owes, the oldest first
 abbrev pub owed_of : State → ObjNo → List Owed
 owed_of S t = slice_index_or S.owed t.0 []
+
+-- the oldest of what it owes
+abbrev pub first_of : List Owed → Option Owed
+first_of [] = None
+first_of (what ∷ rest) = Some what
+
+abbrev pub first_owed : State → ObjNo → Option Owed
+first_owed S t = first_of (owed_of S t)
 
 -- the rows of threads, with a change of one
 abbrev pub with_row : List (Option ThreadRow) → ObjNo → (ThreadRow → ThreadRow) → List (Option ThreadRow)

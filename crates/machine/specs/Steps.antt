@@ -2,12 +2,10 @@
 use Rattle.std.specs.Prelude.{ℕ, [], ◌∷◌, Option, Some, None}
 use Rattle.sym_base.specs.declared.kind.Kind.TheVariants.{Mutex}
 use Rattle.sym_base.specs.declared.number.ObjNo.{ObjNo}
-use Rattle.sym_base.specs.declared.word.Word.TheVariants as word
 use Rattle.script_types.specs.declared.script.Script.{Script}
 use Rattle.script_types.specs.declared.instruction.Instr.{Instr}
 use Rattle.script_types.specs.declared.instruction.Instr.TheVariants as instr
 use Rattle.entry_log.specs.declared.step.Part.{Part}
-use Rattle.entry_log.specs.declared.step.Part.TheVariants as part
 use Rattle.entry_log.specs.declared.step.Step.{Step}
 use Rattle.entry_log.specs.declared.step.Step.TheVariants as step
 use Rattle.state_rows.specs.declared.duty.Owed.{Owed}
@@ -21,26 +19,22 @@ use Rattle.machine.specs.declared.state.State.{State}
 use Rattle.machine.specs.Rows.{thread_of}
 use Rattle.machine.specs.Decide.{nothing}
 use Rattle.machine.specs.Create.{create_do}
-use Rattle.machine.specs.Look.{look}
-use Rattle.machine.specs.Find.{seek, return_to}
-use Rattle.machine.specs.Dup.{dup_do}
-use Rattle.machine.specs.Open.{open_do}
+use Rattle.machine.specs.Dup.{dup_step}
+use Rattle.machine.specs.Open.{open_step, open_return}
 use Rattle.machine.specs.Close.{close_do}
 use Rattle.machine.specs.Task.{task_of}
 
 -- an instruction's step, by the part that is next, None being its first. What isn't built yet does nothing
 abbrev pub step_of : State → ObjNo → ThreadRow → Instr → Option Part → Decision
 step_of S t row (instr.CreateMutex name x) p = create_do S t row Mutex name x
-step_of S t row (instr.Open kind name x) None = seek S t word.Open kind name
-step_of S t row (instr.Open kind name x) (Some p) = open_do S t row x row.uses
-step_of S t row (instr.Dup x y) None = look S t row word.Dup x
-step_of S t row (instr.Dup x y) (Some p) = dup_do S t row y row.uses
+step_of S t row (instr.Open kind name x) p = open_step S t row kind name x p
+step_of S t row (instr.Dup x y) p = dup_step S t row x y p
 step_of S t row (instr.Close x) p = close_do S t row x
 step_of S t row _ p = nothing
 
 -- the return of an instruction that found an object
 abbrev pub return_of : State → ObjNo → ThreadRow → Instr → Decision
-return_of S t row (instr.Open kind name x) = return_to S t word.Open part.Do row.found
+return_of S t row (instr.Open kind name x) = open_return S t row
 return_of S t row _ = nothing
 
 -- what is owed is paid by one action each

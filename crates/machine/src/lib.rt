@@ -3,16 +3,44 @@
 #![tactic(auto)]
 
 mod boot;
+mod close;
+mod count;
+mod create;
+mod decide;
 mod decision;
+mod dup;
+mod duties;
+mod find;
 mod handles;
+mod look;
 mod moves;
+mod open;
+mod perform;
+mod reads;
+mod rows;
 mod state;
+mod steps;
 mod task;
+mod thread_rows;
 
 pub use boot::Born;
+pub use count::{count_of, is_last};
 pub use decision::{Decision, Outcome};
-pub use handles::NewHandle;
+pub use duties::{drop_first_owed, owe_close, owe_use};
+pub use find::is_open;
+pub use handles::{
+    FRESH_SLOT, NewHandle, free_index, holder_of, index_of, instance_of, next_handle,
+    next_instance, object_in, owner_of, slot_at,
+};
+pub use look::object_at;
 pub use moves::{MAX_MOVES, Move, Moves};
+pub use reads::Reads;
+pub use rows::{row_of, set_row};
 pub use state::{Found, HandleSlot, Role, State, ThreadRow};
 pub use state_rows::Owed;
-pub use task::Task;
+pub use steps::decision_of;
+pub use task::{Task, instruction, is_ready, task_of};
+pub use thread_rows::{
+    threads_advance, threads_closed, threads_find, threads_gain, threads_go_on, threads_lose,
+    threads_write,
+};

@@ -1,0 +1,134 @@
+//! Counting references by going over all the rows that hold one. Counts stand still at the end of their
+//! type, which no state that a history leaves comes near.
+ghost use Rattle.std.specs.Prelude.{◌≡◌, ◌-◌, ◌^◌, ◌≤◌, min};
+ghost use Rattle.machine.specs.References.{total, same, option_names, slot_names, thread_names, owed_names, kernel_names, count_of, is_last};
+
+use crate::rows::thread_of;
+use crate::{HandleSlot, Owed, State, ThreadRow};
+use sym_base::{Items, ObjNo};
+
+/// 1 where the two are one object, else 0.
+fn same(one: ObjNo, object: ObjNo) -> u32
+    ensures number { result ≡ same one object }
+    ensures bit { result ≤ 1 }
+{
+    if one.0 == object.0 { 1 } else { 0 }
+}
+
+/// 1 where there is an object and it is this one.
+fn option_names(object: ObjNo, one: Option<ObjNo>) -> u32
+    ensures number { result ≡ option_names object one }
+    ensures bit { result ≤ 1 }
+{
+    match one {
+        Some(one) => same(one, object),
+        None => 0,
+    }
+}
+
+/// How often a thread refers to an object.
+fn thread_names(object: ObjNo, row: &Option<ThreadRow>) -> u32
+    ensures { result ≡ thread_names object row.now }
+{
+    match row {
+        Some(row) => option_names(object, row.link) + option_names(object, row.uses),
+        None => 0,
+    }
+}
+
+/// How often an item that is owed stands for a reference to an object.
+fn owed_names(object: ObjNo, owed: &Owed) -> u32
+    ensures { result ≡ owed_names object owed.now }
+{
+    match owed {
+        Owed::Close(_, one) => same(*one, object),
+        Owed::Sweep(_) => 0,
+    }
+}
+
+/// How often a handle table refers to an object.
+fn table_total(object: ObjNo, table: &[HandleSlot]) -> u32
+    ensures { result ≡ min (total (slot_names object) table.now) (2 ^ 32 - 1) }
+{
+    let mut count: u32 = 0;
+    for slot in table {
+        count = count.saturating_add(option_names(object, slot.object));
+    }
+    count
+}
+
+/// How often the handle tables refer to an object.
+fn tables_total(object: ObjNo, tables: &[Items<HandleSlot>]) -> u32
+    ensures { result ≡ min (total (total (slot_names object)) tables.now) (2 ^ 32 - 1) }
+{
+    let mut count: u32 = 0;
+    for table in tables {
+        count = count.saturating_add(table_total(object, table.as_slice()));
+    }
+    count
+}
+
+/// How often the threads refer to an object.
+fn threads_total(object: ObjNo, threads: &[Option<ThreadRow>]) -> u32
+    ensures { result ≡ min (total (thread_names object) threads.now) (2 ^ 32 - 1) }
+{
+    let mut count: u32 = 0;
+    for row in threads {
+        count = count.saturating_add(thread_names(object, row));
+    }
+    count
+}
+
+/// How often what a thread owes stands for a reference to an object.
+fn duties_total(object: ObjNo, duties: &[Owed]) -> u32
+    ensures { result ≡ min (total (owed_names object) duties.now) (2 ^ 32 - 1) }
+{
+    let mut count: u32 = 0;
+    for owed in duties {
+        count = count.saturating_add(owed_names(object, owed));
+    }
+    count
+}
+
+/// How often what the threads owe stands for a reference to an object.
+fn owed_total(object: ObjNo, owed: &[Items<Owed>]) -> u32
+    ensures { result ≡ min (total (total (owed_names object)) owed.now) (2 ^ 32 - 1) }
+{
+    let mut count: u32 = 0;
+    for duties in owed {
+        count = count.saturating_add(duties_total(object, duties.as_slice()));
+    }
+    count
+}
+
+/// How often the kernel itself refers to an object: it holds each thread.
+fn kernel_names(state: &State, object: ObjNo) -> u32
+    ensures { result ≡ kernel_names state.now object }
+{
+    if thread_of(state, object).is_some() {
+        1
+    } else {
+        0
+    }
+}
+
+/// The count of an object: the number of references to it.
+pub fn count_of(state: &State, object: ObjNo) -> u32
+    ensures { result ≡ min (count_of state.now object) (2 ^ 32 - 1) }
+{
+    let handles = tables_total(object, state.handles.as_slice());
+    let threads = threads_total(object, state.threads.as_slice());
+    let owed = owed_total(object, state.owed.as_slice());
+    handles
+        .saturating_add(threads)
+        .saturating_add(kernel_names(state, object))
+        .saturating_add(owed)
+}
+
+/// Whether an object has one reference.
+#[tactic(auto, using(crate::proofs::Capped::capped_is_one))]
+pub fn is_last(state: &State, object: ObjNo) -> bool
+    ensures { result ≡ is_last state.now object }
+{
+    count_of(state, object) == 1
+}
