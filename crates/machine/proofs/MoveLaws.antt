@@ -3,3 +3,6 @@ pub mod Sound
 pub mod RowMoves
 pub mod Advance
 pub mod Gains
+pub mod Closes
+pub mod Loses
+pub mod Pays
