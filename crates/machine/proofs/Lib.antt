@@ -6,4 +6,5 @@ pub mod Lives
 pub mod References
 pub mod Registers
 pub mod RowLaws
+pub mod MoveLaws
 pub mod WorkedExample

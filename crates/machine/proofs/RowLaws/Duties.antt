@@ -1,6 +1,6 @@
 -- What threads owe, where that or a thread's row changes.
 use Rattle.std.proofs.Common.{◌≡◌, ◌⊎◌, inl, inr, ℕ, ◌+◌, ◌*◌, ◌<◌, ◌≤◌, List, [], ◌∷◌, ◌++◌, length, get_or, arith, refl, sym, subst, ap, ◌∙◌, Option, Some, None, false}
-use Rattle.std.specs.Prelude.{slice_set, drop, ◌==◌}
+use Rattle.std.specs.Prelude.{slice_set, drop, ◌==◌, option_map}
 use Rattle.std.proofs.lemmas.Bool.{cases_eq}
 use Rattle.sym_base.specs.declared.number.ObjNo.{ObjNo}
 use Rattle.entry_log.specs.declared.effect.Holder.{Holder}
@@ -8,12 +8,14 @@ use Rattle.entry_log.specs.declared.effect.Holder.TheVariants.{Temp, Link}
 use Rattle.state_rows.specs.declared.duty.Owed.{Owed}
 use Rattle.state_rows.specs.declared.duty.Owed.TheVariants.{Close, Sweep}
 use Rattle.machine.specs.declared.state.ThreadRow.{ThreadRow}
-use Rattle.machine.specs.Rows.{owing, without_first}
+use Rattle.machine.specs.Rows.{with_row, owing, without_first}
 use Rattle.machine.specs.References.{total, same}
 use Rattle.machine.specs.Holding.{same_pair}
 use Rattle.machine.specs.HeldIn.{owed_by}
 use Rattle.machine.specs.Task.{is_returning}
 use Rattle.machine.specs.WellFormed.{MayOwe, EachMayOwe, AreDuties, weight, part_of}
+use Rattle.machine.proofs.Holders.ThreadRows.{row-here, row-other}
+use Rattle.machine.proofs.RowLaws.Threads.{none-with_row}
 use Rattle.machine.proofs.Lists.Sets.{set_either}
 use Rattle.machine.proofs.Lists.Totals.{total-append, total_at_most}
 use Rattle.machine.proofs.References.Same.{if_not, eqb_apart}
@@ -22,6 +24,22 @@ use Rattle.machine.proofs.References.Same.{if_not, eqb_apart}
 pub record IsPaidIn (threads other : List (Option ThreadRow)) (k : ℕ) : Type 0 where
   pub none : (j : ℕ) → get_or threads j None ≡ None → get_or other j None ≡ None
   pub going : is_returning (part_of (get_or threads k None)) ≡ false → is_returning (part_of (get_or other k None)) ≡ false
+
+part_going : (f : ThreadRow → ThreadRow) (x : Option ThreadRow) → ((row : ThreadRow) → is_returning row.part ≡ false → is_returning (f row).part ≡ false) → is_returning (part_of x) ≡ false → is_returning (part_of (option_map f x)) ≡ false
+part_going f None keeps h = h
+part_going f (Some row) keeps h = keeps row h
+
+-- a change of a row that begins no return
+pub paid-with_row : (threads : List (Option ThreadRow)) (t : ObjNo) (f : ThreadRow → ThreadRow) → ((row : ThreadRow) → is_returning row.part ≡ false → is_returning (f row).part ≡ false) → (k : ℕ) → IsPaidIn threads (with_row threads t f) k
+paid-with_row threads t f keeps k = record {
+  none = none-with_row threads t f;
+  going = λ h. elim (cases_eq t.0 k) as (λ _. is_returning (part_of (get_or (with_row threads t f) k None)) ≡ false) [
+    | inl at ↦
+        let old : is_returning (part_of (get_or threads t.0 None)) ≡ false = ap (λ (n : ℕ). is_returning (part_of (get_or threads n None))) at ∙ h in
+        ap (λ (x : Option ThreadRow). is_returning (part_of x)) (row-here threads t f k at) ∙ part_going f (get_or threads t.0 None) keeps old
+    | inr apart ↦ ap (λ (x : Option ThreadRow). is_returning (part_of x)) (row-other threads t f k apart) ∙ h
+  ];
+}
 
 may_owe-kept : (threads other : List (Option ThreadRow)) (k : ℕ) (h : Holder) (o : ObjNo) → IsPaidIn threads other k → MayOwe threads k h o → MayOwe other k h o
 may_owe-kept threads other k (Temp u) o stays own = (own.0, stays.going own.1)
