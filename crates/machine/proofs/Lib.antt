@@ -1,4 +1,5 @@
 pub mod Capped
+pub mod FewEffects
 pub mod Holders
 pub mod Lists
 pub mod Lives
