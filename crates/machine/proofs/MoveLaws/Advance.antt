@@ -51,9 +51,9 @@ going : (x : Option ThreadRow) → is_returning (part_of (option_map advanced x)
 going None = refl
 going (Some row) = refl
 
-may_owe_use : (threads : List (Option ThreadRow)) (u : ObjNo) (used : Option ObjNo) → is_returning (part_of (get_or threads u.0 None)) ≡ false → EachMayOwe threads u.0 (owed_use u used)
-may_owe_use threads u None h = tt
-may_owe_use threads u (Some o) h = ((refl, h), tt)
+may_owe_use : (threads : List (Option ThreadRow)) (u : ObjNo) (used : Option ObjNo) → EachMayOwe threads u.0 (owed_use u used)
+may_owe_use threads u None = tt
+may_owe_use threads u (Some o) = (refl, tt)
 
 some_row : (old row : ThreadRow) (x : Option ThreadRow) → x ≡ Some old → x ≡ Some row → old ≡ row
 some_row old row x a b = cc
@@ -100,6 +100,6 @@ sound-advance script S t u fits few inside rows =
         process = refl;
       }) rows.threads;
       duties = duties-owing (with_row S.threads u advanced) S.owed u (owed_use u used)
-          (may_owe_use (with_row S.threads u advanced) u used (ap (λ (x : Option ThreadRow). is_returning (part_of x)) (row-here S.threads u advanced u.0 refl) ∙ going old)) (omega arith)
+          (may_owe_use (with_row S.threads u advanced) u used) (omega arith) (ap (λ (x : Option ThreadRow). is_returning (part_of x)) (row-here S.threads u advanced u.0 refl) ∙ going old)
           (duties-threads S.threads (with_row S.threads u advanced) S.owed (λ k. inr (paid-with_row S.threads u advanced (λ row h. refl) k)) rows.duties);
     }) (lives-none S T refl counts sweeps) (holders-none S T held)
