@@ -1,8 +1,10 @@
 pub mod Capped
+pub mod FewEffects
 pub mod Holders
 pub mod Lists
 pub mod Lives
 pub mod References
 pub mod Registers
 pub mod RowLaws
+pub mod MoveLaws
 pub mod WorkedExample

@@ -1,10 +1,11 @@
 -- The ready list. A thread arrives where it becomes ready, and leaves where it isn't ready when an action ends:
 -- so a thread that is ready before an action and after it keeps its place, also where it wasn't for a moment.
-use Rattle.std.specs.Prelude.{◌==◌, not, ◌&&◌, Bool, if◌then◌else◌, filter, List, [], ◌∷◌, ◌++◌}
+use Rattle.std.specs.Prelude.{◌==◌, not, ◌&&◌, Bool, if◌then◌else◌, filter, List, [], ◌∷◌, ◌++◌, Option, Some, None}
 use Rattle.std.specs.List.{list_any}
 use Rattle.sym_base.specs.declared.number.ObjNo.{ObjNo}
 use Rattle.script_types.specs.declared.script.Script.{Script}
 use Rattle.state_rows.specs.declared.duty.Owed.TheVariants.{Close, Sweep}
+use Rattle.machine.specs.declared.arrivals.TouchedThreads.{TouchedThreads}
 use Rattle.machine.specs.declared.moves.Move.{Move}
 use Rattle.machine.specs.declared.moves.Move.TheVariants.{GoOn, Advance, Lose, Pay}
 use Rattle.machine.specs.declared.state.State.{State}
@@ -27,6 +28,14 @@ touched t (Advance u) = u ∷ []
 touched t (Pay (Close h o)) = t ∷ []
 touched t (Pay (Sweep o)) = t ∷ o ∷ []
 touched t _ = []
+
+-- the threads of up to two
+abbrev pub one_of : Option ObjNo → List ObjNo
+one_of None = []
+one_of (Some t) = t ∷ []
+
+abbrev pub threads_of : TouchedThreads → List ObjNo
+threads_of touched = one_of touched.first ++ one_of touched.second
 
 -- threads come behind the others, those that are ready and don't stand in the list
 abbrev pub arrive : Script → State → List ObjNo → List ObjNo → List ObjNo

@@ -2,7 +2,9 @@
 use Rattle.std.specs.Prelude.{◌≡◌, ℕ, ◌+◌, ◌*◌, ◌<◌, ◌≤◌, true, false, List, [], ◌∷◌, length, is_some, Option, Some, None}
 use Rattle.sym_base.specs.declared.limits.TheConstants.Limits.{OBJECTS}
 use Rattle.sym_base.specs.declared.number.ObjNo.{ObjNo}
+use Rattle.sym_base.specs.declared.kind.Kind.{Kind}
 use Rattle.script_types.specs.declared.script.Script.{Script}
+use Rattle.state_rows.specs.ObjectRows.{is_taken, is_session}
 use Rattle.entry_log.specs.declared.effect.Holder.{Holder}
 use Rattle.entry_log.specs.declared.effect.Holder.TheVariants.{InProcess, InThread, Temp}
 use Rattle.entry_log.specs.declared.step.Part.{Part}
@@ -16,7 +18,7 @@ use Rattle.machine.specs.References.{total}
 use Rattle.machine.specs.Moves.{moved, tell}
 use Rattle.machine.specs.Task.{instructions_of, is_returning}
 use Rattle.machine.specs.HeldIn.{owed_by}
-use Rattle.machine.specs.WellFormed.{IsAlive, AreRows, is_before_use, weight}
+use Rattle.machine.specs.WellFormed.{IsAlive, AreRows, is_before_use, part_of, weight}
 
 -- a slot of a table that nothing stands in
 pub record IsFreeSlot (S : State) (owner : ObjNo) (i : ℕ) : Type 0 where
@@ -63,11 +65,17 @@ pub record IsAtInstruction (script : Script) (S : State) (t : ObjNo) : Type 0 wh
   pub is : thread_of S t ≡ Some row
   pub next : row.next_instruction < length (instructions_of script row.role)
 
+-- an object may be made of this kind and name: there is room, its name isn't taken, and it isn't a session, which has none
+pub record MayMake (S : State) (kind : Kind) (name : List ℕ) : Type 0 where
+  pub room : length S.objects < OBJECTS
+  pub new : is_taken kind name S.objects ≡ false
+  pub named : is_session kind ≡ false
+
 -- A move in an action of thread t fits the state. What is owed is paid by an action of its own.
 abbrev pub FitsMove : Script → ObjNo → Move → State → Type 0
-FitsMove script t (Make kind name h) S = (length S.objects < OBJECTS) × IsFree S h
+FitsMove script t (Make kind name h) S = MayMake S kind name × IsFree S h
 FitsMove script t (Gain h o) S = IsFree S h × IsAlive (object_of S o)
-FitsMove script t (Lose h o) S = Holds S h o
+FitsMove script t (Lose h o) S = (is_returning (part_of (thread_of S t)) ≡ false) × Holds S h o
 FitsMove script t (Find u o) S = o.0 < length S.objects
 FitsMove script t (Miss o) S = Unit {0}
 FitsMove script t (GoOn u part) S = MayGoOn S u (Some part)

@@ -15,6 +15,10 @@ pub record Transition : Type 0 where
   pub state : State
   pub outcome : Outcome
 
+-- the action that left this state, and of which this is told
+abbrev pub left : State → Outcome → Transition
+left S outcome = record { state = S; outcome = outcome }
+
 -- the action of thread t that was decided on
 abbrev pub carried_out : Script → ObjNo → State → Decision → Transition
 carried_out script t S d = record {

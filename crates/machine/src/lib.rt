@@ -2,7 +2,9 @@
 //! its histories.
 #![tactic(auto)]
 
+mod arrivals;
 mod boot;
+mod choice;
 mod close;
 mod count;
 mod create;
@@ -13,16 +15,21 @@ mod duties;
 mod find;
 mod handles;
 mod look;
+mod move_effects;
 mod moves;
 mod open;
 mod perform;
+mod plain_reads;
 mod reads;
 mod rows;
 mod state;
 mod steps;
 mod task;
 mod thread_rows;
+mod tick;
+mod transition;
 
+pub use arrivals::{TouchedThreads, touched};
 pub use boot::Born;
 pub use count::{count_of, is_last};
 pub use decision::{Decision, Outcome};
@@ -33,6 +40,7 @@ pub use handles::{
     next_instance, object_in, owner_of, slot_at,
 };
 pub use look::object_at;
+pub use move_effects::{add_effects, told};
 pub use moves::{MAX_MOVES, Move, Moves};
 pub use reads::Reads;
 pub use rows::{row_of, set_row};

@@ -2,7 +2,7 @@
 ghost use Rattle.std.specs.Prelude.{◌≡◌, ◌+◌, ◌≤◌, length, OnOk};
 ghost use Rattle.machine.specs.Handles.{taken_slot, freed_slot, with_slot};
 ghost use Rattle.machine.specs.Moves.{tables_gain, threads_gain, tables_lose, threads_lose, link_of, use_of, objects_closed, moved};
-ghost use Rattle.machine.specs.Room.{HasRoom, AreInstances};
+ghost use Rattle.machine.specs.Room.{HasRoom, AreSmallTables};
 
 use crate::count::is_last;
 use crate::duties::{drop_first_owed, owe_close, owe_use};
@@ -19,7 +19,7 @@ use sym_base::{Kind, Name, NoMemory, ObjNo, ThreadNo};
 
 /// The slot of an index takes a handle of the object.
 fn take_slot(state: &mut State, owner: ObjNo, index: usize, object: ObjNo)
-    requires { AreInstances state.old.handles }
+    requires { AreSmallTables state.old.handles }
     ensures { state.new ≡ record state.old { handles = with_slot state.old.handles owner index (taken_slot object) } }
 {
     let slot = slot_at(table_of(state, owner), index);
@@ -43,7 +43,7 @@ fn free_slot(state: &mut State, owner: ObjNo, index: usize)
 
 /// A holder gets a reference: where it is a handle, that stands in its slot.
 fn gain_slot(state: &mut State, holder: Holder, object: ObjNo)
-    requires { AreInstances state.old.handles }
+    requires { AreSmallTables state.old.handles }
     ensures { state.new ≡ record state.old { handles = tables_gain holder object state.old.handles } }
 {
     match holder {

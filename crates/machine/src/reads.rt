@@ -3,6 +3,7 @@
 ghost use Rattle.std.specs.Prelude.{◌≡◌, ◌<◌, ◌≤◌, length, IfSome};
 ghost use Rattle.machine.specs.Find.{find_object};
 ghost use Rattle.machine.specs.Handles.{slot_at, next_handle};
+ghost use Rattle.machine.specs.References.{is_last};
 ghost use Rattle.machine.specs.Rows.{object_of, thread_of, table_of, first_owed};
 ghost use Rattle.state_rows.specs.ObjectRows.{is_taken};
 
@@ -17,7 +18,7 @@ pub trait Reads {
     /// The state that it stands for.
     ghost state: { Self → State };
 
-    /// What has to hold of it so that names are found and handles given.
+    /// What has to hold of it so that its handles and counts can be read.
     ghost is_readable: { Self → Type 0 };
 
     /// The object of this number, where it was made and isn't swept.
@@ -53,7 +54,14 @@ pub trait Reads {
         requires { is_readable self.now }
         ensures { result ≡ find_object (state self.now) kind name.now };
 
+    /// Whether an object has one reference.
+    fn is_last(&self, object: ObjNo) -> bool
+        requires { is_readable self.now }
+        ensures { result ≡ is_last (state self.now) object };
+
     /// The number of objects that were made.
     fn objects_made(&self) -> usize
-        ensures { result ≡ length (state self.now).objects };
+        requires { is_readable self.now }
+        ensures number { result ≡ length (state self.now).objects }
+        ensures few { result ≤ 65535 };
 }

@@ -1,0 +1,59 @@
+//! What moves tell.
+ghost use Rattle.std.specs.Prelude.{◌≡◌, ◌+◌, ◌≤◌, [], ◌∷◌, ◌++◌, length};
+ghost use Rattle.machine.specs.Moves.{closed_effects, told};
+
+use crate::{Move, Owed, Reads};
+use entry_log::{Effect, Effects, Holder};
+use sym_base::ObjNo;
+
+/// One effect.
+fn one_effect(effect: Effect) -> Effects
+    ensures { result ≡ effect ∷ [] }
+{
+    let mut effects = Effects::new();
+    effects.push(effect);
+    effects
+}
+
+/// What is told of a close: with its last reference an object dies.
+fn closed_effects(last: bool, holder: Holder, object: ObjNo) -> Effects
+    ensures { result ≡ closed_effects last holder object }
+{
+    let mut effects = one_effect(Effect::Minus(holder, object));
+    if last {
+        effects.push(Effect::Dead(object));
+    }
+    effects
+}
+
+/// What a move tells, from the state before it.
+pub fn told<R: Reads>(reads: &R, change: Move) -> Effects
+    requires { R.is_readable reads.now }
+    ensures { result ≡ told change (R.state reads.now) }
+{
+    match change {
+        Move::Make(_, _, holder) => {
+            let object = ObjNo(reads.objects_made() as u16);
+            one_effect(Effect::Plus(holder, object))
+        }
+        Move::Gain(holder, object) => one_effect(Effect::Plus(holder, object)),
+        Move::Lose(holder, object) => closed_effects(reads.is_last(object), holder, object),
+        Move::Find(_, object) => one_effect(Effect::Seek(object)),
+        Move::Miss(object) => one_effect(Effect::Missed(object)),
+        Move::GoOn(_, _) | Move::Write(_, _, _) | Move::Advance(_) => Effects::new(),
+        Move::Pay(Owed::Close(holder, object)) => {
+            closed_effects(reads.is_last(object), holder, object)
+        }
+        Move::Pay(Owed::Sweep(object)) => one_effect(Effect::Swept(object)),
+    }
+}
+
+/// Adds effects behind those so far.
+pub fn add_effects(effects: &mut Effects, more: Effects)
+    requires { length effects.old + length more ≤ 4 }
+    ensures { effects.new ≡ effects.old ++ more }
+{
+    for effect in more.as_slice() {
+        effects.push(*effect);
+    }
+}
