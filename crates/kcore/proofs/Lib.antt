@@ -1,3 +1,5 @@
 mod Finds
 mod FreshTable
+mod ReadyLists
+mod ReadyQueues
 mod Sets

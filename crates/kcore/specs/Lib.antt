@@ -2,3 +2,5 @@ pub mod ObjectsView
 pub mod Counts
 pub mod StateOf
 pub mod Moved
+pub mod ReadyQueues
+pub mod Performed

@@ -1,23 +1,28 @@
 -- Moves in the kernel's tables: when one can be made, and what it leaves.
-use Rattle.std.specs.Prelude.{◌≡◌, ◌-◌, ◌<◌, ◌==◌, Bool, false, length, IsTrue, Option, slice_index, slice_set}
+use Rattle.std.specs.Prelude.{◌≡◌, ◌-◌, ◌<◌, ◌==◌, Bool, false, List, [], ◌∷◌, length, IsTrue, Option, Some, slice_index, slice_set}
 use Rattle.std.specs.List.{slice_index_or}
-use Rattle.sym_base.specs.declared.limits.TheConstants.Limits.{OBJECTS}
+use Rattle.sym_base.specs.declared.limits.TheConstants.Limits.{OBJECTS, BOOT_OBJECTS}
 use Rattle.sym_base.specs.declared.number.ObjNo.{ObjNo}
 use Rattle.state_rows.specs.declared.duty.Owed.TheVariants.{Close, Sweep}
 use Rattle.state_rows.specs.ObjectRows.{is_session, is_taken, is_dead_row}
 use Rattle.machine.specs.declared.moves.Move.{Move}
 use Rattle.machine.specs.declared.moves.Move.TheVariants.{Make, Gain, Lose, Find, Miss, GoOn, Write, Advance, Pay}
 use Rattle.machine.specs.declared.state.State.{State}
+use Rattle.machine.specs.declared.state.ThreadRow.{ThreadRow}
+use Rattle.script_types.specs.declared.script.Script.{Script}
 use Rattle.machine.specs.Moves.{moved, told, objects_closed, threads_closed, owed_by_close}
-use Rattle.machine.specs.References.{count_of}
+use Rattle.machine.specs.Arrivals.{is_listed, touched}
+use Rattle.machine.specs.Choice.{priority_of}
+use Rattle.machine.specs.References.{count_of, RefsMove}
 use Rattle.machine.specs.Room.{MayAdvance}
-use Rattle.machine.specs.Rows.{object_of, owing}
+use Rattle.machine.specs.Rows.{object_of, thread_of, owing}
+use Rattle.machine.specs.Task.{is_ready}
 use Rattle.kcore.specs.declared.tables.Tables.{Tables}
 use Rattle.kcore.specs.Counts.{CountsMove}
 use Rattle.kcore.specs.ObjectsView.{IsThere}
 use Rattle.kcore.specs.StateOf.{state_of}
 
--- an object of a kind that has names, with a name that is free, where one more may be made and has no reference yet
+-- there is room for one more object, and nothing refers to it yet
 pub record IsNew (S : State) : Type 0 where
   pub room : length S.objects < OBJECTS
   pub fresh : count_of S (record { 0 = length S.objects }) ≡ 0
@@ -61,3 +66,21 @@ closed last t o link S = record S {
 pub record IsClosed {W N : Type 0} (t o : ObjNo) (link : Option ObjNo) (old new : Tables W N) : Type 0 where
   pub state : state_of new ≡ closed (slice_index old.objects.counts o.0 == 1) t o link (state_of old)
   pub counts : new.objects.counts ≡ slice_set old.objects.counts o.0 (slice_index old.objects.counts o.0 - 1)
+
+-- threads have the least numbers, and priorities below 64
+abbrev pub AreKnown : State → Type 0
+AreKnown S = (u : ObjNo) (row : ThreadRow) → thread_of S u ≡ Some row → (u.0 < BOOT_OBJECTS) × (row.priority < 64)
+
+-- A move in an action of thread t goes through: it can be made, the references move with what it tells, priorities stay,
+-- and so does the readiness of all threads that it doesn't touch.
+pub record MoveGoes (script : Script) (t : ObjNo) (m : Move) (S : State) : Type 0 where
+  pub can : CanMove m S
+  pub refs : RefsMove S (moved t m S) (told m S)
+  pub known : AreKnown (moved t m S)
+  pub ranks : (u : ObjNo) → priority_of (moved t m S) u ≡ priority_of S u
+  pub apart : (u : ObjNo) → is_listed (touched t m) u ≡ false → is_ready script (moved t m S) u ≡ is_ready script S u
+
+-- and so does each of several, when its turn comes
+abbrev pub MovesGo : Script → ObjNo → List Move → State → Type 0
+MovesGo script t [] S = Unit {0}
+MovesGo script t (m ∷ ms) S = MoveGoes script t m S × MovesGo script t ms (moved t m S)

@@ -4,5 +4,7 @@
 mod handles;
 mod moves;
 mod object_table;
+mod perform;
 mod reading;
+mod ready;
 mod tables;

@@ -87,15 +87,11 @@ impl<W: RefWords + Drop> ObjectTable<W> {
         })
     }
 
-    /// The number of references to an object that isn't swept.
+    /// The number of references to an object, 0 where there is no such object.
     pub fn count(&self, object: ObjNo) -> u32
-        requires { IsTrue (is_there (slice_index_or self.now.rows object.0 None)) }
         ensures { result ≡ slice_index self.now.counts object.0 }
     {
-        match self.table.row(object) {
-            Some(told) => told.count,
-            None => unreachable!(),
-        }
+        self.table.count(object)
     }
 
     /// How many objects were made.

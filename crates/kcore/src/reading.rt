@@ -62,6 +62,10 @@ impl<W: RefWords + Drop> Reads for Tables<W> {
         self.objects.find(kind, name)
     }
 
+    fn is_last(&self, object: ObjNo) -> bool {
+        self.objects.count(object) == 1
+    }
+
     fn objects_made(&self) -> usize {
         self.objects.len()
     }

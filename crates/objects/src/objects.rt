@@ -142,6 +142,18 @@ impl<W: RefWords + Drop> Objects<W> {
         self.counts[place] != 0 || is_dead_row(&self.rows[place])
     }
 
+    /// How many references to an object the kernel itself counted, 0 where there is no such object.
+    pub fn count(&self, o: ObjNo) -> u32
+        ensures { result ≡ own_at (W.meaning self.now.words) o.0 }
+    {
+        let at = o.0 as usize;
+        if at < self.counts.len() {
+            self.counts[at]
+        } else {
+            0
+        }
+    }
+
     /// Adds a reference to an unswept object that has one.
     pub fn add_ref(&mut self, o: ObjNo)
         requires there { IsTrue (is_there (row_at self.old.rows o.0)) }
