@@ -6,3 +6,4 @@ pub mod Gains
 pub mod Closes
 pub mod Loses
 pub mod Pays
+pub mod Run

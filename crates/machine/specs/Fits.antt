@@ -18,7 +18,7 @@ use Rattle.machine.specs.References.{total}
 use Rattle.machine.specs.Moves.{moved, tell}
 use Rattle.machine.specs.Task.{instructions_of, is_returning}
 use Rattle.machine.specs.HeldIn.{owed_by}
-use Rattle.machine.specs.WellFormed.{IsAlive, AreRows, is_before_use, weight}
+use Rattle.machine.specs.WellFormed.{IsAlive, AreRows, is_before_use, part_of, weight}
 
 -- a slot of a table that nothing stands in
 pub record IsFreeSlot (S : State) (owner : ObjNo) (i : ℕ) : Type 0 where
@@ -75,7 +75,7 @@ pub record MayMake (S : State) (kind : Kind) (name : List ℕ) : Type 0 where
 abbrev pub FitsMove : Script → ObjNo → Move → State → Type 0
 FitsMove script t (Make kind name h) S = MayMake S kind name × IsFree S h
 FitsMove script t (Gain h o) S = IsFree S h × IsAlive (object_of S o)
-FitsMove script t (Lose h o) S = Holds S h o
+FitsMove script t (Lose h o) S = (is_returning (part_of (thread_of S t)) ≡ false) × Holds S h o
 FitsMove script t (Find u o) S = o.0 < length S.objects
 FitsMove script t (Miss o) S = Unit {0}
 FitsMove script t (GoOn u part) S = MayGoOn S u (Some part)

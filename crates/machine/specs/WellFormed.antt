@@ -69,10 +69,10 @@ abbrev pub part_of : Option ThreadRow → Option Part
 part_of None = None
 part_of (Some row) = row.part
 
--- whose closes a thread may owe: its own temporary reference's, unless it is between a find and its return; and the
--- link's of an object that is gone, to what has no link itself
+-- whose closes a thread may owe: its own temporary reference's, and the link's of an object that is gone, to what has
+-- no link itself
 abbrev pub MayOwe : List (Option ThreadRow) → ℕ → Holder → ObjNo → Type 0
-MayOwe threads k (Temp u) o = (u.0 ≡ k) × (is_returning (part_of (slice_index_or threads k None)) ≡ false)
+MayOwe threads k (Temp u) o = u.0 ≡ k
 MayOwe threads k (Link x) o = slice_index_or threads o.0 None ≡ None
 MayOwe threads k _ o = ⊥
 
@@ -81,10 +81,12 @@ EachMayOwe threads k [] = Unit {0}
 EachMayOwe threads k (Close h o ∷ rest) = MayOwe threads k h o × EachMayOwe threads k rest
 EachMayOwe threads k (Sweep o ∷ rest) = EachMayOwe threads k rest
 
--- what each thread owes is its own, and weighs no more than eight moves can add
+-- what each thread owes is its own, and weighs no more than eight moves can add; between a find and its return it owes
+-- nothing
 pub record AreDuties (threads : List (Option ThreadRow)) (owed : List (List Owed)) : Type 0 where
   pub own : (k : ℕ) → EachMayOwe threads k (slice_index_or owed k [])
   pub few : (k : ℕ) → total weight (slice_index_or owed k []) ≤ 32
+  pub returns : (k : ℕ) → is_returning (part_of (slice_index_or threads k None)) ≡ true → slice_index_or owed k [] ≡ []
 
 -- an object that is there and has a reference left
 abbrev pub IsAlive : Option ObjectRow → Type 0

@@ -27,9 +27,13 @@ use Rattle.machine.proofs.RowLaws.Duties.{paid-with_row, duties-threads, duties-
 use Rattle.machine.proofs.MoveLaws.Sound.{Sound, sound-of}
 
 -- what the thread used is what it owes then
-use_owed : (u : ObjNo) (used : Option ObjNo) (o : ObjNo) → (total (owed_names o) (owed_use u used) ≡ option_names o used) × (total (owed_sweeps o) (owed_use u used) ≡ 0) × (total weight (owed_use u used) ≤ 4)
-use_owed u None o = (refl, refl, omega arith)
-use_owed u (Some x) o = (omega arith, refl, omega arith)
+use_owed : (u : ObjNo) (used : Option ObjNo) (o : ObjNo) → (total (owed_names o) (owed_use u used) ≡ option_names o used) × (total (owed_sweeps o) (owed_use u used) ≡ 0)
+use_owed u None o = (refl, refl)
+use_owed u (Some x) o = (omega arith, refl)
+
+pub use_weight : (u : ObjNo) (used : Option ObjNo) → total weight (owed_use u used) ≤ 4
+use_weight u None = omega arith
+use_weight u (Some x) = omega arith
 
 use_owed_by : (u : ObjNo) (used : Option ObjNo) (g : Holder) (x : ObjNo) → total (owed_by g x) (owed_use u used) ≡ (if is_holder (Temp u) g then option_names x used else 0)
 use_owed_by u None g x = sym (if_zero (is_holder (Temp u) g) 0 refl)
@@ -47,9 +51,9 @@ going : (x : Option ThreadRow) → is_returning (part_of (option_map advanced x)
 going None = refl
 going (Some row) = refl
 
-may_owe_use : (threads : List (Option ThreadRow)) (u : ObjNo) (used : Option ObjNo) → is_returning (part_of (get_or threads u.0 None)) ≡ false → EachMayOwe threads u.0 (owed_use u used)
-may_owe_use threads u None h = tt
-may_owe_use threads u (Some o) h = ((refl, h), tt)
+may_owe_use : (threads : List (Option ThreadRow)) (u : ObjNo) (used : Option ObjNo) → EachMayOwe threads u.0 (owed_use u used)
+may_owe_use threads u None = tt
+may_owe_use threads u (Some o) = (refl, tt)
 
 some_row : (old row : ThreadRow) (x : Option ThreadRow) → x ≡ Some old → x ≡ Some row → old ≡ row
 some_row old row x a b = cc
@@ -60,7 +64,7 @@ sound-advance script S t u fits few inside rows =
     let old = thread_of S u in
     let used = use_of S u in
     let here : u.0 < length S.owed = let a = rows.sized.duties in omega arith in
-    let light = (use_owed u used u).2 in
+    let light = use_weight u used in
     let counts : (o : ObjNo) → count_of T o ≡ count_of S o = λ o.
     let a = count-with_row S.threads u advanced o in
     let b = kernel-with_row S.threads u advanced o in
@@ -96,6 +100,6 @@ sound-advance script S t u fits few inside rows =
         process = refl;
       }) rows.threads;
       duties = duties-owing (with_row S.threads u advanced) S.owed u (owed_use u used)
-          (may_owe_use (with_row S.threads u advanced) u used (ap (λ (x : Option ThreadRow). is_returning (part_of x)) (row-here S.threads u advanced u.0 refl) ∙ going old)) (omega arith)
+          (may_owe_use (with_row S.threads u advanced) u used) (omega arith) (ap (λ (x : Option ThreadRow). is_returning (part_of x)) (row-here S.threads u advanced u.0 refl) ∙ going old)
           (duties-threads S.threads (with_row S.threads u advanced) S.owed (λ k. inr (paid-with_row S.threads u advanced (λ row h. refl) k)) rows.duties);
     }) (lives-none S T refl counts sweeps) (holders-none S T held)

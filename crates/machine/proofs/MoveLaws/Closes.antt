@@ -20,7 +20,8 @@ use Rattle.machine.specs.References.{total, same, thread_names, owed_names, opti
 use Rattle.machine.specs.Told.{deaths}
 use Rattle.machine.specs.Holding.{is_holder, same_pair, link_names}
 use Rattle.machine.specs.HeldIn.{held_in, use_names, owed_by}
-use Rattle.machine.specs.WellFormed.{IsAlive, AreTables, AreThreads, AreDuties, EachMayOwe, AreRows, weight, owed_sweeps, sweeps_of}
+use Rattle.machine.specs.Task.{is_returning}
+use Rattle.machine.specs.WellFormed.{IsAlive, AreTables, AreThreads, AreDuties, EachMayOwe, AreRows, weight, owed_sweeps, sweeps_of, part_of}
 use Rattle.machine.proofs.Lives.Closes.{lives-closed}
 use Rattle.machine.proofs.Holders.HoldersMove.{holders-closed}
 use Rattle.machine.proofs.Holders.ThreadRows.{row_holds, rows-with_row}
@@ -42,6 +43,7 @@ pub record HasLost (script : Script) (S : State) (t : ObjNo) (h : Holder) (o : O
   pub tables : AreTables handles
   pub threads_are : AreThreads script threads
   pub duties : AreDuties threads owed
+  pub going : is_returning (part_of (get_or threads t.0 None)) ≡ false
   pub few : total weight (get_or owed t.0 []) + total weight (owed_by_close (is_last S o) o (link_of S o)) ≤ 32
 
 -- a row without its link
@@ -86,7 +88,7 @@ sound-closed false script S t h o handles threads owed e inside lost rows =
       objects_few = rows.sized.objects_few;
       tables = lost.tables;
       threads = lost.threads_are;
-      duties = duties-owing threads owed t [] tt (omega arith) lost.duties;
+      duties = duties-owing threads owed t [] tt (omega arith) lost.going lost.duties;
     })
     (lives-closed false S T h o e alive refl
     (λ p. let a = total-owing (owed_names p) owed t [] here in let b = lost.counts p in omega arith)
@@ -113,7 +115,7 @@ sound-closed true script S t h o handles threads owed e inside lost rows =
         thread = record { process = r.process; link = λ p linked. cc; priority = r.priority; next_instruction = r.next_instruction; unused = r.unused; registers = r.registers };
         process = refl;
       }) lost.threads_are;
-      duties = duties-owing other owed t more (may_owe_link script threads other t o link lost.link lost.threads_are (none-with_row threads o f)) few
+      duties = duties-owing other owed t more (may_owe_link script threads other t o link lost.link lost.threads_are (none-with_row threads o f)) few ((paid-with_row threads o f (λ row r. r) t.0).going lost.going)
           (duties-threads threads other owed (λ k. inr (paid-with_row threads o f (λ row r. r) k)) lost.duties);
     })
     (lives-closed true S T h o e alive refl

@@ -17,7 +17,8 @@ use Rattle.machine.specs.Rows.{object_of, thread_of, owed_of, without_first}
 use Rattle.machine.specs.Moves.{moved, told, link_of, link_of_row, owed_by_close}
 use Rattle.machine.specs.References.{total, same, count_of, is_last, owed_names}
 use Rattle.machine.specs.HeldIn.{owed_by, held_in}
-use Rattle.machine.specs.WellFormed.{IsAlive, MayOwe, EachMayOwe, AreRows, weight, owed_sweeps, sweeps_of, is_dead}
+use Rattle.machine.specs.Task.{is_returning}
+use Rattle.machine.specs.WellFormed.{IsAlive, MayOwe, EachMayOwe, AreRows, weight, owed_sweeps, sweeps_of, is_dead, part_of}
 use Rattle.machine.proofs.Lists.Sets.{set_own}
 use Rattle.machine.proofs.Lives.Bits.{gone_is, gone_le, alive_not_gone}
 use Rattle.machine.proofs.Lives.LivesMove.{zero_or}
@@ -34,6 +35,10 @@ room_by : (threads : List (Option ThreadRow)) (k : ℕ) (last : Bool) (h : Holde
 room_by threads k last (Temp u) o link e own = let a = close_weight last o link in omega arith
 room_by threads k last (Link x) o link e own = let none : link ≡ None = sym e ∙ ap link_of_row own in let a = close_weight_unlinked last o link none in omega arith
 room_by threads k last _ o link e own = absurd own
+
+not_returning : (b : Bool) {c : Bool} → c ≡ b → (what : List Owed) (first : Owed) (rest : List Owed) → what ≡ first ∷ rest → (c ≡ true → what ≡ []) → c ≡ false
+not_returning true is what first rest e h = let none = h is in cc
+not_returning false is what first rest e h = is
 
 pub sound-pay_close : (script : Script) (S : State) (t : ObjNo) (h : Holder) (o : ObjNo) (rest : List Owed) → owed_of S t ≡ Close h o ∷ rest → t.0 < length S.threads → AreRows script S → Sound script S (moved t (Pay (Close h o)) S) (told (Pay (Close h o)) S)
 sound-pay_close script S t h o rest e inside rows =
@@ -54,6 +59,7 @@ sound-pay_close script S t h o rest e inside rows =
       tables = rows.tables;
       threads_are = rows.threads;
       duties = duties-without_first S.threads S.owed t rows.duties;
+      going = not_returning (is_returning (part_of (thread_of S t))) refl (owed_of S t) (Close h o) rest e (rows.duties.returns t.0);
       few = let a = ap (total weight) left in omega arith;
     }) rows
 

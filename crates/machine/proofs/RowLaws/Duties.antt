@@ -1,7 +1,7 @@
 -- What threads owe, where that or a thread's row changes.
-use Rattle.std.proofs.Common.{◌≡◌, ◌⊎◌, inl, inr, ℕ, ◌+◌, ◌*◌, ◌<◌, ◌≤◌, List, [], ◌∷◌, ◌++◌, length, get_or, arith, refl, sym, subst, ap, ◌∙◌, Option, Some, None, false}
+use Rattle.std.proofs.Common.{◌≡◌, ◌⊎◌, inl, inr, ℕ, ◌+◌, ◌*◌, ◌<◌, ◌≤◌, List, [], ◌∷◌, ◌++◌, length, get_or, arith, refl, sym, subst, ap, ◌∙◌, Option, Some, None, true, false}
 use Rattle.std.specs.Prelude.{slice_set, drop, ◌==◌, option_map}
-use Rattle.std.proofs.lemmas.Bool.{cases_eq}
+use Rattle.std.proofs.lemmas.Bool.{cases_eq, cases_Bool}
 use Rattle.sym_base.specs.declared.number.ObjNo.{ObjNo}
 use Rattle.entry_log.specs.declared.effect.Holder.{Holder}
 use Rattle.entry_log.specs.declared.effect.Holder.TheVariants.{Temp, Link}
@@ -42,7 +42,7 @@ paid-with_row threads t f keeps k = record {
 }
 
 may_owe-kept : (threads other : List (Option ThreadRow)) (k : ℕ) (h : Holder) (o : ObjNo) → IsPaidIn threads other k → MayOwe threads k h o → MayOwe other k h o
-may_owe-kept threads other k (Temp u) o stays own = (own.0, stays.going own.1)
+may_owe-kept threads other k (Temp u) o stays own = own
 may_owe-kept threads other k (Link x) o stays own = stays.none o.0 own
 may_owe-kept threads other k _ o stays own = absurd own
 
@@ -59,6 +59,13 @@ duties-threads threads other owed stays h = record {
     | inr paid ↦ each_may_owe-kept threads other k (get_or owed k []) paid (h.own k)
   ];
   few = h.few;
+  returns = λ k now. elim (stays k) as (λ _. get_or owed k [] ≡ []) [
+    | inl nothing ↦ nothing
+    | inr paid ↦ elim (cases_Bool (is_returning (part_of (get_or threads k None)))) as (λ _. get_or owed k [] ≡ []) [
+      | inl before ↦ h.returns k before
+      | inr going ↦ let still = paid.going going in cc
+    ]
+  ];
 }
 
 may_owe-append : (threads : List (Option ThreadRow)) (k : ℕ) (xs ys : List Owed) → EachMayOwe threads k xs → EachMayOwe threads k ys → EachMayOwe threads k (xs ++ ys)
@@ -67,8 +74,8 @@ may_owe-append threads k (Close j o ∷ rest) ys h g = (h.0, may_owe-append thre
 may_owe-append threads k (Sweep o ∷ rest) ys h g = may_owe-append threads k rest ys h g
 
 -- what one thread owes changes
-duties-set : (threads : List (Option ThreadRow)) (owed : List (List Owed)) (t : ObjNo) (what : List Owed) → EachMayOwe threads t.0 what → total weight what ≤ 32 → AreDuties threads owed → AreDuties threads (slice_set owed t.0 what)
-duties-set threads owed t what own few h = record {
+duties-set : (threads : List (Option ThreadRow)) (owed : List (List Owed)) (t : ObjNo) (what : List Owed) → EachMayOwe threads t.0 what → total weight what ≤ 32 → (is_returning (part_of (get_or threads t.0 None)) ≡ true → what ≡ []) → AreDuties threads owed → AreDuties threads (slice_set owed t.0 what)
+duties-set threads owed t what own few paid h = record {
   own = λ k. elim (set_either owed t.0 what k []) as (λ _. EachMayOwe threads k (get_or (slice_set owed t.0 what) k [])) [
     | inl at ↦ subst (EachMayOwe threads k) (sym at.1) (subst (λ (n : ℕ). EachMayOwe threads n what) (sym at.0) own)
     | inr e ↦ subst (EachMayOwe threads k) (sym e) (h.own k)
@@ -77,12 +84,16 @@ duties-set threads owed t what own few h = record {
     | inl at ↦ let a = ap (total weight) at.1 in omega arith
     | inr e ↦ let a = ap (total weight) e in let b = h.few k in omega arith
   ];
+  returns = λ k now. elim (set_either owed t.0 what k []) as (λ _. get_or (slice_set owed t.0 what) k [] ≡ []) [
+    | inl at ↦ at.1 ∙ paid (ap (λ (n : ℕ). is_returning (part_of (get_or threads n None))) (sym at.0) ∙ now)
+    | inr e ↦ e ∙ h.returns k now
+  ];
 }
 
-pub duties-owing : (threads : List (Option ThreadRow)) (owed : List (List Owed)) (t : ObjNo) (more : List Owed) → EachMayOwe threads t.0 more → total weight (get_or owed t.0 []) + total weight more ≤ 32 → AreDuties threads owed → AreDuties threads (owing owed t more)
-duties-owing threads owed t more own few h =
+pub duties-owing : (threads : List (Option ThreadRow)) (owed : List (List Owed)) (t : ObjNo) (more : List Owed) → EachMayOwe threads t.0 more → total weight (get_or owed t.0 []) + total weight more ≤ 32 → is_returning (part_of (get_or threads t.0 None)) ≡ false → AreDuties threads owed → AreDuties threads (owing owed t more)
+duties-owing threads owed t more own few going h =
     let both = total-append weight (get_or owed t.0 []) more in
-    duties-set threads owed t (get_or owed t.0 [] ++ more) (may_owe-append threads t.0 (get_or owed t.0 []) more (h.own t.0) own) (omega arith) h
+    duties-set threads owed t (get_or owed t.0 [] ++ more) (may_owe-append threads t.0 (get_or owed t.0 []) more (h.own t.0) own) (omega arith) (λ now. cc) h
 
 may_owe-drop : (threads : List (Option ThreadRow)) (k : ℕ) (what : List Owed) → EachMayOwe threads k what → EachMayOwe threads k (drop 1 what)
 may_owe-drop threads k [] h = tt
@@ -97,7 +108,7 @@ pub duties-without_first : (threads : List (Option ThreadRow)) (owed : List (Lis
 duties-without_first threads owed t h =
     let less = weight-drop (get_or owed t.0 []) in
     let few = h.few t.0 in
-    duties-set threads owed t (drop 1 (get_or owed t.0 [])) (may_owe-drop threads t.0 (get_or owed t.0 []) (h.own t.0)) (omega arith) h
+    duties-set threads owed t (drop 1 (get_or owed t.0 [])) (may_owe-drop threads t.0 (get_or owed t.0 []) (h.own t.0)) (omega arith) (λ now. ap (drop 1) (h.returns t.0 now)) h
 
 -- what a thread owes after it owes more weighs what both weigh
 pub weight-owing : (owed : List (List Owed)) (t : ObjNo) (more : List Owed) → total weight (get_or (owing owed t more) t.0 []) ≤ total weight (get_or owed t.0 []) + total weight more
@@ -107,7 +118,7 @@ weight-owing owed t more = elim (set_either owed t.0 (get_or owed t.0 [] ++ more
 ]
 
 pair_apart : (threads : List (Option ThreadRow)) (k : ℕ) (h g : Holder) (o x : ObjNo) → MayOwe threads k h o → ((y : ObjNo) → MayOwe threads k g y → ⊥) → same_pair h o g x ≡ 0
-pair_apart threads k (Temp u) (Temp v) o x own apart = if_not (u.0 == v.0) (same o x) (eqb_apart u.0 v.0 (λ e. apart o (sym e ∙ own.0, own.1)))
+pair_apart threads k (Temp u) (Temp v) o x own apart = if_not (u.0 == v.0) (same o x) (eqb_apart u.0 v.0 (λ e. apart o (sym e ∙ own)))
 pair_apart threads k (Link u) (Link v) o x own apart = absurd (apart o own)
 pair_apart threads k (Temp u) _ o x own apart = refl
 pair_apart threads k (Link u) _ o x own apart = refl
@@ -130,6 +141,6 @@ none_owed_temp threads owed t x h paid =
     let few : total (total (owed_by (Temp t) x)) owed ≤ 0 * length owed = total_at_most (total (owed_by (Temp t) x)) 0 owed [] (λ k inside.
     elim (cases_eq t.0 k) as (λ _. total (owed_by (Temp t) x) (get_or owed k []) ≤ 0) [
       | inl at ↦ let e : total (owed_by (Temp t) x) (get_or owed k []) ≡ 0 = ap (λ (n : ℕ). total (owed_by (Temp t) x) (get_or owed n [])) (sym at) ∙ paid in omega arith
-      | inr apart ↦ let a = not_owed threads k (get_or owed k []) (Temp t) x (h.own k) (λ y own. apart own.0) in omega arith
+      | inr apart ↦ let a = not_owed threads k (get_or owed k []) (Temp t) x (h.own k) (λ y own. apart own) in omega arith
     ]) in
     omega arith
