@@ -1,10 +1,9 @@
-pub mod Capped
-pub mod FewEffects
+pub mod AtBoot
 pub mod Holders
 pub mod Lists
 pub mod Lives
-pub mod References
-pub mod Registers
-pub mod RowLaws
+pub mod PlainMachine
 pub mod MoveLaws
+pub mod References
+pub mod RowLaws
 pub mod WorkedExample
