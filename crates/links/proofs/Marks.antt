@@ -1,6 +1,6 @@
 -- What tells whether a node is on a list, where, and what stands behind it.
-use Rattle.std.proofs.Common.{◌≡◌, ◌≢◌, ℕ, suc, ◌+◌, ◌<◌, ◌≤◌, true, false, not, eqb, List, [], length, get_or, refl, sym, ap, ◌∙◌, arith, inl, inr, eq-eqb}
-use Rattle.std.specs.Prelude.{Some, None, slice_get}
+use Rattle.std.proofs.Common.{◌≡◌, ◌≢◌, ℕ, suc, ◌+◌, ◌<◌, ◌≤◌, true, false, not, eqb, List, [], ◌∷◌, length, get_or, refl, sym, ap, ◌∙◌, arith, inl, inr, eq-eqb}
+use Rattle.std.specs.Prelude.{Option, is_some, Some, None, slice_get}
 use Rattle.std.specs.List.{list_any}
 use Rattle.std.proofs.lemmas.Bool.{cases_lt, cases_Bool, eqb-true, ne_eqb}
 use Rattle.std.proofs.lemmas.List.{get_or_past, get_or_read}
@@ -9,6 +9,23 @@ use Rattle.std.proofs.lemmas.Option.{slice_get-get_or, slice_get_within, get_or_
 use Rattle.links.specs.Linked.{holds, AreApart}
 use Rattle.links.specs.Rings.{here, AreLinked, IsFree}
 use Rattle.links.proofs.Apart.{here_apart}
+
+-- a list has no first element exactly where it is empty
+pub none_first : (xs : List ℕ) (r : Option ℕ) → r ≡ slice_get xs 0 → (is_some r ≡ false → xs ≡ []) × (xs ≡ [] → is_some r ≡ false)
+none_first [] r is = (λ none. refl, λ empty. rw is refl)
+none_first (x ∷ xs) r is = (λ none. let no : true ≡ false = rw is at none in absurd (cc), λ empty. absurd (cc))
+
+-- nothing stands behind an element exactly where it is the last
+pub none_behind : (xs : List ℕ) (k x : ℕ) (r : Option ℕ) → slice_get xs k ≡ Some x → r ≡ slice_get xs (suc k) → (is_some r ≡ false → k + 1 ≡ length xs) × (k + 1 ≡ length xs → is_some r ≡ false)
+none_behind xs k x r at is =
+    let inside = slice_get_within xs k x at in
+    elim (cases_lt (k + 1) (length xs)) [
+      | inl more ↦ (
+        λ none. let no : true ≡ false = rw (is, slice_get-get_or xs (suc k) 0 (omega arith)) at none in absurd (cc),
+        λ last. absurd (omega arith),
+      )
+      | inr past ↦ (λ none. omega arith, λ last. rw (is, slice_get_past xs (suc k) (omega arith)) refl)
+    ]
 
 -- where an element is read there is one
 pub read_some : (xs : List ℕ) (k x d : ℕ) → k < length xs → get_or xs k d ≡ x → slice_get xs k ≡ Some x

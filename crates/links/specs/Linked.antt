@@ -1,5 +1,5 @@
 -- Lists of numbered nodes, each node standing at one place at most.
-use Rattle.std.specs.Prelude.{◌≡◌, ℕ, ◌+◌, ◌<◌, Bool, not, ◌==◌, List, [], ◌∷◌, ◌++◌, drop, filter, map, replicate, IsTrue, Option, Some, slice_get, slice_index_or, slice_set}
+use Rattle.std.specs.Prelude.{◌≡◌, ◌↔◌, IsNone, length, ℕ, ◌+◌, ◌<◌, Bool, not, ◌==◌, List, [], ◌∷◌, ◌++◌, drop, filter, length, map, replicate, IsTrue, IsNone, Option, Some, slice_get, slice_index_or, slice_set}
 use Rattle.std.specs.List.{list_any}
 
 -- the nodes are the numbers below one number; the lists are numbered from 0
@@ -56,6 +56,11 @@ ChangesItsListAlone s t node =
 abbrev pub IsFollower : Linked → ℕ → Option ℕ → Type 0
 IsFollower s node follower =
     (list place : ℕ) → slice_get (list_at s list) place ≡ Some node → follower ≡ slice_get (list_at s list) (place + 1)
+
+-- and there is none exactly where the node is the last of its list
+abbrev pub IsNoneAtLast : Linked → ℕ → Option ℕ → Type 0
+IsNoneAtLast s node follower =
+    (list place : ℕ) → slice_get (list_at s list) place ≡ Some node → IsNone follower ↔ (place + 1 ≡ length (list_at s list))
 
 -- each node that is on a list is one of the nodes, and stands there once and on no other list
 pub record AreApart (s : Linked) : Type 0 where

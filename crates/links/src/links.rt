@@ -1,6 +1,6 @@
 //! Lists of nodes, linked by index.
-ghost use Rattle.std.specs.Prelude.{◌≡◌, ◌<◌, ◌↔◌, IsTrue, IfOk, IfSome, length, ℕ, slice_get, slice_index};
-ghost use Rattle.links.specs.Linked.{Linked, empty_lists, list_at, IsLinked, pushed_back, pushed_front, popped_front, unlinked, ChangesItsListAlone, IsFollower, AreApart};
+ghost use Rattle.std.specs.Prelude.{◌≡◌, ◌<◌, ◌↔◌, [], IsTrue, IsNone, IfOk, IfSome, length, ℕ, slice_get, slice_index};
+ghost use Rattle.links.specs.Linked.{Linked, empty_lists, list_at, IsLinked, pushed_back, pushed_front, popped_front, unlinked, ChangesItsListAlone, IsFollower, IsNoneAtLast, AreApart};
 
 use crate::neighbours::Neighbours;
 use std::alloc::Global;
@@ -86,6 +86,7 @@ impl Links {
     pub fn pop_front(&mut self, list: u32) -> Option<u32>
         requires { list < length self.old.lists }
         ensures first { result ≡ slice_get (list_at self.old list) 0 }
+        ensures none { IsNone result ↔ (list_at self.old list ≡ []) }
         ensures popped { self.new ≡ popped_front self.old list }
         ensures below { IfSome result (λ node. node < self.old.nodes) }
         ensures free { IfSome result (λ node. ¬ IsLinked self.new node) }
@@ -104,6 +105,7 @@ impl Links {
     pub fn first(&self, list: u32) -> Option<u32>
         requires { list < length self.now.lists }
         ensures first { result ≡ slice_get (list_at self.now list) 0 }
+        ensures none { IsNone result ↔ (list_at self.now list ≡ []) }
         ensures below { IfSome result (λ node. node < self.now.nodes) }
     {
         let node = self.neighbours.next(self.nodes + list);
@@ -115,6 +117,7 @@ impl Links {
         requires node { node < self.now.nodes }
         requires linked { IsLinked self.now node }
         ensures follower { IsFollower self.now node result }
+        ensures none { IsNoneAtLast self.now node result }
         ensures below { IfSome result (λ node. node < self.now.nodes) }
     {
         let after = self.neighbours.next(node);

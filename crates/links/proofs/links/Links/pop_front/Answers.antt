@@ -3,7 +3,7 @@ use Rattle.std.specs.Prelude.{List, ℕ}
 use Rattle.std.proofs.lemmas.List.{set-get_or}
 use Rattle.links.specs.Rings.{lists_of}
 use Rattle.links.proofs.Calls.{first_below, first_node, popped_leads, empty_first}
-use Rattle.links.proofs.Marks.{unheld_from_free}
+use Rattle.links.proofs.Marks.{none_first, unheld_from_free}
 use Rattle.links.proofs.links.Links.pop_front.Goals as goal
 
 pub returns-then-node-end-clause-first : goal.returns-then-node-end-clause-first
@@ -67,3 +67,14 @@ returns-clause-free c =
     let listed = rw (← c.self.view_is) at c.requires in
     let left = popped_leads _ _ _ _ c.self.invariant c.args.list c.next-node.result c.next-after.result listed c.next-node.ensures c.if-node-end.false c.next-after.ensures c.remove.new.self.next.items c.remove.new.self.previous.items c.remove.ensures.next c.remove.ensures.previous in
     rw left.0.1 (unheld_from_free _ c.next-node.result left.1)
+
+pub returns-then-node-end-clause-none : goal.returns-then-node-end-clause-none
+returns-then-node-end-clause-none c =
+    let listed = rw (← c.self.view_is) at c.requires in
+    let empty = empty_first _ _ _ _ c.self.invariant c.args.list c.next-node.result listed c.next-node.ensures c.if-node-end.true in
+    rw (← c.self.view_is, empty) (λ none. refl, λ none. refl)
+
+pub returns-clause-none : goal.returns-clause-none
+returns-clause-none c =
+    let listed = rw (← c.self.view_is) at c.requires in
+    rw (← c.self.view_is) (none_first _ _ (first_node _ _ _ _ c.self.invariant c.args.list c.next-node.result c.next-after.result listed c.next-node.ensures c.if-node-end.false c.next-after.ensures).first)
