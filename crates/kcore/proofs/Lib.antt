@@ -1,5 +1,8 @@
 mod Finds
 mod FreshTable
+mod FirstCount
+mod Performing
+mod ReadyChanges
 mod ReadyLists
 mod ReadyQueues
-mod Sets
+mod Results

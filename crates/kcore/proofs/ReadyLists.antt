@@ -71,7 +71,7 @@ apart_filtered p (q ∷ qs) apart = elim (cases_Bool (p q)) [
     none_filtered : (p : ObjNo → Bool) (qs : List ObjNo) (t : ObjNo) → is_listed qs t ≡ false → is_listed (filter p qs) t ≡ false
     none_filtered p qs t none = elim (cases_Bool (is_listed (filter p qs) t)) as (λ _. is_listed (filter p qs) t ≡ false) [
       | inl some ↦ let all = filtered_listed p qs t some in absurd (cc)
-      | inr no ↦ no
+      | inr none_left ↦ none_left
     ]
 
 -- where all pass, the filtered list is the whole
@@ -135,3 +135,14 @@ leave_is_filter script S t (m ∷ ms) qs others =
       | inr not_asked ↦ others u was.0 (or_from (is_listed (touched t m) u) (is_touched t ms u) not_asked apart)
     ])
     ∙ leave_filter script S (touched t m) qs
+
+-- no thread is another than itself
+pub itself_stays : (t : ObjNo) → not (t.0 == t.0) ≡ true → ⊥
+itself_stays t h = let e = eq-eqb t.0 t.0 refl in let clash : false ≡ true = rw e at h in absurd (cc)
+
+-- without a thread that isn't listed the list is the same
+pub without_unlisted : (t : ObjNo) (qs : List ObjNo) → is_listed qs t ≡ false → unlisted t qs ≡ qs
+without_unlisted t [] none = refl
+without_unlisted t (q ∷ qs) none =
+    let parts = or_parts (q.0 == t.0) (is_listed qs t) none in
+    rw parts.0 (ap (λ (l : List ObjNo). q ∷ l) (without_unlisted t qs parts.1))

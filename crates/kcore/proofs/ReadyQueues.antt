@@ -1,7 +1,7 @@
 -- The machine's one list of ready threads and the queues of the 64 priorities: where the queues are those
 -- of the list, they are so after each change, and both have the same first thread.
 use Rattle.std.proofs.Common.{◌≡◌, ◌≢◌, inl, inr, ℕ, ◌<◌, Bool, true, false, List, [], ◌∷◌, ◌++◌, arith, refl, sym, subst, ap, ◌∙◌}
-use Rattle.std.specs.Prelude.{◌==◌, ◌||◌, not, max, nat_lt, find, filter, All, Option, Some, None, option_map}
+use Rattle.std.specs.Prelude.{◌==◌, ◌||◌, not, max, nat_lt, find, filter, slice_get, All, Option, Some, None, option_map}
 use Rattle.std.specs.List.{list_any}
 use Rattle.std.proofs.lemmas.Bool.{cases_Bool, cases_lt, eq-eqb, eqb-true, ne_eqb, lt-ltb, le-ltb, or_left, or_right, or_parts, false_from_ne_true}
 use Rattle.std.proofs.lemmas.List.{map-append, length-replicate, get_or-replicate}
@@ -9,74 +9,34 @@ use Rattle.std.proofs.lemmas.List.Elements.{All-nil, All-head, All-tail}
 use Rattle.sym_base.specs.declared.number.ObjNo.{ObjNo}
 use Rattle.ready_list.specs.Queue.{holds}
 use Rattle.ready_list.specs.Ready.{Ready, no_threads, added, removed, rotated, first_of_highest, priority_of}
-use Rattle.ready_list.specs.Arrival.{queue_of, AreQueuesOf, better, best, unlisted, rearrived, is_listed as is_paired}
+use Rattle.ready_list.specs.Arrival.{queue_of, AreQueuesOf, unlisted, rearrived, is_listed as is_paired}
 use Rattle.ready_list.proofs.Arrival.{added_last, removed_unlisted, rotated_last, picked_is, ready_listed, priority_is, holds_listed}
-use Rattle.machine.specs.Greatest.{greatest, first_of_greatest}
+use Rattle.sym_base.specs.Greatest.{first_of_greatest}
+use Rattle.sym_base.proofs.Greatest.{greatest_map, is_first_of_greatest}
 use Rattle.machine.specs.Arrivals.{is_listed}
 use Rattle.machine.specs.Tick.{moved_behind}
 use Rattle.machine.specs.WellFormed.{AreApart}
 use Rattle.kcore.specs.ReadyQueues.{pair, pairs}
+use Rattle.kcore.proofs.ReadyLists.{without_unlisted}
 
--- what is found by its priority has it
-found_priority : (rank : ObjNo → ℕ) → (p : ℕ) (qs : List ObjNo) (q : ObjNo) → find (λ x. (rank x) == p) qs ≡ Some q → (rank q) ≡ p
-found_priority rank p [] q is = absurd (cc)
-found_priority rank p (x ∷ xs) q is =
-    elim (cases_Bool ((rank x) == p)) [
-      | inl here ↦
-          let e : Some x ≡ Some q = rw here at is in
-          let same : x ≡ q = cc in
-          ap (λ (y : ObjNo). (rank y)) (sym same) ∙ eqb-true (rank x) p here
-      | inr there ↦ found_priority rank p xs q (rw there at is)
-    ]
+-- what is found first is the first of those that pass
+find_first : (p : ObjNo → Bool) (qs : List ObjNo) → find p qs ≡ slice_get (filter p qs) 0
+find_first p [] = refl
+find_first p (q ∷ qs) = elim (cases_Bool (p q)) [ inl passes ↦ rw passes refl | inr fails ↦ rw fails (find_first p qs) ]
 
--- the greatest priority is somebody's
-none_found : (rank : ObjNo → ℕ) → (qs : List ObjNo) (p : ℕ) → p ≡ greatest rank qs → find (λ x. (rank x) == p) qs ≡ None → qs ≡ []
-none_found rank [] p e none = refl
-none_found rank (x ∷ xs) p e none =
-    elim (cases_Bool ((rank x) == p)) [
-      | inl here ↦ let clash : Some x ≡ None = rw here at none in absurd (cc)
-      | inr there ↦
-          let rest : find (λ y. (rank y) == p) xs ≡ None = rw there at none in
-          let apart : (rank x) ≢ p = λ at. let same = eq-eqb (rank x) p at in cc in
-          let nobody : xs ≡ [] = none_found rank xs p (omega arith) rest in
-          let zero : greatest rank xs ≡ 0 = ap (greatest rank) nobody in
-          absurd (omega arith)
-    ]
+-- the first of the greatest priority is the first of its priority
+chosen_first : (rank : ObjNo → ℕ) (qs : List ObjNo) (q : ObjNo) → first_of_greatest rank qs ≡ Some q → find (λ x. (rank x) == (rank q)) qs ≡ Some q
+chosen_first rank qs q some = find_first (λ x. (rank x) == (rank q)) qs ∙ (is_first_of_greatest rank qs q some).first
 
--- one more thread in front
-best_step : (rank : ObjNo → ℕ) → (q : ObjNo) (qs : List ObjNo) (found : Option ObjNo) → first_of_greatest rank qs ≡ found → best (pairs rank qs) ≡ option_map (pair rank) found → better (pair rank q) (best (pairs rank qs)) ≡ option_map (pair rank) (first_of_greatest rank (q ∷ qs))
-best_step rank q qs None none is =
-    let nobody : qs ≡ [] = none_found rank qs (greatest rank qs) refl none in
-    let zero : greatest rank qs ≡ 0 = ap (greatest rank) nobody in
-    let test : ((rank q) == max (rank q) (greatest rank qs)) ≡ true = eq-eqb (rank q) (max (rank q) (greatest rank qs)) (omega arith) in
-    ap (better (pair rank q)) is ∙ rw test refl
-best_step rank q qs (Some y) some is =
-    let of_y : (rank y) ≡ greatest rank qs = found_priority rank (greatest rank qs) qs y some in
-    elim (cases_lt (rank q) (greatest rank qs)) [
-      | inl above ↦
-          let most : max (rank q) (greatest rank qs) ≡ greatest rank qs = omega arith in
-          let test : ((rank q) == max (rank q) (greatest rank qs)) ≡ false = ne_eqb (rank q) (max (rank q) (greatest rank qs)) (λ e. absurd (omega arith)) in
-          let rest : find (λ x. (rank x) == max (rank q) (greatest rank qs)) qs ≡ Some y = ap (λ p. find (λ (x : ObjNo). (rank x) == p) qs) most ∙ some in
-          let lower : nat_lt (rank q) (rank y) ≡ true = lt-ltb (rank q) (rank y) (omega arith) in
-          ap (better (pair rank q)) is ∙ rw (lower, test, rest) refl
-      | inr below ↦
-          let test : ((rank q) == max (rank q) (greatest rank qs)) ≡ true = eq-eqb (rank q) (max (rank q) (greatest rank qs)) (omega arith) in
-          let no_lower : nat_lt (rank q) (rank y) ≡ false = le-ltb (rank q) (rank y) (omega arith) in
-          ap (better (pair rank q)) is ∙ rw (no_lower, test) refl
-    ]
-
--- the best of the pairs is the machine's choice
-best_is_first : (rank : ObjNo → ℕ) → (qs : List ObjNo) → best (pairs rank qs) ≡ option_map (pair rank) (first_of_greatest rank qs)
-best_is_first rank [] = refl
-best_is_first rank (q ∷ qs) = best_step rank q qs (first_of_greatest rank qs) refl (best_is_first rank qs)
-
-thread_of_pair : (rank : ObjNo → ℕ) → (found : Option ObjNo) → option_map (λ (x : ObjNo × ℕ). x.0) (option_map (pair rank) found) ≡ option_map (λ (q : ObjNo). q) found
+-- the thread of a pair
+thread_of_pair : (rank : ObjNo → ℕ) (found : Option ObjNo) → option_map (λ (x : ObjNo × ℕ). x.0) (option_map (pair rank) found) ≡ found
 thread_of_pair rank None = refl
 thread_of_pair rank (Some q) = refl
 
 -- the first of the highest queue is the thread that the machine chooses
-pub picked_queued : (rank : ObjNo → ℕ) → (qs : List ObjNo) (r : Ready) → AreQueuesOf (pairs rank qs) r → first_of_highest r.queues ≡ option_map (λ (q : ObjNo). q) (first_of_greatest rank qs)
-picked_queued rank qs r are = picked_is (pairs rank qs) r are ∙ (ap (λ (found : Option (ObjNo × ℕ)). option_map (λ (x : ObjNo × ℕ). x.0) found) (best_is_first rank qs) ∙ thread_of_pair rank (first_of_greatest rank qs))
+pub picked_queued : (rank : ObjNo → ℕ) (qs : List ObjNo) (r : Ready) → AreQueuesOf (pairs rank qs) r → first_of_highest r.queues ≡ first_of_greatest rank qs
+picked_queued rank qs r are =
+    picked_is (pairs rank qs) r are ∙ (ap (λ (found : Option (ObjNo × ℕ)). option_map (λ (x : ObjNo × ℕ). x.0) found) (greatest_map (λ (y : ObjNo × ℕ). y.1) (pair rank) qs) ∙ thread_of_pair rank (first_of_greatest rank qs))
 
 -- a thread is among the pairs where it is listed
 paired_listed : (rank : ObjNo → ℕ) → (t : ObjNo) (qs : List ObjNo) → is_paired t (pairs rank qs) ≡ is_listed qs t
@@ -88,8 +48,8 @@ pub ready_queued : (rank : ObjNo → ℕ) → (qs : List ObjNo) (r : Ready) (t :
 ready_queued rank qs r t are = ready_listed (pairs rank qs) r t are ∙ paired_listed rank t qs
 
 -- nobody is ready
-pub nobody_queued : (n : ℕ) → AreQueuesOf (pairs rank []) (no_threads n)
-nobody_queued n = record {
+pub nobody_queued : (rank : ObjNo → ℕ) (n : ℕ) → AreQueuesOf (pairs rank []) (no_threads n)
+nobody_queued rank n = record {
   ranged = All-nil (λ (x : ObjNo × ℕ). x.1 < 64);
   sized = length-replicate {A = List ObjNo} 64 [];
   each = λ p low. get_or-replicate 64 p [] [] low;
@@ -129,13 +89,6 @@ other_thread x q xs none some =
     false_from_ne_true (x.0 == q.0) (λ same.
     let at : is_listed xs x ≡ is_listed xs q = ap (λ (n : ℕ). list_any (λ (y : ObjNo). y.0 == n) xs) (eqb-true x.0 q.0 same) in cc)
 
--- without a thread that isn't listed the list is the same
-pub without_unlisted : (t : ObjNo) (qs : List ObjNo) → is_listed qs t ≡ false → filter (λ q. not (q.0 == t.0)) qs ≡ qs
-without_unlisted t [] none = refl
-without_unlisted t (q ∷ qs) none =
-    let parts = or_parts (q.0 == t.0) (is_listed qs t) none in
-    rw parts.0 (ap (λ (l : List ObjNo). q ∷ l) (without_unlisted t qs parts.1))
-
 -- the first of a priority gets a new arrival
 behind_is : (rank : ObjNo → ℕ) → (p : ℕ) (qs : List ObjNo) (q : ObjNo) → AreApart qs → find (λ x. (rank x) == p) qs ≡ Some q → pairs rank (filter (λ x. not (x.0 == q.0)) qs ++ q ∷ []) ≡ rearrived p (pairs rank qs)
 behind_is rank p [] q once is = absurd (cc)
@@ -167,20 +120,18 @@ found_ranged rank p (x ∷ xs) q ranged is =
     ]
 
 -- the priority of the chosen thread is one of the 64
-pub chosen_ranged : (rank : ObjNo → ℕ) → (qs : List ObjNo) (r : Ready) (q : ObjNo) → AreQueuesOf (pairs rank qs) r → first_of_greatest rank qs ≡ Some q → (rank q) < 64
-chosen_ranged rank qs r q are some = found_ranged rank (greatest rank qs) qs q are.ranged some
+pub chosen_ranged : (rank : ObjNo → ℕ) (qs : List ObjNo) (r : Ready) (q : ObjNo) → AreQueuesOf (pairs rank qs) r → first_of_greatest rank qs ≡ Some q → rank q < 64
+chosen_ranged rank qs r q are some = found_ranged rank (rank q) qs q are.ranged (chosen_first rank qs q some)
+
+-- the chosen thread is listed
+pub chosen_listed : (rank : ObjNo → ℕ) (qs : List ObjNo) (q : ObjNo) → first_of_greatest rank qs ≡ Some q → is_listed qs q ≡ true
+chosen_listed rank qs q some = found_listed rank (rank q) qs q (chosen_first rank qs q some)
 
 -- a time slice ends: the queue of the chosen thread's priority turns
-pub turned_queued : (rank : ObjNo → ℕ) → (qs : List ObjNo) (r : Ready) (q : ObjNo) → AreApart qs → AreQueuesOf (pairs rank qs) r → first_of_greatest rank qs ≡ Some q → AreQueuesOf (pairs rank (moved_behind qs (first_of_greatest rank qs))) (rotated r (rank q))
+pub turned_queued : (rank : ObjNo → ℕ) (qs : List ObjNo) (r : Ready) (q : ObjNo) → AreApart qs → AreQueuesOf (pairs rank qs) r → first_of_greatest rank qs ≡ Some q → AreQueuesOf (pairs rank (moved_behind qs (Some q))) (rotated r (rank q))
 turned_queued rank qs r q once are some =
-    let of_q = found_priority rank (greatest rank qs) qs q some in
-    let behind : pairs rank (moved_behind qs (first_of_greatest rank qs)) ≡ rearrived (greatest rank qs) (pairs rank qs) = ap (λ (first : Option ObjNo). pairs rank (moved_behind qs first)) some ∙ behind_is rank (greatest rank qs) qs q once some in
-    let is : pairs rank (moved_behind qs (first_of_greatest rank qs)) ≡ rearrived (rank q) (pairs rank qs) = behind ∙ ap (λ (p : ℕ). rearrived p (pairs rank qs)) (sym of_q) in
+    let is : pairs rank (moved_behind qs (Some q)) ≡ rearrived (rank q) (pairs rank qs) = behind_is rank (rank q) qs q once (chosen_first rank qs q some) in
     subst (λ (l : List (ObjNo × ℕ)). AreQueuesOf l (rotated r (rank q))) (sym is) (rotated_last (pairs rank qs) r (rank q) (chosen_ranged rank qs r q are some) are)
-
--- and nothing changes where nobody is ready
-pub turned_nobody : (rank : ObjNo → ℕ) → (qs : List ObjNo) → first_of_greatest rank qs ≡ None → moved_behind qs (first_of_greatest rank qs) ≡ qs
-turned_nobody rank qs none = ap (moved_behind qs) none
 
 -- what is found stands in the queue of its priority
 found_held : (rank : ObjNo → ℕ) → (p : ℕ) (qs : List ObjNo) (q : ObjNo) → find (λ x. (rank x) == p) qs ≡ Some q → holds q (queue_of p (pairs rank qs)) ≡ true
@@ -221,9 +172,8 @@ held_once rank p c (x ∷ xs) q once is held =
     ]
 
 -- the queues say the priority of the chosen thread
-pub chosen_priority : (rank : ObjNo → ℕ) → (qs : List ObjNo) (r : Ready) (q : ObjNo) → AreApart qs → AreQueuesOf (pairs rank qs) r → first_of_greatest rank qs ≡ Some q → priority_of r q ≡ Some (rank q)
+pub chosen_priority : (rank : ObjNo → ℕ) (qs : List ObjNo) (r : Ready) (q : ObjNo) → AreApart qs → AreQueuesOf (pairs rank qs) r → first_of_greatest rank qs ≡ Some q → priority_of r q ≡ Some (rank q)
 chosen_priority rank qs r q once are some =
-    let of_q = found_priority rank (greatest rank qs) qs q some in
-    let found : find (λ x. (rank x) == (rank q)) qs ≡ Some q = ap (λ p. find (λ (x : ObjNo). (rank x) == p) qs) of_q ∙ some in
+    let found = chosen_first rank qs q some in
     priority_is (pairs rank qs) r q (rank q) are (chosen_ranged rank qs r q are some) (found_held rank (rank q) qs q found)
     (λ c held. held_once rank (rank q) c qs q once found held)

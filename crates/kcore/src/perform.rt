@@ -34,9 +34,9 @@ pub fn perform<W: RefWords + Drop>(
 {
     let mut effects = Effects::new();
     for change in moves {
-        add_effects(&mut effects, told(tables, *change));
+        add_effects(&mut effects, told(tables, *change).as_slice());
         make_move(tables, thread, *change)?;
-        arrive_touched(script, tables, ready, touched(thread, *change))?;
+        arrive_touched(script, tables, ready, touched(thread, *change));
     }
     Ok(effects)
 }

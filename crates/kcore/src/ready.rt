@@ -1,12 +1,15 @@
 //! The queues of ready threads follow the moves of an action: who becomes ready comes, and who has nothing left to
 //! do leaves at the end.
-ghost use Rattle.std.specs.Prelude.{◌≡◌, ℕ, ◌<◌, OnOk};
+ghost use Rattle.std.specs.Prelude.{◌≡◌, ℕ, ◌<◌, List};
 ghost use Rattle.sym_base.specs.declared.limits.TheConstants.Limits.{BOOT_OBJECTS};
 ghost use Rattle.sym_base.specs.declared.number.ObjNo.{ObjNo};
 ghost use Rattle.machine.specs.Arrivals.{arrive, one_of, threads_of, unlisted};
-ghost use Rattle.machine.specs.Choice.{priority_of};
+ghost use Rattle.sym_base.specs.Greatest.{first_of_greatest};
+ghost use Rattle.ready_list.specs.Arrival.{AreQueuesOf};
+ghost use Rattle.machine.specs.Choice.{priority_of, actor_of};
+ghost use Rattle.machine.specs.Tick.{moved_behind};
 ghost use Rattle.kcore.specs.Moved.{AreKnown};
-ghost use Rattle.kcore.specs.ReadyQueues.{Follow, leave, leave_along};
+ghost use Rattle.kcore.specs.ReadyQueues.{Follow, SomeReady, pairs, leave, leave_along};
 ghost use Rattle.kcore.specs.StateOf.{state_of};
 
 use crate::tables::Tables;
@@ -14,7 +17,8 @@ use machine::{Move, TouchedThreads, is_ready, row_of, touched};
 use ready_list::ReadyList;
 use ref_words::RefWords;
 use script_types::Script;
-use sym_base::{Limits, NoMemory, ThreadNo};
+use entry_log::Actor;
+use sym_base::{Limits, ThreadNo};
 
 /// A thread comes behind the others of its priority, where it is ready and stands in no queue.
 fn arrive<W: RefWords + Drop>(
@@ -22,22 +26,21 @@ fn arrive<W: RefWords + Drop>(
     tables: &Tables<W>,
     ready: &mut ReadyList,
     thread: Option<ThreadNo>,
-) -> Result<(), NoMemory>
+)
     requires known { AreKnown (state_of tables.now) }
     requires size { ready.old.threads ≡ BOOT_OBJECTS }
     ensures size { ready.new.threads ≡ BOOT_OBJECTS }
-    ensures queues { OnOk result (Follow (priority_of (state_of tables.now)) (arrive script.now (state_of tables.now) (one_of thread)) ready.old ready.new) }
+    ensures queues { Follow (priority_of (state_of tables.now)) (arrive script.now (state_of tables.now) (one_of thread)) ready.old ready.new }
 {
     let Some(thread) = thread else {
-        return Ok(());
+        return;
     };
     let Some(row) = row_of(&tables.threads, thread) else {
-        return Ok(());
+        return;
     };
     if is_ready(script, tables, thread) && ready.priority_of(thread).is_none() {
-        ready.add(thread, row.priority)?;
+        ready.add(thread, row.priority);
     }
-    Ok(())
 }
 
 /// Those come that a move touched.
@@ -46,14 +49,14 @@ pub fn arrive_touched<W: RefWords + Drop>(
     tables: &Tables<W>,
     ready: &mut ReadyList,
     touched: TouchedThreads,
-) -> Result<(), NoMemory>
+)
     requires known { AreKnown (state_of tables.now) }
     requires size { ready.old.threads ≡ BOOT_OBJECTS }
     ensures size { ready.new.threads ≡ BOOT_OBJECTS }
-    ensures queues { OnOk result (Follow (priority_of (state_of tables.now)) (arrive script.now (state_of tables.now) (threads_of touched)) ready.old ready.new) }
+    ensures queues { Follow (priority_of (state_of tables.now)) (arrive script.now (state_of tables.now) (threads_of touched)) ready.old ready.new }
 {
-    arrive(script, tables, ready, touched.first)?;
-    arrive(script, tables, ready, touched.second)
+    arrive(script, tables, ready, touched.first);
+    arrive(script, tables, ready, touched.second);
 }
 
 /// Takes a thread off the queues, where it stands in one.
@@ -118,5 +121,28 @@ pub fn leave_along<W: RefWords + Drop>(
 {
     for change in moves {
         leave_touched(script, tables, ready, touched(thread, *change));
+    }
+}
+
+/// Whom the queues let act: the first thread of the highest queue, or nobody.
+pub fn chosen(ready: &ReadyList) -> Actor
+    ensures { (rank : ObjNo → ℕ) (qs : List ObjNo) → AreQueuesOf (pairs rank qs) ready.now → result ≡ actor_of (first_of_greatest rank qs) }
+{
+    match ready.pick() {
+        Some(thread) => Actor::Thread(thread),
+        None => Actor::Idle,
+    }
+}
+
+/// Puts the thread that would be chosen behind its equals.
+pub fn turn(ready: &mut ReadyList)
+    requires { SomeReady ready.old }
+    ensures { (rank : ObjNo → ℕ) → Follow rank (λ qs. moved_behind qs (first_of_greatest rank qs)) ready.old ready.new }
+{
+    let Some(first) = ready.pick() else {
+        return;
+    };
+    if let Some(priority) = ready.priority_of(first) {
+        ready.rotate(priority);
     }
 }
