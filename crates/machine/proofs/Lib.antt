@@ -7,4 +7,5 @@ pub mod References
 pub mod Registers
 pub mod RowLaws
 pub mod MoveLaws
+pub mod Fitting
 pub mod WorkedExample
