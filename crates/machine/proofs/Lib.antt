@@ -1,11 +1,10 @@
-pub mod Capped
-pub mod FewEffects
+pub mod AtBoot
+pub mod Fitting
 pub mod Holders
 pub mod Lists
 pub mod Lives
-pub mod References
-pub mod Registers
-pub mod RowLaws
 pub mod MoveLaws
-pub mod Fitting
+pub mod PlainMachine
+pub mod References
+pub mod RowLaws
 pub mod WorkedExample

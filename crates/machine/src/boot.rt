@@ -1,11 +1,228 @@
 //! What stands at boot.
-use crate::ThreadRow;
-use state_rows::ObjectRow;
+ghost use Rattle.std.specs.Prelude.{◌≡◌, ℕ, ◌+◌, ◌<◌, ◌≤◌, ◌++◌, [], ◌∷◌, codes, false, IfOk, OnOk, length, map, replicate, vec_len};
+ghost use Rattle.script_types.specs.Shape.{IsShaped};
+ghost use Rattle.machine.specs.Boot.{boot_object, born_process, new_thread, born_thread, is_of, has_any, born_threads, born, ready_from, boot_of, boot};
+ghost use Rattle.machine.specs.Handles.{fresh_slot};
+ghost use Rattle.machine.specs.declared.state.Role.TheVariants as role;
 
-/// A process or thread that stands at boot; of a thread its row, and whether it is ready.
+use crate::handles::FRESH_SLOT;
+use crate::{Found, HandleSlot, Owed, Role, State, ThreadRow};
+use script_types::{Script, ThreadDecl};
+use state_rows::ObjectRow;
+use std::alloc::Global;
+use sym_base::{Items, Kind, Limits, Name, NoMemory, ObjNo, ThreadNo, read_name};
+
+/// A process or thread that stands at boot; of a thread its row, and whether it has an instruction.
 #[derive(Clone, Copy)]
 pub struct Born {
     pub object: ObjectRow,
     pub thread: Option<ThreadRow>,
     pub works: bool,
+}
+
+/// The kernel's own process.
+const KERNEL: ObjNo = ObjNo(0);
+
+/// The priority of the supervisor.
+const SUPERVISOR_PRIORITY: u8 = 48;
+
+/// An object that stands at boot.
+fn boot_object(kind: Kind, name: Name) -> ObjectRow
+    ensures { result ≡ boot_object kind name }
+{
+    ObjectRow {
+        kind,
+        name,
+        dead: false,
+    }
+}
+
+/// A process.
+fn born_process(name: Name) -> Born
+    ensures { result ≡ born_process name }
+{
+    Born {
+        object: boot_object(Kind::Process, name),
+        thread: None,
+        works: false,
+    }
+}
+
+/// A thread of this process.
+fn new_thread(process: ObjNo, role: Role, priority: u8) -> ThreadRow
+    ensures { result ≡ new_thread process.0 role priority }
+{
+    ThreadRow {
+        role,
+        process,
+        link: Some(process),
+        priority,
+        next_instruction: 0,
+        part: None,
+        found: Found::Nothing,
+        uses: None,
+        registers: [0; 8],
+    }
+}
+
+/// The thread that is declared at this place.
+fn born_thread(process: ObjNo, number: u8, declared: &ThreadDecl) -> Born
+    ensures { result ≡ born_thread process.0 number declared.now }
+{
+    Born {
+        object: boot_object(Kind::Thread, declared.name),
+        thread: Some(new_thread(process, Role::Declared(number), declared.priority)),
+        works: !declared.instrs.is_empty(),
+    }
+}
+
+/// The kernel's own process, and the supervisor, its one thread.
+fn born_kernel(alloc: Global) -> Result<Vec<Born>, NoMemory>
+    ensures { IfOk result (λ all. all.items ≡ born_process (codes "kernel") ∷ record { object = boot_object Kind.Thread (codes "supervisor"); thread = Some (new_thread 0 role.Supervisor 48); works = false } ∷ []) }
+{
+    let mut all = Vec::new(alloc);
+    all.push(born_process(read_name(b"kernel").unwrap()))?;
+    all.push(Born {
+        object: boot_object(Kind::Thread, read_name(b"supervisor").unwrap()),
+        thread: Some(new_thread(KERNEL, Role::Supervisor, SUPERVISOR_PRIORITY)),
+        works: false,
+    })?;
+    Ok(all)
+}
+
+/// Whether a declared thread is of the process at a place among the declared ones.
+fn is_of(process: u8, of: Option<u8>) -> bool
+    ensures { result ≡ is_of process of }
+{
+    match of {
+        Some(number) => number == process,
+        None => false,
+    }
+}
+
+/// Adds the threads of a process.
+fn push_threads(
+    all: &mut Vec<Born>,
+    process: u8,
+    number: ObjNo,
+    threads: &[ThreadDecl],
+) -> Result<(), NoMemory>
+    requires { length threads.now ≤ 63 }
+    ensures ok { OnOk result (all.new.items ≡ all.old.items ++ born_threads process number.0 0 threads.now) }
+    ensures few { vec_len all.new ≤ vec_len all.old + 63 }
+{
+    for (k, declared) in threads.iter().enumerate() {
+        if !is_of(process, declared.process) {
+            continue;
+        }
+        all.push(born_thread(number, k as u8, declared))?;
+    }
+    Ok(())
+}
+
+/// All that stands at boot, in order of object number: the kernel's process and its supervisor, and
+/// then each process with its threads behind it.
+pub fn all_born(alloc: Global, script: &Script) -> Result<Items<Born>, NoMemory>
+    requires { IsShaped script.now }
+    ensures { IfOk result (λ all. all ≡ born script.now) }
+{
+    let mut all = born_kernel(alloc)?;
+    for (j, process) in script.processes.as_slice().iter().enumerate() {
+        let number = ObjNo(all.len() as u16);
+        all.push(born_process(process.name))?;
+        push_threads(&mut all, j as u8, number, script.threads.as_slice())?;
+    }
+    Ok(Items::new(all))
+}
+
+/// An empty handle table.
+fn fresh_table(alloc: Global) -> Result<Items<HandleSlot>, NoMemory>
+    ensures { IfOk result (λ table. table ≡ replicate 256 fresh_slot) }
+{
+    let slots = [FRESH_SLOT; Limits::HANDLES];
+    Ok(Items::new(Vec::from_slice(alloc, &slots)?))
+}
+
+/// An empty handle table for each.
+fn fresh_tables(alloc: Global, all: &[Born]) -> Result<Items<Items<HandleSlot>>, NoMemory>
+    ensures { IfOk result (λ tables. tables ≡ map (λ _. replicate 256 fresh_slot) all.now) }
+{
+    let mut tables = Vec::new(alloc);
+    for _born in all {
+        tables.push(fresh_table(alloc)?)?;
+    }
+    Ok(Items::new(tables))
+}
+
+/// Nothing that each owes.
+fn no_duties(alloc: Global, all: &[Born]) -> Result<Items<Items<Owed>>, NoMemory>
+    ensures { IfOk result (λ duties. duties ≡ map (λ _. []) all.now) }
+{
+    let mut duties = Vec::new(alloc);
+    for _born in all {
+        duties.push(Items::new(Vec::new(alloc)))?;
+    }
+    Ok(Items::new(duties))
+}
+
+/// The threads that have an instruction are ready, in order of number.
+fn ready_from(alloc: Global, all: &[Born]) -> Result<Items<ThreadNo>, NoMemory>
+    requires { length all.now ≤ 65536 }
+    ensures { IfOk result (λ ready. ready ≡ ready_from 0 all.now) }
+{
+    let mut ready = Vec::new(alloc);
+    for (n, born) in all.iter().enumerate() {
+        if !born.works {
+            continue;
+        }
+        ready.push(ObjNo(n as u16))?;
+    }
+    Ok(Items::new(ready))
+}
+
+/// The objects of what stands at boot.
+fn objects_of(alloc: Global, all: &[Born]) -> Result<Items<Option<ObjectRow>>, NoMemory>
+    ensures { IfOk result (λ objects. objects ≡ map (λ b. Some b.object) all.now) }
+{
+    let mut objects = Vec::new(alloc);
+    for born in all {
+        objects.push(Some(born.object))?;
+    }
+    Ok(Items::new(objects))
+}
+
+/// The threads of what stands at boot.
+fn threads_of(alloc: Global, all: &[Born]) -> Result<Items<Option<ThreadRow>>, NoMemory>
+    ensures { IfOk result (λ threads. threads ≡ map (λ b. b.thread) all.now) }
+{
+    let mut threads = Vec::new(alloc);
+    for born in all {
+        threads.push(born.thread)?;
+    }
+    Ok(Items::new(threads))
+}
+
+/// The state in which these stand, each with an empty table and nothing that it owes.
+#[tactic(auto, unfolding(crate::specs::Boot::boot_of))]
+pub fn boot_of(alloc: Global, all: &[Born]) -> Result<State, NoMemory>
+    requires { length all.now ≤ 65536 }
+    ensures { IfOk result (λ state. state ≡ boot_of all.now) }
+{
+    Ok(State {
+        objects: objects_of(alloc, all)?,
+        handles: fresh_tables(alloc, all)?,
+        threads: threads_of(alloc, all)?,
+        ready: ready_from(alloc, all)?,
+        owed: no_duties(alloc, all)?,
+    })
+}
+
+/// The state at boot.
+#[tactic(auto, using(crate::proofs::Boot::Born::born_few))]
+pub fn boot(alloc: Global, script: &Script) -> Result<State, NoMemory>
+    requires { IsShaped script.now }
+    ensures { IfOk result (λ state. state ≡ boot script.now) }
+{
+    let all = all_born(alloc, script)?;
+    boot_of(alloc, all.as_slice())
 }

@@ -1,6 +1,6 @@
 //! Counting references by going over all the rows that hold one. Counts stand still at the end of their
 //! type, which no state that a history leaves comes near.
-ghost use Rattle.std.specs.Prelude.{◌≡◌, ◌-◌, ◌^◌, ◌≤◌, min};
+ghost use Rattle.std.specs.Prelude.{◌≡◌, ◌-◌, ◌^◌, ◌<◌, ◌≤◌, min, nat_lt};
 ghost use Rattle.machine.specs.References.{total, same, option_names, slot_names, thread_names, owed_names, kernel_names, count_of, is_last};
 
 use crate::rows::thread_of;
@@ -112,8 +112,8 @@ fn kernel_names(state: &State, object: ObjNo) -> u32
     }
 }
 
-/// The count of an object: the number of references to it.
-pub fn count_of(state: &State, object: ObjNo) -> u32
+/// The number of references to an object.
+fn capped_count(state: &State, object: ObjNo) -> u32
     ensures { result ≡ min (count_of state.now object) (2 ^ 32 - 1) }
 {
     let handles = tables_total(object, state.handles.as_slice());
@@ -125,10 +125,26 @@ pub fn count_of(state: &State, object: ObjNo) -> u32
         .saturating_add(owed)
 }
 
+/// The count of an object: the number of references to it.
+pub fn count_of(state: &State, object: ObjNo) -> u32
+    requires { count_of state.now object < 65536 }
+    ensures { result ≡ count_of state.now object }
+{
+    capped_count(state, object)
+}
+
+/// Whether an object has a reference.
+#[tactic(auto, using(crate::proofs::PlainMachine::Capped::capped_above_none))]
+pub fn is_counted(state: &State, object: ObjNo) -> bool
+    ensures { result ≡ nat_lt 0 (count_of state.now object) }
+{
+    capped_count(state, object) > 0
+}
+
 /// Whether an object has one reference.
-#[tactic(auto, using(crate::proofs::Capped::capped_is_one))]
+#[tactic(auto, using(crate::proofs::PlainMachine::Capped::capped_is_one))]
 pub fn is_last(state: &State, object: ObjNo) -> bool
     ensures { result ≡ is_last state.now object }
 {
-    count_of(state, object) == 1
+    capped_count(state, object) == 1
 }

@@ -12,6 +12,7 @@ mod decide;
 mod decision;
 mod dup;
 mod duties;
+mod final_rows;
 mod find;
 mod handles;
 mod look;
@@ -31,7 +32,7 @@ mod transition;
 
 pub use arrivals::{TouchedThreads, touched};
 pub use boot::Born;
-pub use count::{count_of, is_last};
+pub use count::count_of;
 pub use decision::{Decision, Outcome};
 pub use duties::{drop_first_owed, owe_close, owe_use};
 pub use find::is_open;

@@ -26,6 +26,17 @@ fn closed_effects(last: bool, holder: Holder, object: ObjNo) -> Effects
     effects
 }
 
+/// What the payment of an item tells, from the state before it.
+fn told_of_payment<R: Reads>(reads: &R, what: Owed) -> Effects
+    requires { R.is_readable reads.now }
+    ensures { result ≡ told (Move.Pay what) (R.state reads.now) }
+{
+    match what {
+        Owed::Close(holder, object) => closed_effects(reads.is_last(object), holder, object),
+        Owed::Sweep(object) => one_effect(Effect::Swept(object)),
+    }
+}
+
 /// What a move tells, from the state before it.
 pub fn told<R: Reads>(reads: &R, change: Move) -> Effects
     requires { R.is_readable reads.now }
@@ -41,19 +52,16 @@ pub fn told<R: Reads>(reads: &R, change: Move) -> Effects
         Move::Find(_, object) => one_effect(Effect::Seek(object)),
         Move::Miss(object) => one_effect(Effect::Missed(object)),
         Move::GoOn(_, _) | Move::Write(_, _, _) | Move::Advance(_) => Effects::new(),
-        Move::Pay(Owed::Close(holder, object)) => {
-            closed_effects(reads.is_last(object), holder, object)
-        }
-        Move::Pay(Owed::Sweep(object)) => one_effect(Effect::Swept(object)),
+        Move::Pay(what) => told_of_payment(reads, what),
     }
 }
 
 /// Adds effects behind those so far.
-pub fn add_effects(effects: &mut Effects, more: Effects)
-    requires { length effects.old + length more ≤ 4 }
-    ensures { effects.new ≡ effects.old ++ more }
+pub fn add_effects(effects: &mut Effects, more: &[Effect])
+    requires { length effects.old + length more.now ≤ 4 }
+    ensures { effects.new ≡ effects.old ++ more.now }
 {
-    for effect in more.as_slice() {
+    for effect in more {
         effects.push(*effect);
     }
 }

@@ -1,9 +1,10 @@
 //! The plain machine's state, read by decisions.
-ghost use Rattle.std.specs.Prelude.{◌≡◌, ◌<◌, ◌≤◌, length, IfSome, position, nat_lt};
+ghost use Rattle.std.specs.Prelude.{◌≡◌, ◌<◌, ◌≤◌, length, IfSome, position};
+ghost use Rattle.std.specs.List.{list_any};
 ghost use Rattle.machine.specs.Find.{findable, find_object};
 ghost use Rattle.state_rows.specs.ObjectRows.{has_name, named, is_taken};
 
-use crate::count::{count_of, is_last};
+use crate::count::{is_counted, is_last};
 use crate::handles::{next_handle, slot_at};
 use crate::rows::{first_owed, object_of, table_of, thread_of};
 use crate::{HandleSlot, NewHandle, Owed, Reads, State, ThreadRow};
@@ -27,20 +28,26 @@ fn named(kind: Kind, name: &Name, rows: &[Option<ObjectRow>]) -> Option<ObjNo>
     Some(ObjNo(number as u16))
 }
 
-/// Whether an unswept object has this kind and name.
+/// Whether an unswept object has this kind and name, also where it is a session's.
+fn has_named(kind: Kind, name: &Name, rows: &[Option<ObjectRow>]) -> bool
+    ensures { result ≡ list_any (has_name kind name.now) rows.now }
+{
+    rows.iter().any(|row| has_name(kind, name, row))
+}
+
+/// Whether an unswept object has this kind and name, which no session has.
 fn is_taken(kind: Kind, name: &Name, rows: &[Option<ObjectRow>]) -> bool
     ensures { result ≡ is_taken kind name.now rows.now }
 {
-    !is_session(kind) && rows.iter().any(|row| has_name(kind, name, row))
+    !is_session(kind) && has_named(kind, name, rows)
 }
 
 /// The object, where it is dead or has a reference.
-#[tactic(auto, using(crate::proofs::Capped::capped_above_none))]
 fn findable(state: &State, found: Option<ObjNo>) -> Option<ObjNo>
     ensures { result ≡ findable state.now found }
 {
     let object = found?;
-    if is_dead_row(&object_of(state, object)) || count_of(state, object) > 0 {
+    if is_dead_row(&object_of(state, object)) || is_counted(state, object) {
         Some(object)
     } else {
         None

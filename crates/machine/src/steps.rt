@@ -57,7 +57,7 @@ fn pay(what: Owed) -> Decision
 }
 
 /// What a thread does in its next action: nothing, where it has nothing to do.
-#[tactic(auto, using(crate::proofs::Registers::task_has_registers))]
+#[tactic(auto, using(crate::proofs::PlainMachine::Registers::task_has_registers))]
 pub fn decision_of<R: Reads>(script: &Script, reads: &R, thread: ThreadNo) -> Decision
     requires shaped { IsShaped script.now }
     requires readable { R.is_readable reads.now }

@@ -36,7 +36,8 @@ fn perform(
     let mut effects = Effects::new();
     let mut ready = state.ready.copied(alloc)?;
     for change in moves {
-        add_effects(&mut effects, told(state, *change));
+        let more = told(state, *change);
+        add_effects(&mut effects, more.as_slice());
         make_move(state, thread, *change)?;
         arrive_touched(script, state, touched(thread, *change), &mut ready)?;
     }
@@ -81,7 +82,7 @@ fn idle(state: &State) -> Outcome
 }
 
 /// An action of a thread.
-#[tactic(auto, unfolding(crate::specs::Transition::act), using(crate::proofs::FewEffects::few_effects))]
+#[tactic(auto, unfolding(crate::specs::Transition::act), using(crate::proofs::PlainMachine::FewEffects::few_effects))]
 fn act(
     alloc: Global,
     script: &Script,

@@ -103,9 +103,9 @@ sound-go_on script S t u part fits rows =
       | inl returns ↦ elim (cases_eq u.0 k) as (λ _. (get_or S.owed k [] ≡ []) ⊎ IsPaidIn S.threads (with_row S.threads u f) k) [
         | inl at ↦ inl (ap (λ (n : ℕ). get_or S.owed n []) (sym at) ∙ fits.paid returns)
         | inr apart ↦ inr (record {
-            none = none-with_row S.threads u f;
-            going = λ h. ap (λ (y : Option ThreadRow). is_returning (part_of y)) (row-other S.threads u f k apart) ∙ h;
-          })
+          none = none-with_row S.threads u f;
+          going = λ h. ap (λ (y : Option ThreadRow). is_returning (part_of y)) (row-other S.threads u f k apart) ∙ h;
+        })
       ]
     ]) (silent S) rows
 
