@@ -3,4 +3,4 @@ pub mod Living
 pub mod Stepping
 pub mod Shared
 pub mod Steps
-
+pub mod Actions
