@@ -23,6 +23,7 @@ pub mod Room
 pub mod Rows
 pub mod Run
 pub mod SafeReferences
+pub mod Slots
 pub mod Steps
 pub mod Task
 pub mod Tick
