@@ -1,21 +1,12 @@
-use Rattle.std.proofs.Common.{rules, ◌≡◌, ◌≤◌, length, IfOk, List, ℕ, ◌+◌, ◌-◌, ◌*◌, ◌<◌, ◌/◌, ◌%◌, Bool, true, false, nat_eq, nat_lt, [], ◌∷◌, ◌++◌, slice_index_or, slice_set, bit_and, bit_or, Fits, w8, w32, w64, Bor, MutBor}
-use Rattle.script_types.specs.Shape.{IsShaped}
-use Rattle.machine.specs.History.{transition}
-use Rattle.machine.specs.Moves.{perform, tell}
-use Rattle.machine.specs.Arrivals.{ready_after}
-use Rattle.machine.specs.Room.{HasRoom}
-use Rattle.machine.specs.Steps.{decision_of}
-use Rattle.machine.specs.Transition.{idle, act, carried_out, left}
+use Rattle.std.proofs.Common.{◌∙◌}
+use Rattle.machine.proofs.PlainMachine.Performing.{goes_on_at, tells_few_at, room_for_one}
 use Rattle.machine.proofs.transition.perform.Goals as goal
 
--- src/transition.rt:40:9
 pub add_effects-requires : goal.add_effects-requires
-add_effects-requires c = ?
+add_effects-requires c = tells_few_at _ _ _ _ _ c.loop-change.change-index c.change-item.result _ _ _ c.loop-change-test.true c.change-item.is c.loop-change.invariant (c.as_slice.ensures.effects ∙ c.told-more.ensures) c.requires.few
 
--- src/transition.rt:41:9
 pub make_move-requires : goal.make_move-requires
-make_move-requires c = ?
+make_move-requires c = room_for_one _ _ _ _ _ c.loop-change.change-index c.change-item.result _ _ c.loop-change-test.true c.change-item.is c.loop-change.invariant
 
--- src/transition.rt:38:5
 pub loop-change-preserved : goal.loop-change-preserved
-loop-change-preserved c = ?
+loop-change-preserved c = goes_on_at _ _ _ _ _ _ c.loop-change.change-index c.change-item.result _ _ _ _ _ _ c.loop-change-test.true c.change-item.is c.loop-change.invariant c.in_ok-make_move.ensures c.add_effects.ensures (c.as_slice.ensures.effects ∙ c.told-more.ensures) c.in_ok-arrive_touched.ensures c.touched.ensures
