@@ -1,4 +1,5 @@
 pub mod Arrivals
+pub mod BestSoFar
 pub mod Boot
 pub mod Choice
 pub mod Close
@@ -9,7 +10,6 @@ pub mod Dup
 pub mod FinalRows
 pub mod Find
 pub mod Fits
-pub mod Greatest
 pub mod Handles
 pub mod HeldIn
 pub mod History
@@ -23,6 +23,7 @@ pub mod Room
 pub mod Rows
 pub mod Run
 pub mod SafeReferences
+pub mod Slots
 pub mod Steps
 pub mod Task
 pub mod Tick
