@@ -5,6 +5,8 @@ pub mod Lists
 pub mod Lives
 pub mod MoveLaws
 pub mod PlainMachine
+pub mod Reached
+pub mod Readiness
 pub mod References
 pub mod RowLaws
 pub mod WorkedExample
