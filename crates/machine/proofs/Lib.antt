@@ -6,4 +6,5 @@ pub mod PlainMachine
 pub mod MoveLaws
 pub mod References
 pub mod RowLaws
+pub mod ValidExample
 pub mod WorkedExample
