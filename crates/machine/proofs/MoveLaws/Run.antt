@@ -71,7 +71,7 @@ moves_remove script S t (m ∷ ms) p fits =
 pub sane-after : (script : Script) (S T : State) (t : ObjNo) (effects : List Effect) → Sane script t S → Sound script S T effects → Sane script t T
 sane-after script S T t effects s h = record { rows = h.rows; inside = let a = h.long in let b = s.inside in omega arith }
 
-each-sound : (script : Script) (S : State) (t : ObjNo) (ms : List Move) → EachFits script t ms S → total weight (owed_of S t) + 4 * length ms ≤ 32 → Sane script t S → Sound script S (perform t ms S) (tell t ms S)
+pub each-sound : (script : Script) (S : State) (t : ObjNo) (ms : List Move) → EachFits script t ms S → total weight (owed_of S t) + 4 * length ms ≤ 32 → Sane script t S → Sound script S (perform t ms S) (tell t ms S)
 each-sound script S t [] fits few s = sound-none script S s.rows
 each-sound script S t (m ∷ ms) fits few s =
     let T = moved t m S in
