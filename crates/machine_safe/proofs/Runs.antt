@@ -51,7 +51,7 @@ run-last script S xs e h = subst (λ (T : State). Sound script (after_from scrip
 pub run-counts : (script : Script) (S : State) (es : List Entry) (o : ObjNo) → IsSoundRun script S es → count_of (after_from script S es) o + minuses (effects_of es) o ≡ count_of S o + pluses (effects_of es) o
 run-counts script S [] o h = refl
 run-counts script S (e ∷ es) o h =
-    let a = h.0.lives.counts.each o in
+    let a = h.0.lives.counts o in
     let r = run-counts script (next script S e.actor) es o h.1 in
     let p = pluses-append e.effects (effects_of es) o in
     let m = minuses-append e.effects (effects_of es) o in omega arith
