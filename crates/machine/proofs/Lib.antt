@@ -10,4 +10,5 @@ pub mod Readiness
 pub mod References
 pub mod RowLaws
 pub mod ValidExample
+pub mod ValidSlots
 pub mod WorkedExample
