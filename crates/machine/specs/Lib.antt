@@ -3,7 +3,6 @@ pub mod BestSoFar
 pub mod Boot
 pub mod Choice
 pub mod Close
-pub mod CountAfter
 pub mod Create
 pub mod Decide
 pub mod Dup
@@ -22,7 +21,6 @@ pub mod References
 pub mod Room
 pub mod Rows
 pub mod Run
-pub mod SafeReferences
 pub mod Slots
 pub mod Steps
 pub mod Task
