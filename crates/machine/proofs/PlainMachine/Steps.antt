@@ -22,6 +22,7 @@ use Rattle.machine.specs.Slots.{IsDeclared}
 use Rattle.machine.specs.Task.{declared_of, instructions_in}
 use Rattle.machine.specs.Transition.{Transition, left}
 use Rattle.machine.specs.WellFormed.{AreRows, AreTables, IsWellFormed}
+use Rattle.machine.proofs.Reached.AfterHistory.{well_formed-after}
 use Rattle.machine.proofs.PlainMachine.Histories.{after-push, legal-push, slot_can}
 
 -- a table of a well-formed state is small, also the one that isn't there
@@ -77,4 +78,4 @@ plain_goes_on_by script history new S copy T slot actor outcome place e declared
 
 -- the state of a machine is well-formed
 pub formed_plain : (script : Script) (history : List Entry) (S : State) → IsPlain script history S → IsWellFormed script S
-formed_plain script history S plain = subst (IsWellFormed script) (sym plain.state) (?)
+formed_plain script history S plain = subst (IsWellFormed script) (sym plain.state) (well_formed-after script history plain.valid)
