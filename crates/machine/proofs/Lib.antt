@@ -1,9 +1,14 @@
 pub mod AtBoot
+pub mod Fitting
 pub mod Holders
 pub mod Lists
 pub mod Lives
-pub mod PlainMachine
 pub mod MoveLaws
+pub mod PlainMachine
+pub mod Reached
+pub mod Readiness
 pub mod References
 pub mod RowLaws
+pub mod ValidExample
+pub mod ValidSlots
 pub mod WorkedExample

@@ -1,6 +1,10 @@
+pub mod Best
 pub mod Capped
+pub mod CountSmall
 pub mod FewEffects
+pub mod Histories
 pub mod LeftRows
 pub mod Performing
 pub mod Registers
 pub mod Rooms
+pub mod Steps

@@ -1,12 +1,12 @@
 -- The choice of the next actor: the ready thread of greatest priority that has been ready longest.
 use Rattle.std.specs.Prelude.{ℕ, Option, Some, None}
+use Rattle.sym_base.specs.Greatest.{first_of_greatest}
 use Rattle.sym_base.specs.declared.number.ObjNo.{ObjNo}
 use Rattle.entry_log.specs.declared.entry.Actor.{Actor}
 use Rattle.entry_log.specs.declared.entry.Actor.TheVariants.{Thread, Idle}
 use Rattle.machine.specs.declared.state.ThreadRow.{ThreadRow}
 use Rattle.machine.specs.declared.state.State.{State}
 use Rattle.machine.specs.Rows.{thread_of}
-use Rattle.machine.specs.Greatest.{first_of_greatest}
 
 -- the priority of a thread, 0 where there is none
 abbrev pub priority_of_row : Option ThreadRow → ℕ

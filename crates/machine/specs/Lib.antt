@@ -1,15 +1,14 @@
 pub mod Arrivals
+pub mod BestSoFar
 pub mod Boot
 pub mod Choice
 pub mod Close
-pub mod CountAfter
 pub mod Create
 pub mod Decide
 pub mod Dup
 pub mod FinalRows
 pub mod Find
 pub mod Fits
-pub mod Greatest
 pub mod Handles
 pub mod HeldIn
 pub mod History
@@ -22,7 +21,7 @@ pub mod References
 pub mod Room
 pub mod Rows
 pub mod Run
-pub mod SafeReferences
+pub mod Slots
 pub mod Steps
 pub mod Task
 pub mod Tick

@@ -218,7 +218,7 @@ pub fn boot_of(alloc: Global, all: &[Born]) -> Result<State, NoMemory>
 }
 
 /// The state at boot.
-#[tactic(auto, using(crate::proofs::Boot::Born::born_few))]
+#[tactic(auto, using(crate::proofs::AtBoot::Born::born_few))]
 pub fn boot(alloc: Global, script: &Script) -> Result<State, NoMemory>
     requires { IsShaped script.now }
     ensures { IfOk result (λ state. state ≡ boot script.now) }

@@ -1,7 +1,7 @@
 //! The choice of the next actor.
-ghost use Rattle.std.specs.Prelude.{◌≡◌, ◌==◌, IsTrue};
+ghost use Rattle.std.specs.Prelude.{◌≡◌};
 ghost use Rattle.machine.specs.Choice.{priority_of, first_ready, chosen};
-ghost use Rattle.machine.specs.Greatest.{greatest};
+ghost use Rattle.machine.specs.BestSoFar.{better};
 
 use crate::State;
 use crate::rows::thread_of;
@@ -18,28 +18,26 @@ fn priority_of(state: &State, thread: ThreadNo) -> u8
     }
 }
 
-/// The greatest priority of these threads, 0 of none.
-fn greatest(state: &State, threads: &[ThreadNo]) -> u8
-    ensures { result ≡ greatest (priority_of state.now) threads.now }
+/// The best so far, where a thread more has come: that one only where its priority is greater.
+fn better(state: &State, best: Option<ThreadNo>, next: ThreadNo) -> Option<ThreadNo>
+    ensures { result ≡ better (priority_of state.now) best next }
 {
-    let mut top = 0;
-    for thread in threads {
-        top = top.max(priority_of(state, *thread));
+    match best {
+        Some(first) if priority_of(state, first) >= priority_of(state, next) => Some(first),
+        _ => Some(next),
     }
-    top
 }
 
 /// The ready thread of greatest priority that has been ready longest.
+#[tactic(auto, using(crate::proofs::PlainMachine::Best::best_step, crate::proofs::PlainMachine::Best::best_alone))]
 pub fn first_ready(state: &State) -> Option<ThreadNo>
     ensures { result ≡ first_ready state.now }
 {
-    let top = greatest(state, state.ready.as_slice());
+    let mut best = None;
     for thread in state.ready.as_slice() {
-        if priority_of(state, *thread) == top {
-            return Some(*thread);
-        }
+        best = better(state, best, *thread);
     }
-    None
+    best
 }
 
 /// That thread, or nobody.

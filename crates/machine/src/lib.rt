@@ -20,6 +20,7 @@ mod move_effects;
 mod moves;
 mod open;
 mod perform;
+mod plain;
 mod plain_reads;
 mod reads;
 mod rows;
@@ -43,6 +44,7 @@ pub use handles::{
 pub use look::object_at;
 pub use move_effects::{add_effects, told};
 pub use moves::{MAX_MOVES, Move, Moves};
+pub use plain::{Plain, entry_of};
 pub use reads::Reads;
 pub use rows::{row_of, set_row};
 pub use state::{Found, HandleSlot, Role, State, ThreadRow};

@@ -1,5 +1,5 @@
 -- What each move does, and what the moves of an action do.
-use Rattle.std.proofs.Common.{◌≡◌, ℕ, ◌+◌, ◌*◌, ◌<◌, ◌≤◌, List, [], ◌∷◌, length, arith, refl, sym, subst, Bool, true, false}
+use Rattle.std.proofs.Common.{◌≡◌, ◌+◌, ◌*◌, ◌<◌, ◌≤◌, List, [], ◌∷◌, length, arith, refl, sym, subst, Bool, true, false}
 use Rattle.sym_base.specs.declared.number.ObjNo.{ObjNo}
 use Rattle.script_types.specs.declared.script.Script.{Script}
 use Rattle.entry_log.specs.declared.effect.Holder.{Holder}
@@ -14,7 +14,7 @@ use Rattle.machine.specs.Moves.{moved, told, perform, tell, closed_effects, link
 use Rattle.machine.specs.References.{total, is_last, RefsMove}
 use Rattle.machine.specs.Told.{removals}
 use Rattle.machine.specs.Fits.{FitsMove, EachFits, Fits, Sane}
-use Rattle.machine.specs.WellFormed.{AreRows, weight}
+use Rattle.machine.specs.WellFormed.{weight}
 use Rattle.machine.proofs.References.Effects.{removals-append}
 use Rattle.machine.proofs.RowLaws.Duties.{weight-owing}
 use Rattle.machine.proofs.MoveLaws.Sound.{Sound, sound-then, sound-none}
@@ -71,7 +71,7 @@ moves_remove script S t (m ∷ ms) p fits =
 pub sane-after : (script : Script) (S T : State) (t : ObjNo) (effects : List Effect) → Sane script t S → Sound script S T effects → Sane script t T
 sane-after script S T t effects s h = record { rows = h.rows; inside = let a = h.long in let b = s.inside in omega arith }
 
-each-sound : (script : Script) (S : State) (t : ObjNo) (ms : List Move) → EachFits script t ms S → total weight (owed_of S t) + 4 * length ms ≤ 32 → Sane script t S → Sound script S (perform t ms S) (tell t ms S)
+pub each-sound : (script : Script) (S : State) (t : ObjNo) (ms : List Move) → EachFits script t ms S → total weight (owed_of S t) + 4 * length ms ≤ 32 → Sane script t S → Sound script S (perform t ms S) (tell t ms S)
 each-sound script S t [] fits few s = sound-none script S s.rows
 each-sound script S t (m ∷ ms) fits few s =
     let T = moved t m S in

@@ -1,5 +1,5 @@
 -- Rows of threads, where one changes.
-use Rattle.std.proofs.Common.{◌≡◌, inl, inr, ℕ, ◌<◌, List, length, get_or, refl, sym, subst, ap, ◌∙◌, Option, Some, None, false}
+use Rattle.std.proofs.Common.{◌≡◌, inl, inr, ℕ, List, length, get_or, refl, sym, subst, ap, ◌∙◌, Option, Some, None, false}
 use Rattle.std.specs.Prelude.{option_map, is_some}
 use Rattle.std.proofs.lemmas.Bool.{cases_eq}
 use Rattle.std.proofs.lemmas.List.{length-set}
@@ -52,3 +52,10 @@ none_by (Some row) e = cc
 -- where no thread is counted, there is none
 pub is_none_by : (threads : List (Option ThreadRow)) (k : ℕ) → is_some (get_or threads k None) ≡ false → get_or threads k None ≡ None
 is_none_by threads k e = none_by (get_or threads k None) e
+
+-- a thread that is there is there still, with what the change keeps
+pub row-kept : (threads : List (Option ThreadRow)) (u : ObjNo) (f : ThreadRow → ThreadRow) (k : ℕ) (row : ThreadRow) (P : ThreadRow → Type 0) → ((r : ThreadRow) → P r → P (f r)) → get_or threads k None ≡ Some row → P row → (new : ThreadRow) × (get_or (with_row threads u f) k None ≡ Some new) × P new
+row-kept threads u f k row P keeps is p = elim (cases_eq u.0 k) as (λ _. (new : ThreadRow) × (get_or (with_row threads u f) k None ≡ Some new) × P new) [
+  | inl at ↦ (f row, row-here threads u f k at ∙ ap (λ (n : ℕ). option_map f (get_or threads n None)) at ∙ ap (option_map f) is, keeps row p)
+  | inr apart ↦ (row, row-other threads u f k apart ∙ is, p)
+]

@@ -1,7 +1,8 @@
 use Rattle.std.proofs.Common.{◌≡◌, drop}
-use Rattle.std.specs.Prelude.{◌==◌, find}
+use Rattle.sym_base.specs.Greatest.{first_of_greatest}
+use Rattle.machine.specs.BestSoFar.{best_of}
 use Rattle.machine.specs.Choice.{priority_of, first_ready}
 use Rattle.machine.proofs.choice.first_ready.Given as goal
 
 abbrev pub invariant-loop-thread : goal.invariant-loop-thread
-invariant-loop-thread l = find (λ t. priority_of l.state t == l.top) (drop l.thread-index l.state.ready) ≡ first_ready l.state
+invariant-loop-thread l = best_of (priority_of l.state) l.best (first_of_greatest (priority_of l.state) (drop l.thread-index l.state.ready)) ≡ first_ready l.state

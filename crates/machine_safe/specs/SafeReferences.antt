@@ -6,7 +6,7 @@ use Rattle.entry_log.specs.declared.entry.Entry.{Entry}
 use Rattle.machine.specs.References.{pluses, minuses}
 use Rattle.machine.specs.Told.{deaths, removals}
 use Rattle.machine.specs.Holding.{EachFitsHolders, held_at_boot}
-use Rattle.machine.specs.CountAfter.{effects_of, count_after}
+use Rattle.machine_safe.specs.CountAfter.{effects_of, count_after}
 
 -- an entry says that the object died only where it takes a reference away and the count after it is 0
 abbrev pub DiesOnlyAtZero : Script → List Entry → ObjNo → Type 0

@@ -1,0 +1,3 @@
+-- The states that actions and histories leave.
+pub mod NextState
+pub mod AfterHistory
