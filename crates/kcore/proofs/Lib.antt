@@ -1,6 +1,8 @@
+mod ActionsDone
 mod Finds
-mod FreshTable
 mod FirstCount
+mod FreshTable
+mod GoingMoves
 mod Performing
 mod ReadyChanges
 mod ReadyLists
