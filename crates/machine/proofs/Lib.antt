@@ -9,4 +9,5 @@ pub mod Reached
 pub mod Readiness
 pub mod References
 pub mod RowLaws
+pub mod ValidSlots
 pub mod WorkedExample

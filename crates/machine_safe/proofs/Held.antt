@@ -1,5 +1,5 @@
 -- Who holds what in a state is what its history tells, and each pair of a holder and an object stands once at most.
-use Rattle.std.proofs.Common.{◌≡◌, inl, inr, ℕ, ◌+◌, ◌≤◌, List, [], ◌∷◌, ◌++◌, arith, refl, sym, ap, ◌∙◌, Bool, true, false, Option, Some, None, is_some}
+use Rattle.std.proofs.Common.{◌≡◌, inl, inr, ℕ, ◌+◌, ◌≤◌, List, [], ◌∷◌, arith, refl, sym, ap, ◌∙◌, Bool, true, false, Option, Some, None, is_some}
 use Rattle.std.specs.Prelude.{◌==◌, if◌then◌else◌}
 use Rattle.std.proofs.lemmas.Bool.{eqb-true, and_parts, cases_lt}
 use Rattle.sym_base.specs.declared.number.ObjNo.{ObjNo}

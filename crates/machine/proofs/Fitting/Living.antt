@@ -1,5 +1,5 @@
 -- Objects that are referred to are alive.
-use Rattle.std.proofs.Common.{◌≡◌, ℕ, ◌+◌, ◌<◌, List, length, arith, refl, ap, Option, Some, None, Bool, true, false}
+use Rattle.std.proofs.Common.{◌≡◌, ℕ, ◌<◌, List, length, arith, refl, ap, Option, Some, None, Bool, true, false}
 use Rattle.std.specs.Prelude.{not, position, nat_lt, ◌||◌, if◌then◌else◌, []}
 use Rattle.std.proofs.lemmas.List.Quantifiers.{position-Some}
 use Rattle.sym_base.specs.declared.number.ObjNo.{ObjNo}

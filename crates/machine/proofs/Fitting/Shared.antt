@@ -1,6 +1,6 @@
 -- Steps that several instructions share: a look, a find and its return, and a new handle.
-use Rattle.std.proofs.Common.{◌≡◌, ◌≢◌, ℕ, ◌+◌, ◌<◌, ◌≤◌, List, [], ◌∷◌, length, arith, refl, sym, subst, ap, Option, Some, None, Bool, true, false}
-use Rattle.std.specs.Prelude.{if◌then◌else◌, slice_index, is_some, slice_set}
+use Rattle.std.proofs.Common.{◌≡◌, ℕ, ◌<◌, List, arith, refl, subst, ap, Option, Some, None, Bool, true, false}
+use Rattle.std.specs.Prelude.{if◌then◌else◌, slice_index}
 use Rattle.sym_base.specs.declared.kind.Kind.{Kind}
 use Rattle.sym_base.specs.declared.number.ObjNo.{ObjNo}
 use Rattle.sym_base.specs.declared.word.Word.{Word}
@@ -13,22 +13,20 @@ use Rattle.entry_log.specs.declared.step.Part.{Part}
 use Rattle.entry_log.specs.declared.step.Part.TheVariants.{Look, Seek, Return, Do}
 use Rattle.entry_log.specs.declared.step.Step.{Step}
 use Rattle.entry_log.specs.declared.step.Step.TheVariants.{Of}
-use Rattle.machine.specs.declared.decision.Decision.{Decision}
 use Rattle.machine.specs.declared.handles.NewHandle.{NewHandle}
 use Rattle.machine.specs.declared.moves.Move.{Move}
 use Rattle.machine.specs.declared.moves.Move.TheVariants.{Gain, Write}
 use Rattle.machine.specs.declared.state.Found.{Found}
 use Rattle.machine.specs.declared.state.Found.TheVariants.{Nothing, Object}
-use Rattle.machine.specs.declared.state.HandleSlot.{HandleSlot}
 use Rattle.machine.specs.declared.state.ThreadRow.{ThreadRow}
 use Rattle.machine.specs.declared.state.State.{State}
-use Rattle.machine.specs.Rows.{object_of, table_of, thread_of, with_row}
-use Rattle.machine.specs.Handles.{slot_at, free_index, is_full, next_handle, object_at}
+use Rattle.machine.specs.Rows.{object_of, table_of, with_row}
+use Rattle.machine.specs.Handles.{free_index, is_full, next_handle, object_at}
 use Rattle.machine.specs.Moves.{moved, with_register}
 use Rattle.machine.specs.Decide.{answer_handle, give_handle}
 use Rattle.machine.specs.Find.{seek, seek_object, find_object, return_to, is_open}
 use Rattle.machine.specs.Look.{look, look_at}
-use Rattle.machine.specs.Fits.{FitsMove, EachFits, IsFree, IsFreeSlot}
+use Rattle.machine.specs.Fits.{FitsMove, IsFree, IsFreeSlot}
 use Rattle.machine.specs.WellFormed.{IsAlive, is_before_use}
 use Rattle.machine.proofs.Lists.Cases.{if_cases}
 use Rattle.machine.proofs.RowLaws.Tables.{free_index_inside, free_index_is_free, object_in_is}

@@ -1,6 +1,6 @@
 -- What is known where a thread makes a step of an instruction, and how its answers fit.
-use Rattle.std.proofs.Common.{◌≡◌, ℕ, ◌+◌, ◌<◌, ◌≤◌, List, [], ◌∷◌, length, get_or, arith, refl, ap, subst, ◌∙◌, Option, Some, None, Bool, true, false}
-use Rattle.std.specs.Prelude.{option_map, ℤ}
+use Rattle.std.proofs.Common.{◌≡◌, ◌<◌, ◌≤◌, List, [], length, get_or, arith, refl, ap, subst, ◌∙◌, Option, Some, None, true, false}
+use Rattle.std.specs.Prelude.{option_map}
 use Rattle.sym_base.specs.declared.error.Error.{Error}
 use Rattle.sym_base.specs.declared.number.ObjNo.{ObjNo}
 use Rattle.script_types.specs.declared.script.Script.{Script}
@@ -10,7 +10,6 @@ use Rattle.entry_log.specs.declared.effect.Holder.TheVariants.{Temp}
 use Rattle.entry_log.specs.declared.step.Part.{Part}
 use Rattle.entry_log.specs.declared.step.Step.{Step}
 use Rattle.machine.specs.declared.decision.Decision.{Decision}
-use Rattle.machine.specs.declared.moves.Move.{Move}
 use Rattle.machine.specs.declared.moves.Move.TheVariants.{GoOn, Gain}
 use Rattle.machine.specs.declared.state.ThreadRow.{ThreadRow}
 use Rattle.machine.specs.declared.state.State.{State}
@@ -19,10 +18,10 @@ use Rattle.machine.specs.Moves.{moved, with_part}
 use Rattle.machine.specs.Decide.{nothing, refuse, go_on}
 use Rattle.machine.specs.References.{total}
 use Rattle.machine.specs.HeldIn.{owed_by}
-use Rattle.machine.specs.Task.{instruction, instructions_of}
-use Rattle.machine.specs.Fits.{EachFits, IsAtInstruction, MayGoOn, IsFree, UsesNothing}
+use Rattle.machine.specs.Task.{instructions_of}
+use Rattle.machine.specs.Fits.{EachFits, IsAtInstruction, MayGoOn, IsFree}
 use Rattle.machine.specs.WellFormed.{IsAlive, AreRows, is_before_use}
-use Rattle.machine.proofs.Holders.ThreadRows.{row-here, row-other}
+use Rattle.machine.proofs.Holders.ThreadRows.{row-here}
 use Rattle.machine.proofs.RowLaws.Threads.{row-kept}
 
 -- the moves of a decision fit, and are few

@@ -1,5 +1,5 @@
 -- The steps of each instruction.
-use Rattle.std.proofs.Common.{◌≡◌, ◌≢◌, ℕ, ◌<◌, ◌≤◌, List, [], ◌∷◌, length, get_or, arith, refl, ap, ◌∙◌, Option, Some, None, Bool, true, false}
+use Rattle.std.proofs.Common.{◌≡◌, ◌≢◌, ℕ, ◌<◌, List, length, get_or, arith, refl, ap, ◌∙◌, Option, Some, None, Bool, true, false}
 use Rattle.std.proofs.lemmas.Bool.{eq-eqb}
 use Rattle.std.specs.Prelude.{◌==◌, if◌then◌else◌, is_some, nat_lt, slice_index}
 use Rattle.sym_base.specs.declared.error.Error.TheVariants.{AlreadyExists, Overflow, PermissionDenied, BadHandle}
@@ -10,7 +10,6 @@ use Rattle.sym_base.specs.declared.word.Word.TheVariants as word
 use Rattle.script_types.specs.declared.script.Script.{Script}
 use Rattle.script_types.specs.declared.instruction.Instr.{Instr}
 use Rattle.state_rows.specs.ObjectRows.{is_taken, is_session}
-use Rattle.entry_log.specs.declared.effect.Holder.{Holder}
 use Rattle.entry_log.specs.declared.effect.Holder.TheVariants.{InProcess, InThread}
 use Rattle.entry_log.specs.declared.step.Part.{Part}
 use Rattle.entry_log.specs.declared.step.Part.TheVariants as part
@@ -19,8 +18,8 @@ use Rattle.machine.specs.declared.handles.NewHandle.{NewHandle}
 use Rattle.machine.specs.declared.moves.Move.TheVariants.{Make, Lose}
 use Rattle.machine.specs.declared.state.ThreadRow.{ThreadRow}
 use Rattle.machine.specs.declared.state.State.{State}
-use Rattle.machine.specs.Rows.{object_of, table_of, thread_of}
-use Rattle.machine.specs.Handles.{next_handle, object_at, slot_at, owner_of, index_of, holder_of}
+use Rattle.machine.specs.Rows.{object_of, table_of}
+use Rattle.machine.specs.Handles.{next_handle, object_at, slot_at, index_of, holder_of}
 use Rattle.machine.specs.Moves.{moved, unlinked, threads_closed, threads_lose}
 use Rattle.machine.specs.References.{is_last}
 use Rattle.machine.specs.Close.{close_do, close_handle}

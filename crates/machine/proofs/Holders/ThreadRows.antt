@@ -1,6 +1,6 @@
 -- What changing a thread's row does to who holds what.
 use Rattle.std.proofs.Common.{◌≡◌, inl, inr, ℕ, ◌+◌, List, get_or, arith, refl, sym, ap, ◌∙◌, Option, None, Bool}
-use Rattle.std.specs.Prelude.{slice_set, option_map, is_some, not, ◌==◌, if◌then◌else◌, []}
+use Rattle.std.specs.Prelude.{option_map, not, ◌==◌, if◌then◌else◌, []}
 use Rattle.std.proofs.lemmas.List.{get_or-set_other}
 use Rattle.std.proofs.lemmas.Bool.{cases_eq, eq-eqb}
 use Rattle.sym_base.specs.declared.number.ObjNo.{ObjNo}

@@ -1,7 +1,7 @@
 -- Sums over rows, and what changing or adding a row does to them.
 use Rattle.std.proofs.Common.{◌≡◌, ℕ, suc, zero, ◌+◌, ◌*◌, ◌<◌, ◌≤◌, List, [], ◌∷◌, ◌++◌, length, get_or, arith}
-use Rattle.std.proofs.Common.{Option, Some, None, ap, sym, refl}
-use Rattle.std.specs.Prelude.{slice_set, is_some}
+use Rattle.std.proofs.Common.{Option, Some, None, sym, refl}
+use Rattle.std.specs.Prelude.{slice_set}
 use Rattle.machine.specs.References.{total}
 
 pub total-set : {A : Type 0} (f : A → ℕ) (xs : List A) (i : ℕ) (y d : A) → i < length xs → total f (slice_set xs i y) + f (get_or xs i d) ≡ total f xs + f y

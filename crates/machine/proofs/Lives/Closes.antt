@@ -10,7 +10,7 @@ use Rattle.state_rows.specs.ObjectRows.{dead_row}
 use Rattle.state_rows.specs.declared.object.ObjectRow.{ObjectRow}
 use Rattle.machine.specs.declared.state.State.{State}
 use Rattle.machine.specs.Moves.{objects_closed, closed_effects}
-use Rattle.machine.specs.References.{same, count_of, is_last, pluses, minuses}
+use Rattle.machine.specs.References.{same, count_of, is_last}
 use Rattle.machine.specs.Rows.{object_of}
 use Rattle.machine.specs.Told.{deaths}
 use Rattle.machine.specs.WellFormed.{IsAlive, is_dead, sweeps_of}

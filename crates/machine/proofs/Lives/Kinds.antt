@@ -1,5 +1,5 @@
 -- Changes that make objects, or leave them.
-use Rattle.std.proofs.Common.{◌≡◌, ℕ, suc, zero, ◌+◌, ◌<◌, ◌≤◌, List, [], ◌∷◌, ◌++◌, length, get_or, arith, refl, ap, subst, ◌∙◌, Option, Some, false}
+use Rattle.std.proofs.Common.{◌≡◌, ℕ, suc, zero, ◌+◌, ◌<◌, List, [], ◌∷◌, ◌++◌, length, get_or, arith, refl, ap, subst, ◌∙◌, Option, Some, false}
 use Rattle.std.proofs.lemmas.List.{get_or_past, length_push}
 use Rattle.sym_base.specs.declared.number.ObjNo.{ObjNo}
 use Rattle.entry_log.specs.declared.effect.Holder.{Holder}

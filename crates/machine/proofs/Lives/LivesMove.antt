@@ -7,7 +7,7 @@ use Rattle.machine.specs.declared.state.State.{State}
 use Rattle.machine.specs.Rows.{object_of}
 use Rattle.machine.specs.References.{count_of, pluses, minuses}
 use Rattle.machine.specs.Told.{deaths, removals, finds}
-use Rattle.machine.specs.WellFormed.{IsAlive, AreLives, is_dead, sweeps_of}
+use Rattle.machine.specs.WellFormed.{IsAlive, AreLives, sweeps_of}
 use Rattle.machine.proofs.Lives.Bits.{gone, swept, gone_is, alive_not_gone, not_gone_alive}
 use Rattle.machine.proofs.References.Effects.{pluses-append, minuses-append, deaths-append, removals-append, finds-append}
 

@@ -1,5 +1,5 @@
 -- A thread goes on to its next instruction, and owes the close of what it used.
-use Rattle.std.proofs.Common.{◌≡◌, inr, ℕ, ◌+◌, ◌*◌, ◌<◌, ◌≤◌, List, [], ◌∷◌, length, get_or, arith, refl, sym, subst, ap, ◌∙◌, Option, Some, None, Bool, true, false}
+use Rattle.std.proofs.Common.{◌≡◌, inr, ℕ, ◌+◌, ◌<◌, ◌≤◌, List, [], length, arith, refl, sym, subst, ap, ◌∙◌, Option, Some, None, false}
 use Rattle.std.specs.Prelude.{option_map, if◌then◌else◌}
 use Rattle.std.proofs.lemmas.List.{length-set}
 use Rattle.sym_base.specs.declared.number.ObjNo.{ObjNo}
@@ -9,17 +9,17 @@ use Rattle.entry_log.specs.declared.effect.Holder.TheVariants.{Temp, Link}
 use Rattle.machine.specs.declared.moves.Move.TheVariants.{Advance}
 use Rattle.machine.specs.declared.state.ThreadRow.{ThreadRow}
 use Rattle.machine.specs.declared.state.State.{State}
-use Rattle.machine.specs.Rows.{thread_of, owed_of, with_row, owing}
+use Rattle.machine.specs.Rows.{thread_of, owed_of, with_row}
 use Rattle.machine.specs.Moves.{moved, told, advanced, owed_use, use_of, use_of_row}
-use Rattle.machine.specs.References.{total, same, thread_names, owed_names, count_of, option_names}
+use Rattle.machine.specs.References.{total, thread_names, owed_names, count_of, option_names}
 use Rattle.machine.specs.Holding.{is_holder, link_names}
 use Rattle.machine.specs.HeldIn.{held_in, use_names, owed_by}
 use Rattle.machine.specs.Task.{is_returning, instructions_of}
-use Rattle.machine.specs.Fits.{FitsMove, Sane}
+use Rattle.machine.specs.Fits.{FitsMove}
 use Rattle.machine.specs.WellFormed.{EachMayOwe, AreRows, weight, owed_sweeps, sweeps_of, part_of}
 use Rattle.machine.proofs.Lives.Kinds.{lives-none}
 use Rattle.machine.proofs.Holders.HoldersMove.{holders-none}
-use Rattle.machine.proofs.Holders.ThreadRows.{row_holds, rows-with_row, row-here}
+use Rattle.machine.proofs.Holders.ThreadRows.{rows-with_row, row-here}
 use Rattle.machine.proofs.References.Counts.{count-with_row, kernel-with_row, total-owing}
 use Rattle.machine.proofs.References.Same.{if_zero}
 use Rattle.machine.proofs.RowLaws.Threads.{length-with_row, threads-with_row}

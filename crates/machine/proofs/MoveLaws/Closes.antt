@@ -1,30 +1,27 @@
 -- A reference is given up. With the last one its object dies, and the close of the object's own link is owed, and its sweep.
 use Rattle.std.proofs.Common.{◌≡◌, inr, ℕ, ◌+◌, ◌<◌, ◌≤◌, List, [], ◌∷◌, ◌++◌, length, get_or, arith, refl, sym, subst, ap, ◌∙◌, Option, Some, None, Bool, true, false}
-use Rattle.std.specs.Prelude.{option_map, is_some, if◌then◌else◌, slice_set}
+use Rattle.std.specs.Prelude.{option_map, if◌then◌else◌, slice_set}
 use Rattle.std.proofs.lemmas.List.{length-set}
 use Rattle.sym_base.specs.declared.number.ObjNo.{ObjNo}
 use Rattle.script_types.specs.declared.script.Script.{Script}
 use Rattle.entry_log.specs.declared.effect.Holder.{Holder}
-use Rattle.entry_log.specs.declared.effect.Holder.TheVariants.{InProcess, InThread, Temp, Link}
-use Rattle.entry_log.specs.declared.effect.Effect.{Effect}
+use Rattle.entry_log.specs.declared.effect.Holder.TheVariants.{Temp, Link}
 use Rattle.state_rows.specs.ObjectRows.{dead_row}
-use Rattle.state_rows.specs.declared.object.ObjectRow.{ObjectRow}
 use Rattle.state_rows.specs.declared.duty.Owed.{Owed}
 use Rattle.state_rows.specs.declared.duty.Owed.TheVariants.{Sweep}
 use Rattle.machine.specs.declared.state.HandleSlot.{HandleSlot}
 use Rattle.machine.specs.declared.state.ThreadRow.{ThreadRow}
 use Rattle.machine.specs.declared.state.State.{State}
-use Rattle.machine.specs.Rows.{object_of, thread_of, with_row, owing}
+use Rattle.machine.specs.Rows.{object_of, with_row, owing}
 use Rattle.machine.specs.Moves.{link_of, link_of_row, objects_closed, threads_closed, owed_link, owed_by_close, closed_effects}
 use Rattle.machine.specs.References.{total, same, thread_names, owed_names, option_names, count_of, is_last}
-use Rattle.machine.specs.Told.{deaths}
 use Rattle.machine.specs.Holding.{is_holder, same_pair, link_names}
 use Rattle.machine.specs.HeldIn.{held_in, use_names, owed_by}
 use Rattle.machine.specs.Task.{is_returning}
 use Rattle.machine.specs.WellFormed.{IsAlive, AreTables, AreThreads, AreDuties, EachMayOwe, AreRows, weight, owed_sweeps, sweeps_of, part_of}
 use Rattle.machine.proofs.Lives.Closes.{lives-closed}
 use Rattle.machine.proofs.Holders.HoldersMove.{holders-closed}
-use Rattle.machine.proofs.Holders.ThreadRows.{row_holds, rows-with_row}
+use Rattle.machine.proofs.Holders.ThreadRows.{rows-with_row}
 use Rattle.machine.proofs.References.Counts.{count-with_row, kernel-with_row, total-owing}
 use Rattle.machine.proofs.References.Same.{if_zero, same_self}
 use Rattle.machine.proofs.RowLaws.Threads.{length-with_row, threads-with_row, none-with_row}

@@ -1,5 +1,5 @@
 -- A holder gets a reference: to an object that there is, or to a new one.
-use Rattle.std.proofs.Common.{◌≡◌, inr, ℕ, ◌+◌, ◌<◌, ◌≤◌, List, [], ◌∷◌, ◌++◌, length, get_or, arith, refl, ap, ◌∙◌, Option, Some, None, Bool, true, false}
+use Rattle.std.proofs.Common.{◌≡◌, inr, ℕ, ◌+◌, List, length, arith, refl, ap, Option, Some, None, Bool, true, false}
 use Rattle.std.specs.Prelude.{option_map, is_some, if◌then◌else◌}
 use Rattle.std.proofs.lemmas.List.{length_push}
 use Rattle.sym_base.specs.declared.number.ObjNo.{ObjNo}
@@ -11,14 +11,14 @@ use Rattle.machine.specs.declared.moves.Move.TheVariants.{Gain, Make}
 use Rattle.machine.specs.declared.state.HandleSlot.{HandleSlot}
 use Rattle.machine.specs.declared.state.ThreadRow.{ThreadRow}
 use Rattle.machine.specs.declared.state.State.{State}
-use Rattle.machine.specs.Rows.{object_of, table_of, thread_of, with_row}
+use Rattle.machine.specs.Rows.{table_of, thread_of, with_row}
 use Rattle.machine.specs.Handles.{slot_at, taken_slot, with_slot}
 use Rattle.machine.specs.Moves.{moved, told, tables_gain, threads_gain, next_object, new_object}
 use Rattle.machine.specs.References.{same, thread_names, option_names, slot_names, count_of}
-use Rattle.machine.specs.Holding.{is_holder, same_pair, link_names}
-use Rattle.machine.specs.HeldIn.{held_in, use_names, own_slot, rows_hold, owed_by}
+use Rattle.machine.specs.Holding.{is_holder, same_pair}
+use Rattle.machine.specs.HeldIn.{held_in, use_names, own_slot, rows_hold}
 use Rattle.machine.specs.Fits.{FitsMove, IsFree, IsFreeSlot, UsesNothing}
-use Rattle.machine.specs.WellFormed.{IsThread, AreTables, AreThreads, AreDuties, AreRows, MayOwe}
+use Rattle.machine.specs.WellFormed.{AreTables, AreThreads, AreDuties, AreRows, MayOwe}
 use Rattle.machine.proofs.Lives.Kinds.{lives-plus, lives-made}
 use Rattle.machine.proofs.Holders.HoldersMove.{holders-plus}
 use Rattle.machine.proofs.Holders.SlotRows.{slot_holder, rows-with_slot}

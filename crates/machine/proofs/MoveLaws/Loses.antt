@@ -1,5 +1,5 @@
 -- A holder gives its reference up.
-use Rattle.std.proofs.Common.{◌≡◌, inr, ℕ, ◌+◌, ◌<◌, ◌≤◌, List, [], length, get_or, arith, refl, ap, ◌∙◌, inl, sym, Option, Some, None, Bool, true, false}
+use Rattle.std.proofs.Common.{◌≡◌, inr, ℕ, ◌+◌, ◌<◌, ◌≤◌, List, length, get_or, arith, refl, ap, ◌∙◌, inl, Option, Some, None, Bool, true, false}
 use Rattle.std.specs.Prelude.{option_map, is_some, if◌then◌else◌}
 use Rattle.std.proofs.lemmas.Bool.{cases_eq}
 use Rattle.sym_base.specs.declared.number.ObjNo.{ObjNo}
@@ -14,7 +14,6 @@ use Rattle.machine.specs.Handles.{slot_at, freed_slot, with_slot}
 use Rattle.machine.specs.Moves.{moved, told, tables_lose, threads_lose, link_of, link_of_row}
 use Rattle.machine.specs.References.{total, thread_names, option_names, slot_names, is_last, same}
 use Rattle.machine.specs.Holding.{is_holder, same_pair}
-use Rattle.machine.specs.HeldIn.{use_names}
 use Rattle.machine.specs.Fits.{FitsMove, Holds, Uses}
 use Rattle.machine.specs.Task.{is_returning}
 use Rattle.machine.specs.WellFormed.{AreRows, weight, part_of}

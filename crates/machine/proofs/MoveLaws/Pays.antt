@@ -1,5 +1,5 @@
 -- The oldest duty is done: a close, or a sweep.
-use Rattle.std.proofs.Common.{◌≡◌, inl, inr, ℕ, ◌+◌, ◌<◌, ◌≤◌, List, [], ◌∷◌, length, get_or, arith, refl, sym, subst, ap, ◌∙◌, Option, Some, None, Bool, true, false}
+use Rattle.std.proofs.Common.{◌≡◌, inl, inr, ℕ, ◌<◌, ◌≤◌, List, [], ◌∷◌, length, get_or, arith, refl, sym, subst, ap, ◌∙◌, Option, None, Bool, true, false}
 use Rattle.std.specs.Prelude.{slice_set, drop, is_some, if◌then◌else◌}
 use Rattle.std.proofs.lemmas.Bool.{cases_lt}
 use Rattle.std.proofs.lemmas.List.{length-set, get_or-set_same, get_or_past}
@@ -7,7 +7,6 @@ use Rattle.sym_base.specs.declared.number.ObjNo.{ObjNo}
 use Rattle.script_types.specs.declared.script.Script.{Script}
 use Rattle.entry_log.specs.declared.effect.Holder.{Holder}
 use Rattle.entry_log.specs.declared.effect.Holder.TheVariants.{Temp, Link}
-use Rattle.entry_log.specs.declared.effect.Effect.{Effect}
 use Rattle.state_rows.specs.declared.duty.Owed.{Owed}
 use Rattle.state_rows.specs.declared.duty.Owed.TheVariants.{Close, Sweep}
 use Rattle.machine.specs.declared.moves.Move.TheVariants.{Pay}
@@ -15,10 +14,10 @@ use Rattle.machine.specs.declared.state.ThreadRow.{ThreadRow}
 use Rattle.machine.specs.declared.state.State.{State}
 use Rattle.machine.specs.Rows.{object_of, thread_of, owed_of, without_first}
 use Rattle.machine.specs.Moves.{moved, told, link_of, link_of_row, owed_by_close}
-use Rattle.machine.specs.References.{total, same, count_of, is_last, owed_names}
-use Rattle.machine.specs.HeldIn.{owed_by, held_in}
+use Rattle.machine.specs.References.{total, count_of, is_last, owed_names}
+use Rattle.machine.specs.HeldIn.{owed_by}
 use Rattle.machine.specs.Task.{is_returning}
-use Rattle.machine.specs.WellFormed.{IsAlive, MayOwe, EachMayOwe, AreRows, weight, owed_sweeps, sweeps_of, is_dead, part_of}
+use Rattle.machine.specs.WellFormed.{MayOwe, EachMayOwe, AreRows, weight, owed_sweeps, is_dead, part_of}
 use Rattle.machine.proofs.Lists.Sets.{set_own}
 use Rattle.machine.proofs.Lives.Bits.{gone_is, gone_le, alive_not_gone}
 use Rattle.machine.proofs.Lives.LivesMove.{zero_or}
@@ -27,7 +26,7 @@ use Rattle.machine.proofs.References.Counts.{total-paying}
 use Rattle.machine.proofs.References.Same.{same_self}
 use Rattle.machine.proofs.RowLaws.Threads.{is_none_by}
 use Rattle.machine.proofs.RowLaws.Duties.{duties-without_first}
-use Rattle.machine.proofs.MoveLaws.Closes.{HasLost, sound-closed, close_weight, close_weight_unlinked}
+use Rattle.machine.proofs.MoveLaws.Closes.{sound-closed, close_weight, close_weight_unlinked}
 use Rattle.machine.proofs.MoveLaws.Sound.{Sound, sound-of}
 
 -- a close that is paid leaves room for what it owes: it weighs more

@@ -1,6 +1,6 @@
 -- Moves that change a thread's row, and no reference: a find, another step, a register; and a miss.
-use Rattle.std.proofs.Common.{◌≡◌, ◌⊎◌, inl, inr, ℕ, ◌+◌, ◌<◌, List, [], ◌∷◌, length, get_or, arith, refl, sym, subst, ap, ◌∙◌, Option, Some, None, Bool, true, false}
-use Rattle.std.specs.Prelude.{option_map, is_some, if◌then◌else◌, slice_set}
+use Rattle.std.proofs.Common.{◌≡◌, ◌⊎◌, inl, inr, ℕ, ◌+◌, ◌<◌, List, [], ◌∷◌, length, get_or, arith, refl, sym, subst, ap, ◌∙◌, Option, Some, None}
+use Rattle.std.specs.Prelude.{option_map, if◌then◌else◌, slice_set}
 use Rattle.std.proofs.lemmas.Bool.{cases_Bool, cases_eq}
 use Rattle.std.proofs.lemmas.List.{length-set}
 use Rattle.sym_base.specs.declared.number.ObjNo.{ObjNo}
@@ -14,9 +14,9 @@ use Rattle.machine.specs.declared.moves.Move.TheVariants.{Find, Miss, GoOn, Writ
 use Rattle.machine.specs.declared.state.Found.TheVariants.{Object}
 use Rattle.machine.specs.declared.state.ThreadRow.{ThreadRow}
 use Rattle.machine.specs.declared.state.State.{State}
-use Rattle.machine.specs.Rows.{thread_of, owed_of, with_row}
+use Rattle.machine.specs.Rows.{thread_of, with_row}
 use Rattle.machine.specs.Moves.{moved, told}
-use Rattle.machine.specs.References.{same, thread_names, count_of, pluses}
+use Rattle.machine.specs.References.{thread_names, count_of, pluses}
 use Rattle.machine.specs.Told.{finds}
 use Rattle.machine.specs.Holding.{is_holder, held_after_all, EachFitsHolders, link_names}
 use Rattle.machine.specs.HeldIn.{held_in, use_names}
@@ -24,7 +24,6 @@ use Rattle.machine.specs.Task.{is_returning}
 use Rattle.machine.specs.Fits.{FitsMove}
 use Rattle.machine.specs.WellFormed.{IsThread, AreRows, part_of}
 use Rattle.machine.proofs.Lives.Kinds.{IsQuiet, lives-quiet}
-use Rattle.machine.proofs.Holders.HoldersMove.{holders-none}
 use Rattle.machine.proofs.Holders.ThreadRows.{row_holds, rows-with_row, row-other}
 use Rattle.machine.proofs.References.Counts.{count-with_row, kernel-with_row}
 use Rattle.machine.proofs.References.Same.{same_is}

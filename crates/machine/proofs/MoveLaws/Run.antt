@@ -1,5 +1,5 @@
 -- What each move does, and what the moves of an action do.
-use Rattle.std.proofs.Common.{◌≡◌, ℕ, ◌+◌, ◌*◌, ◌<◌, ◌≤◌, List, [], ◌∷◌, length, arith, refl, sym, subst, Bool, true, false}
+use Rattle.std.proofs.Common.{◌≡◌, ◌+◌, ◌*◌, ◌<◌, ◌≤◌, List, [], ◌∷◌, length, arith, refl, sym, subst, Bool, true, false}
 use Rattle.sym_base.specs.declared.number.ObjNo.{ObjNo}
 use Rattle.script_types.specs.declared.script.Script.{Script}
 use Rattle.entry_log.specs.declared.effect.Holder.{Holder}
@@ -14,7 +14,7 @@ use Rattle.machine.specs.Moves.{moved, told, perform, tell, closed_effects, link
 use Rattle.machine.specs.References.{total, is_last, RefsMove}
 use Rattle.machine.specs.Told.{removals}
 use Rattle.machine.specs.Fits.{FitsMove, EachFits, Fits, Sane}
-use Rattle.machine.specs.WellFormed.{AreRows, weight}
+use Rattle.machine.specs.WellFormed.{weight}
 use Rattle.machine.proofs.References.Effects.{removals-append}
 use Rattle.machine.proofs.RowLaws.Duties.{weight-owing}
 use Rattle.machine.proofs.MoveLaws.Sound.{Sound, sound-then, sound-none}

@@ -1,13 +1,12 @@
 -- All that moves do, in one record, and its composition.
-use Rattle.std.proofs.Common.{◌≡◌, ℕ, ◌<◌, ◌≤◌, List, [], ◌++◌, length, arith, refl, ◌∙◌}
+use Rattle.std.proofs.Common.{◌≡◌, ◌≤◌, List, [], ◌++◌, length, arith, refl, ◌∙◌}
 use Rattle.sym_base.specs.declared.limits.TheConstants.Limits.{OBJECTS}
 use Rattle.sym_base.specs.declared.number.ObjNo.{ObjNo}
 use Rattle.script_types.specs.declared.script.Script.{Script}
-use Rattle.entry_log.specs.declared.effect.Holder.{Holder}
 use Rattle.entry_log.specs.declared.effect.Effect.{Effect}
 use Rattle.machine.specs.declared.state.State.{State}
 use Rattle.machine.specs.Told.{removals}
-use Rattle.machine.specs.WellFormed.{AreSized, AreTables, AreThreads, AreDuties, AreRows}
+use Rattle.machine.specs.WellFormed.{AreTables, AreThreads, AreDuties, AreRows}
 use Rattle.machine.proofs.Lives.LivesMove.{LivesMove, lives-then, lives-kept}
 use Rattle.machine.proofs.Lives.Kinds.{lives-none}
 use Rattle.machine.proofs.Holders.HoldersMove.{HoldersMove, holders-then, holders-none}

@@ -1,6 +1,5 @@
 -- What an actor's action does.
-use Rattle.std.proofs.Common.{◌≡◌, ℕ, ◌<◌, List, [], refl, Option, Some, None, Bool, true}
-use Rattle.std.proofs.Common.{◌++◌}
+use Rattle.std.proofs.Common.{List, []}
 use Rattle.sym_base.specs.declared.number.ObjNo.{ObjNo}
 use Rattle.script_types.specs.declared.script.Script.{Script}
 use Rattle.script_types.specs.Shape.{IsShaped}
@@ -8,7 +7,7 @@ use Rattle.entry_log.specs.declared.effect.Effect.{Effect}
 use Rattle.entry_log.specs.declared.entry.Actor.{Actor}
 use Rattle.entry_log.specs.declared.entry.Actor.TheVariants.{Thread, Irq, Idfc, Tick, Idle}
 use Rattle.machine.specs.declared.state.State.{State}
-use Rattle.machine.specs.Arrivals.{is_listed, ready_after}
+use Rattle.machine.specs.Arrivals.{ready_after}
 use Rattle.machine.specs.Choice.{first_ready}
 use Rattle.machine.specs.History.{transition, next}
 use Rattle.machine.specs.Moves.{perform, tell}

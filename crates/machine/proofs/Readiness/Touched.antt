@@ -1,6 +1,6 @@
 -- A move changes the readiness of no other threads than those that it touches.
 use Rattle.std.proofs.Common.{◌≡◌, inl, inr, ℕ, List, [], ◌∷◌, get_or, refl, sym, ap, ◌∙◌, Option, Some, None, Bool, true, false}
-use Rattle.std.specs.Prelude.{option_map, is_some, ◌==◌, ◌||◌, slice_set, if◌then◌else◌}
+use Rattle.std.specs.Prelude.{option_map, is_some, ◌==◌, slice_set}
 use Rattle.std.proofs.lemmas.Bool.{cases_eq, eqb-false, or_parts}
 use Rattle.std.proofs.lemmas.List.{get_or-set_other}
 use Rattle.sym_base.specs.declared.number.ObjNo.{ObjNo}

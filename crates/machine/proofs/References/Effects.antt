@@ -1,5 +1,5 @@
 -- What lists of effects tell together.
-use Rattle.std.proofs.Common.{◌≡◌, ℕ, ◌+◌, ◌<◌, List, [], ◌∷◌, ◌++◌, arith, refl}
+use Rattle.std.proofs.Common.{◌≡◌, ℕ, ◌+◌, List, [], ◌∷◌, ◌++◌, arith, refl}
 use Rattle.sym_base.specs.declared.number.ObjNo.{ObjNo}
 use Rattle.entry_log.specs.declared.effect.Holder.{Holder}
 use Rattle.entry_log.specs.declared.effect.Effect.{Effect}

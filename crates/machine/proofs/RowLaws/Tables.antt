@@ -5,7 +5,7 @@ use Rattle.std.proofs.lemmas.Bool.{eq-eqb, cases_eq}
 use Rattle.std.proofs.lemmas.List.{length-set, get_or-set_same, get_or-set_other}
 use Rattle.sym_base.specs.declared.number.ObjNo.{ObjNo}
 use Rattle.machine.specs.declared.state.HandleSlot.{HandleSlot}
-use Rattle.machine.specs.Handles.{free_index, is_full, slot_at, fresh_slot, with_slot, taken_slot, freed_slot, next_instance, object_in}
+use Rattle.machine.specs.Handles.{free_index, is_full, slot_at, fresh_slot, with_slot, taken_slot, freed_slot, object_in}
 use Rattle.machine.specs.WellFormed.{IsTable, AreTables}
 use Rattle.machine.proofs.Lists.Sets.{set_keeps}
 

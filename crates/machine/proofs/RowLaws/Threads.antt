@@ -1,5 +1,5 @@
 -- Rows of threads, where one changes.
-use Rattle.std.proofs.Common.{◌≡◌, inl, inr, ℕ, ◌<◌, List, length, get_or, refl, sym, subst, ap, ◌∙◌, Option, Some, None, false}
+use Rattle.std.proofs.Common.{◌≡◌, inl, inr, ℕ, List, length, get_or, refl, sym, subst, ap, ◌∙◌, Option, Some, None, false}
 use Rattle.std.specs.Prelude.{option_map, is_some}
 use Rattle.std.proofs.lemmas.Bool.{cases_eq}
 use Rattle.std.proofs.lemmas.List.{length-set}
