@@ -1,3 +1,4 @@
 -- The states that actions and histories leave.
-pub mod NextState
 pub mod AfterHistory
+pub mod Histories
+pub mod NextState
