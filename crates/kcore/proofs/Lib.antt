@@ -2,7 +2,9 @@ mod ActionsDone
 mod Finds
 mod FirstCount
 mod FreshTable
+mod Goes
 mod GoingMoves
+mod ListSteps
 mod Performing
 mod ReadyChanges
 mod ReadyLists
