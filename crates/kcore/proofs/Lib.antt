@@ -1,3 +1,5 @@
+mod BootReady
+mod BootTables
 mod Finds
 mod FreshTable
 mod FirstCount

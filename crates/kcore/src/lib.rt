@@ -1,6 +1,7 @@
 //! The kernel: tables with kept counts, whose every action is the one of the definitions.
 #![tactic(auto)]
 
+mod boot;
 mod handles;
 mod moves;
 mod object_table;

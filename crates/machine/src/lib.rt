@@ -32,7 +32,7 @@ mod tick;
 mod transition;
 
 pub use arrivals::{TouchedThreads, touched};
-pub use boot::Born;
+pub use boot::{Born, all_born, boot_of};
 pub use count::count_of;
 pub use decision::{Decision, Outcome};
 pub use duties::{drop_first_owed, owe_close, owe_use};
