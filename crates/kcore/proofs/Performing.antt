@@ -1,6 +1,7 @@
 -- The moves of an action, one after the other.
 use Rattle.std.proofs.Common.{◌≡◌, ℕ, ◌+◌, ◌<◌, ◌≤◌, List, [], ◌∷◌, ◌++◌, length, get_or, drop, suc, drop-cons, add-one, arith, refl, sym, ap, subst, ◌∙◌, append_assoc, append-nil, length-append}
 use Rattle.std.specs.Prelude.{slice_index}
+use Rattle.std.proofs.Math.ListN.{drop_of_length-le}
 use Rattle.sym_base.specs.declared.limits.TheConstants.Limits.{BOOT_OBJECTS}
 use Rattle.sym_base.specs.declared.number.ObjNo.{ObjNo}
 use Rattle.script_types.specs.declared.script.Script.{Script}
@@ -131,3 +132,7 @@ left_ends rank script S t r all h = subst (λ (l : List ObjNo). AreReady rank l 
 -- the move whose turn it is, and the rest
 pub next_move : (ms : List Move) (i : ℕ) (m : Move) → i < length ms → m ≡ get_or ms i m → drop i ms ≡ m ∷ drop (i + 1) ms
 next_move ms i m inside is = rw (add-one, drop-cons ms i m) (ap (λ x. x ∷ drop (suc i) ms) (sym is))
+
+-- after the last move there is no rest
+pub none_left : (ms : List Move) (i : ℕ) → length ms ≤ i → drop i ms ≡ []
+none_left ms i past = drop_of_length-le ms past

@@ -146,3 +146,8 @@ without_unlisted t [] none = refl
 without_unlisted t (q ∷ qs) none =
     let parts = or_parts (q.0 == t.0) (is_listed qs t) none in
     rw parts.0 (ap (λ (l : List ObjNo). q ∷ l) (without_unlisted t qs parts.1))
+
+-- those of two lists leave one list after the other
+pub leave_append : (script : Script) (S : State) (us vs qs : List ObjNo) → leave script S (us ++ vs) qs ≡ leave script S vs (leave script S us qs)
+leave_append script S [] vs qs = refl
+leave_append script S (u ∷ us) vs qs = leave_append script S us vs (if is_ready script S u then qs else unlisted u qs)

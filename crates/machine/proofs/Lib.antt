@@ -4,11 +4,10 @@ pub mod Holders
 pub mod Lists
 pub mod Lives
 pub mod MoveLaws
-pub mod PlainMachine
+pub mod Numbers
 pub mod Reached
 pub mod Readiness
 pub mod References
 pub mod RowLaws
-pub mod ValidExample
 pub mod ValidSlots
 pub mod WorkedExample

@@ -1,3 +1,5 @@
 -- The states that actions and histories leave.
-pub mod NextState
 pub mod AfterHistory
+pub mod Histories
+pub mod NextState
+pub mod LeftRows

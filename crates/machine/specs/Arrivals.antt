@@ -5,7 +5,7 @@ use Rattle.std.specs.List.{list_any}
 use Rattle.sym_base.specs.declared.number.ObjNo.{ObjNo}
 use Rattle.script_types.specs.declared.script.Script.{Script}
 use Rattle.state_rows.specs.declared.duty.Owed.TheVariants.{Close, Sweep}
-use Rattle.machine.specs.declared.arrivals.TouchedThreads.{TouchedThreads}
+use Rattle.machine.specs.declared.touches.TouchedThreads.{TouchedThreads}
 use Rattle.machine.specs.declared.moves.Move.{Move}
 use Rattle.machine.specs.declared.moves.Move.TheVariants.{GoOn, Advance, Lose, Pay}
 use Rattle.machine.specs.declared.state.State.{State}

@@ -1,5 +1,4 @@
 pub mod Arrivals
-pub mod BestSoFar
 pub mod Boot
 pub mod Choice
 pub mod Close
@@ -16,7 +15,6 @@ pub mod Holding
 pub mod Look
 pub mod Moves
 pub mod Open
-pub mod PlainView
 pub mod References
 pub mod Room
 pub mod Rows

@@ -219,7 +219,7 @@ pub fn boot_of(alloc: Global, all: &[Born]) -> Result<State, NoMemory>
 
 /// The state at boot.
 #[tactic(auto, using(crate::proofs::AtBoot::Born::born_few))]
-pub fn boot(alloc: Global, script: &Script) -> Result<State, NoMemory>
+pub fn state_at_boot(alloc: Global, script: &Script) -> Result<State, NoMemory>
     requires { IsShaped script.now }
     ensures { IfOk result (λ state. state ≡ boot script.now) }
 {

@@ -15,7 +15,7 @@ use Rattle.machine.specs.WellFormed.{AreRows}
 use Rattle.machine.proofs.Lives.Bits.{gone, swept, gone_le}
 use Rattle.machine.proofs.Lives.LivesMove.{zero_or}
 use Rattle.machine.proofs.MoveLaws.Sound.{Sound}
-use Rattle.machine.proofs.PlainMachine.Histories.{after_from-push}
+use Rattle.machine.proofs.Reached.Histories.{after_from-push}
 use Rattle.machine.proofs.Reached.NextState.{sound-next}
 use Rattle.machine.proofs.References.Effects.{pluses-append, minuses-append, deaths-append, removals-append, fits-append, fits-same}
 use Rattle.machine_safe.specs.CountAfter.{effects_of}

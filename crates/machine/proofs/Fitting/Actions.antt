@@ -27,8 +27,8 @@ use Rattle.machine.specs.Task.{instruction, instructions_of, is_returning, pay_o
 use Rattle.machine.specs.Fits.{EachFits, Fits, Sane}
 use Rattle.machine.specs.WellFormed.{AreRows, is_before_use, part_of, weight}
 use Rattle.machine.proofs.Lists.Totals.{inside}
-use Rattle.machine.proofs.PlainMachine.FewEffects.{few_effects}
-use Rattle.machine.proofs.PlainMachine.Registers.{has_registers}
+use Rattle.machine.proofs.Numbers.FewEffects.{few_effects}
+use Rattle.machine.proofs.Numbers.Registers.{has_registers}
 use Rattle.machine.proofs.MoveLaws.Sound.{Sound, sound-none}
 use Rattle.machine.proofs.MoveLaws.Run.{each-sound, sound-pay}
 use Rattle.machine.proofs.Fitting.Stepping.{FitsDecision, IsStepping, fits-nothing}

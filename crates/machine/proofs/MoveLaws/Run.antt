@@ -43,7 +43,7 @@ sound-pay script S t (Close h o) rest e s = sound-pay_close script S t h o rest 
 sound-pay script S t (Sweep o) rest e s = sound-pay_sweep script S t o rest e s.inside s.rows
 
 -- a move adds at most 4 to the weight of what the thread owes
-weight-move : (script : Script) (S : State) (t : ObjNo) (m : Move) → FitsMove script t m S → total weight (owed_of (moved t m S) t) ≤ total weight (owed_of S t) + 4
+pub weight-move : (script : Script) (S : State) (t : ObjNo) (m : Move) → FitsMove script t m S → total weight (owed_of (moved t m S) t) ≤ total weight (owed_of S t) + 4
 weight-move script S t (Lose h o) fits = let a = weight-owing S.owed t (owed_by_close (is_last S o) o (link_of S o)) in let b = close_weight (is_last S o) o (link_of S o) in omega arith
 weight-move script S t (Advance u) fits = subst (λ (y : ObjNo). total weight (owed_of (moved t (Advance u) S) y) ≤ total weight (owed_of S y) + 4) fits.0
     (let a = weight-owing S.owed u (owed_use u (use_of S u)) in let b = use_weight u (use_of S u) in omega arith)

@@ -13,7 +13,7 @@ use Rattle.machine.specs.References.{count_of}
 use Rattle.machine.specs.WellFormed.{AreApart}
 use Rattle.machine.proofs.AtBoot.Born.{born_few}
 use Rattle.machine.proofs.AtBoot.BootRows.{rows-boot, well_formed-boot}
-use Rattle.machine.proofs.PlainMachine.CountSmall.{count_small}
+use Rattle.machine.proofs.Numbers.CountSmall.{count_small}
 use Rattle.kcore.specs.BootTable.{AreNew, FirstStand}
 use Rattle.kcore.specs.Counts.{Agrees}
 use Rattle.kcore.specs.ReadyQueues.{AreReady}
