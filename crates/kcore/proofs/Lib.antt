@@ -1,4 +1,6 @@
 mod ActionsDone
+mod BootReady
+mod BootTables
 mod Finds
 mod FirstCount
 mod FreshTable
