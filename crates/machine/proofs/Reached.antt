@@ -1,4 +1,5 @@
 -- The states that actions and histories leave.
 pub mod AfterHistory
 pub mod Histories
+pub mod LeftRows
 pub mod NextState
