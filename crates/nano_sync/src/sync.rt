@@ -9,7 +9,7 @@ use std::alloc::Global;
 use std::marker::Model;
 use sym_base::{NoMemory, ThreadNo};
 
-/// The greatest suspend count. The nanokernel keeps the count in a signed byte.
+/// The greatest suspend count. The limit is this project's own.
 pub const MAX_SUSPENSIONS: u8 = 127;
 
 /// What the nanokernel keeps of threads that synchronize (Symbian OS Internals, the chapter on threads and

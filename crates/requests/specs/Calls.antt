@@ -10,11 +10,11 @@ use Rattle.requests.specs.RequestRows.{RequestRows, pending, request_at, signal_
 abbrev pub new_rows : ℕ → ℕ → RequestRows
 new_rows threads devices = record { devices = replicate devices None; statuses = replicate threads (replicate 16 (pos 0)); signals = replicate threads 0; replies = replicate threads (pos 0) }
 
--- a device takes a request only where it has none
-abbrev pub begun : RequestRows → ℕ → Began
-begun r d = if is_some (request_at r d) then InUse else Begun
+-- what a device answers to a request: it takes one only where it has none
+abbrev pub begin_answer : RequestRows → ℕ → Began
+begin_answer r d = if is_some (request_at r d) then InUse else Begun
 
--- the device has the request, where it had none
+-- the device has the request, where it had none before
 abbrev pub after_begin : RequestRows → ℕ → ObjNo → ℕ → RequestRows
 after_begin r d t s = record r { devices = if is_some (request_at r d) then r.devices else slice_set r.devices d (Some (record { thread = t; status = s })) }
 

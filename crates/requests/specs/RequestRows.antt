@@ -1,5 +1,5 @@
 -- Requests, statuses and semaphores, as lists.
-use Rattle.std.specs.Prelude.{ℕ, ℤ, pos, negsuc, Bool, false, ◌==◌, List, [], Option, Some, None, slice_index, slice_index_or}
+use Rattle.std.specs.Prelude.{ℕ, ℤ, pos, negsuc, Bool, List, [], Option, Some, None, slice_index, slice_index_or}
 use Rattle.std.specs.Ordering.{int_eq}
 use Rattle.sym_base.specs.declared.number.ObjNo.{ObjNo}
 use Rattle.requests.specs.declared.table.Request.{Request}
@@ -19,11 +19,6 @@ pending = negsuc 2147483646
 -- the request that a device has to complete
 abbrev pub request_at : RequestRows → ℕ → Option Request
 request_at r d = slice_index_or r.devices d None
-
--- whether a request is a thread's
-abbrev pub is_of : ObjNo → Option Request → Bool
-is_of t None = false
-is_of t (Some request) = request.thread.0 == t.0
 
 -- the thread and the status of a request
 abbrev pub parts_of : Option Request → Option (ObjNo × ℕ)

@@ -1,8 +1,7 @@
 //! The table of requests and statuses, and its calls.
-ghost use Rattle.std.specs.Prelude.{◌≡◌, ◌≢◌, ℕ, ◌-◌, true, false, ◌<◌, not, ◌==◌, length, IfOk, IfSome, IsTrue, replicate, pos};
-ghost use Rattle.sym_base.specs.declared.number.ObjNo.{ObjNo};
-ghost use Rattle.requests.specs.RequestRows.{request_at, is_of, parts_of, value_of, is_pending, signal_count, reply_of};
-ghost use Rattle.requests.specs.Calls.{new_rows, begun, after_begin, after_finish, status_of, without, after_cancel, after_drop, after_set_pending, after_signal, after_take, after_reply};
+ghost use Rattle.std.specs.Prelude.{◌≡◌, false, ◌<◌, not, ◌==◌, length, IfOk, IfSome, IsTrue, replicate, pos};
+ghost use Rattle.requests.specs.RequestRows.{request_at, parts_of, value_of, pending, is_pending, signal_count, reply_of};
+ghost use Rattle.requests.specs.Calls.{new_rows, begin_answer, after_begin, after_finish, status_of, without, after_cancel, after_drop, after_set_pending, after_signal, after_take, after_reply};
 
 use crate::drops::drop_requests;
 use std::alloc::Global;
@@ -34,8 +33,8 @@ pub enum Began {
 /// Asynchronous requests (Symbian OS Internals, the chapter on inter-thread communication): of each device
 /// the request that it has to complete, at most one; and of each thread its statuses s0 to s15, the count
 /// of its request semaphore, and the status of its synchronous message, which leaves the semaphore alone.
-/// That a device has one request at a time, and a thread sixteen statuses, is this project's own rule. A
-/// contract sees the lists of these.
+/// The devices, that each has one request at a time, that a thread has sixteen statuses, and that a
+/// synchronous message has a status of its own are this project's rules. A contract sees the lists of these.
 #[derive(Drop)]
 pub struct Requests {
     devices: Vec<Option<Request>>,
@@ -79,7 +78,7 @@ impl Requests {
         requires device { device < length self.old.devices }
         requires thread { t.0 < length self.old.signals }
         requires status { s < 16 }
-        ensures answer { result ≡ begun self.old device }
+        ensures answer { result ≡ begin_answer self.old device }
         ensures after { self.new ≡ after_begin self.old device t s }
         ensures unchanged { result ≡ Began.InUse → self.new ≡ self.old }
     {
@@ -147,6 +146,7 @@ impl Requests {
         requires status { s < 16 }
         ensures answer { result ≡ not (is_pending self.old t s) }
         ensures after { self.new ≡ after_set_pending self.old t s }
+        ensures told { value_of self.new t s ≡ pending }
         ensures unchanged { result ≡ false → self.new ≡ self.old }
     {
         let status = &mut self.statuses[t.0 as usize][s as usize];
@@ -163,7 +163,8 @@ impl Requests {
         requires status { s < 16 }
         requires pending { IsTrue (is_pending self.old t s) }
         requires room { signal_count self.old t < 18446744073709551615 }
-        ensures { self.new ≡ after_signal self.old t s code }
+        ensures after { self.new ≡ after_signal self.old t s code }
+        ensures told { value_of self.new t s ≡ code }
     {
         self.statuses[t.0 as usize][s as usize] = code;
         self.signals[t.0 as usize] += 1;
