@@ -122,6 +122,14 @@ look_inside local slots handle some =
           absurd (none_named (handle_number local (index_of handle) 0 == handle) (sym none ∙ some))
     ]
 
+named_step : (b : Bool) (object : Option ObjNo) (o : ObjNo) → cond b object None ≡ Some o → object ≡ Some o
+named_step true object o e = e
+named_step false object o e = absurd (cc)
+
+-- the object that a handle names stands at its place
+pub look_named : (local : Bool) (slots : List HandleSlot) (handle : ℕ) (o : ObjNo) → look local slots handle ≡ Some o → (slot_at slots (index_of handle)).object ≡ Some o
+look_named local slots handle o e = named_step _ (slot_at slots (index_of handle)).object o e
+
 -- the least free place is free, and inside a table that isn't full
 free_index_free_step : (slot : HandleSlot) (slots : List HandleSlot) (object : Option ObjNo) → slot.object ≡ object → (slot_at slots (free_index slots)).object ≡ None → (slot_at (slot ∷ slots) (cond (is_none object) 0 (free_index slots + 1))).object ≡ None
 free_index_free_step slot slots None e rest = e

@@ -14,21 +14,21 @@ abbrev pub no_handles : Bool → HandleTable
 no_handles local = record { local = local; slots = replicate HANDLES fresh_slot }
 
 -- the answer of an adding
-abbrev pub added_answer : HandleTable → Added
-added_answer t = if is_full t.slots then Full else Handle (new_handle t.local t.slots)
+abbrev pub add_answer : HandleTable → Added
+add_answer t = if is_full t.slots then Full else Handle (new_handle t.local t.slots)
 
 -- the least free place has the object, with its next instance
 abbrev pub slots_added : List HandleSlot → ObjNo → List HandleSlot
 slots_added slots o = slice_set slots (free_index slots) (record { instance = new_instance slots; object = Some o })
 
 -- the table after an adding
-abbrev pub added : HandleTable → ObjNo → HandleTable
-added t o = record t { slots = if is_full t.slots then t.slots else slots_added t.slots o }
+abbrev pub table_added : HandleTable → ObjNo → HandleTable
+table_added t o = record t { slots = if is_full t.slots then t.slots else slots_added t.slots o }
 
 -- the place of this index is free, and keeps its instance
 abbrev pub slots_removed : List HandleSlot → ℕ → List HandleSlot
 slots_removed slots index = slice_set slots index (record (slot_at slots index) { object = None })
 
 -- the table without a handle, where it has it
-abbrev pub removed : HandleTable → ℕ → HandleTable
-removed t handle = record t { slots = if is_some (look t.local t.slots handle) then slots_removed t.slots (index_of handle) else t.slots }
+abbrev pub table_removed : HandleTable → ℕ → HandleTable
+table_removed t handle = record t { slots = if is_some (look t.local t.slots handle) then slots_removed t.slots (index_of handle) else t.slots }

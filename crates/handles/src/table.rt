@@ -2,7 +2,7 @@
 ghost use Rattle.std.specs.Prelude.{◌≡◌, ◌≢◌, ℕ, false, ◌<◌, ◌≤◌, ◌↔◌, IfOk};
 ghost use Rattle.handles.specs.Number.{index_of};
 ghost use Rattle.handles.specs.Slots.{IsTable, free_index, is_full, handle_count, new_handle, look, next_used};
-ghost use Rattle.handles.specs.Table.{no_handles, added_answer, added, removed};
+ghost use Rattle.handles.specs.Table.{no_handles, add_answer, table_added, table_removed};
 
 use crate::free::FreePlaces;
 use crate::slot::{HandleSlot, handle_number, index_of, look, next_instance, next_used};
@@ -75,8 +75,8 @@ impl Handles {
     /// Adds a handle of an object at the least free place. `Full` comes exactly at 256 handles, and then nothing
     /// changes.
     pub fn add(&mut self, o: ObjNo) -> Added
-        ensures answer { result ≡ added_answer self.old }
-        ensures table { self.new ≡ added self.old o }
+        ensures answer { result ≡ add_answer self.old }
+        ensures table { self.new ≡ table_added self.old o }
         ensures full { (result ≡ Added.Full) ↔ (handle_count self.old.slots ≡ Limits.HANDLES) }
         ensures found { (h : ℕ) → result ≡ Added.Handle h → look self.new.local self.new.slots h ≡ Some o }
     {
@@ -104,7 +104,7 @@ impl Handles {
     /// place or another instance, and then nothing changes.
     pub fn remove(&mut self, handle: u32) -> Option<ObjNo>
         ensures object { result ≡ look self.old.local self.old.slots handle }
-        ensures table { self.new ≡ removed self.old handle }
+        ensures table { self.new ≡ table_removed self.old handle }
         ensures gone { look self.new.local self.new.slots handle ≡ None }
     {
         let object = look(self.local, &self.slots, handle);
