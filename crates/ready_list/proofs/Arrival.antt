@@ -1,18 +1,20 @@
 -- The queues stay those of the one list in order of arrival, and the first of the highest queue is the
 -- list's first of the greatest priority.
-use Rattle.std.proofs.Common.{◌≡◌, ◌≢◌, ℕ, ◌+◌, ◌<◌, ◌≤◌, Bool, true, false, not, eqb, ltb, List, [], ◌∷◌, ◌++◌, length, get_or, refl, sym, ap, ◌∙◌, arith, inl, inr, get_or-set_same, get_or-set_other, length-set, append-nil, drop, subst, length-drop, get_or-drop}
-use Rattle.std.specs.Prelude.{Option, Some, None, All, slice_get, option_map}
+use Rattle.std.proofs.Common.{◌≡◌, ◌≢◌, ℕ, ◌+◌, ◌<◌, ◌≤◌, Bool, true, false, not, eqb, List, [], ◌∷◌, ◌++◌, length, get_or, refl, sym, ap, ◌∙◌, arith, inl, inr, get_or-set_same, get_or-set_other, length-set, append-nil, drop, length-drop, get_or-drop}
+use Rattle.std.specs.Prelude.{Option, Some, None, All, slice_get, option_map, filter}
 use Rattle.std.specs.List.{list_any}
-use Rattle.std.proofs.lemmas.Bool.{cases_Bool, cases_eq, eq-eqb, eqb-true, ne_eqb, ltb-true, ltb-false, lt-ltb}
+use Rattle.std.proofs.lemmas.Bool.{cases_Bool, cases_eq, eq-eqb, eqb-true, ne_eqb, lt-ltb}
 use Rattle.std.proofs.lemmas.List.{get_or-map, length-map, map-append, get_or_read}
-use Rattle.std.proofs.lemmas.List.Elements.{filter-append, All-nil, All-cons, All-head, All-tail, All-filter, All-push, All-weaker, All-from_get_or}
+use Rattle.std.proofs.lemmas.List.Elements.{filter-append, All-cons, All-head, All-tail, All-filter, All-push, All-from_get_or, All-get_or}
 use Rattle.sym_base.specs.declared.number.ObjNo.{ObjNo}
 use Rattle.ready_list.specs.Queue.{holds, without, turned}
 use Rattle.ready_list.specs.Ready.{Ready, added, removed, rotated, moved, first_of_highest, priority_of}
 use Rattle.std.proofs.lemmas.List.Folds.{Any-from_list_any, list_any_at}
 use Rattle.std.proofs.lemmas.List.Sums.{position_or_len_is}
 use Rattle.ready_list.proofs.Highest.{highest_empty, found_highest}
-use Rattle.ready_list.specs.Arrival.{queue_of, AreQueuesOf, better, best, first_of_greatest, is_listed, unlisted, rearrived}
+use Rattle.sym_base.proofs.Greatest.{none_greatest, is_first_of_greatest}
+use Rattle.std.proofs.lemmas.Option.{slice_get-map, slice_get_within, get_or_from_slice_get}
+use Rattle.ready_list.specs.Arrival.{queue_of, AreQueuesOf, best, first_of_greatest, is_listed, unlisted, rearrived}
 
 abbrev Listed : Type 0
 Listed = List (ObjNo × ℕ)
@@ -123,72 +125,6 @@ rotated_last list r p low are = record {
   ];
 }
 
--- the best has the greatest priority, and is the first of those who have it
-record IsBest (list : Listed) (x : ObjNo × ℕ) : Type 0 where
-  greatest : All (λ y. y.1 ≤ x.1) list
-  first : slice_get (queue_of x.1 list) 0 ≡ Some x.0
-  ranged : All (λ y. y.1 < 64) list → x.1 < 64
-
--- one or the other is better
-better_some : (x : ObjNo × ℕ) (o : Option (ObjNo × ℕ)) → better x o ≡ None → ⊥
-better_some x None none = cc
-better_some x (Some y) none =
-    elim (cases_Bool (ltb x.1 y.1)) [
-      | inl above ↦ let is : Some y ≡ None = rw above at none in cc
-      | inr below ↦ let is : Some x ≡ None = rw below at none in cc
-    ]
-
--- nobody is best only of nobody
-no_best : (list : Listed) → best list ≡ None → list ≡ []
-no_best [] none = refl
-no_best (x ∷ later) none = absurd (better_some x (best later) none)
-
--- the only one is the best
-best_alone : (x : ObjNo × ℕ) → IsBest (x ∷ []) x
-best_alone x = record {
-  greatest = All-cons (λ (y : ObjNo × ℕ). y.1 ≤ x.1) x [] (omega arith) (All-nil (λ (y : ObjNo × ℕ). y.1 ≤ x.1));
-  first = rw (eq-eqb x.1 x.1 refl) refl;
-  ranged = λ all. All-head (λ (y : ObjNo × ℕ). y.1 < 64) x [] all;
-}
-
--- a later one is the best where its priority is greater
-best_later : (x z : ObjNo × ℕ) (later : Listed) → x.1 < z.1 → IsBest later z → IsBest (x ∷ later) z
-best_later x z later above is = record {
-  greatest = All-cons (λ (y : ObjNo × ℕ). y.1 ≤ z.1) x later (omega arith) is.greatest;
-  first = let other : eqb x.1 z.1 ≡ false = ne_eqb x.1 z.1 (λ e. omega arith) in rw other is.first;
-  ranged = λ all. is.ranged (All-tail (λ (y : ObjNo × ℕ). y.1 < 64) x later all);
-}
-
--- and the first one is the best where no later one's is
-best_first : (x z : ObjNo × ℕ) (later : Listed) → z.1 ≤ x.1 → IsBest later z → IsBest (x ∷ later) x
-best_first x z later below is = record {
-  greatest = All-cons (λ (y : ObjNo × ℕ). y.1 ≤ x.1) x later (omega arith) (All-weaker (λ (y : ObjNo × ℕ). y.1 ≤ z.1) (λ (y : ObjNo × ℕ). y.1 ≤ x.1) (λ y h. omega arith) later is.greatest);
-  first = rw (eq-eqb x.1 x.1 refl) refl;
-  ranged = λ all. All-head (λ (y : ObjNo × ℕ). y.1 < 64) x later all;
-}
-
-best_of : (x : ObjNo × ℕ) (later : Listed) (o : Option (ObjNo × ℕ)) (y : ObjNo × ℕ) → best later ≡ o → ((z : ObjNo × ℕ) → o ≡ Some z → IsBest later z) → better x o ≡ Some y → IsBest (x ∷ later) y
-best_of x later None y none rest is =
-    let same : x ≡ y = cc in
-    let alone : IsBest (x ∷ later) x = rw (no_best later none) (best_alone x) in
-    subst (λ (z : ObjNo × ℕ). IsBest (x ∷ later) z) same alone
-best_of x later (Some z) y some rest is =
-    let behind = rest z refl in
-    elim (cases_Bool (ltb x.1 z.1)) [
-      | inl above ↦
-          let chosen : Some z ≡ Some y = rw above at is in
-          let same : z ≡ y = cc in
-          subst (λ (b : ObjNo × ℕ). IsBest (x ∷ later) b) same (best_later x z later (ltb-true x.1 z.1 above) behind)
-      | inr below ↦
-          let chosen : Some x ≡ Some y = rw below at is in
-          let same : x ≡ y = cc in
-          subst (λ (b : ObjNo × ℕ). IsBest (x ∷ later) b) same (best_first x z later (ltb-false x.1 z.1 below) behind)
-    ]
-
-best_is : (list : Listed) (x : ObjNo × ℕ) → best list ≡ Some x → IsBest list x
-best_is [] x is = absurd (cc)
-best_is (x ∷ later) y is = best_of x later (best later) y refl (λ z e. best_is later z e) is
-
 -- nobody has a priority above the greatest
 none_above : (list : Listed) (m q : ℕ) → All (λ y. y.1 ≤ m) list → m < q → queue_of q list ≡ []
 none_above [] m q all above = refl
@@ -207,12 +143,13 @@ empty_above list r m are all =
 picked_by : (list : Listed) (r : Ready) (o : Option (ObjNo × ℕ)) → AreQueuesOf list r → best list ≡ o → first_of_highest r.queues ≡ option_map (λ x. x.0) o
 picked_by list r None are none =
     highest_empty r.queues (All-from_get_or (λ (queue : List ObjNo). queue ≡ []) r.queues [] (λ p within.
-    are.each p (omega (arith, are.sized)) ∙ ap (queue_of p) (no_best list none)))
+    are.each p (omega (arith, are.sized)) ∙ ap (queue_of p) (none_greatest (λ x. x.1) list none)))
 picked_by list r (Some x) are some =
-    let is = best_is list x some in
-    let low = is.ranged are.ranged in
+    let is = is_first_of_greatest (λ x. x.1) list x some in
+    let low : x.1 < 64 = rw (get_or_from_slice_get list is.place x x is.at) at (All-get_or (λ (y : ObjNo × ℕ). y.1 < 64) list is.place x (slice_get_within list is.place x is.at) are.ranged) in
     let inside : x.1 < length r.queues = omega (arith, are.sized) in
-    let first : Some x.0 ≡ slice_get (get_or r.queues x.1 []) 0 = sym (ap (λ (q : List ObjNo). slice_get q 0) (are.each x.1 low) ∙ is.first) in
+    let own : slice_get (queue_of x.1 list) 0 ≡ Some x.0 = slice_get-map (λ (y : ObjNo × ℕ). y.0) (filter (λ y. eqb y.1 x.1) list) 0 ∙ ap (option_map (λ (y : ObjNo × ℕ). y.0)) is.first in
+    let first : Some x.0 ≡ slice_get (get_or r.queues x.1 []) 0 = sym (ap (λ (q : List ObjNo). slice_get q 0) (are.each x.1 low) ∙ own) in
     sym (found_highest r.queues x.1 (Some x.0) inside (highest_empty (drop (x.1 + 1) r.queues) (empty_above list r x.1 are is.greatest)) first refl)
 
 -- the first of the highest queue is the first of the greatest priority

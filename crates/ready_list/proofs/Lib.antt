@@ -1,3 +1,6 @@
 pub mod Arrival
+mod Bits
 mod Highest
-mod Struck
+mod Keeping
+mod Picked
+mod Threads

@@ -1,7 +1,9 @@
 -- The ready threads as one list of threads with their priorities, in order of arrival.
-use Rattle.std.specs.Prelude.{◌≡◌, ℕ, ◌<◌, Bool, not, ◌==◌, nat_lt, if◌then◌else◌, List, [], ◌∷◌, ◌++◌, length, All, Option, Some, None, option_map, filter, map}
+use Rattle.std.specs.Prelude.{◌≡◌, ℕ, ◌<◌, Bool, not, ◌==◌, if◌then◌else◌, List, [], ◌∷◌, ◌++◌, length, All, Option, option_map, filter, map}
 use Rattle.std.specs.List.{list_any}
 use Rattle.sym_base.specs.declared.number.ObjNo.{ObjNo}
+use Rattle.sym_base.specs.Greatest.{unless_greater}
+use Rattle.sym_base.specs.Greatest as greatest
 use Rattle.ready_list.specs.Ready.{Ready, queue_at}
 
 -- the threads of a priority
@@ -16,13 +18,11 @@ pub record AreQueuesOf (list : List (ObjNo × ℕ)) (r : Ready) : Type 0 where
 
 -- the one that came first, unless the best of the later ones has a greater priority
 abbrev pub better : ObjNo × ℕ → Option (ObjNo × ℕ) → Option (ObjNo × ℕ)
-better x None = Some x
-better x (Some y) = if nat_lt x.1 y.1 then Some y else Some x
+better x later = unless_greater (λ y. y.1) x later
 
 -- the first of those with the greatest priority
 abbrev pub best : List (ObjNo × ℕ) → Option (ObjNo × ℕ)
-best [] = None
-best (x ∷ later) = better x (best later)
+best list = greatest.first_of_greatest (λ y. y.1) list
 
 -- the thread of the greatest priority that came first
 abbrev pub first_of_greatest : List (ObjNo × ℕ) → Option ObjNo

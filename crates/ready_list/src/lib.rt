@@ -1,7 +1,7 @@
 //! The threads that are ready to run, by priority and in order of arrival.
 #![tactic(auto)]
 
-mod queue;
+mod mask;
 mod ready;
 #[cfg(test)]
 mod tests;

@@ -1,57 +1,64 @@
 //! Queues of ready threads, one for each priority.
-ghost use Rattle.std.specs.Prelude.{◌≡◌, ℕ, ◌<◌, ◌↔◌, [], All, length, map, IsNone, IfOk, OnOk, OnErr, slice_index_or, slice_set};
-ghost use Rattle.ready_list.specs.Queue.{without};
+ghost use Rattle.std.specs.Prelude.{◌≡◌, ◌<◌, ◌↔◌, [], All, IsNone, IfOk};
 ghost use Rattle.ready_list.specs.Ready.{IsReady, no_threads, added, removed, rotated, moved, first_of_highest, priority_of};
 
-use crate::queue::Queue;
+use crate::mask::{highest_bit, with_bit, without_bit};
+use links::Links;
 use std::alloc::Global;
 use std::marker::Model;
-use sym_base::{NoMemory, ThreadNo};
+use sym_base::{NoMemory, ObjNo, ThreadNo};
 
 /// The number of priorities. 0 is the lowest.
 pub const PRIORITIES: u8 = 64;
 
 /// The ready list of the nanokernel: a queue of threads for each of the 64 priorities, each in order of
-/// arrival (Symbian OS Internals, the chapter on threads and processes). A contract sees the queues by
-/// priority.
+/// arrival, and a word whose bits tell which queues have a thread (Symbian OS Internals, the chapter on
+/// threads and processes). A contract sees the queues by priority. No call but `new` takes memory.
 #[derive(Drop)]
 pub struct ReadyList {
     threads: u16,
-    queues: Vec<Queue>,
+    links: Links,
+    priorities: Vec<u8>,
+    mask: u64,
 }
 
 impl Model for ReadyList {
-    ghost use Rattle.std.specs.Prelude.{◌≡◌, length};
     ghost use Rattle.ready_list.specs.Ready.{Ready};
+    ghost use Rattle.ready_list.specs.Kept.{AreKept, queues_of};
 
     ghost Value = { Ready };
 
-    ghost view = { λ a. record { threads = a.threads; queues = a.queues.items } };
+    ghost view = { λ a. record { threads = a.threads; queues = queues_of a.links.lists } };
 
-    ghost invariant = { λ a. length a.queues.items ≡ 64 };
+    ghost invariant = { λ a. AreKept a.threads a.links a.priorities.items a.mask };
 }
 
 impl ReadyList {
-    /// A list for the threads below a number, of which none is ready.
+    /// A list for the threads below a number, of which none is ready. It takes all the memory that the
+    /// list ever needs.
     pub fn new(alloc: Global, threads: u16) -> Result<ReadyList, NoMemory>
         ensures { IfOk result (λ list. list ≡ no_threads threads) }
     {
-        let mut queues = Vec::new(alloc);
-        for _ in 0..PRIORITIES {
-            queues.push(Queue::new(alloc))?;
-        }
-        Ok(ReadyList { threads, queues })
+        let links = Links::new(alloc, threads as u32, PRIORITIES as u32)?;
+        let priorities = vec![in alloc; 0u8; threads as usize]?;
+        Ok(ReadyList {
+            threads,
+            links,
+            priorities,
+            mask: 0,
+        })
     }
 
-    /// Makes a thread ready, behind the others of its priority. At `Err` the list is as before.
-    pub fn add(&mut self, t: ThreadNo, priority: u8) -> Result<(), NoMemory>
+    /// Makes a thread ready, behind the others of its priority.
+    pub fn add(&mut self, t: ThreadNo, priority: u8)
         requires thread { t.0 < self.old.threads }
         requires priority { priority < 64 }
         requires fresh { ¬ IsReady self.old t }
-        ensures ok { OnOk result (self.new ≡ added self.old t priority) }
-        ensures err { OnErr result (self.new ≡ self.old) }
+        ensures { self.new ≡ added self.old t priority }
     {
-        self.queues[priority as usize].push(t)
+        self.links.push_back(priority as u32, t.0 as u32);
+        self.priorities[t.0 as usize] = priority;
+        self.mask = with_bit(self.mask, priority);
     }
 
     /// Takes a ready thread off the list.
@@ -60,7 +67,11 @@ impl ReadyList {
         requires ready { IsReady self.old t }
         ensures { self.new ≡ removed self.old t }
     {
-        strike(&mut self.queues, t);
+        let priority = self.priorities[t.0 as usize];
+        self.links.unlink(t.0 as u32);
+        if self.links.first(priority as u32).is_none() {
+            self.mask = without_bit(self.mask, priority);
+        }
     }
 
     /// Puts the first thread of a priority behind the others of that priority, as the end of its time
@@ -69,21 +80,20 @@ impl ReadyList {
         requires { priority < 64 }
         ensures { self.new ≡ rotated self.old priority }
     {
-        self.queues[priority as usize].turn();
+        if let Some(first) = self.links.pop_front(priority as u32) {
+            self.links.push_back(priority as u32, first);
+        }
     }
 
-    /// Gives a ready thread a priority. It is a new arrival, also where its priority is the same. At
-    /// `Err` the list is as before.
-    pub fn set_priority(&mut self, t: ThreadNo, priority: u8) -> Result<(), NoMemory>
+    /// Gives a ready thread a priority. It is a new arrival, also where its priority is the same.
+    pub fn set_priority(&mut self, t: ThreadNo, priority: u8)
         requires thread { t.0 < self.old.threads }
         requires priority { priority < 64 }
         requires ready { IsReady self.old t }
-        ensures ok { OnOk result (self.new ≡ moved self.old t priority) }
-        ensures err { OnErr result (self.new ≡ self.old) }
+        ensures { self.new ≡ moved self.old t priority }
     {
-        self.queues[priority as usize].push_anew(t)?;
-        strike_others(&mut self.queues, t, priority as usize);
-        Ok(())
+        self.remove(t);
+        self.add(t, priority);
     }
 
     /// The thread of the greatest priority, and of these the first that arrived. None exactly where
@@ -92,13 +102,9 @@ impl ReadyList {
         ensures picked { result ≡ first_of_highest self.now.queues }
         ensures none { IsNone result ↔ All (λ queue. queue ≡ []) self.now.queues }
     {
-        for priority in (0..self.queues.len()).rev() {
-            let first = self.queues[priority].first();
-            if first.is_some() {
-                return first;
-            }
-        }
-        None
+        let priority = highest_bit(self.mask)?;
+        let first = self.links.first(priority as u32)?;
+        Some(ObjNo(first as u16))
     }
 
     /// The priority at which a thread is ready. None exactly where it isn't ready.
@@ -107,27 +113,10 @@ impl ReadyList {
         ensures found { result ≡ priority_of self.now t }
         ensures none { IsNone result ↔ (¬ IsReady self.now t) }
     {
-        let place = self.queues.iter().position(|queue| queue.contains(t))?;
-        Some(place as u8)
-    }
-}
-
-/// Takes a thread out of each queue.
-fn strike(queues: &mut [Queue], t: ThreadNo)
-    ensures { queues.new ≡ map (without t) queues.old }
-{
-    for queue in queues.iter_mut() {
-        queue.strike(t);
-    }
-}
-
-/// Takes a thread out of each queue but one.
-fn strike_others(queues: &mut [Queue], t: ThreadNo, but: usize)
-    ensures { queues.new ≡ slice_set (map (without t) queues.old) but (slice_index_or queues.old but []) }
-{
-    for (place, queue) in queues.iter_mut().enumerate() {
-        if place != but {
-            queue.strike(t);
+        if self.links.is_linked(t.0 as u32) {
+            Some(self.priorities[t.0 as usize])
+        } else {
+            None
         }
     }
 }

@@ -1,5 +1,6 @@
 pub mod Appends
 pub mod ErrorCode
+pub mod Greatest
 pub mod KindNumber
 pub mod NameText
 pub mod Padded

@@ -1,22 +1,25 @@
-use Rattle.std.proofs.Common.{rules, tests, sym, refl, ◌∙◌}
-use Rattle.std.proofs.lemmas.Iterator.{YieldsList-from_slice}
-use Rattle.std.proofs.lemmas.Iterator.Search.{position_from_yields_List}
-use Rattle.ready_list.specs.Queue.{holds}
-use Rattle.ready_list.proofs.Struck.{position_none}
+use Rattle.std.proofs.Common.{◌∙◌, sym, refl, arith}
+use Rattle.std.proofs.lemmas.List.{get_or_read}
+use Rattle.ready_list.proofs.Picked.{priority_ready, priority_unready}
+use Rattle.ready_list.proofs.Threads.{any_thread}
 use Rattle.ready_list.proofs.ready.ReadyList.priority_of.Goals as goal
 
-pub returns-clause-found : goal.returns-clause-found
-returns-clause-found c =
-    let is = position_from_yields_List (holds c.args.t) _ _ _ c.position.ensures.ran (YieldsList-from_slice c.self.inside.queues.items cc) (λ x b q k. search (rules, tests)) in
-    rw (← c.self.view_is, ← is) (sym c.in_ok-place.was)
+pub returns-then-is_linked-clause-found : goal.returns-then-is_linked-clause-found
+returns-then-is_linked-clause-found c =
+    let held = c.is_linked.ensures.linked.0 c.if-is_linked.true in
+    let known = rw (← c.self.view_is) at c.requires in
+    let read = get_or_read c.self.inside.priorities.items c.args.t.0 c.index.result.now (omega (arith, c.self.invariant.sized)) c.index.ensures 0 in
+    rw (← c.self.view_is, read) (priority_ready c.self.inside.threads c.self.inside.links c.self.inside.priorities.items c.self.inside.mask c.self.invariant c.args.t held)
 
-pub returns-in_err-place-clause-found : goal.returns-in_err-place-clause-found
-returns-in_err-place-clause-found c =
-    let is = position_from_yields_List (holds c.args.t) _ _ _ c.position.ensures.ran (YieldsList-from_slice c.self.inside.queues.items cc) (λ x b q k. search (rules, tests)) in
-    rw (← c.self.view_is, ← is) (c.from_residual.ensures ∙ sym c.in_err-place.was)
+pub returns-then-is_linked-clause-none : goal.returns-then-is_linked-clause-none
+returns-then-is_linked-clause-none c =
+    let held = c.is_linked.ensures.linked.0 c.if-is_linked.true in
+    rw (← c.self.view_is) (λ none. absurd (cc), λ unready. absurd (unready (any_thread c.args.t c.self.inside.links.lists ∙ held)))
 
-pub returns-in_err-place-clause-none : goal.returns-in_err-place-clause-none
-returns-in_err-place-clause-none c =
-    let is = position_from_yields_List (holds c.args.t) _ _ _ c.position.ensures.ran (YieldsList-from_slice c.self.inside.queues.items cc) (λ x b q k. search (rules, tests)) in
-    let none = position_none c.args.t c.self.inside.queues.items (sym is ∙ c.in_err-place.was) in
-    rw (← c.self.view_is) (λ _ ready. absurd (cc), λ _. rw c.from_residual.ensures refl)
+pub returns-else-is_linked-clause-found : goal.returns-else-is_linked-clause-found
+returns-else-is_linked-clause-found c =
+    rw (← c.self.view_is) (priority_unready c.self.inside.threads c.self.inside.links c.self.inside.priorities.items c.self.inside.mask c.self.invariant c.args.t (λ held. let no = sym (c.is_linked.ensures.linked.1 held) ∙ c.if-is_linked.false in absurd (cc)))
+
+pub returns-else-is_linked-clause-none : goal.returns-else-is_linked-clause-none
+returns-else-is_linked-clause-none c =
+    rw (← c.self.view_is) (λ _ ready. let held = sym (any_thread c.args.t c.self.inside.links.lists) ∙ ready in let no = sym (c.is_linked.ensures.linked.1 held) ∙ c.if-is_linked.false in absurd (cc), λ _. refl)

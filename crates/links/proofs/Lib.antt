@@ -1,0 +1,9 @@
+pub mod Apart
+pub mod Calls
+pub mod Edits
+mod Fresh
+pub mod Inserted
+pub mod Marks
+pub mod Removed
+pub mod Walks
+pub mod Without
