@@ -1,7 +1,7 @@
 -- The words of printed lines.
 use Rattle.std.specs.Fmt.{signed_decimal}
 use Rattle.std.specs.Prelude.{ℕ, ◌==◌, if◌then◌else◌, List, [], ◌∷◌, codes, decimal}
-use Rattle.script_words.specs.Keywords.{keyword_text}
+use Rattle.script_types.specs.Keywords.{keyword_text}
 use Rattle.script_print.specs.declared.word.Word.{Word}
 use Rattle.script_print.specs.declared.word.Word.TheVariants as word
 use Rattle.script_types.specs.InstrWords.{kind_word, register_word, message_word, status_word, device_word, fast_word, arg_word}

@@ -1,7 +1,7 @@
 //! The lines of instructions.
 ghost use Rattle.std.specs.Prelude.{◌≡◌, [], ◌∷◌, ◌++◌, decimal, map, OnOk};
 ghost use Rattle.script_print.specs.CanonicalText.{spaced, source_text, source_texts};
-ghost use Rattle.script_words.specs.Keywords.{keyword_text};
+ghost use Rattle.script_types.specs.Keywords.{keyword_text};
 ghost use Rattle.script_types.specs.InstrWords.{message_word};
 ghost use Rattle.script_types.specs.declared.source_line.SourceLine.TheVariants as line;
 

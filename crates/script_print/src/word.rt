@@ -3,7 +3,7 @@ ghost use Rattle.std.specs.Fmt.{signed_decimal};
 ghost use Rattle.std.specs.List.{flat_map};
 ghost use Rattle.std.specs.Prelude.{◌≡◌, [], ◌∷◌, ◌++◌, decimal, map, OnOk};
 ghost use Rattle.script_print.specs.CanonicalText.{spaced};
-ghost use Rattle.script_words.specs.Keywords.{keyword_text};
+ghost use Rattle.script_types.specs.Keywords.{keyword_text};
 ghost use Rattle.script_print.specs.PrintedWord.{word_text};
 ghost use Rattle.script_types.specs.InstrWords.{kind_word, arg_word};
 

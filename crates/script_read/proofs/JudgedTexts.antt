@@ -3,7 +3,7 @@ use Rattle.std.proofs.Common.{◌≡◌, ℕ, List, [], ◌∷◌, ◌++◌, ref
 use Rattle.std.specs.Prelude.{codes, replicate, Result, Ok, Err}
 use Rattle.script_read.specs.Judged.{read_text}
 use Rattle.script_read.specs.Reasons.{first_reason, after_text}
-use Rattle.script_words.specs.Keywords.{keyword_of}
+use Rattle.script_types.specs.Keywords.{keyword_of}
 use Rattle.script_read.specs.declared.reason.Reason.{Reason}
 use Rattle.script_read.specs.declared.reason.Reason.TheVariants as reason
 use Rattle.script_types.specs.declared.context.Context.{Context}
