@@ -29,11 +29,11 @@ at_place P [] all k x h = absurd (cc)
 at_place P (y ∷ ys) all zero x h = let e : y ≡ x = cc in subst P e all.0
 at_place P (y ∷ ys) all (suc k) x h = at_place P ys all.1 k x h
 
-both : (a b : Bool) → (a && b) ≡ true → (a ≡ true) × (b ≡ true)
+pub both : (a b : Bool) → (a && b) ≡ true → (a ≡ true) × (b ≡ true)
 both true b h = (refl, h)
 both false b h = absurd (cc)
 
-or_true : (a b : Bool) → (a || b) ≡ true → (a ≡ true) ⊎ (b ≡ true)
+pub or_true : (a b : Bool) → (a || b) ≡ true → (a ≡ true) ⊎ (b ≡ true)
 or_true true b h = inl refl
 or_true false b h = inr h
 
@@ -57,7 +57,7 @@ in_form f h =
 eight : (x : ℕ) → nat_le x 7 ≡ true → x < 8
 eight x h = let le = leb-true x 7 h in omega arith
 
-number_in : (low high n : ℕ) → (nat_le low n && nat_le n high) ≡ true → (low ≤ n) × (n ≤ high)
+pub number_in : (low high n : ℕ) → (nat_le low n && nat_le n high) ≡ true → (low ≤ n) × (n ≤ high)
 number_in low high n h = let parts = both (nat_le low n) (nat_le n high) h in (leb-true low n parts.0, leb-true n high parts.1)
 
 -- the registers of an instruction in range
@@ -146,7 +146,7 @@ rank_stays None h = absurd (cc)
 rank_stays (Some rank) h = h
 
 -- ranks don't fall
-earlier : (rank : Option ℕ) (awaits : Bool) (kind : LineKind) → is_thread kind ≡ false → may_stand rank awaits kind ≡ true → rank_or rank ≤ rank_of (rank_or rank) kind
+pub earlier : (rank : Option ℕ) (awaits : Bool) (kind : LineKind) → is_thread kind ≡ false → may_stand rank awaits kind ≡ true → rank_or rank ≤ rank_of (rank_or rank) kind
 earlier None awaits kind other h = omega arith
 earlier (Some rank) true kind other h = absurd (cc)
 earlier (Some rank) false of.Header other h = absurd (cc)
@@ -165,17 +165,17 @@ earlier (Some rank) false of.KernelThread other h = leb-true rank 7 h
 earlier (Some rank) false of.Process other h = leb-true rank 8 h
 
 -- an instruction stands in a thread
-in_thread : (rank : Option ℕ) (awaits : Bool) → may_stand rank awaits of.Instr ≡ true → 7 ≤ rank_or rank
+pub in_thread : (rank : Option ℕ) (awaits : Bool) → may_stand rank awaits of.Instr ≡ true → 7 ≤ rank_or rank
 in_thread None awaits h = absurd (cc)
 in_thread (Some rank) true h = absurd (cc)
 in_thread (Some rank) false h = elim (or_true (rank == 7) (rank == 8) h) as (λ _. 7 ≤ rank) [ inl e ↦ (let is : rank ≡ 7 = eqb-true rank 7 e in omega arith) | inr e ↦ (let is : rank ≡ 8 = eqb-true rank 8 e in omega arith) ]
 
 -- the priority of a thread's line
-kernel_priority : (name : List ℕ) (p : ℕ) (held : Bool) → is_source_line (line.KernelThread name p held) ≡ true → p ≤ 63
+pub kernel_priority : (name : List ℕ) (p : ℕ) (held : Bool) → is_source_line (line.KernelThread name p held) ≡ true → p ≤ 63
 kernel_priority name p true h = let v = in_form (form_of (line.KernelThread name p true)) h in (number_in 0 63 p v.0.1.0).1
 kernel_priority name p false h = let v = in_form (form_of (line.KernelThread name p false)) h in (number_in 0 63 p v.0.1.0).1
 
-thread_priority : (name : List ℕ) (p : ℕ) (held : Bool) → is_source_line (line.Thread name p held) ≡ true → p ≤ 63
+pub thread_priority : (name : List ℕ) (p : ℕ) (held : Bool) → is_source_line (line.Thread name p held) ≡ true → p ≤ 63
 thread_priority name p true h = let v = in_form (form_of (line.Thread name p true)) h in (number_in 0 63 p v.0.1.0).1
 thread_priority name p false h = let v = in_form (form_of (line.Thread name p false)) h in (number_in 0 63 p v.0.1.0).1
 

@@ -6,6 +6,7 @@ pub mod Names
 pub mod ObjectName
 pub mod Operands
 pub mod Ranges
+pub mod Resolves
 pub mod Shape
 pub mod Source
 pub mod SourceText
