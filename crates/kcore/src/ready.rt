@@ -29,7 +29,7 @@ pub fn queues_of(alloc: Global, ready: &[Queued]) -> Result<ReadyList, NoMemory>
 {
     let mut list = ReadyList::new(alloc, THREADS)?;
     for queued in ready {
-        list.add(queued.thread, queued.priority)?;
+        list.add(queued.thread, queued.priority);
     }
     Ok(list)
 }

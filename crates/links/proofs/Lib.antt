@@ -4,6 +4,7 @@ pub mod Edits
 mod Fresh
 pub mod Inserted
 pub mod Marks
+pub mod Owned
 pub mod Removed
 pub mod Walks
 pub mod Without

@@ -114,8 +114,7 @@ impl Links {
 
     /// The node that follows a node on its list. None exactly at the last one.
     pub fn next(&self, node: u32) -> Option<u32>
-        requires node { node < self.now.nodes }
-        requires linked { IsLinked self.now node }
+        requires { IsLinked self.now node }
         ensures follower { IsFollower self.now node result }
         ensures none { IsNoneAtLast self.now node result }
         ensures below { IfSome result (λ node. node < self.now.nodes) }
