@@ -1,4 +1,4 @@
--- In every valid script the names resolve.
+-- In every well-formed script the names resolve.
 use Rattle.std.proofs.Common.{◌≡◌, ◌⊎◌, inl, inr, ℕ, ◌<◌, ◌≤◌, ◌^◌, Bool, true, false, List, [], ◌∷◌, ◌++◌, map, replicate, length, zero, suc, sym, ap, subst, ◌∙◌, refl, arith, Option, Some, None}
 use Rattle.std.proofs.lemmas.Bool.{leb-true}
 use Rattle.std.proofs.lemmas.Bool.Decides.{nat_tests}
@@ -12,7 +12,7 @@ use Rattle.script_types.specs.Forms.{form_of}
 use Rattle.script_types.specs.Keywords.{keyword_text}
 use Rattle.script_types.specs.Names.{Declared, first_two, file_declares, declares, is_declared, is_thread_declared, is_irq_declared, is_known_op, is_known_instr}
 use Rattle.script_types.specs.Resolves.{has_queue, has_thread, has_dfc, has_idfc, has_irq, is_queue, is_thread, op_resolves, instr_resolves, slot_resolves, DoNamesResolve}
-use Rattle.script_types.specs.Source.{IsAccepted, IsValid}
+use Rattle.script_types.specs.Source.{IsWellFormed}
 use Rattle.script_types.specs.SourceWords.{source_words}
 use Rattle.script_types.specs.Stands.{Stands, AllStand}
 use Rattle.script_types.specs.declared.context.Context.{Context}
@@ -376,9 +376,8 @@ module _ (lines : List SourceLine) (stand : AllStand (twos lines) start lines) w
         slots = all_as (slot_known (twos lines)) (slot_resolves made) slot_is made.slots n.slots;
       }
 
-pub valid_names_resolve : (script : Script) → IsValid script → DoNamesResolve script
+pub formed_names_resolve : (script : Script) → IsWellFormed script → DoNamesResolve script
 unfolding made
-valid_names_resolve script valid =
-    let a = valid.accepted in
-    let stand : AllStand (twos a.lines) start a.lines = subst (λ (ws : List (List (List ℕ))). AllStand (map first_two ws) start a.lines) a.are.spelled a.are.stand in
-    subst DoNamesResolve (sym a.same) (resolves a.lines stand)
+formed_names_resolve script f =
+    let stand : AllStand (twos f.lines) start f.lines = subst (λ (ws : List (List (List ℕ))). AllStand (map first_two ws) start f.lines) f.are.spelled f.are.stand in
+    subst DoNamesResolve (sym f.same) (resolves f.lines stand)

@@ -1,4 +1,4 @@
--- In every valid script the numbers are in their ranges.
+-- In every well-formed script the numbers are in their ranges.
 use Rattle.std.proofs.Common.{◌≡◌, ℕ, ◌≤◌, Bool, true, false, List, [], ◌∷◌, ◌++◌, replicate, zero, suc, sym, subst, refl, arith, Option, Some, None}
 use Rattle.std.proofs.lemmas.Bool.{leb-true, le-leb}
 use Rattle.std.specs.List.{list_all}
@@ -8,7 +8,7 @@ use Rattle.script_types.specs.Forms.{form_of}
 use Rattle.script_types.specs.Names.{Declared}
 use Rattle.script_types.specs.Ranges.{is_body, is_source_line}
 use Rattle.script_types.specs.Resolves.{AreNumbersInRange}
-use Rattle.script_types.specs.Source.{IsAccepted, IsValid}
+use Rattle.script_types.specs.Source.{IsWellFormed}
 use Rattle.script_types.specs.Stands.{Stands, AllStand}
 use Rattle.script_types.specs.declared.context.Context.{Context}
 use Rattle.script_types.specs.declared.declaration.DfcDecl.{DfcDecl}
@@ -68,7 +68,5 @@ numbers-all file c (l ∷ ls) stand n = numbers-all file (after c l) ls stand.1 
 numbers-start : AreNumbersInRange start.script
 numbers-start = record { pool = omega arith; fast = omega arith; queues = refl; dfcs = refl; idfcs = refl; irqs = refl; threads = refl; instrs = refl }
 
-pub valid_numbers_in_range : (script : Script) → IsValid script → AreNumbersInRange script
-valid_numbers_in_range script valid =
-    let a = valid.accepted in
-    subst AreNumbersInRange (sym a.same) (numbers-all _ start a.lines a.are.stand numbers-start)
+pub formed_numbers_in_range : (script : Script) → IsWellFormed script → AreNumbersInRange script
+formed_numbers_in_range script f = subst AreNumbersInRange (sym f.same) (numbers-all _ start f.lines f.are.stand numbers-start)

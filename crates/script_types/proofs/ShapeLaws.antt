@@ -10,7 +10,7 @@ use Rattle.script_types.specs.Forms.{Form, form_of, instr_form, operands_of, bod
 use Rattle.script_types.specs.Operands.{Values, is_value, are_values}
 use Rattle.script_types.specs.Ranges.{is_body, is_form, is_source_line}
 use Rattle.script_types.specs.Shape.{HasRegisters, IsShapedThread, IsShaped}
-use Rattle.script_types.specs.Source.{IsValid}
+use Rattle.script_types.specs.Source.{IsValid, IsWellFormed}
 use Rattle.script_types.specs.Stands.{Stands, AllStand, last_instrs, all_instrs}
 use Rattle.script_types.specs.declared.context.Context.{Context}
 use Rattle.script_types.specs.declared.declaration.ThreadDecl.{ThreadDecl}
@@ -249,7 +249,11 @@ sound_shaped c s =
       slots = s.slots;
     }
 
+pub valid_is_formed : (script : Script) → IsValid script → IsWellFormed script
+valid_is_formed script valid = let a = valid.accepted in record { bytes = valid.bytes; lines = a.lines; are = a.are; ended = a.ended; same = a.same }
+
+pub formed_is_shaped : (script : Script) → IsWellFormed script → IsShaped script
+formed_is_shaped script f = subst IsShaped (sym f.same) (sound_shaped (after_all start f.lines) (sound-all _ start f.lines f.are.stand sound-start))
+
 pub valid_is_shaped : (script : Script) → IsValid script → IsShaped script
-valid_is_shaped script valid =
-    let a = valid.accepted in
-    subst IsShaped (sym a.same) (sound_shaped (after_all start a.lines) (sound-all _ start a.lines a.are.stand sound-start))
+valid_is_shaped script valid = formed_is_shaped script (valid_is_formed script valid)
