@@ -5,11 +5,11 @@ use Rattle.std.proofs.lemmas.Bool.{cases_lt, eqb-true, eq-eqb, lt-ltb, ltb-true}
 use Rattle.machine.specs.Rows.{object_of}
 use Rattle.sym_base.specs.declared.kind.Kind.{Kind}
 use Rattle.sym_base.specs.declared.number.ObjNo.{ObjNo}
-use Rattle.state_rows.specs.ObjectRows.{is_session, has_name, is_dead_row}
+use Rattle.state_rows.specs.ObjectRows.{is_session, has_name, is_dead_row, numbered}
 use Rattle.objects.specs.Calls.{found, found_at}
 use Rattle.machine.specs.declared.state.State.{State}
 use Rattle.machine.specs.References.{count_of}
-use Rattle.machine.specs.Open.{seen, numbered, find_object}
+use Rattle.machine.specs.Find.{findable, find_object}
 use Rattle.kcore.specs.Counts.{Agrees}
 
 not_none : (n : ℕ) → (n == 0) ≡ false → nat_lt 0 n ≡ false → ⊥
@@ -29,7 +29,7 @@ counted_test n false false false e f = absurd (not_none n e f)
 counted_or_dead : (n : ℕ) (dead : Bool) → (not (n == 0) || dead) ≡ (dead || nat_lt 0 n)
 counted_or_dead n dead = counted_test n dead (n == 0) (nat_lt 0 n) refl refl
 
-found_seen : (S : State) (counts : List ℕ) (p : Option ℕ) → Agrees counts S → found_at S.objects counts p ≡ seen S (numbered p)
+found_seen : (S : State) (counts : List ℕ) (p : Option ℕ) → Agrees counts S → found_at S.objects counts p ≡ findable S (numbered p)
 found_seen S counts None agree = refl
 found_seen S counts (Some n) agree =
     let o : ObjNo = record { 0 = n } in

@@ -1,11 +1,8 @@
-mod FreshTable
-mod Moves
-mod Rooms
-mod Goes
-mod ListSteps
-pub mod ReadyQueues
-mod ReadyChanges
-mod ReadyActs
-mod BootReady
 mod Finds
-mod BootTables
+mod FreshTable
+mod FirstCount
+mod Performing
+mod ReadyChanges
+mod ReadyLists
+mod ReadyQueues
+mod Results

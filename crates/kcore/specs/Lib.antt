@@ -1,10 +1,6 @@
 pub mod ObjectsView
 pub mod Counts
-pub mod HandleTable
-pub mod FirstOwed
 pub mod StateOf
-pub mod ReadyPairs
+pub mod Moved
 pub mod ReadyQueues
-pub mod KernelView
-pub mod Standing
-pub mod BootTable
+pub mod Performed

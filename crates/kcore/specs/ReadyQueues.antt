@@ -1,43 +1,45 @@
--- The queues of ready threads, and what an action leaves in the tables and in the queues.
-use Rattle.std.specs.Prelude.{◌≡◌, ◌<◌, true, List}
+-- The queues of ready threads, and how they follow the list of them.
+use Rattle.std.specs.Prelude.{◌≡◌, ℕ, ◌<◌, true, if◌then◌else◌, List, [], ◌∷◌, map}
+use Rattle.sym_base.specs.declared.limits.TheConstants.Limits.{BOOT_OBJECTS}
 use Rattle.sym_base.specs.declared.number.ObjNo.{ObjNo}
+use Rattle.script_types.specs.declared.script.Script.{Script}
 use Rattle.ready_list.specs.Ready.{Ready}
 use Rattle.ready_list.specs.Arrival.{AreQueuesOf}
-use Rattle.machine.specs.declared.outcome.Outcome.{Outcome}
-use Rattle.machine.specs.declared.state.Queued.{Queued}
+use Rattle.machine.specs.declared.moves.Move.{Move}
 use Rattle.machine.specs.declared.state.State.{State}
-use Rattle.machine.specs.Acted.{Acted}
-use Rattle.machine.specs.ActedBy.{acted}
-use Rattle.machine.specs.Good.{is_listed}
-use Rattle.machine.specs.ListedOnce.{IsOnce}
-use Rattle.machine.specs.ReadyApart.{with_ready}
-use Rattle.kcore.specs.declared.tables.Tables.{Tables}
-use Rattle.kcore.specs.ReadyPairs.{pairs}
-use Rattle.kcore.specs.StateOf.{state_of}
+use Rattle.machine.specs.Arrivals.{is_listed, unlisted, touched}
+use Rattle.machine.specs.Task.{is_ready}
+use Rattle.machine.specs.WellFormed.{AreApart}
 
--- the queues have these ready threads, each once and in order of arrival; processes and threads have
--- numbers below 81
-pub record AreReady (qs : List Queued) (r : Ready) : Type 0 where
-  pub once : IsOnce qs
-  pub queues : AreQueuesOf (pairs qs) r
-  pub known : (t : ObjNo) → is_listed qs t ≡ true → t.0 < 81
-  pub size : r.threads ≡ 81
+-- a thread with its priority, and each of a list
+abbrev pub pair : (ObjNo → ℕ) → ObjNo → ObjNo × ℕ
+pair rank t = (t, rank t)
+
+abbrev pub pairs : (ObjNo → ℕ) → List ObjNo → List (ObjNo × ℕ)
+pairs rank qs = map (pair rank) qs
+
+-- the queues have these ready threads by their priorities, each once and in order of arrival; processes and
+-- threads have the least numbers
+pub record AreReady (rank : ObjNo → ℕ) (qs : List ObjNo) (r : Ready) : Type 0 where
+  pub queues : AreQueuesOf (pairs rank qs) r
+  pub once : AreApart qs
+  pub known : (t : ObjNo) → is_listed qs t ≡ true → t.0 < BOOT_OBJECTS
+  pub size : r.threads ≡ BOOT_OBJECTS
 
 -- they have some ready threads
 abbrev pub SomeReady : Ready → Type 0
-SomeReady r = (qs : List Queued) × AreReady qs r
+SomeReady r = (rank : ObjNo → ℕ) × (qs : List ObjNo) × AreReady rank qs r
 
 -- the queues change as the list of ready threads does, whichever it is
-pub record Follow (change : List Queued → List Queued) (old new : Ready) : Type 0 where
-  pub each : (qs : List Queued) → AreReady qs old → AreQueuesOf (pairs (change qs)) new
-  pub size : new.threads ≡ old.threads
+abbrev pub Follow : (ObjNo → ℕ) → (List ObjNo → List ObjNo) → Ready → Ready → Type 0
+Follow rank change old new = (qs : List ObjNo) → AreReady rank qs old → AreReady rank (change qs) new
 
--- the tables and the queues stand for the state that an action left, of which this is told
-pub record AreLeft {W N : Type 0} (tables : Tables W N) (r : Ready) (outcome : Outcome) (done : Acted) : Type 0 where
-  pub did : acted (with_ready (state_of tables) done.state.ready) outcome ≡ done
-  pub queues : AreQueuesOf (pairs done.state.ready) r
+-- threads leave a list, those that aren't ready
+abbrev pub leave : Script → State → List ObjNo → List ObjNo → List ObjNo
+leave script S [] qs = qs
+leave script S (u ∷ us) qs = leave script S us (if is_ready script S u then qs else unlisted u qs)
 
--- from the old tables and queues the action was made, whichever list of ready threads these have
-pub record Does {W N : Type 0} (old : Tables W N) (before : Ready) (new : Tables W N) (after : Ready) (outcome : Outcome) (action : State → Acted) : Type 0 where
-  pub each : (qs : List Queued) → AreReady qs before → AreLeft new after outcome (action (with_ready (state_of old) qs))
-  pub size : after.threads ≡ before.threads
+-- those leave that the moves of an action of thread t touched
+abbrev pub leave_along : Script → State → ObjNo → List Move → List ObjNo → List ObjNo
+leave_along script S t [] qs = qs
+leave_along script S t (m ∷ ms) qs = leave_along script S t ms (leave script S (touched t m) qs)

@@ -1,87 +1,74 @@
-//! One handle table: 256 places, the least free one taken first.
-ghost use Rattle.std.specs.Prelude.{◌≡◌, ◌<◌, ◌≤◌, length, false, IfOk, replicate, slice_set};
-ghost use Rattle.machine.specs.Table.{fresh_place, free_index, is_full, new_instance, place_at, object_at};
+//! One handle table: 256 slots, the least free one taken first.
+ghost use Rattle.std.specs.Prelude.{◌≡◌, ◌<◌, ◌≤◌, None, IfOk, IfSome, replicate, slice_set};
+ghost use Rattle.sym_base.specs.declared.limits.TheConstants.Limits.{HANDLES};
+ghost use Rattle.machine.specs.Handles.{fresh_slot, slot_at, next_handle, taken_slot, freed_slot};
 
-use machine::{FRESH_PLACE, MAX_HANDLES, Place};
+use machine::{FRESH_SLOT, HandleSlot, NewHandle};
 use std::alloc::Global;
 use std::marker::Model;
-use sym_base::{NoMemory, ObjNo};
+use sym_base::{Limits, NoMemory, ObjNo};
 
-/// The handles of a process or a thread. A contract sees the list of its places.
+/// The handles of a process or a thread (Symbian OS Internals, the chapter on kernel services, on object
+/// indexes). A contract sees the list of its slots.
 #[derive(Drop)]
 pub struct Handles {
-    places: Vec<Place>,
+    slots: Vec<HandleSlot>,
 }
 
 impl Model for Handles {
     ghost use Rattle.std.specs.Prelude.{List};
-    ghost use Rattle.machine.specs.declared.state.Place.{Place};
-    ghost use Rattle.kcore.specs.HandleTable.{IsTable};
+    ghost use Rattle.machine.specs.declared.state.HandleSlot.{HandleSlot};
+    ghost use Rattle.machine.specs.WellFormed.{IsTable};
 
-    ghost Value = { List Place };
+    ghost Value = { List HandleSlot };
 
-    ghost view = { λ h. h.places.items };
+    ghost view = { λ h. h.slots.items };
 
-    ghost invariant = { λ h. IsTable h.places.items };
-}
-
-/// Where a new handle stands: its index, and the instance of its place.
-#[derive(Clone, Copy)]
-pub struct NewHandle {
-    pub index: u8,
-    pub instance: u16,
+    ghost invariant = { λ h. IsTable h.slots.items };
 }
 
 impl Handles {
-    /// A table whose places were never taken.
+    /// A table whose slots were never taken.
     pub fn new(alloc: Global) -> Result<Self, NoMemory>
-        ensures { IfOk result (λ h. h ≡ replicate 256 fresh_place) }
+        ensures { IfOk result (λ h. h ≡ replicate HANDLES fresh_slot) }
     {
         Ok(Handles {
-            places: vec![in alloc; FRESH_PLACE; MAX_HANDLES]?,
+            slots: vec![in alloc; FRESH_SLOT; Limits::HANDLES]?,
         })
     }
 
-    /// Whether no place is free.
-    pub fn is_full(&self) -> bool
-        ensures { result ≡ is_full self.now }
+    /// The slot of an index, a fresh one past the table's end.
+    pub fn slot(&self, index: usize) -> HandleSlot
+        ensures slot { result ≡ slot_at self.now index }
+        ensures past { 256 ≤ index → result.object ≡ None }
     {
-        machine::is_full(&self.places)
+        machine::slot_at(&self.slots, index)
     }
 
-    /// The object at an index, where its place has this instance.
-    pub fn look(&self, index: usize, instance: u32) -> Option<ObjNo>
-        ensures { result ≡ object_at (place_at self.now index) instance }
+    /// The handle that a process's table gives next, None where no slot is free.
+    pub fn next(&self) -> Option<NewHandle>
+        ensures handle { result ≡ next_handle self.now }
+        ensures positive { IfSome result (λ handle. handle.number < 2147483648) }
     {
-        machine::object_at(machine::place_at(&self.places, index), instance)
+        machine::next_handle(&self.slots)
     }
 
-    /// A handle of the object at the least free place.
-    pub fn add(&mut self, object: ObjNo) -> NewHandle
-        requires { is_full self.old ≡ false }
-        ensures places { self.new ≡ slice_set self.old (free_index self.old) (record { instance = new_instance self.old; object = Some object }) }
-        ensures index { result.index ≡ free_index self.old }
-        ensures instance { result.instance ≡ new_instance self.old }
-        ensures small { result.instance ≤ 16383 }
+    /// A handle of the object stands at an index, with the next instance.
+    pub fn take(&mut self, index: u8, object: ObjNo)
+        ensures { self.new ≡ slice_set self.old index (taken_slot object (slot_at self.old index)) }
     {
-        let index = machine::free_index(&self.places);
-        let instance = machine::next_instance(self.places[index].instance);
-        self.places[index] = Place {
+        let at = index as usize;
+        let instance = machine::next_instance(self.slots[at].instance);
+        self.slots[at] = HandleSlot {
             instance,
             object: Some(object),
         };
-        NewHandle {
-            index: index as u8,
-            instance,
-        }
     }
 
-    /// The place at an index is free, and keeps its instance.
-    pub fn remove(&mut self, index: usize)
-        ensures { self.new ≡ slice_set self.old index (record (place_at self.old index) { object = None }) }
+    /// The slot of an index is free, and keeps its instance.
+    pub fn free(&mut self, index: u8)
+        ensures { self.new ≡ slice_set self.old index (freed_slot (slot_at self.old index)) }
     {
-        if index < self.places.len() {
-            self.places[index].object = None;
-        }
+        self.slots[index as usize].object = None;
     }
 }

@@ -1,13 +1,16 @@
 //! The kernel's objects: their rows by number, and how many references each has.
-ghost use Rattle.std.specs.Prelude.{◌≡◌, ◌+◌, ◌-◌, ◌<◌, ◌≤◌, ◌==◌, ◌↔◌, [], ◌∷◌, ◌++◌, Some, None, length, false, IsTrue, IfOk, replicate, slice_index, slice_set};
-ghost use Rattle.std.specs.List.{list_any, slice_index_or};
-ghost use Rattle.objects.specs.Calls.{AreUnused, found};
+ghost use Rattle.std.specs.Prelude.{◌≡◌, ℕ, ◌+◌, ◌-◌, ◌<◌, ◌≤◌, ◌↔◌, [], ◌∷◌, ◌++◌, Some, None, length, false, IsTrue, IfOk, slice_index, slice_set};
+ghost use Rattle.std.specs.List.{slice_index_or};
+ghost use Rattle.sym_base.specs.declared.limits.TheConstants.Limits.{OBJECTS};
+ghost use Rattle.ref_words.specs.Words.{NoneCreated};
+ghost use Rattle.objects.specs.Calls.{found};
+ghost use Rattle.state_rows.specs.ObjectRows.{is_taken};
 ghost use Rattle.objects.specs.Rows.{is_there};
-ghost use Rattle.state_rows.specs.ObjectRows.{has_name, is_dead_row, is_session, dead_row};
+ghost use Rattle.state_rows.specs.ObjectRows.{is_dead_row, is_session, dead_row};
 
 use objects::Made;
 use ref_words::{Closed, RefWords};
-use state_rows::{MAX_OBJECTS, ObjectRow};
+use state_rows::ObjectRow;
 use std::alloc::Global;
 use std::marker::Model;
 use sym_base::{Kind, Name, NoMemory, ObjNo};
@@ -19,32 +22,32 @@ pub struct ObjectTable<W: RefWords> {
 }
 
 impl<W: RefWords> Model for ObjectTable<W> {
-    ghost use Rattle.std.specs.Prelude.{◌≡◌, []};
+    ghost use Rattle.std.specs.Prelude.{◌≡◌, [], length};
+    ghost use Rattle.sym_base.specs.declared.limits.TheConstants.Limits.{OBJECTS};
     ghost use Rattle.kcore.specs.ObjectsView.{ObjectsView};
 
     ghost Value = { ObjectsView };
 
     ghost view = { λ o. record { rows = o.table.rows; counts = (W.meaning o.table.words).own } };
 
-    ghost invariant = { λ o. (W.meaning o.table.words).out ≡ [] };
+    ghost invariant = { λ o. ((W.meaning o.table.words).out ≡ []) × (length (W.meaning o.table.words).own ≡ OBJECTS) };
 }
 
 impl<W: RefWords + Drop> ObjectTable<W> {
-    /// A table without objects, over words of which no place is created and no note is out.
+    /// A table without objects, over words of 4,096 places of which none is created.
     pub fn new(alloc: Global, words: W) -> Result<ObjectTable<W>, NoMemory>
-        requires unused { AreUnused (W.meaning words) }
-        requires none_out { (W.meaning words).out ≡ [] }
+        requires places { length (W.meaning words).own ≡ OBJECTS }
+        requires fresh { NoneCreated (W.meaning words) }
         ensures rows { IfOk result (λ o. o.rows ≡ []) }
-        ensures counts { IfOk result (λ o. o.counts ≡ replicate 4096 0) }
+        ensures counts { IfOk result (λ o. (k : ℕ) → slice_index o.counts k ≡ 0) }
     {
         let table = objects::Objects::new(alloc, words)?;
         Ok(ObjectTable { table })
     }
 
-    /// Whether an unswept object of this kind has this name.
+    /// Whether an unswept object has this kind and name, which no session has.
     pub fn is_taken(&self, kind: Kind, name: &Name) -> bool
-        requires { is_session kind ≡ false }
-        ensures { result ≡ list_any (has_name kind name.now) self.now.rows }
+        ensures { result ≡ is_taken kind name.now self.now.rows }
     {
         self.table.is_taken(kind, name)
     }
@@ -56,19 +59,11 @@ impl<W: RefWords + Drop> ObjectTable<W> {
         self.table.find(kind, name)
     }
 
-    /// Whether as many objects were made as may be.
-    pub fn is_full(&self) -> bool
-        ensures full { result ≡ (length self.now.rows == 4096) }
-        ensures few { length self.now.rows ≤ 4096 }
-    {
-        self.table.len() == MAX_OBJECTS
-    }
-
     /// Makes an object with one reference. It answers the number, the next one.
     pub fn make(&mut self, kind: Kind, name: &Name) -> ObjNo
         requires named { is_session kind ≡ false }
-        requires fresh { list_any (has_name kind name.now) self.old.rows ≡ false }
-        requires room { length self.old.rows < 4096 }
+        requires fresh { is_taken kind name.now self.old.rows ≡ false }
+        requires room { length self.old.rows < OBJECTS }
         ensures number { result.0 ≡ length self.old.rows }
         ensures rows { self.new.rows ≡ self.old.rows ++ Some (record { kind = kind; name = name.now; dead = false }) ∷ [] }
         ensures counts { self.new.counts ≡ slice_set self.old.counts (length self.old.rows) 1 }
@@ -92,21 +87,17 @@ impl<W: RefWords + Drop> ObjectTable<W> {
         })
     }
 
-    /// The number of references to an object that isn't swept.
+    /// The number of references to an object, 0 where there is no such object.
     pub fn count(&self, object: ObjNo) -> u32
-        requires { IsTrue (is_there (slice_index_or self.now.rows object.0 None)) }
         ensures { result ≡ slice_index self.now.counts object.0 }
     {
-        match self.table.row(object) {
-            Some(told) => told.count,
-            None => unreachable!(),
-        }
+        self.table.count(object)
     }
 
     /// How many objects were made.
     pub fn len(&self) -> usize
         ensures made { result ≡ length self.now.rows }
-        ensures few { result ≤ 4096 }
+        ensures few { result ≤ OBJECTS }
     {
         self.table.len()
     }

@@ -1,42 +1,132 @@
-//! The kernel's use of the queues of ready threads.
-ghost use Rattle.std.specs.Prelude.{◌≡◌, ◌<◌, ◌==◌, true, not, filter, All, List, IfOk};
+//! The queues of ready threads follow the moves of an action: who becomes ready comes, and who has nothing left to
+//! do leaves at the end.
+ghost use Rattle.std.specs.Prelude.{◌≡◌, ℕ, ◌<◌, List};
+ghost use Rattle.sym_base.specs.declared.limits.TheConstants.Limits.{BOOT_OBJECTS};
 ghost use Rattle.sym_base.specs.declared.number.ObjNo.{ObjNo};
+ghost use Rattle.machine.specs.Arrivals.{arrive, one_of, threads_of, unlisted};
+ghost use Rattle.sym_base.specs.Greatest.{first_of_greatest};
 ghost use Rattle.ready_list.specs.Arrival.{AreQueuesOf};
-ghost use Rattle.machine.specs.declared.state.Queued.{Queued};
-ghost use Rattle.machine.specs.Choice.{actor_of, first_of_greatest};
-ghost use Rattle.machine.specs.Good.{is_listed};
-ghost use Rattle.machine.specs.ListedOnce.{IsOnce};
-ghost use Rattle.machine.specs.Tick.{turned};
-ghost use Rattle.kcore.specs.ReadyPairs.{pairs};
-ghost use Rattle.kcore.specs.ReadyQueues.{SomeReady, Follow};
+ghost use Rattle.machine.specs.Choice.{priority_of, actor_of};
+ghost use Rattle.machine.specs.Tick.{moved_behind};
+ghost use Rattle.kcore.specs.Moved.{AreKnown};
+ghost use Rattle.kcore.specs.ReadyQueues.{Follow, SomeReady, pairs, leave, leave_along};
+ghost use Rattle.kcore.specs.StateOf.{state_of};
 
-use entry_log::Actor;
-use machine::Queued;
+use crate::tables::Tables;
+use machine::{Move, TouchedThreads, is_ready, row_of, touched};
 use ready_list::ReadyList;
-use std::alloc::Global;
-use sym_base::{NoMemory, ThreadNo};
+use ref_words::RefWords;
+use script_types::Script;
+use entry_log::Actor;
+use sym_base::{Limits, ThreadNo};
 
-/// The numbers of processes and threads are below this.
-const THREADS: u16 = 81;
-
-/// The queues of these ready threads.
-pub fn queues_of(alloc: Global, ready: &[Queued]) -> Result<ReadyList, NoMemory>
-    requires once { IsOnce ready.now }
-    requires known { (t : ObjNo) → is_listed ready.now t ≡ true → t.0 < 81 }
-    requires ranged { All (λ q. q.priority < 64) ready.now }
-    ensures queues { IfOk result (λ list. AreQueuesOf (pairs ready.now) list) }
-    ensures size { IfOk result (λ list. list.threads ≡ 81) }
+/// A thread comes behind the others of its priority, where it is ready and stands in no queue.
+fn arrive<W: RefWords + Drop>(
+    script: &Script,
+    tables: &Tables<W>,
+    ready: &mut ReadyList,
+    thread: Option<ThreadNo>,
+)
+    requires known { AreKnown (state_of tables.now) }
+    requires size { ready.old.threads ≡ BOOT_OBJECTS }
+    ensures size { ready.new.threads ≡ BOOT_OBJECTS }
+    ensures queues { Follow (priority_of (state_of tables.now)) (arrive script.now (state_of tables.now) (one_of thread)) ready.old ready.new }
 {
-    let mut list = ReadyList::new(alloc, THREADS)?;
-    for queued in ready {
-        list.add(queued.thread, queued.priority);
+    let Some(thread) = thread else {
+        return;
+    };
+    let Some(row) = row_of(&tables.threads, thread) else {
+        return;
+    };
+    if is_ready(script, tables, thread) && ready.priority_of(thread).is_none() {
+        ready.add(thread, row.priority);
     }
-    Ok(list)
+}
+
+/// Those come that a move touched.
+pub fn arrive_touched<W: RefWords + Drop>(
+    script: &Script,
+    tables: &Tables<W>,
+    ready: &mut ReadyList,
+    touched: TouchedThreads,
+)
+    requires known { AreKnown (state_of tables.now) }
+    requires size { ready.old.threads ≡ BOOT_OBJECTS }
+    ensures size { ready.new.threads ≡ BOOT_OBJECTS }
+    ensures queues { Follow (priority_of (state_of tables.now)) (arrive script.now (state_of tables.now) (threads_of touched)) ready.old ready.new }
+{
+    arrive(script, tables, ready, touched.first);
+    arrive(script, tables, ready, touched.second);
+}
+
+/// Takes a thread off the queues, where it stands in one.
+fn take_off(ready: &mut ReadyList, thread: ThreadNo)
+    requires { ready.old.threads ≡ BOOT_OBJECTS }
+    ensures size { ready.new.threads ≡ BOOT_OBJECTS }
+    ensures queues { (rank : ObjNo → ℕ) → Follow rank (unlisted thread) ready.old ready.new }
+{
+    if thread.0 as usize >= Limits::BOOT_OBJECTS {
+        return;
+    }
+    if ready.priority_of(thread).is_some() {
+        ready.remove(thread);
+    }
+}
+
+/// A thread that isn't ready leaves.
+fn leave<W: RefWords + Drop>(
+    script: &Script,
+    tables: &Tables<W>,
+    ready: &mut ReadyList,
+    thread: Option<ThreadNo>,
+)
+    requires { ready.old.threads ≡ BOOT_OBJECTS }
+    ensures size { ready.new.threads ≡ BOOT_OBJECTS }
+    ensures queues { (rank : ObjNo → ℕ) → Follow rank (leave script.now (state_of tables.now) (one_of thread)) ready.old ready.new }
+{
+    let Some(thread) = thread else {
+        return;
+    };
+    if !is_ready(script, tables, thread) {
+        take_off(ready, thread);
+    }
+}
+
+/// Of those that a move touched, who isn't ready leaves.
+fn leave_touched<W: RefWords + Drop>(
+    script: &Script,
+    tables: &Tables<W>,
+    ready: &mut ReadyList,
+    touched: TouchedThreads,
+)
+    requires { ready.old.threads ≡ BOOT_OBJECTS }
+    ensures size { ready.new.threads ≡ BOOT_OBJECTS }
+    ensures queues { (rank : ObjNo → ℕ) → Follow rank (leave script.now (state_of tables.now) (threads_of touched)) ready.old ready.new }
+{
+    leave(script, tables, ready, touched.first);
+    leave(script, tables, ready, touched.second);
+}
+
+/// Of those that the moves of an action touched, who isn't ready leaves.
+pub fn leave_along<W: RefWords + Drop>(
+    script: &Script,
+    tables: &Tables<W>,
+    ready: &mut ReadyList,
+    thread: ThreadNo,
+    moves: &[Move],
+)
+    requires { ready.old.threads ≡ BOOT_OBJECTS }
+    ensures size { ready.new.threads ≡ BOOT_OBJECTS }
+    ensures queues { (rank : ObjNo → ℕ) → Follow rank (leave_along script.now (state_of tables.now) thread moves.now) ready.old ready.new }
+{
+    for change in moves {
+        leave_touched(script, tables, ready, touched(thread, *change));
+    }
 }
 
 /// Whom the queues let act: the first thread of the highest queue, or nobody.
 pub fn chosen(ready: &ReadyList) -> Actor
-    ensures { (qs : List Queued) → AreQueuesOf (pairs qs) ready.now → result ≡ actor_of (first_of_greatest qs) }
+    ensures { (rank : ObjNo → ℕ) (qs : List ObjNo) → AreQueuesOf (pairs rank qs) ready.now → result ≡ actor_of (first_of_greatest rank qs) }
 {
     match ready.pick() {
         Some(thread) => Actor::Thread(thread),
@@ -47,25 +137,12 @@ pub fn chosen(ready: &ReadyList) -> Actor
 /// Puts the thread that would be chosen behind its equals.
 pub fn turn(ready: &mut ReadyList)
     requires { SomeReady ready.old }
-    ensures { Follow turned ready.old ready.new }
+    ensures { (rank : ObjNo → ℕ) → Follow rank (λ qs. moved_behind qs (first_of_greatest rank qs)) ready.old ready.new }
 {
     let Some(first) = ready.pick() else {
         return;
     };
     if let Some(priority) = ready.priority_of(first) {
         ready.rotate(priority);
-    }
-}
-
-/// Takes a thread off the queues, where it stands in one.
-pub fn leave(ready: &mut ReadyList, thread: ThreadNo)
-    requires { SomeReady ready.old }
-    ensures { Follow (λ qs. filter (λ q. not (q.thread.0 == thread.0)) qs) ready.old ready.new }
-{
-    if thread.0 >= THREADS {
-        return;
-    }
-    if ready.priority_of(thread).is_some() {
-        ready.remove(thread);
     }
 }

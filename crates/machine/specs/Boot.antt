@@ -8,12 +8,15 @@ use Rattle.script_types.specs.declared.declaration.ThreadDecl.{ThreadDecl}
 use Rattle.script_types.specs.declared.declaration.ProcessDecl.{ProcessDecl}
 use Rattle.script_types.specs.declared.instruction.Instr.{Instr}
 use Rattle.state_rows.specs.declared.object.ObjectRow.{ObjectRow}
-use Rattle.machine.specs.declared.state.Phase.TheVariants.{Start}
-use Rattle.machine.specs.declared.state.Queued.{Queued}
+use Rattle.sym_base.specs.declared.number.ObjNo.{ObjNo}
+use Rattle.sym_base.specs.declared.limits.TheConstants.Limits.{HANDLES}
+use Rattle.machine.specs.declared.state.Found.TheVariants.{Nothing}
+use Rattle.machine.specs.declared.state.Role.{Role}
+use Rattle.machine.specs.declared.state.Role.TheVariants.{Supervisor, Declared}
 use Rattle.machine.specs.declared.state.ThreadRow.{ThreadRow}
 use Rattle.machine.specs.declared.state.State.{State}
 use Rattle.machine.specs.declared.boot.Born.{Born}
-use Rattle.machine.specs.Table.{fresh_place}
+use Rattle.machine.specs.Handles.{fresh_slot}
 
 -- an object that stands at boot
 abbrev pub boot_object : Kind → List ℕ → ObjectRow
@@ -21,19 +24,30 @@ boot_object kind name = record { kind = kind; name = name; dead = false }
 
 -- a process
 abbrev pub born_process : List ℕ → Born
-born_process name = record { object = boot_object Process name; thread = None; priority = 0; works = false }
+born_process name = record { object = boot_object Process name; thread = None; works = false }
 
--- the thread of declaration k, in the process of object number p
-abbrev pub new_thread : ℕ → Option ℕ → ThreadRow
-new_thread p k = record { process = record { 0 = p }; declared = k; place = 0; phase = Start; registers = replicate 8 0 }
+-- a thread in the process of object number p
+abbrev pub new_thread : ℕ → Role → ℕ → ThreadRow
+new_thread p role priority = record {
+  role = role;
+  process = record { 0 = p };
+  link = Some (record { 0 = p });
+  priority = priority;
+  next_instruction = 0;
+  part = None;
+  found = Nothing;
+  uses = None;
+  registers = replicate 8 0;
+}
 
 -- whether a list has an instruction
 abbrev pub has_any : List Instr → Bool
 has_any [] = false
 has_any (x ∷ xs) = true
 
+-- the thread of declaration k
 abbrev pub born_thread : ℕ → ℕ → ThreadDecl → Born
-born_thread p k d = record { object = boot_object Thread d.name; thread = Some (new_thread p (Some k)); priority = d.priority; works = has_any d.instrs }
+born_thread p k d = record { object = boot_object Thread d.name; thread = Some (new_thread p (Declared k) d.priority); works = has_any d.instrs }
 
 -- whether a declared thread is of the j-th process
 abbrev pub is_of : ℕ → Option ℕ → Bool
@@ -55,19 +69,19 @@ born_processes threads j p (d ∷ ds) =
 abbrev pub born : Script → List Born
 born script =
     born_process (codes "kernel")
-    ∷ record { object = boot_object Thread (codes "supervisor"); thread = Some (new_thread 0 None); priority = 48; works = false }
+    ∷ record { object = boot_object Thread (codes "supervisor"); thread = Some (new_thread 0 Supervisor 48); works = false }
     ∷ born_processes script.threads 0 2 script.processes
 
 -- the threads that have an instruction are ready, in order of number
-abbrev pub ready_from : ℕ → List Born → List Queued
+abbrev pub ready_from : ℕ → List Born → List ObjNo
 ready_from n [] = []
-ready_from n (b ∷ bs) = if b.works then record { thread = record { 0 = n }; priority = b.priority } ∷ ready_from (n + 1) bs else ready_from (n + 1) bs
+ready_from n (b ∷ bs) = if b.works then record { 0 = n } ∷ ready_from (n + 1) bs else ready_from (n + 1) bs
 
 -- each has an empty table and owes nothing
 unfoldable pub boot_of : List Born → State
 boot_of bs = record {
   objects = map (λ b. Some b.object) bs;
-  handles = map (λ _. replicate 256 fresh_place) bs;
+  handles = map (λ _. replicate HANDLES fresh_slot) bs;
   threads = map (λ b. b.thread) bs;
   ready = ready_from 0 bs;
   owed = map (λ _. []) bs;

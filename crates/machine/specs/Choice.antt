@@ -1,23 +1,29 @@
 -- The choice of the next actor: the ready thread of greatest priority that has been ready longest.
-use Rattle.std.specs.Prelude.{ℕ, ◌==◌, max, List, [], ◌∷◌, find, Option, Some, None}
+use Rattle.std.specs.Prelude.{ℕ, Option, Some, None}
+use Rattle.sym_base.specs.Greatest.{first_of_greatest}
+use Rattle.sym_base.specs.declared.number.ObjNo.{ObjNo}
 use Rattle.entry_log.specs.declared.entry.Actor.{Actor}
 use Rattle.entry_log.specs.declared.entry.Actor.TheVariants.{Thread, Idle}
-use Rattle.machine.specs.declared.state.Queued.{Queued}
+use Rattle.machine.specs.declared.state.ThreadRow.{ThreadRow}
 use Rattle.machine.specs.declared.state.State.{State}
+use Rattle.machine.specs.Rows.{thread_of}
 
--- the greatest priority of a list, 0 of none
-abbrev pub greatest : List Queued → ℕ
-greatest [] = 0
-greatest (q ∷ qs) = max q.priority (greatest qs)
+-- the priority of a thread, 0 where there is none
+abbrev pub priority_of_row : Option ThreadRow → ℕ
+priority_of_row None = 0
+priority_of_row (Some row) = row.priority
 
--- the first thread of the greatest priority
-abbrev pub first_of_greatest : List Queued → Option Queued
-first_of_greatest qs = find (λ q. q.priority == greatest qs) qs
+abbrev pub priority_of : State → ObjNo → ℕ
+priority_of S t = priority_of_row (thread_of S t)
+
+-- the ready thread that would act
+abbrev pub first_ready : State → Option ObjNo
+first_ready S = first_of_greatest (priority_of S) S.ready
 
 -- that thread, or nobody
-abbrev pub actor_of : Option Queued → Actor
+abbrev pub actor_of : Option ObjNo → Actor
 actor_of None = Idle
-actor_of (Some q) = Thread q.thread
+actor_of (Some t) = Thread t
 
 abbrev pub chosen : State → Actor
-chosen S = actor_of (first_of_greatest S.ready)
+chosen S = actor_of (first_ready S)

@@ -4,30 +4,30 @@ use Rattle.std.specs.List.{slice_index_or}
 use Rattle.sym_base.specs.declared.number.ObjNo.{ObjNo}
 use Rattle.entry_log.specs.declared.effect.Holder.{Holder}
 use Rattle.entry_log.specs.declared.effect.Holder.TheVariants.{InProcess, InThread, Temp, Link, Kernel}
-use Rattle.machine.specs.declared.state.Place.{Place}
-use Rattle.machine.specs.declared.state.Owed.{Owed}
-use Rattle.machine.specs.declared.state.Owed.TheVariants.{Close, Sweep}
+use Rattle.state_rows.specs.declared.duty.Owed.{Owed}
+use Rattle.state_rows.specs.declared.duty.Owed.TheVariants.{Close, Sweep}
+use Rattle.machine.specs.declared.state.HandleSlot.{HandleSlot}
 use Rattle.machine.specs.declared.state.ThreadRow.{ThreadRow}
 use Rattle.machine.specs.declared.state.State.{State}
-use Rattle.machine.specs.Table.{place_at}
-use Rattle.machine.specs.References.{total, place_names, phase_names}
+use Rattle.machine.specs.Handles.{slot_at}
+use Rattle.machine.specs.References.{total, option_names, slot_names}
 use Rattle.machine.specs.Holding.{same_pair, link_names}
 
--- a place refers to the object there, unless its table is of the other kind than the holder's
-abbrev pub own_place : Bool → ObjNo → Place → ℕ
-own_place true x place = 0
-own_place false x place = place_names x place
+-- a slot refers to the object there, unless its table is of the other kind than the holder's
+abbrev pub own_slot : Bool → ObjNo → HandleSlot → ℕ
+own_slot true x slot = 0
+own_slot false x slot = slot_names x slot
 
 -- the object that a thread uses
 abbrev pub use_names : ObjNo → Option ThreadRow → ℕ
 use_names x None = 0
-use_names x (Some row) = phase_names x row.phase
+use_names x (Some row) = option_names x row.uses
 
 -- The references of the tables and the threads' rows: a handle of a process is in the table of a number that is no
 -- thread's, and one of a thread in a thread's.
-abbrev pub rows_hold : List (List Place) → List (Option ThreadRow) → Holder → ObjNo → ℕ
-rows_hold tables threads (InProcess p i) x = own_place (is_some (slice_index_or threads p.0 None)) x (place_at (slice_index_or tables p.0 []) i)
-rows_hold tables threads (InThread t i) x = own_place (not (is_some (slice_index_or threads t.0 None))) x (place_at (slice_index_or tables t.0 []) i)
+abbrev pub rows_hold : List (List HandleSlot) → List (Option ThreadRow) → Holder → ObjNo → ℕ
+rows_hold tables threads (InProcess p i) x = own_slot (is_some (slice_index_or threads p.0 None)) x (slot_at (slice_index_or tables p.0 []) i)
+rows_hold tables threads (InThread t i) x = own_slot (not (is_some (slice_index_or threads t.0 None))) x (slot_at (slice_index_or tables t.0 []) i)
 rows_hold tables threads (Temp t) x = use_names x (slice_index_or threads t.0 None)
 rows_hold tables threads (Link t) x = link_names x (slice_index_or threads t.0 None)
 rows_hold tables threads Kernel x = if is_some (slice_index_or threads x.0 None) then 1 else 0

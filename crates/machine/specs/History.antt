@@ -4,23 +4,24 @@ use Rattle.script_types.specs.declared.script.Script.{Script}
 use Rattle.entry_log.specs.declared.entry.Actor.{Actor}
 use Rattle.entry_log.specs.declared.entry.Actor.TheVariants.{Thread, Irq, Idfc, Tick, Idle}
 use Rattle.entry_log.specs.declared.entry.Entry.{Entry}
-use Rattle.machine.specs.declared.outcome.Outcome.{Outcome}
+use Rattle.machine.specs.declared.decision.Outcome.{Outcome}
 use Rattle.machine.specs.declared.state.State.{State}
-use Rattle.machine.specs.Acted.{Acted, nothing}
-use Rattle.machine.specs.Act.{act, is_ready}
+use Rattle.machine.specs.Slots.{declares_interrupt}
+use Rattle.machine.specs.Task.{is_ready}
+use Rattle.machine.specs.Transition.{Transition, act, idle}
 use Rattle.machine.specs.Choice.{chosen}
 use Rattle.machine.specs.Tick.{tick}
 use Rattle.machine.specs.Boot.{boot}
 
 -- what an actor does; interrupts and deferred calls come later, and do nothing yet
-abbrev pub acted_by : Script → State → Actor → Acted
-acted_by script S (Thread t) = act script S t
-acted_by script S Tick = tick S
-acted_by script S _ = nothing S
+abbrev pub transition : Script → State → Actor → Transition
+transition script S (Thread t) = act script S t
+transition script S Tick = tick S
+transition script S _ = idle S
 
 -- the state that an actor's action leaves
 abbrev pub next : Script → State → Actor → State
-next script S actor = (acted_by script S actor).state
+next script S actor = (transition script S actor).state
 
 -- the entry of an action at a place
 abbrev pub entry_of : ℕ → Actor → Outcome → Entry
@@ -28,7 +29,7 @@ entry_of place actor outcome = record { place = place; actor = actor; step = out
 
 -- the entry that an actor's action writes
 abbrev pub entry_by : Script → State → ℕ → Actor → Entry
-entry_by script S place actor = entry_of place actor (acted_by script S actor).outcome
+entry_by script S place actor = entry_of place actor (transition script S actor).outcome
 
 -- the state after a history
 abbrev pub after_from : Script → State → List Entry → State
@@ -38,11 +39,12 @@ after_from script S (e ∷ es) = after_from script (next script S e.actor) es
 abbrev pub after : Script → List Entry → State
 after script history = after_from script (boot script) history
 
--- a ready thread may act, a time slice may end at any time, and nobody acts where no thread is ready
+-- a ready thread may act, a declared interrupt may come and a time slice end at any time, and nobody acts where no
+-- thread is ready
 abbrev pub CanAct : Script → State → Actor → Type 0
 CanAct script S (Thread t) = IsTrue (is_ready script S t)
 CanAct script S Idle = chosen S ≡ Idle
-CanAct script S (Irq k) = ⊥
+CanAct script S (Irq k) = IsTrue (declares_interrupt script k)
 CanAct script S Idfc = ⊥
 CanAct script S Tick = Unit {0}
 

@@ -8,7 +8,7 @@ use Rattle.entry_log.specs.declared.effect.Effect.{Effect}
 use Rattle.entry_log.specs.declared.effect.Effect.TheVariants.{Plus, Minus}
 use Rattle.machine.specs.declared.state.ThreadRow.{ThreadRow}
 use Rattle.machine.specs.Rows.{thread_of}
-use Rattle.machine.specs.References.{same, kernel_names}
+use Rattle.machine.specs.References.{same, option_names, kernel_names}
 use Rattle.machine.specs.Boot.{boot}
 
 -- whether two holders are one
@@ -51,7 +51,7 @@ EachFitsHolders held (e ∷ es) = FitsHolders held e × EachFitsHolders (held_af
 -- a thread's link to its process
 abbrev pub link_names : ObjNo → Option ThreadRow → ℕ
 link_names o None = 0
-link_names o (Some row) = same row.process o
+link_names o (Some row) = option_names o row.link
 
 -- at boot each thread is linked to its process, and the kernel holds each thread
 abbrev pub held_at_boot : Script → Holder → ObjNo → ℕ

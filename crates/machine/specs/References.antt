@@ -1,14 +1,12 @@
 -- References are read off the rows, and the count of an object is the number of references to it.
-use Rattle.std.specs.Prelude.{◌≡◌, ℕ, ◌+◌, ◌==◌, if◌then◌else◌, is_some, List, [], ◌∷◌, Option, Some, None}
+use Rattle.std.specs.Prelude.{◌≡◌, ℕ, ◌+◌, ◌==◌, Bool, if◌then◌else◌, is_some, List, [], ◌∷◌, Option, Some, None}
 use Rattle.sym_base.specs.declared.number.ObjNo.{ObjNo}
 use Rattle.entry_log.specs.declared.effect.Effect.{Effect}
 use Rattle.entry_log.specs.declared.effect.Effect.TheVariants.{Plus, Minus}
-use Rattle.machine.specs.declared.state.Place.{Place}
+use Rattle.state_rows.specs.declared.duty.Owed.{Owed}
+use Rattle.state_rows.specs.declared.duty.Owed.TheVariants.{Close, Sweep}
+use Rattle.machine.specs.declared.state.HandleSlot.{HandleSlot}
 use Rattle.machine.specs.declared.state.ThreadRow.{ThreadRow}
-use Rattle.machine.specs.declared.state.Phase.{Phase}
-use Rattle.machine.specs.declared.state.Phase.TheVariants.{Start, Found, Using}
-use Rattle.machine.specs.declared.state.Owed.{Owed}
-use Rattle.machine.specs.declared.state.Owed.TheVariants.{Close, Sweep}
 use Rattle.machine.specs.declared.state.State.{State}
 use Rattle.machine.specs.Rows.{thread_of}
 
@@ -26,20 +24,14 @@ abbrev pub option_names : ObjNo → Option ObjNo → ℕ
 option_names o None = 0
 option_names o (Some x) = same x o
 
--- a place of a handle table refers to the object there
-abbrev pub place_names : ObjNo → Place → ℕ
-place_names o place = option_names o place.object
-
--- a thread's call in flight refers to the object that it uses
-abbrev pub phase_names : ObjNo → Phase → ℕ
-phase_names o Start = 0
-phase_names o (Found x) = 0
-phase_names o (Using x) = same x o
+-- a slot of a handle table refers to the object there
+abbrev pub slot_names : ObjNo → HandleSlot → ℕ
+slot_names o slot = option_names o slot.object
 
 -- a thread refers to its process, by its link, and to what it uses
 abbrev pub thread_names : ObjNo → Option ThreadRow → ℕ
 thread_names o None = 0
-thread_names o (Some row) = same row.process o + phase_names o row.phase
+thread_names o (Some row) = option_names o row.link + option_names o row.uses
 
 -- a close that is owed stands for a reference that isn't given up yet
 abbrev pub owed_names : ObjNo → Owed → ℕ
@@ -53,7 +45,11 @@ kernel_names S o = if is_some (thread_of S o) then 1 else 0
 -- the count of an object: the number of handles, links, temporary references, owed closes and of
 -- the kernel's own references that name it
 abbrev pub count_of : State → ObjNo → ℕ
-count_of S o = total (total (place_names o)) S.handles + total (thread_names o) S.threads + kernel_names S o + total (total (owed_names o)) S.owed
+count_of S o = total (total (slot_names o)) S.handles + total (thread_names o) S.threads + kernel_names S o + total (total (owed_names o)) S.owed
+
+-- whether an object has one reference
+abbrev pub is_last : State → ObjNo → Bool
+is_last S o = count_of S o == 1
 
 -- how often effects add a reference to an object
 abbrev pub pluses : List Effect → ObjNo → ℕ

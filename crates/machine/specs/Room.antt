@@ -1,17 +1,26 @@
--- What a thread's step needs so that each number in it fits its type.
-use Rattle.std.specs.Prelude.{◌≡◌, ℕ, ◌<◌, ◌≤◌, length}
-use Rattle.sym_base.specs.declared.number.ObjNo.{ObjNo}
+-- What a state needs so that the numbers of decisions and moves fit their types. It only serves proofs: every state
+-- that a history leaves has it.
+use Rattle.std.specs.Prelude.{◌≡◌, ℕ, ◌+◌, ◌≤◌, List, [], length, Option, Some, None}
+use Rattle.std.specs.List.{slice_index_or}
+use Rattle.machine.specs.declared.state.HandleSlot.{HandleSlot}
 use Rattle.machine.specs.declared.state.ThreadRow.{ThreadRow}
 use Rattle.machine.specs.declared.state.State.{State}
-use Rattle.machine.specs.Rows.{table_of}
-use Rattle.machine.specs.Table.{place_at}
-use Rattle.machine.specs.References.{count_of}
+use Rattle.machine.specs.Handles.{slot_at}
 
--- counts, numbers of objects, indices, instances and places have room, and the thread's process has a table
-pub record HasRoom (S : State) (row : ThreadRow) : Type 0 where
-  pub process : length (table_of S row.process) ≡ 256
-  pub tables : (owner : ObjNo) → length (table_of S owner) ≤ 256
-  pub instances : (owner : ObjNo) (i : ℕ) → (place_at (table_of S owner) i).instance ≤ 16383
-  pub place : row.place < 4294967295
-  pub objects : length S.objects ≤ 4096
-  pub counts : (o : ObjNo) → count_of S o < 65536
+-- a handle table is small, and its instances are in their range
+pub record IsSmallTable (table : List HandleSlot) : Type 0 where
+  pub size : length table ≤ 256
+  pub instances : (i : ℕ) → (slot_at table i).instance ≤ 16383
+
+abbrev pub AreSmallTables : List (List HandleSlot) → Type 0
+AreSmallTables tables = (k : ℕ) → IsSmallTable (slice_index_or tables k [])
+
+-- each thread may still go on by so many instructions
+abbrev pub MayAdvance : ℕ → List (Option ThreadRow) → Type 0
+MayAdvance n threads = (k : ℕ) (row : ThreadRow) → slice_index_or threads k None ≡ Some row → row.next_instruction + n ≤ 4294967295
+
+-- so many further moves have room
+pub record HasRoom (n : ℕ) (S : State) : Type 0 where
+  pub objects : length S.objects + n ≤ 65535
+  pub instructions : MayAdvance n S.threads
+  pub tables : AreSmallTables S.handles

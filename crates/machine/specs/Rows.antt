@@ -1,12 +1,12 @@
--- Reading and changing the rows of a state.
-use Rattle.std.specs.Prelude.{ℕ, ◌+◌, List, [], ◌++◌, Option, Some, None, slice_set}
+-- Reading and changing lists of rows by number. A number without a row reads as none, and changing it changes
+-- nothing.
+use Rattle.std.specs.Prelude.{ℕ, List, [], ◌∷◌, ◌++◌, Option, Some, None, slice_set, option_map, drop}
 use Rattle.std.specs.List.{slice_index_or}
 use Rattle.sym_base.specs.declared.number.ObjNo.{ObjNo}
+use Rattle.state_rows.specs.declared.duty.Owed.{Owed}
 use Rattle.state_rows.specs.declared.object.ObjectRow.{ObjectRow}
-use Rattle.machine.specs.declared.state.Place.{Place}
+use Rattle.machine.specs.declared.state.HandleSlot.{HandleSlot}
 use Rattle.machine.specs.declared.state.ThreadRow.{ThreadRow}
-use Rattle.machine.specs.declared.state.Phase.TheVariants.{Start}
-use Rattle.machine.specs.declared.state.Owed.{Owed}
 use Rattle.machine.specs.declared.state.State.{State}
 
 -- the object of this number, where it was made and isn't swept
@@ -14,41 +14,33 @@ abbrev pub object_of : State → ObjNo → Option ObjectRow
 object_of S o = slice_index_or S.objects o.0 None
 
 -- the handle table of a process or a thread
-abbrev pub table_of : State → ObjNo → List Place
+abbrev pub table_of : State → ObjNo → List HandleSlot
 table_of S owner = slice_index_or S.handles owner.0 []
 
 -- the thread of this number
 abbrev pub thread_of : State → ObjNo → Option ThreadRow
 thread_of S t = slice_index_or S.threads t.0 None
 
--- what a thread owes
+-- what a thread owes, the oldest first
 abbrev pub owed_of : State → ObjNo → List Owed
 owed_of S t = slice_index_or S.owed t.0 []
 
--- another row for an object
-abbrev pub with_object : State → ObjNo → Option ObjectRow → State
-with_object S o row = record S { objects = slice_set S.objects o.0 row }
+-- the oldest of what it owes
+abbrev pub first_of : List Owed → Option Owed
+first_of [] = None
+first_of (what ∷ rest) = Some what
 
--- another place of a table
-abbrev pub with_place : State → ObjNo → ℕ → Place → State
-with_place S owner i place = record S { handles = slice_set S.handles owner.0 (slice_set (table_of S owner) i place) }
+abbrev pub first_owed : State → ObjNo → Option Owed
+first_owed S t = first_of (owed_of S t)
 
--- another row for a thread
-abbrev pub with_thread : State → ObjNo → ThreadRow → State
-with_thread S t row = record S { threads = slice_set S.threads t.0 (Some row) }
+-- the rows of threads, with a change of one
+abbrev pub with_row : List (Option ThreadRow) → ObjNo → (ThreadRow → ThreadRow) → List (Option ThreadRow)
+with_row threads t change = slice_set threads t.0 (option_map change (slice_index_or threads t.0 None))
 
--- a thread owes this and nothing else
-abbrev pub with_owed : State → ObjNo → List Owed → State
-with_owed S t what = record S { owed = slice_set S.owed t.0 what }
+-- what threads owe, where one owes more, behind what it owes already
+abbrev pub owing : List (List Owed) → ObjNo → List Owed → List (List Owed)
+owing owed t more = slice_set owed t.0 (slice_index_or owed t.0 [] ++ more)
 
--- a thread owes more, behind what it owes already
-abbrev pub owing : State → ObjNo → List Owed → State
-owing S t more = with_owed S t (owed_of S t ++ more)
-
--- the thread is at its next instruction
-abbrev pub advanced : ThreadRow → ThreadRow
-advanced row = record row { place = row.place + 1; phase = Start }
-
--- the register has this value
-abbrev pub with_register : ThreadRow → ℕ → ℕ → ThreadRow
-with_register row x value = record row { registers = slice_set row.registers x value }
+-- what threads owe, where one doesn't owe the oldest of it any more
+abbrev pub without_first : List (List Owed) → ObjNo → List (List Owed)
+without_first owed t = slice_set owed t.0 (drop 1 (slice_index_or owed t.0 []))

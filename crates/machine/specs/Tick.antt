@@ -1,22 +1,20 @@
 -- `tick`: a time slice ends. The thread of greatest priority that has been ready longest goes behind
 -- its equals.
-use Rattle.std.specs.Prelude.{◌==◌, not, filter, List, [], ◌∷◌, ◌++◌, Option, Some, None}
+use Rattle.std.specs.Prelude.{List, [], ◌∷◌, ◌++◌, Option, Some, None}
+use Rattle.sym_base.specs.declared.number.ObjNo.{ObjNo}
 use Rattle.entry_log.specs.declared.step.Step.TheVariants.{Turn}
-use Rattle.machine.specs.declared.state.Queued.{Queued}
 use Rattle.machine.specs.declared.state.State.{State}
-use Rattle.machine.specs.Acted.{Acted}
-use Rattle.machine.specs.Choice.{first_of_greatest}
+use Rattle.machine.specs.Arrivals.{unlisted}
+use Rattle.machine.specs.Choice.{first_ready}
+use Rattle.machine.specs.Transition.{Transition}
 
 -- a list of ready threads, where this one gets a new arrival
-abbrev pub moved_behind : List Queued → Option Queued → List Queued
+abbrev pub moved_behind : List ObjNo → Option ObjNo → List ObjNo
 moved_behind qs None = qs
-moved_behind qs (Some q) = filter (λ x. not (x.thread.0 == q.thread.0)) qs ++ q ∷ []
+moved_behind qs (Some t) = unlisted t qs ++ t ∷ []
 
-abbrev pub turned : List Queued → List Queued
-turned qs = moved_behind qs (first_of_greatest qs)
-
-unfoldable pub tick : State → Acted
+unfoldable pub tick : State → Transition
 tick S = record {
-  state = record S { ready = turned S.ready };
+  state = record S { ready = moved_behind S.ready (first_ready S) };
   outcome = record { step = Turn; effects = []; answer = None };
 }

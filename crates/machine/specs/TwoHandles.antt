@@ -1,6 +1,18 @@
 -- The script of the test: a thread makes a mutex and a second handle of it, closes both, and closes the
 -- second once more.
-use Rattle.std.specs.Prelude.{codes, false, [], ◌∷◌, Some, replicate}
+use Rattle.std.specs.Prelude.{ℕ, ℤ, pos, codes, false, List, [], ◌∷◌, Option, Some, None, replicate}
+use Rattle.sym_base.specs.declared.error.Error.TheVariants.{BadHandle}
+use Rattle.sym_base.specs.declared.number.ObjNo.{ObjNo}
+use Rattle.sym_base.specs.declared.word.Word.TheVariants as word
+use Rattle.sym_base.specs.ErrorCode.{error_code}
+use Rattle.entry_log.specs.declared.effect.Effect.{Effect}
+use Rattle.entry_log.specs.declared.effect.Effect.TheVariants.{Plus, Minus, Dead, Swept}
+use Rattle.entry_log.specs.declared.effect.Holder.TheVariants.{InProcess, Temp}
+use Rattle.entry_log.specs.declared.entry.Actor.TheVariants.{Thread, Idle}
+use Rattle.entry_log.specs.declared.entry.Entry.{Entry}
+use Rattle.entry_log.specs.declared.step.Part.TheVariants.{Do, Look}
+use Rattle.entry_log.specs.declared.step.Step.{Step}
+use Rattle.entry_log.specs.declared.step.Step.TheVariants.{Of, Wait, Drop, Sweep}
 use Rattle.script_types.specs.declared.declaration.ThreadDecl.{ThreadDecl}
 use Rattle.script_types.specs.declared.instruction.Instr.TheVariants.{CreateMutex, Dup, Close}
 use Rattle.script_types.specs.declared.script.Script.{Script}
@@ -30,3 +42,34 @@ two_handles = record {
   threads = two_handles_thread ∷ [];
   slots = replicate 10 Go;
 }
+
+-- its thread, the thread's process, and the mutex that it makes
+abbrev the_thread : ObjNo
+the_thread = record { 0 = 3 }
+
+abbrev the_process : ObjNo
+the_process = record { 0 = 2 }
+
+abbrev the_mutex : ObjNo
+the_mutex = record { 0 = 4 }
+
+abbrev by_thread : ℕ → Step → List Effect → Option ℤ → Entry
+by_thread place step effects answer = record { place = place; actor = Thread the_thread; step = step; effects = effects; answer = answer }
+
+abbrev by_nobody : ℕ → Entry
+by_nobody place = record { place = place; actor = Idle; step = Wait; effects = []; answer = None }
+
+-- what happens
+unfoldable pub two_handles_history : List Entry
+two_handles_history =
+    by_thread 1 (Of word.Create Do) (Plus (InProcess the_process 0) the_mutex ∷ []) (Some (pos 65536))
+    ∷ by_thread 2 (Of word.Dup Look) (Plus (Temp the_thread) the_mutex ∷ []) None
+    ∷ by_thread 3 (Of word.Dup Do) (Plus (InProcess the_process 1) the_mutex ∷ []) (Some (pos 65537))
+    ∷ by_thread 4 Drop (Minus (Temp the_thread) the_mutex ∷ []) None
+    ∷ by_thread 5 (Of word.Close Do) (Minus (InProcess the_process 0) the_mutex ∷ []) (Some (pos 0))
+    ∷ by_thread 6 (Of word.Close Do) (Minus (InProcess the_process 1) the_mutex ∷ Dead the_mutex ∷ []) (Some (pos 0))
+    ∷ by_thread 7 Sweep (Swept the_mutex ∷ []) None
+    ∷ by_thread 8 (Of word.Close Do) [] (Some (error_code BadHandle))
+    ∷ by_nobody 9
+    ∷ by_nobody 10
+    ∷ []

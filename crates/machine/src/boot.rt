@@ -2,22 +2,21 @@
 ghost use Rattle.std.specs.Prelude.{◌≡◌, ℕ, ◌+◌, ◌<◌, ◌≤◌, ◌++◌, [], ◌∷◌, codes, false, IfOk, OnOk, length, map, replicate, vec_len};
 ghost use Rattle.script_types.specs.Shape.{IsShaped};
 ghost use Rattle.machine.specs.Boot.{boot_object, born_process, new_thread, born_thread, is_of, has_any, born_threads, born, ready_from, boot_of, boot};
-ghost use Rattle.machine.specs.Table.{fresh_place};
+ghost use Rattle.machine.specs.Handles.{fresh_slot};
+ghost use Rattle.machine.specs.declared.state.Role.TheVariants as role;
 
-use crate::table::{FRESH_PLACE, MAX_HANDLES};
-use crate::{Owed, Phase, Place, Queued, State, ThreadRow};
+use crate::handles::FRESH_SLOT;
+use crate::{Found, HandleSlot, Owed, Role, State, ThreadRow};
 use script_types::{Script, ThreadDecl};
 use state_rows::ObjectRow;
 use std::alloc::Global;
-use sym_base::{Items, Kind, Name, NoMemory, ObjNo, read_name};
+use sym_base::{Items, Kind, Limits, Name, NoMemory, ObjNo, ThreadNo, read_name};
 
-/// A process or thread that stands at boot; of a thread its row, its priority, and whether it has
-/// an instruction.
+/// A process or thread that stands at boot; of a thread its row, and whether it has an instruction.
 #[derive(Clone, Copy)]
 pub struct Born {
     pub object: ObjectRow,
     pub thread: Option<ThreadRow>,
-    pub priority: u8,
     pub works: bool,
 }
 
@@ -45,20 +44,23 @@ fn born_process(name: Name) -> Born
     Born {
         object: boot_object(Kind::Process, name),
         thread: None,
-        priority: 0,
         works: false,
     }
 }
 
-/// A thread of this declaration and process.
-fn new_thread(process: ObjNo, declared: Option<u8>) -> ThreadRow
-    ensures { result ≡ new_thread process.0 declared }
+/// A thread of this process.
+fn new_thread(process: ObjNo, role: Role, priority: u8) -> ThreadRow
+    ensures { result ≡ new_thread process.0 role priority }
 {
     ThreadRow {
+        role,
         process,
-        declared,
-        place: 0,
-        phase: Phase::Start,
+        link: Some(process),
+        priority,
+        next_instruction: 0,
+        part: None,
+        found: Found::Nothing,
+        uses: None,
         registers: [0; 8],
     }
 }
@@ -69,22 +71,20 @@ fn born_thread(process: ObjNo, number: u8, declared: &ThreadDecl) -> Born
 {
     Born {
         object: boot_object(Kind::Thread, declared.name),
-        thread: Some(new_thread(process, Some(number))),
-        priority: declared.priority,
+        thread: Some(new_thread(process, Role::Declared(number), declared.priority)),
         works: !declared.instrs.is_empty(),
     }
 }
 
 /// The kernel's own process, and the supervisor, its one thread.
 fn born_kernel(alloc: Global) -> Result<Vec<Born>, NoMemory>
-    ensures { IfOk result (λ all. all.items ≡ born_process (codes "kernel") ∷ record { object = boot_object Kind.Thread (codes "supervisor"); thread = Some (new_thread 0 None); priority = 48; works = false } ∷ []) }
+    ensures { IfOk result (λ all. all.items ≡ born_process (codes "kernel") ∷ record { object = boot_object Kind.Thread (codes "supervisor"); thread = Some (new_thread 0 role.Supervisor 48); works = false } ∷ []) }
 {
     let mut all = Vec::new(alloc);
     all.push(born_process(read_name(b"kernel").unwrap()))?;
     all.push(Born {
         object: boot_object(Kind::Thread, read_name(b"supervisor").unwrap()),
-        thread: Some(new_thread(KERNEL, None)),
-        priority: SUPERVISOR_PRIORITY,
+        thread: Some(new_thread(KERNEL, Role::Supervisor, SUPERVISOR_PRIORITY)),
         works: false,
     })?;
     Ok(all)
@@ -136,16 +136,16 @@ pub fn all_born(alloc: Global, script: &Script) -> Result<Items<Born>, NoMemory>
 }
 
 /// An empty handle table.
-fn fresh_table(alloc: Global) -> Result<Items<Place>, NoMemory>
-    ensures { IfOk result (λ table. table ≡ replicate 256 fresh_place) }
+fn fresh_table(alloc: Global) -> Result<Items<HandleSlot>, NoMemory>
+    ensures { IfOk result (λ table. table ≡ replicate 256 fresh_slot) }
 {
-    let places = [FRESH_PLACE; MAX_HANDLES];
-    Ok(Items::new(Vec::from_slice(alloc, &places)?))
+    let slots = [FRESH_SLOT; Limits::HANDLES];
+    Ok(Items::new(Vec::from_slice(alloc, &slots)?))
 }
 
 /// An empty handle table for each.
-fn fresh_tables(alloc: Global, all: &[Born]) -> Result<Items<Items<Place>>, NoMemory>
-    ensures { IfOk result (λ tables. tables ≡ map (λ _. replicate 256 fresh_place) all.now) }
+fn fresh_tables(alloc: Global, all: &[Born]) -> Result<Items<Items<HandleSlot>>, NoMemory>
+    ensures { IfOk result (λ tables. tables ≡ map (λ _. replicate 256 fresh_slot) all.now) }
 {
     let mut tables = Vec::new(alloc);
     for _born in all {
@@ -166,7 +166,7 @@ fn no_duties(alloc: Global, all: &[Born]) -> Result<Items<Items<Owed>>, NoMemory
 }
 
 /// The threads that have an instruction are ready, in order of number.
-fn ready_from(alloc: Global, all: &[Born]) -> Result<Items<Queued>, NoMemory>
+fn ready_from(alloc: Global, all: &[Born]) -> Result<Items<ThreadNo>, NoMemory>
     requires { length all.now ≤ 65536 }
     ensures { IfOk result (λ ready. ready ≡ ready_from 0 all.now) }
 {
@@ -175,10 +175,7 @@ fn ready_from(alloc: Global, all: &[Born]) -> Result<Items<Queued>, NoMemory>
         if !born.works {
             continue;
         }
-        ready.push(Queued {
-            thread: ObjNo(n as u16),
-            priority: born.priority,
-        })?;
+        ready.push(ObjNo(n as u16))?;
     }
     Ok(Items::new(ready))
 }
@@ -221,8 +218,8 @@ pub fn boot_of(alloc: Global, all: &[Born]) -> Result<State, NoMemory>
 }
 
 /// The state at boot.
-#[tactic(auto, using(crate::proofs::BootGood::born_few))]
-pub fn boot(alloc: Global, script: &Script) -> Result<State, NoMemory>
+#[tactic(auto, using(crate::proofs::AtBoot::Born::born_few))]
+pub fn state_at_boot(alloc: Global, script: &Script) -> Result<State, NoMemory>
     requires { IsShaped script.now }
     ensures { IfOk result (λ state. state ≡ boot script.now) }
 {

@@ -1,9 +1,10 @@
-//! Counting references by going over all the rows that hold one.
-ghost use Rattle.std.specs.Prelude.{◌≡◌, ◌+◌, ◌<◌, ◌≤◌};
-ghost use Rattle.machine.specs.References.{total, same, option_names, place_names, phase_names, thread_names, owed_names, kernel_names, count_of};
+//! Counting references by going over all the rows that hold one. Counts stand still at the end of their
+//! type, which no state that a history leaves comes near.
+ghost use Rattle.std.specs.Prelude.{◌≡◌, ◌-◌, ◌^◌, ◌<◌, ◌≤◌, min, nat_lt};
+ghost use Rattle.machine.specs.References.{total, same, option_names, slot_names, thread_names, owed_names, kernel_names, count_of, is_last};
 
 use crate::rows::thread_of;
-use crate::{Owed, Phase, Place, State, ThreadRow};
+use crate::{HandleSlot, Owed, State, ThreadRow};
 use sym_base::{Items, ObjNo};
 
 /// 1 where the two are one object, else 0.
@@ -14,25 +15,14 @@ fn same(one: ObjNo, object: ObjNo) -> u32
     if one.0 == object.0 { 1 } else { 0 }
 }
 
-/// How often a place of a handle table refers to an object.
-fn place_names(object: ObjNo, place: &Place) -> u32
-    ensures number { result ≡ place_names object place.now }
+/// 1 where there is an object and it is this one.
+fn option_names(object: ObjNo, one: Option<ObjNo>) -> u32
+    ensures number { result ≡ option_names object one }
     ensures bit { result ≤ 1 }
 {
-    match place.object {
+    match one {
         Some(one) => same(one, object),
         None => 0,
-    }
-}
-
-/// How often a thread's call in flight refers to an object.
-fn phase_names(object: ObjNo, phase: Phase) -> u32
-    ensures number { result ≡ phase_names object phase }
-    ensures bit { result ≤ 1 }
-{
-    match phase {
-        Phase::Start | Phase::Found(_) => 0,
-        Phase::Using(one) => same(one, object),
     }
 }
 
@@ -41,7 +31,7 @@ fn thread_names(object: ObjNo, row: &Option<ThreadRow>) -> u32
     ensures { result ≡ thread_names object row.now }
 {
     match row {
-        Some(row) => same(row.process, object) + phase_names(object, row.phase),
+        Some(row) => option_names(object, row.link) + option_names(object, row.uses),
         None => 0,
     }
 }
@@ -57,61 +47,56 @@ fn owed_names(object: ObjNo, owed: &Owed) -> u32
 }
 
 /// How often a handle table refers to an object.
-fn table_total(object: ObjNo, table: &[Place]) -> u32
-    requires { total (place_names object) table.now < 65536 }
-    ensures { result ≡ total (place_names object) table.now }
+fn table_total(object: ObjNo, table: &[HandleSlot]) -> u32
+    ensures { result ≡ min (total (slot_names object) table.now) (2 ^ 32 - 1) }
 {
-    let mut count = 0;
-    for place in table {
-        count += place_names(object, place);
+    let mut count: u32 = 0;
+    for slot in table {
+        count = count.saturating_add(option_names(object, slot.object));
     }
     count
 }
 
 /// How often the handle tables refer to an object.
-fn tables_total(object: ObjNo, tables: &[Items<Place>]) -> u32
-    requires { total (total (place_names object)) tables.now < 65536 }
-    ensures { result ≡ total (total (place_names object)) tables.now }
+fn tables_total(object: ObjNo, tables: &[Items<HandleSlot>]) -> u32
+    ensures { result ≡ min (total (total (slot_names object)) tables.now) (2 ^ 32 - 1) }
 {
-    let mut count = 0;
+    let mut count: u32 = 0;
     for table in tables {
-        count += table_total(object, table.as_slice());
+        count = count.saturating_add(table_total(object, table.as_slice()));
     }
     count
 }
 
 /// How often the threads refer to an object.
 fn threads_total(object: ObjNo, threads: &[Option<ThreadRow>]) -> u32
-    requires { total (thread_names object) threads.now < 65536 }
-    ensures { result ≡ total (thread_names object) threads.now }
+    ensures { result ≡ min (total (thread_names object) threads.now) (2 ^ 32 - 1) }
 {
-    let mut count = 0;
+    let mut count: u32 = 0;
     for row in threads {
-        count += thread_names(object, row);
+        count = count.saturating_add(thread_names(object, row));
     }
     count
 }
 
 /// How often what a thread owes stands for a reference to an object.
 fn duties_total(object: ObjNo, duties: &[Owed]) -> u32
-    requires { total (owed_names object) duties.now < 65536 }
-    ensures { result ≡ total (owed_names object) duties.now }
+    ensures { result ≡ min (total (owed_names object) duties.now) (2 ^ 32 - 1) }
 {
-    let mut count = 0;
+    let mut count: u32 = 0;
     for owed in duties {
-        count += owed_names(object, owed);
+        count = count.saturating_add(owed_names(object, owed));
     }
     count
 }
 
 /// How often what the threads owe stands for a reference to an object.
 fn owed_total(object: ObjNo, owed: &[Items<Owed>]) -> u32
-    requires { total (total (owed_names object)) owed.now < 65536 }
-    ensures { result ≡ total (total (owed_names object)) owed.now }
+    ensures { result ≡ min (total (total (owed_names object)) owed.now) (2 ^ 32 - 1) }
 {
-    let mut count = 0;
+    let mut count: u32 = 0;
     for duties in owed {
-        count += duties_total(object, duties.as_slice());
+        count = count.saturating_add(duties_total(object, duties.as_slice()));
     }
     count
 }
@@ -127,13 +112,39 @@ fn kernel_names(state: &State, object: ObjNo) -> u32
     }
 }
 
+/// The number of references to an object.
+fn capped_count(state: &State, object: ObjNo) -> u32
+    ensures { result ≡ min (count_of state.now object) (2 ^ 32 - 1) }
+{
+    let handles = tables_total(object, state.handles.as_slice());
+    let threads = threads_total(object, state.threads.as_slice());
+    let owed = owed_total(object, state.owed.as_slice());
+    handles
+        .saturating_add(threads)
+        .saturating_add(kernel_names(state, object))
+        .saturating_add(owed)
+}
+
 /// The count of an object: the number of references to it.
 pub fn count_of(state: &State, object: ObjNo) -> u32
     requires { count_of state.now object < 65536 }
     ensures { result ≡ count_of state.now object }
 {
-    let handles = tables_total(object, state.handles.as_slice());
-    let threads = threads_total(object, state.threads.as_slice());
-    let owed = owed_total(object, state.owed.as_slice());
-    handles + threads + kernel_names(state, object) + owed
+    capped_count(state, object)
+}
+
+/// Whether an object has a reference.
+#[tactic(auto, using(crate::proofs::Numbers::Capped::capped_above_none))]
+pub fn is_counted(state: &State, object: ObjNo) -> bool
+    ensures { result ≡ nat_lt 0 (count_of state.now object) }
+{
+    capped_count(state, object) > 0
+}
+
+/// Whether an object has one reference.
+#[tactic(auto, using(crate::proofs::Numbers::Capped::capped_is_one))]
+pub fn is_last(state: &State, object: ObjNo) -> bool
+    ensures { result ≡ is_last state.now object }
+{
+    capped_count(state, object) == 1
 }

@@ -1,38 +1,34 @@
-//! The kernel's definitions over plain lists, the plain machine that keeps them, and the laws of
-//! its histories.
+//! The kernel's definitions over plain lists, what they have in common with the kernel's tables, and the
+//! laws of the states that histories leave.
 #![tactic(auto)]
 
-mod act;
-mod acted;
 mod boot;
-mod choice;
-mod close;
 mod count;
-mod create;
-mod dup;
-mod final_rows;
-mod open;
-mod outcome;
-mod pay;
-mod plain;
+mod decision;
+mod duties;
+mod handles;
+mod moves;
 mod rows;
-mod safe_references;
 mod state;
-mod table;
-mod tick;
+mod task;
+mod thread_rows;
+mod touches;
 
-pub use act::instruction;
-pub use acted::{advanced, closed_effects, one_effect, with_register};
-pub use boot::{Born, all_born, boot_of};
-pub use choice::first_of_greatest;
-pub use count::count_of;
-pub use dup::stays_with_thread;
-pub use open::is_open;
-pub use outcome::Outcome;
-pub use plain::{Plain, entry_of};
-pub use safe_references::legal_is_safe;
-pub use state::{Owed, Phase, Place, Queued, State, ThreadRow};
-pub use table::{
-    FRESH_PLACE, MAX_HANDLES, free_index, handle_number, holder_of, index_of, instance_of, is_full,
-    next_instance, object_at, owner_of, place_at,
+pub use boot::{Born, all_born, boot_of, state_at_boot};
+pub use count::{count_of, is_counted, is_last};
+pub use decision::{Decision, Outcome, entry_of};
+pub use duties::{drop_first_owed, owe_close, owe_use};
+pub use handles::{
+    FRESH_SLOT, NewHandle, free_index, holder_of, index_of, instance_of, next_handle,
+    next_instance, object_in, owner_of, slot_at,
 };
+pub use moves::{MAX_MOVES, Move, Moves};
+pub use rows::{first_owed, object_of, row_of, set_row, set_slot, table_of, thread_of};
+pub use state::{Found, HandleSlot, Role, State, ThreadRow};
+pub use state_rows::Owed;
+pub use task::Task;
+pub use thread_rows::{
+    threads_advance, threads_closed, threads_find, threads_gain, threads_go_on, threads_lose,
+    threads_write,
+};
+pub use touches::{TouchedThreads, touched};

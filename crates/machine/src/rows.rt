@@ -1,38 +1,47 @@
-//! Reading and changing the rows of a state. A number without a row reads as none, and changing it
+//! Reading and changing lists of rows by number. A number without a row reads as none, and changing it
 //! changes nothing.
-ghost use Rattle.std.specs.Prelude.{◌≡◌, [], ◌∷◌, OnOk, drop, slice_set};
-ghost use Rattle.machine.specs.Rows.{object_of, table_of, thread_of, owed_of, with_object, with_place, with_thread, with_owed, owing};
+ghost use Rattle.std.specs.Prelude.{◌≡◌, [], None, slice_set};
+ghost use Rattle.std.specs.List.{slice_index_or};
+ghost use Rattle.machine.specs.Rows.{object_of, thread_of, table_of, owed_of, first_owed};
 
-use crate::{Owed, Place, State, ThreadRow};
+use crate::{HandleSlot, Owed, State, ThreadRow};
 use state_rows::ObjectRow;
-use sym_base::{Items, NoMemory, ObjNo, ThreadNo};
+use sym_base::{Items, ObjNo, ThreadNo};
+
+/// The row of a number, None past the list's end.
+pub fn row_of<T: Copy>(rows: &Items<Option<T>>, number: ObjNo) -> Option<T>
+    ensures { result ≡ slice_index_or rows.now number.0 None }
+{
+    let at = number.0 as usize;
+    if at < rows.len() { rows.get(at) } else { None }
+}
+
+/// Puts another row for a number.
+pub fn set_row<T: Copy>(rows: &mut Items<Option<T>>, number: ObjNo, row: Option<T>)
+    ensures { rows.new ≡ slice_set rows.old number.0 row }
+{
+    let at = number.0 as usize;
+    if at < rows.len() {
+        rows.set(at, row);
+    }
+}
 
 /// The object of this number, where it was made and isn't swept.
 pub fn object_of(state: &State, object: ObjNo) -> Option<ObjectRow>
     ensures { result ≡ object_of state.now object }
 {
-    let at = object.0 as usize;
-    if at < state.objects.len() {
-        state.objects.get(at)
-    } else {
-        None
-    }
+    row_of(&state.objects, object)
 }
 
 /// The thread of this number.
 pub fn thread_of(state: &State, thread: ThreadNo) -> Option<ThreadRow>
     ensures { result ≡ thread_of state.now thread }
 {
-    let at = thread.0 as usize;
-    if at < state.threads.len() {
-        state.threads.get(at)
-    } else {
-        None
-    }
+    row_of(&state.threads, thread)
 }
 
 /// The handle table of a process or a thread.
-pub fn table_of(state: &State, owner: ObjNo) -> &[Place]
+pub fn table_of(state: &State, owner: ObjNo) -> &[HandleSlot]
     ensures { result.now ≡ table_of state.now owner }
 {
     let at = owner.0 as usize;
@@ -44,7 +53,7 @@ pub fn table_of(state: &State, owner: ObjNo) -> &[Place]
 }
 
 /// What a thread owes, the oldest first.
-pub fn owed_of(state: &State, thread: ThreadNo) -> &[Owed]
+fn owed_of(state: &State, thread: ThreadNo) -> &[Owed]
     ensures { result.now ≡ owed_of state.now thread }
 {
     let at = thread.0 as usize;
@@ -55,64 +64,28 @@ pub fn owed_of(state: &State, thread: ThreadNo) -> &[Owed]
     }
 }
 
-/// Puts another row for an object.
-pub fn set_object(state: &mut State, object: ObjNo, row: Option<ObjectRow>)
-    ensures { state.new ≡ with_object state.old object row }
+/// The oldest of what a thread owes.
+pub fn first_owed(state: &State, thread: ThreadNo) -> Option<Owed>
+    ensures { result ≡ first_owed state.now thread }
 {
-    let at = object.0 as usize;
-    if at < state.objects.len() {
-        state.objects.set(at, row);
-    }
+    owed_of(state, thread).first().copied()
 }
 
-/// Puts another row for a thread.
-pub fn set_thread(state: &mut State, thread: ThreadNo, row: ThreadRow)
-    ensures { state.new ≡ with_thread state.old thread row }
-{
-    let at = thread.0 as usize;
-    if at < state.threads.len() {
-        state.threads.set(at, Some(row));
-    }
-}
-
-/// Puts another place into this table.
-fn set_in_table(table: &mut Items<Place>, index: usize, place: Place)
-    ensures { table.new ≡ slice_set table.old index place }
+/// Puts another slot into this table.
+fn set_in_table(table: &mut Items<HandleSlot>, index: usize, slot: HandleSlot)
+    ensures { table.new ≡ slice_set table.old index slot }
 {
     if index < table.len() {
-        table.set(index, place);
+        table.set(index, slot);
     }
 }
 
-/// Puts another place into the table of a process or a thread.
-pub fn set_place(state: &mut State, owner: ObjNo, index: usize, place: Place)
-    ensures { state.new ≡ with_place state.old owner index place }
+/// Puts another slot into the table of a process or a thread.
+pub fn set_slot(tables: &mut Items<Items<HandleSlot>>, owner: ObjNo, index: usize, slot: HandleSlot)
+    ensures { tables.new ≡ slice_set tables.old owner.0 (slice_set (slice_index_or tables.old owner.0 []) index slot) }
 {
     let at = owner.0 as usize;
-    if at < state.handles.len() {
-        set_in_table(state.handles.get_mut(at), index, place);
+    if at < tables.len() {
+        set_in_table(tables.get_mut(at), index, slot);
     }
-}
-
-/// Takes the first item that a thread owes away.
-pub fn drop_first_owed(state: &mut State, thread: ThreadNo)
-    ensures { state.new ≡ with_owed state.old thread (drop 1 (owed_of state.old thread)) }
-{
-    let at = thread.0 as usize;
-    if at < state.owed.len() {
-        let owed = state.owed.get_mut(at);
-        let _ = owed.take_first();
-    }
-}
-
-/// A thread owes one item more, behind what it owes already.
-pub fn owe(state: &mut State, thread: ThreadNo, what: Owed) -> Result<(), NoMemory>
-    ensures { OnOk result (state.new ≡ owing state.old thread (what ∷ [])) }
-{
-    let at = thread.0 as usize;
-    if at < state.owed.len() {
-        let owed = state.owed.get_mut(at);
-        owed.push(what)?;
-    }
-    Ok(())
 }

@@ -1,55 +1,56 @@
 //! The kernel's state as plain lists of rows, indexed by number.
 ghost use Rattle.std.specs.Prelude.{◌≡◌, IfOk};
 
-use entry_log::Holder;
-use state_rows::ObjectRow;
+use entry_log::Part;
+use state_rows::{ObjectRow, Owed};
 use std::alloc::{AllocError, Global};
 use sym_base::{Items, ObjNo, ThreadNo};
 
-/// A place of a handle table: how often it was taken, 0 at first and counted from 1 to 16,383 and
-/// then from 1 again, and the object there.
+/// A slot of a handle table: how often it was taken, 0 at first and counted from 1 to 16,383 and
+/// then from 1 again, and the object whose handle stands there (Symbian OS Internals, the chapter on kernel
+/// services, on object indexes).
 #[derive(Clone, Copy)]
-pub struct Place {
+pub struct HandleSlot {
     pub instance: u16,
     pub object: Option<ObjNo>,
 }
 
-/// What the steps of a thread's present instruction have found.
+/// Whose instructions a thread carries out.
 #[derive(Clone, Copy)]
-pub enum Phase {
-    /// The instruction has made no step.
-    Start,
-    /// It found this object by its name, and hasn't opened it yet. That is no reference.
-    Found(ObjNo),
-    /// It uses this object, to which the thread has a temporary reference.
-    Using(ObjNo),
+pub enum Role {
+    /// The kernel's own thread, which has none.
+    Supervisor,
+    /// The thread that the script declares at this place, from 0.
+    Declared(u8),
 }
 
-/// A thread: its process, the number of its declaration in the script (None for the supervisor),
-/// the number of instructions that are behind it, what the present one has found, and r0 to r7.
+/// What the steps of a thread's present instruction found so far.
+#[derive(Clone, Copy)]
+pub enum Found {
+    Nothing,
+    /// An object, by its name. That is no reference.
+    Object(ObjNo),
+}
+
+/// A thread (the chapter on threads and processes).
 #[derive(Clone, Copy)]
 pub struct ThreadRow {
+    pub role: Role,
+    /// The process whose handles it uses.
     pub process: ObjNo,
-    pub declared: Option<u8>,
-    pub place: u32,
-    pub phase: Phase,
-    pub registers: [u32; 8],
-}
-
-/// A ready thread and its priority, 0 to 63.
-#[derive(Clone, Copy)]
-pub struct Queued {
-    pub thread: ThreadNo,
+    /// Its reference to its process, until it is given up.
+    pub link: Option<ObjNo>,
+    /// 0 to 63, the greatest first.
     pub priority: u8,
-}
-
-/// What a thread owes before it does anything else.
-#[derive(Clone, Copy)]
-pub enum Owed {
-    /// To give up the holder's reference to the object.
-    Close(Holder, ObjNo),
-    /// To remove the row of a dead object.
-    Sweep(ObjNo),
+    /// The number of instructions that are behind it.
+    pub next_instruction: u32,
+    /// The next step of its present instruction, None before the first.
+    pub part: Option<Part>,
+    pub found: Found,
+    /// The object that its present instruction uses, to which it has a temporary reference.
+    pub uses: Option<ObjNo>,
+    /// r0 to r7.
+    pub registers: [u32; 8],
 }
 
 /// The whole state. Each list but the ready one is indexed by object number.
@@ -58,11 +59,11 @@ pub struct State {
     /// Each object that was made; None once it is swept.
     pub objects: Items<Option<ObjectRow>>,
     /// The handle table of each process and thread.
-    pub handles: Items<Items<Place>>,
-    /// Each thread; None at the number of a process. The supervisor has a row too.
+    pub handles: Items<Items<HandleSlot>>,
+    /// Each thread; None at the number of a process, and once it is swept. The supervisor has a row too.
     pub threads: Items<Option<ThreadRow>>,
     /// The ready threads in order of arrival.
-    pub ready: Items<Queued>,
+    pub ready: Items<ThreadNo>,
     /// What each thread owes, in order of owing.
     pub owed: Items<Items<Owed>>,
 }

@@ -1,19 +1,21 @@
 -- Each call keeps the table's counts, stages and names.
-use Rattle.std.proofs.Common.{◌≡◌, ◌≢◌, ℕ, ◌<◌, ◌≤◌, true, false, List, [], ◌∷◌, ◌++◌, length, get_or, set, replicate, refl, sym, ap, ◌∙◌, arith, inl, inr, get_or-set_same, get_or-set_other, length-set, length-append, ◌⊎◌}
-use Rattle.std.specs.Prelude.{Option, Some, None, IsTrue, IfSome, position}
+use Rattle.std.proofs.Common.{◌≡◌, ◌≢◌, ℕ, ◌<◌, ◌≤◌, true, false, List, [], ◌∷◌, ◌++◌, length, get_or, set, replicate, min, refl, sym, ap, ◌∙◌, arith, inl, inr, get_or-set_same, get_or-set_other, length-set, length-append, ◌⊎◌, rules, tests}
+use Rattle.std.specs.Prelude.{Option, Some, None, IsTrue, IfSome, position, ◌==◌}
 use Rattle.std.proofs.lemmas.List.Quantifiers.{position-Some}
 use Rattle.std.proofs.lemmas.Bool.{cases_Bool, cases_eq, cases_lt}
 use Rattle.std.proofs.lemmas.List.{get_or_read, get_or_past, get_or_push, get_or_append_left, get_or-replicate, length-replicate}
 use Rattle.std.proofs.lemmas.List.Folds.{list_any_at}
 use Rattle.ref_words.specs.declared.answer.Stage.TheVariants.{Fresh, Gone}
 use Rattle.ref_words.specs.declared.answer.Closed.TheVariants.{Last}
-use Rattle.ref_words.specs.Words.{Words, own_at, created}
+use Rattle.ref_words.specs.Words.{Words, own_at, stage_at, IsCreated, NoneCreated, created}
 use Rattle.sym_base.specs.declared.kind.Kind.{Kind}
+use Rattle.sym_base.specs.declared.limits.TheConstants.Limits.{OBJECTS}
 use Rattle.state_rows.specs.declared.object.ObjectRow.{ObjectRow}
+use Rattle.objects.specs.declared.objects.Made.TheVariants.{Made as MadeObject}
 use Rattle.objects.specs.Rows.{row_at, is_there, is_alive, kept_name}
 use Rattle.state_rows.specs.ObjectRows.{is_session}
-use Rattle.state_rows.specs.ObjectRows.{is_dead_row, has_name}
-use Rattle.objects.specs.Calls.{AreUnused, is_taken, rows_closed, rows_swept}
+use Rattle.state_rows.specs.ObjectRows.{is_dead_row, is_taken, has_name}
+use Rattle.objects.specs.Calls.{made_answer, rows_closed, rows_swept}
 use Rattle.state_rows.specs.ObjectRows.{dead_row}
 use Rattle.objects.specs.Kept.{AreKept}
 use Rattle.objects.proofs.SameKind.{has_name-kind, has_name-name}
@@ -57,17 +59,33 @@ named_made rows p kind name named = elim (cases_lt p (length rows)) [
   | inr past ↦ let none = get_or_past rows p None past in absurd (cc (rw none at named))
 ]
 
+-- no count stands in a list of zeros
+no_count : (n p : ℕ) → get_or (replicate {A = ℕ} n 0) p 0 ≡ 0
+no_count n p = elim (cases_lt p n) [
+  | inl inside ↦ get_or-replicate n p 0 0 inside
+  | inr past ↦ get_or_past (replicate {A = ℕ} n 0) p 0 (rw length-replicate past)
+]
+
 -- a table of no object, over words of which no place is created
-pub kept_new : (w : Words) → AreUnused w → AreKept [] (replicate 4096 0) w
-kept_new w unused = record {
-  counted = sym unused.0;
-  places = rw unused.0 (length-replicate {A = ℕ} 4096 0);
+pub kept_new : (w : Words) (n : ℕ) → NoneCreated w → length w.stages ≡ length w.own → ((p : ℕ) → stage_at w p ≡ Fresh → own_at w p ≡ 0) → n ≡ min (length w.own) OBJECTS → AreKept [] (replicate n 0) w
+kept_new w n none sizes uncounted room = record {
+  counted = λ p. no_count n p ∙ sym (uncounted p (none p));
+  roomy = λ p inside few. rw length-replicate (omega arith);
   limited = omega arith;
-  fresh = λ p past within. (rw (unused.0, length-replicate) within, rw (unused.1, length-replicate) within, rw unused.1 (get_or-replicate 4096 p Fresh Fresh within));
+  within = omega arith;
+  placed = omega arith;
+  fresh = λ p past inside. (inside, rw sizes inside, none p);
   in_use = λ p alive. absurd (cc);
   gone = λ p inside dead. absurd (omega arith);
   unique = λ p q kind name named one other. absurd (cc);
 }
+
+-- where two lists have the same number, they have it still after both get one at a place
+same_set : (counts own : List ℕ) (o n : ℕ) → ((p : ℕ) → get_or counts p 0 ≡ get_or own p 0) → o < length counts → o < length own → (p : ℕ) → get_or (set counts o n) p 0 ≡ get_or (set own o n) p 0
+same_set counts own o n same within placed p = elim (cases_eq p o) [
+  | inl here ↦ rw (here, get_or-set_same, get_or-set_same) refl
+  | inr other ↦ rw (get_or-set_other, get_or-set_other) (same p)
+]
 
 -- the row of an object that is made now, and of the others
 row_at-made : (rows : Rows) (row : ObjectRow) (p : ℕ) → p < length rows → row_at (rows ++ Some row ∷ []) p ≡ row_at rows p
@@ -96,18 +114,27 @@ new_name rows kind name q k n untaken named new old =
     let taken : is_taken kind name rows ≡ true = rw (named_kind, any) refl in
     cc
 
+-- where the name is free and fewer than 4,096 objects were made, the next number is answered
+pub answer_is : (rows : Rows) (kind : Kind) (name : List ℕ) → is_taken kind name rows ≡ false → length rows < OBJECTS → made_answer kind name rows ≡ MadeObject (record { 0 = length rows })
+answer_is rows kind name untaken room =
+    let below : (length rows == OBJECTS) ≡ false = search (rules, tests) in
+    rw (untaken, below) refl
+
 -- one more object
-pub kept_made : (rows : Rows) (counts : List ℕ) (w : Words) (kind : Kind) (name : List ℕ) → AreKept rows counts w → length rows < 4096 → is_taken kind name rows ≡ false → AreKept (rows ++ Some (record { kind = kind; name = kept_name kind name; dead = false }) ∷ []) (set counts (length rows) 1) (created w (length rows))
-kept_made rows counts w kind name kept room untaken =
+pub kept_made : (rows : Rows) (counts : List ℕ) (w : Words) (kind : Kind) (name : List ℕ) → AreKept rows counts w → length rows < OBJECTS → length rows < length w.own → is_taken kind name rows ≡ false → AreKept (rows ++ Some (record { kind = kind; name = kept_name kind name; dead = false }) ∷ []) (set counts (length rows) 1) (created w (length rows))
+kept_made rows counts w kind name kept room left untaken =
     let row : ObjectRow = record { kind = kind; name = kept_name kind name; dead = false } in
     let long = length-append rows (Some row ∷ []) in
-    let place = kept.fresh (length rows) (omega arith) room in
+    let place = kept.fresh (length rows) (omega arith) left in
+    let within = kept.roomy (length rows) left room in
     record {
-      counted = rw kept.counted refl;
-      places = rw length-set kept.places;
+      counted = same_set counts w.own (length rows) 1 kept.counted within left;
+      roomy = λ p inside few. rw length-set (kept.roomy p (rw length-set at inside) few);
       limited = omega (arith, long);
+      within = rw length-set (omega (arith, long));
+      placed = rw length-set (omega (arith, long));
       fresh = λ p past within.
-          let f = kept.fresh p (omega (arith, long)) within in
+          let f = kept.fresh p (omega (arith, long)) (rw length-set at within) in
           let other : p ≢ length rows = omega (arith, long) in
           (rw length-set f.0, rw length-set f.1, rw get_or-set_other f.2);
       in_use = λ p alive. elim (made_cases rows row p (alive_made (rows ++ Some row ∷ []) p alive)) [
@@ -135,13 +162,15 @@ kept_made rows counts w kind name kept room untaken =
           ];
     }
 
--- another count of a place
-pub kept_counted : (rows : Rows) (counts : List ℕ) (w : Words) (o n : ℕ) → AreKept rows counts w → AreKept rows (set counts o n) (record w { own = set w.own o n })
-kept_counted rows counts w o n kept = record {
-  counted = rw kept.counted refl;
-  places = rw length-set kept.places;
+-- another count of an object that was made
+pub kept_counted : (rows : Rows) (counts : List ℕ) (w : Words) (o n : ℕ) → AreKept rows counts w → o < length rows → AreKept rows (set counts o n) (record w { own = set w.own o n })
+kept_counted rows counts w o n kept made = record {
+  counted = same_set counts w.own o n kept.counted (omega (arith, kept.within)) (omega (arith, kept.placed));
+  roomy = λ p inside few. rw length-set (kept.roomy p (rw length-set at inside) few);
   limited = kept.limited;
-  fresh = λ p past within. let f = kept.fresh p past within in (rw length-set f.0, f.1, f.2);
+  within = rw length-set kept.within;
+  placed = rw length-set kept.placed;
+  fresh = λ p past inside. let f = kept.fresh p past (rw length-set at inside) in (rw length-set f.0, f.1, f.2);
   in_use = kept.in_use;
   gone = kept.gone;
   unique = kept.unique;
@@ -150,10 +179,12 @@ kept_counted rows counts w o n kept = record {
 -- other notes are out
 pub kept_notes : (rows : Rows) (counts : List ℕ) (w v : Words) → v.own ≡ w.own → v.stages ≡ w.stages → AreKept rows counts w → AreKept rows counts v
 kept_notes rows counts w v own stages kept = record {
-  counted = kept.counted ∙ sym own;
-  places = rw own kept.places;
+  counted = rw own kept.counted;
+  roomy = λ p inside. kept.roomy p (rw own at inside);
   limited = kept.limited;
-  fresh = λ p past within. rw (own, stages) (kept.fresh p past within);
+  within = kept.within;
+  placed = rw own kept.placed;
+  fresh = λ p past within. rw (own, stages) (kept.fresh p past (rw own at within));
   in_use = λ p alive. rw stages (kept.in_use p alive);
   gone = λ p inside dead. rw stages (kept.gone p inside dead);
   unique = kept.unique;
@@ -202,12 +233,14 @@ kept_last rows counts w o n kept there =
     let inside = there_made rows o there in
     let place = there_created rows counts w o kept there in
     record {
-      counted = rw kept.counted refl;
-      places = rw length-set kept.places;
+      counted = same_set counts w.own o n kept.counted (omega (arith, kept.within)) (omega (arith, kept.placed));
+      roomy = λ p within few. rw length-set (kept.roomy p (rw length-set at within) few);
       limited = rw length-set kept.limited;
+      within = rw (length-set, length-set) kept.within;
+      placed = rw (length-set, length-set) kept.placed;
       fresh = λ p past within.
           let above : length rows ≤ p = rw length-set at past in
-          let f = kept.fresh p above within in
+          let f = kept.fresh p above (rw length-set at within) in
           let other : p ≢ o = omega arith in
           (rw length-set f.0, rw length-set f.1, rw get_or-set_other f.2);
       in_use = λ p alive. elim (cases_eq p o) [
@@ -242,8 +275,10 @@ kept_swept rows counts w o kept was_dead =
     let none = get_or-set_same rows o None None inside in
     record {
       counted = kept.counted;
-      places = kept.places;
+      roomy = kept.roomy;
       limited = rw length-set kept.limited;
+      within = rw length-set kept.within;
+      placed = rw length-set kept.placed;
       fresh = λ p past within. kept.fresh p (rw length-set at past) within;
       in_use = λ p alive. elim (cases_eq p o) [
         | inl here ↦ absurd (cc (rw (here, none) at alive))
@@ -258,15 +293,21 @@ kept_swept rows counts w o kept was_dead =
     }
 
 -- a call gives a place a count, and the words another meaning
-pub kept_counts : (rows : Rows) (counts : List ℕ) (w v : Words) (o n m : ℕ) → AreKept rows counts w → v.own ≡ set w.own o m → v.stages ≡ w.stages → n ≡ m → AreKept rows (set counts o n) v
-kept_counts rows counts w v o n m kept own stages same =
-    rw same (kept_notes rows (set counts o m) (record w { own = set w.own o m }) v own stages (kept_counted rows counts w o m kept))
+pub kept_counts : (rows : Rows) (counts : List ℕ) (w v : Words) (o n m : ℕ) → AreKept rows counts w → o < length rows → v.own ≡ set w.own o m → v.stages ≡ w.stages → n ≡ m → AreKept rows (set counts o n) v
+kept_counts rows counts w v o n m kept made own stages same =
+    rw same (kept_notes rows (set counts o m) (record w { own = set w.own o m }) v own stages (kept_counted rows counts w o m kept made))
 
 -- the count that was read is the place's own
-pub read_own : (rows : Rows) (counts : List ℕ) (w : Words) (o n : ℕ) → AreKept rows counts w → o < 4096 → n ≡ get_or counts o n → n ≡ own_at w o
-read_own rows counts w o n kept inside read =
-    let long : o < length counts = rw kept.counted (rw kept.places inside) in
-    get_or_read counts o n long read 0 ∙ ap (λ (own : List ℕ). get_or own o 0) kept.counted
+pub read_own : (rows : Rows) (counts : List ℕ) (w : Words) (o n : ℕ) → AreKept rows counts w → o < length rows → n ≡ get_or counts o n → n ≡ own_at w o
+read_own rows counts w o n kept made read =
+    get_or_read counts o n (omega (arith, kept.within)) read 0 ∙ kept.counted o
+
+-- a place that was created is that of an object that was made
+pub created_made : (rows : Rows) (counts : List ℕ) (w : Words) (p : ℕ) → AreKept rows counts w → IsCreated w p → p < length w.own → p < length rows
+created_made rows counts w p kept created inside = elim (cases_lt p (length rows)) [
+  | inl made ↦ made
+  | inr past ↦ absurd (created (kept.fresh p past inside).2)
+]
 
 -- the last reference goes, and the words have another meaning
 pub kept_dead : (rows : Rows) (counts : List ℕ) (w v : Words) (o n m : ℕ) → AreKept rows counts w → IsTrue (is_there (row_at rows o)) → v.own ≡ set w.own o m → v.stages ≡ set w.stages o Gone → n ≡ m → AreKept (rows_closed Last rows o) (set counts o n) v
@@ -274,7 +315,7 @@ kept_dead rows counts w v o n m kept there own stages same =
     rw same (kept_notes (rows_closed Last rows o) (set counts o m) (record w { own = set w.own o m; stages = set w.stages o Gone }) v own stages (kept_last rows counts w o m kept there))
 
 -- the place of a name is that of an object that was made
-pub named_place : (rows : Rows) (counts : List ℕ) (w : Words) (kind : Kind) (name : List ℕ) (r : Option ℕ) → AreKept rows counts w → r ≡ position (has_name kind name) rows → IfSome r (λ p. (p < length rows) × (p < 4096))
+pub named_place : (rows : Rows) (counts : List ℕ) (w : Words) (kind : Kind) (name : List ℕ) (r : Option ℕ) → AreKept rows counts w → r ≡ position (has_name kind name) rows → IfSome r (λ p. (p < length rows) × (p < OBJECTS))
 named_place rows counts w kind name None kept is = tt
 named_place rows counts w kind name (Some p) kept is =
     let found = position-Some (has_name kind name) rows p None (sym is) in

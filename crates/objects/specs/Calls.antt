@@ -1,31 +1,21 @@
 -- What the calls on the table of objects answer and leave.
-use Rattle.std.specs.Prelude.{◌≡◌, ℕ, Bool, false, true, not, ◌&&◌, ◌||◌, ◌==◌, if◌then◌else◌, List, [], ◌∷◌, ◌++◌, length, Option, Some, None, position, slice_index, slice_set, replicate}
-use Rattle.std.specs.List.{list_any}
+use Rattle.std.specs.Prelude.{◌≡◌, ℕ, Bool, false, true, not, ◌||◌, ◌==◌, if◌then◌else◌, List, [], ◌∷◌, ◌++◌, length, Option, Some, None, position, slice_index, slice_set}
 use Rattle.sym_base.specs.declared.kind.Kind.{Kind}
+use Rattle.sym_base.specs.declared.limits.TheConstants.Limits.{OBJECTS}
 use Rattle.sym_base.specs.declared.number.ObjNo.{ObjNo}
 use Rattle.ref_words.specs.declared.answer.Closed.{Closed}
 use Rattle.ref_words.specs.declared.answer.Closed.TheVariants.{Stays, Last}
-use Rattle.ref_words.specs.declared.answer.Stage.TheVariants.{Fresh}
 use Rattle.ref_words.specs.Words.{Words, created}
 use Rattle.state_rows.specs.declared.object.ObjectRow.{ObjectRow}
 use Rattle.objects.specs.declared.row.ObjRow.{ObjRow}
 use Rattle.objects.specs.declared.objects.Made.{Made}
 use Rattle.objects.specs.declared.objects.Made.TheVariants.{Made as MadeObject, NameTaken, Full}
 use Rattle.objects.specs.Rows.{row_at, kept_name}
-use Rattle.state_rows.specs.ObjectRows.{is_session}
-use Rattle.state_rows.specs.ObjectRows.{has_name, is_dead_row, dead_row}
-
--- words of 4,096 places, of which none is created
-abbrev pub AreUnused : Words → Type 0
-AreUnused w = (w.own ≡ replicate 4096 0) × (w.stages ≡ replicate 4096 Fresh)
-
--- whether an unswept object has the kind and the name, which no session has
-abbrev pub is_taken : Kind → List ℕ → List (Option ObjectRow) → Bool
-is_taken kind name rows = not (is_session kind) && list_any (has_name kind name) rows
+use Rattle.state_rows.specs.ObjectRows.{is_session, has_name, is_taken, is_dead_row, dead_row}
 
 -- the answer of a making: the next number, unless the name is taken or 4,096 objects were made
 abbrev pub made_answer : Kind → List ℕ → List (Option ObjectRow) → Made
-made_answer kind name rows = if is_taken kind name rows then NameTaken else (if length rows == 4096 then Full else MadeObject (record { 0 = length rows }))
+made_answer kind name rows = if is_taken kind name rows then NameTaken else (if length rows == OBJECTS then Full else MadeObject (record { 0 = length rows }))
 
 -- the rows after a making
 abbrev pub rows_made : Made → Kind → List ℕ → List (Option ObjectRow) → List (Option ObjectRow)

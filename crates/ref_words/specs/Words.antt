@@ -34,6 +34,10 @@ IsFresh w p = (p < length w.own) × (p < length w.stages) × (stage_at w p ≡ F
 abbrev pub IsCreated : Words → ℕ → Type 0
 IsCreated w p = stage_at w p ≢ Fresh
 
+-- no place was created
+abbrev pub NoneCreated : Words → Type 0
+NoneCreated w = (p : ℕ) → stage_at w p ≡ Fresh
+
 -- the place's last reference went
 abbrev pub IsGone : Words → ℕ → Type 0
 IsGone w p = stage_at w p ≡ Gone

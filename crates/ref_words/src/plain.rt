@@ -1,6 +1,6 @@
 //! Reference counts that only the kernel changes.
 ghost use Rattle.std.specs.Prelude.{◌≡◌, ℕ, ◌+◌, ◌^◌, ◌<◌, ◌≤◌, ◌↔◌, IfOk, List, [], ◌∷◌, length, vec_capacity};
-ghost use Rattle.ref_words.specs.Words.{Words, own_at, IsFresh, IsCreated, IsGone, IsOut, HasNoteOut, without, created, opened, sent_out, taken_back, closed};
+ghost use Rattle.ref_words.specs.Words.{Words, own_at, IsFresh, IsCreated, IsGone, IsOut, HasNoteOut, NoneCreated, without, created, opened, sent_out, taken_back, closed};
 ghost use Rattle.ref_words.specs.Plain.{fresh_words};
 
 use crate::{Closed, Found, RefWords, Slip, Stage};
@@ -52,7 +52,9 @@ impl PlainWords {
     /// Counts for the places from 0 on, none of them created. It takes all the memory that the words
     /// ever need.
     pub fn new(alloc: Global, places: u32) -> Result<PlainWords, NoMemory>
-        ensures { IfOk result (λ words. words ≡ fresh_words places) }
+        ensures words { IfOk result (λ words. words ≡ fresh_words places) }
+        ensures places { IfOk result (λ words. length words.own ≡ places) }
+        ensures fresh { IfOk result NoneCreated }
     {
         let counts = vec![in alloc; 0u32; places as usize]?;
         let stages = vec![in alloc; Stage::Fresh; places as usize]?;
@@ -70,6 +72,7 @@ impl PlainWords {
         requires { IsOut self.old slip }
         ensures taken { self.new ≡ taken_back result self.old slip }
         ensures dead { (result ≡ Found.Dead) ↔ IsGone self.old slip.place }
+        ensures created { IsCreated self.old slip.place }
         ensures placed { slip.place < length self.old.own }
         ensures fewer { length self.new.out + 1 ≡ length self.old.out }
         ensures bounded { own_at self.new slip.place ≤ 2147483712 }
@@ -108,7 +111,13 @@ impl RefWords for PlainWords {
 
     ghost Fits = { λ words note. IsOut words note };
 
+    ghost MayStay = { λ _ _. ⊥ };
+
     ghost fits_on = { λ old new note fits same out. out };
+
+    fn places(&self) -> usize {
+        self.counts.len()
+    }
 
     fn place_of(note: &PlainNote) -> u32 {
         note.slip.place
@@ -137,13 +146,13 @@ impl RefWords for PlainWords {
         requires { IsOut self.old note }
         ensures taken { self.new ≡ taken_back result self.old note }
         ensures dead { (result ≡ Found.Dead) ↔ IsGone self.old note.place }
+        ensures uncounted { result ≡ Found.Dead → own_at self.old note.place ≡ 0 }
+        ensures may_stay { result ≡ Found.Held → own_at self.old note.place ≡ 0 → ⊥ }
         ensures was_out { IsOut self.old note }
+        ensures created { IsCreated self.old note.place }
         ensures placed { note.place < length self.old.own }
         ensures fewer { length self.new.out + 1 ≡ length self.old.out }
         ensures bounded { own_at self.new note.place ≤ 2147483712 }
-
-        // No reference is left exactly where the count is 0.
-        ensures exact { (result ≡ Found.Dead) ↔ (own_at self.old note.place ≡ 0) }
     {
         let PlainNote { slip } = note;
         self.settle(slip)
@@ -154,7 +163,7 @@ impl RefWords for PlainWords {
         ensures closes { self.new ≡ closed result self.old place }
         ensures last { result ≡ Closed.Last → own_at self.old place ≡ 1 }
         ensures stays { result ≡ Closed.Stays → own_at self.old place ≡ 1 → HasNoteOut self.old place }
-        ensures exact { (result ≡ Closed.Last) ↔ (own_at self.old place ≡ 1) }
+        ensures may_stay { result ≡ Closed.Stays → own_at self.old place ≡ 1 → ⊥ }
     {
         let left = self.counts[place as usize] - 1;
         self.counts[place as usize] = left;

@@ -1,6 +1,7 @@
 //! Reference counts by place, as the kernel uses them.
 ghost use Rattle.std.specs.Prelude.{◌≡◌, ℕ, ◌+◌, ◌^◌, ◌<◌, ◌≤◌, ◌↔◌, List, length};
-ghost use Rattle.ref_words.specs.Words.{Words, own_at, IsFresh, IsCreated, IsGone, IsOut, HasNoteOut, created, opened, sent_out, taken_back, closed};
+ghost use Rattle.ref_words.specs.Words.{Words, own_at, stage_at, IsFresh, IsCreated, IsGone, IsOut, HasNoteOut, created, opened, sent_out, taken_back, closed};
+ghost use Rattle.ref_words.specs.declared.answer.Stage.TheVariants.{Fresh};
 ghost use Rattle.ref_words.specs.declared.slip.Slip.{Slip};
 
 use crate::{Closed, Found};
@@ -33,6 +34,20 @@ pub trait RefWords {
 
     /// The note may come back to these words.
     ghost Fits: { Self → Self.Note → Type 0 };
+
+    /// An object may stay at a place without an own count, since the holder of a note has opened it. No place
+    /// of `PlainWords` may.
+    ghost MayStay: { Self → ℕ → Type 0 };
+
+    /// How many places there are. A reading call, which tells besides what holds of counts and notes at any
+    /// time.
+    fn places(&self) -> usize
+        ensures places { result ≡ length (meaning self.now).own }
+        ensures stages { length (meaning self.now).stages ≡ length (meaning self.now).own }
+
+        // A fresh place has own count 0, and a note that is out is of a created place.
+        ensures fresh { (p : ℕ) → stage_at (meaning self.now) p ≡ Fresh → own_at (meaning self.now) p ≡ 0 }
+        ensures created { (s : Slip) → IsOut (meaning self.now) s → IsCreated (meaning self.now) s.place };
 
     /// The place that a note was made for.
     fn place_of(note: &Self::Note) -> u32
@@ -71,8 +86,13 @@ pub trait RefWords {
         ensures taken { meaning self.new ≡ taken_back result (meaning self.old) (slip note) }
         ensures dead { (result ≡ Found.Dead) ↔ IsGone (meaning self.old) (slip note).place }
 
+        // A gone place has own count 0, and one that isn't gone has it only where its object may stay without.
+        ensures uncounted { result ≡ Found.Dead → own_at (meaning self.old) (slip note).place ≡ 0 }
+        ensures may_stay { result ≡ Found.Held → own_at (meaning self.old) (slip note).place ≡ 0 → MayStay self.old (slip note).place }
+
         // The note was out, and no longer is. The count that it leaves is far below its type's end.
         ensures was_out { IsOut (meaning self.old) (slip note) }
+        ensures created { IsCreated (meaning self.old) (slip note).place }
         ensures placed { (slip note).place < length (meaning self.old).own }
         ensures fewer { length (meaning self.new).out + 1 ≡ length (meaning self.old).out }
         ensures bounded { own_at (meaning self.new) (slip note).place ≤ 2147483712 };
@@ -82,9 +102,10 @@ pub trait RefWords {
         requires { 0 < own_at (meaning self.old) place }
         ensures closes { meaning self.new ≡ closed result (meaning self.old) place }
 
-        // At the last own count either answer may come, `Stays` only where a note of the place is out.
+        // At the last own count `Stays` comes only where a note of the place is out, and the object may stay.
         ensures last { result ≡ Closed.Last → own_at (meaning self.old) place ≡ 1 }
-        ensures stays { result ≡ Closed.Stays → own_at (meaning self.old) place ≡ 1 → HasNoteOut (meaning self.old) place };
+        ensures stays { result ≡ Closed.Stays → own_at (meaning self.old) place ≡ 1 → HasNoteOut (meaning self.old) place }
+        ensures may_stay { result ≡ Closed.Stays → own_at (meaning self.old) place ≡ 1 → MayStay self.old place };
 
     /// A note that fits fits still after other calls on the same words, while it is out.
     ghost fits_on: { (old new : Self) (note : Self.Note) → Fits old note → (meaning new).identity ≡ (meaning old).identity → IsOut (meaning new) (slip note) → Fits new note };

@@ -1,5 +1,7 @@
 -- Rows of objects: none where the object isn't made or is swept.
-use Rattle.std.specs.Prelude.{Bool, false, true, ◌&&◌, ◌==◌, List, ℕ, Option, Some, None}
+use Rattle.std.specs.Prelude.{Bool, false, true, not, ◌&&◌, ◌==◌, List, ℕ, Option, Some, None, position}
+use Rattle.std.specs.List.{list_any}
+use Rattle.sym_base.specs.declared.number.ObjNo.{ObjNo}
 use Rattle.std.specs.Str.{bytes_eq}
 use Rattle.sym_base.specs.KindNumber.{kind_number}
 use Rattle.sym_base.specs.declared.kind.Kind.{Kind}
@@ -24,3 +26,15 @@ is_dead_row (Some row) = row.dead
 abbrev pub dead_row : Option ObjectRow → Option ObjectRow
 dead_row None = None
 dead_row (Some row) = Some (record row { dead = true })
+
+-- whether an unswept object has the kind and the name, which no session has
+abbrev pub is_taken : Kind → List ℕ → List (Option ObjectRow) → Bool
+is_taken kind name rows = not (is_session kind) && list_any (has_name kind name) rows
+
+-- the number of the unswept object of this kind and name
+abbrev pub numbered : Option ℕ → Option ObjNo
+numbered None = None
+numbered (Some n) = Some (record { 0 = n })
+
+abbrev pub named : Kind → List ℕ → List (Option ObjectRow) → Option ObjNo
+named kind name rows = numbered (position (has_name kind name) rows)

@@ -1,16 +1,8 @@
-use Rattle.std.proofs.Common.{rules, ◌≡◌, subst, sym, arith, is_some, false}
-use Rattle.std.specs.Prelude.{◌==◌, not, filter}
-use Rattle.ready_list.specs.Ready.{Ready}
-use Rattle.machine.specs.declared.state.Queued.{Queued}
-use Rattle.kcore.specs.ReadyQueues.{Follow}
-use Rattle.kcore.proofs.ReadyChanges.{past_leaves, absent_leaves, thread_leaves}
+use Rattle.std.proofs.Common.{sym, ◌∙◌}
+use Rattle.kcore.specs.StateOf.{state_of}
+use Rattle.kcore.proofs.ReadyChanges.{leaves_unready, leaves_ready}
 use Rattle.kcore.proofs.ready.leave.Goals as goal
 
-pub returns-then-thread-ge-THREADS : goal.returns-then-thread-ge-THREADS
-returns-then-thread-ge-THREADS c = past_leaves c.args.ready.now c.args.thread (omega (arith, c.if-thread-ge-THREADS.true))
-
-pub returns-then-is_some : goal.returns-then-is_some
-returns-then-is_some c = subst (λ (r : Ready). Follow (λ qs. filter {X = Queued} (λ q. not (q.thread.0 == c.args.thread.0)) qs) c.args.ready.now r) (sym c.remove.ensures) (thread_leaves c.args.ready.now c.args.thread)
-
-pub returns-else-is_some : goal.returns-else-is_some
-returns-else-is_some c = let none : is_some c.priority_of.result ≡ false = search (rules, c.is_some.ensures, c.if-is_some.false, c.if-is_some.ensures) in absent_leaves c.args.ready.now c.args.thread (c.priority_of.ensures.none.0 none)
+pub returns-then-not-is_ready-clause-queues : goal.returns-then-not-is_ready-clause-queues
+returns-then-not-is_ready-clause-queues g c = λ rank.
+    rw c.in-Some.is (leaves_unready c.args.script.now (state_of c.args.tables.now) rank c.args.ready.now c.take_off.new.ready c.in-Some.thread (sym c.is_ready.ensures ∙ c.if-not-is_ready.true) (c.take_off.ensures.queues rank))

@@ -50,3 +50,13 @@ returns-clause-bounded c =
     let fewer = notes_without_itself c.args.slip c.self.inside.out.items out in
     let small = c.self.invariant.0.small c.args.slip.place in
     grind (arith, common_steps)
+
+pub returns-then-count-eq0-clause-created : goal.returns-then-count-eq0-clause-created
+returns-then-count-eq0-clause-created c =
+    let out = subst (λ (w : Words). IsOut w c.args.slip) (sym c.self.view_is) c.requires in
+    rw (← c.self.view_is) (c.self.invariant.0.out_created c.args.slip out)
+
+pub returns-clause-created : goal.returns-clause-created
+returns-clause-created c =
+    let out = subst (λ (w : Words). IsOut w c.args.slip) (sym c.self.view_is) c.requires in
+    rw (← c.self.view_is) (c.self.invariant.0.out_created c.args.slip out)

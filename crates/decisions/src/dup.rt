@@ -1,0 +1,78 @@
+//! `dup`: a look at a handle, and a second handle of its object.
+ghost use Rattle.std.specs.Prelude.{◌≡◌, ◌<◌};
+ghost use Rattle.machine.specs.Dup.{kind_stays, stays_with_thread, dup_do, dup_step};
+
+use crate::Reads;
+use crate::decide::{give_handle, nothing, refuse};
+use crate::look::look;
+use entry_log::{Part, Step, Word};
+use machine::{Decision, ThreadRow};
+use state_rows::ObjectRow;
+use sym_base::{Error, Kind, ObjNo, ThreadNo};
+
+const STEP: Step = Step::Of(Word::Dup, Part::Do);
+
+/// Whether objects of this kind stay with the thread that made them.
+fn kind_stays(kind: Kind) -> bool
+    ensures { result ≡ kind_stays kind }
+{
+    match kind {
+        Kind::Server | Kind::Session => true,
+        Kind::Process | Kind::Thread | Kind::Mutex | Kind::Semaphore => false,
+    }
+}
+
+/// Whether an object stays with the thread that made it.
+pub fn stays_with_thread(row: Option<ObjectRow>) -> bool
+    ensures { result ≡ stays_with_thread row }
+{
+    match row {
+        Some(row) => kind_stays(row.kind),
+        None => false,
+    }
+}
+
+/// The second step: one handle more of what the thread uses.
+fn dup_do<R: Reads>(
+    reads: &R,
+    thread: ThreadNo,
+    row: &ThreadRow,
+    to: u8,
+    uses: Option<ObjNo>,
+) -> Decision
+    requires { R.is_readable reads.now }
+    ensures { result ≡ dup_do (R.state reads.now) thread row.now to uses }
+{
+    let Some(object) = uses else {
+        return nothing();
+    };
+    if stays_with_thread(reads.object(object)) {
+        return refuse(thread, STEP, Error::PermissionDenied);
+    }
+    give_handle(
+        thread,
+        row,
+        STEP,
+        object,
+        to,
+        reads.next_handle(row.process),
+    )
+}
+
+/// First the look, and then the second handle.
+pub fn dup_step<R: Reads>(
+    reads: &R,
+    thread: ThreadNo,
+    row: &ThreadRow,
+    from: u8,
+    to: u8,
+) -> Decision
+    requires readable { R.is_readable reads.now }
+    requires from { from < 8 }
+    ensures { result ≡ dup_step (R.state reads.now) thread row.now from to row.now.part }
+{
+    match row.part {
+        None => look(reads, thread, row, Word::Dup, from),
+        Some(_) => dup_do(reads, thread, row, to, row.uses),
+    }
+}

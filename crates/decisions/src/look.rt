@@ -1,0 +1,55 @@
+//! The first step of the instructions that name an object by a handle.
+ghost use Rattle.std.specs.Prelude.{◌≡◌, ◌<◌, IfSome};
+ghost use Rattle.machine.specs.Handles.{object_at, index_of};
+ghost use Rattle.machine.specs.Look.{look_at, look};
+
+use crate::Reads;
+use crate::decide::{go_on, refuse};
+use entry_log::{Holder, Part, Step, Word};
+use machine::{Decision, Move, ThreadRow, index_of, instance_of, object_in, owner_of};
+use sym_base::{Error, ObjNo, ThreadNo};
+
+/// The object that a thread's handle names.
+pub fn object_at<R: Reads>(
+    reads: &R,
+    thread: ThreadNo,
+    row: &ThreadRow,
+    handle: u32,
+) -> Option<ObjNo>
+    requires { R.is_readable reads.now }
+    ensures object { result ≡ object_at (R.state reads.now) thread row.now handle }
+    ensures index { IfSome result (λ o. index_of handle < 256) }
+{
+    let slot = reads.slot(owner_of(thread, row, handle), index_of(handle));
+    object_in(slot, instance_of(handle))
+}
+
+/// The thread uses the object from now on, where there is one.
+fn look_at(thread: ThreadNo, word: Word, found: Option<ObjNo>) -> Decision
+    ensures { result ≡ look_at thread word found }
+{
+    let step = Step::Of(word, Part::Look);
+    match found {
+        Some(object) => {
+            let gain = Move::Gain(Holder::Temp(thread), object);
+            go_on(thread, step, gain, Part::Do)
+        }
+        None => refuse(thread, step, Error::BadHandle),
+    }
+}
+
+/// The look at the handle in a register.
+pub fn look<R: Reads>(
+    reads: &R,
+    thread: ThreadNo,
+    row: &ThreadRow,
+    word: Word,
+    register: u8,
+) -> Decision
+    requires readable { R.is_readable reads.now }
+    requires register { register < 8 }
+    ensures { result ≡ look (R.state reads.now) thread row.now word register }
+{
+    let handle = row.registers[register as usize];
+    look_at(thread, word, object_at(reads, thread, row, handle))
+}

@@ -1,0 +1,61 @@
+//! `open`: an object is found by its kind and name, opened, and gets a handle.
+ghost use Rattle.std.specs.Prelude.{◌≡◌};
+ghost use Rattle.machine.specs.Open.{open_do, open_step, open_return};
+
+use crate::Reads;
+use crate::decide::{give_handle, nothing};
+use crate::find::{return_to, seek};
+use entry_log::{Part, Step, Word};
+use machine::{Decision, ThreadRow};
+use sym_base::{Kind, Name, ObjNo, ThreadNo};
+
+const STEP: Step = Step::Of(Word::Open, Part::Do);
+
+/// The third step: a handle of what the thread uses.
+fn open_do<R: Reads>(
+    reads: &R,
+    thread: ThreadNo,
+    row: &ThreadRow,
+    register: u8,
+    uses: Option<ObjNo>,
+) -> Decision
+    requires { R.is_readable reads.now }
+    ensures { result ≡ open_do (R.state reads.now) thread row.now register uses }
+{
+    let Some(object) = uses else {
+        return nothing();
+    };
+    give_handle(
+        thread,
+        row,
+        STEP,
+        object,
+        register,
+        reads.next_handle(row.process),
+    )
+}
+
+/// First the find, and after the return a handle.
+pub fn open_step<R: Reads>(
+    reads: &R,
+    thread: ThreadNo,
+    row: &ThreadRow,
+    kind: Kind,
+    name: Name,
+    register: u8,
+) -> Decision
+    requires { R.is_readable reads.now }
+    ensures { result ≡ open_step (R.state reads.now) thread row.now kind name register row.now.part }
+{
+    match row.part {
+        None => seek(reads, thread, Word::Open, kind, name),
+        Some(_) => open_do(reads, thread, row, register, row.uses),
+    }
+}
+
+/// The return.
+pub fn open_return<R: Reads>(reads: &R, thread: ThreadNo, row: &ThreadRow) -> Decision
+    ensures { result ≡ open_return (R.state reads.now) thread row.now }
+{
+    return_to(reads, thread, Word::Open, Part::Do, row.found)
+}

@@ -1,0 +1,103 @@
+//! The plain machine's state, read by decisions.
+ghost use Rattle.std.specs.Prelude.{◌≡◌, ◌<◌, ◌≤◌, length, IfSome, position};
+ghost use Rattle.std.specs.List.{list_any};
+ghost use Rattle.machine.specs.Find.{findable, find_object};
+ghost use Rattle.state_rows.specs.ObjectRows.{has_name, named, is_taken};
+
+use crate::Reads;
+use machine::{
+    HandleSlot, NewHandle, Owed, State, ThreadRow, first_owed, is_counted, is_last, next_handle,
+    object_of, slot_at, table_of, thread_of,
+};
+use state_rows::{ObjectRow, has_name, is_dead_row, is_session};
+use sym_base::{Kind, Name, ObjNo, ThreadNo};
+
+/// The place of the unswept object of this kind and name.
+fn place_named(kind: Kind, name: &Name, rows: &[Option<ObjectRow>]) -> Option<usize>
+    ensures place { result ≡ position (has_name kind name.now) rows.now }
+    ensures within { IfSome result (λ p. p < length rows.now) }
+{
+    rows.iter().position(|row| has_name(kind, name, row))
+}
+
+/// The number of the unswept object of this kind and name.
+fn named(kind: Kind, name: &Name, rows: &[Option<ObjectRow>]) -> Option<ObjNo>
+    requires { length rows.now ≤ 65536 }
+    ensures { result ≡ named kind name.now rows.now }
+{
+    let number = place_named(kind, name, rows)?;
+    Some(ObjNo(number as u16))
+}
+
+/// Whether an unswept object has this kind and name, also where it is a session's.
+fn has_named(kind: Kind, name: &Name, rows: &[Option<ObjectRow>]) -> bool
+    ensures { result ≡ list_any (has_name kind name.now) rows.now }
+{
+    rows.iter().any(|row| has_name(kind, name, row))
+}
+
+/// Whether an unswept object has this kind and name, which no session has.
+fn is_taken(kind: Kind, name: &Name, rows: &[Option<ObjectRow>]) -> bool
+    ensures { result ≡ is_taken kind name.now rows.now }
+{
+    !is_session(kind) && has_named(kind, name, rows)
+}
+
+/// The object, where it is dead or has a reference.
+fn findable(state: &State, found: Option<ObjNo>) -> Option<ObjNo>
+    ensures { result ≡ findable state.now found }
+{
+    let object = found?;
+    if is_dead_row(&object_of(state, object)) || is_counted(state, object) {
+        Some(object)
+    } else {
+        None
+    }
+}
+
+impl Reads for State {
+    ghost use Rattle.machine.specs.Room.{HasRoom};
+
+    ghost state = { λ S. S };
+
+    ghost is_readable = { λ S. HasRoom 0 S };
+
+    fn object(&self, object: ObjNo) -> Option<ObjectRow> {
+        object_of(self, object)
+    }
+
+    fn thread(&self, thread: ThreadNo) -> Option<ThreadRow> {
+        thread_of(self, thread)
+    }
+
+    fn first_owed(&self, thread: ThreadNo) -> Option<Owed> {
+        first_owed(self, thread)
+    }
+
+    fn slot(&self, owner: ObjNo, index: usize) -> HandleSlot {
+        slot_at(table_of(self, owner), index)
+    }
+
+    fn next_handle(&self, owner: ObjNo) -> Option<NewHandle> {
+        next_handle(table_of(self, owner))
+    }
+
+    fn is_taken(&self, kind: Kind, name: &Name) -> bool {
+        is_taken(kind, name, self.objects.as_slice())
+    }
+
+    fn find(&self, kind: Kind, name: &Name) -> Option<ObjNo> {
+        if is_session(kind) {
+            return None;
+        }
+        findable(self, named(kind, name, self.objects.as_slice()))
+    }
+
+    fn is_last(&self, object: ObjNo) -> bool {
+        is_last(self, object)
+    }
+
+    fn objects_made(&self) -> usize {
+        self.objects.len()
+    }
+}

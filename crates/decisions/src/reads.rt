@@ -1,0 +1,67 @@
+//! What decisions read of a state. The plain machine keeps it as lists and the kernel as tables of its own,
+//! and both decide by the same functions.
+ghost use Rattle.std.specs.Prelude.{◌≡◌, ◌<◌, ◌≤◌, length, IfSome};
+ghost use Rattle.machine.specs.Find.{find_object};
+ghost use Rattle.machine.specs.Handles.{slot_at, next_handle};
+ghost use Rattle.machine.specs.References.{is_last};
+ghost use Rattle.machine.specs.Rows.{object_of, thread_of, table_of, first_owed};
+ghost use Rattle.state_rows.specs.ObjectRows.{is_taken};
+
+use machine::{HandleSlot, NewHandle, Owed, ThreadRow};
+use state_rows::ObjectRow;
+use sym_base::{Kind, Name, ObjNo, ThreadNo};
+
+/// A state that can be read. A number without a row reads as none.
+pub trait Reads {
+    ghost use Rattle.machine.specs.declared.state.State.{State};
+
+    /// The state that it stands for.
+    ghost state: { Self → State };
+
+    /// What has to hold of it so that its handles and counts can be read.
+    ghost is_readable: { Self → Type 0 };
+
+    /// The object of this number, where it was made and isn't swept.
+    fn object(&self, object: ObjNo) -> Option<ObjectRow>
+        ensures { result ≡ object_of (state self.now) object };
+
+    /// The thread of this number.
+    fn thread(&self, thread: ThreadNo) -> Option<ThreadRow>
+        ensures { result ≡ thread_of (state self.now) thread };
+
+    /// The oldest of what a thread owes.
+    fn first_owed(&self, thread: ThreadNo) -> Option<Owed>
+        ensures { result ≡ first_owed (state self.now) thread };
+
+    /// The slot of an index in the handle table of a process or a thread, a fresh one past its end.
+    fn slot(&self, owner: ObjNo, index: usize) -> HandleSlot
+        requires { is_readable self.now }
+        ensures slot { result ≡ slot_at (table_of (state self.now) owner) index }
+        ensures past { 256 ≤ index → result.object ≡ None };
+
+    /// The handle that a process's table gives next, None where no slot is free.
+    fn next_handle(&self, owner: ObjNo) -> Option<NewHandle>
+        requires { is_readable self.now }
+        ensures handle { result ≡ next_handle (table_of (state self.now) owner) }
+        ensures positive { IfSome result (λ handle. handle.number < 2147483648) };
+
+    /// Whether an unswept object has this kind and name.
+    fn is_taken(&self, kind: Kind, name: &Name) -> bool
+        ensures { result ≡ is_taken kind name.now (state self.now).objects };
+
+    /// The object that a find by kind and name finds.
+    fn find(&self, kind: Kind, name: &Name) -> Option<ObjNo>
+        requires { is_readable self.now }
+        ensures { result ≡ find_object (state self.now) kind name.now };
+
+    /// Whether an object has one reference.
+    fn is_last(&self, object: ObjNo) -> bool
+        requires { is_readable self.now }
+        ensures { result ≡ is_last (state self.now) object };
+
+    /// The number of objects that were made.
+    fn objects_made(&self) -> usize
+        requires { is_readable self.now }
+        ensures number { result ≡ length (state self.now).objects }
+        ensures few { result ≤ 65535 };
+}

@@ -1,0 +1,30 @@
+-- How kept counts move where an object is made with one reference.
+use Rattle.std.proofs.Common.{◌≡◌, ◌⊎◌, inl, inr, ℕ, suc, zero, ◌+◌, ◌<◌, List, [], ◌∷◌, length, get_or, arith, sym, ap, ◌∙◌}
+use Rattle.std.specs.Prelude.{slice_set, slice_index}
+use Rattle.std.proofs.lemmas.Bool.{cases_eq}
+use Rattle.std.proofs.lemmas.List.{get_or-set_same, get_or-set_other, length-set}
+use Rattle.sym_base.specs.declared.number.ObjNo.{ObjNo}
+use Rattle.entry_log.specs.declared.effect.Holder.{Holder}
+use Rattle.entry_log.specs.declared.effect.Effect.TheVariants.{Plus}
+use Rattle.machine.specs.References.{same}
+use Rattle.machine.proofs.References.Same.{same_self, same_other, same_object}
+use Rattle.kcore.specs.Counts.{CountsMove}
+
+-- a count that changes moves only at its object
+at_one : (counts : List ℕ) (x : ObjNo) (n : ℕ) (o : ObjNo) → x.0 < length counts → ((get_or counts o.0 0 ≡ get_or counts x.0 0) × (get_or (slice_set counts x.0 n) o.0 0 ≡ n) × (same x o ≡ 1)) ⊎ ((get_or (slice_set counts x.0 n) o.0 0 ≡ get_or counts o.0 0) × (same x o ≡ 0))
+at_one counts x n o lt = elim (cases_eq x.0 o.0) [
+  | inl e ↦ inl (ap (λ i. get_or counts i 0) (sym e), ap (λ i. get_or (slice_set counts x.0 n) i 0) (sym e) ∙ get_or-set_same counts x.0 n 0 lt, ap (λ p. same x p) (sym (same_object x o e)) ∙ same_self x)
+  | inr apart ↦ inr (get_or-set_other counts x.0 o.0 n 0 (λ q. apart (sym q)), same_other x o apart)
+]
+
+pub inside_of : (counts : List ℕ) (i : ℕ) → 0 < get_or counts i 0 → i < length counts
+inside_of [] i h = absurd (omega arith)
+inside_of (n ∷ counts) zero h = omega arith
+inside_of (n ∷ counts) (suc i) h = let r = inside_of counts i h in omega arith
+
+-- the first reference of an object
+pub counts-first : (counts : List ℕ) (x : ObjNo) (holder : Holder) → slice_index counts x.0 ≡ 0 → slice_index (slice_set counts x.0 1) x.0 ≡ 1 → CountsMove counts (slice_set counts x.0 1) (Plus holder x ∷ [])
+counts-first counts x holder none one o =
+    let long = length-set counts x.0 1 in
+    let inside = inside_of (slice_set counts x.0 1) x.0 (omega arith) in
+    elim (at_one counts x 1 o (omega arith)) [ inl h ↦ omega arith | inr h ↦ omega arith ]

@@ -1,0 +1,37 @@
+use Rattle.std.proofs.Common.{◌≡◌, ◌∷◌, ◌+◌, ◌≤◌, ◌∙◌, List, drop, ap, sym, subst, length}
+use Rattle.sym_base.specs.declared.number.ObjNo.{ObjNo}
+use Rattle.machine.specs.declared.moves.Move.{Move}
+use Rattle.machine.specs.Arrivals.{arrive}
+use Rattle.machine.specs.Choice.{priority_of}
+use Rattle.kcore.specs.Moved.{MovesGo, CanMove}
+use Rattle.kcore.specs.ReadyQueues.{Follow}
+use Rattle.kcore.specs.StateOf.{state_of}
+use Rattle.kcore.proofs.Performing.{OnTheWay, way_goes_on, way_few, next_move}
+use Rattle.kcore.proofs.perform.perform.Goals as goal
+
+pub add_effects-requires : goal.add_effects-requires
+add_effects-requires g c =
+    let m = c.change-item.result in
+    let i = c.loop-change.change-index in
+    let next = next_move c.args.moves.now i m c.loop-change-test.true c.change-item.is in
+    let h = rw next at c.loop-change.invariant in
+    rw (c.as_slice.ensures.effects, c.told.ensures) (way_few c.args.script.now c.args.thread c.args.moves.now (state_of c.args.tables.now) c.args.ready.now m (drop (i + 1) c.args.moves.now) c.loop-change.tables c.loop-change.ready c.loop-change.effects c.requires.few h)
+
+pub make_move-requires-clause-can : goal.make_move-requires-clause-can
+make_move-requires-clause-can g c =
+    let m = c.change-item.result in
+    let i = c.loop-change.change-index in
+    let next = next_move c.args.moves.now i m c.loop-change-test.true c.change-item.is in
+    let h : MovesGo c.args.script.now c.args.thread (m ∷ drop (i + 1) c.args.moves.now) (state_of c.loop-change.tables) = subst (λ (l : List Move). MovesGo c.args.script.now c.args.thread l (state_of c.loop-change.tables)) next c.loop-change.invariant.go in
+    h.0.can
+
+pub loop-change-preserved : goal.loop-change-preserved
+loop-change-preserved g c =
+    let m = c.change-item.result in
+    let i = c.loop-change.change-index in
+    let rest = drop (i + 1) c.args.moves.now in
+    let next = next_move c.args.moves.now i m c.loop-change-test.true c.change-item.is in
+    let h = rw next at c.loop-change.invariant in
+    let T = state_of c.make_move.new.tables in
+    let follow = rw c.touched.ensures at c.arrive_touched.ensures.queues in
+    rw (c.add_effects.ensures, c.as_slice.ensures.effects, c.told.ensures) (way_goes_on c.args.script.now c.args.thread c.args.moves.now (state_of c.args.tables.now) c.args.ready.now m rest c.loop-change.tables c.make_move.new.tables c.loop-change.ready c.arrive_touched.new.ready c.loop-change.effects h c.in_ok-make_move.ensures follow c.arrive_touched.ensures.size)

@@ -1,0 +1,209 @@
+//! Moves in the kernel's tables: each changes the rows, and the counts move with what it tells.
+ghost use Rattle.std.specs.Prelude.{◌≡◌, ◌-◌, ◌==◌, OnOk, IfOk, slice_index, slice_set};
+ghost use Rattle.sym_base.specs.declared.number.ObjNo.{ObjNo};
+ghost use Rattle.machine.specs.Moves.{tables_gain, tables_lose, link_of_row, use_of_row, threads_closed};
+ghost use Rattle.machine.specs.Handles.{with_slot, taken_slot, freed_slot};
+ghost use Rattle.machine.specs.Rows.{thread_of};
+ghost use Rattle.kcore.specs.Counts.{Agrees};
+ghost use Rattle.kcore.specs.Moved.{CanMove, IsMoved, IsClosed};
+ghost use Rattle.kcore.specs.ObjectsView.{IsHeld};
+ghost use Rattle.kcore.specs.StateOf.{state_of};
+
+use crate::handles::Handles;
+use crate::tables::Tables;
+use entry_log::Holder;
+use machine::{Move, Owed};
+use ref_words::{Closed, RefWords};
+use sym_base::{Items, Kind, Name, NoMemory, ObjNo, ThreadNo};
+
+/// A holder gets a reference: where it is a handle, that stands in its slot.
+fn gain_slot(tables: &mut Items<Handles>, holder: Holder, object: ObjNo)
+    ensures { tables.new ≡ tables_gain holder object tables.old }
+{
+    match holder {
+        Holder::InProcess(owner, index) | Holder::InThread(owner, index) => {
+            let at = owner.0 as usize;
+            if at < tables.len() {
+                tables.get_mut(at).take(index, object);
+            }
+        }
+        _ => {}
+    }
+}
+
+/// A holder gives its reference up: where it is a handle, that goes.
+fn lose_slot(tables: &mut Items<Handles>, holder: Holder)
+    ensures { tables.new ≡ tables_lose holder tables.old }
+{
+    match holder {
+        Holder::InProcess(owner, index) | Holder::InThread(owner, index) => {
+            let at = owner.0 as usize;
+            if at < tables.len() {
+                tables.get_mut(at).free(index);
+            }
+        }
+        _ => {}
+    }
+}
+
+/// Makes an object, whose first reference is the holder's.
+fn make<W: RefWords + Drop>(tables: &mut Tables<W>, kind: Kind, name: Name, holder: Holder)
+    requires can { CanMove (Move.Make kind name holder) (state_of tables.old) }
+    requires agree { Agrees tables.old.objects.counts (state_of tables.old) }
+    ensures { (t : ObjNo) → IsMoved t (Move.Make kind name holder) tables.old tables.new }
+{
+    let object = tables.objects.make(kind, &name);
+    gain_slot(&mut tables.handles, holder, object);
+    machine::threads_gain(&mut tables.threads, holder, object);
+}
+
+/// A holder gets a reference.
+fn gain<W: RefWords + Drop>(tables: &mut Tables<W>, holder: Holder, object: ObjNo)
+    requires can { CanMove (Move.Gain holder object) (state_of tables.old) }
+    requires agree { Agrees tables.old.objects.counts (state_of tables.old) }
+    ensures { (t : ObjNo) → IsMoved t (Move.Gain holder object) tables.old tables.new }
+{
+    tables.objects.add_ref(object);
+    gain_slot(&mut tables.handles, holder, object);
+    machine::threads_gain(&mut tables.threads, holder, object);
+}
+
+/// A reference to an object with this link of its own goes. With the last one the object dies, and the thread
+/// owes the close of the link, and then the sweep.
+fn close<W: RefWords + Drop>(
+    tables: &mut Tables<W>,
+    thread: ThreadNo,
+    object: ObjNo,
+    link: Option<ObjNo>,
+) -> Result<(), NoMemory>
+    requires { IsHeld tables.old.objects object }
+    ensures { OnOk result (IsClosed thread object link tables.old tables.new) }
+{
+    let last = tables.objects.close_ref(object) == Closed::Last;
+    machine::threads_closed(&mut tables.threads, last, object);
+    machine::owe_close(&mut tables.owed, thread, last, object, link)
+}
+
+/// A holder gives its reference up, and the thread owes what a last one leaves to do.
+fn lose<W: RefWords + Drop>(
+    tables: &mut Tables<W>,
+    thread: ThreadNo,
+    holder: Holder,
+    object: ObjNo,
+) -> Result<(), NoMemory>
+    requires can { CanMove (Move.Lose holder object) (state_of tables.old) }
+    requires agree { Agrees tables.old.objects.counts (state_of tables.old) }
+    ensures { OnOk result (IsMoved thread (Move.Lose holder object) tables.old tables.new) }
+{
+    let link = link_of(tables, object);
+    lose_slot(&mut tables.handles, holder);
+    machine::threads_lose(&mut tables.threads, holder);
+    close(tables, thread, object, link)
+}
+
+/// An object's own reference: a thread's link to its process.
+fn link_of<W: RefWords + Drop>(tables: &Tables<W>, object: ObjNo) -> Option<ObjNo>
+    ensures { result ≡ link_of_row (thread_of (state_of tables.now) object) }
+{
+    machine::row_of(&tables.threads, object)?.link
+}
+
+/// The object that a thread's instruction uses.
+fn use_of<W: RefWords + Drop>(tables: &Tables<W>, thread: ThreadNo) -> Option<ObjNo>
+    ensures { result ≡ use_of_row (thread_of (state_of tables.now) thread) }
+{
+    machine::row_of(&tables.threads, thread)?.uses
+}
+
+/// The thread goes on to its next instruction, and owes the close of what it used.
+fn advance<W: RefWords + Drop>(tables: &mut Tables<W>, thread: ThreadNo) -> Result<(), NoMemory>
+    requires { CanMove (Move.Advance thread) (state_of tables.old) }
+    ensures { OnOk result ((t : ObjNo) → IsMoved t (Move.Advance thread) tables.old tables.new) }
+{
+    let uses = use_of(tables, thread);
+    machine::threads_advance(&mut tables.threads, thread);
+    machine::owe_use(&mut tables.owed, thread, uses)
+}
+
+/// The thread pays a close that it owes.
+fn pay_close<W: RefWords + Drop>(
+    tables: &mut Tables<W>,
+    thread: ThreadNo,
+    holder: Holder,
+    object: ObjNo,
+) -> Result<(), NoMemory>
+    requires can { CanMove (Move.Pay (Owed.Close holder object)) (state_of tables.old) }
+    requires agree { Agrees tables.old.objects.counts (state_of tables.old) }
+    ensures { OnOk result (IsMoved thread (Move.Pay (Owed.Close holder object)) tables.old tables.new) }
+{
+    let link = link_of(tables, object);
+    machine::drop_first_owed(&mut tables.owed, thread);
+    close(tables, thread, object, link)
+}
+
+/// The thread removes the row of a dead object.
+fn pay_sweep<W: RefWords + Drop>(tables: &mut Tables<W>, thread: ThreadNo, object: ObjNo)
+    requires { CanMove (Move.Pay (Owed.Sweep object)) (state_of tables.old) }
+    ensures { IsMoved thread (Move.Pay (Owed.Sweep object)) tables.old tables.new }
+{
+    tables.objects.sweep(object);
+    machine::set_row(&mut tables.threads, object, None);
+    machine::drop_first_owed(&mut tables.owed, thread);
+}
+
+/// The thread pays the oldest of what it owes.
+fn pay<W: RefWords + Drop>(
+    tables: &mut Tables<W>,
+    thread: ThreadNo,
+    what: Owed,
+) -> Result<(), NoMemory>
+    requires can { CanMove (Move.Pay what) (state_of tables.old) }
+    requires agree { Agrees tables.old.objects.counts (state_of tables.old) }
+    ensures { OnOk result (IsMoved thread (Move.Pay what) tables.old tables.new) }
+{
+    match what {
+        Owed::Close(holder, object) => pay_close(tables, thread, holder, object),
+        Owed::Sweep(object) => {
+            pay_sweep(tables, thread, object);
+            Ok(())
+        }
+    }
+}
+
+/// One move in an action of a thread.
+pub fn make_move<W: RefWords + Drop>(
+    tables: &mut Tables<W>,
+    thread: ThreadNo,
+    change: Move,
+) -> Result<(), NoMemory>
+    requires can { CanMove change (state_of tables.old) }
+    requires agree { Agrees tables.old.objects.counts (state_of tables.old) }
+    ensures { OnOk result (IsMoved thread change tables.old tables.new) }
+{
+    match change {
+        Move::Lose(holder, object) => lose(tables, thread, holder, object),
+        Move::Advance(other) => advance(tables, other),
+        Move::Pay(what) => pay(tables, thread, what),
+        Move::Make(kind, name, holder) => {
+            make(tables, kind, name, holder);
+            Ok(())
+        }
+        Move::Gain(holder, object) => {
+            gain(tables, holder, object);
+            Ok(())
+        }
+        Move::Find(other, object) => {
+            machine::threads_find(&mut tables.threads, other, object);
+            Ok(())
+        }
+        Move::Miss(_) => Ok(()),
+        Move::GoOn(other, part) => {
+            machine::threads_go_on(&mut tables.threads, other, part);
+            Ok(())
+        }
+        Move::Write(other, register, value) => {
+            machine::threads_write(&mut tables.threads, other, register, value);
+            Ok(())
+        }
+    }
+}

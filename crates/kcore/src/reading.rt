@@ -1,0 +1,72 @@
+//! What decisions read of the kernel's tables.
+ghost use Rattle.std.specs.Prelude.{◌≡◌, ◌<◌, ◌≤◌, None, IfSome};
+ghost use Rattle.kcore.specs.Counts.{Agrees};
+ghost use Rattle.kcore.specs.StateOf.{state_of};
+
+use crate::tables::Tables;
+use machine::{FRESH_SLOT, HandleSlot, NewHandle, Owed, Reads, ThreadRow};
+use ref_words::RefWords;
+use state_rows::ObjectRow;
+use sym_base::{Kind, Name, ObjNo, ThreadNo};
+
+impl<W: RefWords + Drop> Reads for Tables<W> {
+    ghost state = { λ tables. state_of tables };
+
+    ghost is_readable = { λ tables. Agrees tables.objects.counts (state_of tables) };
+
+    fn object(&self, object: ObjNo) -> Option<ObjectRow> {
+        self.objects.row(object)
+    }
+
+    fn thread(&self, thread: ThreadNo) -> Option<ThreadRow> {
+        let at = thread.0 as usize;
+        if at < self.threads.len() {
+            self.threads.get(at)
+        } else {
+            None
+        }
+    }
+
+    fn first_owed(&self, thread: ThreadNo) -> Option<Owed> {
+        let at = thread.0 as usize;
+        if at < self.owed.len() {
+            self.owed.as_slice()[at].as_slice().first().copied()
+        } else {
+            None
+        }
+    }
+
+    fn slot(&self, owner: ObjNo, index: usize) -> HandleSlot {
+        let at = owner.0 as usize;
+        if at < self.handles.len() {
+            self.handles.as_slice()[at].slot(index)
+        } else {
+            FRESH_SLOT
+        }
+    }
+
+    fn next_handle(&self, owner: ObjNo) -> Option<NewHandle> {
+        let at = owner.0 as usize;
+        if at < self.handles.len() {
+            self.handles.as_slice()[at].next()
+        } else {
+            None
+        }
+    }
+
+    fn is_taken(&self, kind: Kind, name: &Name) -> bool {
+        self.objects.is_taken(kind, name)
+    }
+
+    fn find(&self, kind: Kind, name: &Name) -> Option<ObjNo> {
+        self.objects.find(kind, name)
+    }
+
+    fn is_last(&self, object: ObjNo) -> bool {
+        self.objects.count(object) == 1
+    }
+
+    fn objects_made(&self) -> usize {
+        self.objects.len()
+    }
+}

@@ -1,0 +1,7 @@
+pub mod Born
+pub mod BootCounts
+pub mod BootHolders
+pub mod BootLinks
+pub mod BootNames
+pub mod BootReady
+pub mod BootRows

@@ -1,0 +1,68 @@
+-- The ready list at boot.
+use Rattle.std.proofs.Common.{◌≡◌, ℕ, suc, zero, ◌+◌, ◌<◌, List, [], ◌∷◌, get_or, arith, refl, ap, sym, ◌∙◌, Option, Some, None, Bool, true, false, map}
+use Rattle.std.specs.Prelude.{◌==◌, ◌||◌, is_some, if◌then◌else◌}
+use Rattle.std.proofs.lemmas.Bool.{eq-eqb}
+use Rattle.sym_base.specs.declared.number.ObjNo.{ObjNo}
+use Rattle.script_types.specs.declared.script.Script.{Script}
+use Rattle.script_types.specs.Shape.{IsShaped}
+use Rattle.state_rows.specs.declared.duty.Owed.{Owed}
+use Rattle.machine.specs.declared.boot.Born.{Born}
+use Rattle.machine.specs.Arrivals.{is_listed}
+use Rattle.machine.specs.Boot.{boot, boot_of, born, ready_from}
+use Rattle.machine.specs.Rows.{first_of}
+use Rattle.machine.specs.Task.{task_of_row}
+use Rattle.machine.specs.WellFormed.{AreApart, IsReadyList}
+use Rattle.machine.proofs.AtBoot.Born.{IsBorn, EachBorn, each_born}
+use Rattle.machine.proofs.References.Same.{eqb_apart}
+
+-- whether the one at a place works
+abbrev works_at : List Born → ℕ → Bool
+works_at [] i = false
+works_at (b ∷ bs) zero = b.works
+works_at (b ∷ bs) (suc i) = works_at bs i
+
+-- a thread before or behind the first of a list stands in it where it stands in the rest
+listed_later : (n : ℕ) (rest : List ObjNo) (works : Bool) (u : ObjNo) → (n ≡ u.0 → ⊥) → is_listed (if works then record { 0 = n } ∷ rest else rest) u ≡ is_listed rest u
+listed_later n rest true u apart = ap (λ (b : Bool). b || is_listed rest u) (eqb_apart n u.0 apart)
+listed_later n rest false u apart = refl
+
+listed_below : (n : ℕ) (bs : List Born) (u : ObjNo) → u.0 < n → is_listed (ready_from n bs) u ≡ false
+listed_below n [] u lt = refl
+listed_below n (b ∷ bs) u lt = listed_later n (ready_from (n + 1) bs) b.works u (λ e. absurd (omega arith)) ∙ listed_below (n + 1) bs u (omega arith)
+
+listed_first : (n : ℕ) (rest : List ObjNo) (works : Bool) (u : ObjNo) → n ≡ u.0 → is_listed rest u ≡ false → is_listed (if works then record { 0 = n } ∷ rest else rest) u ≡ works
+listed_first n rest true u at out = ap (λ (b : Bool). b || is_listed rest u) (eq-eqb n u.0 at)
+listed_first n rest false u at out = out
+
+listed_at : (n : ℕ) (bs : List Born) (i : ℕ) (u : ObjNo) → u.0 ≡ n + i → is_listed (ready_from n bs) u ≡ works_at bs i
+listed_at n [] i u at = refl
+listed_at n (b ∷ bs) zero u at = listed_first n (ready_from (n + 1) bs) b.works u (omega arith) (listed_below (n + 1) bs u (omega arith))
+listed_at n (b ∷ bs) (suc i) u at = listed_later n (ready_from (n + 1) bs) b.works u (λ e. absurd (omega arith)) ∙ listed_at (n + 1) bs i u (omega arith)
+
+-- who works has something to do
+works_is : (script : Script) (n : ℕ) (bs : List Born) (i : ℕ) → EachBorn script n bs → works_at bs i ≡ is_some (task_of_row script None (get_or (map (λ b. b.thread) bs) i None))
+works_is script n [] i h = refl
+works_is script n (b ∷ bs) zero h = h.0.works
+works_is script n (b ∷ bs) (suc i) h = works_is script n bs i h.1
+
+owes_nothing : (bs : List Born) (i : ℕ) → ◌≡◌ {A = Option Owed} None (first_of (get_or (map (λ _. []) bs) i []))
+owes_nothing [] i = refl
+owes_nothing (b ∷ bs) zero = refl
+owes_nothing (b ∷ bs) (suc i) = owes_nothing bs i
+
+apart_step : (n : ℕ) (rest : List ObjNo) (works : Bool) → is_listed rest (record { 0 = n }) ≡ false → AreApart rest → AreApart (if works then record { 0 = n } ∷ rest else rest)
+apart_step n rest true out h = (out, h)
+apart_step n rest false out h = h
+
+ready_apart : (n : ℕ) (bs : List Born) → AreApart (ready_from n bs)
+ready_apart n [] = tt
+ready_apart n (b ∷ bs) = apart_step n (ready_from (n + 1) bs) b.works (listed_below (n + 1) bs (record { 0 = n }) (omega arith)) (ready_apart (n + 1) bs)
+
+-- exactly the threads that have something to do are listed, once
+pub ready-boot : (script : Script) → IsShaped script → IsReadyList script (boot script) (boot script).ready
+unfolding boot_of
+ready-boot script shaped = record {
+  exact = λ u. listed_at 0 (born script) u.0 u (omega arith) ∙ works_is script _ (born script) u.0 (each_born script shaped)
+      ∙ ap (λ (first : Option Owed). is_some (task_of_row script first (get_or (map (λ b. b.thread) (born script)) u.0 None))) (owes_nothing (born script) u.0);
+  once = ready_apart 0 (born script);
+}

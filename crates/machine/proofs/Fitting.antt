@@ -1,0 +1,6 @@
+-- The moves of each step fit the state.
+pub mod Living
+pub mod Stepping
+pub mod Shared
+pub mod Steps
+pub mod Actions

@@ -1,0 +1,9 @@
+-- What each kind of move does, and several in a row.
+pub mod Sound
+pub mod RowMoves
+pub mod Advance
+pub mod Gains
+pub mod Closes
+pub mod Loses
+pub mod Pays
+pub mod Run

@@ -1,0 +1,115 @@
+-- Moves that change a thread's row, and no reference: a find, another step, a register; and a miss.
+use Rattle.std.proofs.Common.{◌≡◌, ◌⊎◌, inl, inr, ℕ, ◌+◌, ◌<◌, List, [], ◌∷◌, length, get_or, arith, refl, sym, subst, ap, ◌∙◌, Option, Some, None}
+use Rattle.std.specs.Prelude.{option_map, if◌then◌else◌, slice_set}
+use Rattle.std.proofs.lemmas.Bool.{cases_Bool, cases_eq}
+use Rattle.std.proofs.lemmas.List.{length-set}
+use Rattle.sym_base.specs.declared.number.ObjNo.{ObjNo}
+use Rattle.script_types.specs.declared.script.Script.{Script}
+use Rattle.entry_log.specs.declared.effect.Holder.{Holder}
+use Rattle.entry_log.specs.declared.effect.Holder.TheVariants.{Temp, Link}
+use Rattle.entry_log.specs.declared.effect.Effect.{Effect}
+use Rattle.entry_log.specs.declared.effect.Effect.TheVariants.{Seek, Missed}
+use Rattle.entry_log.specs.declared.step.Part.{Part}
+use Rattle.machine.specs.declared.moves.Move.TheVariants.{Find, Miss, GoOn, Write}
+use Rattle.machine.specs.declared.state.Found.TheVariants.{Object}
+use Rattle.machine.specs.declared.state.ThreadRow.{ThreadRow}
+use Rattle.machine.specs.declared.state.State.{State}
+use Rattle.machine.specs.Rows.{thread_of, with_row}
+use Rattle.machine.specs.Moves.{moved, told}
+use Rattle.machine.specs.References.{thread_names, count_of, pluses}
+use Rattle.machine.specs.Told.{finds}
+use Rattle.machine.specs.Holding.{is_holder, held_after_all, EachFitsHolders, link_names}
+use Rattle.machine.specs.HeldIn.{held_in, use_names}
+use Rattle.machine.specs.Task.{is_returning}
+use Rattle.machine.specs.Fits.{FitsMove}
+use Rattle.machine.specs.WellFormed.{IsThread, AreRows, part_of}
+use Rattle.machine.proofs.Lives.Kinds.{IsQuiet, lives-quiet}
+use Rattle.machine.proofs.Holders.ThreadRows.{row_holds, rows-with_row, row-other}
+use Rattle.machine.proofs.References.Counts.{count-with_row, kernel-with_row}
+use Rattle.machine.proofs.References.Same.{same_is}
+use Rattle.machine.proofs.RowLaws.Threads.{KeepsThread, length-with_row, threads-with_row, none-with_row}
+use Rattle.machine.proofs.RowLaws.Duties.{IsPaidIn, paid-with_row, duties-threads}
+use Rattle.machine.proofs.MoveLaws.Sound.{Sound, sound-of}
+
+-- effects that tell of no reference and no death
+pub record IsSilent (S : State) (effects : List Effect) : Type 0 where
+  pub quiet : IsQuiet effects
+  pub pluses : (o : ObjNo) → pluses effects o ≡ 0
+  pub found : (o : ObjNo) → 0 < finds effects o → o.0 < length S.objects
+  pub fits : EachFitsHolders (held_in S) effects
+  pub after : (g : Holder) (x : ObjNo) → held_after_all (held_in S) effects g x ≡ held_in S g x
+
+silent : (S : State) → IsSilent S []
+silent S = record { quiet = record { minuses = λ o. refl; deaths = λ o. refl; removals = λ o. refl }; pluses = λ o. refl; found = λ o h. absurd (omega arith); fits = tt; after = λ g x. refl }
+
+-- a change of a row that leaves its references
+pub record KeepsReferences (f : ThreadRow → ThreadRow) : Type 0 where
+  pub link : (row : ThreadRow) → (f row).link ≡ row.link
+  pub uses : (row : ThreadRow) → (f row).uses ≡ row.uses
+
+names-map : (f : ThreadRow → ThreadRow) (x : Option ThreadRow) (o : ObjNo) → KeepsReferences f → (use_names o (option_map f x) ≡ use_names o x) × (link_names o (option_map f x) ≡ link_names o x) × (thread_names o (option_map f x) ≡ thread_names o x)
+names-map f None o h = (refl, refl, refl)
+names-map f (Some row) o h = let a = h.uses row in let b = h.link row in (cc, cc, cc)
+
+pub sound-row : (script : Script) (S : State) (u : ObjNo) (f : ThreadRow → ThreadRow) (effects : List Effect) → KeepsReferences f → ((row : ThreadRow) → thread_of S u ≡ Some row → IsThread script (length S.threads) row → KeepsThread script (length S.threads) row (f row)) → ((k : ℕ) → (get_or S.owed k [] ≡ []) ⊎ IsPaidIn S.threads (with_row S.threads u f) k) → IsSilent S effects → AreRows script S → Sound script S (record S { threads = with_row S.threads u f }) effects
+sound-row script S u f effects keeps thread paid quiet rows =
+    let T : State = record S { threads = with_row S.threads u f } in
+    let old = thread_of S u in
+    let counts : (o : ObjNo) → count_of T o ≡ count_of S o = λ o.
+    let a = count-with_row S.threads u f o in
+    let b = kernel-with_row S.threads u f o in
+    let c = (names-map f old o keeps).2 in omega arith in
+    let held : (g : Holder) (x : ObjNo) → held_in T g x ≡ held_in S g x = λ g x.
+    let a = rows-with_row S.handles S.threads u f g x in
+    let n = names-map f old x keeps in
+    let b : row_holds u (option_map f old) g x ≡ row_holds u old g x = ap (λ (y : ℕ). (if is_holder (Temp u) g then y else 0) + (if is_holder (Link u) g then link_names x (option_map f old) else 0)) n.0 ∙ ap (λ (y : ℕ). (if is_holder (Temp u) g then use_names x old else 0) + (if is_holder (Link u) g then y else 0)) n.1 in omega arith in
+    sound-of script S T effects rows (record {
+      handles_long = refl;
+      threads_long = length-with_row S.threads u f;
+      owed_long = refl;
+      objects_few = rows.sized.objects_few;
+      tables = rows.tables;
+      threads = threads-with_row script S.threads u f thread rows.threads;
+      duties = duties-threads S.threads (with_row S.threads u f) S.owed paid rows.duties;
+    })
+    (lives-quiet S T effects refl quiet.quiet (λ o. let a = counts o in let b = quiet.pluses o in let c = quiet.quiet.minuses o in omega arith) (λ o. refl) (λ o h. let b = quiet.pluses o in absurd (omega arith)) quiet.found)
+    (record { fits = quiet.fits; moves = λ g x. quiet.after g x ∙ sym (held g x) })
+
+pub sound-find : (script : Script) (S : State) (t u o : ObjNo) → FitsMove script t (Find u o) S → AreRows script S → Sound script S (moved t (Find u o) S) (told (Find u o) S)
+sound-find script S t u o fits rows = sound-row script S u (λ row. record row { found = Object o }) (Seek o ∷ []) (record { link = λ row. refl; uses = λ row. refl })
+    (λ row is h. record { thread = record { process = h.process; link = h.link; priority = h.priority; next_instruction = h.next_instruction; unused = h.unused; registers = h.registers }; process = refl })
+    (λ k. inr (paid-with_row S.threads u (λ row. record row { found = Object o }) (λ row h. h) k))
+    (record {
+      quiet = record { minuses = λ p. refl; deaths = λ p. refl; removals = λ p. refl };
+      pluses = λ p. refl;
+      found = λ p h. subst (λ (y : ObjNo). y.0 < length S.objects) (same_is o p (omega arith)) fits;
+      fits = (tt, tt);
+      after = λ g x. refl;
+    }) rows
+
+pub sound-write : (script : Script) (S : State) (t u : ObjNo) (x value : ℕ) → FitsMove script t (Write u x value) S → AreRows script S → Sound script S (moved t (Write u x value) S) (told (Write u x value) S)
+sound-write script S t u x value fits rows = sound-row script S u (λ row. record row { registers = slice_set row.registers x value }) [] (record { link = λ row. refl; uses = λ row. refl })
+    (λ row is h. record { thread = record { process = h.process; link = h.link; priority = h.priority; next_instruction = h.next_instruction; unused = h.unused; registers = length-set row.registers x value ∙ h.registers }; process = refl })
+    (λ k. inr (paid-with_row S.threads u (λ row. record row { registers = slice_set row.registers x value }) (λ row h. h) k)) (silent S) rows
+
+pub sound-go_on : (script : Script) (S : State) (t u : ObjNo) (part : Part) → FitsMove script t (GoOn u part) S → AreRows script S → Sound script S (moved t (GoOn u part) S) (told (GoOn u part) S)
+sound-go_on script S t u part fits rows =
+    let f : ThreadRow → ThreadRow = λ row. record row { part = Some part } in
+    sound-row script S u f [] (record { link = λ row. refl; uses = λ row. refl })
+    (λ row is h. record { thread = record { process = h.process; link = h.link; priority = h.priority; next_instruction = h.next_instruction; unused = fits.unused row is; registers = h.registers }; process = refl })
+    (λ k. elim (cases_Bool (is_returning (Some part))) as (λ _. (get_or S.owed k [] ≡ []) ⊎ IsPaidIn S.threads (with_row S.threads u f) k) [
+      | inr going ↦ inr (paid-with_row S.threads u f (λ row h. going) k)
+      | inl returns ↦ elim (cases_eq u.0 k) as (λ _. (get_or S.owed k [] ≡ []) ⊎ IsPaidIn S.threads (with_row S.threads u f) k) [
+        | inl at ↦ inl (ap (λ (n : ℕ). get_or S.owed n []) (sym at) ∙ fits.paid returns)
+        | inr apart ↦ inr (record {
+          none = none-with_row S.threads u f;
+          going = λ h. ap (λ (y : Option ThreadRow). is_returning (part_of y)) (row-other S.threads u f k apart) ∙ h;
+        })
+      ]
+    ]) (silent S) rows
+
+pub sound-miss : (script : Script) (S : State) (t o : ObjNo) → AreRows script S → Sound script S (moved t (Miss o) S) (told (Miss o) S)
+sound-miss script S t o rows =
+    sound-of script S S (Missed o ∷ []) rows (record { handles_long = refl; threads_long = refl; owed_long = refl; objects_few = rows.sized.objects_few; tables = rows.tables; threads = rows.threads; duties = rows.duties })
+    (lives-quiet S S (Missed o ∷ []) refl (record { minuses = λ p. refl; deaths = λ p. refl; removals = λ p. refl }) (λ p. refl) (λ p. refl) (λ p h. absurd (omega arith)) (λ p h. absurd (omega arith)))
+    (record { fits = (tt, tt); moves = λ g x. refl })

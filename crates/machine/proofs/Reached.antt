@@ -1,0 +1,4 @@
+-- The states that actions and histories leave.
+pub mod AfterHistory
+pub mod Histories
+pub mod NextState

@@ -1,0 +1,5 @@
+-- The ready list: it has exactly the threads that are ready, each once.
+pub mod ReadyLists
+pub mod Touched
+pub mod FirstReady
+pub mod ReadyActions

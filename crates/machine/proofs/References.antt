@@ -1,0 +1,4 @@
+-- References, and what changes of rows do to the count of an object.
+pub mod Same
+pub mod Counts
+pub mod Effects

@@ -1,0 +1,4 @@
+-- What holds of rows, where one of them changes.
+pub mod Tables
+pub mod Threads
+pub mod Duties

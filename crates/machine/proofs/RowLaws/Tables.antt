@@ -1,0 +1,88 @@
+-- Handle tables, where a slot changes; the least free slot, and the slot that a handle names.
+use Rattle.std.proofs.Common.{◌≡◌, ◌≢◌, inl, inr, ℕ, suc, zero, ◌+◌, ◌<◌, ◌≤◌, List, [], ◌∷◌, length, get_or, arith, add-one, Bool, true, false, refl, sym, subst, ◌∙◌, Option, Some, None}
+use Rattle.std.specs.Prelude.{slice_set, ◌==◌, is_none, if◌then◌else◌}
+use Rattle.std.proofs.lemmas.Bool.{eq-eqb, cases_eq}
+use Rattle.std.proofs.lemmas.List.{length-set, get_or-set_same, get_or-set_other}
+use Rattle.sym_base.specs.declared.number.ObjNo.{ObjNo}
+use Rattle.machine.specs.declared.state.HandleSlot.{HandleSlot}
+use Rattle.machine.specs.Handles.{free_index, is_full, slot_at, fresh_slot, with_slot, taken_slot, freed_slot, object_in}
+use Rattle.machine.specs.WellFormed.{IsTable, AreTables}
+use Rattle.machine.proofs.Lists.Sets.{set_keeps}
+
+-- a change of a slot that leaves the instance small
+abbrev pub KeepsInstances : (HandleSlot → HandleSlot) → Type 0
+KeepsInstances f = (slot : HandleSlot) → slot.instance ≤ 16383 → (f slot).instance ≤ 16383
+
+table-with_slot : (table : List HandleSlot) (i : ℕ) (f : HandleSlot → HandleSlot) → KeepsInstances f → IsTable table → IsTable (slice_set table i (f (slot_at table i)))
+table-with_slot table i f keeps h = record {
+  size = length-set table i (f (slot_at table i)) ∙ h.size;
+  instances = set_keeps (λ (slot : HandleSlot). slot.instance ≤ 16383) table i (f (slot_at table i)) fresh_slot (keeps (slot_at table i) (h.instances i)) h.instances;
+}
+
+pub length-with_slot : (tables : List (List HandleSlot)) (owner : ObjNo) (i : ℕ) (f : HandleSlot → HandleSlot) → length (with_slot tables owner i f) ≡ length tables
+length-with_slot tables owner i f = length-set tables owner.0 (slice_set (get_or tables owner.0 []) i (f (slot_at (get_or tables owner.0 []) i)))
+
+pub tables-with_slot : (tables : List (List HandleSlot)) (owner : ObjNo) (i : ℕ) (f : HandleSlot → HandleSlot) → KeepsInstances f → AreTables tables → AreTables (with_slot tables owner i f)
+tables-with_slot tables owner i f keeps h k inside =
+    let table = slice_set (get_or tables owner.0 []) i (f (slot_at (get_or tables owner.0 []) i)) in
+    let long = length-with_slot tables owner i f in
+    elim (cases_eq owner.0 k) as (λ _. IsTable (get_or (slice_set tables owner.0 table) k [])) [
+      | inl at ↦
+          let here : owner.0 < length tables = omega arith in
+          subst (λ (n : ℕ). IsTable (get_or (slice_set tables owner.0 table) n [])) at (subst IsTable (sym (get_or-set_same tables owner.0 table [] here)) (table-with_slot (get_or tables owner.0 []) i f keeps (h owner.0 here)))
+      | inr apart ↦ subst IsTable (sym (get_or-set_other tables owner.0 k table [] (λ e. apart (sym e)))) (h k (omega arith))
+    ]
+
+next_instance_few : (n : ℕ) (b : Bool) → (n == 16383) ≡ b → n ≤ 16383 → (if b then 1 else n + 1) ≤ 16383
+next_instance_few n true e h = omega arith
+next_instance_few n false e h = let apart : n ≢ 16383 = λ q. cc (eq-eqb n 16383 q) in omega arith
+
+pub taken_keeps : (o : ObjNo) → KeepsInstances (taken_slot o)
+taken_keeps o slot few = next_instance_few slot.instance (slot.instance == 16383) refl few
+
+pub freed_keeps : KeepsInstances freed_slot
+freed_keeps slot few = few
+
+free_index_le_step : (x : Option ObjNo) (n m : ℕ) → n ≤ m → (if is_none x then 0 else n + 1) ≤ suc m
+free_index_le_step None n m h = omega arith
+free_index_le_step (Some x) n m h = omega arith
+
+free_index_le : (slots : List HandleSlot) → free_index slots ≤ length slots
+free_index_le [] = omega arith
+free_index_le (slot ∷ slots) = free_index_le_step slot.object _ _ (free_index_le slots)
+
+-- where a table isn't full, its least free index is inside it
+pub free_index_inside : (slots : List HandleSlot) → is_full slots ≡ false → free_index slots < length slots
+free_index_inside slots h =
+    let le = free_index_le slots in
+    let apart : free_index slots ≢ length slots = λ e. cc (eq-eqb (free_index slots) (length slots) e) in
+    omega arith
+
+free_index_is_free_step : (slot : HandleSlot) (slots : List HandleSlot) (x : Option ObjNo) → slot.object ≡ x → (slot_at slots (free_index slots)).object ≡ None → (get_or (slot ∷ slots) (if is_none x then 0 else free_index slots + 1) fresh_slot).object ≡ None
+free_index_is_free_step slot slots None e r = e
+free_index_is_free_step slot slots (Some x) e r = rw add-one r
+
+-- the least free slot is free
+pub free_index_is_free : (slots : List HandleSlot) → (slot_at slots (free_index slots)).object ≡ None
+free_index_is_free [] = refl
+free_index_is_free (slot ∷ slots) = free_index_is_free_step slot slots slot.object refl (free_index_is_free slots)
+
+object_in_step : (b : Bool) (x : Option ObjNo) (o : ObjNo) → (if b then x else None) ≡ Some o → x ≡ Some o
+object_in_step true x o e = e
+object_in_step false x o e = cc
+
+-- a slot where a handle's object was found has that object
+pub object_in_is : (slot : HandleSlot) (instance : ℕ) (o : ObjNo) → object_in slot instance ≡ Some o → slot.object ≡ Some o
+object_in_is slot instance o h = object_in_step (slot.instance == instance) slot.object o h
+
+-- a slot with an object is inside its table
+pub slot_inside : (slots : List HandleSlot) (i : ℕ) (o : ObjNo) → (slot_at slots i).object ≡ Some o → i < length slots
+slot_inside [] i o h = cc
+slot_inside (slot ∷ slots) zero o h = omega arith
+slot_inside (slot ∷ slots) (suc i) o h = let r = slot_inside slots i o h in omega arith
+
+-- a table with an index inside it is one of the tables
+pub table_inside : (tables : List (List HandleSlot)) (k i : ℕ) → i < length (get_or tables k []) → k < length tables
+table_inside [] k i h = absurd (omega arith)
+table_inside (table ∷ tables) zero i h = omega arith
+table_inside (table ∷ tables) (suc k) i h = let r = table_inside tables k i h in omega arith

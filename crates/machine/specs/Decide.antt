@@ -1,0 +1,40 @@
+-- Decisions: how a step answers, refuses, or goes on to the next step of its instruction.
+use Rattle.std.specs.Prelude.{ℕ, ℤ, pos, List, [], ◌∷◌, ◌++◌, Option, Some, None}
+use Rattle.sym_base.specs.declared.error.Error.{Error}
+use Rattle.sym_base.specs.declared.error.Error.TheVariants.{Overflow}
+use Rattle.sym_base.specs.declared.number.ObjNo.{ObjNo}
+use Rattle.sym_base.specs.ErrorCode.{error_code}
+use Rattle.entry_log.specs.declared.effect.Holder.TheVariants.{InProcess}
+use Rattle.entry_log.specs.declared.step.Part.{Part}
+use Rattle.entry_log.specs.declared.step.Step.{Step}
+use Rattle.entry_log.specs.declared.step.Step.TheVariants.{Wait}
+use Rattle.machine.specs.declared.decision.Decision.{Decision}
+use Rattle.machine.specs.declared.handles.NewHandle.{NewHandle}
+use Rattle.machine.specs.declared.moves.Move.{Move}
+use Rattle.machine.specs.declared.moves.Move.TheVariants.{Gain, GoOn, Write, Advance}
+use Rattle.machine.specs.declared.state.ThreadRow.{ThreadRow}
+
+-- nobody acts
+abbrev pub nothing : Decision
+nothing = record { step = Wait; moves = []; answer = None }
+
+-- the instruction is over: after these moves it answers a number
+abbrev pub answer : ObjNo → Step → List Move → ℤ → Decision
+answer t step moves code = record { step = step; moves = moves ++ Advance t ∷ []; answer = Some code }
+
+-- the instruction is over, and answers an error
+abbrev pub refuse : ObjNo → Step → Error → Decision
+refuse t step error = answer t step [] (error_code error)
+
+-- the instruction goes on to another step, with this move
+abbrev pub go_on : ObjNo → Step → Move → Part → Decision
+go_on t step move part = record { step = step; moves = GoOn t part ∷ move ∷ []; answer = None }
+
+-- the instruction is over: after this move a new handle's number goes to a register and is answered
+abbrev pub answer_handle : ObjNo → Step → Move → ℕ → ℕ → Decision
+answer_handle t step move x handle = answer t step (move ∷ Write t x handle ∷ []) (pos handle)
+
+-- a handle of the object, in the process's table; handles full: an overflow
+abbrev pub give_handle : ObjNo → ThreadRow → Step → ObjNo → ℕ → Option NewHandle → Decision
+give_handle t row step o x None = refuse t step Overflow
+give_handle t row step o x (Some handle) = answer_handle t step (Gain (InProcess row.process handle.index) o) x handle.number

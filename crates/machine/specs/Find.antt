@@ -1,0 +1,52 @@
+-- The first two steps of the instructions that find an object by its kind and name: the find, and the return,
+-- which opens what was found. The object may die in between.
+use Rattle.std.specs.Prelude.{ℕ, nat_lt, ◌||◌, Bool, false, not, if◌then◌else◌, List, [], ◌∷◌, Option, Some, None}
+use Rattle.sym_base.specs.declared.error.Error.TheVariants.{NotFound}
+use Rattle.sym_base.specs.declared.kind.Kind.{Kind}
+use Rattle.sym_base.specs.declared.number.ObjNo.{ObjNo}
+use Rattle.sym_base.specs.declared.word.Word.{Word}
+use Rattle.sym_base.specs.ErrorCode.{error_code}
+use Rattle.entry_log.specs.declared.effect.Holder.TheVariants.{Temp}
+use Rattle.entry_log.specs.declared.step.Step.TheVariants.{Of}
+use Rattle.entry_log.specs.declared.step.Part.{Part}
+use Rattle.entry_log.specs.declared.step.Part.TheVariants.{Seek, Return}
+use Rattle.state_rows.specs.declared.object.ObjectRow.{ObjectRow}
+use Rattle.state_rows.specs.ObjectRows.{is_dead_row, is_session, named}
+use Rattle.machine.specs.declared.decision.Decision.{Decision}
+use Rattle.machine.specs.declared.moves.Move.TheVariants.{Find, Miss, Gain}
+use Rattle.machine.specs.declared.state.Found.{Found}
+use Rattle.machine.specs.declared.state.Found.TheVariants.{Nothing, Object}
+use Rattle.machine.specs.declared.state.State.{State}
+use Rattle.machine.specs.Rows.{object_of}
+use Rattle.machine.specs.References.{count_of}
+use Rattle.machine.specs.Decide.{nothing, answer, refuse, go_on}
+
+-- an object that isn't dead and has no reference isn't found
+abbrev pub findable : State → Option ObjNo → Option ObjNo
+findable S None = None
+findable S (Some o) = if is_dead_row (object_of S o) || nat_lt 0 (count_of S o) then Some o else None
+
+-- the object that a find by kind and name finds; nobody finds a session
+abbrev pub find_object : State → Kind → List ℕ → Option ObjNo
+find_object S kind name = if is_session kind then None else findable S (named kind name S.objects)
+
+-- no such object: it isn't found; else the return comes next
+abbrev pub seek_object : ObjNo → Word → Option ObjNo → Decision
+seek_object t word None = refuse t (Of word Seek) NotFound
+seek_object t word (Some o) = go_on t (Of word Seek) (Find t o) Return
+
+-- the find of an object of a kind and name
+abbrev pub seek : State → ObjNo → Word → Kind → List ℕ → Decision
+seek S t word kind name = seek_object t word (find_object S kind name)
+
+-- whether an object may be opened: it is there and isn't dead
+abbrev pub is_open : Option ObjectRow → Bool
+is_open None = false
+is_open (Some row) = not row.dead
+
+-- the object died: it is missed, and isn't found; else the thread uses it from now on, and another step comes
+abbrev pub return_to : State → ObjNo → Word → Part → Found → Decision
+return_to S t word part Nothing = nothing
+return_to S t word part (Object o) =
+    if is_open (object_of S o) then go_on t (Of word Return) (Gain (Temp t) o) part
+    else answer t (Of word Return) (Miss o ∷ []) (error_code NotFound)

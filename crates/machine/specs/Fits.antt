@@ -1,0 +1,101 @@
+-- When the moves of an action fit the state.
+use Rattle.std.specs.Prelude.{◌≡◌, ℕ, ◌+◌, ◌*◌, ◌<◌, ◌≤◌, true, false, List, [], ◌∷◌, length, is_some, Option, Some, None}
+use Rattle.sym_base.specs.declared.limits.TheConstants.Limits.{OBJECTS}
+use Rattle.sym_base.specs.declared.number.ObjNo.{ObjNo}
+use Rattle.sym_base.specs.declared.kind.Kind.{Kind}
+use Rattle.script_types.specs.declared.script.Script.{Script}
+use Rattle.state_rows.specs.ObjectRows.{is_taken, is_session}
+use Rattle.entry_log.specs.declared.effect.Holder.{Holder}
+use Rattle.entry_log.specs.declared.effect.Holder.TheVariants.{InProcess, InThread, Temp}
+use Rattle.entry_log.specs.declared.step.Part.{Part}
+use Rattle.machine.specs.declared.moves.Move.{Move}
+use Rattle.machine.specs.declared.moves.Move.TheVariants.{Make, Gain, Lose, Find, Miss, GoOn, Write, Advance, Pay}
+use Rattle.machine.specs.declared.state.ThreadRow.{ThreadRow}
+use Rattle.machine.specs.declared.state.State.{State}
+use Rattle.machine.specs.Rows.{object_of, table_of, thread_of, owed_of}
+use Rattle.machine.specs.Handles.{slot_at}
+use Rattle.machine.specs.References.{total}
+use Rattle.machine.specs.Moves.{moved, tell}
+use Rattle.machine.specs.Task.{instructions_of, is_returning}
+use Rattle.machine.specs.HeldIn.{owed_by}
+use Rattle.machine.specs.WellFormed.{IsAlive, AreRows, is_before_use, part_of, weight}
+
+-- a slot of a table that nothing stands in
+pub record IsFreeSlot (S : State) (owner : ObjNo) (i : ℕ) : Type 0 where
+  pub inside : i < length (table_of S owner)
+  pub free : (slot_at (table_of S owner) i).object ≡ None
+
+-- a thread that uses nothing, after its look or return, and owes no close of what it used
+pub record UsesNothing (S : State) (t : ObjNo) : Type 0 where
+  pub row : ThreadRow
+  pub is : thread_of S t ≡ Some row
+  pub later : is_before_use row.part ≡ false
+  pub unused : row.uses ≡ None
+  pub paid : (o : ObjNo) → total (owed_by (Temp t) o) (owed_of S t) ≡ 0
+
+-- this holder holds nothing, and may
+abbrev pub IsFree : State → Holder → Type 0
+IsFree S (InProcess p i) = (thread_of S p ≡ None) × IsFreeSlot S p i
+IsFree S (InThread t i) = (is_some (thread_of S t) ≡ true) × IsFreeSlot S t i
+IsFree S (Temp t) = UsesNothing S t
+IsFree S _ = ⊥
+
+-- a thread that uses an object
+pub record Uses (S : State) (t : ObjNo) (o : ObjNo) : Type 0 where
+  pub row : ThreadRow
+  pub is : thread_of S t ≡ Some row
+  pub uses : row.uses ≡ Some o
+
+-- this holder holds the object
+abbrev pub Holds : State → Holder → ObjNo → Type 0
+Holds S (InProcess p i) o = (thread_of S p ≡ None) × ((slot_at (table_of S p) i).object ≡ Some o)
+Holds S (InThread t i) o = (is_some (thread_of S t) ≡ true) × ((slot_at (table_of S t) i).object ≡ Some o)
+Holds S (Temp t) o = Uses S t o
+Holds S _ o = ⊥
+
+-- a thread that may go on to a step: what comes before the use of anything comes while it uses nothing, and a return
+-- comes while it owes nothing
+pub record MayGoOn (S : State) (t : ObjNo) (part : Option Part) : Type 0 where
+  pub unused : (row : ThreadRow) → thread_of S t ≡ Some row → is_before_use part ≡ true → row.uses ≡ None
+  pub paid : is_returning part ≡ true → owed_of S t ≡ []
+
+-- a thread that isn't at its list's end
+pub record IsAtInstruction (script : Script) (S : State) (t : ObjNo) : Type 0 where
+  pub row : ThreadRow
+  pub is : thread_of S t ≡ Some row
+  pub next : row.next_instruction < length (instructions_of script row.role)
+
+-- an object may be made of this kind and name: there is room, its name isn't taken, and it isn't a session, which has none
+pub record MayMake (S : State) (kind : Kind) (name : List ℕ) : Type 0 where
+  pub room : length S.objects < OBJECTS
+  pub new : is_taken kind name S.objects ≡ false
+  pub named : is_session kind ≡ false
+
+-- A move in an action of thread t fits the state. What is owed is paid by an action of its own.
+abbrev pub FitsMove : Script → ObjNo → Move → State → Type 0
+FitsMove script t (Make kind name h) S = MayMake S kind name × IsFree S h
+FitsMove script t (Gain h o) S = IsFree S h × IsAlive (object_of S o)
+FitsMove script t (Lose h o) S = (is_returning (part_of (thread_of S t)) ≡ false) × Holds S h o
+FitsMove script t (Find u o) S = o.0 < length S.objects
+FitsMove script t (Miss o) S = Unit {0}
+FitsMove script t (GoOn u part) S = MayGoOn S u (Some part)
+FitsMove script t (Write u x value) S = x < 8
+FitsMove script t (Advance u) S = (u ≡ t) × IsAtInstruction script S u
+FitsMove script t (Pay what) S = ⊥
+
+-- each move fits when its turn comes
+abbrev pub EachFits : Script → ObjNo → List Move → State → Type 0
+EachFits script t [] S = Unit {0}
+EachFits script t (m ∷ ms) S = FitsMove script t m S × EachFits script t ms (moved t m S)
+
+-- The moves of an action fit: each when its turn comes; no move adds more than 4 to the weight of what the thread
+-- owes; and an entry has at most four effects.
+pub record Fits (script : Script) (t : ObjNo) (ms : List Move) (S : State) : Type 0 where
+  pub each : EachFits script t ms S
+  pub few : total weight (owed_of S t) + 4 * length ms ≤ 32
+  pub told : length (tell t ms S) ≤ 4
+
+-- the state in the middle of an action of a thread
+pub record Sane (script : Script) (t : ObjNo) (S : State) : Type 0 where
+  pub rows : AreRows script S
+  pub inside : t.0 < length S.threads

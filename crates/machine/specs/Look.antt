@@ -1,0 +1,23 @@
+-- The first step of the instructions that name an object by a handle.
+use Rattle.std.specs.Prelude.{ℕ, Option, Some, None, slice_index}
+use Rattle.sym_base.specs.declared.error.Error.TheVariants.{BadHandle}
+use Rattle.sym_base.specs.declared.number.ObjNo.{ObjNo}
+use Rattle.sym_base.specs.declared.word.Word.{Word}
+use Rattle.entry_log.specs.declared.effect.Holder.TheVariants.{Temp}
+use Rattle.entry_log.specs.declared.step.Step.TheVariants.{Of}
+use Rattle.entry_log.specs.declared.step.Part.TheVariants.{Do, Look}
+use Rattle.machine.specs.declared.decision.Decision.{Decision}
+use Rattle.machine.specs.declared.moves.Move.TheVariants.{Gain}
+use Rattle.machine.specs.declared.state.ThreadRow.{ThreadRow}
+use Rattle.machine.specs.declared.state.State.{State}
+use Rattle.machine.specs.Handles.{object_at}
+use Rattle.machine.specs.Decide.{refuse, go_on}
+
+-- no such handle: a bad handle; else the thread uses the object from now on
+abbrev pub look_at : ObjNo → Word → Option ObjNo → Decision
+look_at t word None = refuse t (Of word Look) BadHandle
+look_at t word (Some o) = go_on t (Of word Look) (Gain (Temp t) o) Do
+
+-- the look at the handle in a register
+abbrev pub look : State → ObjNo → ThreadRow → Word → ℕ → Decision
+look S t row word x = look_at t word (object_at S t row (slice_index row.registers x))

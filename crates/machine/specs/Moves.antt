@@ -1,0 +1,171 @@
+-- What each move changes in the rows, and what it tells. The ready list isn't among the rows here: it follows
+-- the moves apart.
+use Rattle.std.specs.Prelude.{ℕ, ◌+◌, Bool, if◌then◌else◌, List, [], ◌∷◌, ◌++◌, length, Option, Some, None, false, option_and_then, slice_set}
+use Rattle.std.specs.List.{slice_index_or}
+use Rattle.sym_base.specs.declared.number.ObjNo.{ObjNo}
+use Rattle.sym_base.specs.declared.kind.Kind.{Kind}
+use Rattle.entry_log.specs.declared.effect.Holder.{Holder}
+use Rattle.entry_log.specs.declared.effect.Holder.TheVariants.{InProcess, InThread, Temp, Link}
+use Rattle.entry_log.specs.declared.effect.Effect.{Effect}
+use Rattle.entry_log.specs.declared.effect.Effect.TheVariants.{Plus, Minus, Dead, Swept, Seek, Missed}
+use Rattle.entry_log.specs.declared.step.Part.{Part}
+use Rattle.state_rows.specs.declared.duty.Owed.{Owed}
+use Rattle.state_rows.specs.declared.duty.Owed.TheVariants.{Close, Sweep}
+use Rattle.state_rows.specs.declared.object.ObjectRow.{ObjectRow}
+use Rattle.state_rows.specs.ObjectRows.{dead_row}
+use Rattle.machine.specs.declared.moves.Move.{Move}
+use Rattle.machine.specs.declared.moves.Move.TheVariants.{Make, Gain, Lose, Find, Miss, GoOn, Write, Advance, Pay}
+use Rattle.machine.specs.declared.state.Found.TheVariants.{Nothing, Object}
+use Rattle.machine.specs.declared.state.HandleSlot.{HandleSlot}
+use Rattle.machine.specs.declared.state.ThreadRow.{ThreadRow}
+use Rattle.machine.specs.declared.state.State.{State}
+use Rattle.machine.specs.Rows.{thread_of, with_row, owing, without_first}
+use Rattle.machine.specs.Handles.{with_slot, taken_slot, freed_slot}
+use Rattle.machine.specs.References.{is_last}
+
+-- the number that the next object gets
+abbrev pub next_object : State → ObjNo
+next_object S = record { 0 = length S.objects }
+
+-- an object that is made
+abbrev pub new_object : Kind → List ℕ → ObjectRow
+new_object kind name = record { kind = kind; name = name; dead = false }
+
+-- a thread's row with another use, without its link, with what it found, with another next step, with a value in a
+-- register, and at its next instruction
+abbrev pub with_use : Option ObjNo → ThreadRow → ThreadRow
+with_use uses row = record row { uses = uses }
+
+abbrev pub unlinked : ThreadRow → ThreadRow
+unlinked row = record row { link = None }
+
+abbrev pub with_found : ObjNo → ThreadRow → ThreadRow
+with_found o row = record row { found = Object o }
+
+abbrev pub with_part : Part → ThreadRow → ThreadRow
+with_part part row = record row { part = Some part }
+
+abbrev pub with_register : ℕ → ℕ → ThreadRow → ThreadRow
+with_register x value row = record row { registers = slice_set row.registers x value }
+
+abbrev pub advanced : ThreadRow → ThreadRow
+advanced row = record row { next_instruction = row.next_instruction + 1; part = None; found = Nothing; uses = None }
+
+-- the handle tables and the threads' rows, where a holder gets a reference
+abbrev pub tables_gain : Holder → ObjNo → List (List HandleSlot) → List (List HandleSlot)
+tables_gain (InProcess p i) o tables = with_slot tables p i (taken_slot o)
+tables_gain (InThread t i) o tables = with_slot tables t i (taken_slot o)
+tables_gain _ o tables = tables
+
+abbrev pub threads_gain : Holder → ObjNo → List (Option ThreadRow) → List (Option ThreadRow)
+threads_gain (Temp t) o threads = with_row threads t (with_use (Some o))
+threads_gain _ o threads = threads
+
+-- the same where a holder gives its reference up
+abbrev pub tables_lose : Holder → List (List HandleSlot) → List (List HandleSlot)
+tables_lose (InProcess p i) tables = with_slot tables p i freed_slot
+tables_lose (InThread t i) tables = with_slot tables t i freed_slot
+tables_lose _ tables = tables
+
+abbrev pub threads_lose : Holder → List (Option ThreadRow) → List (Option ThreadRow)
+threads_lose (Temp t) threads = with_row threads t (with_use None)
+threads_lose _ threads = threads
+
+-- an object's own reference: a thread's link to its process
+abbrev pub link_of_row : Option ThreadRow → Option ObjNo
+link_of_row None = None
+link_of_row (Some row) = row.link
+
+abbrev pub link_of : State → ObjNo → Option ObjNo
+link_of S o = link_of_row (thread_of S o)
+
+-- with its last reference an object dies, and its own link is taken off its row
+abbrev pub objects_closed : Bool → ObjNo → List (Option ObjectRow) → List (Option ObjectRow)
+objects_closed last o objects = if last then slice_set objects o.0 (dead_row (slice_index_or objects o.0 None)) else objects
+
+abbrev pub threads_closed : Bool → ObjNo → List (Option ThreadRow) → List (Option ThreadRow)
+threads_closed last o threads = if last then with_row threads o unlinked else threads
+
+-- whoever closes it owes the close of that link, and then the sweep
+abbrev pub owed_link : ObjNo → Option ObjNo → List Owed
+owed_link o None = []
+owed_link o (Some p) = Close (Link o) p ∷ []
+
+abbrev pub owed_by_close : Bool → ObjNo → Option ObjNo → List Owed
+owed_by_close last o link = if last then owed_link o link ++ Sweep o ∷ [] else []
+
+-- what is told of a close
+abbrev pub closed_effects : Bool → Holder → ObjNo → List Effect
+closed_effects last h o = if last then Minus h o ∷ Dead o ∷ [] else Minus h o ∷ []
+
+-- a thread whose instruction is over owes the close of its temporary reference
+abbrev pub owed_use : ObjNo → Option ObjNo → List Owed
+owed_use t None = []
+owed_use t (Some o) = Close (Temp t) o ∷ []
+
+-- the object that a thread's instruction uses
+abbrev pub use_of_row : Option ThreadRow → Option ObjNo
+use_of_row None = None
+use_of_row (Some row) = row.uses
+
+abbrev pub use_of : State → ObjNo → Option ObjNo
+use_of S t = use_of_row (thread_of S t)
+
+-- the state after one move in an action of thread t
+abbrev pub moved : ObjNo → Move → State → State
+moved t (Make kind name h) S = record S {
+  objects = S.objects ++ Some (new_object kind name) ∷ [];
+  handles = tables_gain h (next_object S) S.handles;
+  threads = threads_gain h (next_object S) S.threads;
+}
+moved t (Gain h o) S = record S {
+  handles = tables_gain h o S.handles;
+  threads = threads_gain h o S.threads;
+}
+moved t (Lose h o) S = record S {
+  objects = objects_closed (is_last S o) o S.objects;
+  handles = tables_lose h S.handles;
+  threads = threads_closed (is_last S o) o (threads_lose h S.threads);
+  owed = owing S.owed t (owed_by_close (is_last S o) o (link_of S o));
+}
+moved t (Find u o) S = record S { threads = with_row S.threads u (with_found o) }
+moved t (Miss o) S = S
+moved t (GoOn u part) S = record S { threads = with_row S.threads u (with_part part) }
+moved t (Write u x value) S = record S { threads = with_row S.threads u (with_register x value) }
+moved t (Advance u) S = record S {
+  threads = with_row S.threads u advanced;
+  owed = owing S.owed u (owed_use u (use_of S u));
+}
+moved t (Pay (Close h o)) S = record S {
+  objects = objects_closed (is_last S o) o S.objects;
+  threads = threads_closed (is_last S o) o S.threads;
+  owed = owing (without_first S.owed t) t (owed_by_close (is_last S o) o (link_of S o));
+}
+moved t (Pay (Sweep o)) S = record S {
+  objects = slice_set S.objects o.0 None;
+  threads = slice_set S.threads o.0 None;
+  owed = without_first S.owed t;
+}
+
+-- what a move tells, from the state before it
+abbrev pub told : Move → State → List Effect
+told (Make kind name h) S = Plus h (next_object S) ∷ []
+told (Gain h o) S = Plus h o ∷ []
+told (Lose h o) S = closed_effects (is_last S o) h o
+told (Find t o) S = Seek o ∷ []
+told (Miss o) S = Missed o ∷ []
+told (GoOn t part) S = []
+told (Write t x value) S = []
+told (Advance t) S = []
+told (Pay (Close h o)) S = closed_effects (is_last S o) h o
+told (Pay (Sweep o)) S = Swept o ∷ []
+
+-- the rows after several moves
+abbrev pub perform : ObjNo → List Move → State → State
+perform t [] S = S
+perform t (m ∷ ms) S = perform t ms (moved t m S)
+
+-- what several moves tell
+abbrev pub tell : ObjNo → List Move → State → List Effect
+tell t [] S = []
+tell t (m ∷ ms) S = told m S ++ tell t ms (moved t m S)

@@ -1,0 +1,61 @@
+-- The decision of each task of a thread.
+use Rattle.std.specs.Prelude.{ℕ, [], ◌∷◌, Option, Some, None}
+use Rattle.sym_base.specs.declared.kind.Kind.TheVariants.{Mutex}
+use Rattle.sym_base.specs.declared.number.ObjNo.{ObjNo}
+use Rattle.script_types.specs.declared.script.Script.{Script}
+use Rattle.script_types.specs.declared.instruction.Instr.{Instr}
+use Rattle.script_types.specs.declared.instruction.Instr.TheVariants as instr
+use Rattle.entry_log.specs.declared.step.Part.{Part}
+use Rattle.entry_log.specs.declared.step.Step.{Step}
+use Rattle.entry_log.specs.declared.step.Step.TheVariants as step
+use Rattle.state_rows.specs.declared.duty.Owed.{Owed}
+use Rattle.state_rows.specs.declared.duty.Owed.TheVariants.{Close, Sweep}
+use Rattle.machine.specs.declared.decision.Decision.{Decision}
+use Rattle.machine.specs.declared.moves.Move.TheVariants as move
+use Rattle.machine.specs.declared.task.Task.{Task}
+use Rattle.machine.specs.declared.task.Task.TheVariants as task
+use Rattle.machine.specs.declared.state.ThreadRow.{ThreadRow}
+use Rattle.machine.specs.declared.state.State.{State}
+use Rattle.machine.specs.Rows.{thread_of}
+use Rattle.machine.specs.Decide.{nothing}
+use Rattle.machine.specs.Create.{create_do}
+use Rattle.machine.specs.Dup.{dup_step}
+use Rattle.machine.specs.Open.{open_step, open_return}
+use Rattle.machine.specs.Close.{close_do}
+use Rattle.machine.specs.Task.{task_of}
+
+-- an instruction's step, by the part that is next, None being its first. What isn't built yet does nothing
+abbrev pub step_of : State → ObjNo → ThreadRow → Instr → Option Part → Decision
+step_of S t row (instr.CreateMutex name x) p = create_do S t row Mutex name x
+step_of S t row (instr.Open kind name x) p = open_step S t row kind name x p
+step_of S t row (instr.Dup x y) p = dup_step S t row x y p
+step_of S t row (instr.Close x) p = close_do S t row x
+step_of S t row _ p = nothing
+
+-- the return of an instruction that found an object
+abbrev pub return_of : State → ObjNo → ThreadRow → Instr → Decision
+return_of S t row (instr.Open kind name x) = open_return S t row
+return_of S t row _ = nothing
+
+-- what is owed is paid by one action each
+abbrev pub pay_step : Owed → Step
+pay_step (Close h o) = step.Drop
+pay_step (Sweep o) = step.Sweep
+
+abbrev pub pay : Owed → Decision
+pay what = record { step = pay_step what; moves = move.Pay what ∷ []; answer = None }
+
+-- the decision of a task
+abbrev pub decision_of_task : State → ObjNo → ThreadRow → Task → Decision
+decision_of_task S t row (task.Return instr) = return_of S t row instr
+decision_of_task S t row (task.Pay what) = pay what
+decision_of_task S t row (task.Step instr) = step_of S t row instr row.part
+
+-- a thread that has nothing to do does nothing
+abbrev pub decision_of_row : State → ObjNo → Option ThreadRow → Option Task → Decision
+decision_of_row S t (Some row) (Some what) = decision_of_task S t row what
+decision_of_row S t _ _ = nothing
+
+-- what a thread does in its next action
+abbrev pub decision_of : Script → State → ObjNo → Decision
+decision_of script S t = decision_of_row S t (thread_of S t) (task_of script S t)

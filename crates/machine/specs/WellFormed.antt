@@ -1,0 +1,140 @@
+-- What holds of every state that a legal history leaves: a predicate for each part of the state.
+use Rattle.std.specs.Prelude.{◌≡◌, ℕ, ◌<◌, ◌≤◌, Bool, true, false, List, [], ◌∷◌, length, Option, Some, None}
+use Rattle.std.specs.List.{slice_index_or}
+use Rattle.sym_base.specs.declared.limits.TheConstants.Limits.{OBJECTS, BOOT_OBJECTS, HANDLES}
+use Rattle.sym_base.specs.declared.number.ObjNo.{ObjNo}
+use Rattle.script_types.specs.declared.script.Script.{Script}
+use Rattle.entry_log.specs.declared.effect.Holder.{Holder}
+use Rattle.entry_log.specs.declared.effect.Holder.TheVariants.{Temp, Link}
+use Rattle.entry_log.specs.declared.step.Part.{Part}
+use Rattle.entry_log.specs.declared.step.Part.TheVariants as part
+use Rattle.state_rows.specs.declared.duty.Owed.{Owed}
+use Rattle.state_rows.specs.declared.duty.Owed.TheVariants.{Close, Sweep}
+use Rattle.state_rows.specs.declared.object.ObjectRow.{ObjectRow}
+use Rattle.machine.specs.declared.state.HandleSlot.{HandleSlot}
+use Rattle.machine.specs.declared.state.ThreadRow.{ThreadRow}
+use Rattle.machine.specs.declared.state.State.{State}
+use Rattle.machine.specs.Rows.{object_of}
+use Rattle.machine.specs.Handles.{slot_at}
+use Rattle.machine.specs.References.{total, same, count_of}
+use Rattle.machine.specs.Task.{instructions_of, is_ready, is_returning}
+use Rattle.machine.specs.Arrivals.{is_listed}
+
+-- processes and threads have the least numbers, and a handle table and a list of duties each
+pub record AreSized (S : State) : Type 0 where
+  pub tables : length S.handles ≡ length S.threads
+  pub duties : length S.owed ≡ length S.threads
+  pub first : length S.threads ≤ length S.objects
+  pub threads_few : length S.threads ≤ BOOT_OBJECTS
+  pub objects_few : length S.objects ≤ OBJECTS
+
+-- a handle table has 256 slots, and instances stay below 16,384
+pub record IsTable (table : List HandleSlot) : Type 0 where
+  pub size : length table ≡ HANDLES
+  pub instances : (i : ℕ) → (slot_at table i).instance ≤ 16383
+
+abbrev pub AreTables : List (List HandleSlot) → Type 0
+AreTables tables = (k : ℕ) → k < length tables → IsTable (slice_index_or tables k [])
+
+-- whether a step is one before the thread uses anything: its first, or the return
+abbrev pub is_before_use : Option Part → Bool
+is_before_use None = true
+is_before_use (Some part.Return) = true
+is_before_use _ = false
+
+-- A thread's row: its process is one of so many, and is what it is linked to; its next instruction is in its list or
+-- at the list's end; and it uses nothing before its look or its return.
+pub record IsThread (script : Script) (count : ℕ) (row : ThreadRow) : Type 0 where
+  pub process : row.process.0 < count
+  pub link : (p : ObjNo) → row.link ≡ Some p → p.0 ≡ row.process.0
+  pub priority : row.priority ≤ 63
+  pub next_instruction : row.next_instruction ≤ length (instructions_of script row.role)
+  pub unused : is_before_use row.part ≡ true → row.uses ≡ None
+  pub registers : length row.registers ≡ 8
+
+-- each thread's row is one, and no process is a thread
+pub record AreThreads (script : Script) (threads : List (Option ThreadRow)) : Type 0 where
+  pub rows : (k : ℕ) (row : ThreadRow) → slice_index_or threads k None ≡ Some row → IsThread script (length threads) row
+  pub processes : (k : ℕ) (row : ThreadRow) → slice_index_or threads k None ≡ Some row → slice_index_or threads row.process.0 None ≡ None
+
+-- what a duty weighs: each duty done leaves less, since a close may owe the close of a link and a sweep, and the
+-- close of a link a sweep
+abbrev pub weight : Owed → ℕ
+weight (Close (Link x) o) = 2
+weight (Close _ o) = 4
+weight (Sweep o) = 1
+
+-- the next step of a thread, None also where there is no thread
+abbrev pub part_of : Option ThreadRow → Option Part
+part_of None = None
+part_of (Some row) = row.part
+
+-- whose closes a thread may owe: its own temporary reference's, and the link's of an object that is gone, to what has
+-- no link itself
+abbrev pub MayOwe : List (Option ThreadRow) → ℕ → Holder → ObjNo → Type 0
+MayOwe threads k (Temp u) o = u.0 ≡ k
+MayOwe threads k (Link x) o = slice_index_or threads o.0 None ≡ None
+MayOwe threads k _ o = ⊥
+
+abbrev pub EachMayOwe : List (Option ThreadRow) → ℕ → List Owed → Type 0
+EachMayOwe threads k [] = Unit {0}
+EachMayOwe threads k (Close h o ∷ rest) = MayOwe threads k h o × EachMayOwe threads k rest
+EachMayOwe threads k (Sweep o ∷ rest) = EachMayOwe threads k rest
+
+-- what each thread owes is its own, and weighs no more than eight moves can add; between a find and its return it owes
+-- nothing
+pub record AreDuties (threads : List (Option ThreadRow)) (owed : List (List Owed)) : Type 0 where
+  pub own : (k : ℕ) → EachMayOwe threads k (slice_index_or owed k [])
+  pub few : (k : ℕ) → total weight (slice_index_or owed k []) ≤ 32
+  pub returns : (k : ℕ) → is_returning (part_of (slice_index_or threads k None)) ≡ true → slice_index_or owed k [] ≡ []
+
+-- an object that is there and has a reference left
+abbrev pub IsAlive : Option ObjectRow → Type 0
+IsAlive None = ⊥
+IsAlive (Some row) = row.dead ≡ false
+
+-- 1 where an object is dead and not swept yet
+abbrev pub dead_bit : Bool → ℕ
+dead_bit true = 1
+dead_bit false = 0
+
+abbrev pub is_dead : Option ObjectRow → ℕ
+is_dead None = 0
+is_dead (Some row) = dead_bit row.dead
+
+-- how often the sweep of an object is owed
+abbrev pub owed_sweeps : ObjNo → Owed → ℕ
+owed_sweeps o (Close holder x) = 0
+owed_sweeps o (Sweep x) = same x o
+
+abbrev pub sweeps_of : State → ObjNo → ℕ
+sweeps_of S o = total (total (owed_sweeps o)) S.owed
+
+-- objects live by their references: one that is referred to is alive, one that is alive is referred to, and
+-- exactly a dead one's sweep is owed, once
+pub record AreLives (S : State) : Type 0 where
+  pub alive : (o : ObjNo) → 0 < count_of S o → IsAlive (object_of S o)
+  pub counted : (o : ObjNo) → IsAlive (object_of S o) → 0 < count_of S o
+  pub sweeps : (o : ObjNo) → sweeps_of S o ≡ is_dead (object_of S o)
+
+-- no thread stands in the list again behind its place
+abbrev pub AreApart : List ObjNo → Type 0
+AreApart [] = Unit {0}
+AreApart (t ∷ ts) = (is_listed ts t ≡ false) × AreApart ts
+
+-- the list has exactly the threads that are ready, each once
+pub record IsReadyList (script : Script) (S : State) (qs : List ObjNo) : Type 0 where
+  pub exact : (t : ObjNo) → is_listed qs t ≡ is_ready script S t
+  pub once : AreApart qs
+
+-- the rows of every state, also of one in the middle of an action
+pub record AreRows (script : Script) (S : State) : Type 0 where
+  pub sized : AreSized S
+  pub tables : AreTables S.handles
+  pub threads : AreThreads script S.threads
+  pub duties : AreDuties S.threads S.owed
+  pub lives : AreLives S
+
+pub record IsWellFormed (script : Script) (S : State) : Type 0 where
+  pub rows : AreRows script S
+  pub ready : IsReadyList script S S.ready

@@ -1,0 +1,86 @@
+//! What actions are made of. A step of the kernel changes several rows at once; here each small change is
+//! a move of its own (the split is this project's own).
+ghost use Rattle.std.specs.Prelude.{◌≡◌, ◌<◌, ◌≤◌, [], ◌∷◌, ◌++◌, length};
+
+use arrayvec::ArrayVec;
+use entry_log::{Holder, Part};
+use state_rows::Owed;
+use std::marker::Model;
+use sym_base::{Kind, Name, ObjNo, ThreadNo};
+
+/// One small change of the state.
+#[derive(Clone, Copy)]
+pub enum Move {
+    /// Makes an object of this kind and name, whose first reference is the holder's.
+    Make(Kind, Name, Holder),
+    /// The holder gets a reference to the object.
+    Gain(Holder, ObjNo),
+    /// The holder gives its reference to the object up. Whoever gives the last one up owes the close of the
+    /// object's own link, and then its sweep.
+    Lose(Holder, ObjNo),
+    /// The thread found the object by its name. That is no reference.
+    Find(ThreadNo, ObjNo),
+    /// The thread came to open the object that it had found, and it was dead.
+    Miss(ObjNo),
+    /// The thread goes on to this step of its instruction.
+    GoOn(ThreadNo, Part),
+    /// The thread's register, 0 to 7, gets a value.
+    Write(ThreadNo, u8, u32),
+    /// The thread goes on to its next instruction, and owes the close of its temporary reference, where it
+    /// has one.
+    Advance(ThreadNo),
+    /// The acting thread pays this, the oldest of what it owes.
+    Pay(Owed),
+}
+
+impl Default for Move {
+    /// Some move: only the unused places of `Moves` hold it.
+    fn default() -> Self {
+        Move::Miss(ObjNo(0))
+    }
+}
+
+/// The most moves that an action is made of.
+pub const MAX_MOVES: usize = 8;
+
+/// The moves of an action in their order, at most eight. A contract sees the list.
+#[derive(Drop)]
+pub struct Moves {
+    moves: ArrayVec<Move, 8>,
+}
+
+impl Model for Moves {
+    ghost use Rattle.std.specs.Prelude.{List};
+    ghost use Rattle.machine.specs.declared.moves.Move.{Move};
+
+    ghost Value = { List Move };
+
+    ghost view = { λ m. m.moves.items };
+}
+
+impl Moves {
+    /// No move.
+    pub fn new() -> Self
+        ensures { result ≡ [] }
+    {
+        Moves {
+            moves: ArrayVec::new(),
+        }
+    }
+
+    /// The moves in their order.
+    pub fn as_slice(&self) -> &[Move]
+        ensures moves { result.now ≡ self.now }
+        ensures few { length self.now ≤ 8 }
+    {
+        self.moves.as_slice()
+    }
+
+    /// Adds a move at the end.
+    pub fn push(&mut self, step: Move)
+        requires { length self.old < 8 }
+        ensures { self.new ≡ self.old ++ step ∷ [] }
+    {
+        self.moves.push(step);
+    }
+}

@@ -1,0 +1,41 @@
+//! The threads that a move touches.
+ghost use Rattle.std.specs.Prelude.{◌≡◌, None, Some};
+ghost use Rattle.machine.specs.Arrivals.{touched, threads_of};
+
+use crate::{Move, Owed};
+use sym_base::ThreadNo;
+
+/// The threads whose readiness a move may change: up to two, the first before the second.
+#[derive(Clone, Copy)]
+pub struct TouchedThreads {
+    pub first: Option<ThreadNo>,
+    pub second: Option<ThreadNo>,
+}
+
+/// One thread.
+fn one(thread: ThreadNo) -> TouchedThreads
+    ensures { result ≡ record { first = Some thread; second = None } }
+{
+    TouchedThreads {
+        first: Some(thread),
+        second: None,
+    }
+}
+
+/// The threads whose readiness a move in an action of a thread may change.
+pub fn touched(thread: ThreadNo, change: Move) -> TouchedThreads
+    ensures { threads_of result ≡ touched thread change }
+{
+    match change {
+        Move::Lose(_, _) | Move::Pay(Owed::Close(_, _)) => one(thread),
+        Move::GoOn(other, _) | Move::Advance(other) => one(other),
+        Move::Pay(Owed::Sweep(object)) => TouchedThreads {
+            first: Some(thread),
+            second: Some(object),
+        },
+        _ => TouchedThreads {
+            first: None,
+            second: None,
+        },
+    }
+}

@@ -1,0 +1,5 @@
+use Rattle.machine_safe.proofs.safe_references.legal_is_safe.Goals as goal
+use Rattle.machine_safe.proofs.SafeHistories.{legal_safe}
+
+pub returns : goal.returns
+returns c = record { safe = legal_safe _ _ c.requires.valid c.requires.legal }

@@ -1,0 +1,3 @@
+pub mod CountAfter
+pub mod Laws
+pub mod SafeReferences

@@ -1,0 +1,35 @@
+-- Safe references: an object dies exactly where its last reference goes, and nobody opens it afterwards.
+use Rattle.std.specs.Prelude.{◌≡◌, ◌<◌, ◌≤◌, List, [], ◌∷◌, ◌++◌}
+use Rattle.sym_base.specs.declared.number.ObjNo.{ObjNo}
+use Rattle.script_types.specs.declared.script.Script.{Script}
+use Rattle.entry_log.specs.declared.entry.Entry.{Entry}
+use Rattle.machine.specs.References.{pluses, minuses}
+use Rattle.machine.specs.Told.{deaths, removals}
+use Rattle.machine.specs.Holding.{EachFitsHolders, held_at_boot}
+use Rattle.machine_safe.specs.CountAfter.{effects_of, count_after}
+
+-- an entry says that the object died only where it takes a reference away and the count after it is 0
+abbrev pub DiesOnlyAtZero : Script → List Entry → ObjNo → Type 0
+DiesOnlyAtZero script history o = (before : List Entry) (e : Entry) (later : List Entry) → history ≡ before ++ e ∷ later →
+    0 < deaths e.effects o → (0 < minuses e.effects o) × (count_after script (before ++ e ∷ []) later o ≡ 0)
+
+-- an entry that takes a reference away, with the count after it 0, says that the object died
+abbrev pub DiesAtZero : Script → List Entry → ObjNo → Type 0
+DiesAtZero script history o = (before : List Entry) (e : Entry) (later : List Entry) → history ≡ before ++ e ∷ later →
+    0 < minuses e.effects o → count_after script (before ++ e ∷ []) later o ≡ 0 → 0 < deaths e.effects o
+
+-- after an entry says that the object died no entry adds a reference to it; it is swept once at most, and only after such an entry
+pub record IsOver (history : List Entry) (o : ObjNo) : Type 0 where
+  pub closed : (before : List Entry) (e : Entry) (later : List Entry) → history ≡ before ++ e ∷ later → 0 < deaths e.effects o → pluses (effects_of later) o ≡ 0
+  pub once : removals (effects_of history) o ≤ 1
+  pub swept : (before : List Entry) (e : Entry) (later : List Entry) → history ≡ before ++ e ∷ later → 0 < removals e.effects o → 0 < deaths (effects_of before) o
+
+pub record IsSafeReferences (script : Script) (history : List Entry) : Type 0 where
+  -- a Plus names a holder that doesn't hold the object then, and a Minus one that does
+  pub holders : EachFitsHolders (held_at_boot script) (effects_of history)
+  -- an object dies only where its last reference goes
+  pub only : (o : ObjNo) → DiesOnlyAtZero script history o
+  -- and always where it goes
+  pub always : (o : ObjNo) → DiesAtZero script history o
+  -- nobody opens a dead object, and its row goes once
+  pub over : (o : ObjNo) → IsOver history o

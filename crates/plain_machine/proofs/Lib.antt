@@ -1,0 +1,6 @@
+pub mod Best
+pub mod LeftRows
+pub mod Performing
+pub mod Rooms
+pub mod Steps
+pub mod ValidExample

@@ -1,0 +1,149 @@
+-- Room for moves: each takes one away.
+use Rattle.std.proofs.Common.{◌≡◌, ℕ, suc, ◌+◌, ◌≤◌, List, [], ◌∷◌, ◌++◌, length, length-append, get_or, arith, refl, ap, sym, subst, Bool, true, false, Option, Some, None}
+use Rattle.std.specs.Prelude.{slice_set, option_map, if◌then◌else◌}
+use Rattle.std.proofs.lemmas.List.{length-set}
+use Rattle.sym_base.specs.declared.number.ObjNo.{ObjNo}
+use Rattle.entry_log.specs.declared.effect.Holder.{Holder}
+use Rattle.entry_log.specs.declared.effect.Holder.TheVariants as holder
+use Rattle.state_rows.specs.declared.duty.Owed.TheVariants.{Close, Sweep}
+use Rattle.state_rows.specs.declared.object.ObjectRow.{ObjectRow}
+use Rattle.state_rows.specs.ObjectRows.{dead_row}
+use Rattle.machine.specs.declared.moves.Move.{Move}
+use Rattle.machine.specs.declared.moves.Move.TheVariants.{Make, Gain, Lose, Find, Miss, GoOn, Write, Advance, Pay}
+use Rattle.machine.specs.declared.state.HandleSlot.{HandleSlot}
+use Rattle.machine.specs.declared.state.ThreadRow.{ThreadRow}
+use Rattle.machine.specs.declared.state.State.{State}
+use Rattle.machine.specs.Handles.{slot_at, with_slot, taken_slot, freed_slot, fresh_slot}
+use Rattle.machine.specs.Moves.{moved, with_use, unlinked, with_found, with_part, with_register, advanced, tables_gain, tables_lose, threads_gain, threads_lose, threads_closed, objects_closed, next_object, new_object}
+use Rattle.machine.specs.References.{is_last}
+use Rattle.machine.specs.Room.{HasRoom, IsSmallTable, AreSmallTables, MayAdvance}
+use Rattle.machine.specs.Rows.{with_row}
+use Rattle.machine.proofs.Lists.Sets.{set_keeps}
+use Rattle.machine.proofs.RowLaws.Tables.{KeepsInstances, taken_keeps, freed_keeps}
+
+-- a row may still go on by so many instructions
+abbrev pub CanGo : ℕ → Option ThreadRow → Type 0
+CanGo n x = (row : ThreadRow) → x ≡ Some row → row.next_instruction + n ≤ 4294967295
+
+goes_less : (m n : ℕ) → m ≤ n → (x : Option ThreadRow) → CanGo n x → CanGo m x
+goes_less m n le x h row is = let r = h row is in omega arith
+
+-- a change of a row that goes on by one instruction at most
+abbrev GoesOn : (ThreadRow → ThreadRow) → Type 0
+GoesOn f = (row : ThreadRow) → (f row).next_instruction ≤ row.next_instruction + 1
+
+map_goes : (f : ThreadRow → ThreadRow) → GoesOn f → (n : ℕ) (x : Option ThreadRow) → CanGo (n + 1) x → CanGo n (option_map f x)
+map_goes f goes n None h row e = absurd (cc)
+map_goes f goes n (Some old) h row e =
+    let new : f old ≡ row = cc in
+    let same : (f old).next_instruction ≡ row.next_instruction = ap (λ (r : ThreadRow). r.next_instruction) new in
+    let a = goes old in
+    let b = h old refl in
+    omega arith
+
+threads_less : (m n : ℕ) → m ≤ n → (threads : List (Option ThreadRow)) → MayAdvance n threads → MayAdvance m threads
+threads_less m n le threads h k = goes_less m n le (get_or threads k None) (h k)
+
+row_goes : (f : ThreadRow → ThreadRow) → GoesOn f → (n : ℕ) (threads : List (Option ThreadRow)) (t : ObjNo) → MayAdvance (n + 1) threads → MayAdvance n (with_row threads t f)
+row_goes f goes n threads t h = set_keeps (CanGo n) threads t.0 (option_map f (get_or threads t.0 None)) None (map_goes f goes n (get_or threads t.0 None) (h t.0)) (threads_less n (n + 1) (omega arith) threads h)
+
+-- a change of a slot keeps tables small
+small_table : (table : List HandleSlot) (i : ℕ) (f : HandleSlot → HandleSlot) → KeepsInstances f → IsSmallTable table → IsSmallTable (slice_set table i (f (slot_at table i)))
+small_table table i f keeps h = record {
+  size = let long = length-set table i (f (slot_at table i)) in let few = h.size in omega arith;
+  instances = set_keeps (λ (slot : HandleSlot). slot.instance ≤ 16383) table i (f (slot_at table i)) fresh_slot (keeps (slot_at table i) (h.instances i)) h.instances;
+}
+
+small_tables : (tables : List (List HandleSlot)) (owner : ObjNo) (i : ℕ) (f : HandleSlot → HandleSlot) → KeepsInstances f → AreSmallTables tables → AreSmallTables (with_slot tables owner i f)
+small_tables tables owner i f keeps h = set_keeps IsSmallTable tables owner.0 (slice_set (get_or tables owner.0 []) i (f (slot_at (get_or tables owner.0 []) i))) [] (small_table (get_or tables owner.0 []) i f keeps (h owner.0)) h
+
+tables_gained : (h : Holder) (o : ObjNo) (tables : List (List HandleSlot)) → AreSmallTables tables → AreSmallTables (tables_gain h o tables)
+tables_gained (holder.InProcess p i) o tables small = small_tables tables p i (taken_slot o) (taken_keeps o) small
+tables_gained (holder.InThread t i) o tables small = small_tables tables t i (taken_slot o) (taken_keeps o) small
+tables_gained _ o tables small = small
+
+tables_lost : (h : Holder) (tables : List (List HandleSlot)) → AreSmallTables tables → AreSmallTables (tables_lose h tables)
+tables_lost (holder.InProcess p i) tables small = small_tables tables p i freed_slot freed_keeps small
+tables_lost (holder.InThread t i) tables small = small_tables tables t i freed_slot freed_keeps small
+tables_lost _ tables small = small
+
+-- changes of a row that stay at the instruction
+abbrev StaysAt : (ThreadRow → ThreadRow) → Type 0
+StaysAt f = (row : ThreadRow) → (f row).next_instruction ≡ row.next_instruction
+
+map_stays : (f : ThreadRow → ThreadRow) → StaysAt f → (n : ℕ) (x : Option ThreadRow) → CanGo n x → CanGo n (option_map f x)
+map_stays f stays n None h row e = absurd (cc)
+map_stays f stays n (Some old) h row e =
+    let new : f old ≡ row = cc in
+    let same : (f old).next_instruction ≡ row.next_instruction = ap (λ (r : ThreadRow). r.next_instruction) new in
+    let a = stays old in
+    let b = h old refl in
+    omega arith
+
+row_stays : (f : ThreadRow → ThreadRow) → StaysAt f → (n : ℕ) (threads : List (Option ThreadRow)) (t : ObjNo) → MayAdvance n threads → MayAdvance n (with_row threads t f)
+row_stays f stays n threads t h = set_keeps (CanGo n) threads t.0 (option_map f (get_or threads t.0 None)) None (map_stays f stays n (get_or threads t.0 None) (h t.0)) h
+
+threads_gained : (h : Holder) (o : ObjNo) (n : ℕ) (threads : List (Option ThreadRow)) → MayAdvance n threads → MayAdvance n (threads_gain h o threads)
+threads_gained (holder.Temp t) o n threads h = row_stays (with_use (Some o)) (λ row. refl) n threads t h
+threads_gained _ o n threads h = h
+
+threads_lost : (h : Holder) (n : ℕ) (threads : List (Option ThreadRow)) → MayAdvance n threads → MayAdvance n (threads_lose h threads)
+threads_lost (holder.Temp t) n threads h = row_stays (with_use None) (λ row. refl) n threads t h
+threads_lost _ n threads h = h
+
+threads_unlinked : (last : Bool) (o : ObjNo) (n : ℕ) (threads : List (Option ThreadRow)) → MayAdvance n threads → MayAdvance n (threads_closed last o threads)
+threads_unlinked true o n threads h = row_stays unlinked (λ row. refl) n threads o h
+threads_unlinked false o n threads h = h
+
+length_closed : (last : Bool) (o : ObjNo) (objects : List (Option ObjectRow)) → length (objects_closed last o objects) ≡ length objects
+length_closed true o objects = length-set objects o.0 (dead_row (get_or objects o.0 None))
+length_closed false o objects = refl
+
+-- room for more is room for less
+pub room_less : (m n : ℕ) (S : State) → m ≤ n → HasRoom n S → HasRoom m S
+room_less m n S le room = record {
+  objects = let few = room.objects in omega arith;
+  instructions = threads_less m n le S.threads room.instructions;
+  tables = room.tables;
+}
+
+-- room after a move that changes the rows of threads alone
+with_threads : (n : ℕ) (S T : State) → T.objects ≡ S.objects → T.handles ≡ S.handles → MayAdvance n T.threads → HasRoom (n + 1) S → HasRoom n T
+with_threads n S T same tables may room = record {
+  objects = let few = room.objects in let long = ap (λ (xs : List (Option ObjectRow)). length xs) same in omega arith;
+  instructions = may;
+  tables = subst AreSmallTables (sym tables) room.tables;
+}
+
+-- a move takes one away
+pub room_moved : (t : ObjNo) (m : Move) (n : ℕ) (S : State) → HasRoom (n + 1) S → HasRoom n (moved t m S)
+room_moved t (Make kind name h) n S room = record {
+  objects = let few = room.objects in let long = length-append S.objects (Some (new_object kind name) ∷ []) in omega arith;
+  instructions = threads_gained h (next_object S) n S.threads (threads_less n (n + 1) (omega arith) S.threads room.instructions);
+  tables = tables_gained h (next_object S) S.handles room.tables;
+}
+room_moved t (Gain h o) n S room = record {
+  objects = let few = room.objects in omega arith;
+  instructions = threads_gained h o n S.threads (threads_less n (n + 1) (omega arith) S.threads room.instructions);
+  tables = tables_gained h o S.handles room.tables;
+}
+room_moved t (Lose h o) n S room = record {
+  objects = let few = room.objects in let long = length_closed (is_last S o) o S.objects in omega arith;
+  instructions = threads_unlinked (is_last S o) o n (threads_lose h S.threads) (threads_lost h n S.threads (threads_less n (n + 1) (omega arith) S.threads room.instructions));
+  tables = tables_lost h S.handles room.tables;
+}
+room_moved t (Find u o) n S room = with_threads n S (moved t (Find u o) S) refl refl (row_goes (with_found o) (λ row. omega arith) n S.threads u room.instructions) room
+room_moved t (Miss o) n S room = room_less n (n + 1) S (omega arith) room
+room_moved t (GoOn u part) n S room = with_threads n S (moved t (GoOn u part) S) refl refl (row_goes (with_part part) (λ row. omega arith) n S.threads u room.instructions) room
+room_moved t (Write u x value) n S room = with_threads n S (moved t (Write u x value) S) refl refl (row_goes (with_register x value) (λ row. omega arith) n S.threads u room.instructions) room
+room_moved t (Advance u) n S room = with_threads n S (moved t (Advance u) S) refl refl (row_goes advanced (λ row. omega arith) n S.threads u room.instructions) room
+room_moved t (Pay (Close h o)) n S room = record {
+  objects = let few = room.objects in let long = length_closed (is_last S o) o S.objects in omega arith;
+  instructions = threads_unlinked (is_last S o) o n S.threads (threads_less n (n + 1) (omega arith) S.threads room.instructions);
+  tables = room.tables;
+}
+room_moved t (Pay (Sweep o)) n S room = record {
+  objects = let few = room.objects in let long = length-set S.objects o.0 None in omega arith;
+  instructions = set_keeps (CanGo n) S.threads o.0 None None (λ row e. absurd (cc)) (threads_less n (n + 1) (omega arith) S.threads room.instructions);
+  tables = room.tables;
+}

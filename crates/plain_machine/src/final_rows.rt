@@ -1,0 +1,30 @@
+//! The objects that are left.
+ghost use Rattle.std.specs.Prelude.{◌≡◌, ℕ, ◌<◌, ◌≤◌, length};
+ghost use Rattle.sym_base.specs.declared.number.ObjNo.{ObjNo};
+ghost use Rattle.machine.specs.FinalRows.{rows_from, IsNextRow};
+ghost use Rattle.machine.specs.References.{count_of};
+
+use entry_log::FinalRow;
+use machine::{State, count_of};
+use sym_base::ObjNo;
+
+/// The first object that isn't swept of the numbers from `from` on, with its count.
+#[tactic(auto, using(crate::proofs::LeftRows::rows_from_swept, crate::proofs::LeftRows::rows_from_left))]
+pub fn next_row(state: &State, from: u16) -> Option<FinalRow>
+    requires few { length state.now.objects ≤ 4096 }
+    requires counts { (object : ObjNo) → count_of state.now object < 65536 }
+    ensures { IsNextRow (rows_from state.now) from result }
+{
+    for number in from..state.objects.len() as u16 {
+        if let Some(row) = state.objects.get(number as usize) {
+            return Some(FinalRow {
+                object: ObjNo(number),
+                kind: row.kind,
+                name: row.name,
+                count: count_of(state, ObjNo(number)),
+                exit: None,
+            });
+        }
+    }
+    None
+}

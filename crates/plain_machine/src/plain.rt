@@ -1,0 +1,101 @@
+//! The plain machine: the definitions, run over plain lists.
+ghost use Rattle.std.specs.Prelude.{◌≡◌, ◌+◌, ◌<◌, ◌++◌, [], ◌∷◌, length, IfOk, OnOk, OnErr};
+ghost use Rattle.script_types.specs.Source.{IsValid};
+ghost use Rattle.machine.specs.FinalRows.{rows_from, IsNextRow};
+ghost use Rattle.machine.specs.History.{after, entry_by, IsLegal};
+ghost use Rattle.machine.specs.Run.{slot_actor};
+ghost use Rattle.machine.specs.Slots.{IsDeclared};
+
+use crate::choice::chosen;
+use crate::final_rows;
+use crate::transition::transition;
+use entry_log::{Actor, Entry, FinalRow};
+use machine::{State, entry_of, state_at_boot};
+use script_types::{Script, Slot};
+use std::alloc::Global;
+use std::marker::Model;
+use sym_base::{Items, NoMemory};
+
+/// A machine that runs a script as the definitions say, over plain lists. A contract sees its script
+/// and what happened so far.
+#[derive(Drop)]
+pub struct Plain {
+    alloc: Global,
+    script: Script,
+    state: State,
+    history: Items<Entry>,
+}
+
+impl Model for Plain {
+    ghost use Rattle.plain_machine.specs.PlainView.{PlainView, IsPlain};
+
+    ghost Value = { PlainView };
+
+    ghost view = { λ p. record { script = p.script; history = p.history } };
+
+    ghost invariant = { λ p. IsPlain p.script p.history p.state };
+}
+
+/// Whom a slot lets act.
+fn slot_actor(state: &State, slot: Slot) -> Actor
+    ensures { result ≡ slot_actor state.now slot }
+{
+    match slot {
+        Slot::Go => chosen(state),
+        Slot::Irq(number) => Actor::Irq(number),
+        Slot::Tick => Actor::Tick,
+    }
+}
+
+impl Plain {
+    /// The machine at boot.
+    pub fn boot(alloc: Global, script: Script) -> Result<Plain, NoMemory>
+        requires { IsValid script }
+        ensures { IfOk result (λ plain. plain ≡ record { script = script; history = [] }) }
+    {
+        let state = state_at_boot(alloc, &script)?;
+        Ok(Plain {
+            alloc,
+            script,
+            state,
+            history: Items::new(Vec::new(alloc)),
+        })
+    }
+
+    /// One atomic action of the actor that the slot lets act, told by one entry more. The action is made
+    /// on a copy of the state, so that at `Err` the machine is as before.
+    pub fn slot(&mut self, slot: Slot) -> Result<(), NoMemory>
+        requires declared { IsDeclared self.old.script slot }
+        requires few { length self.old.history < 4294967295 }
+        ensures script { self.new.script ≡ self.old.script }
+        ensures ok { let S = after self.old.script self.old.history in OnOk result (self.new.history ≡ self.old.history ++ entry_by self.old.script S (length self.old.history + 1) (slot_actor S slot) ∷ []) }
+        ensures err { OnErr result (self.new ≡ self.old) }
+    {
+        let actor = slot_actor(&self.state, slot);
+        let mut state = self.state.copied(self.alloc)?;
+        let outcome = transition(self.alloc, &self.script, &mut state, actor)?;
+        let entry = entry_of(self.history.len() as u32 + 1, actor, outcome);
+        self.history.push(entry)?;
+        self.state = state;
+        Ok(())
+    }
+
+    /// What happened so far, in order. It is a legal history of the script.
+    pub fn history(&self) -> &[Entry]
+        ensures entries { result.now ≡ self.now.history }
+        ensures legal { IsLegal self.now.script self.now.history }
+    {
+        self.history.as_slice()
+    }
+
+    /// The first object that is left of the numbers from `from` on, with its count. None where there is
+    /// none.
+    pub fn next_row(&self, from: u16) -> Option<FinalRow>
+        ensures { IsNextRow (rows_from (after self.now.script self.now.history)) from result }
+    {
+        final_rows::next_row(&self.state, from)
+    }
+}
+
+#[cfg(test)]
+mod tests;

@@ -1,0 +1,41 @@
+//! `tick`: a time slice ends.
+ghost use Rattle.std.specs.Prelude.{◌≡◌, IfOk};
+ghost use Rattle.machine.specs.Tick.{moved_behind, tick};
+ghost use Rattle.machine.specs.Transition.{left};
+
+use crate::arrivals::unlisted;
+use crate::choice::first_ready;
+use entry_log::{Effects, Step};
+use machine::{Outcome, State};
+use std::alloc::Global;
+use sym_base::{Items, NoMemory, ThreadNo};
+
+/// The list, where this thread gets a new arrival.
+fn moved_behind(
+    alloc: Global,
+    list: &[ThreadNo],
+    first: Option<ThreadNo>,
+) -> Result<Items<ThreadNo>, NoMemory>
+    ensures { IfOk result (λ next. next ≡ moved_behind list.now first) }
+{
+    let Some(first) = first else {
+        return Ok(Items::new(Vec::from_slice(alloc, list)?));
+    };
+    let mut next = unlisted(alloc, first, list)?;
+    next.push(first)?;
+    Ok(Items::new(next))
+}
+
+/// The thread that would act next goes behind its equals.
+#[tactic(auto, unfolding(machine::specs::Tick::tick))]
+pub fn tick(alloc: Global, state: &mut State) -> Result<Outcome, NoMemory>
+    ensures { IfOk result (λ outcome. left state.new outcome ≡ tick state.old) }
+{
+    let first = first_ready(state);
+    state.ready = moved_behind(alloc, state.ready.as_slice(), first)?;
+    Ok(Outcome {
+        step: Step::Turn,
+        effects: Effects::new(),
+        answer: None,
+    })
+}
