@@ -1,4 +1,3 @@
-mod BuiltSlots
 mod Judged
 mod Rows
 mod Runs

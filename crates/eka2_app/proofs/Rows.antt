@@ -3,7 +3,7 @@ use Rattle.std.proofs.Common.{◌≡◌, ℕ, ◌+◌, ◌<◌, List, [], ◌∷
 use Rattle.std.proofs.lemmas.List.{length-drop}
 use Rattle.entry_log.specs.declared.entry.Entry.{Entry}
 use Rattle.entry_log.specs.declared.entry.FinalRow.{FinalRow}
-use Rattle.machine.proofs.Boots.{good-after-valid}
+use Rattle.machine.proofs.Reached.AfterHistory.{well_formed-after}
 use Rattle.machine.specs.FinalRows.{final_row, rows_of, rows_from}
 use Rattle.machine.specs.History.{after}
 use Rattle.state_rows.specs.declared.object.ObjectRow.{ObjectRow}
@@ -31,5 +31,5 @@ row_among S n (Some object ∷ objects) row rest e =
 pub row_number : (script : Script) (history : List Entry) (n : ℕ) (row : FinalRow) (rest : List FinalRow) → IsValid script → rows_from (after script history) n ≡ row ∷ rest → row.object.0 < 4096
 row_number script history n row rest valid e =
     let among = row_among (after script history) n (drop n (after script history).objects) row rest e in
-    let few = (good-after-valid script history valid).objects_few in
+    let few = (well_formed-after script history valid).rows.sized.objects_few in
     omega (arith, length-drop n (after script history).objects)

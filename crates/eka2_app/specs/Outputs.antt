@@ -5,7 +5,7 @@ use Rattle.eka2_app.specs.Inputs.{IsInput, IsBadInput}
 use Rattle.eka2_app.specs.RunText.{run_text}
 use Rattle.machine.specs.History.{IsLegal}
 use Rattle.machine.specs.Run.{run}
-use Rattle.machine.specs.SafeReferences.{IsSafeReferences}
+use Rattle.machine_safe.specs.SafeReferences.{IsSafeReferences}
 use Rattle.script_read.specs.Refusal.{refusal_text}
 use Rattle.script_read.specs.declared.reason.Reason.{Reason}
 use Rattle.script_types.specs.declared.script.Script.{Script}

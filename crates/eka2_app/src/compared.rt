@@ -7,7 +7,7 @@ use crate::run::{PLACES, make_history};
 use crate::tests::{DYING_SCRIPT, SCRIPT};
 use entry_log::{Entry, FinalRow};
 use kcore::Kernel;
-use machine::Plain;
+use plain_machine::Plain;
 use ref_words::PlainWords;
 use script_read::{ReadScript, read_script};
 use script_types::{Limits, Script};

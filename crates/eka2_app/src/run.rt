@@ -8,7 +8,7 @@ ghost use Rattle.eka2_app.specs.Outputs.{WroteRun, WroteRefusalOf, WroteFront};
 ghost use Rattle.eka2_app.specs.RunText.{HasRun, run_text};
 ghost use Rattle.machine.specs.History.{IsLegal};
 ghost use Rattle.machine.specs.Run.{run};
-ghost use Rattle.machine.specs.SafeReferences.{IsSafeReferences};
+ghost use Rattle.machine_safe.specs.SafeReferences.{IsSafeReferences};
 ghost use Rattle.script_read.specs.Refusal.{refusal_text};
 ghost use Rattle.script_read.specs.declared.reason.Reason.{Reason};
 ghost use Rattle.script_types.specs.Source.{IsValid};
@@ -22,13 +22,13 @@ use ref_words::PlainWords;
 use script_read::{ReadScript, Reason, RunFault, read_script};
 use script_types::Script;
 use std::alloc::Global;
-use sym_base::NoMemory;
+use sym_base::{Limits, NoMemory};
 
 /// The places of the count words: one for each object that a kernel may make.
-pub const PLACES: u32 = 4096;
+pub const PLACES: u32 = Limits::OBJECTS as u32;
 
 /// Makes the whole history of a script: each slot of its schedule makes one entry.
-#[tactic(auto, using(crate::proofs::BuiltSlots::valid_slots_few))]
+#[tactic(auto, using(machine::proofs::ValidSlots::valid_slots_few))]
 pub fn make_history(alloc: Global, script: Script) -> Result<Kernel<PlainWords>, NoMemory>
     requires { IsValid script }
     ensures { IfOk result (λ kernel. HasRun script kernel) }

@@ -1,13 +1,13 @@
 use Rattle.std.proofs.Common.{rules, ◌∙◌, ap, ◌+◌, arith}
-use Rattle.eka2_app.proofs.BuiltSlots.{valid_slot_is_built, valid_slots_few}
+use Rattle.machine.proofs.ValidSlots.{valid_slot_is_declared, valid_slots_few}
 use Rattle.eka2_app.proofs.Runs.{run_step, run_longer}
 use Rattle.eka2_app.proofs.run.make_history.Goals as goal
 
 pub boot-requires-clause-room : goal.boot-requires-clause-room
 boot-requires-clause-room c = rw (c.len-room.ensures, c.in_ok-slots.ensures) (omega (arith, valid_slots_few c.args.script c.requires))
 
-pub slot-requires-clause-built : goal.slot-requires-clause-built
-slot-requires-clause-built c = rw (c.as_slice-slot-items.ensures, c.in_ok-slots.ensures) (valid_slot_is_built c.args.script c.loop-slot.slot-index c.requires)
+pub slot-requires-clause-declared : goal.slot-requires-clause-declared
+slot-requires-clause-declared c = rw (c.loop-slot.invariant.script, c.as_slice-slot-items.ensures, c.in_ok-slots.ensures) (valid_slot_is_declared c.args.script c.loop-slot.slot-index c.requires)
 
 pub loop-slot-preserved : goal.loop-slot-preserved
 loop-slot-preserved c =

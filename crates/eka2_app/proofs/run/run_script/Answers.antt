@@ -2,7 +2,7 @@ use Rattle.std.proofs.Common.{subst}
 use Rattle.script_types.specs.declared.script.Script.{Script}
 use Rattle.machine.specs.History.{IsLegal}
 use Rattle.machine.specs.Run.{run}
-use Rattle.machine.proofs.SafeHistories.{legal_safe}
+use Rattle.machine_safe.proofs.SafeHistories.{legal_safe}
 use Rattle.eka2_app.proofs.run.run_script.Goals as goal
 
 pub returns-clause-safe : goal.returns-clause-safe
