@@ -1,6 +1,10 @@
+mod ActionsDone
+mod BootReady
+mod BootTables
 mod Finds
-mod FreshTable
 mod FirstCount
+mod FreshTable
+mod GoingMoves
 mod Performing
 mod ReadyChanges
 mod ReadyLists

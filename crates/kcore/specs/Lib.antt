@@ -1,3 +1,4 @@
+pub mod BootTable
 pub mod ObjectsView
 pub mod Counts
 pub mod StateOf

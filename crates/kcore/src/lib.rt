@@ -1,6 +1,8 @@
 //! The kernel: tables with kept counts, whose every action is the one of the definitions.
 #![tactic(auto)]
 
+mod act;
+mod boot;
 mod handles;
 mod moves;
 mod object_table;

@@ -2,3 +2,4 @@
 pub mod AfterHistory
 pub mod Histories
 pub mod NextState
+pub mod LeftRows

@@ -1,5 +1,4 @@
 pub mod Best
-pub mod LeftRows
 pub mod Performing
 pub mod Rooms
 pub mod Steps

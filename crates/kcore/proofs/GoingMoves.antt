@@ -1,0 +1,213 @@
+-- The moves of each action go through: they can be made in the tables, and keep priorities and the readiness of those that
+-- they don't touch.
+use Rattle.std.proofs.Common.{◌≡◌, ◌⊎◌, inl, inr, ℕ, zero, suc, ◌+◌, ◌*◌, ◌<◌, ◌≤◌, List, [], ◌∷◌, length, get_or, arith, refl, sym, ap, subst, ◌∙◌, Bool, true, false}
+use Rattle.std.specs.Prelude.{IsTrue, is_some, if◌then◌else◌, Option, Some, None, option_map, slice_set}
+use Rattle.std.proofs.lemmas.Bool.{cases_eq, cases_lt}
+use Rattle.std.proofs.lemmas.List.{get_or-set_other, get_or_past}
+use Rattle.sym_base.specs.declared.number.ObjNo.{ObjNo}
+use Rattle.script_types.specs.declared.script.Script.{Script}
+use Rattle.script_types.specs.Shape.{IsShaped}
+use Rattle.entry_log.specs.declared.effect.Effect.{Effect}
+use Rattle.entry_log.specs.declared.effect.Holder.{Holder}
+use Rattle.entry_log.specs.declared.effect.Holder.TheVariants.{Temp}
+use Rattle.state_rows.specs.declared.duty.Owed.{Owed}
+use Rattle.state_rows.specs.declared.duty.Owed.TheVariants.{Close, Sweep}
+use Rattle.state_rows.specs.declared.object.ObjectRow.{ObjectRow}
+use Rattle.state_rows.specs.ObjectRows.{is_dead_row}
+use Rattle.machine.specs.declared.moves.Move.{Move}
+use Rattle.machine.specs.declared.moves.Move.TheVariants.{Make, Gain, Lose, Find, Miss, GoOn, Write, Advance, Pay}
+use Rattle.machine.specs.declared.state.State.{State}
+use Rattle.machine.specs.declared.state.ThreadRow.{ThreadRow}
+use Rattle.machine.specs.Choice.{priority_of, priority_of_row}
+use Rattle.machine.specs.Fits.{FitsMove, EachFits, Fits, Sane}
+use Rattle.machine.specs.Moves.{moved, told, closed_effects, threads_gain, threads_lose, threads_closed, with_use, unlinked, with_found, with_part, with_register, advanced, next_object}
+use Rattle.machine.specs.References.{total, same, count_of, kernel_names, pluses, minuses, RefsMove}
+use Rattle.machine.specs.Room.{MayAdvance}
+use Rattle.machine.specs.Rows.{object_of, thread_of, owed_of, with_row}
+use Rattle.machine.specs.Steps.{decision_of}
+use Rattle.machine.specs.WellFormed.{IsAlive, AreRows, is_dead, dead_bit, owed_sweeps, weight}
+use Rattle.machine.proofs.Fitting.Actions.{Pays, fits-action, sane-of}
+use Rattle.machine.proofs.Holders.ThreadRows.{row-here, row-other}
+use Rattle.machine.proofs.Lists.Totals.{inside, total_at_least}
+use Rattle.machine.proofs.MoveLaws.Run.{sound-move, sound-pay, sane-after, refs-of, weight-move}
+use Rattle.machine.proofs.MoveLaws.Sound.{Sound}
+use Rattle.machine.proofs.PlainMachine.CountSmall.{count_small}
+use Rattle.machine.proofs.PlainMachine.Steps.{room_of_rows}
+use Rattle.machine.proofs.Readiness.Touched.{untouched}
+use Rattle.machine.proofs.References.Same.{same_self}
+use Rattle.kcore.specs.Moved.{CanMove, IsNew, IsReferred, AreKnown, MoveGoes, MovesGo}
+use Rattle.kcore.specs.ObjectsView.{IsThere}
+
+-- a change of a row that leaves its priority leaves all priorities
+rank_row : (row : Option ThreadRow) (f : ThreadRow → ThreadRow) → ((r : ThreadRow) → (f r).priority ≡ r.priority) → priority_of_row (option_map f row) ≡ priority_of_row row
+rank_row None f keeps = refl
+rank_row (Some r) f keeps = keeps r
+
+rank-with_row : (threads : List (Option ThreadRow)) (t : ObjNo) (f : ThreadRow → ThreadRow) (u : ObjNo) → ((r : ThreadRow) → (f r).priority ≡ r.priority) → priority_of_row (get_or (with_row threads t f) u.0 None) ≡ priority_of_row (get_or threads u.0 None)
+rank-with_row threads t f u keeps = elim (cases_eq t.0 u.0) [
+  | inl at ↦ ap priority_of_row (row-here threads t f u.0 at) ∙ (rank_row (get_or threads t.0 None) f keeps ∙ ap (λ (n : ℕ). priority_of_row (get_or threads n None)) at)
+  | inr apart ↦ ap priority_of_row (row-other threads t f u.0 apart)
+]
+
+rank-gain : (threads : List (Option ThreadRow)) (h : Holder) (o u : ObjNo) → priority_of_row (get_or (threads_gain h o threads) u.0 None) ≡ priority_of_row (get_or threads u.0 None)
+rank-gain threads (Temp t) o u = rank-with_row threads t (with_use (Some o)) u (λ r. refl)
+rank-gain threads _ o u = refl
+
+rank-lose : (threads : List (Option ThreadRow)) (h : Holder) (u : ObjNo) → priority_of_row (get_or (threads_lose h threads) u.0 None) ≡ priority_of_row (get_or threads u.0 None)
+rank-lose threads (Temp t) u = rank-with_row threads t (with_use None) u (λ r. refl)
+rank-lose threads _ u = refl
+
+rank-closed : (threads : List (Option ThreadRow)) (last : Bool) (o u : ObjNo) → priority_of_row (get_or (threads_closed last o threads) u.0 None) ≡ priority_of_row (get_or threads u.0 None)
+rank-closed threads true o u = rank-with_row threads o unlinked u (λ r. refl)
+rank-closed threads false o u = refl
+
+-- a number without a row has none after it is taken away
+rank-none : (threads : List (Option ThreadRow)) (o u : ObjNo) → get_or threads o.0 None ≡ None → priority_of_row (get_or (slice_set threads o.0 None) u.0 None) ≡ priority_of_row (get_or threads u.0 None)
+rank-none threads o u none = ap (λ (l : List (Option ThreadRow)). priority_of_row (get_or l u.0 None)) (set_none threads o.0 none)
+  where
+    set_none : (threads : List (Option ThreadRow)) (i : ℕ) → get_or threads i None ≡ None → slice_set threads i None ≡ threads
+    set_none [] i none = refl
+    set_none (x ∷ xs) zero none = ap (λ y. y ∷ xs) (sym none)
+    set_none (x ∷ xs) (suc i) none = ap (λ l. x ∷ l) (set_none xs i none)
+
+-- an object that is alive isn't swept
+alive_there : (row : Option ObjectRow) → IsAlive row → IsThere row
+alive_there None h = absurd h
+alive_there (Some row) h = refl
+
+-- an object that is referred to is alive, and few refer to it
+referred : (script : Script) (S : State) (o : ObjNo) → AreRows script S → 0 < count_of S o → IsReferred S o
+referred script S o rows some = record {
+  there = alive_there (object_of S o) (rows.lives.alive o some);
+  known = some;
+  few = count_small script S rows o;
+}
+
+-- whoever gives a reference up has one
+closed_minus : (last : Bool) (h : Holder) (o : ObjNo) → (minuses (closed_effects last h o) o ≡ 1) × (pluses (closed_effects last h o) o ≡ 0)
+closed_minus true h o = let one = same_self o in (omega arith, refl)
+closed_minus false h o = let one = same_self o in (omega arith, refl)
+
+was_held : (S T : State) (last : Bool) (h : Holder) (o : ObjNo) → RefsMove S T (closed_effects last h o) → 0 < count_of S o
+was_held S T last h o refs = let moves = refs.each o in let one = closed_minus last h o in omega arith
+
+-- the next object isn't referred to yet
+next_fresh : (script : Script) (S : State) → AreRows script S → count_of S (next_object S) ≡ 0
+next_fresh script S rows = elim (cases_lt 0 (count_of S (next_object S))) [
+  | inl some ↦
+      let alive = rows.lives.alive (next_object S) some in
+      let none = get_or_past S.objects (length S.objects) None (omega arith) in
+      absurd (subst IsAlive none alive)
+  | inr zero_left ↦ omega arith
+]
+
+-- an object whose sweep is owed is dead
+bit_true : (b : Bool) → 0 < dead_bit b → b ≡ true
+bit_true true h = refl
+bit_true false h = absurd (omega arith)
+
+counted_dead : (row : Option ObjectRow) → 0 < is_dead row → IsTrue (is_dead_row row)
+counted_dead None h = absurd (omega arith)
+counted_dead (Some row) h = bit_true row.dead h
+
+swept_dead : (script : Script) (S : State) (t o : ObjNo) (rest : List Owed) → AreRows script S → t.0 < length S.owed → owed_of S t ≡ Sweep o ∷ rest → IsTrue (is_dead_row (object_of S o))
+swept_dead script S t o rest rows lt is =
+    let at = total_at_least (total (owed_sweeps o)) S.owed t.0 [] lt in
+    let was : total (owed_sweeps o) (owed_of S t) ≡ same o o + total (owed_sweeps o) rest = ap (total (owed_sweeps o)) is in
+    let self = same_self o in
+    let dead = rows.lives.sweeps o in
+    counted_dead (object_of S o) (omega arith)
+
+-- a dead object is no thread with a row
+dead_alive : (row : Option ObjectRow) → IsTrue (is_dead_row row) → IsAlive row → ⊥
+dead_alive None dead alive = alive
+dead_alive (Some row) dead alive = cc
+
+kernel_holds : (S : State) (o : ObjNo) (row : Option ThreadRow) → thread_of S o ≡ row → (0 < count_of S o → ⊥) → row ≡ None
+kernel_holds S o None is uncounted = refl
+kernel_holds S o (Some row) is uncounted = absurd (uncounted (counted_by S o row is))
+  where
+    counted_by : (S : State) (o : ObjNo) (row : ThreadRow) → thread_of S o ≡ Some row → 0 < count_of S o
+    counted_by S o row is = let one : kernel_names S o ≡ 1 = ap (λ (x : Option ThreadRow). if is_some x then 1 else 0) is in omega arith
+
+-- when a move that fits can be made
+can_move : (script : Script) (S : State) (t : ObjNo) (m : Move) → IsShaped script → FitsMove script t m S → RefsMove S (moved t m S) (told m S) → Sane script t S → CanMove m S
+can_move script S t (Make kind name h) shaped fits refs s = (fits.0.named, fits.0.new, record { room = fits.0.room; fresh = next_fresh script S s.rows })
+can_move script S t (Gain h o) shaped fits refs s = referred script S o s.rows (s.rows.lives.counted o fits.1)
+can_move script S t (Lose h o) shaped fits refs s = referred script S o s.rows (was_held S (moved t (Lose h o) S) _ h o refs)
+can_move script S t (Find u o) shaped fits refs s = tt
+can_move script S t (Miss o) shaped fits refs s = tt
+can_move script S t (GoOn u part) shaped fits refs s = tt
+can_move script S t (Write u x value) shaped fits refs s = tt
+can_move script S t (Advance u) shaped fits refs s = let room = room_of_rows script S shaped s.rows in λ k row is. let a = room.instructions k row is in omega arith
+can_move script S t (Pay what) shaped fits refs s = absurd fits
+
+-- priorities stay
+ranks_move : (script : Script) (S : State) (t : ObjNo) (m : Move) (u : ObjNo) → FitsMove script t m S → priority_of (moved t m S) u ≡ priority_of S u
+ranks_move script S t (Make kind name h) u fits = rank-gain S.threads h (next_object S) u
+ranks_move script S t (Gain h o) u fits = rank-gain S.threads h o u
+ranks_move script S t (Lose h o) u fits = rank-closed (threads_lose h S.threads) _ o u ∙ rank-lose S.threads h u
+ranks_move script S t (Find v o) u fits = rank-with_row S.threads v (with_found o) u (λ r. refl)
+ranks_move script S t (Miss o) u fits = refl
+ranks_move script S t (GoOn v part) u fits = rank-with_row S.threads v (with_part part) u (λ r. refl)
+ranks_move script S t (Write v x value) u fits = rank-with_row S.threads v (with_register x value) u (λ r. refl)
+ranks_move script S t (Advance v) u fits = rank-with_row S.threads v advanced u (λ r. refl)
+ranks_move script S t (Pay what) u fits = absurd fits
+
+-- threads have the least numbers, and priorities in their range
+known : (script : Script) (S : State) → AreRows script S → AreKnown S
+known script S rows u row is =
+    let there = inside S.threads u.0 row is in
+    let few = rows.sized.threads_few in
+    let low = (rows.threads.rows u.0 row is).priority in
+    (omega arith, omega arith)
+
+-- each of the moves that fit goes through
+each_goes : (script : Script) (S : State) (t : ObjNo) (ms : List Move) → IsShaped script → EachFits script t ms S → total weight (owed_of S t) + 4 * length ms ≤ 32 → Sane script t S → MovesGo script t ms S
+each_goes script S t [] shaped fits few s = tt
+each_goes script S t (m ∷ ms) shaped fits few s =
+    let T = moved t m S in
+    let sound = sound-move script S t m fits.0 (omega arith) s in
+    let refs = refs-of script S T (told m S) sound in
+    let w = weight-move script S t m fits.0 in
+    let goes : MoveGoes script t m S = record {
+      can = can_move script S t m shaped fits.0 refs s;
+      refs = refs;
+      known = known script T sound.rows;
+      ranks = λ u. ranks_move script S t m u fits.0;
+      apart = λ u none. untouched script S t m u none;
+    } in
+    (goes, each_goes script T t ms shaped fits.1 (omega arith) (sane-after script S T t (told m S) s sound))
+
+-- so does the payment of what is owed
+can_pay : (script : Script) (S : State) (t : ObjNo) (what : Owed) (rest : List Owed) → owed_of S t ≡ what ∷ rest → RefsMove S (moved t (Pay what) S) (told (Pay what) S) → Sane script t S → CanMove (Pay what) S
+can_pay script S t (Close h o) rest owes refs s = referred script S o s.rows (was_held S (moved t (Pay (Close h o)) S) _ h o refs)
+can_pay script S t (Sweep o) rest owes refs s = swept_dead script S t o rest s.rows (let long = s.rows.sized.duties in let there = s.inside in omega arith) owes
+
+ranks_pay : (script : Script) (S : State) (t : ObjNo) (what : Owed) (u : ObjNo) → CanMove (Pay what) S → AreRows script S → priority_of (moved t (Pay what) S) u ≡ priority_of S u
+ranks_pay script S t (Close h o) u can rows = rank-closed S.threads _ o u
+ranks_pay script S t (Sweep o) u can rows =
+    rank-none S.threads o u (kernel_holds S o (thread_of S o) refl (λ some. dead_alive (object_of S o) can (rows.lives.alive o some)))
+
+pay_goes : (script : Script) (S : State) (t : ObjNo) (what : Owed) (rest : List Owed) → owed_of S t ≡ what ∷ rest → Sane script t S → MoveGoes script t (Pay what) S
+pay_goes script S t what rest owes s =
+    let T = moved t (Pay what) S in
+    let sound = sound-pay script S t what rest owes s in
+    let refs = refs-of script S T (told (Pay what) S) sound in
+    let can = can_pay script S t what rest owes refs s in
+    record {
+      can = can;
+      refs = refs;
+      known = known script T sound.rows;
+      ranks = λ u. ranks_pay script S t what u can s.rows;
+      apart = λ u none. untouched script S t (Pay what) u none;
+    }
+
+-- the moves of each action go through
+pub action_goes : (script : Script) (S : State) (t : ObjNo) (row : ThreadRow) → IsShaped script → AreRows script S → thread_of S t ≡ Some row → MovesGo script t (decision_of script S t).moves S
+action_goes script S t row shaped rows is =
+    let s = sane-of script S t row rows is in
+    elim (fits-action script S t shaped rows) as (λ _. MovesGo script t (decision_of script S t).moves S) [
+      | inl fits ↦ each_goes script S t (decision_of script S t).moves shaped fits.each fits.few s
+      | inr pays ↦ subst (λ (ms : List Move). MovesGo script t ms S) (sym pays.moves) (pay_goes script S t pays.what pays.rest pays.owes s, tt)
+    ]

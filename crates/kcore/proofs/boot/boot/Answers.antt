@@ -1,0 +1,74 @@
+use Rattle.std.proofs.Common.{◌≡◌, ◌<◌, ◌∙◌, List, sym, ap, subst, length, arith, true, map, replicate}
+use Rattle.sym_base.specs.declared.limits.TheConstants.Limits.{BOOT_OBJECTS, HANDLES}
+use Rattle.sym_base.specs.declared.number.ObjNo.{ObjNo}
+use Rattle.script_types.proofs.ShapeLaws.{valid_is_shaped}
+use Rattle.machine.specs.declared.boot.Born.{Born}
+use Rattle.machine.specs.declared.state.State.{State}
+use Rattle.machine.specs.declared.state.HandleSlot.{HandleSlot}
+use Rattle.machine.specs.Arrivals.{is_listed}
+use Rattle.machine.specs.Boot.{boot, boot_of, born}
+use Rattle.machine.specs.Choice.{priority_of}
+use Rattle.machine.specs.Handles.{fresh_slot}
+use Rattle.machine.specs.References.{count_of}
+use Rattle.machine.specs.WellFormed.{AreApart}
+use Rattle.machine.proofs.AtBoot.Born.{born_few}
+use Rattle.machine.proofs.AtBoot.BootRows.{rows-boot, well_formed-boot}
+use Rattle.machine.proofs.Numbers.CountSmall.{count_small}
+use Rattle.kcore.specs.BootTable.{AreNew, FirstStand}
+use Rattle.kcore.specs.Counts.{Agrees}
+use Rattle.kcore.specs.ReadyQueues.{AreReady}
+use Rattle.kcore.proofs.BootReady.{listed_known, listed_ranged}
+use Rattle.kcore.proofs.BootTables.{new_at_boot, agrees_at_boot}
+use Rattle.kcore.proofs.boot.boot.Goals as goal
+
+pub all_born-requires : goal.all_born-requires
+all_born-requires g c = valid_is_shaped c.args.script.now c.requires.valid
+
+pub boot_of-requires : goal.boot_of-requires
+boot_of-requires g c = let few = born_few c.args.script.now (valid_is_shaped c.args.script.now c.requires.valid) in let e = ap length (c.as_slice-2.ensures ∙ c.in_ok-all.ensures) in omega arith
+
+pub counted-requires-clause-few : goal.counted-requires-clause-few
+counted-requires-clause-few g c = let few = born_few c.args.script.now (valid_is_shaped c.args.script.now c.requires.valid) in let e = ap length (c.as_slice-3.ensures ∙ c.in_ok-all.ensures) in omega arith
+
+pub counted-requires-clause-small : goal.counted-requires-clause-small
+counted-requires-clause-small g c =
+    let script = c.args.script.now in
+    let is : c.in_ok-state.state ≡ boot script = c.in_ok-state.ensures ∙ ap boot_of (c.as_slice-2.ensures ∙ c.in_ok-all.ensures) in
+    subst (λ (S : State). (o : ObjNo) → count_of S o < 65536) (sym is) (count_small script (boot script) (rows-boot script c.requires.valid))
+
+pub counted-requires-clause-born : goal.counted-requires-clause-born
+counted-requires-clause-born g c =
+    let script = c.args.script.now in
+    let is : c.in_ok-state.state ≡ boot script = c.in_ok-state.ensures ∙ ap boot_of (c.as_slice-2.ensures ∙ c.in_ok-all.ensures) in
+    let all : c.as_slice-3.result.now ≡ born script = c.as_slice-3.ensures ∙ c.in_ok-all.ensures in
+    subst (λ (S : State). AreNew c.as_slice-3.result.now S) (sym is) (subst (λ (bs : List Born). AreNew bs (boot script)) (sym all) (new_at_boot script c.requires.valid))
+
+pub queues_of-requires-clause-once : goal.queues_of-requires-clause-once
+queues_of-requires-clause-once g c =
+    let script = c.args.script.now in
+    let is : c.in_ok-state.state ≡ boot script = c.in_ok-state.ensures ∙ ap boot_of (c.as_slice-2.ensures ∙ c.in_ok-all.ensures) in
+    subst (λ (S : State). AreApart S.ready) (sym is) (well_formed-boot script c.requires.valid).ready.once
+
+pub queues_of-requires-clause-known : goal.queues_of-requires-clause-known
+queues_of-requires-clause-known g c =
+    let script = c.args.script.now in
+    let is : c.in_ok-state.state ≡ boot script = c.in_ok-state.ensures ∙ ap boot_of (c.as_slice-2.ensures ∙ c.in_ok-all.ensures) in
+    subst (λ (S : State). (t : ObjNo) → is_listed S.ready t ≡ true → t.0 < BOOT_OBJECTS) (sym is) (listed_known script (boot script) (well_formed-boot script c.requires.valid))
+
+pub queues_of-requires-clause-ranged : goal.queues_of-requires-clause-ranged
+queues_of-requires-clause-ranged g c =
+    let script = c.args.script.now in
+    let is : c.in_ok-state.state ≡ boot script = c.in_ok-state.ensures ∙ ap boot_of (c.as_slice-2.ensures ∙ c.in_ok-all.ensures) in
+    subst (λ (S : State). (t : ObjNo) → is_listed S.ready t ≡ true → priority_of S t < 64) (sym is) (listed_ranged script (boot script) (well_formed-boot script c.requires.valid))
+
+pub returns-clause-agree : goal.returns-clause-agree
+unfolding boot_of
+returns-clause-agree g c =
+    let script = c.args.script.now in
+    let is : c.in_ok-state.state ≡ boot script = c.in_ok-state.ensures ∙ ap boot_of (c.as_slice-2.ensures ∙ c.in_ok-all.ensures) in
+    let all : c.as_slice-3.result.now ≡ born script = c.as_slice-3.ensures ∙ c.in_ok-all.ensures in
+    let bs = c.as_slice-3.result.now in
+    let objects = c.in_ok-objects.objects in
+    let agree : Agrees objects.counts (boot script) = agrees_at_boot script c.requires.valid bs objects.rows objects.counts all (subst (λ (S : State). FirstStand bs S objects.rows objects.counts (length bs)) is c.in_ok-objects.ensures) in
+    let handles : c.in_ok-handles.handles ≡ (boot script).handles = c.in_ok-handles.ensures ∙ ap (map (λ (_ : Born). replicate HANDLES fresh_slot)) (c.as_slice.ensures ∙ c.in_ok-all.ensures) in
+    λ o. agree o ∙ sym (ap (λ (S : State). count_of (record S { handles = c.in_ok-handles.handles }) o) is ∙ ap (λ (hs : List (List HandleSlot)). count_of (record (boot script) { handles = hs }) o) handles)

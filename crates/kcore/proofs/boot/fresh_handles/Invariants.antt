@@ -1,0 +1,7 @@
+use Rattle.std.proofs.Common.{◌≡◌, map, replicate, take}
+use Rattle.sym_base.specs.declared.limits.TheConstants.Limits.{HANDLES}
+use Rattle.machine.specs.Handles.{fresh_slot}
+use Rattle.kcore.proofs.boot.fresh_handles.Given as goal
+
+abbrev pub invariant-loop-born : goal.invariant-loop-born
+invariant-loop-born l = l.tables.items ≡ map (λ _. replicate HANDLES fresh_slot) (take l._born-index l.all)

@@ -1,0 +1,33 @@
+use Rattle.std.proofs.Common.{◌≡◌, ◌∙◌, List, [], get_or, take, ◌+◌, sym, ap, subst}
+use Rattle.std.specs.Prelude.{slice_get, Some}
+use Rattle.std.proofs.lemmas.Option.{slice_get-get_or}
+use Rattle.sym_base.specs.declared.number.ObjNo.{ObjNo}
+use Rattle.ready_list.specs.Ready.{Ready, added}
+use Rattle.machine.specs.Choice.{priority_of}
+use Rattle.kcore.specs.ReadyQueues.{AreReady}
+use Rattle.kcore.proofs.BootReady.{none_ready, one_more_ready, not_ready_yet, got_listed}
+use Rattle.kcore.proofs.boot.queues_of.Goals as goal
+
+pub loop-thread-init : goal.loop-thread-init
+loop-thread-init c = subst (λ (r : Ready). AreReady (priority_of c.args.state.now) [] r) (sym c.in_ok-list.ensures) (none_ready (priority_of c.args.state.now))
+
+pub add-requires-clause-fresh : goal.add-requires-clause-fresh
+add-requires-clause-fresh c =
+    let S = c.args.state.now in
+    let ts = c.as_slice-thread-items.result.now in
+    let k = c.loop-thread.thread-index in
+    let none : ObjNo = record { 0 = 0 } in
+    let at : slice_get S.ready k ≡ Some (get_or ts k none) = ap (λ (l : List ObjNo). slice_get l k) (sym c.as_slice-thread-items.ensures) ∙ slice_get-get_or ts k none c.loop-thread-test.true in
+    not_ready_yet (priority_of S) S.ready k (get_or ts k none) c.loop-thread.list c.requires.once c.loop-thread.invariant at
+
+pub loop-thread-preserved : goal.loop-thread-preserved
+loop-thread-preserved c =
+    let S = c.args.state.now in
+    let ts = c.as_slice-thread-items.result.now in
+    let k = c.loop-thread.thread-index in
+    let none : ObjNo = record { 0 = 0 } in
+    let t = get_or ts k none in
+    let at : slice_get S.ready k ≡ Some t = ap (λ (l : List ObjNo). slice_get l k) (sym c.as_slice-thread-items.ensures) ∙ slice_get-get_or ts k none c.loop-thread-test.true in
+    let listed = got_listed S.ready k t at in
+    let made : c.add.new.self ≡ added c.loop-thread.list t (priority_of S t) = c.add.ensures ∙ ap (added c.loop-thread.list t) c.priority_of.ensures in
+    subst (AreReady (priority_of S) (take (k + 1) S.ready)) (sym made) (one_more_ready (priority_of S) S.ready k t c.loop-thread.list (c.requires.known t listed) (c.requires.ranged t listed) c.requires.once c.loop-thread.invariant at)

@@ -1,0 +1,7 @@
+use Rattle.std.proofs.Common.{take}
+use Rattle.machine.specs.Choice.{priority_of}
+use Rattle.kcore.specs.ReadyQueues.{AreReady}
+use Rattle.kcore.proofs.boot.queues_of.Given as goal
+
+abbrev pub invariant-loop-thread : goal.invariant-loop-thread
+invariant-loop-thread l = AreReady (priority_of l.state) (take l.thread-index l.state.ready) l.list

@@ -1,0 +1,131 @@
+//! The tables and the queues of ready threads at boot.
+ghost use Rattle.std.specs.Prelude.{◌≡◌, ℕ, ◌<◌, ◌≤◌, ◌++◌, [], ◌∷◌, Some, true, false, length, map, replicate, IfOk, slice_index, slice_set};
+ghost use Rattle.sym_base.specs.declared.limits.TheConstants.Limits.{BOOT_OBJECTS, OBJECTS, HANDLES};
+ghost use Rattle.sym_base.specs.declared.number.ObjNo.{ObjNo};
+ghost use Rattle.script_types.specs.Source.{IsValid};
+ghost use Rattle.ref_words.specs.Words.{NoneCreated};
+ghost use Rattle.state_rows.specs.ObjectRows.{is_session, is_taken};
+ghost use Rattle.machine.specs.Arrivals.{is_listed};
+ghost use Rattle.machine.specs.Boot.{boot};
+ghost use Rattle.machine.specs.Choice.{priority_of};
+ghost use Rattle.machine.specs.Handles.{fresh_slot};
+ghost use Rattle.machine.specs.References.{count_of};
+ghost use Rattle.machine.specs.WellFormed.{AreApart};
+ghost use Rattle.kcore.specs.BootTable.{AreNew, FirstStand};
+ghost use Rattle.kcore.specs.Counts.{Agrees};
+ghost use Rattle.kcore.specs.ReadyQueues.{AreReady};
+ghost use Rattle.kcore.specs.StateOf.{state_of, with_ready};
+
+use crate::handles::Handles;
+use crate::object_table::ObjectTable;
+use crate::tables::Tables;
+use machine::{Born, State, all_born, boot_of, count_of, row_of};
+use ready_list::ReadyList;
+use ref_words::RefWords;
+use script_types::Script;
+use state_rows::ObjectRow;
+use std::alloc::Global;
+use sym_base::{Items, Limits, NoMemory, ObjNo, ThreadNo};
+
+/// An object with so many references, at least one.
+fn make_counted<W: RefWords + Drop>(objects: &mut ObjectTable<W>, row: &ObjectRow, count: u32)
+    requires named { is_session row.now.kind ≡ false }
+    requires alive { row.now.dead ≡ false }
+    requires fresh { is_taken row.now.kind row.now.name objects.old.rows ≡ false }
+    requires room { length objects.old.rows < OBJECTS }
+    requires some { 0 < count }
+    requires small { count < 65536 }
+    ensures rows { objects.new.rows ≡ objects.old.rows ++ Some row.now ∷ [] }
+    ensures counts { objects.new.counts ≡ slice_set objects.old.counts (length objects.old.rows) count }
+    ensures last { slice_index objects.new.counts (length objects.old.rows) ≡ count }
+{
+    let object = objects.make(row.kind, &row.name);
+    for _held in 1..count {
+        objects.add_ref(object);
+    }
+}
+
+/// The objects at boot, each with the number of its references.
+fn counted<W: RefWords + Drop>(
+    alloc: Global,
+    words: W,
+    all: &[Born],
+    state: &State,
+) -> Result<ObjectTable<W>, NoMemory>
+    requires places { length (W.meaning words).own ≡ OBJECTS }
+    requires fresh { NoneCreated (W.meaning words) }
+    requires few { length all.now ≤ OBJECTS }
+    requires small { (o : ObjNo) → count_of state.now o < 65536 }
+    requires born { AreNew all.now state.now }
+    ensures { IfOk result (λ objects. FirstStand all.now state.now objects.rows objects.counts (length all.now)) }
+{
+    let mut objects = ObjectTable::new(alloc, words)?;
+    for (number, born) in all.iter().enumerate() {
+        let count = count_of(state, ObjNo(number as u16));
+        make_counted(&mut objects, &born.object, count);
+    }
+    Ok(objects)
+}
+
+/// An empty handle table for each.
+fn fresh_handles(alloc: Global, all: &[Born]) -> Result<Items<Handles>, NoMemory>
+    ensures { IfOk result (λ tables. tables ≡ map (λ _. replicate HANDLES fresh_slot) all.now) }
+{
+    let mut tables = Vec::new(alloc);
+    for _born in all {
+        tables.push(Handles::new(alloc)?)?;
+    }
+    Ok(Items::new(tables))
+}
+
+/// The priority of a thread, 0 where there is none.
+fn priority_of(state: &State, thread: ThreadNo) -> u8
+    ensures { result ≡ priority_of state.now thread }
+{
+    match row_of(&state.threads, thread) {
+        Some(row) => row.priority,
+        None => 0,
+    }
+}
+
+/// The queues of a state's ready threads.
+fn queues_of(alloc: Global, state: &State) -> Result<ReadyList, NoMemory>
+    requires once { AreApart state.now.ready }
+    requires known { (t : ObjNo) → is_listed state.now.ready t ≡ true → t.0 < BOOT_OBJECTS }
+    requires ranged { (t : ObjNo) → is_listed state.now.ready t ≡ true → priority_of state.now t < 64 }
+    ensures { IfOk result (λ list. AreReady (priority_of state.now) state.now.ready list) }
+{
+    let mut list = ReadyList::new(alloc, Limits::BOOT_OBJECTS as u16)?;
+    for thread in state.ready.as_slice() {
+        list.add(*thread, priority_of(state, *thread));
+    }
+    Ok(list)
+}
+
+/// The tables and the queues of ready threads at boot.
+#[tactic(auto, unfolding(machine::specs::Boot::boot_of))]
+pub fn boot<W: RefWords + Drop>(
+    alloc: Global,
+    script: &Script,
+    words: W,
+) -> Result<(Tables<W>, ReadyList), NoMemory>
+    requires valid { IsValid script.now }
+    requires places { length (W.meaning words).own ≡ OBJECTS }
+    requires fresh { NoneCreated (W.meaning words) }
+    ensures state { IfOk result (λ made. with_ready (state_of made.0) (boot script.now).ready ≡ boot script.now) }
+    ensures agree { IfOk result (λ made. Agrees made.0.objects.counts (state_of made.0)) }
+    ensures queues { IfOk result (λ made. AreReady (priority_of (boot script.now)) (boot script.now).ready made.1) }
+{
+    let all = all_born(alloc, script)?;
+    let handles = fresh_handles(alloc, all.as_slice())?;
+    let state = boot_of(alloc, all.as_slice())?;
+    let objects = counted(alloc, words, all.as_slice(), &state)?;
+    let ready = queues_of(alloc, &state)?;
+    let tables = Tables {
+        objects,
+        handles,
+        threads: state.threads,
+        owed: state.owed,
+    };
+    Ok((tables, ready))
+}
