@@ -207,8 +207,8 @@ takes scheduled k words count first forms ranges =
     let same = kept_body kind part in
     record {
       same = front words (some_words kind operands words count) ∙ ap (λ (w : List ℕ). w ∷ drop 1 words) first
-        ∙ ap (λ (ws : List (List ℕ)). keyword_text k ∷ ws) (t.same ∙ ap (λ (n : ℕ). value_words operands values ++ drop n words) place ∙ ap (λ (ws : List (List ℕ)). value_words operands values ++ ws) (b.same ∙ ap body_words (sym same)))
-        ∙ sym (form_words second k values (body_in kind part));
+          ∙ ap (λ (ws : List (List ℕ)). keyword_text k ∷ ws) (t.same ∙ ap (λ (n : ℕ). value_words operands values ++ drop n words) place ∙ ap (λ (ws : List (List ℕ)). value_words operands values ++ ws) (b.same ∙ ap body_words (sym same)))
+          ∙ sym (form_words second k values (body_in kind part));
       range = form_range second k values (body_in kind part) ∙ rw (t.range, same, b.range) refl;
     }
 

@@ -236,10 +236,10 @@ arg_by word (d ∷ offset ∷ length ∷ max ∷ []) e h =
     let under_m : nat_le (natural max) 1024 ≡ true = le-leb (natural max) 1024 m.2 in
     record {
       same = of_parts word (d ∷ offset ∷ length ∷ max ∷ []) e ∙ ap (λ (x : List ℕ). x ++ 58 ∷ (offset ++ 58 ∷ (length ++ 58 ∷ max))) first
-        ∙ ap (λ (x : List ℕ). 100 ∷ 58 ∷ (x ++ 58 ∷ (length ++ 58 ∷ max))) o.0
-        ∙ ap (λ (x : List ℕ). 100 ∷ 58 ∷ (decimal (natural offset) ++ 58 ∷ (x ++ 58 ∷ max))) l.0
-        ∙ ap (λ (x : List ℕ). 100 ∷ 58 ∷ (decimal (natural offset) ++ 58 ∷ (decimal (natural length) ++ 58 ∷ x))) m.0
-        ∙ rw e (regrouped (natural offset) (natural length) (natural max));
+          ∙ ap (λ (x : List ℕ). 100 ∷ 58 ∷ (x ++ 58 ∷ (length ++ 58 ∷ max))) o.0
+          ∙ ap (λ (x : List ℕ). 100 ∷ 58 ∷ (decimal (natural offset) ++ 58 ∷ (x ++ 58 ∷ max))) l.0
+          ∙ ap (λ (x : List ℕ). 100 ∷ 58 ∷ (decimal (natural offset) ++ 58 ∷ (decimal (natural length) ++ 58 ∷ x))) m.0
+          ∙ rw e (regrouped (natural offset) (natural length) (natural max));
       range = rw (e, under_o, under_l, under_m) refl;
     }
 arg_by word (a ∷ b ∷ c ∷ d ∷ f ∷ more) e h = absurd (cc)
@@ -287,9 +287,9 @@ arg_again (arg.Descriptor x y z) h =
     let clear : (n : ℕ) → is_natural 0 1024 (decimal n) ≡ true → is_clear (λ byte. byte == 58) (decimal n) ≡ true = λ n r. number_clear (decimal n) (natural_is_number 0 1024 (decimal n) r) in
     let test : ℕ → Bool = λ byte. byte == 58 in
     let cut : colon_parts (100 ∷ 58 ∷ (decimal x ++ 58 ∷ (decimal y ++ 58 ∷ decimal z))) ≡ codes "d" ∷ decimal x ∷ decimal y ∷ decimal z ∷ [] =
-        ap (λ (ps : List (List ℕ)). codes "d" ∷ ps) (split_before test (decimal x) 58 (decimal y ++ 58 ∷ decimal z) (clear x a.range) refl
-        ∙ ap (λ (ps : List (List ℕ)). decimal x ∷ ps) (split_before test (decimal y) 58 (decimal z) (clear y b.range) refl
-        ∙ ap (λ (ps : List (List ℕ)). decimal y ∷ ps) (split_clear test (decimal z) (clear z c.range)))) in
+    ap (λ (ps : List (List ℕ)). codes "d" ∷ ps) (split_before test (decimal x) 58 (decimal y ++ 58 ∷ decimal z) (clear x a.range) refl
+    ∙ ap (λ (ps : List (List ℕ)). decimal x ∷ ps) (split_before test (decimal y) 58 (decimal z) (clear y b.range) refl
+    ∙ ap (λ (ps : List (List ℕ)). decimal y ∷ ps) (split_clear test (decimal z) (clear z c.range)))) in
     let is : colon_parts (arg_word (arg.Descriptor x y z)) ≡ codes "d" ∷ decimal x ∷ decimal y ∷ decimal z ∷ [] = ap colon_parts (sym (regrouped x y z)) ∙ cut in
     record {
       form = rw (is, a.form, b.form, c.form) refl;
