@@ -17,6 +17,10 @@ use Rattle.state_rows.specs.ObjectRows.{is_dead_row}
 use Rattle.machine.specs.declared.moves.Move.{Move}
 use Rattle.machine.specs.declared.moves.Move.TheVariants.{Make, Gain, Lose, Find, Miss, GoOn, Write, Advance, Pay}
 use Rattle.machine.specs.declared.state.State.{State}
+use Rattle.machine.specs.declared.state.Role.{Role}
+use Rattle.machine.specs.declared.state.Role.TheVariants.{Supervisor, Declared}
+use Rattle.script_types.specs.declared.declaration.ThreadDecl.{ThreadDecl}
+use Rattle.machine.specs.Task.{declared_of, instructions_in}
 use Rattle.machine.specs.declared.state.ThreadRow.{ThreadRow}
 use Rattle.machine.specs.Choice.{priority_of, priority_of_row}
 use Rattle.machine.specs.Fits.{FitsMove, EachFits, Fits, Sane}
@@ -31,8 +35,7 @@ use Rattle.machine.proofs.Holders.ThreadRows.{row-here, row-other}
 use Rattle.machine.proofs.Lists.Totals.{inside, total_at_least}
 use Rattle.machine.proofs.MoveLaws.Run.{sound-move, sound-pay, sane-after, refs-of, weight-move}
 use Rattle.machine.proofs.MoveLaws.Sound.{Sound}
-use Rattle.machine.proofs.PlainMachine.CountSmall.{count_small}
-use Rattle.machine.proofs.PlainMachine.Steps.{room_of_rows}
+use Rattle.machine.proofs.Numbers.CountSmall.{count_small}
 use Rattle.machine.proofs.Readiness.Touched.{untouched}
 use Rattle.machine.proofs.References.Same.{same_self}
 use Rattle.kcore.specs.Moved.{CanMove, IsNew, IsReferred, AreKnown, MoveGoes, MovesGo}
@@ -130,6 +133,12 @@ kernel_holds S o (Some row) is uncounted = absurd (uncounted (counted_by S o row
     counted_by : (S : State) (o : ObjNo) (row : ThreadRow) → thread_of S o ≡ Some row → 0 < count_of S o
     counted_by S o row is = let one : kernel_names S o ≡ 1 = ap (λ (x : Option ThreadRow). if is_some x then 1 else 0) is in omega arith
 
+-- a thread has at most 16,384 instructions
+few_in : (script : Script) → IsShaped script → (role : Role) (declared : Option ThreadDecl) → declared_of script role ≡ declared → length (instructions_in declared) ≤ 16384
+few_in script shaped role None at = omega arith
+few_in script shaped Supervisor (Some declared) at = absurd (cc)
+few_in script shaped (Declared k) (Some declared) at = (shaped.threads k declared at).size
+
 -- when a move that fits can be made
 can_move : (script : Script) (S : State) (t : ObjNo) (m : Move) → IsShaped script → FitsMove script t m S → RefsMove S (moved t m S) (told m S) → Sane script t S → CanMove m S
 can_move script S t (Make kind name h) shaped fits refs s = (fits.0.named, fits.0.new, record { room = fits.0.room; fresh = next_fresh script S s.rows })
@@ -139,7 +148,7 @@ can_move script S t (Find u o) shaped fits refs s = tt
 can_move script S t (Miss o) shaped fits refs s = tt
 can_move script S t (GoOn u part) shaped fits refs s = tt
 can_move script S t (Write u x value) shaped fits refs s = tt
-can_move script S t (Advance u) shaped fits refs s = let room = room_of_rows script S shaped s.rows in λ k row is. let a = room.instructions k row is in omega arith
+can_move script S t (Advance u) shaped fits refs s = λ k row is. let next = (s.rows.threads.rows k row is).next_instruction in let few = few_in script shaped row.role _ refl in omega arith
 can_move script S t (Pay what) shaped fits refs s = absurd fits
 
 -- priorities stay

@@ -4,7 +4,9 @@ mod BootTables
 mod Finds
 mod FirstCount
 mod FreshTable
+mod Goes
 mod GoingMoves
+mod ListSteps
 mod Performing
 mod ReadyChanges
 mod ReadyLists

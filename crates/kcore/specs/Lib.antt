@@ -5,3 +5,4 @@ pub mod StateOf
 pub mod Moved
 pub mod ReadyQueues
 pub mod Performed
+pub mod KernelView

@@ -4,9 +4,12 @@
 mod act;
 mod boot;
 mod handles;
+mod kernel;
 mod moves;
 mod object_table;
 mod perform;
 mod reading;
 mod ready;
 mod tables;
+
+pub use kernel::Kernel;

@@ -4,7 +4,8 @@ ghost use Rattle.kcore.specs.Counts.{Agrees};
 ghost use Rattle.kcore.specs.StateOf.{state_of};
 
 use crate::tables::Tables;
-use machine::{FRESH_SLOT, HandleSlot, NewHandle, Owed, Reads, ThreadRow};
+use decisions::Reads;
+use machine::{FRESH_SLOT, HandleSlot, NewHandle, Owed, ThreadRow};
 use ref_words::RefWords;
 use state_rows::ObjectRow;
 use sym_base::{Kind, Name, ObjNo, ThreadNo};

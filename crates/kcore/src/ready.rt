@@ -13,7 +13,8 @@ ghost use Rattle.kcore.specs.ReadyQueues.{Follow, SomeReady, pairs, leave, leave
 ghost use Rattle.kcore.specs.StateOf.{state_of};
 
 use crate::tables::Tables;
-use machine::{Move, TouchedThreads, is_ready, row_of, touched};
+use decisions::is_ready;
+use machine::{Move, TouchedThreads, row_of, touched};
 use ready_list::ReadyList;
 use ref_words::RefWords;
 use script_types::Script;

@@ -1,0 +1,10 @@
+use Rattle.std.proofs.Common.{arith}
+use Rattle.kcore.proofs.Goes.{stands_at_boot}
+use Rattle.kcore.proofs.kernel.Kernel.boot.Goals as goal
+
+pub invariant_of-result : goal.invariant_of-result
+invariant_of-result g c = record {
+  fits = let room = c.in_ok-history.ensures.exact in omega arith;
+  few = c.requires.room;
+  stands = λ _. rw c.in_ok-history.ensures.items (stands_at_boot c.args.script c.in_ok-tables.tables c.in_ok-tables.ready c.requires.valid c.in_ok-tables.ensures.state c.in_ok-tables.ensures.agree c.in_ok-tables.ensures.queues);
+}
