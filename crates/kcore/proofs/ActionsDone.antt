@@ -1,31 +1,30 @@
 -- What an action leaves in the tables and in the queues is what the definitions say, whichever list of ready threads the
 -- queues have.
-use Rattle.std.proofs.Common.{◌≡◌, ◌∙◌, inl, inr, ℕ, Bool, true, false, List, [], ◌∷◌, ◌++◌, refl, sym, ap, subst}
-use Rattle.std.specs.Prelude.{◌==◌, ◌||◌, not, ◌&&◌, filter, if◌then◌else◌, Option, Some, None}
-use Rattle.std.proofs.lemmas.Bool.{cases_Bool, or_parts, or_left, or_right, eq-eqb}
+use Rattle.std.proofs.Common.{◌≡◌, ◌∙◌, inl, inr, ℕ, true, false, List, [], ◌∷◌, ◌++◌, refl, sym, ap, subst}
+use Rattle.std.specs.Prelude.{◌==◌, not, ◌&&◌, filter, if◌then◌else◌, None}
+use Rattle.std.proofs.lemmas.Bool.{cases_Bool, or_parts, eq-eqb}
 use Rattle.sym_base.specs.declared.number.ObjNo.{ObjNo}
 use Rattle.script_types.specs.declared.script.Script.{Script}
 use Rattle.entry_log.specs.declared.effect.Effect.{Effect}
 use Rattle.entry_log.specs.declared.step.Step.TheVariants.{Turn, Wait}
 use Rattle.ready_list.specs.Ready.{Ready}
 use Rattle.state_rows.specs.declared.duty.Owed.TheVariants.{Close, Sweep}
-use Rattle.machine.specs.declared.decision.Decision.{Decision}
 use Rattle.machine.specs.declared.decision.Outcome.{Outcome}
 use Rattle.machine.specs.declared.moves.Move.{Move}
 use Rattle.machine.specs.declared.moves.Move.TheVariants.{Make, Gain, Lose, Find, Miss, GoOn, Write, Advance, Pay}
 use Rattle.machine.specs.declared.state.State.{State}
-use Rattle.machine.specs.Arrivals.{is_listed, touched, arrive, arrivals, ready_after}
-use Rattle.machine.specs.Choice.{priority_of, first_ready}
+use Rattle.machine.specs.Arrivals.{is_listed, touched, arrive, arrivals}
+use Rattle.machine.specs.Choice.{priority_of}
 use Rattle.machine.specs.Moves.{moved, told, perform, tell}
 use Rattle.machine.specs.Steps.{decision_of}
 use Rattle.machine.specs.Task.{is_ready}
 use Rattle.machine.specs.Tick.{moved_behind, tick}
-use Rattle.machine.specs.Transition.{Transition, left, act, carried_out, idle}
+use Rattle.machine.specs.Transition.{left, act, carried_out, idle}
 use Rattle.sym_base.specs.Greatest.{first_of_greatest}
 use Rattle.kcore.specs.declared.tables.Tables.{Tables}
 use Rattle.kcore.specs.Counts.{Agrees}
 use Rattle.kcore.specs.Moved.{MovesGo}
-use Rattle.kcore.specs.Performed.{IsPerformed, IsLeft, EachReady, Does}
+use Rattle.kcore.specs.Performed.{IsPerformed, Does}
 use Rattle.kcore.specs.ReadyQueues.{AreReady, Follow, leave_along}
 use Rattle.kcore.specs.StateOf.{state_of, with_ready}
 use Rattle.kcore.proofs.ReadyLists.{is_touched, leave_is_filter, listed_behind}

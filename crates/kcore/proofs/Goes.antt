@@ -1,6 +1,6 @@
 -- A kernel goes on: after an actor's action its tables stand for one entry more.
 use Rattle.std.proofs.Common.{◌≡◌, ℕ, ◌+◌, List, [], ◌∷◌, ◌++◌, length, refl, sym, ap, subst, ◌∙◌, true, Option, Some, None}
-use Rattle.std.specs.Prelude.{drop, is_some, Bool, false}
+use Rattle.std.specs.Prelude.{drop, is_some, Bool}
 use Rattle.sym_base.specs.declared.number.ObjNo.{ObjNo}
 use Rattle.script_types.specs.declared.script.Script.{Script}
 use Rattle.script_types.specs.declared.script.Slot.{Slot}
@@ -19,13 +19,13 @@ use Rattle.machine.specs.Boot.{boot}
 use Rattle.machine.specs.Choice.{priority_of}
 use Rattle.kcore.specs.Counts.{Agrees}
 use Rattle.machine.specs.FinalRows.{final_row, rows_of, rows_from, IsNextRow}
-use Rattle.machine.specs.History.{transition, next, entry_of, entry_by, after, CanAct, IsNext, IsLegal}
+use Rattle.machine.specs.History.{transition, next, entry_of, entry_by, after, CanAct, IsLegal}
 use Rattle.machine.specs.Rows.{thread_of, first_owed}
 use Rattle.machine.specs.Run.{slot_actor}
 use Rattle.machine.specs.Slots.{IsDeclared}
 use Rattle.machine.specs.Task.{is_ready, task_of_row}
-use Rattle.machine.specs.Transition.{Transition, left}
-use Rattle.machine.specs.WellFormed.{AreRows, IsWellFormed}
+use Rattle.machine.specs.Transition.{Transition}
+use Rattle.machine.specs.WellFormed.{AreRows}
 use Rattle.machine.proofs.Reached.AfterHistory.{well_formed-after}
 use Rattle.machine.proofs.Reached.Histories.{after-push, legal-push, slot_can}
 use Rattle.machine_safe.specs.SafeReferences.{IsSafeReferences}

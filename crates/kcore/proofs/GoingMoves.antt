@@ -1,13 +1,12 @@
 -- The moves of each action go through: they can be made in the tables, and keep priorities and the readiness of those that
 -- they don't touch.
-use Rattle.std.proofs.Common.{◌≡◌, ◌⊎◌, inl, inr, ℕ, zero, suc, ◌+◌, ◌*◌, ◌<◌, ◌≤◌, List, [], ◌∷◌, length, get_or, arith, refl, sym, ap, subst, ◌∙◌, Bool, true, false}
+use Rattle.std.proofs.Common.{◌≡◌, inl, inr, ℕ, zero, suc, ◌+◌, ◌*◌, ◌<◌, ◌≤◌, List, [], ◌∷◌, length, get_or, arith, refl, sym, ap, subst, ◌∙◌, Bool, true, false}
 use Rattle.std.specs.Prelude.{IsTrue, is_some, if◌then◌else◌, Option, Some, None, option_map, slice_set}
 use Rattle.std.proofs.lemmas.Bool.{cases_eq, cases_lt}
-use Rattle.std.proofs.lemmas.List.{get_or-set_other, get_or_past}
+use Rattle.std.proofs.lemmas.List.{get_or_past}
 use Rattle.sym_base.specs.declared.number.ObjNo.{ObjNo}
 use Rattle.script_types.specs.declared.script.Script.{Script}
 use Rattle.script_types.specs.Shape.{IsShaped}
-use Rattle.entry_log.specs.declared.effect.Effect.{Effect}
 use Rattle.entry_log.specs.declared.effect.Holder.{Holder}
 use Rattle.entry_log.specs.declared.effect.Holder.TheVariants.{Temp}
 use Rattle.state_rows.specs.declared.duty.Owed.{Owed}
@@ -23,22 +22,20 @@ use Rattle.script_types.specs.declared.declaration.ThreadDecl.{ThreadDecl}
 use Rattle.machine.specs.Task.{declared_of, instructions_in}
 use Rattle.machine.specs.declared.state.ThreadRow.{ThreadRow}
 use Rattle.machine.specs.Choice.{priority_of, priority_of_row}
-use Rattle.machine.specs.Fits.{FitsMove, EachFits, Fits, Sane}
+use Rattle.machine.specs.Fits.{FitsMove, EachFits, Sane}
 use Rattle.machine.specs.Moves.{moved, told, closed_effects, threads_gain, threads_lose, threads_closed, with_use, unlinked, with_found, with_part, with_register, advanced, next_object}
 use Rattle.machine.specs.References.{total, same, count_of, kernel_names, pluses, minuses, RefsMove}
-use Rattle.machine.specs.Room.{MayAdvance}
 use Rattle.machine.specs.Rows.{object_of, thread_of, owed_of, with_row}
 use Rattle.machine.specs.Steps.{decision_of}
 use Rattle.machine.specs.WellFormed.{IsAlive, AreRows, is_dead, dead_bit, owed_sweeps, weight}
-use Rattle.machine.proofs.Fitting.Actions.{Pays, fits-action, sane-of}
+use Rattle.machine.proofs.Fitting.Actions.{fits-action, sane-of}
 use Rattle.machine.proofs.Holders.ThreadRows.{row-here, row-other}
 use Rattle.machine.proofs.Lists.Totals.{inside, total_at_least}
 use Rattle.machine.proofs.MoveLaws.Run.{sound-move, sound-pay, sane-after, refs-of, weight-move}
-use Rattle.machine.proofs.MoveLaws.Sound.{Sound}
 use Rattle.machine.proofs.Numbers.CountSmall.{count_small}
 use Rattle.machine.proofs.Readiness.Touched.{untouched}
 use Rattle.machine.proofs.References.Same.{same_self}
-use Rattle.kcore.specs.Moved.{CanMove, IsNew, IsReferred, AreKnown, MoveGoes, MovesGo}
+use Rattle.kcore.specs.Moved.{CanMove, IsReferred, AreKnown, MoveGoes, MovesGo}
 use Rattle.kcore.specs.ObjectsView.{IsThere}
 
 -- a change of a row that leaves its priority leaves all priorities

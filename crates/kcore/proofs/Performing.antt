@@ -1,6 +1,5 @@
 -- The moves of an action, one after the other.
 use Rattle.std.proofs.Common.{◌≡◌, ℕ, ◌+◌, ◌<◌, ◌≤◌, List, [], ◌∷◌, ◌++◌, length, get_or, drop, suc, drop-cons, add-one, arith, refl, sym, ap, subst, ◌∙◌, append_assoc, append-nil, length-append}
-use Rattle.std.specs.Prelude.{slice_index}
 use Rattle.std.proofs.Math.ListN.{drop_of_length-le}
 use Rattle.sym_base.specs.declared.limits.TheConstants.Limits.{BOOT_OBJECTS}
 use Rattle.sym_base.specs.declared.number.ObjNo.{ObjNo}
@@ -13,9 +12,9 @@ use Rattle.machine.specs.declared.state.State.{State}
 use Rattle.machine.specs.Arrivals.{arrive, arrivals, touched}
 use Rattle.machine.specs.Choice.{priority_of}
 use Rattle.machine.specs.Moves.{moved, told, perform, tell}
-use Rattle.machine.specs.References.{count_of, pluses, minuses, RefsMove}
+use Rattle.machine.specs.References.{count_of, RefsMove}
 use Rattle.kcore.specs.declared.tables.Tables.{Tables}
-use Rattle.kcore.specs.Counts.{Agrees, CountsMove}
+use Rattle.kcore.specs.Counts.{Agrees}
 use Rattle.kcore.specs.Moved.{IsMoved, MovesGo}
 use Rattle.kcore.specs.Performed.{IsPerformed}
 use Rattle.kcore.specs.ReadyQueues.{AreReady, Follow, pair, pairs, leave, leave_along}

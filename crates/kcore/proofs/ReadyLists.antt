@@ -6,7 +6,7 @@ use Rattle.sym_base.specs.declared.number.ObjNo.{ObjNo}
 use Rattle.script_types.specs.declared.script.Script.{Script}
 use Rattle.machine.specs.declared.moves.Move.{Move}
 use Rattle.machine.specs.declared.state.State.{State}
-use Rattle.machine.specs.Arrivals.{is_listed, unlisted, touched, arrive}
+use Rattle.machine.specs.Arrivals.{is_listed, unlisted, touched}
 use Rattle.machine.specs.Task.{is_ready}
 use Rattle.machine.specs.WellFormed.{AreApart}
 use Rattle.kcore.specs.ReadyQueues.{leave, leave_along}
@@ -105,18 +105,22 @@ leave_listed : (script : Script) (S : State) (us qs : List ObjNo) (t : ObjNo) �
 leave_listed script S [] qs t h = (h, λ clash. absurd (cc))
 leave_listed script S (u ∷ us) qs t h = elim (cases_Bool (is_ready script S u)) as (λ _. (is_listed qs t ≡ true) × (is_listed (u ∷ us) t ≡ true → is_ready script S t ≡ true)) [
   | inl ready ↦
-      let rest = leave_listed script S us qs t (rw ready at h) in
-      (rest.0, λ listed. elim (cases_Bool (u.0 == t.0)) as (λ _. is_ready script S t ≡ true) [
-        | inl same ↦ ap (is_ready script S) (sym (one_thread u t same)) ∙ ready
-        | inr other ↦ rest.1 (rw other at listed)
-      ])
+      let rest = leave_listed script S us qs t (rw ready at h) in (
+        rest.0,
+        λ listed. elim (cases_Bool (u.0 == t.0)) as (λ _. is_ready script S t ≡ true) [
+          | inl same ↦ ap (is_ready script S) (sym (one_thread u t same)) ∙ ready
+          | inr other ↦ rest.1 (rw other at listed)
+        ],
+      )
   | inr done ↦
       let rest = leave_listed script S us (unlisted u qs) t (rw done at h) in
-      let was = filtered_listed (λ q. not (q.0 == u.0)) qs t rest.0 in
-      (was.0, λ listed. elim (cases_Bool (u.0 == t.0)) as (λ _. is_ready script S t ≡ true) [
-        | inl same ↦ let e = eq-eqb t.0 u.0 (sym (eqb-true u.0 t.0 same)) in let clash : false ≡ true = rw e at was.1 in absurd (cc)
-        | inr other ↦ rest.1 (rw other at listed)
-      ])
+      let was = filtered_listed (λ q. not (q.0 == u.0)) qs t rest.0 in (
+        was.0,
+        λ listed. elim (cases_Bool (u.0 == t.0)) as (λ _. is_ready script S t ≡ true) [
+          | inl same ↦ let e = eq-eqb t.0 u.0 (sym (eqb-true u.0 t.0 same)) in let clash : false ≡ true = rw e at was.1 in absurd (cc)
+          | inr other ↦ rest.1 (rw other at listed)
+        ],
+      )
 ]
 
 -- whether some of these moves touches a thread

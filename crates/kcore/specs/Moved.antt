@@ -1,6 +1,5 @@
 -- Moves in the kernel's tables: when one can be made, and what it leaves.
 use Rattle.std.specs.Prelude.{◌≡◌, ◌-◌, ◌<◌, ◌==◌, Bool, false, List, [], ◌∷◌, length, IsTrue, Option, Some, slice_index, slice_set}
-use Rattle.std.specs.List.{slice_index_or}
 use Rattle.sym_base.specs.declared.limits.TheConstants.Limits.{OBJECTS, BOOT_OBJECTS}
 use Rattle.sym_base.specs.declared.number.ObjNo.{ObjNo}
 use Rattle.state_rows.specs.declared.duty.Owed.TheVariants.{Close, Sweep}

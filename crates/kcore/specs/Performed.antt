@@ -1,6 +1,5 @@
 -- What the moves of an action leave in the tables and in the queues.
 use Rattle.std.specs.Prelude.{◌≡◌, true, List}
-use Rattle.sym_base.specs.declared.limits.TheConstants.Limits.{BOOT_OBJECTS}
 use Rattle.sym_base.specs.declared.number.ObjNo.{ObjNo}
 use Rattle.script_types.specs.declared.script.Script.{Script}
 use Rattle.entry_log.specs.declared.effect.Effect.{Effect}

@@ -14,11 +14,11 @@ ghost use Rattle.kcore.specs.StateOf.{state_of};
 
 use crate::tables::Tables;
 use decisions::is_ready;
+use entry_log::Actor;
 use machine::{Move, TouchedThreads, row_of, touched};
 use ready_list::ReadyList;
 use ref_words::RefWords;
 use script_types::Script;
-use entry_log::Actor;
 use sym_base::{Limits, ThreadNo};
 
 /// A thread comes behind the others of its priority, where it is ready and stands in no queue.

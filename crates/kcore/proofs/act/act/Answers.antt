@@ -1,11 +1,10 @@
-use Rattle.std.proofs.Common.{◌≡◌, ◌∙◌, ap, ℕ, List, refl, subst}
+use Rattle.std.proofs.Common.{◌≡◌, ◌∙◌, ap, ℕ, List, subst}
 use Rattle.sym_base.specs.declared.number.ObjNo.{ObjNo}
 use Rattle.machine.specs.declared.decision.Decision.{Decision}
 use Rattle.machine.specs.declared.decision.Outcome.{Outcome}
 use Rattle.machine.specs.declared.moves.Move.{Move}
 use Rattle.machine.specs.Steps.{decision_of}
 use Rattle.machine.proofs.Numbers.FewEffects.{few_effects}
-use Rattle.kcore.specs.Moved.{MovesGo}
 use Rattle.kcore.specs.Performed.{IsPerformed}
 use Rattle.kcore.specs.ReadyQueues.{Follow, leave_along}
 use Rattle.kcore.specs.StateOf.{state_of}

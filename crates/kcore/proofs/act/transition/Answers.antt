@@ -1,7 +1,6 @@
 use Rattle.std.proofs.Common.{subst, sym}
 use Rattle.std.specs.Prelude.{IfOk}
 use Rattle.entry_log.specs.declared.entry.Actor.{Actor}
-use Rattle.machine.specs.declared.decision.Outcome.{Outcome}
 use Rattle.machine.specs.History.{transition}
 use Rattle.kcore.specs.Performed.{Does}
 use Rattle.kcore.proofs.ActionsDone.{tick_does}

@@ -16,7 +16,6 @@ use Rattle.machine.proofs.AtBoot.BootRows.{rows-boot, well_formed-boot}
 use Rattle.machine.proofs.Numbers.CountSmall.{count_small}
 use Rattle.kcore.specs.BootTable.{AreNew, FirstStand}
 use Rattle.kcore.specs.Counts.{Agrees}
-use Rattle.kcore.specs.ReadyQueues.{AreReady}
 use Rattle.kcore.proofs.BootReady.{listed_known, listed_ranged}
 use Rattle.kcore.proofs.BootTables.{new_at_boot, agrees_at_boot}
 use Rattle.kcore.proofs.boot.boot.Goals as goal

@@ -1,5 +1,4 @@
 use Rattle.std.proofs.Common.{◌≡◌, ℕ, ◌∙◌, sym, ap, subst, arith, false}
-use Rattle.std.specs.List.{list_any}
 use Rattle.std.specs.Prelude.{slice_index, slice_set}
 use Rattle.state_rows.specs.ObjectRows.{is_taken}
 use Rattle.kcore.proofs.BootTables.{read_at, stand_long, none_stand, one_more}

@@ -1,8 +1,6 @@
-use Rattle.std.proofs.Common.{◌≡◌, ◌∙◌, ℕ, List, length, refl, sym, ap, subst}
+use Rattle.std.proofs.Common.{◌≡◌, ◌∙◌, ℕ, List, length, refl, sym, ap}
 use Rattle.std.specs.Prelude.{slice_index, slice_set}
 use Rattle.sym_base.specs.declared.number.ObjNo.{ObjNo}
-use Rattle.machine.specs.References.{count_of}
-use Rattle.kcore.specs.StateOf.{state_of}
 use Rattle.kcore.proofs.FirstCount.{counts-first}
 use Rattle.kcore.proofs.moves.make.Goals as goal
 

@@ -1,4 +1,3 @@
-use Rattle.kcore.specs.Moved.{IsMoved}
 use Rattle.kcore.proofs.Results.{on_ok}
 use Rattle.kcore.proofs.moves.make_move.Goals as goal
 

@@ -1,12 +1,8 @@
-use Rattle.std.proofs.Common.{◌≡◌, ◌∷◌, ◌+◌, ◌≤◌, ◌∙◌, List, drop, ap, sym, subst, length}
-use Rattle.sym_base.specs.declared.number.ObjNo.{ObjNo}
+use Rattle.std.proofs.Common.{◌∷◌, ◌+◌, List, drop, subst}
 use Rattle.machine.specs.declared.moves.Move.{Move}
-use Rattle.machine.specs.Arrivals.{arrive}
-use Rattle.machine.specs.Choice.{priority_of}
-use Rattle.kcore.specs.Moved.{MovesGo, CanMove}
-use Rattle.kcore.specs.ReadyQueues.{Follow}
+use Rattle.kcore.specs.Moved.{MovesGo}
 use Rattle.kcore.specs.StateOf.{state_of}
-use Rattle.kcore.proofs.Performing.{OnTheWay, way_goes_on, way_few, next_move}
+use Rattle.kcore.proofs.Performing.{way_goes_on, way_few, next_move}
 use Rattle.kcore.proofs.perform.perform.Goals as goal
 
 pub add_effects-requires : goal.add_effects-requires

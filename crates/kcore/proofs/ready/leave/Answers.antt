@@ -1,6 +1,6 @@
 use Rattle.std.proofs.Common.{sym, ◌∙◌}
 use Rattle.kcore.specs.StateOf.{state_of}
-use Rattle.kcore.proofs.ReadyChanges.{leaves_unready, leaves_ready}
+use Rattle.kcore.proofs.ReadyChanges.{leaves_unready}
 use Rattle.kcore.proofs.ready.leave.Goals as goal
 
 pub returns-then-not-is_ready-clause-queues : goal.returns-then-not-is_ready-clause-queues
