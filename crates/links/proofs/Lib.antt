@@ -1,5 +1,6 @@
 pub mod Apart
 pub mod Calls
+pub mod Choice
 pub mod Edits
 mod Fresh
 pub mod Inserted
