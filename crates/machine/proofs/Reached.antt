@@ -3,4 +3,3 @@ pub mod AfterHistory
 pub mod Histories
 pub mod LeftRows
 pub mod NextState
-pub mod LeftRows
