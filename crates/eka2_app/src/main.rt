@@ -13,7 +13,6 @@ mod tests;
 mod top;
 mod words;
 
-use crate::status::Status;
 use edge_io::{StdSink, StdSource};
 use std::process::ExitCode;
 
@@ -23,8 +22,8 @@ fn main(rt: HostRuntime) -> ExitCode {
     let mut source = StdSource::new(rt.stdin());
     let mut sink = StdSink::new(rt.stdout());
     let status = match words::given_words(&rt, rt.alloc()) {
-        Some(words) => top::eka2_main(rt.alloc(), words.as_slice(), &mut source, &mut sink),
-        None => Status::Usage,
+        Ok(words) => top::eka2_main(rt.alloc(), words.as_slice(), &mut source, &mut sink),
+        Err(status) => status,
     };
     if let Some(message) = status.message() {
         let _ = eprintln!(rt; "eka2: {message}");

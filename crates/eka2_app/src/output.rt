@@ -22,21 +22,39 @@ use script_read::Reason;
 /// The bytes of a line, its line feed among them.
 pub type Line = ArrayVec<u8, 512>;
 
+/// Puts the line of an entry into a buffer, in place of what it held.
+fn put_entry(line: &mut Line, entry: &Entry)
+    ensures { line.new.items ≡ entry_line entry.now }
+{
+    line.clear();
+    let _ = entry_text(entry, line);
+}
+
+/// Puts the line of an object that is left into a buffer, in place of what it held.
+fn put_row(line: &mut Line, row: &FinalRow)
+    ensures { line.new.items ≡ final_line row.now }
+{
+    line.clear();
+    let _ = final_text(row, line);
+}
+
 /// The line of an entry.
+#[cfg(test)]
 pub fn line_of_entry(entry: &Entry) -> Line
     ensures { result.items ≡ entry_line entry.now }
 {
     let mut line = Line::new();
-    let _ = entry_text(entry, &mut line);
+    put_entry(&mut line, entry);
     line
 }
 
 /// The line of an object that is left.
+#[cfg(test)]
 pub fn line_of_row(row: &FinalRow) -> Line
     ensures { result.items ≡ final_line row.now }
 {
     let mut line = Line::new();
-    let _ = final_text(row, &mut line);
+    put_row(&mut line, row);
     line
 }
 
@@ -54,8 +72,8 @@ fn line_of_refusal(line: u32, reason: Reason) -> Line
     text
 }
 
-/// Writes the line of each entry.
-fn write_entries<K: Sink>(sink: &mut K, entries: &[Entry]) -> Result<(), Failed>
+/// Writes the line of each entry, by way of one buffer.
+fn write_entries<K: Sink>(sink: &mut K, line: &mut Line, entries: &[Entry]) -> Result<(), Failed>
     ensures whole { OnOk result (Wrote (K.written sink.old) (K.written sink.new) (flat_map entry_line entries.now)) }
     ensures front { OnErr result (WrotePrefix (K.written sink.old) (K.written sink.new) (flat_map entry_line entries.now)) }
     ensures tells { is_some (K.written sink.new) ≡ is_some (K.written sink.old) }
@@ -63,13 +81,18 @@ fn write_entries<K: Sink>(sink: &mut K, entries: &[Entry]) -> Result<(), Failed>
     ensures never_falls { K.faults sink.old ≤ K.faults sink.new }
 {
     for entry in entries {
-        write_whole(sink, line_of_entry(entry).as_slice())?;
+        put_entry(line, entry);
+        write_whole(sink, line.as_slice())?;
     }
     Ok(())
 }
 
-/// Writes the line of each object that is left.
-fn write_rows<K: Sink>(sink: &mut K, kernel: &Kernel<PlainWords>) -> Result<(), Failed>
+/// Writes the line of each object that is left, by way of one buffer.
+fn write_rows<K: Sink>(
+    sink: &mut K,
+    line: &mut Line,
+    kernel: &Kernel<PlainWords>,
+) -> Result<(), Failed>
     requires usable { kernel.now.usable ≡ true }
     requires valid { IsValid kernel.now.script }
     ensures whole { OnOk result (Wrote (K.written sink.old) (K.written sink.new)
@@ -82,13 +105,15 @@ fn write_rows<K: Sink>(sink: &mut K, kernel: &Kernel<PlainWords>) -> Result<(), 
 {
     let mut from = 0;
     while let Some(row) = kernel.next_row(from) {
-        write_whole(sink, line_of_row(&row).as_slice())?;
+        put_row(line, &row);
+        write_whole(sink, line.as_slice())?;
         from = row.object.0 + 1;
     }
     Ok(())
 }
 
-/// Writes the whole history of a kernel: its entries, and the objects that are left.
+/// Writes the whole history of a kernel: its entries, and the objects that are left. One buffer holds
+/// each line in turn.
 pub fn write_history<K: Sink>(sink: &mut K, kernel: &Kernel<PlainWords>) -> Result<(), Failed>
     requires usable { kernel.now.usable ≡ true }
     requires valid { IsValid kernel.now.script }
@@ -101,9 +126,10 @@ pub fn write_history<K: Sink>(sink: &mut K, kernel: &Kernel<PlainWords>) -> Resu
     ensures fault { OnErr result (Rose (K.faults sink.old) (K.faults sink.new)) }
     ensures never_falls { K.faults sink.old ≤ K.faults sink.new }
 {
-    write_entries(sink, kernel.history())?;
+    let mut line = Line::new();
+    write_entries(sink, &mut line, kernel.history())?;
     write_whole(sink, b"objects\n")?;
-    write_rows(sink, kernel)?;
+    write_rows(sink, &mut line, kernel)?;
     write_whole(sink, b"end\n")
 }
 

@@ -1,10 +1,12 @@
 //! The words behind the program's name.
-ghost use Rattle.std.specs.Prelude.{◌≡◌, map};
+ghost use Rattle.std.specs.Prelude.{◌≡◌, ◌≢◌, map};
 ghost use Rattle.std.specs.String.{string_bytes};
 ghost use Rattle.eka2_app.specs.Readings.{reading_of};
 
+use crate::status::Status;
 use std::alloc::Global;
 use std::env;
+use std::io::ErrorKind;
 
 /// A command.
 #[derive(Clone, Copy)]
@@ -27,14 +29,30 @@ pub fn command_of(words: &[String]) -> Option<Command>
     }
 }
 
-/// The words that the program was given, without its own name. None where they can't be had, as
-/// where one isn't UTF-8.
-pub fn given_words(rt: &HostRuntime, alloc: Global) -> Option<Vec<String>> {
-    let mut given = env::args(rt).ok()?;
+/// How a run ends whose words can't be had: a word that isn't UTF-8 is no command.
+fn status_of(kind: ErrorKind) -> Status
+    ensures memory { kind ≡ ErrorKind.OutOfMemory → result ≡ Status.NoMemory }
+    ensures other { kind ≢ ErrorKind.OutOfMemory → result ≡ Status.Usage }
+{
+    match kind {
+        ErrorKind::OutOfMemory => Status::NoMemory,
+        _ => Status::Usage,
+    }
+}
+
+/// The words that the program was given, without its own name. Where they can't be had, how the run ends:
+/// NoMemory where the host had no memory left for them, and else Usage, as where one isn't UTF-8.
+pub fn given_words(rt: &HostRuntime, alloc: Global) -> Result<Vec<String>, Status> {
+    let mut given = match env::args(rt) {
+        Ok(given) => given,
+        Err(error) => return Err(status_of(error.kind())),
+    };
     let _program = given.next();
     let mut words = Vec::new(alloc);
     for word in given {
-        words.push(word).ok()?;
+        if words.push(word).is_err() {
+            return Err(Status::NoMemory);
+        }
     }
-    Some(words)
+    Ok(words)
 }

@@ -11,7 +11,7 @@ use Rattle.links.specs.Rings.{here, AreLinked, IsFree}
 use Rattle.links.proofs.Apart.{here_apart}
 
 -- a list has no first element exactly where it is empty
-pub none_first : (xs : List ℕ) (r : Option ℕ) → r ≡ slice_get xs 0 → (is_some r ≡ false → xs ≡ []) × (xs ≡ [] → is_some r ≡ false)
+pub none_first : {X : Type 0} (xs : List X) (r : Option X) → r ≡ slice_get xs 0 → (is_some r ≡ false → xs ≡ []) × (xs ≡ [] → is_some r ≡ false)
 none_first [] r is = (λ none. refl, λ empty. rw is refl)
 none_first (x ∷ xs) r is = (λ none. let no : true ≡ false = rw is at none in absurd (cc), λ empty. absurd (cc))
 
@@ -76,7 +76,14 @@ module _ (n : ℕ) (next previous : List ℕ) (lists : List (List ℕ)) (are : A
       let stands : here (n + l) (get_or lists l []) k ≡ x = get_or_from_slice_get (get_or lists l []) k x (n + l) at in
       rw (← stands) ((are.rings l listed).forward (suc k) (omega arith))
 
-  -- a node that is on a list doesn't lead to itself
+  -- a node that is on a list is one of the nodes
+  pub held_below : (x : ℕ) → list_any (holds x) lists ≡ true → x < n
+  held_below x held =
+      let place = place_of lists x held in
+      let inside = slice_get_within (get_or lists place.0 []) place.1 x place.3 in
+      rw (get_or_from_slice_get (get_or lists place.0 []) place.1 x (n + place.0) place.3) at ((are.rings place.0 place.2).below place.1 inside)
+
+  -- and doesn't lead to itself
   pub leads_away : (x : ℕ) → list_any (holds x) lists ≡ true → get_or next x 0 ≢ x
   leads_away x held home =
       let place = place_of lists x held in

@@ -20,7 +20,7 @@ distinct_from (x ∷ xs) apart = (
 
 module _ (n : ℕ) (next previous : List ℕ) (lists : List (List ℕ)) (are : AreLinked n next previous lists) where
   -- a list is no longer than there are nodes
-  bounded : (l : ℕ) → l < length lists → length (get_or lists l []) ≤ n
+  pub bounded : (l : ℕ) → l < length lists → length (get_or lists l []) ≤ n
   bounded l listed =
       length-le_from_distinct_below (get_or lists l []) n
       (distinct_from (get_or lists l []) (λ i j low inside same.

@@ -1,5 +1,6 @@
 //! Lists of nodes, linked by index.
-ghost use Rattle.std.specs.Prelude.{◌≡◌, ◌<◌, ◌↔◌, [], IsTrue, IsNone, IfOk, IfSome, length, ℕ, slice_get, slice_index};
+ghost use Rattle.std.specs.Prelude.{◌≡◌, ◌<◌, ◌↔◌, [], IsTrue, IsNone, Some, IfOk, IfSome, length, ℕ, slice_get, slice_index, slice_index_or};
+ghost use Rattle.sym_base.specs.Greatest.{unless_greater, first_of_greatest};
 ghost use Rattle.links.specs.Linked.{Linked, empty_lists, list_at, IsLinked, pushed_back, pushed_front, popped_front, unlinked, ChangesItsListAlone, IsFollower, IsNoneAtLast, AreApart};
 
 use crate::neighbours::Neighbours;
@@ -114,8 +115,7 @@ impl Links {
 
     /// The node that follows a node on its list. None exactly at the last one.
     pub fn next(&self, node: u32) -> Option<u32>
-        requires node { node < self.now.nodes }
-        requires linked { IsLinked self.now node }
+        requires { IsLinked self.now node }
         ensures follower { IsFollower self.now node result }
         ensures none { IsNoneAtLast self.now node result }
         ensures below { IfSome result (λ node. node < self.now.nodes) }
@@ -128,6 +128,28 @@ impl Links {
         }
     }
 
+    /// Of the nodes of a list the first of the greatest weight, where each node has a weight. None exactly
+    /// where the list is empty. Unlike the other calls it goes over the list.
+    pub fn first_of_greatest(&self, list: u32, weights: &[u8]) -> Option<u32>
+        requires list { list < length self.now.lists }
+        requires weighed { length weights.now ≡ self.now.nodes }
+        ensures first { result ≡ first_of_greatest (λ node. slice_index_or weights.now node 0) (list_at self.now list) }
+        ensures none { IsNone result ↔ (list_at self.now list ≡ []) }
+        ensures linked { IfSome result (λ node. IsLinked self.now node) }
+        ensures below { IfSome result (λ node. node < self.now.nodes) }
+    {
+        let mut node = self.first(list)?;
+        let mut best = node;
+        for place in 0..self.nodes {
+            let Some(after) = self.next(node) else {
+                return Some(best);
+            };
+            best = heavier(weights, best, after);
+            node = after;
+        }
+        Some(best)
+    }
+
     /// Whether a node is on a list. Each node stands at one place at most.
     pub fn is_linked(&self, node: u32) -> bool
         requires { node < self.now.nodes }
@@ -135,6 +157,19 @@ impl Links {
         ensures apart { AreApart self.now }
     {
         self.neighbours.next(node) != node
+    }
+}
+
+/// A node, unless another has a greater weight.
+fn heavier(weights: &[u8], node: u32, other: u32) -> u32
+    requires node { node < length weights.now }
+    requires other { other < length weights.now }
+    ensures { Some result ≡ unless_greater (λ node. slice_index_or weights.now node 0) node (Some other) }
+{
+    if weights[node as usize] < weights[other as usize] {
+        other
+    } else {
+        node
     }
 }
 

@@ -16,6 +16,7 @@ use Rattle.script_types.specs.declared.instruction.Instr.TheVariants.{CreateMute
 use Rattle.script_types.specs.declared.source_line.SourceLine.{SourceLine}
 use Rattle.script_types.specs.declared.source_line.SourceLine.TheVariants as line
 use Rattle.machine.specs.TwoHandles.{two_handles}
+use Rattle.sym_base.specs.WordText.{word_text}
 
 -- what passes a test holds of each
 all_true : {A : Type 0} (test : A → Bool) (xs : List A) → list_all test xs ≡ true → AllByRecursion (λ x. IsTrue (test x)) xs
@@ -90,7 +91,7 @@ two_handles_lines =
     ∷ []
 
 pub two_handles_is_valid : IsValid two_handles
-unfolding two_handles text_lines words_of digits
+unfolding two_handles text_lines words_of digits word_text
 two_handles_is_valid = record {
   bytes = ended_by_feeds two_handles_texts;
   accepted = record {

@@ -17,7 +17,7 @@ use Rattle.ready_list.specs.Ready.{first_of_highest}
 use Rattle.ready_list.specs.Kept.{AreKept, mark, thread, queues_of}
 use Rattle.ready_list.proofs.Highest.{found_highest, highest_empty, empty_highest}
 use Rattle.ready_list.proofs.Threads.{holds_thread, any_thread, queue_thread}
-use Rattle.ready_list.proofs.Keeping.{stands_own, held_own}
+use Rattle.links.proofs.Owned.{stands_own, held_own}
 
 -- a list without a mark is empty
 unmarked : (list : List ℕ) → mark list ≡ 0 → list ≡ []
@@ -60,15 +60,15 @@ module _ (threads : ℕ) (links : Linked) (priorities : List ℕ) (mask : ℕ) (
   queue_own : (t : ObjNo) (p : ℕ) → p < 64 → holds t (get_or (queues_of links.lists) p []) ≡ true → get_or priorities t.0 0 ≡ p
   queue_own t p low held =
       let in_list : nodes.holds t.0 (list_at links p) ≡ true = sym (holds_thread t (list_at links p)) ∙ rw (queue_thread links.lists p) at held in
-      held_own threads links priorities mask kept t.0 p low in_list
+      held_own links priorities kept.owned t.0 p (omega (arith, kept.lists)) in_list
 
   pub priority_ready : (t : ObjNo) → list_any (nodes.holds t.0) links.lists ≡ true → Some (get_or priorities t.0 0) ≡ position (holds t) (queues_of links.lists)
   priority_ready t held =
       let queues = queues_of links.lists in
       let own = get_or priorities t.0 0 in
       let sized : length queues ≡ 64 = length-map links.lists (map thread) ∙ kept.lists in
-      let stands = stands_own threads links priorities mask kept t.0 held in
-      let low = stands.low in
+      let stands = stands_own links priorities kept.owned t.0 held in
+      let low : own < 64 = omega (arith, stands.listed, kept.lists) in
       let before = λ (k : ℕ) (below : k < own). elim (cases_Bool (holds t (get_or queues k []))) as (λ _. holds t (get_or queues k []) ≡ false) [
         | inl also ↦ let same = queue_own t k (omega arith) also in absurd (omega arith)
         | inr absent ↦ absent

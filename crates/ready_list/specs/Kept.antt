@@ -1,8 +1,9 @@
 -- How linked lists, priorities by thread and a word of bits stand for the queues of ready threads.
-use Rattle.std.specs.Prelude.{◌≡◌, ℕ, ◌<◌, ◌^◌, List, [], ◌∷◌, All, length, map, slice_index_or}
+use Rattle.std.specs.Prelude.{◌≡◌, ℕ, ◌<◌, ◌^◌, List, [], ◌∷◌, length, map}
 use Rattle.std.specs.Int.{bit_at}
 use Rattle.sym_base.specs.declared.number.ObjNo.{ObjNo}
 use Rattle.links.specs.Linked.{Linked, list_at}
+use Rattle.links.specs.Owned.{AreOwned}
 
 -- the thread whose number a node is
 abbrev pub thread : ℕ → ObjNo
@@ -22,6 +23,5 @@ pub record AreKept (threads : ℕ) (links : Linked) (priorities : List ℕ) (mas
   pub small : threads < 2 ^ 16
   pub nodes : links.nodes ≡ threads
   pub lists : length links.lists ≡ 64
-  pub sized : length priorities ≡ threads
-  pub own : (p : ℕ) → p < 64 → All (λ node. slice_index_or priorities node 0 ≡ p) (list_at links p)
+  pub owned : AreOwned links priorities
   pub marks : (p : ℕ) → p < 64 → bit_at mask p ≡ mark (list_at links p)

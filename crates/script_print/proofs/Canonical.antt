@@ -1,17 +1,24 @@
 -- The canonical text of an accepted script is accepted as this script.
-use Rattle.std.proofs.Common.{◌≡◌, ℕ, true, List, [], ◌∷◌, ◌++◌, map, refl, ap, sym, subst, ◌∙◌}
+use Rattle.std.proofs.Common.{◌≡◌, ℕ, ◌≤◌, true, false, List, [], ◌∷◌, ◌++◌, length, map, refl, ap, sym, subst, ◌∙◌, arith}
+use Rattle.std.proofs.lemmas.Bool.{leb-true}
 use Rattle.std.specs.List.{AllByRecursion, flat_map}
 use Rattle.script_print.specs.CanonicalText.{spaced, source_text, canonical_lines, canonical_text}
 use Rattle.script_print.proofs.CutAgain.{words_again, words_clean, lines_again}
 use Rattle.script_print.proofs.LinesAgain.{canonical_stands}
 use Rattle.script_print.proofs.PlainLines.{line_printed}
-use Rattle.script_print.proofs.ScheduleAgain.{AreBuilt, Stand}
+use Rattle.script_print.proofs.ScheduleAgain.{Stand}
 use Rattle.script_types.specs.Context.{start, after, after_all, is_ended}
 use Rattle.script_types.specs.Names.{Declared, file_declares}
 use Rattle.script_types.specs.Source.{IsClean, IsAccepted}
 use Rattle.script_types.specs.SourceText.{text_lines, told_words, words_of}
 use Rattle.script_types.specs.SourceWords.{source_words}
-use Rattle.script_types.specs.Stands.{AllStand}
+use Rattle.script_types.specs.Stands.{AllStand, is_within}
+use Rattle.script_types.specs.Forms.{form_of}
+use Rattle.script_types.specs.declared.instruction.Instr.{Instr}
+use Rattle.script_types.specs.declared.instruction.Instr.TheVariants as instr
+use Rattle.script_types.specs.declared.source_line.SourceLine.TheVariants as line
+use Rattle.script_words.proofs.Steps.{both}
+use Rattle.std.specs.Prelude.{nat_le, nat_lt}
 use Rattle.script_types.specs.declared.context.Context.{Context}
 use Rattle.script_types.specs.declared.script.Script.{Script}
 use Rattle.script_types.specs.declared.source_line.SourceLine.{SourceLine}
@@ -25,15 +32,31 @@ record Printed (lines : List SourceLine) : Type 0 where
   clean : AllByRecursion IsClean (texts_of lines)
   told : told_words (texts_of lines) ≡ map source_words lines
 
-printed : (file : List Declared) (c : Context) (lines : List SourceLine) → AllStand file c lines → AreBuilt lines → Printed lines
+-- a body has four operations at most
+instr_within : (what : Instr) → length (form_of (line.Instr what)).body ≤ 4
+instr_within instr.Enter = omega arith
+instr_within _ = omega arith
+
+body_within : (c : Context) (l : SourceLine) → is_within c l ≡ true → length (form_of l).body ≤ 4
+body_within c (line.Dfc name queue p ops) h = leb-true (length ops) 4 (both (nat_lt (length c.script.dfcs) 64) (nat_le (length ops) 4) h).1
+body_within c (line.Idfc name ops) h = leb-true (length ops) 4 (both (nat_lt (length c.script.idfcs) 64) (nat_le (length ops) 4) h).1
+body_within c (line.IrqBody k ops) h = leb-true (length ops) 4 (both (nat_lt (length c.script.irqs) 32) (nat_le (length ops) 4) h).1
+body_within c (line.Instr what) h = instr_within what
+body_within c (line.KernelThread name p true) h = omega arith
+body_within c (line.KernelThread name p false) h = omega arith
+body_within c (line.Thread name p true) h = omega arith
+body_within c (line.Thread name p false) h = omega arith
+body_within c _ h = omega arith
+
+printed : (file : List Declared) (c : Context) (lines : List SourceLine) → AllStand file c lines → Printed lines
 unfolding texts_of
-printed file c [] stand built = record { clean = tt; told = refl }
-printed file c (l ∷ ls) stand built =
-    let p = line_printed l stand.0.ranges built.0 in
-    let later = printed file (after c l) ls stand.1 built.1 in
+printed file c [] stand = record { clean = tt; told = refl }
+printed file c (l ∷ ls) stand =
+    let p = line_printed l stand.0.ranges (body_within c l stand.0.within) in
+    let later = printed file (after c l) ls stand.1 in
     let words : words_of (spaced (source_words l)) ≡ source_words l = words_again (source_words l) p.some p.plain in
     record {
-      clean = (words_clean (source_words l) p.few p.plain, later.clean);
+      clean = (words_clean (source_words l) p.short p.plain, later.clean);
       told = rw (words, p.told) (ap (λ (ws : List (List (List ℕ))). source_words l ∷ ws) later.told);
     }
 
@@ -47,7 +70,7 @@ lines_accepted : (lines : List SourceLine) (made : Context) → ((file : List De
 lines_accepted lines made stands ended =
     let texts = texts_of lines in
     let here = stands [] in
-    let p = printed [] start lines here.stand here.built in
+    let p = printed [] start lines here.stand in
     let cut : text_lines (flat_map source_text lines) ≡ texts = ap text_lines (joined lines) ∙ lines_again texts p.clean in
     let file = file_declares (text_lines (flat_map source_text lines)) in
     let h = stands file in

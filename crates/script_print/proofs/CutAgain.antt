@@ -89,24 +89,15 @@ words_printed : (words : List (List ℕ)) → ArePlain words → is_printed (spa
 words_printed [] all = refl
 words_printed (word ∷ words) all = word_printed word (flat_map (λ (w : List ℕ). 32 ∷ w) words) (plain word all.0).visible (more_printed words all.1)
 
-more_short : (words : List (List ℕ)) → ArePlain words → length (flat_map (λ (w : List ℕ). 32 ∷ w) words) ≤ 17 * length words
+pub more_short : (words : List (List ℕ)) → ArePlain words → length (flat_map (λ (w : List ℕ). 32 ∷ w) words) ≤ 17 * length words
 more_short [] all = omega arith
 more_short (word ∷ words) all =
     let first = (plain word all.0).short in
     let later = more_short words all.1 in
     simp length-append (omega arith)
 
-words_short : (words : List (List ℕ)) → ArePlain words → length (spaced words) ≤ 17 * length words
-words_short [] all = omega arith
-words_short (word ∷ words) all =
-    let first = (plain word all.0).short in
-    let later = more_short words all.1 in
-    simp length-append (omega arith)
-
-pub words_clean : (words : List (List ℕ)) → length words ≤ 5 → ArePlain words → IsClean (spaced words)
-words_clean words few all =
-    let size = words_short words all in
-    record { printed = words_printed words all; short = le-leb (length (spaced words)) 200 (omega arith) }
+pub words_clean : (words : List (List ℕ)) → length (spaced words) ≤ 200 → ArePlain words → IsClean (spaced words)
+words_clean words few all = record { printed = words_printed words all; short = le-leb (length (spaced words)) 200 few }
 
 -- lines
 no_feed : (b : ℕ) → (nat_le 32 b && nat_le b 126) ≡ true → not (b == 10) ≡ true

@@ -43,10 +43,8 @@ body_texts before out middle new ops i what within at so_far first last =
     ∙ ap (λ t. before ++ t) (sym joined ∙ ap text (ap (λ w. old ++ (separator i ++ op_words w)) at ∙ sym (body_more ops i what within)))
 
 -- the parts of the declarations
-printed_declarations : (out : List ℕ) (s : Script) →
-    out ++ source_text line.Header ++ source_texts (setting_lines line.Pool s.pool) ++ source_texts (setting_lines line.Fast s.fast) ++ source_texts (map queue_line s.queues) ++ source_texts (map dfc_line s.dfcs) ++ source_texts (map idfc_line s.idfcs) ++ source_texts (map irq_line s.irqs) ++ source_texts (flat_map thread_lines (threads_of None s.threads)) ++ source_texts (processes_lines s.threads 0 s.processes)
-    ≡ out ++ source_texts (declared_lines s)
-printed_declarations out s = simp (flat_map-append, append_assoc)
+nine_parts : (out header : List ℕ) (a b c d e f g h : List SourceLine) → out ++ header ++ source_texts a ++ source_texts b ++ source_texts c ++ source_texts d ++ source_texts e ++ source_texts f ++ source_texts g ++ source_texts h ≡ out ++ (header ++ source_texts (a ++ b ++ c ++ d ++ e ++ f ++ g ++ h))
+nine_parts out header a b c d e f g h = simp (flat_map-append, append_assoc)
 
 more : (a b c : List ℕ) → a ≡ b → a ++ c ≡ b ++ c
 more a b c e = ap (λ t. t ++ c) e
@@ -63,7 +61,7 @@ declared_by s o0 o1 o2 o3 o4 o5 o6 o7 o8 o9 h1 h2 h3 h4 h5 h6 h7 h8 h9 =
     let e7 = h7 ∙ more _ _ _ e6 in
     let e8 = h8 ∙ more _ _ _ e7 in
     let e9 = h9 ∙ more _ _ _ e8 in
-    e9 ∙ printed_declarations o0 s
+    e9 ∙ nine_parts o0 (source_text line.Header) (setting_lines line.Pool s.pool) (setting_lines line.Fast s.fast) (map queue_line s.queues) (map dfc_line s.dfcs) (map idfc_line s.idfcs) (map irq_line s.irqs) (flat_map thread_lines (threads_of None s.threads)) (processes_lines s.threads 0 s.processes)
 
 -- the whole text
 three_parts : (out : List ℕ) (a b c : List SourceLine) → out ++ source_texts a ++ source_texts b ++ source_texts c ≡ out ++ source_texts (a ++ b ++ c)

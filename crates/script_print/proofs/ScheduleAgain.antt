@@ -8,6 +8,7 @@ use Rattle.script_print.specs.CanonicalText.{with_slot, slots_lines, schedule_li
 use Rattle.script_types.specs.BuiltLine.{is_built_line}
 use Rattle.script_types.specs.Context.{after, after_all, is_ended, is_in_order}
 use Rattle.script_types.specs.Names.{Declared}
+use Rattle.script_types.specs.Ranges.{is_source_line}
 use Rattle.script_types.specs.Stands.{AllStand}
 use Rattle.script_types.specs.declared.context.Context.{Context}
 use Rattle.script_types.specs.declared.script.Script.{Script}
@@ -112,7 +113,7 @@ run_grows : (file : List Declared) (c : Context) (count : ℕ) (ls : List Source
 run_grows file c count ls made order h =
     let size : length (c.script.slots ++ slot.Go ∷ []) ≡ length c.script.slots + 1 = simp length-append in
     let room = leb-true (length (c.script.slots ++ slot.Go ∷ []) + count) 65536 h.stand.0.within in
-    let ranges : (nat_le 1 (suc count) && nat_le (suc count) 65536) ≡ true = rw (le-leb 1 (suc count) (omega arith), le-leb (suc count) 65536 (omega arith)) refl in
+    let ranges : is_source_line (line.Go (suc count)) ≡ true = rw (le-leb 1 (suc count) (omega arith), le-leb (suc count) 65536 (omega arith)) refl in
     let within : nat_le (length c.script.slots + suc count) 65536 ≡ true = le-leb (length c.script.slots + suc count) 65536 (omega arith) in
     let same : after (after c (line.Go 1)) (line.Go count) ≡ after c (line.Go (suc count)) = ap (λ (xs : List Slot). at_rank c.script 10 xs) (append_assoc c.script.slots (slot.Go ∷ []) (replicate count slot.Go)) in
     record {

@@ -8,21 +8,34 @@ ghost use Rattle.script_types.specs.SourceWords.{op_words, body_words};
 use crate::word::{Word, put_end, put_front, put_line, put_words};
 use script_types::{DfcDecl, IdfcDecl, IrqBody, Op, QueueDecl};
 use script_words::Keyword;
-use sym_base::NoMemory;
+use sym_base::{NoMemory, Word as InstrWord};
 
 /// Adds an operation.
+#[tactic(auto, unfolding(sym_base::specs::WordText::word_text))]
 fn put_op(out: &mut Vec<u8>, op: Op) -> Result<(), NoMemory>
     ensures { OnOk result (out.new.items ≡ out.old.items ++ flat_map (λ word. 32 ∷ word) (op_words op)) }
 {
     match op {
         Op::Idfc(name) => put_words(out, &[Word::Key(Keyword::Idfc), Word::Named(name)]),
         Op::Dfc(name) => put_words(out, &[Word::Key(Keyword::Dfc), Word::Named(name)]),
-        Op::Fssignal(name) => put_words(out, &[Word::Key(Keyword::Fssignal), Word::Named(name)]),
+        Op::Fssignal(name) => put_words(
+            out,
+            &[
+                Word::Key(Keyword::Instr(InstrWord::Fssignal)),
+                Word::Named(name),
+            ],
+        ),
         Op::Device(x, code) => put_words(
             out,
             &[Word::Device, Word::DeviceNumber(x), Word::Code(code)],
         ),
-        Op::Queue(name) => put_words(out, &[Word::Key(Keyword::Queue), Word::Named(name)]),
+        Op::Queue(name) => put_words(
+            out,
+            &[
+                Word::Key(Keyword::Instr(InstrWord::Queue)),
+                Word::Named(name),
+            ],
+        ),
     }
 }
 

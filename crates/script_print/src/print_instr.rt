@@ -1,14 +1,21 @@
 //! The lines of instructions.
 ghost use Rattle.std.specs.Prelude.{◌≡◌, [], ◌∷◌, ◌++◌, decimal, map, OnOk};
 ghost use Rattle.script_print.specs.CanonicalText.{spaced, source_text, source_texts};
-ghost use Rattle.script_words.specs.Keywords.{keyword_text};
-ghost use Rattle.script_types.specs.InstrWords.{message_word};
+ghost use Rattle.script_print.specs.PrintedWord.{word_text};
+ghost use Rattle.sym_base.specs.WordText.{word_text as instr_word_text};
 ghost use Rattle.script_types.specs.declared.source_line.SourceLine.TheVariants as line;
 
 use crate::word::{Word, put_line};
 use script_types::{Args, Instr};
 use script_words::Keyword;
-use sym_base::{Kind, Name, NoMemory, Slots};
+use sym_base::{Kind, Name, NoMemory, Slots, Word as InstrWord};
+
+/// Adds the line of an instruction, which begins with this word.
+fn put_instr_line(out: &mut Vec<u8>, first: InstrWord, words: &[Word]) -> Result<(), NoMemory>
+    ensures { OnOk result (out.new.items ≡ out.old.items ++ (spaced (instr_word_text first ∷ map word_text words.now) ++ 10 ∷ [])) }
+{
+    put_line(out, Keyword::Instr(first), words)
+}
 
 /// Adds the line that makes a session.
 fn put_connect(out: &mut Vec<u8>, name: Name, slots: Slots, x: u8) -> Result<(), NoMemory>
@@ -17,12 +24,16 @@ fn put_connect(out: &mut Vec<u8>, name: Name, slots: Slots, x: u8) -> Result<(),
     let name = Word::Named(name);
     let x = Word::Register(x);
     match slots {
-        Slots::Own(count) => put_line(
+        Slots::Own(count) => put_instr_line(
             out,
-            Keyword::Connect,
+            InstrWord::Connect,
             &[name, Word::Number(u64::from(count)), x],
         ),
-        Slots::Pool => put_line(out, Keyword::Connect, &[name, Word::Key(Keyword::Pool), x]),
+        Slots::Pool => put_instr_line(
+            out,
+            InstrWord::Connect,
+            &[name, Word::Key(Keyword::Pool), x],
+        ),
     }
 }
 
@@ -30,9 +41,9 @@ fn put_connect(out: &mut Vec<u8>, name: Name, slots: Slots, x: u8) -> Result<(),
 fn put_send(out: &mut Vec<u8>, x: u8, function: u32, y: u8, args: Args) -> Result<(), NoMemory>
     ensures { OnOk result (out.new.items ≡ out.old.items ++ source_text (line.Instr (Instr.Send x function y args))) }
 {
-    put_line(
+    put_instr_line(
         out,
-        Keyword::Send,
+        InstrWord::Send,
         &[
             Word::Register(x),
             Word::Number(u64::from(function)),
@@ -49,9 +60,9 @@ fn put_send(out: &mut Vec<u8>, x: u8, function: u32, y: u8, args: Args) -> Resul
 fn put_call(out: &mut Vec<u8>, x: u8, function: u32, args: Args) -> Result<(), NoMemory>
     ensures { OnOk result (out.new.items ≡ out.old.items ++ source_text (line.Instr (Instr.Call x function args))) }
 {
-    put_line(
+    put_instr_line(
         out,
-        Keyword::Call,
+        InstrWord::Call,
         &[
             Word::Register(x),
             Word::Number(u64::from(function)),
@@ -67,14 +78,14 @@ fn put_call(out: &mut Vec<u8>, x: u8, function: u32, args: Args) -> Result<(), N
 /// place.
 fn put_copy(
     out: &mut Vec<u8>,
-    first: Keyword,
+    first: InstrWord,
     x: u8,
     numbers: (u8, u16, u16, u16),
 ) -> Result<(), NoMemory>
-    ensures { OnOk result (out.new.items ≡ out.old.items ++ (spaced (keyword_text first ∷ message_word x ∷ decimal numbers.0 ∷ decimal numbers.1 ∷ decimal numbers.2 ∷ decimal numbers.3 ∷ []) ++ 10 ∷ [])) }
+    ensures { OnOk result (out.new.items ≡ out.old.items ++ (spaced (instr_word_text first ∷ (109 ∷ decimal x) ∷ decimal numbers.0 ∷ decimal numbers.1 ∷ decimal numbers.2 ∷ decimal numbers.3 ∷ []) ++ 10 ∷ [])) }
 {
     let (argument, offset, length, place) = numbers;
-    put_line(
+    put_instr_line(
         out,
         first,
         &[
@@ -92,18 +103,18 @@ pub fn put_instr(out: &mut Vec<u8>, what: Instr) -> Result<(), NoMemory>
     ensures { OnOk result (out.new.items ≡ out.old.items ++ source_text (line.Instr what)) }
 {
     match what {
-        Instr::CreateMutex(name, x) => put_line(
+        Instr::CreateMutex(name, x) => put_instr_line(
             out,
-            Keyword::Create,
+            InstrWord::Create,
             &[
                 Word::Kinded(Kind::Mutex),
                 Word::Named(name),
                 Word::Register(x),
             ],
         ),
-        Instr::CreateSemaphore(name, count, x) => put_line(
+        Instr::CreateSemaphore(name, count, x) => put_instr_line(
             out,
-            Keyword::Create,
+            InstrWord::Create,
             &[
                 Word::Kinded(Kind::Semaphore),
                 Word::Named(name),
@@ -111,96 +122,108 @@ pub fn put_instr(out: &mut Vec<u8>, what: Instr) -> Result<(), NoMemory>
                 Word::Register(x),
             ],
         ),
-        Instr::Open(kind, name, x) => put_line(
+        Instr::Open(kind, name, x) => put_instr_line(
             out,
-            Keyword::Open,
+            InstrWord::Open,
             &[Word::Kinded(kind), Word::Named(name), Word::Register(x)],
         ),
-        Instr::Dup(x, y) => put_line(out, Keyword::Dup, &[Word::Register(x), Word::Register(y)]),
-        Instr::DupLocal(x, y) => put_line(
+        Instr::Dup(x, y) => put_instr_line(
             out,
-            Keyword::Duplocal,
+            InstrWord::Dup,
             &[Word::Register(x), Word::Register(y)],
         ),
-        Instr::Close(x) => put_line(out, Keyword::Close, &[Word::Register(x)]),
-        Instr::Lock(x) => put_line(out, Keyword::Lock, &[Word::Register(x)]),
-        Instr::Unlock(x) => put_line(out, Keyword::Unlock, &[Word::Register(x)]),
-        Instr::Wait(x) => put_line(out, Keyword::Wait, &[Word::Register(x)]),
-        Instr::Signal(x) => put_line(out, Keyword::Signal, &[Word::Register(x)]),
-        Instr::Suspend(x) => put_line(out, Keyword::Suspend, &[Word::Register(x)]),
-        Instr::Resume(x) => put_line(out, Keyword::Resume, &[Word::Register(x)]),
-        Instr::Priority(x, priority) => put_line(
+        Instr::DupLocal(x, y) => put_instr_line(
             out,
-            Keyword::Priority,
+            InstrWord::Duplocal,
+            &[Word::Register(x), Word::Register(y)],
+        ),
+        Instr::Close(x) => put_instr_line(out, InstrWord::Close, &[Word::Register(x)]),
+        Instr::Lock(x) => put_instr_line(out, InstrWord::Lock, &[Word::Register(x)]),
+        Instr::Unlock(x) => put_instr_line(out, InstrWord::Unlock, &[Word::Register(x)]),
+        Instr::Wait(x) => put_instr_line(out, InstrWord::Wait, &[Word::Register(x)]),
+        Instr::Signal(x) => put_instr_line(out, InstrWord::Signal, &[Word::Register(x)]),
+        Instr::Suspend(x) => put_instr_line(out, InstrWord::Suspend, &[Word::Register(x)]),
+        Instr::Resume(x) => put_instr_line(out, InstrWord::Resume, &[Word::Register(x)]),
+        Instr::Priority(x, priority) => put_instr_line(
+            out,
+            InstrWord::Priority,
             &[Word::Register(x), Word::Number(u64::from(priority))],
         ),
         Instr::Kill(x, code) => {
-            put_line(out, Keyword::Kill, &[Word::Register(x), Word::Code(code)])
+            put_instr_line(out, InstrWord::Kill, &[Word::Register(x), Word::Code(code)])
         }
-        Instr::Terminate(x, code) => put_line(
+        Instr::Terminate(x, code) => put_instr_line(
             out,
-            Keyword::Terminate,
+            InstrWord::Terminate,
             &[Word::Register(x), Word::Code(code)],
         ),
-        Instr::Panic(x, category, code) => put_line(
+        Instr::Panic(x, category, code) => put_instr_line(
             out,
-            Keyword::Panic,
+            InstrWord::Panic,
             &[Word::Register(x), Word::Named(category), Word::Code(code)],
         ),
-        Instr::ExitType(x) => put_line(out, Keyword::Exittype, &[Word::Register(x)]),
-        Instr::Logon(x, y) => put_line(out, Keyword::Logon, &[Word::Register(x), Word::Status(y)]),
-        Instr::Exit(code) => put_line(out, Keyword::Exit, &[Word::Code(code)]),
-        Instr::Flock(x) => put_line(out, Keyword::Flock, &[Word::FastMutex(x)]),
-        Instr::Funlock(x) => put_line(out, Keyword::Funlock, &[Word::FastMutex(x)]),
-        Instr::Fswait => put_line(out, Keyword::Fswait, &[]),
-        Instr::Fssignal(name) => put_line(out, Keyword::Fssignal, &[Word::Named(name)]),
-        Instr::Enter => put_line(out, Keyword::Enter, &[]),
-        Instr::Leave => put_line(out, Keyword::Leave, &[]),
-        Instr::Queue(name) => put_line(out, Keyword::Queue, &[Word::Named(name)]),
-        Instr::Request(x, y) => put_line(
+        Instr::ExitType(x) => put_instr_line(out, InstrWord::Exittype, &[Word::Register(x)]),
+        Instr::Logon(x, y) => put_instr_line(
             out,
-            Keyword::Request,
+            InstrWord::Logon,
+            &[Word::Register(x), Word::Status(y)],
+        ),
+        Instr::Exit(code) => put_instr_line(out, InstrWord::Exit, &[Word::Code(code)]),
+        Instr::Flock(x) => put_instr_line(out, InstrWord::Flock, &[Word::FastMutex(x)]),
+        Instr::Funlock(x) => put_instr_line(out, InstrWord::Funlock, &[Word::FastMutex(x)]),
+        Instr::Fswait => put_instr_line(out, InstrWord::Fswait, &[]),
+        Instr::Fssignal(name) => put_instr_line(out, InstrWord::Fssignal, &[Word::Named(name)]),
+        Instr::Enter => put_instr_line(out, InstrWord::Enter, &[]),
+        Instr::Leave => put_instr_line(out, InstrWord::Leave, &[]),
+        Instr::Queue(name) => put_instr_line(out, InstrWord::Queue, &[Word::Named(name)]),
+        Instr::Request(x, y) => put_instr_line(
+            out,
+            InstrWord::Request,
             &[Word::DeviceNumber(x), Word::Status(y)],
         ),
-        Instr::Cancel(x) => put_line(out, Keyword::Cancel, &[Word::DeviceNumber(x)]),
-        Instr::WaitAny => put_line(out, Keyword::Waitany, &[]),
-        Instr::WaitFor(x) => put_line(out, Keyword::Waitfor, &[Word::Status(x)]),
-        Instr::Status(x) => put_line(out, Keyword::Status, &[Word::Status(x)]),
-        Instr::Server(name, x) => put_line(
+        Instr::Cancel(x) => put_instr_line(out, InstrWord::Cancel, &[Word::DeviceNumber(x)]),
+        Instr::WaitAny => put_instr_line(out, InstrWord::Waitany, &[]),
+        Instr::WaitFor(x) => put_instr_line(out, InstrWord::Waitfor, &[Word::Status(x)]),
+        Instr::Status(x) => put_instr_line(out, InstrWord::Status, &[Word::Status(x)]),
+        Instr::Server(name, x) => put_instr_line(
             out,
-            Keyword::Server,
+            InstrWord::Server,
             &[Word::Named(name), Word::Register(x)],
         ),
         Instr::Connect(name, slots, x) => put_connect(out, name, slots, x),
         Instr::Send(x, function, y, args) => put_send(out, x, function, y, args),
         Instr::Call(x, function, args) => put_call(out, x, function, args),
-        Instr::Receive(x, y) => put_line(
+        Instr::Receive(x, y) => put_instr_line(
             out,
-            Keyword::Receive,
+            InstrWord::Receive,
             &[Word::Register(x), Word::Message(y)],
         ),
-        Instr::Complete(x, code) => put_line(
+        Instr::Complete(x, code) => put_instr_line(
             out,
-            Keyword::Complete,
+            InstrWord::Complete,
             &[Word::Message(x), Word::Code(code)],
         ),
-        Instr::Function(x) => put_line(out, Keyword::Function, &[Word::Message(x)]),
+        Instr::Function(x) => put_instr_line(out, InstrWord::Function, &[Word::Message(x)]),
         Instr::Read(x, argument, offset, length, place) => {
-            put_copy(out, Keyword::Read, x, (argument, offset, length, place))
+            put_copy(out, InstrWord::Read, x, (argument, offset, length, place))
         }
         Instr::Write(x, argument, offset, length, place) => {
-            put_copy(out, Keyword::Write, x, (argument, offset, length, place))
+            put_copy(out, InstrWord::Write, x, (argument, offset, length, place))
         }
-        Instr::Fill(place, length, byte) => put_line(
+        Instr::Fill(place, length, byte) => put_instr_line(
             out,
-            Keyword::Fill,
+            InstrWord::Fill,
             &[
                 Word::Number(u64::from(place)),
                 Word::Number(u64::from(length)),
                 Word::Number(u64::from(byte)),
             ],
         ),
-        Instr::Peek(place) => put_line(out, Keyword::Peek, &[Word::Number(u64::from(place))]),
+        Instr::Peek(place) => put_instr_line(
+            out,
+            InstrWord::Peek,
+            &[Word::Number(u64::from(place))],
+        ),
     }
 }
 

@@ -1,7 +1,13 @@
 //! The canonical text of a script with every kind of line.
 use crate::print::put_script;
+use crate::print_instr::put_instr;
 use script_types::{
-    Args, DfcDecl, IdfcDecl, Instr, IrqBody, Op, ProcessDecl, QueueDecl, Script, Slot, ThreadDecl,
+    Args, DfcDecl, IdfcDecl, Instr, IrqBody, Op, ProcessDecl, QueueDecl, Script, Slot, SourceLine,
+    ThreadDecl,
+};
+use script_words::{
+    have_line_forms, is_counted, is_line_in_range, keyword_of, line_as, second_of, word_at,
+    words_of,
 };
 use std::alloc::Global;
 use std::test::Fail;
@@ -110,5 +116,45 @@ fn is_every_line(alloc: Global) -> Result<bool, NoMemory> {
 #[test]
 fn prints_every_line(rt: HostRuntime) -> Result<(), Fail> {
     assert!(rt; matches!(is_every_line(rt.alloc()), Ok(true)));
+    Ok(())
+}
+
+/// A line of each of the 42 forms of instruction.
+const EVERY_INSTRUCTION: &str =
+    "create mutex m r0\ncreate semaphore s 2147483647 r1\nopen process p r2\ndup r3 r4\nduplocal r5 r6\nclose r7\nlock r0\nunlock r1\nwait r2\nsignal r3\nsuspend r4\nresume r5\npriority r6 63\nkill r7 -1\nterminate r0 -2147483646\npanic r1 E32USER-CBase 69\nexittype r2\nlogon r3 s15\nexit 0\nflock f0\nfunlock f15\nfswait\nfssignal a_1\nenter\nleave\nqueue d\nrequest d0 s1\ncancel d15\nwaitany\nwaitfor s2\nstatus s3\nserver files r4\nconnect files 255 r5\nsend r6 1 s4 -2147483648 d:0:1024:7 0 4\ncall r7 0 1 2 3 d:1:2:3\nreceive r0 m1\ncomplete m2 -5\nfunction m3\nread m4 3 0 1024 16\nwrite m5 0 1 2 3\nfill 1024 0 255\npeek 1023\n";
+
+/// Reads a line as an instruction, whether the program runs it or not, and prints it. False where it is none.
+fn print_read(alloc: Global, line: &[u8], out: &mut Vec<u8>) -> Result<bool, NoMemory> {
+    let words = words_of(alloc, line)?;
+    let Some(keyword) = keyword_of(word_at(&words, 0)) else {
+        return Ok(false);
+    };
+    let second = second_of(false, keyword, &words);
+    if !is_counted(keyword, second, &words) || !have_line_forms(keyword, second, &words) {
+        return Ok(false);
+    }
+    if !is_line_in_range(keyword, second, &words) {
+        return Ok(false);
+    }
+    match line_as(alloc, keyword, second, &words)? {
+        SourceLine::Instr(what) => put_instr(out, what)?,
+        _ => return Ok(false),
+    }
+    Ok(true)
+}
+
+fn is_every_instruction(alloc: Global) -> Result<bool, NoMemory> {
+    let mut printed = Vec::new(alloc);
+    for line in EVERY_INSTRUCTION.as_bytes().split(|byte| *byte == b'\n') {
+        if !line.is_empty() && !print_read(alloc, line, &mut printed)? {
+            return Ok(false);
+        }
+    }
+    Ok(printed.as_slice() == EVERY_INSTRUCTION.as_bytes())
+}
+
+#[test]
+fn prints_every_instruction_as_it_is_read(rt: HostRuntime) -> Result<(), Fail> {
+    assert!(rt; matches!(is_every_instruction(rt.alloc()), Ok(true)));
     Ok(())
 }

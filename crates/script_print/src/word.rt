@@ -3,9 +3,9 @@ ghost use Rattle.std.specs.Fmt.{signed_decimal};
 ghost use Rattle.std.specs.List.{flat_map};
 ghost use Rattle.std.specs.Prelude.{◌≡◌, [], ◌∷◌, ◌++◌, decimal, map, OnOk};
 ghost use Rattle.script_print.specs.CanonicalText.{spaced};
-ghost use Rattle.script_words.specs.Keywords.{keyword_text};
+ghost use Rattle.script_types.specs.Keywords.{keyword_text};
 ghost use Rattle.script_print.specs.PrintedWord.{word_text};
-ghost use Rattle.script_types.specs.InstrWords.{kind_word, arg_word};
+ghost use Rattle.script_types.specs.Operands.{kind_word, arg_word};
 
 use itoa::Buffer;
 use script_words::Keyword;
@@ -117,7 +117,7 @@ fn put_word(out: &mut Vec<u8>, word: Word) -> Result<(), NoMemory>
     ensures { OnOk result (out.new.items ≡ out.old.items ++ word_text word) }
 {
     match word {
-        Word::Key(keyword) => put(out, keyword.text().as_bytes()),
+        Word::Key(keyword) => put(out, keyword.text()),
         Word::Device => put(out, b"device"),
         Word::Held => put(out, b"held"),
         Word::Next => put(out, b";"),
@@ -149,7 +149,7 @@ pub fn put_words(out: &mut Vec<u8>, words: &[Word]) -> Result<(), NoMemory>
 pub fn put_front(out: &mut Vec<u8>, first: Keyword, words: &[Word]) -> Result<(), NoMemory>
     ensures { OnOk result (out.new.items ≡ out.old.items ++ spaced (keyword_text first ∷ map word_text words.now)) }
 {
-    put(out, first.text().as_bytes())?;
+    put(out, first.text())?;
     put_words(out, words)
 }
 

@@ -2,13 +2,13 @@
 use Rattle.std.proofs.Common.{◌≡◌, ℕ, Bool, true, false, List, [], ◌∷◌, refl, sym, subst, Option, Some, None, Result, Ok, Err}
 use Rattle.std.specs.Prelude.{not, cond, IfOk}
 use Rattle.script_read.specs.Judging.{refused, word_tests, line_tests, judged_line, judged_words, judged_as, IsJudged}
-use Rattle.script_words.specs.Keywords.{keyword_kind}
+use Rattle.script_types.specs.Keywords.{keyword_kind}
 use Rattle.script_words.specs.LineAt.{line_at}
 use Rattle.script_words.specs.LineSigns.{is_counted, have_forms, are_in_range}
 use Rattle.script_read.specs.Reasons.{first_reason, after_text, is_scheduled, keyword_in}
 use Rattle.script_read.specs.declared.judge.Judged.{Judged}
 use Rattle.script_read.specs.declared.judge.Judged.TheVariants as judged
-use Rattle.script_words.specs.declared.keyword.Keyword.{Keyword}
+use Rattle.script_types.specs.declared.keyword.Keyword.{Keyword}
 use Rattle.script_read.specs.declared.reason.Reason.{Reason}
 use Rattle.script_read.specs.declared.reason.Reason.TheVariants as reason
 use Rattle.script_types.specs.BuiltLine.{is_built_line}

@@ -1,35 +1,60 @@
 -- A text is read exactly where it is accepted.
-use Rattle.std.proofs.Common.{◌≡◌, ℕ, Bool, true, false, List, [], ◌∷◌, map, drop, refl, sym, subst, ap, ◌∙◌, Option, Some, None, inl, inr}
+use Rattle.std.proofs.Common.{◌≡◌, ℕ, Bool, true, false, List, [], ◌∷◌, map, drop, refl, sym, subst, ap, ◌∙◌, arith, Option, Some, None, inl, inr}
 use Rattle.std.specs.List.{AllByRecursion}
-use Rattle.std.specs.Prelude.{◌⊎◌, not, IsTrue}
+use Rattle.std.proofs.lemmas.Bool.Decides.{nat_tests}
+use Rattle.std.specs.Prelude.{◌⊎◌, nat_le, not, IsTrue}
 use Rattle.std.specs.Str.{bytes_eq}
 use Rattle.script_read.specs.FirstBad.{HasNone, Make, IsRead, IsFirstBad}
-use Rattle.script_words.specs.Keywords.{keyword_of, keyword_text, keyword_kind, keywords}
+use Rattle.script_types.specs.Keywords.{keyword_of, keyword_text, keyword_kind, keywords}
 use Rattle.script_words.specs.LineAt.{line_at}
-use Rattle.script_words.specs.LineSigns.{word_at, signs_of, is_counted, have_forms, are_in_range, body_of, body_part, body_passes}
-use Rattle.script_read.specs.Reasons.{reasons, keyword_in, is_scheduled, after_text}
-use Rattle.script_words.specs.Signs.{each_passes, has_form, is_in_range}
-use Rattle.script_words.specs.declared.keyword.Keyword.{Keyword}
+use Rattle.script_words.specs.LineSigns.{word_at, is_counted, have_forms, are_in_range}
+use Rattle.script_read.specs.Reasons.{has, reasons, keyword_in, is_scheduled, after_text}
+use Rattle.script_types.specs.declared.keyword.Keyword.{Keyword}
 use Rattle.script_read.specs.declared.reason.Reason.{Reason}
+use Rattle.script_read.specs.declared.reason.Reason.TheVariants as reason
 use Rattle.script_read.proofs.FirstBads.{find_is, read_or_bad, read_not_bad, one_script_read}
-use Rattle.script_words.proofs.LineWords.{by_test, kind_at, all_words, takes}
-use Rattle.script_words.proofs.SourceRanges.{line_in_range}
-use Rattle.script_words.proofs.Steps.{both, same_bytes}
-use Rattle.script_words.proofs.WordsAgain.{again, keyword_again}
+use Rattle.script_words.proofs.FormsAgain.{kind_at, takes, line_again, keyword_again}
+use Rattle.script_words.proofs.Steps.{by_test, same_bytes}
 use Rattle.script_types.specs.BuiltLine.{is_built_line}
-use Rattle.script_types.specs.Context.{start, after, after_all, is_in_order, is_ended, kind_of}
+use Rattle.script_types.specs.Context.{start, after, after_all, may_stand, rank_or, is_in_order, is_ended, kind_of}
+use Rattle.script_types.specs.Forms.{form_of}
 use Rattle.script_types.specs.declared.context.Context.{Context}
 use Rattle.script_types.specs.Names.{Declared, file_declares, is_known, is_new}
 use Rattle.script_types.specs.Source.{IsClean, IsAccepted}
 use Rattle.script_types.specs.SourceText.{text_lines, words_of, told_words, is_skipped, is_printed, is_short}
 use Rattle.script_types.specs.SourceWords.{source_words}
 use Rattle.script_types.specs.Stands.{Stands, AllStand, is_right_kind, is_within}
+use Rattle.script_types.specs.declared.instruction.Instr.{Instr}
+use Rattle.script_types.specs.declared.instruction.Instr.TheVariants as instr
+use Rattle.script_types.specs.declared.keyword.Keyword.TheVariants as key
 use Rattle.script_types.specs.declared.script.Script.{Script}
+use Rattle.script_types.specs.declared.source_line.LineKind.TheVariants as of
 use Rattle.script_types.specs.declared.source_line.SourceLine.{SourceLine}
+use Rattle.script_types.specs.declared.source_line.SourceLine.TheVariants as line
 
 keyword_takes : (word : List ℕ) (k : Keyword) → keyword_of word ≡ Some k → word ≡ keyword_text k
 unfolding keyword_of
 keyword_takes word k h = let f = find_is (λ (k : Keyword). bytes_eq word (keyword_text k)) keywords k h in same_bytes word (keyword_text k) f.passes
+
+-- a line without reasons has none of them, and a line that has none of them has no reason
+none_of : (file : List Declared) (c : Context) (text : List ℕ) → HasNone reasons file c text → (why : Reason) → has why file c text ≡ false
+none_of file c text none reason.Byte = none.0
+none_of file c text none reason.Long = none.1.0
+none_of file c text none reason.Word = none.1.1.0
+none_of file c text none reason.Order = none.1.1.1.0
+none_of file c text none reason.Count = none.1.1.1.1.0
+none_of file c text none reason.Form = none.1.1.1.1.1.0
+none_of file c text none reason.Range = none.1.1.1.1.1.1.0
+none_of file c text none reason.Kind = none.1.1.1.1.1.1.1.0
+none_of file c text none reason.Twice = none.1.1.1.1.1.1.1.1.0
+none_of file c text none reason.Unknown = none.1.1.1.1.1.1.1.1.1.0
+none_of file c text none reason.Limit = none.1.1.1.1.1.1.1.1.1.1.0
+none_of file c text none reason.End = none.1.1.1.1.1.1.1.1.1.1.1.0
+none_of file c text none reason.Unbuilt = none.1.1.1.1.1.1.1.1.1.1.1.1.0
+
+none_by : (others : List Reason) (file : List Declared) (c : Context) (text : List ℕ) → ((why : Reason) → has why file c text ≡ false) → HasNone others file c text
+none_by [] file c text none = tt
+none_by (why ∷ others) file c text none = (none why, none_by others file c text none)
 
 not_not : (b : Bool) → not b ≡ false → b ≡ true
 not_not true h = refl
@@ -49,44 +74,32 @@ line_by file c text k told e none =
     let s : Bool = is_scheduled c in
     let words : List (List ℕ) = words_of text in
     let l : SourceLine = line_at s k words in
-    let n3 = none.1.1.1.0 in
-    let n4 = none.1.1.1.1.0 in
-    let n5 = none.1.1.1.1.1.0 in
-    let n6 = none.1.1.1.1.1.1.0 in
-    let n7 = none.1.1.1.1.1.1.1.0 in
-    let n8 = none.1.1.1.1.1.1.1.1.0 in
-    let n9 = none.1.1.1.1.1.1.1.1.1.0 in
-    let n10 = none.1.1.1.1.1.1.1.1.1.1.0 in
-    let n12 = none.1.1.1.1.1.1.1.1.1.1.1.1.0 in
-    let order : is_in_order c (keyword_kind s k) ≡ true = not_not (is_in_order c (keyword_kind s k)) (rw (told, e) at n3) in
-    let count : is_counted s k words ≡ true = not_not (is_counted s k words) (rw (told, e) at n4) in
-    let forms : have_forms s k words ≡ true = not_not (have_forms s k words) (rw (told, e) at n5) in
-    let ranges : are_in_range s k words ≡ true = not_not (are_in_range s k words) (rw (told, e) at n6) in
-    let right : is_right_kind c l ≡ true = not_not (is_right_kind c l) (rw (told, e) at n7) in
-    let new : is_new c l ≡ true = not_not (is_new c l) (rw (told, e) at n8) in
-    let known : is_known file c l ≡ true = not_not (is_known file c l) (rw (told, e) at n9) in
-    let within : is_within c l ≡ true = not_not (is_within c l) (rw (told, e) at n10) in
-    let built : is_built_line l ≡ true = not_not (is_built_line l) (rw (told, e) at n12) in
-    let f = both (each_passes has_form (signs_of k words) (drop 1 words)) (body_passes has_form (body_of s k) (body_part (signs_of k words) words)) forms in
-    let r = both (each_passes is_in_range (signs_of k words) (drop 1 words)) (body_passes is_in_range (body_of s k) (body_part (signs_of k words) words)) ranges in
-    let t = takes s k words count (keyword_takes (word_at words 0) k e) (all_words (signs_of k words) (drop 1 words) f.0 r.0) built in
+    let order : is_in_order c (keyword_kind s k) ≡ true = not_not (is_in_order c (keyword_kind s k)) (rw (told, e) at (none_of file c text none reason.Order)) in
+    let count : is_counted s k words ≡ true = not_not (is_counted s k words) (rw (told, e) at (none_of file c text none reason.Count)) in
+    let forms : have_forms s k words ≡ true = not_not (have_forms s k words) (rw (told, e) at (none_of file c text none reason.Form)) in
+    let ranges : are_in_range s k words ≡ true = not_not (are_in_range s k words) (rw (told, e) at (none_of file c text none reason.Range)) in
+    let right : is_right_kind c l ≡ true = not_not (is_right_kind c l) (rw (told, e) at (none_of file c text none reason.Kind)) in
+    let new : is_new c l ≡ true = not_not (is_new c l) (rw (told, e) at (none_of file c text none reason.Twice)) in
+    let known : is_known file c l ≡ true = not_not (is_known file c l) (rw (told, e) at (none_of file c text none reason.Unknown)) in
+    let within : is_within c l ≡ true = not_not (is_within c l) (rw (told, e) at (none_of file c text none reason.Limit)) in
+    let built : is_built_line l ≡ true = not_not (is_built_line l) (rw (told, e) at (none_of file c text none reason.Unbuilt)) in
+    let t = takes s k words count (keyword_takes (word_at words 0) k e) forms ranges in
     record {
       line = l;
-      spelled = t;
-      stands = record { order = ap (is_in_order c) (kind_at s k words) ∙ order; ranges = line_in_range s k words forms ranges; kind = right; new = new; known = known; within = within };
+      spelled = t.same;
+      stands = record { order = ap (is_in_order c) (kind_at s k words) ∙ order; ranges = t.range; kind = right; new = new; known = known; within = within };
       built = built;
       makes = rw (told, e) refl;
     }
 
 line_of_text : (file : List Declared) (c : Context) (text : List ℕ) (found : Option Keyword) → keyword_in (words_of text) ≡ found → is_skipped (words_of text) ≡ false → HasNone reasons file c text → IsLine file c text
 line_of_text file c text None e told none =
-    let n2 = none.1.1.0 in
-    let bad : true ≡ false = rw (told, e) at n2 in
+    let bad : true ≡ false = rw (told, e) at (none_of file c text none reason.Word) in
     absurd (cc)
 line_of_text file c text (Some k) e told none = line_by file c text k told e none
 
 clean_text : (file : List Declared) (c : Context) (text : List ℕ) → HasNone reasons file c text → IsClean text
-clean_text file c text none = record { printed = not_not (is_printed text) none.0; short = not_not (is_short text) none.1.0 }
+clean_text file c text none = record { printed = not_not (is_printed text) (none_of file c text none reason.Byte); short = not_not (is_short text) (none_of file c text none reason.Long) }
 
 -- the lines of texts
 record HasLines (file : List Declared) (c : Context) (texts : List (List ℕ)) (made : Context) : Type 0 where
@@ -142,21 +155,70 @@ off : (b : Bool) → b ≡ true → not b ≡ false
 off b h = rw h refl
 
 -- a skipped text has no reason
+skipped_has : (file : List Declared) (c : Context) (text : List ℕ) → IsClean text → is_skipped (words_of text) ≡ true → (why : Reason) → has why file c text ≡ false
+skipped_has file c text clean h reason.Byte = off (is_printed text) clean.printed
+skipped_has file c text clean h reason.Long = off (is_short text) clean.short
+skipped_has file c text clean h reason.End = refl
+skipped_has file c text clean h _ = rw h refl
+
 skipped_none : (file : List Declared) (c : Context) (text : List ℕ) → IsClean text → is_skipped (words_of text) ≡ true → HasNone reasons file c text
-skipped_none file c text clean h =
-    (off (is_printed text) clean.printed, (off (is_short text) clean.short, (rw h refl, (rw h refl, (rw h refl, (rw h refl, (rw h refl, (rw h refl, (rw h refl, (rw h refl, (rw h refl, (refl, (rw h refl, tt)))))))))))))
+skipped_none file c text clean h = none_by reasons file c text (skipped_has file c text clean h)
+
+-- A line's first word says its kind where it may stand: an interrupt's body stands before `schedule`, and its slot
+-- behind.
+body_before : (rank : Option ℕ) (awaits : Bool) → may_stand rank awaits of.IrqBody ≡ true → nat_le 9 (rank_or rank) ≡ false
+body_before None awaits h = absurd (cc)
+body_before (Some rank) true h = absurd (cc)
+body_before (Some rank) false h = grind (arith, nat_tests)
+
+slot_behind : (rank : Option ℕ) (awaits : Bool) → may_stand rank awaits of.Slot ≡ true → nat_le 9 (rank_or rank) ≡ true
+slot_behind None awaits h = absurd (cc)
+slot_behind (Some rank) true h = absurd (cc)
+slot_behind (Some rank) false h = grind (arith, nat_tests)
+
+instr_here : (scheduled : Bool) (what : Instr) → keyword_kind scheduled (form_of (line.Instr what)).keyword ≡ of.Instr
+instr_here scheduled instr.Enter = refl
+instr_here scheduled _ = refl
+
+kind_here : (c : Context) (l : SourceLine) → is_in_order c (kind_of l) ≡ true → keyword_kind (is_scheduled c) (form_of l).keyword ≡ kind_of l
+kind_here c (line.Instr what) h = instr_here (is_scheduled c) what
+kind_here c (line.IrqBody k body) h = ap (λ (s : Bool). keyword_kind s key.Irq) (body_before c.rank c.awaits_thread h)
+kind_here c (line.IrqSlot k) h = ap (λ (s : Bool). keyword_kind s key.Irq) (slot_behind c.rank c.awaits_thread h)
+kind_here c (line.KernelThread name p true) h = refl
+kind_here c (line.KernelThread name p false) h = refl
+kind_here c (line.Thread name p true) h = refl
+kind_here c (line.Thread name p false) h = refl
+kind_here c _ h = refl
 
 -- a line that may stand here has no reason
 record IsGood (file : List Declared) (c : Context) (text : List ℕ) (l : SourceLine) : Type 0 where
   none : HasNone reasons file c text
   makes : after_text c text ≡ after c l
 
+good_has : (file : List Declared) (c : Context) (text : List ℕ) (k : Keyword) → IsClean text → is_skipped (words_of text) ≡ false → keyword_in (words_of text) ≡ Some k
+    → is_in_order c (keyword_kind (is_scheduled c) k) ≡ true → is_counted (is_scheduled c) k (words_of text) ≡ true → have_forms (is_scheduled c) k (words_of text) ≡ true → are_in_range (is_scheduled c) k (words_of text) ≡ true
+    → is_right_kind c (line_at (is_scheduled c) k (words_of text)) ≡ true → is_new c (line_at (is_scheduled c) k (words_of text)) ≡ true → is_known file c (line_at (is_scheduled c) k (words_of text)) ≡ true
+    → is_within c (line_at (is_scheduled c) k (words_of text)) ≡ true → is_built_line (line_at (is_scheduled c) k (words_of text)) ≡ true → (why : Reason) → has why file c text ≡ false
+good_has file c text k clean told e order count forms ranges right new known within runs reason.Byte = off (is_printed text) clean.printed
+good_has file c text k clean told e order count forms ranges right new known within runs reason.Long = off (is_short text) clean.short
+good_has file c text k clean told e order count forms ranges right new known within runs reason.Word = rw (told, e) refl
+good_has file c text k clean told e order count forms ranges right new known within runs reason.Order = rw (told, e) (off (is_in_order c (keyword_kind (is_scheduled c) k)) order)
+good_has file c text k clean told e order count forms ranges right new known within runs reason.Count = rw (told, e) (off (is_counted (is_scheduled c) k (words_of text)) count)
+good_has file c text k clean told e order count forms ranges right new known within runs reason.Form = rw (told, e) (off (have_forms (is_scheduled c) k (words_of text)) forms)
+good_has file c text k clean told e order count forms ranges right new known within runs reason.Range = rw (told, e) (off (are_in_range (is_scheduled c) k (words_of text)) ranges)
+good_has file c text k clean told e order count forms ranges right new known within runs reason.Kind = rw (told, e) (off (is_right_kind c (line_at (is_scheduled c) k (words_of text))) right)
+good_has file c text k clean told e order count forms ranges right new known within runs reason.Twice = rw (told, e) (off (is_new c (line_at (is_scheduled c) k (words_of text))) new)
+good_has file c text k clean told e order count forms ranges right new known within runs reason.Unknown = rw (told, e) (off (is_known file c (line_at (is_scheduled c) k (words_of text))) known)
+good_has file c text k clean told e order count forms ranges right new known within runs reason.Limit = rw (told, e) (off (is_within c (line_at (is_scheduled c) k (words_of text))) within)
+good_has file c text k clean told e order count forms ranges right new known within runs reason.End = refl
+good_has file c text k clean told e order count forms ranges right new known within runs reason.Unbuilt = rw (told, e) (off (is_built_line (line_at (is_scheduled c) k (words_of text))) runs)
+
 line_good : (file : List Declared) (c : Context) (text : List ℕ) (l : SourceLine) → IsClean text → is_skipped (words_of text) ≡ false → words_of text ≡ source_words l → Stands file c l → is_built_line l ≡ true → IsGood file c text l
 unfolding after_text
 line_good file c text l clean told spelled stands built =
     let s : Bool = is_scheduled c in
     let words : List (List ℕ) = words_of text in
-    let a = again s l stands.ranges built in
+    let a = line_again s l stands.ranges (kind_here c l stands.order) in
     let k : Keyword = a.keyword in
     let e : keyword_in (words_of text) ≡ Some k = ap keyword_of (ap (λ (ws : List (List ℕ)). word_at ws 0) spelled ∙ a.first) ∙ keyword_again k in
     let here : line_at s k words ≡ l = ap (line_at s k) spelled ∙ a.same in
@@ -171,7 +233,7 @@ line_good file c text l clean told spelled stands built =
     let within : is_within c (line_at s k words) ≡ true = ap (is_within c) here ∙ stands.within in
     let runs : is_built_line (line_at s k words) ≡ true = ap is_built_line here ∙ built in
     record {
-      none = (off (is_printed text) clean.printed, (off (is_short text) clean.short, (rw (told, e) refl, (rw (told, e) (off (is_in_order c (keyword_kind s k)) order), (rw (told, e) (off (is_counted s k words) count), (rw (told, e) (off (have_forms s k words) forms), (rw (told, e) (off (are_in_range s k words) ranges), (rw (told, e) (off (is_right_kind c (line_at s k words)) right), (rw (told, e) (off (is_new c (line_at s k words)) new), (rw (told, e) (off (is_known file c (line_at s k words)) known), (rw (told, e) (off (is_within c (line_at s k words)) within), (refl, (rw (told, e) (off (is_built_line (line_at s k words)) runs), tt)))))))))))));
+      none = none_by reasons file c text (good_has file c text k clean told e order count forms ranges right new known within runs);
       makes = let same : after_text c text ≡ after c (line_at s k words) = rw (told, e) refl in same ∙ ap (after c) here;
     }
 

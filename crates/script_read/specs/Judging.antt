@@ -1,12 +1,12 @@
 -- Judging one line: its tests, in the order of their reasons.
 use Rattle.std.specs.Prelude.{◌≡◌, ℕ, Bool, if◌then◌else◌, IsTrue, List, [], ◌∷◌, Option, Some, None, ⊤}
-use Rattle.script_words.specs.Keywords.{keyword_kind}
+use Rattle.script_types.specs.Keywords.{keyword_kind}
 use Rattle.script_words.specs.LineAt.{line_at}
 use Rattle.script_words.specs.LineSigns.{is_counted, have_forms, are_in_range}
 use Rattle.script_read.specs.Reasons.{first_reason, after_text, is_scheduled}
 use Rattle.script_read.specs.declared.judge.Judged.{Judged}
 use Rattle.script_read.specs.declared.judge.Judged.TheVariants as judged
-use Rattle.script_words.specs.declared.keyword.Keyword.{Keyword}
+use Rattle.script_types.specs.declared.keyword.Keyword.{Keyword}
 use Rattle.script_read.specs.declared.reason.Reason.{Reason}
 use Rattle.script_read.specs.declared.reason.Reason.TheVariants as reason
 use Rattle.script_types.specs.BuiltLine.{is_built_line}

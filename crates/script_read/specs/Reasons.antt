@@ -1,10 +1,10 @@
 -- Why a line is bad.
 use Rattle.std.specs.Prelude.{ℕ, Bool, false, not, ◌&&◌, nat_le, is_none, if◌then◌else◌, List, [], ◌∷◌, Option, Some, None}
 use Rattle.std.specs.List.{find}
-use Rattle.script_words.specs.Keywords.{keyword_of, keyword_kind}
+use Rattle.script_types.specs.Keywords.{keyword_of, keyword_kind}
 use Rattle.script_words.specs.LineAt.{line_at}
 use Rattle.script_words.specs.LineSigns.{word_at, is_counted, have_forms, are_in_range}
-use Rattle.script_words.specs.declared.keyword.Keyword.{Keyword}
+use Rattle.script_types.specs.declared.keyword.Keyword.{Keyword}
 use Rattle.script_read.specs.declared.reason.Reason.{Reason}
 use Rattle.script_read.specs.declared.reason.Reason.TheVariants as reason
 use Rattle.script_types.specs.BuiltLine.{is_built_line}

@@ -16,7 +16,7 @@ use crate::standing::{is_new, is_right_kind};
 use script_types::{Context, SourceLine};
 use script_words::{
     Keyword, have_line_forms, is_counted, is_line_in_range, is_printed, is_short, is_skipped,
-    keyword_kind, keyword_of, line_at, word_at, words_of,
+    keyword_kind, keyword_of, line_as, second_of, word_at, words_of,
 };
 use std::alloc::Global;
 use sym_base::NoMemory;
@@ -40,13 +40,14 @@ fn reason_of_words(context: &Context, keyword: Keyword, words: &[&[u8]]) -> Opti
     if !is_in_order(context, keyword_kind(scheduled, keyword)) {
         return Some(Reason::Order);
     }
-    if !is_counted(scheduled, keyword, words) {
+    let second = second_of(scheduled, keyword, words);
+    if !is_counted(keyword, second, words) {
         return Some(Reason::Count);
     }
-    if !have_line_forms(scheduled, keyword, words) {
+    if !have_line_forms(keyword, second, words) {
         return Some(Reason::Form);
     }
-    if !is_line_in_range(scheduled, keyword, words) {
+    if !is_line_in_range(keyword, second, words) {
         return Some(Reason::Range);
     }
     None
@@ -98,7 +99,8 @@ fn judge_words(
     if let Some(reason) = reason_of_words(context, keyword, words) {
         return Ok(Judged::Bad(reason));
     }
-    let line = line_at(alloc, is_scheduled(context), keyword, words)?;
+    let second = second_of(is_scheduled(context), keyword, words);
+    let line = line_as(alloc, keyword, second, words)?;
     if let Some(reason) = reason_of_line(declarations, context, instructions, &line) {
         return Ok(Judged::Bad(reason));
     }

@@ -1,3 +1,5 @@
+pub mod NameLaws
 pub mod NewNames
+pub mod NumberLaws
 pub mod ShapeLaws
 pub mod ThreadOrder

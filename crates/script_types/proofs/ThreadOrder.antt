@@ -121,7 +121,7 @@ ordered-after file c l h b s o = record {
 
 ordered-all : (file : List Declared) (c : Context) (lines : List SourceLine) → AllStand file c lines → AllByRecursion (λ l. IsTrue (is_built_line l)) lines → IsSound c → IsOrdered c → IsOrdered (after_all c lines)
 ordered-all file c [] stand built s o = o
-ordered-all file c (l ∷ ls) stand built s o = ordered-all file (after c l) ls stand.1 built.1 (sound-after file c l stand.0 built.0 s) (ordered-after file c l stand.0 built.0 s o)
+ordered-all file c (l ∷ ls) stand built s o = ordered-all file (after c l) ls stand.1 built.1 (sound-after file c l stand.0 s) (ordered-after file c l stand.0 built.0 s o)
 
 ordered-start : IsOrdered start
 ordered-start = record { order = tt; others = λ i below. absurd (omega arith); last = λ e i is. absurd (omega arith); awaiting = λ e. absurd (cc) }

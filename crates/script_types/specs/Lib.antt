@@ -1,9 +1,12 @@
 pub mod BuiltLine
 pub mod Context
-pub mod InstrWords
+pub mod Forms
+pub mod Keywords
 pub mod Names
 pub mod ObjectName
+pub mod Operands
 pub mod Ranges
+pub mod Resolves
 pub mod Shape
 pub mod Source
 pub mod SourceText

@@ -35,3 +35,12 @@ pub record IsAccepted (bytes : List ℕ) (script : Script) : Type 0 where
 pub record IsValid (script : Script) : Type 0 where
   pub bytes : List ℕ
   pub accepted : IsAccepted bytes script
+
+-- A script is well formed where some bytes are lines, the last of them `end`, that make it, whether this program
+-- runs each of them or not.
+pub record IsWellFormed (script : Script) : Type 0 where
+  pub bytes : List ℕ
+  pub lines : List SourceLine
+  pub are : AreLines (text_lines bytes) (text_lines bytes) lines
+  pub ended : IsTrue (is_ended (after_all start lines))
+  pub same : script ≡ (after_all start lines).script

@@ -6,7 +6,7 @@ use Rattle.std.specs.Prelude.{codes}
 use Rattle.std.specs.Str.{bytes_eq}
 use Rattle.script_words.specs.LineSigns.{operations}
 use Rattle.script_words.specs.Pieces.{pieces}
-use Rattle.script_words.proofs.LineWords.{by_test}
+use Rattle.script_words.proofs.Steps.{by_test}
 use Rattle.script_types.specs.SourceText.{in_first}
 
 -- a word stands between two operations, and the parts between those words

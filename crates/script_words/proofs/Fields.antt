@@ -34,7 +34,7 @@ natural_again low high n small over under =
     (rw (found.0, above) refl, value)
 
 -- a number without a sign is a number
-no_sign : (c : ℕ) (digits : List ℕ) → list_all is_ascii_digit (c ∷ digits) ≡ true → (c == 45) ≡ false
+pub no_sign : (c : ℕ) (digits : List ℕ) → list_all is_ascii_digit (c ∷ digits) ≡ true → (c == 45) ≡ false
 no_sign c digits h = let parts = both (is_ascii_digit c) (list_all is_ascii_digit digits) h in let first = parts.0 in grind (arith, nat_tests)
 
 pub number_is_signed : (word : List ℕ) → is_number word ≡ true → is_signed word ≡ true

@@ -6,18 +6,18 @@ use Rattle.std.specs.Prelude.{◌&&◌, ◌||◌, ◌==◌, nat_le, is_some, cod
 use Rattle.std.specs.Str.{bytes_eq}
 use Rattle.std.specs.Str.Parse.{digits_value}
 use Rattle.script_words.specs.Fields.{is_number}
-use Rattle.script_words.specs.LineSigns.{word_at, signs_of, body_of, body_part, body_passes, operations, op_signs, op_passes, is_op, have_forms, are_in_range}
-use Rattle.script_words.specs.Operands.{IsSigned, IsOf, AreOf, IsOperation, IsBody, IsTested}
+use Rattle.script_words.specs.LineSigns.{word_at, body_part, body_passes, operations, op_signs, op_passes, is_op, all_pass_as}
+use Rattle.script_words.specs.Operands.{IsSigned, IsOf, AreOf, IsOperation, IsBody, IsTestedAs}
 use Rattle.script_words.specs.Signs.{has_form, is_in_range, is_natural, is_between, each_passes}
-use Rattle.script_words.specs.declared.keyword.Keyword.{Keyword}
-use Rattle.script_words.specs.declared.sign.BodyKind.{BodyKind}
-use Rattle.script_words.specs.declared.sign.BodyKind.TheVariants as body
-use Rattle.script_words.specs.declared.sign.Sign.{Sign}
-use Rattle.script_words.specs.declared.sign.Sign.TheVariants as sign
-use Rattle.script_words.proofs.LineWords.{by_test}
+use Rattle.script_types.specs.Forms.{operands_of, body_of}
+use Rattle.script_types.specs.declared.keyword.Keyword.{Keyword}
+use Rattle.script_types.specs.declared.operand.BodyKind.{BodyKind}
+use Rattle.script_types.specs.declared.operand.BodyKind.TheVariants as body
+use Rattle.script_types.specs.declared.operand.Operand.{Operand}
+use Rattle.script_types.specs.declared.operand.Operand.TheVariants as operand
 use Rattle.script_words.proofs.ObjectNames.{object_name_is_name}
 use Rattle.script_words.proofs.Operands.{natural_known}
-use Rattle.script_words.proofs.Steps.{both, same_bytes}
+use Rattle.script_words.proofs.Steps.{both, by_test, same_bytes}
 use Rattle.sym_base.specs.NameText.{name_byte, name_of}
 
 -- a code is a number of 32 bits
@@ -47,25 +47,26 @@ right_of true b e h = absurd (cc)
 right_of false b e h = h
 
 -- a word of each sign
-sign_known : (s : Sign) (word : List ℕ) → has_form s word ≡ true → is_in_range s word ≡ true → IsOf s word
-sign_known (sign.Number low high) word form range = natural_known low high word range
-sign_known sign.Code word form range = code_known word range
-sign_known (sign.Lettered letter last) word form range = natural_known 0 last (drop 1 word) range
-sign_known sign.Name word form range = record { text = object_name_is_name word form }
-sign_known sign.Category word form range = record { text = some_name word form }
-sign_known sign.Slots word form range = record { own = λ e. natural_known 1 255 word (right_of (bytes_eq word (codes "pool")) (is_natural 1 255 word) e range) }
-sign_known sign.Argument word form range = record { parts = range }
+sign_known : (s : Operand) (word : List ℕ) → has_form s word ≡ true → is_in_range s word ≡ true → IsOf s word
+sign_known (operand.Number low high) word form range = natural_known low high word range
+sign_known operand.Version word form range = tt
+sign_known operand.Code word form range = code_known word range
+sign_known (operand.Lettered letter last) word form range = natural_known 0 last (drop 1 word) range
+sign_known operand.Name word form range = record { text = object_name_is_name word form }
+sign_known operand.Category word form range = record { text = some_name word form }
+sign_known operand.Slots word form range = record { own = λ e. natural_known 1 255 word (right_of (bytes_eq word (codes "pool")) (is_natural 1 255 word) e range) }
+sign_known operand.Argument word form range = record { parts = range }
 sign_known _ word form range = tt
 
 -- the word at a place passes the test of the next sign
-pub next_word : (test : Sign → List ℕ → Bool) (s : Sign) (signs : List Sign) (words : List (List ℕ)) (i : ℕ) → each_passes test (s ∷ signs) (drop i words) ≡ true
+pub next_word : (test : Operand → List ℕ → Bool) (s : Operand) (signs : List Operand) (words : List (List ℕ)) (i : ℕ) → each_passes test (s ∷ signs) (drop i words) ≡ true
     → (test s (word_at words i) ≡ true) × (each_passes test signs (drop (suc i) words) ≡ true)
 next_word test s signs [] zero h = absurd (cc)
 next_word test s signs [] (suc i) h = absurd (cc)
 next_word test s signs (w ∷ ws) zero h = both (test s w) (each_passes test signs ws) h
 next_word test s signs (w ∷ ws) (suc i) h = next_word test s signs ws i h
 
-words_known : (signs : List Sign) (words : List (List ℕ)) (i : ℕ) → each_passes has_form signs (drop i words) ≡ true → each_passes is_in_range signs (drop i words) ≡ true → AreOf signs words i
+words_known : (signs : List Operand) (words : List (List ℕ)) (i : ℕ) → each_passes has_form signs (drop i words) ≡ true → each_passes is_in_range signs (drop i words) ≡ true → AreOf signs words i
 words_known [] words i form range = tt
 words_known (s ∷ signs) words i form range =
     let f = next_word has_form s signs words i form in
@@ -73,11 +74,11 @@ words_known (s ∷ signs) words i form range =
     (sign_known s (word_at words i) f.0 r.0, words_known signs words (suc i) f.1 r.1)
 
 -- the operands of an operation
-abbrev HasOperands : Option (List Sign) → List (List ℕ) → Type 0
+abbrev HasOperands : Option (List Operand) → List (List ℕ) → Type 0
 HasOperands None words = ⊥
 HasOperands (Some signs) words = AreOf signs words 1
 
-operands_known : (signs : Option (List Sign)) (first : List ℕ) (words : List (List ℕ)) → op_passes has_form signs words ≡ true → op_passes is_in_range signs words ≡ true → HasOperands signs (first ∷ words)
+operands_known : (signs : Option (List Operand)) (first : List ℕ) (words : List (List ℕ)) → op_passes has_form signs words ≡ true → op_passes is_in_range signs words ≡ true → HasOperands signs (first ∷ words)
 operands_known None first words form range = absurd (cc)
 operands_known (Some signs) first words form range =
     let f = both (length words == length signs) (each_passes has_form signs words) form in
@@ -112,11 +113,12 @@ body_known None words form range = tt
 body_known (Some kind) words form range = operations_known kind (operations words) form range
 
 -- a line
-pub tested : (scheduled : Bool) (k : Keyword) (words : List (List ℕ)) → have_forms scheduled k words ≡ true → are_in_range scheduled k words ≡ true → IsTested scheduled k words
-tested scheduled k words form range =
-    let f = both (each_passes has_form (signs_of k words) (drop 1 words)) (body_passes has_form (body_of scheduled k) (body_part (signs_of k words) words)) form in
-    let r = both (each_passes is_in_range (signs_of k words) (drop 1 words)) (body_passes is_in_range (body_of scheduled k) (body_part (signs_of k words) words)) range in
+pub tested : (k : Keyword) (second : Bool) (words : List (List ℕ)) → all_pass_as has_form k second words ≡ true → all_pass_as is_in_range k second words ≡ true → IsTestedAs k second words
+tested k second words form range =
+    let operands = operands_of k second in
+    let f = both (each_passes has_form operands (drop 1 words)) (body_passes has_form (body_of k second) (body_part operands words)) form in
+    let r = both (each_passes is_in_range operands (drop 1 words)) (body_passes is_in_range (body_of k second) (body_part operands words)) range in
     record {
-      operands = words_known (signs_of k words) words 1 f.0 r.0;
-      body = body_known (body_of scheduled k) (body_part (signs_of k words) words) f.1 r.1;
+      operands = words_known operands words 1 f.0 r.0;
+      body = body_known (body_of k second) (body_part operands words) f.1 r.1;
     }

@@ -5,7 +5,7 @@ use Rattle.std.specs.Borrow.{Bor}
 use Rattle.std.specs.Prelude.{slice_get}
 use Rattle.script_words.specs.LineSigns.{word_at}
 use Rattle.script_words.specs.Signs.{each_passes}
-use Rattle.script_words.specs.declared.sign.Sign.{Sign}
+use Rattle.script_types.specs.declared.operand.Operand.{Operand}
 use Rattle.script_words.specs.Pieces.{pieces}
 
 pub word_at_place : (words : List (Bor (List ℕ))) (i : ℕ) (word : Bor (List ℕ)) → slice_get words i ≡ Some word → word.now ≡ word_at (pieces words) i
@@ -23,12 +23,12 @@ pieces_length [] = refl
 pieces_length (w ∷ ws) = ap suc (pieces_length ws)
 
 -- a sign is left, and no word
-signs_left : (test : Sign → List ℕ → Bool) (signs : List Sign) (i : ℕ) → i < length signs → false ≡ each_passes test (drop i signs) []
+signs_left : (test : Operand → List ℕ → Bool) (signs : List Operand) (i : ℕ) → i < length signs → false ≡ each_passes test (drop i signs) []
 signs_left test [] i some = absurd (omega arith)
 signs_left test (s ∷ ss) zero some = refl
 signs_left test (s ∷ ss) (suc i) some = signs_left test ss i (omega arith)
 
-pub words_gone : (test : Sign → List ℕ → Bool) (signs : List Sign) (words : List (Bor (List ℕ))) (i : ℕ) → i < length signs → length words ≤ i → false ≡ each_passes test (drop i signs) (pieces (drop i words))
+pub words_gone : (test : Operand → List ℕ → Bool) (signs : List Operand) (words : List (Bor (List ℕ))) (i : ℕ) → i < length signs → length words ≤ i → false ≡ each_passes test (drop i signs) (pieces (drop i words))
 words_gone test [] words i some gone = absurd (omega arith)
 words_gone test (s ∷ ss) [] zero some gone = refl
 words_gone test (s ∷ ss) (w ∷ ws) zero some gone = absurd (omega arith)

@@ -1,5 +1,4 @@
 pub mod Fields
-pub mod Keywords
 pub mod LineAt
 pub mod LineSigns
 pub mod Operands

@@ -1,10 +1,10 @@
--- The form and the range of each sign.
+-- The form and the range of each operand.
 use Rattle.std.specs.Prelude.{ℕ, ℤ, pos, neg_ℤ, Bool, true, false, not, ◌&&◌, ◌||◌, ◌==◌, nat_le, if◌then◌else◌, List, [], ◌∷◌, length, drop, is_some, codes}
 use Rattle.std.specs.Str.{bytes_eq}
 use Rattle.std.specs.Str.Parse.{digits_value}
 use Rattle.script_words.specs.Fields.{is_number}
-use Rattle.script_words.specs.declared.sign.Sign.{Sign}
-use Rattle.script_words.specs.declared.sign.Sign.TheVariants as sign
+use Rattle.script_types.specs.declared.operand.Operand.{Operand}
+use Rattle.script_types.specs.declared.operand.Operand.TheVariants as operand
 use Rattle.script_types.specs.ObjectName.{is_object_name}
 use Rattle.script_types.specs.SourceText.{split}
 use Rattle.sym_base.specs.NameText.{name_of}
@@ -58,30 +58,33 @@ are_arg_parts number size (word ∷ []) = number word
 are_arg_parts number size (d ∷ offset ∷ length ∷ max ∷ []) = bytes_eq d (codes "d") && size offset && size length && size max
 are_arg_parts number size _ = false
 
--- whether a word has the form of a sign
-abbrev pub has_form : Sign → List ℕ → Bool
-has_form (sign.Number low high) word = is_signed word
-has_form sign.Code word = is_signed word
-has_form (sign.Lettered letter last) word = is_lettered letter word
-has_form sign.Name word = is_object_name word
-has_form sign.Category word = is_some (name_of word)
-has_form sign.Kind word = bytes_eq word (codes "process") || bytes_eq word (codes "thread") || bytes_eq word (codes "mutex") || bytes_eq word (codes "semaphore")
-has_form sign.Created word = bytes_eq word (codes "mutex") || bytes_eq word (codes "semaphore")
-has_form sign.Slots word = bytes_eq word (codes "pool") || is_signed word
-has_form sign.Argument word = are_arg_parts is_signed is_signed (colon_parts word)
-has_form sign.Held word = bytes_eq word (codes "held")
+-- whether a word has the form of an operand
+abbrev pub has_form : Operand → List ℕ → Bool
+has_form (operand.Number low high) word = is_signed word
+has_form operand.Version word = is_signed word
+has_form operand.Code word = is_signed word
+has_form (operand.Lettered letter last) word = is_lettered letter word
+has_form operand.Name word = is_object_name word
+has_form operand.Category word = is_some (name_of word)
+has_form operand.Kind word = bytes_eq word (codes "process") || bytes_eq word (codes "thread") || bytes_eq word (codes "mutex") || bytes_eq word (codes "semaphore")
+has_form operand.Mutex word = bytes_eq word (codes "mutex")
+has_form operand.Semaphore word = bytes_eq word (codes "semaphore")
+has_form operand.Slots word = bytes_eq word (codes "pool") || is_signed word
+has_form operand.Argument word = are_arg_parts is_signed is_signed (colon_parts word)
+has_form operand.Held word = bytes_eq word (codes "held")
 
--- whether the numbers of a word that has the form are in the sign's range
-abbrev pub is_in_range : Sign → List ℕ → Bool
-is_in_range (sign.Number low high) word = is_natural low high word
-is_in_range sign.Code word = is_code_word word
-is_in_range (sign.Lettered letter last) word = is_lettered_within last word
-is_in_range sign.Slots word = bytes_eq word (codes "pool") || is_natural 1 255 word
-is_in_range sign.Argument word = are_arg_parts is_number_word is_size_word (colon_parts word)
+-- whether the numbers of a word that has the form are in the operand's range
+abbrev pub is_in_range : Operand → List ℕ → Bool
+is_in_range (operand.Number low high) word = is_natural low high word
+is_in_range operand.Version word = is_natural 1 1 word
+is_in_range operand.Code word = is_code_word word
+is_in_range (operand.Lettered letter last) word = is_lettered_within last word
+is_in_range operand.Slots word = bytes_eq word (codes "pool") || is_natural 1 255 word
+is_in_range operand.Argument word = are_arg_parts is_number_word is_size_word (colon_parts word)
 is_in_range _ word = true
 
--- whether each word passes the test of its sign
-abbrev pub each_passes : (Sign → List ℕ → Bool) → List Sign → List (List ℕ) → Bool
+-- whether each word passes the test of its operand
+abbrev pub each_passes : (Operand → List ℕ → Bool) → List Operand → List (List ℕ) → Bool
 each_passes test [] words = true
-each_passes test (s ∷ signs) [] = false
-each_passes test (s ∷ signs) (word ∷ words) = test s word && each_passes test signs words
+each_passes test (what ∷ operands) [] = false
+each_passes test (what ∷ operands) (word ∷ words) = test what word && each_passes test operands words

@@ -2,44 +2,44 @@
 ghost use Rattle.std.specs.List.{list_all};
 ghost use Rattle.std.specs.Prelude.{◌≡◌, drop, option_map, codes};
 ghost use Rattle.std.specs.Str.{bytes_eq};
-ghost use Rattle.script_words.specs.LineSigns.{op_signs, are_words, is_op, operations, body_passes, body_part, all_pass, have_forms, are_in_range};
+ghost use Rattle.script_words.specs.LineSigns.{op_signs, are_words, is_op, operations, body_passes, all_pass_as};
 ghost use Rattle.script_words.specs.Pieces.{pieces};
-ghost use Rattle.script_words.specs.Signs.{each_passes};
+ghost use Rattle.script_words.specs.Signs.{each_passes, has_form, is_in_range};
 ghost use Rattle.script_words.specs.Tests.{passes};
 
 use crate::field::is_word;
-use crate::keyword::Keyword;
-use crate::line_signs::{DEVICE, body_of, signs_of};
-use crate::sign::{BodyKind, Sign, has_form, is_in_range};
+use crate::line_signs::{DEVICE, body_of, operands_of};
+use crate::sign::{has_form, is_in_range};
+use script_types::{BodyKind, Keyword, Operand};
 
 /// What is tested of a word.
 #[derive(Clone, Copy)]
 pub enum Test {
-    /// Whether it has the form of its sign.
+    /// Whether it has the form of its operand.
     Form,
-    /// Whether its numbers are in the range of its sign.
+    /// Whether its numbers are in the range of its operand.
     Range,
 }
 
-/// Whether a word passes the test of its sign.
-fn passes(test: Test, sign: Sign, word: &[u8]) -> bool
-    ensures { result ≡ passes test sign word.now }
+/// Whether a word passes the test of its operand.
+fn passes(test: Test, operand: Operand, word: &[u8]) -> bool
+    ensures { result ≡ passes test operand word.now }
 {
     match test {
-        Test::Form => has_form(sign, word),
-        Test::Range => is_in_range(sign, word),
+        Test::Form => has_form(operand, word),
+        Test::Range => is_in_range(operand, word),
     }
 }
 
-/// Whether each word passes the test of its sign.
-fn each_passes(test: Test, signs: &[Sign], words: &[&[u8]]) -> bool
-    ensures { result ≡ each_passes (passes test) signs.now (pieces words.now) }
+/// Whether each word passes the test of its operand.
+fn each_passes(test: Test, operands: &[Operand], words: &[&[u8]]) -> bool
+    ensures { result ≡ each_passes (passes test) operands.now (pieces words.now) }
 {
-    for i in 0..signs.len() {
+    for i in 0..operands.len() {
         if i >= words.len() {
             return false;
         }
-        if !passes(test, signs[i], words[i]) {
+        if !passes(test, operands[i], words[i]) {
             return false;
         }
     }
@@ -58,9 +58,9 @@ pub fn words_behind<'s, 'w>(words: &'s [&'w [u8]], count: usize) -> &'s [&'w [u8
     }
 }
 
-/// The signs of an operation that begins with this word. None where none of the body's list does.
-fn operation_signs(kind: BodyKind, first: &[u8]) -> Option<&'static [Sign]>
-    ensures { option_map (λ signs. signs.now) result ≡ op_signs kind first.now }
+/// The operands of an operation that begins with this word. None where none of the body's list does.
+fn operation_signs(kind: BodyKind, first: &[u8]) -> Option<&'static [Operand]>
+    ensures { option_map (λ operands. operands.now) result ≡ op_signs kind first.now }
 {
     match kind {
         BodyKind::Interrupt => interrupt_signs(first),
@@ -68,36 +68,36 @@ fn operation_signs(kind: BodyKind, first: &[u8]) -> Option<&'static [Sign]>
     }
 }
 
-/// The signs of an interrupt's operation.
-fn interrupt_signs(first: &[u8]) -> Option<&'static [Sign]>
-    ensures { option_map (λ signs. signs.now) result ≡ op_signs BodyKind.Interrupt first.now }
+/// The operands of an interrupt's operation.
+fn interrupt_signs(first: &[u8]) -> Option<&'static [Operand]>
+    ensures { option_map (λ operands. operands.now) result ≡ op_signs BodyKind.Interrupt first.now }
 {
     if is_word(first, "idfc") || is_word(first, "dfc") {
-        Some(&[Sign::Name])
+        Some(&[Operand::Name])
     } else {
         None
     }
 }
 
-/// The signs of a deferred function call's operation.
-fn call_signs(first: &[u8]) -> Option<&'static [Sign]>
-    ensures { option_map (λ signs. signs.now) result ≡ op_signs BodyKind.Call first.now }
+/// The operands of a deferred function call's operation.
+fn call_signs(first: &[u8]) -> Option<&'static [Operand]>
+    ensures { option_map (λ operands. operands.now) result ≡ op_signs BodyKind.Call first.now }
 {
     if is_word(first, "fssignal") || is_word(first, "queue") {
-        Some(&[Sign::Name])
+        Some(&[Operand::Name])
     } else if is_word(first, "device") {
-        Some(&[DEVICE, Sign::Code])
+        Some(&[DEVICE, Operand::Code])
     } else {
         None
     }
 }
 
-/// Whether there are as many words as signs, and each passes the test.
+/// Whether there are as many words as operands, and each passes the test.
 #[tactic(auto, using(crate::proofs::WordPlaces::pieces_length))]
-fn are_words(test: Test, signs: &[Sign], words: &[&[u8]]) -> bool
-    ensures { result ≡ are_words (passes test) signs.now (pieces words.now) }
+fn are_words(test: Test, operands: &[Operand], words: &[&[u8]]) -> bool
+    ensures { result ≡ are_words (passes test) operands.now (pieces words.now) }
 {
-    words.len() == signs.len() && each_passes(test, signs, words)
+    words.len() == operands.len() && each_passes(test, operands, words)
 }
 
 /// Whether words are an operation of a body that passes the test.
@@ -108,7 +108,7 @@ fn is_operation(test: Test, kind: BodyKind, words: &[&[u8]]) -> bool
         return false;
     }
     match operation_signs(kind, words[0]) {
-        Some(signs) => are_words(test, signs, &words[1..]),
+        Some(operands) => are_words(test, operands, &words[1..]),
         None => false,
     }
 }
@@ -129,7 +129,7 @@ fn are_operations(test: Test, kind: BodyKind, words: &[&[u8]]) -> bool
         .all(|operation| is_operation(test, kind, operation))
 }
 
-/// Whether the body behind so many signs passes the test, where the line has one.
+/// Whether the body behind so many operands passes the test, where the line has one.
 fn body_passes(test: Test, kind: Option<BodyKind>, words: &[&[u8]]) -> bool
     ensures { result ≡ body_passes (passes test) kind (pieces words.now) }
 {
@@ -140,27 +140,27 @@ fn body_passes(test: Test, kind: Option<BodyKind>, words: &[&[u8]]) -> bool
 }
 
 /// Whether each word behind the first passes the test.
-fn all_pass(test: Test, scheduled: bool, keyword: Keyword, words: &[&[u8]]) -> bool
-    ensures { result ≡ all_pass (passes test) scheduled keyword (pieces words.now) }
+fn all_pass(test: Test, keyword: Keyword, second: bool, words: &[&[u8]]) -> bool
+    ensures { result ≡ all_pass_as (passes test) keyword second (pieces words.now) }
 {
-    let signs = signs_of(keyword, words);
-    if !each_passes(test, signs, words_behind(words, 1)) {
+    let operands = operands_of(keyword, second);
+    if !each_passes(test, operands, words_behind(words, 1)) {
         return false;
     }
-    let body = words_behind(words, signs.len() + 1);
-    body_passes(test, body_of(scheduled, keyword), body)
+    let body = words_behind(words, operands.len() + 1);
+    body_passes(test, body_of(keyword, second), body)
 }
 
 /// Whether each word of a line has its form.
-pub fn have_line_forms(scheduled: bool, keyword: Keyword, words: &[&[u8]]) -> bool
-    ensures { result ≡ have_forms scheduled keyword (pieces words.now) }
+pub fn have_line_forms(keyword: Keyword, second: bool, words: &[&[u8]]) -> bool
+    ensures { result ≡ all_pass_as has_form keyword second (pieces words.now) }
 {
-    all_pass(Test::Form, scheduled, keyword, words)
+    all_pass(Test::Form, keyword, second, words)
 }
 
 /// Whether each number of a line is in its range.
-pub fn is_line_in_range(scheduled: bool, keyword: Keyword, words: &[&[u8]]) -> bool
-    ensures { result ≡ are_in_range scheduled keyword (pieces words.now) }
+pub fn is_line_in_range(keyword: Keyword, second: bool, words: &[&[u8]]) -> bool
+    ensures { result ≡ all_pass_as is_in_range keyword second (pieces words.now) }
 {
-    all_pass(Test::Range, scheduled, keyword, words)
+    all_pass(Test::Range, keyword, second, words)
 }

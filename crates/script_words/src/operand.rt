@@ -1,6 +1,6 @@
 //! The values of a line's words, once their forms and ranges are tested.
 ghost use Rattle.std.specs.Prelude.{◌≡◌, ◌≤◌, drop, neg_ℤ, pos};
-ghost use Rattle.script_words.specs.LineAt.{natural, natural_at, lettered_at, signed_at, kind_named, slots_named, arg_of, arg_at};
+ghost use Rattle.script_words.specs.LineAt.{natural, kind_named, slots_named, arg_of};
 ghost use Rattle.script_words.specs.LineSigns.{word_at};
 ghost use Rattle.script_words.specs.Operands.{IsNumber, IsSigned, IsName, IsSlots, IsArgument};
 ghost use Rattle.script_words.specs.Pieces.{pieces};
@@ -97,7 +97,7 @@ fn argument(word: &[u8]) -> Arg
 /// The number at a place, at most `last`.
 pub fn number_at(words: &[&[u8]], at: usize, last: u32) -> u32
     requires { IsNumber last (word_at (pieces words.now) at) }
-    ensures value { result ≡ natural_at (pieces words.now) at }
+    ensures value { result ≡ natural (word_at (pieces words.now) at) }
     ensures within { result ≤ last }
 {
     number(word_at(words, at), last)
@@ -106,7 +106,7 @@ pub fn number_at(words: &[&[u8]], at: usize, last: u32) -> u32
 /// The number at a place, at most `last`, as a byte.
 pub fn small_at(words: &[&[u8]], at: usize, last: u8) -> u8
     requires { IsNumber last (word_at (pieces words.now) at) }
-    ensures { result ≡ natural_at (pieces words.now) at }
+    ensures { result ≡ natural (word_at (pieces words.now) at) }
 {
     number_at(words, at, last as u32) as u8
 }
@@ -114,7 +114,7 @@ pub fn small_at(words: &[&[u8]], at: usize, last: u8) -> u8
 /// The place in memory, or the number of bytes, that stands at a place.
 pub fn size_at(words: &[&[u8]], at: usize) -> u16
     requires { IsNumber 1024 (word_at (pieces words.now) at) }
-    ensures { result ≡ natural_at (pieces words.now) at }
+    ensures { result ≡ natural (word_at (pieces words.now) at) }
 {
     number_at(words, at, 1024) as u16
 }
@@ -122,7 +122,7 @@ pub fn size_at(words: &[&[u8]], at: usize) -> u16
 /// The number behind the letter of the word at a place, at most `last`.
 fn lettered_at(words: &[&[u8]], at: usize, last: u8) -> u8
     requires { IsNumber last (drop 1 (word_at (pieces words.now) at)) }
-    ensures { result ≡ lettered_at (pieces words.now) at }
+    ensures { result ≡ lettered_value (word_at (pieces words.now) at) }
 {
     lettered(word_at(words, at), last)
 }
@@ -130,7 +130,7 @@ fn lettered_at(words: &[&[u8]], at: usize, last: u8) -> u8
 /// The register at a place, of a handle or of a message: 0 to 7.
 pub fn register_at(words: &[&[u8]], at: usize) -> u8
     requires { IsNumber 7 (drop 1 (word_at (pieces words.now) at)) }
-    ensures { result ≡ lettered_at (pieces words.now) at }
+    ensures { result ≡ lettered_value (word_at (pieces words.now) at) }
 {
     lettered_at(words, at, 7)
 }
@@ -138,7 +138,7 @@ pub fn register_at(words: &[&[u8]], at: usize) -> u8
 /// The status, device or fast mutex at a place: 0 to 15.
 pub fn item_at(words: &[&[u8]], at: usize) -> u8
     requires { IsNumber 15 (drop 1 (word_at (pieces words.now) at)) }
-    ensures { result ≡ lettered_at (pieces words.now) at }
+    ensures { result ≡ lettered_value (word_at (pieces words.now) at) }
 {
     lettered_at(words, at, 15)
 }
@@ -146,7 +146,7 @@ pub fn item_at(words: &[&[u8]], at: usize) -> u8
 /// The code at a place.
 pub fn code_at(words: &[&[u8]], at: usize) -> i32
     requires { IsSigned (word_at (pieces words.now) at) }
-    ensures { result ≡ signed_at (pieces words.now) at }
+    ensures { result ≡ signed_value (word_at (pieces words.now) at) }
 {
     signed(word_at(words, at))
 }
@@ -177,7 +177,7 @@ pub fn slots_at(words: &[&[u8]], at: usize) -> Slots
 /// The argument of a message at a place.
 pub fn argument_at(words: &[&[u8]], at: usize) -> Arg
     requires { IsArgument (word_at (pieces words.now) at) }
-    ensures { result ≡ arg_at (pieces words.now) at }
+    ensures { result ≡ arg_of (colon_parts (word_at (pieces words.now) at)) }
 {
     argument(word_at(words, at))
 }

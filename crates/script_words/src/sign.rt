@@ -1,49 +1,16 @@
-//! The signs of the words behind a line's first word.
+//! The form and the range of an operand.
 ghost use Rattle.std.specs.Prelude.{◌≡◌};
 ghost use Rattle.script_words.specs.Signs.{has_form, is_in_range, is_code_word};
 
 use crate::argument::{is_argument, is_argument_in_range};
 use crate::field::{is_object_name, is_word};
 use crate::numeral::{is_between, is_lettered, is_lettered_within, is_natural, is_signed};
+use script_types::Operand;
 use sym_base::read_name;
-
-/// What a word stands for. Each sign has a form, and its numbers have a range.
-#[derive(Clone, Copy)]
-pub enum Sign {
-    /// A number from the first to the second, neither of which is negative.
-    Number(u32, u32),
-    /// A code: -2147483646 to 2147483647.
-    Code,
-    /// A letter, and a number from 0 on that is at most the second: `r0` to `r7` are registers.
-    Lettered(u8, u8),
-    /// A name of an object.
-    Name,
-    /// The category of a panic.
-    Category,
-    /// A kind of object that can be opened by name.
-    Kind,
-    /// A kind of object that `create` makes: `mutex` or `semaphore`.
-    Created,
-    /// The slots of a session: 1 to 255, or `pool`.
-    Slots,
-    /// An argument of a message.
-    Argument,
-    /// The word `held`.
-    Held,
-}
-
-/// Whose body the last words of a line are.
-#[derive(Clone, Copy)]
-pub enum BodyKind {
-    /// An interrupt's.
-    Interrupt,
-    /// A deferred function call's.
-    Call,
-}
 
 /// Whether a word names a kind of object that can be opened by name.
 fn is_kind(word: &[u8]) -> bool
-    ensures { result ≡ has_form Sign.Kind word.now }
+    ensures { result ≡ has_form Operand.Kind word.now }
 {
     is_word(word, "process")
         || is_word(word, "thread")
@@ -51,33 +18,40 @@ fn is_kind(word: &[u8]) -> bool
         || is_word(word, "semaphore")
 }
 
-/// Whether a word has the form of a sign.
-pub fn has_form(sign: Sign, word: &[u8]) -> bool
-    ensures { result ≡ has_form sign word.now }
+/// Whether a word has the form of an operand.
+pub fn has_form(operand: Operand, word: &[u8]) -> bool
+    ensures { result ≡ has_form operand word.now }
 {
-    match sign {
-        Sign::Number(_, _) | Sign::Code => is_signed(word),
-        Sign::Lettered(letter, _) => is_lettered(letter, word),
-        Sign::Name => is_object_name(word),
-        Sign::Category => read_name(word).is_some(),
-        Sign::Kind => is_kind(word),
-        Sign::Created => is_word(word, "mutex") || is_word(word, "semaphore"),
-        Sign::Slots => is_word(word, "pool") || is_signed(word),
-        Sign::Argument => is_argument(word),
-        Sign::Held => is_word(word, "held"),
+    match operand {
+        Operand::Number(_, _) | Operand::Version | Operand::Code => is_signed(word),
+        Operand::Lettered(letter, _) => is_lettered(letter, word),
+        Operand::Name => is_object_name(word),
+        Operand::Category => read_name(word).is_some(),
+        Operand::Kind => is_kind(word),
+        Operand::Mutex => is_word(word, "mutex"),
+        Operand::Semaphore => is_word(word, "semaphore"),
+        Operand::Slots => is_word(word, "pool") || is_signed(word),
+        Operand::Argument => is_argument(word),
+        Operand::Held => is_word(word, "held"),
     }
 }
 
-/// Whether the numbers of a word that has the form are in the sign's range.
-pub fn is_in_range(sign: Sign, word: &[u8]) -> bool
-    ensures { result ≡ is_in_range sign word.now }
+/// Whether the numbers of a word that has the form are in the operand's range.
+pub fn is_in_range(operand: Operand, word: &[u8]) -> bool
+    ensures { result ≡ is_in_range operand word.now }
 {
-    match sign {
-        Sign::Number(low, high) => is_natural(low, high, word),
-        Sign::Code => is_between(2_147_483_646, 2_147_483_647, word),
-        Sign::Lettered(_, last) => is_lettered_within(last, word),
-        Sign::Slots => is_word(word, "pool") || is_natural(1, 255, word),
-        Sign::Argument => is_argument_in_range(word),
-        Sign::Name | Sign::Category | Sign::Kind | Sign::Created | Sign::Held => true,
+    match operand {
+        Operand::Number(low, high) => is_natural(low, high, word),
+        Operand::Version => is_natural(1, 1, word),
+        Operand::Code => is_between(2_147_483_646, 2_147_483_647, word),
+        Operand::Lettered(_, last) => is_lettered_within(last, word),
+        Operand::Slots => is_word(word, "pool") || is_natural(1, 255, word),
+        Operand::Argument => is_argument_in_range(word),
+        Operand::Name
+        | Operand::Category
+        | Operand::Kind
+        | Operand::Mutex
+        | Operand::Semaphore
+        | Operand::Held => true,
     }
 }

@@ -12,6 +12,9 @@ use super::steps::put_step;
 use crate::{Actor, Entry};
 use arrayvec::ArrayVec;
 
+/// The most bytes that the line of an entry has. A buffer with so much room is written into at once.
+const LONGEST: usize = 192;
+
 /// Adds an actor's letters and number, at most 3 and 5 bytes.
 fn put_numbered(line: &mut Line, letters: &[u8], number: u16)
     requires { length line.old.items + length letters.now + 5 ≤ 512 }
@@ -74,16 +77,25 @@ fn put_head(line: &mut Line, entry: &Entry)
     put_step(line, &entry.step);
 }
 
+/// Adds the line of an entry, at most 192 bytes.
+fn put_entry(line: &mut Line, entry: &Entry)
+    requires { length line.old.items + 192 ≤ 512 }
+    ensures text { line.new.items ≡ line.old.items ++ entry_line entry.now }
+    ensures short { length line.new.items ≤ length line.old.items + 192 }
+{
+    put_head(line, entry);
+    put_effects(line, entry.effects.as_slice());
+    put_answer(line, entry.answer);
+    put(line, b"\n");
+}
+
 /// The line of an entry.
 fn line_of(entry: &Entry) -> Line
     ensures text { result.items ≡ entry_line entry.now }
     ensures short { length result.items ≤ 192 }
 {
     let mut line = Line::new();
-    put_head(&mut line, entry);
-    put_effects(&mut line, entry.effects.as_slice());
-    put_answer(&mut line, entry.answer);
-    put(&mut line, b"\n");
+    put_entry(&mut line, entry);
     line
 }
 
@@ -93,6 +105,10 @@ pub fn entry_text(entry: &Entry, out: &mut ArrayVec<u8, 512>) -> bool
     ensures line { Appends result out.old.items out.new.items (entry_line entry.now) }
     ensures short { length (entry_line entry.now) ≤ 512 }
 {
+    if out.remaining_capacity() >= LONGEST {
+        put_entry(out, entry);
+        return true;
+    }
     let line = line_of(entry);
     out.try_extend_from_slice(line.as_slice()).is_ok()
 }

@@ -10,6 +10,9 @@ use crate::FinalRow;
 use arrayvec::ArrayVec;
 use sym_base::{Exit, ExitKind, Kind, Name};
 
+/// The most bytes that the line of an object has. A buffer with so much room is written into at once.
+const LONGEST: usize = 79;
+
 /// A kind's word.
 #[tactic(auto, unfolding(crate::specs::FinalLine::kind_text))]
 fn kind_bytes(kind: Kind) -> &'static [u8]
@@ -118,15 +121,24 @@ fn put_head(line: &mut Line, row: &FinalRow)
     put_number(line, row.count);
 }
 
+/// Adds the line of an object that is left, at most 79 bytes.
+fn put_row(line: &mut Line, row: &FinalRow)
+    requires { length line.old.items + 79 ≤ 512 }
+    ensures text { line.new.items ≡ line.old.items ++ final_line row.now }
+    ensures short { length line.new.items ≤ length line.old.items + 79 }
+{
+    put_head(line, row);
+    put_life(line, row);
+    put(line, b"\n");
+}
+
 /// The line of an object that is left.
 fn line_of(row: &FinalRow) -> Line
     ensures text { result.items ≡ final_line row.now }
     ensures short { length result.items ≤ 79 }
 {
     let mut line = Line::new();
-    put_head(&mut line, row);
-    put_life(&mut line, row);
-    put(&mut line, b"\n");
+    put_row(&mut line, row);
     line
 }
 
@@ -136,6 +148,10 @@ pub fn final_text(row: &FinalRow, out: &mut ArrayVec<u8, 512>) -> bool
     ensures line { Appends result out.old.items out.new.items (final_line row.now) }
     ensures short { length (final_line row.now) ≤ 512 }
 {
+    if out.remaining_capacity() >= LONGEST {
+        put_row(out, row);
+        return true;
+    }
     let line = line_of(row);
     out.try_extend_from_slice(line.as_slice()).is_ok()
 }

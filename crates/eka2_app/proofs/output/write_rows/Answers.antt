@@ -14,7 +14,7 @@ returns-in_err-write_whole-clause-front g c =
     let p = err_from_is_err_and c.from_residual.result c.from_residual.ensures.1 in
     let S = after c.args.kernel.now.script c.args.kernel.now.history in
     let rest = rows_from S (c.in-Some.row.object.0 + 1) in
-    rw p.1 (all_but_prefix _ _ _ _ _ (flat_map final_line rest) _ c.loop-row.invariant.all (next_line final_line (rows_from S c.loop-row.from) rest c.in-Some.row c.as_slice.result.now c.in-Some.ensures (c.as_slice.ensures.value ∙ c.line_of_row.ensures)) c.in_err-write_whole.ensures.front)
+    rw p.1 (all_but_prefix _ _ _ _ _ (flat_map final_line rest) _ c.loop-row.invariant.all (next_line final_line (rows_from S c.loop-row.from) rest c.in-Some.row c.as_slice.result.now c.in-Some.ensures (c.as_slice.ensures.value ∙ c.put_row.ensures)) c.in_err-write_whole.ensures.front)
 
 pub overflow_add-from : goal.overflow_add-from
 overflow_add-from g c =
@@ -26,7 +26,7 @@ loop-row-preserved g c =
     let S = after c.args.kernel.now.script c.args.kernel.now.history in
     let rest = rows_from S (c.in-Some.row.object.0 + 1) in
     record {
-      all = all_but_next _ _ _ _ _ (flat_map final_line rest) _ c.loop-row.invariant.all (next_line final_line (rows_from S c.loop-row.from) rest c.in-Some.row c.as_slice.result.now c.in-Some.ensures (c.as_slice.ensures.value ∙ c.line_of_row.ensures)) c.in_ok-write_whole.ensures.whole;
+      all = all_but_next _ _ _ _ _ (flat_map final_line rest) _ c.loop-row.invariant.all (next_line final_line (rows_from S c.loop-row.from) rest c.in-Some.row c.as_slice.result.now c.in-Some.ensures (c.as_slice.ensures.value ∙ c.put_row.ensures)) c.in_ok-write_whole.ensures.whole;
       tells = search rules;
       never_falls = search rules;
     }

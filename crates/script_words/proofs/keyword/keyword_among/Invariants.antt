@@ -1,8 +1,8 @@
 use Rattle.std.proofs.Common.{◌≡◌, drop}
 use Rattle.std.specs.List.{find}
 use Rattle.std.specs.Str.{bytes_eq}
-use Rattle.script_words.specs.Keywords.{keyword_text}
-use Rattle.script_words.specs.declared.keyword.Keyword.{Keyword}
+use Rattle.script_types.specs.Keywords.{keyword_text}
+use Rattle.script_types.specs.declared.keyword.Keyword.{Keyword}
 use Rattle.script_words.proofs.keyword.keyword_among.Given as goal
 
 -- the words that are left decide

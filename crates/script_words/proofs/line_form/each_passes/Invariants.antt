@@ -6,4 +6,4 @@ use Rattle.script_words.proofs.line_form.each_passes.Given as goal
 
 -- the words that are left decide
 abbrev pub invariant-loop-i : goal.invariant-loop-i
-invariant-loop-i l = each_passes (passes l.fn.test) (drop l.i l.fn.signs) (pieces (drop l.i l.fn.words)) ≡ each_passes (passes l.fn.test) l.fn.signs (pieces l.fn.words)
+invariant-loop-i l = each_passes (passes l.fn.test) (drop l.i l.fn.operands) (pieces (drop l.i l.fn.words)) ≡ each_passes (passes l.fn.test) l.fn.operands (pieces l.fn.words)

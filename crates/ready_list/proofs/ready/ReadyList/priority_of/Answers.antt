@@ -8,7 +8,7 @@ pub returns-then-is_linked-clause-found : goal.returns-then-is_linked-clause-fou
 returns-then-is_linked-clause-found c =
     let held = c.is_linked.ensures.linked.0 c.if-is_linked.true in
     let known = rw (← c.self.view_is) at c.requires in
-    let read = get_or_read c.self.inside.priorities.items c.args.t.0 c.index.result.now (omega (arith, c.self.invariant.sized)) c.index.ensures 0 in
+    let read = get_or_read c.self.inside.priorities.items c.args.t.0 c.index.result.now (omega (arith, c.self.invariant.owned.sized, c.self.invariant.nodes)) c.index.ensures 0 in
     rw (← c.self.view_is, read) (priority_ready c.self.inside.threads c.self.inside.links c.self.inside.priorities.items c.self.inside.mask c.self.invariant c.args.t held)
 
 pub returns-then-is_linked-clause-none : goal.returns-then-is_linked-clause-none

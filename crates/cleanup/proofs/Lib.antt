@@ -1,0 +1,5 @@
+mod Filling
+mod Logons
+mod Next
+mod Places
+mod Seen

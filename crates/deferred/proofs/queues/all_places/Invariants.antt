@@ -1,0 +1,6 @@
+use Rattle.std.proofs.Common.{◌≡◌, ◌++◌, ◌-◌, length, replicate}
+use Rattle.deferred.specs.Calls.{burial}
+use Rattle.deferred.proofs.queues.all_places.Given as goal
+
+abbrev pub invariant-loop-number : goal.invariant-loop-number
+invariant-loop-number l = l.places.items ≡ l.dfcs ++ replicate (l._number - length l.dfcs) burial

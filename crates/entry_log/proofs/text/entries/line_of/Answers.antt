@@ -1,7 +1,0 @@
-use Rattle.entry_log.specs.EntryLine.{entry_line, entry_words}
-use Rattle.entry_log.proofs.Joins.{joined_head}
-use Rattle.entry_log.proofs.text.entries.line_of.Goals as goal
-
-pub returns-clause-text : goal.returns-clause-text
-unfolding entry_line entry_words
-returns-clause-text c = simp (joined_head, c.put.ensures, c.put_answer.ensures.text, c.put_effects.ensures.text, c.as_slice.ensures.effects, c.put_head.ensures.text, c.new-line.ensures)

@@ -1,7 +1,0 @@
-use Rattle.entry_log.specs.FinalLine.{final_line, final_words}
-use Rattle.entry_log.proofs.Joins.{joined_row}
-use Rattle.entry_log.proofs.text.rows.line_of.Goals as goal
-
-pub returns-clause-text : goal.returns-clause-text
-unfolding final_line final_words
-returns-clause-text c = simp (joined_row, c.put.ensures, c.put_life.ensures.text, c.put_head.ensures.text, c.new-line.ensures)

@@ -1,0 +1,2 @@
+pub mod HeldMutexes
+pub mod Soundness

@@ -1,0 +1,53 @@
+-- What the nanokernel keeps of threads that synchronize, as lists.
+use Rattle.std.specs.Prelude.{ℕ, Bool, false, not, ◌==◌, ◌||◌, List, Option, Some, None, is_some, is_none, position, slice_index, slice_index_or}
+use Rattle.sym_base.specs.declared.number.ObjNo.{ObjNo}
+
+-- of each thread the signals of its fast semaphore, its suspend count, its critical count, and the fast
+-- mutex that it wants; of each fast mutex its holder
+pub record NanoRows : Type 0 where
+  pub signals : List ℕ
+  pub suspensions : List ℕ
+  pub sections : List ℕ
+  pub wants : List (Option ℕ)
+  pub holders : List (Option ObjNo)
+
+-- how many signals wait at a thread's fast semaphore
+abbrev pub signal_count : NanoRows → ObjNo → ℕ
+signal_count r t = slice_index r.signals t.0
+
+-- how many suspensions of a thread aren't resumed
+abbrev pub suspend_count : NanoRows → ObjNo → ℕ
+suspend_count r t = slice_index r.suspensions t.0
+
+-- how many critical sections a thread is in
+abbrev pub critical_count : NanoRows → ObjNo → ℕ
+critical_count r t = slice_index r.sections t.0
+
+-- the fast mutex that a thread wants
+abbrev pub want_of : NanoRows → ObjNo → Option ℕ
+want_of r t = slice_index_or r.wants t.0 None
+
+-- the thread that holds a fast mutex
+abbrev pub holder_of : NanoRows → ℕ → Option ObjNo
+holder_of r f = slice_index_or r.holders f None
+
+-- whether a holder is a thread
+abbrev pub is_thread : ObjNo → Option ObjNo → Bool
+is_thread t None = false
+is_thread t (Some holder) = holder.0 == t.0
+
+-- whether nobody holds a fast mutex
+abbrev pub is_free : NanoRows → ℕ → Bool
+is_free r f = is_none (holder_of r f)
+
+-- whether a thread holds a fast mutex
+abbrev pub is_holder : NanoRows → ObjNo → ℕ → Bool
+is_holder r t f = is_thread t (holder_of r f)
+
+-- the fast mutex that a thread holds
+abbrev pub held_by : NanoRows → ObjNo → Option ℕ
+held_by r t = position (is_thread t) r.holders
+
+-- whether a thread holds a fast mutex or is in a critical section
+abbrev pub is_protected : NanoRows → ObjNo → Bool
+is_protected r t = is_some (held_by r t) || not (critical_count r t == 0)

@@ -1,0 +1,9 @@
+//! What the nanokernel keeps of threads that synchronize: fast semaphores, fast mutexes, critical
+//! sections and suspension.
+#![tactic(auto)]
+
+mod sync;
+#[cfg(test)]
+mod tests;
+
+pub use sync::{MAX_SUSPENSIONS, NanoSync};

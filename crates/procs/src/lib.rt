@@ -1,0 +1,10 @@
+//! Rows of threads and processes: what the kernel keeps of each thread, and the memory of each process.
+#![tactic(auto)]
+
+mod procs;
+mod row;
+#[cfg(test)]
+mod tests;
+
+pub use procs::Procs;
+pub use row::{MEMORY, REGISTERS, Stage, ThreadRow, Waiting};

@@ -1,0 +1,10 @@
+//! Asynchronous requests: what devices have to complete, the statuses of requests, and the semaphore by
+//! which a thread waits for a completion.
+#![tactic(auto)]
+
+mod drops;
+mod table;
+#[cfg(test)]
+mod tests;
+
+pub use table::{Began, PENDING, Request, Requests, STATUSES};
