@@ -19,8 +19,8 @@ loop-place-init c =
       rest = chosen_at (λ node. get_or c.args.weights.now node 0) (list_at c.args.self.now c.args.list) 0 c.in_ok-node.node at;
     }
 
-pub next-requires-clause-linked : goal.next-requires-clause-linked
-next-requires-clause-linked c =
+pub next-requires : goal.next-requires
+next-requires c =
     held_at c.args.self.now.lists c.args.list c.loop-place.place c.loop-place.node c.loop-place.invariant.at
 
 pub loop-place-preserved : goal.loop-place-preserved
