@@ -1,7 +1,6 @@
 -- The definitions give the history that the worked example says.
 use Rattle.std.proofs.Common.{◌≡◌, refl}
 use Rattle.machine.specs.Run.{run}
-use Rattle.machine.specs.Moves.{perform}
 use Rattle.machine.specs.Tick.{tick}
 use Rattle.machine.specs.Transition.{act}
 use Rattle.machine.specs.Boot.{boot_of}

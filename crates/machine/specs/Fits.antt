@@ -1,5 +1,5 @@
 -- When the moves of an action fit the state.
-use Rattle.std.specs.Prelude.{◌≡◌, ℕ, ◌+◌, ◌*◌, ◌<◌, ◌≤◌, true, false, List, [], ◌∷◌, length, is_some, Option, Some, None}
+use Rattle.std.specs.Prelude.{◌≡◌, ℕ, ◌+◌, ◌<◌, ◌≤◌, true, false, List, [], ◌∷◌, length, is_some, Option, Some, None}
 use Rattle.sym_base.specs.declared.limits.TheConstants.Limits.{OBJECTS}
 use Rattle.sym_base.specs.declared.number.ObjNo.{ObjNo}
 use Rattle.sym_base.specs.declared.kind.Kind.{Kind}
@@ -88,11 +88,27 @@ abbrev pub EachFits : Script → ObjNo → List Move → State → Type 0
 EachFits script t [] S = Unit {0}
 EachFits script t (m ∷ ms) S = FitsMove script t m S × EachFits script t ms (moved t m S)
 
--- The moves of an action fit: each when its turn comes; no move adds more than 4 to the weight of what the thread
--- owes; and an entry has at most four effects.
+-- the most effects that a move tells
+abbrev pub most_told : Move → ℕ
+most_told (Lose h o) = 2
+most_told (Pay what) = 2
+most_told (GoOn u part) = 0
+most_told (Write u x value) = 0
+most_told (Advance u) = 0
+most_told _ = 1
+
+-- the most that a move adds to the weight of what its thread owes: with a last reference the close of a link and a
+-- sweep, with the end of an instruction the close of a temporary reference
+abbrev pub most_owed : Move → ℕ
+most_owed (Lose h o) = 3
+most_owed (Advance u) = 4
+most_owed _ = 0
+
+-- The moves of an action fit: each when its turn comes; what the thread owes then weighs at most 12; and an entry has
+-- at most four effects.
 pub record Fits (script : Script) (t : ObjNo) (ms : List Move) (S : State) : Type 0 where
   pub each : EachFits script t ms S
-  pub few : total weight (owed_of S t) + 4 * length ms ≤ 32
+  pub few : total weight (owed_of S t) + total most_owed ms ≤ 12
   pub told : length (tell t ms S) ≤ 4
 
 -- the state in the middle of an action of a thread

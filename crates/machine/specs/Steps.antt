@@ -1,5 +1,5 @@
 -- The decision of each task of a thread.
-use Rattle.std.specs.Prelude.{ℕ, [], ◌∷◌, Option, Some, None}
+use Rattle.std.specs.Prelude.{[], ◌∷◌, Option, Some, None}
 use Rattle.sym_base.specs.declared.kind.Kind.TheVariants.{Mutex}
 use Rattle.sym_base.specs.declared.number.ObjNo.{ObjNo}
 use Rattle.script_types.specs.declared.script.Script.{Script}

@@ -1,5 +1,5 @@
 -- What a thread does next.
-use Rattle.std.specs.Prelude.{ℕ, Bool, true, false, is_some, if◌then◌else◌, List, [], Option, Some, None, option_map, slice_get}
+use Rattle.std.specs.Prelude.{Bool, true, false, is_some, if◌then◌else◌, List, [], Option, Some, None, option_map, slice_get}
 use Rattle.sym_base.specs.declared.number.ObjNo.{ObjNo}
 use Rattle.script_types.specs.declared.script.Script.{Script}
 use Rattle.script_types.specs.declared.declaration.ThreadDecl.{ThreadDecl}

@@ -81,11 +81,11 @@ EachMayOwe threads k [] = Unit {0}
 EachMayOwe threads k (Close h o ∷ rest) = MayOwe threads k h o × EachMayOwe threads k rest
 EachMayOwe threads k (Sweep o ∷ rest) = EachMayOwe threads k rest
 
--- what each thread owes is its own, and weighs no more than eight moves can add; between a find and its return it owes
+-- what each thread owes is its own, and weighs at most 12: two closes, the close of a link and a sweep; between a find and its return it owes
 -- nothing
 pub record AreDuties (threads : List (Option ThreadRow)) (owed : List (List Owed)) : Type 0 where
   pub own : (k : ℕ) → EachMayOwe threads k (slice_index_or owed k [])
-  pub few : (k : ℕ) → total weight (slice_index_or owed k []) ≤ 32
+  pub few : (k : ℕ) → total weight (slice_index_or owed k []) ≤ 12
   pub returns : (k : ℕ) → is_returning (part_of (slice_index_or threads k None)) ≡ true → slice_index_or owed k [] ≡ []
 
 -- an object that is there and has a reference left

@@ -1,5 +1,5 @@
 -- Who holds what at boot: threads their processes, and the kernel the threads.
-use Rattle.std.proofs.Common.{◌≡◌, ◌⊎◌, inl, inr, ℕ, suc, zero, ◌+◌, List, [], ◌∷◌, length, get_or, arith, refl, ap, ◌∙◌, Option, Some, None, Bool, true, false, map, replicate}
+use Rattle.std.proofs.Common.{◌≡◌, ◌⊎◌, inl, inr, ℕ, suc, zero, List, [], ◌∷◌, length, get_or, arith, refl, ap, ◌∙◌, Option, Some, None, Bool, true, false, map, replicate}
 use Rattle.std.specs.Prelude.{is_some, not}
 use Rattle.sym_base.specs.declared.number.ObjNo.{ObjNo}
 use Rattle.entry_log.specs.declared.effect.Holder.{Holder}

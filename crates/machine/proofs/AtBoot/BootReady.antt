@@ -1,6 +1,6 @@
 -- The ready list at boot.
-use Rattle.std.proofs.Common.{◌≡◌, ℕ, suc, zero, ◌+◌, ◌<◌, List, [], ◌∷◌, get_or, arith, refl, ap, sym, ◌∙◌, Option, Some, None, Bool, true, false, map}
-use Rattle.std.specs.Prelude.{◌==◌, ◌||◌, is_some, if◌then◌else◌}
+use Rattle.std.proofs.Common.{◌≡◌, ℕ, suc, zero, ◌+◌, ◌<◌, List, [], ◌∷◌, get_or, arith, refl, ap, ◌∙◌, Option, None, Bool, true, false, map}
+use Rattle.std.specs.Prelude.{◌||◌, is_some, if◌then◌else◌}
 use Rattle.std.proofs.lemmas.Bool.{eq-eqb}
 use Rattle.sym_base.specs.declared.number.ObjNo.{ObjNo}
 use Rattle.script_types.specs.declared.script.Script.{Script}
@@ -12,7 +12,7 @@ use Rattle.machine.specs.Boot.{boot, boot_of, born, ready_from}
 use Rattle.machine.specs.Rows.{first_of}
 use Rattle.machine.specs.Task.{task_of_row}
 use Rattle.machine.specs.WellFormed.{AreApart, IsReadyList}
-use Rattle.machine.proofs.AtBoot.Born.{IsBorn, EachBorn, each_born}
+use Rattle.machine.proofs.AtBoot.Born.{EachBorn, each_born}
 use Rattle.machine.proofs.References.Same.{eqb_apart}
 
 -- whether the one at a place works

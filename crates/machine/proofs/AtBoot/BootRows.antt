@@ -1,5 +1,5 @@
 -- The state at boot is well-formed.
-use Rattle.std.proofs.Common.{◌≡◌, ◌⊎◌, inl, inr, ℕ, suc, zero, ◌+◌, ◌<◌, ◌≤◌, List, [], ◌∷◌, length, get_or, arith, refl, sym, subst, ap, ◌∙◌, Option, Some, None, Bool, true, false, map, replicate}
+use Rattle.std.proofs.Common.{◌≡◌, ◌⊎◌, inl, inr, ℕ, suc, zero, ◌<◌, ◌≤◌, List, [], ◌∷◌, length, get_or, arith, refl, sym, subst, ap, ◌∙◌, Option, Some, None, map, replicate}
 use Rattle.std.specs.Prelude.{is_some, if◌then◌else◌}
 use Rattle.std.proofs.lemmas.List.{length-map, length-replicate, get_or_past}
 use Rattle.std.proofs.lemmas.Bool.{cases_lt}
@@ -8,21 +8,18 @@ use Rattle.script_types.specs.declared.script.Script.{Script}
 use Rattle.script_types.specs.Shape.{IsShaped}
 use Rattle.script_types.specs.Source.{IsValid}
 use Rattle.script_types.proofs.ShapeLaws.{valid_is_shaped}
-use Rattle.entry_log.specs.declared.step.Part.{Part}
 use Rattle.state_rows.specs.declared.duty.Owed.{Owed}
 use Rattle.machine.specs.declared.boot.Born.{Born}
-use Rattle.machine.specs.declared.state.HandleSlot.{HandleSlot}
 use Rattle.machine.specs.declared.state.ThreadRow.{ThreadRow}
 use Rattle.machine.specs.Boot.{boot, boot_of, born}
 use Rattle.machine.specs.Handles.{fresh_slot, slot_at}
 use Rattle.machine.specs.References.{total, option_names, slot_names, thread_names, kernel_names, owed_names, count_of}
 use Rattle.machine.specs.Rows.{thread_of}
-use Rattle.machine.specs.Task.{is_returning}
-use Rattle.machine.specs.WellFormed.{AreSized, IsTable, IsThread, AreThreads, AreDuties, EachMayOwe, AreLives, AreRows, IsWellFormed, IsAlive, is_dead, dead_bit, owed_sweeps, weight, part_of, is_before_use}
+use Rattle.machine.specs.WellFormed.{IsTable, EachMayOwe, AreRows, IsWellFormed, IsAlive, is_dead, dead_bit, owed_sweeps, weight}
 use Rattle.machine.proofs.AtBoot.BootCounts.{counted-boot}
 use Rattle.machine.proofs.AtBoot.BootLinks.{each_linked, linked_at}
 use Rattle.machine.proofs.AtBoot.BootReady.{ready-boot}
-use Rattle.machine.proofs.AtBoot.Born.{IsBorn, IsNewThread, EachBorn, each_born, born_few}
+use Rattle.machine.proofs.AtBoot.Born.{IsNewThread, EachBorn, each_born, born_few}
 use Rattle.machine.proofs.References.Same.{same_other}
 
 total-replicate : {A : Type 0} (f : A → ℕ) (x : A) (n : ℕ) → f x ≡ 0 → total f (replicate n x) ≡ 0
@@ -135,7 +132,7 @@ rows-boot script valid =
       };
       duties = record {
         own = λ k. owes_nothing bs (EachMayOwe (map (λ b. b.thread) bs) k) k tt;
-        few = λ k. owes_nothing bs (λ (l : List Owed). total weight l ≤ 32) k (omega arith);
+        few = λ k. owes_nothing bs (λ (l : List Owed). total weight l ≤ 12) k (omega arith);
         returns = λ k _. owes_nothing bs (λ (l : List Owed). l ≡ []) k refl;
       };
       lives = record {

@@ -1,5 +1,5 @@
 -- What a thread does in an action: moves that fit, or it pays the oldest of what it owes.
-use Rattle.std.proofs.Common.{◌≡◌, ◌⊎◌, inl, inr, ℕ, ◌+◌, ◌*◌, ◌<◌, ◌≤◌, List, [], ◌∷◌, length, arith, refl, sym, subst, ap, ◌∙◌, Option, Some, None, Bool, true, false}
+use Rattle.std.proofs.Common.{◌≡◌, ◌⊎◌, inl, inr, ℕ, ◌+◌, ◌<◌, ◌≤◌, List, [], ◌∷◌, length, arith, refl, sym, subst, ap, ◌∙◌, Option, Some, None, Bool, true, false}
 use Rattle.std.specs.Prelude.{if◌then◌else◌, option_map, slice_get}
 use Rattle.std.proofs.lemmas.Bool.{cases_lt}
 use Rattle.std.proofs.lemmas.List.{append-nil}
@@ -24,10 +24,10 @@ use Rattle.machine.specs.Moves.{moved, told, perform, tell}
 use Rattle.machine.specs.References.{total}
 use Rattle.machine.specs.Steps.{step_of, return_of, decision_of_row, decision_of}
 use Rattle.machine.specs.Task.{instruction, instructions_of, is_returning, pay_or_step, task_of_row}
-use Rattle.machine.specs.Fits.{EachFits, Fits, Sane}
+use Rattle.machine.specs.Fits.{EachFits, Fits, Sane, most_told, most_owed}
 use Rattle.machine.specs.WellFormed.{AreRows, is_before_use, part_of, weight}
 use Rattle.machine.proofs.Lists.Totals.{inside}
-use Rattle.machine.proofs.Numbers.FewEffects.{few_effects}
+use Rattle.machine.proofs.Numbers.FewEffects.{tell_few}
 use Rattle.machine.proofs.Numbers.Registers.{has_registers}
 use Rattle.machine.proofs.MoveLaws.Sound.{Sound, sound-none}
 use Rattle.machine.proofs.MoveLaws.Run.{each-sound, sound-pay}
@@ -62,13 +62,14 @@ pub record Pays (S : State) (t : ObjNo) (ms : List Move) : Type 0 where
 -- the moves fit one by one, and what they may owe has room
 pub record Goes (script : Script) (t : ObjNo) (S : State) (ms : List Move) : Type 0 where
   pub each : EachFits script t ms S
-  pub few : total weight (owed_of S t) + 4 * length ms ≤ 32
+  pub few : total weight (owed_of S t) + total most_owed ms ≤ 12
+  pub told : total most_told ms ≤ 4
 
 goes_by : (script : Script) (S : State) (t : ObjNo) (d : Decision) → owed_of S t ≡ [] → FitsDecision script t S d → Goes script t S d.moves
-goes_by script S t d nothing fits = record { each = fits.each; few = let a : total weight (owed_of S t) ≡ 0 = ap (total weight) nothing in let b = fits.short in omega arith }
+goes_by script S t d nothing fits = record { each = fits.each; few = let a : total weight (owed_of S t) ≡ 0 = ap (total weight) nothing in let b = fits.light in omega arith; told = fits.told }
 
 idles : (script : Script) (S : State) (t : ObjNo) → AreRows script S → Goes script t S []
-idles script S t rows = record { each = tt; few = let a = rows.duties.few t.0 in omega arith }
+idles script S t rows = record { each = tt; few = let a = rows.duties.few t.0 in omega arith; told = omega arith }
 
 -- a number at which a list has something is inside the list
 pub slice_get_inside : {A : Type 0} (xs : List A) (i : ℕ) (x : A) → slice_get xs i ≡ Some x → i < length xs
@@ -101,7 +102,7 @@ acts script S t (Some row) shaped rows is = row-acts script S t row (is_returnin
 -- what a thread does in its next action: moves that fit, or it pays the oldest of what it owes
 pub fits-action : (script : Script) (S : State) (t : ObjNo) → IsShaped script → AreRows script S → Fits script t (decision_of script S t).moves S ⊎ Pays S t (decision_of script S t).moves
 fits-action script S t shaped rows = elim (acts script S t (thread_of S t) shaped rows refl) as (λ _. Fits script t (decision_of script S t).moves S ⊎ Pays S t (decision_of script S t).moves) [
-  | inl goes ↦ inl (record { each = goes.each; few = goes.few; told = few_effects script S t })
+  | inl goes ↦ inl (record { each = goes.each; few = goes.few; told = let a = tell_few t (decision_of script S t).moves S in let b = goes.told in omega arith })
   | inr pays ↦ inr pays
 ]
 

@@ -1,5 +1,5 @@
 -- Steps that several instructions share: a look, a find and its return, and a new handle.
-use Rattle.std.proofs.Common.{◌≡◌, ℕ, ◌<◌, List, arith, refl, subst, ap, Option, Some, None, Bool, true, false}
+use Rattle.std.proofs.Common.{◌≡◌, ℕ, ◌<◌, ◌≤◌, List, arith, refl, subst, ap, Option, Some, None, Bool, true, false}
 use Rattle.std.specs.Prelude.{if◌then◌else◌, slice_index}
 use Rattle.sym_base.specs.declared.kind.Kind.{Kind}
 use Rattle.sym_base.specs.declared.number.ObjNo.{ObjNo}
@@ -26,7 +26,7 @@ use Rattle.machine.specs.Moves.{moved, with_register}
 use Rattle.machine.specs.Decide.{answer_handle, give_handle}
 use Rattle.machine.specs.Find.{seek, seek_object, find_object, return_to, is_open}
 use Rattle.machine.specs.Look.{look, look_at}
-use Rattle.machine.specs.Fits.{FitsMove, IsFree, IsFreeSlot}
+use Rattle.machine.specs.Fits.{FitsMove, IsFree, IsFreeSlot, most_told, most_owed}
 use Rattle.machine.specs.WellFormed.{IsAlive, is_before_use}
 use Rattle.machine.proofs.Lists.Cases.{if_cases}
 use Rattle.machine.proofs.RowLaws.Tables.{free_index_inside, free_index_is_free, object_in_is}
@@ -47,7 +47,7 @@ fits-seek {script = script} {S = S} {t = t} word kind name h before = found (fin
   where
     found : (named : Option ObjNo) → find_object S kind name ≡ named → FitsDecision script t S (seek_object t word named)
     found None e = fits-refuse (Of word Seek) NotFound h
-    found (Some o) e = record { each = (may_go_on Return h before, (found_inside S kind name o e, tt)); short = omega arith }
+    found (Some o) e = record { each = (may_go_on Return h before, (found_inside S kind name o e, tt)); told = omega arith; light = omega arith }
 
 -- and its return
 pub fits-return : {script : Script} {S : State} {t : ObjNo} {row : ThreadRow} {instr : Instr} (word : Word) (part : Part) (what : Found) → IsStepping script S t row instr → is_before_use row.part ≡ true → is_before_use (Some part) ≡ false → FitsDecision script t S (return_to S t word part what)
@@ -55,17 +55,22 @@ fits-return {script = script} {S = S} {t = t} word part Nothing h before later =
 fits-return {script = script} {S = S} {t = t} word part (Object o) h before later =
     if_cases (FitsDecision script t S) (is_open (object_of S o)) _ _
     (λ e. fits-use (Of word Return) o part h before later (open_is_alive (object_of S o) e))
-    (λ _. record { each = (tt, ((refl, at_instruction h), tt)); short = omega arith })
+    (λ _. record { each = (tt, ((refl, at_instruction h), tt)); told = omega arith; light = omega arith })
 
 -- the handle that a table gives next stands in a free slot
 handle_step : (b : Bool) (x y : NewHandle) → (if b then None else Some x) ≡ Some y → (b ≡ false) × (x ≡ y)
 handle_step true x y e = absurd (cc)
 handle_step false x y e = (refl, cc)
 
+-- a move that tells one effect at most, and owes nothing
+pub record IsCheap (m : Move) : Type 0 where
+  pub told : most_told m ≤ 1
+  pub light : most_owed m ≡ 0
+
 -- a new handle, with a move that gives it, and which leaves the threads
 pub fits-handle : {script : Script} {S : State} {t : ObjNo} {row : ThreadRow} {instr : Instr} (told : Step) (give : Holder → Move) (x : ℕ) (handle : NewHandle) → IsStepping script S t row instr → x < 8 → next_handle (table_of S row.process) ≡ Some handle
-    → ((i : ℕ) → IsFree S (InProcess row.process i) → FitsMove script t (give (InProcess row.process i)) S) → ((i : ℕ) → (moved t (give (InProcess row.process i)) S).threads ≡ S.threads) → FitsDecision script t S (answer_handle t told (give (InProcess row.process handle.index)) x handle.number)
-fits-handle {script = script} {S = S} {t = t} {row = row} told give x handle h register e fits stays =
+    → ((i : ℕ) → IsFree S (InProcess row.process i) → FitsMove script t (give (InProcess row.process i)) S) → ((i : ℕ) → (moved t (give (InProcess row.process i)) S).threads ≡ S.threads) → ((i : ℕ) → IsCheap (give (InProcess row.process i))) → FitsDecision script t S (answer_handle t told (give (InProcess row.process handle.index)) x handle.number)
+fits-handle {script = script} {S = S} {t = t} {row = row} told give x handle h register e fits stays cheap =
     let table = table_of S row.process in
     let is = handle_step (is_full table) _ handle e in
     let at : free_index table ≡ handle.index = ap (λ (n : NewHandle). n.index) is.1 in
@@ -79,7 +84,8 @@ fits-handle {script = script} {S = S} {t = t} {row = row} told give x handle h r
         fits handle.index free,
         (register, ((refl, at-with_row script S (moved t (Write t x handle.number) given) t t (with_register x handle.number) (record { role = λ r. refl; next = λ r. refl }) (ap (λ (threads : List (Option ThreadRow)). with_row threads t (with_register x handle.number)) (stays handle.index)) (at_instruction h)), tt)),
       );
-      short = omega arith;
+      told = let a = (cheap handle.index).told in omega arith;
+      light = let a = (cheap handle.index).light in omega arith;
     }
 
 -- a handle of a living object
@@ -88,4 +94,4 @@ fits-give {script = script} {S = S} {t = t} {row = row} told o x h register aliv
   where
     given : (handle : Option NewHandle) → next_handle (table_of S row.process) ≡ handle → FitsDecision script t S (give_handle t row told o x handle)
     given None e = fits-refuse told Overflow h
-    given (Some handle) e = fits-handle told (λ holder. Gain holder o) x handle h register e (λ i free. (free, alive)) (λ i. refl)
+    given (Some handle) e = fits-handle told (λ holder. Gain holder o) x handle h register e (λ i free. (free, alive)) (λ i. refl) (λ i. record { told = omega arith; light = refl })

@@ -19,15 +19,16 @@ use Rattle.machine.specs.Decide.{nothing, refuse, go_on}
 use Rattle.machine.specs.References.{total}
 use Rattle.machine.specs.HeldIn.{owed_by}
 use Rattle.machine.specs.Task.{instructions_of}
-use Rattle.machine.specs.Fits.{EachFits, IsAtInstruction, MayGoOn, IsFree}
+use Rattle.machine.specs.Fits.{EachFits, most_told, most_owed, IsAtInstruction, MayGoOn, IsFree}
 use Rattle.machine.specs.WellFormed.{IsAlive, AreRows, is_before_use}
 use Rattle.machine.proofs.Holders.ThreadRows.{row-here}
 use Rattle.machine.proofs.RowLaws.Threads.{row-kept}
 
--- the moves of a decision fit, and are few
+-- the moves of a decision fit, and what they tell and owe is little
 pub record FitsDecision (script : Script) (t : ObjNo) (S : State) (d : Decision) : Type 0 where
   pub each : EachFits script t d.moves S
-  pub short : length d.moves ≤ 8
+  pub told : total most_told d.moves ≤ 4
+  pub light : total most_owed d.moves ≤ 12
 
 -- thread t is about to make a step of this instruction, and owes nothing
 pub record IsStepping (script : Script) (S : State) (t : ObjNo) (row : ThreadRow) (instr : Instr) : Type 0 where
@@ -38,7 +39,7 @@ pub record IsStepping (script : Script) (S : State) (t : ObjNo) (row : ThreadRow
   pub registers : HasRegisters instr
 
 pub fits-nothing : (script : Script) (S : State) (t : ObjNo) → FitsDecision script t S nothing
-fits-nothing script S t = record { each = tt; short = omega arith }
+fits-nothing script S t = record { each = tt; told = omega arith; light = omega arith }
 
 pub at_instruction : {script : Script} {S : State} {t : ObjNo} {row : ThreadRow} {instr : Instr} → IsStepping script S t row instr → IsAtInstruction script S t
 at_instruction {row = row} h = record { row = row; is = h.is; next = h.next }
@@ -56,7 +57,7 @@ at-with_row script S T t u f keeps threads at =
     record { row = r.0; is = ap (λ (threads : List (Option ThreadRow)). get_or threads t.0 None) threads ∙ r.1; next = r.2 }
 
 pub fits-refuse : {script : Script} {S : State} {t : ObjNo} {row : ThreadRow} {instr : Instr} (told : Step) (error : Error) → IsStepping script S t row instr → FitsDecision script t S (refuse t told error)
-fits-refuse told error h = record { each = ((refl, at_instruction h), tt); short = omega arith }
+fits-refuse told error h = record { each = ((refl, at_instruction h), tt); told = omega arith; light = omega arith }
 
 -- a thread that made no step but a find goes on to a step
 pub may_go_on : {script : Script} {S : State} {t : ObjNo} {row : ThreadRow} {instr : Instr} (part : Part) → IsStepping script S t row instr → is_before_use row.part ≡ true → MayGoOn S t (Some part)
@@ -69,7 +70,8 @@ may_go_on {S = S} {t = t} {row = row} part h before = record {
 pub fits-use : {script : Script} {S : State} {t : ObjNo} {row : ThreadRow} {instr : Instr} (told : Step) (o : ObjNo) (part : Part) → IsStepping script S t row instr → is_before_use row.part ≡ true → is_before_use (Some part) ≡ false → IsAlive (object_of S o) → FitsDecision script t S (go_on t told (Gain (Temp t) o) part)
 fits-use {script = script} {S = S} {t = t} {row = row} told o part h before later alive = record {
   each = (may_go_on part h before, ((free, alive), tt));
-  short = omega arith;
+  told = omega arith;
+  light = omega arith;
 }
   where
     free : IsFree (moved t (GoOn t part) S) (Temp t)

@@ -44,7 +44,7 @@ fits-create {script = script} {S = S} {t = t} {row = row} kind name x h register
   where
     made : is_taken kind name S.objects ≡ false → length S.objects < OBJECTS → (handle : Option NewHandle) → next_handle (table_of S row.process) ≡ handle → FitsDecision script t S (make_with_handle t row kind name x handle)
     made new room None e = fits-refuse (Of word.Create part.Do) Overflow h
-    made new room (Some handle) e = fits-handle (Of word.Create part.Do) (Make kind name) x handle h register e (λ i free. (record { room = room; new = new; named = named }, free)) (λ i. refl)
+    made new room (Some handle) e = fits-handle (Of word.Create part.Do) (Make kind name) x handle h register e (λ i free. (record { room = room; new = new; named = named }, free)) (λ i. refl) (λ i. record { told = omega arith; light = refl })
 
 -- `dup`
 fits-dup_do : {script : Script} {S : State} {t : ObjNo} {row : ThreadRow} {instr : Instr} (y : ℕ) (uses : Option ObjNo) → IsStepping script S t row instr → y < 8 → row.uses ≡ uses → FitsDecision script t S (dup_do S t row y uses)
@@ -93,5 +93,6 @@ fits-close {script = script} {S = S} {t = t} {row = row} x h going = closed (sli
         (ap (λ (r : Option ThreadRow). is_returning (part_of r)) h.is ∙ going, handle_holds (nat_lt handle 1073741824) (index_of handle) o h (object_in_is _ _ o e)),
         ((refl, at-closed (nat_lt handle 1073741824) (is_last S o) (index_of handle) o (moved t (Lose (holder_of t row handle) o) S) h refl), tt),
       );
-      short = omega arith;
+      told = omega arith;
+      light = omega arith;
     }

@@ -58,7 +58,7 @@ may_owe_use threads u (Some o) = (refl, tt)
 some_row : (old row : ThreadRow) (x : Option ThreadRow) → x ≡ Some old → x ≡ Some row → old ≡ row
 some_row old row x a b = cc
 
-pub sound-advance : (script : Script) (S : State) (t u : ObjNo) → FitsMove script t (Advance u) S → total weight (owed_of S u) + 4 ≤ 32 → u.0 < length S.threads → AreRows script S → Sound script S (moved t (Advance u) S) (told (Advance u) S)
+pub sound-advance : (script : Script) (S : State) (t u : ObjNo) → FitsMove script t (Advance u) S → total weight (owed_of S u) + 4 ≤ 12 → u.0 < length S.threads → AreRows script S → Sound script S (moved t (Advance u) S) (told (Advance u) S)
 sound-advance script S t u fits few inside rows =
     let T = moved t (Advance u) S in
     let old = thread_of S u in

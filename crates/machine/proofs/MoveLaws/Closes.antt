@@ -41,7 +41,7 @@ pub record HasLost (script : Script) (S : State) (t : ObjNo) (h : Holder) (o : O
   pub threads_are : AreThreads script threads
   pub duties : AreDuties threads owed
   pub going : is_returning (part_of (get_or threads t.0 None)) ≡ false
-  pub few : total weight (get_or owed t.0 []) + total weight (owed_by_close (is_last S o) o (link_of S o)) ≤ 32
+  pub few : total weight (get_or owed t.0 []) + total weight (owed_by_close (is_last S o) o (link_of S o)) ≤ 12
 
 -- a row without its link
 abbrev unlinked : ThreadRow → ThreadRow
@@ -99,7 +99,7 @@ sound-closed true script S t h o handles threads owed e inside lost rows =
     let old = get_or threads o.0 None in
     let T : State = record S { objects = slice_set S.objects o.0 (dead_row (get_or S.objects o.0 None)); handles = handles; threads = other; owed = owing owed t more } in
     let here : t.0 < length owed = let a = rows.sized.duties in let b = lost.owed_long in omega arith in
-    let few : total weight (get_or owed t.0 []) + total weight more ≤ 32 = subst (λ (last : Bool). total weight (get_or owed t.0 []) + total weight (owed_by_close last o link) ≤ 32) e lost.few in
+    let few : total weight (get_or owed t.0 []) + total weight more ≤ 12 = subst (λ (last : Bool). total weight (get_or owed t.0 []) + total weight (owed_by_close last o link) ≤ 12) e lost.few in
     let alive : IsAlive (object_of S o) = rows.lives.alive o (let a = lost.counts o in let b = same_self o in omega arith) in
     let named : (p : ObjNo) → option_names p (link_of_row old) ≡ option_names p link = λ p. ap (option_names p) lost.link in
     sound-of script S T (closed_effects true h o) rows (record {

@@ -27,7 +27,7 @@ use Rattle.machine.proofs.RowLaws.Duties.{paid-with_row, duties-threads}
 use Rattle.machine.proofs.MoveLaws.Closes.{HasLost, sound-closed, close_weight}
 use Rattle.machine.proofs.MoveLaws.Sound.{Sound}
 
-lost-slot : (script : Script) (S : State) (t : ObjNo) (thread : Bool) (owner : ObjNo) (i : ℕ) (o : ObjNo) → is_some (thread_of S owner) ≡ thread → (slot_at (table_of S owner) i).object ≡ Some o → is_returning (part_of (thread_of S t)) ≡ false → total weight (owed_of S t) + 4 ≤ 32 → AreRows script S → HasLost script S t (slot_holder thread owner i) o (with_slot S.handles owner i freed_slot) S.threads S.owed
+lost-slot : (script : Script) (S : State) (t : ObjNo) (thread : Bool) (owner : ObjNo) (i : ℕ) (o : ObjNo) → is_some (thread_of S owner) ≡ thread → (slot_at (table_of S owner) i).object ≡ Some o → is_returning (part_of (thread_of S t)) ≡ false → total weight (owed_of S t) + 3 ≤ 12 → AreRows script S → HasLost script S t (slot_holder thread owner i) o (with_slot S.handles owner i freed_slot) S.threads S.owed
 lost-slot script S t thread owner i o is there going few rows =
     let h = slot_holder thread owner i in
     let slot = slot_at (table_of S owner) i in
@@ -63,7 +63,7 @@ link-with_row threads u f k keeps = elim (cases_eq u.0 k) [
   | inr apart ↦ ap link_of_row (row-other threads u f k apart)
 ]
 
-lost-use : (script : Script) (S : State) (t u o : ObjNo) → Uses S u o → is_returning (part_of (thread_of S t)) ≡ false → total weight (owed_of S t) + 4 ≤ 32 → AreRows script S → HasLost script S t (Temp u) o S.handles (with_row S.threads u (λ row. record row { uses = None })) S.owed
+lost-use : (script : Script) (S : State) (t u o : ObjNo) → Uses S u o → is_returning (part_of (thread_of S t)) ≡ false → total weight (owed_of S t) + 3 ≤ 12 → AreRows script S → HasLost script S t (Temp u) o S.handles (with_row S.threads u (λ row. record row { uses = None })) S.owed
 lost-use script S t u o uses going few rows =
     let f : ThreadRow → ThreadRow = λ row. record row { uses = None } in
     let row = uses.row in
@@ -97,11 +97,11 @@ lost-use script S t u o uses going few rows =
       few = omega arith;
     }
 
-lost : (script : Script) (S : State) (t : ObjNo) (h : Holder) (o : ObjNo) → Holds S h o → is_returning (part_of (thread_of S t)) ≡ false → total weight (owed_of S t) + 4 ≤ 32 → AreRows script S → HasLost script S t h o (tables_lose h S.handles) (threads_lose h S.threads) S.owed
+lost : (script : Script) (S : State) (t : ObjNo) (h : Holder) (o : ObjNo) → Holds S h o → is_returning (part_of (thread_of S t)) ≡ false → total weight (owed_of S t) + 3 ≤ 12 → AreRows script S → HasLost script S t h o (tables_lose h S.handles) (threads_lose h S.threads) S.owed
 lost script S t (InProcess p i) o holds going few rows = lost-slot script S t false p i o (ap is_some holds.0) holds.1 going few rows
 lost script S t (InThread u i) o holds going few rows = lost-slot script S t true u i o holds.0 holds.1 going few rows
 lost script S t (Temp u) o holds going few rows = lost-use script S t u o holds going few rows
 lost script S t _ o holds going few rows = absurd holds
 
-pub sound-lose : (script : Script) (S : State) (t : ObjNo) (h : Holder) (o : ObjNo) → FitsMove script t (Lose h o) S → total weight (owed_of S t) + 4 ≤ 32 → t.0 < length S.threads → AreRows script S → Sound script S (moved t (Lose h o) S) (told (Lose h o) S)
+pub sound-lose : (script : Script) (S : State) (t : ObjNo) (h : Holder) (o : ObjNo) → FitsMove script t (Lose h o) S → total weight (owed_of S t) + 3 ≤ 12 → t.0 < length S.threads → AreRows script S → Sound script S (moved t (Lose h o) S) (told (Lose h o) S)
 sound-lose script S t h o fits few inside rows = sound-closed (is_last S o) script S t h o (tables_lose h S.handles) (threads_lose h S.threads) S.owed refl inside (lost script S t h o fits.1 fits.0 few rows) rows

@@ -43,7 +43,7 @@ pub sound-pay_close : (script : Script) (S : State) (t : ObjNo) (h : Holder) (o 
 sound-pay_close script S t h o rest e inside rows =
     let here : t.0 < length S.owed = let a = rows.sized.duties in omega arith in
     let own : EachMayOwe S.threads t.0 (Close h o ∷ rest) = subst (EachMayOwe S.threads t.0) e (rows.duties.own t.0) in
-    let few : total weight (Close h o ∷ rest) ≤ 32 = subst (λ (l : List Owed). total weight l ≤ 32) e (rows.duties.few t.0) in
+    let few : total weight (Close h o ∷ rest) ≤ 12 = subst (λ (l : List Owed). total weight l ≤ 12) e (rows.duties.few t.0) in
     let lighter = room_by S.threads t.0 (is_last S o) h o (link_of S o) refl own.0 in
     let left : get_or (without_first S.owed t) t.0 [] ≡ rest = get_or-set_same S.owed t.0 (drop 1 (owed_of S t)) [] here ∙ ap (drop 1) e in
     sound-closed (is_last S o) script S t h o S.handles S.threads (without_first S.owed t) refl inside

@@ -1,5 +1,5 @@
 -- What each move does, and what the moves of an action do.
-use Rattle.std.proofs.Common.{◌≡◌, ◌+◌, ◌*◌, ◌<◌, ◌≤◌, List, [], ◌∷◌, length, arith, refl, sym, subst, Bool, true, false}
+use Rattle.std.proofs.Common.{◌≡◌, ◌+◌, ◌<◌, ◌≤◌, List, [], ◌∷◌, length, arith, refl, sym, subst, Bool, true, false}
 use Rattle.sym_base.specs.declared.number.ObjNo.{ObjNo}
 use Rattle.script_types.specs.declared.script.Script.{Script}
 use Rattle.entry_log.specs.declared.effect.Holder.{Holder}
@@ -13,7 +13,7 @@ use Rattle.machine.specs.Rows.{owed_of}
 use Rattle.machine.specs.Moves.{moved, told, perform, tell, closed_effects, link_of, owed_by_close, owed_use, use_of}
 use Rattle.machine.specs.References.{total, is_last, RefsMove}
 use Rattle.machine.specs.Told.{removals}
-use Rattle.machine.specs.Fits.{FitsMove, EachFits, Fits, Sane}
+use Rattle.machine.specs.Fits.{FitsMove, EachFits, Fits, Sane, most_owed}
 use Rattle.machine.specs.WellFormed.{weight}
 use Rattle.machine.proofs.References.Effects.{removals-append}
 use Rattle.machine.proofs.RowLaws.Duties.{weight-owing}
@@ -26,7 +26,7 @@ use Rattle.machine.proofs.MoveLaws.Loses.{sound-lose}
 use Rattle.machine.proofs.MoveLaws.Pays.{sound-pay_close, sound-pay_sweep}
 
 -- what a move does that fits
-pub sound-move : (script : Script) (S : State) (t : ObjNo) (m : Move) → FitsMove script t m S → total weight (owed_of S t) + 4 ≤ 32 → Sane script t S → Sound script S (moved t m S) (told m S)
+pub sound-move : (script : Script) (S : State) (t : ObjNo) (m : Move) → FitsMove script t m S → total weight (owed_of S t) + most_owed m ≤ 12 → Sane script t S → Sound script S (moved t m S) (told m S)
 sound-move script S t (Make kind name h) fits few s = sound-make script S t kind name h fits s.rows
 sound-move script S t (Gain h o) fits few s = sound-gain script S t h o fits s.rows
 sound-move script S t (Lose h o) fits few s = sound-lose script S t h o fits few s.inside s.rows
@@ -34,7 +34,7 @@ sound-move script S t (Find u o) fits few s = sound-find script S t u o fits s.r
 sound-move script S t (Miss o) fits few s = sound-miss script S t o s.rows
 sound-move script S t (GoOn u part) fits few s = sound-go_on script S t u part fits s.rows
 sound-move script S t (Write u x value) fits few s = sound-write script S t u x value fits s.rows
-sound-move script S t (Advance u) fits few s = sound-advance script S t u fits (subst (λ (y : ObjNo). total weight (owed_of S y) + 4 ≤ 32) (sym fits.0) few) (subst (λ (y : ObjNo). y.0 < length S.threads) (sym fits.0) s.inside) s.rows
+sound-move script S t (Advance u) fits few s = sound-advance script S t u fits (subst (λ (y : ObjNo). total weight (owed_of S y) + 4 ≤ 12) (sym fits.0) few) (subst (λ (y : ObjNo). y.0 < length S.threads) (sym fits.0) s.inside) s.rows
 sound-move script S t (Pay what) fits few s = absurd fits
 
 -- what paying the oldest duty does
@@ -42,8 +42,8 @@ pub sound-pay : (script : Script) (S : State) (t : ObjNo) (what : Owed) (rest : 
 sound-pay script S t (Close h o) rest e s = sound-pay_close script S t h o rest e s.inside s.rows
 sound-pay script S t (Sweep o) rest e s = sound-pay_sweep script S t o rest e s.inside s.rows
 
--- a move adds at most 4 to the weight of what the thread owes
-pub weight-move : (script : Script) (S : State) (t : ObjNo) (m : Move) → FitsMove script t m S → total weight (owed_of (moved t m S) t) ≤ total weight (owed_of S t) + 4
+-- a move adds so much at most to the weight of what the thread owes
+pub weight-move : (script : Script) (S : State) (t : ObjNo) (m : Move) → FitsMove script t m S → total weight (owed_of (moved t m S) t) ≤ total weight (owed_of S t) + most_owed m
 weight-move script S t (Lose h o) fits = let a = weight-owing S.owed t (owed_by_close (is_last S o) o (link_of S o)) in let b = close_weight (is_last S o) o (link_of S o) in omega arith
 weight-move script S t (Advance u) fits = subst (λ (y : ObjNo). total weight (owed_of (moved t (Advance u) S) y) ≤ total weight (owed_of S y) + 4) fits.0
     (let a = weight-owing S.owed u (owed_use u (use_of S u)) in let b = use_weight u (use_of S u) in omega arith)
@@ -71,7 +71,7 @@ moves_remove script S t (m ∷ ms) p fits =
 pub sane-after : (script : Script) (S T : State) (t : ObjNo) (effects : List Effect) → Sane script t S → Sound script S T effects → Sane script t T
 sane-after script S T t effects s h = record { rows = h.rows; inside = let a = h.long in let b = s.inside in omega arith }
 
-pub each-sound : (script : Script) (S : State) (t : ObjNo) (ms : List Move) → EachFits script t ms S → total weight (owed_of S t) + 4 * length ms ≤ 32 → Sane script t S → Sound script S (perform t ms S) (tell t ms S)
+pub each-sound : (script : Script) (S : State) (t : ObjNo) (ms : List Move) → EachFits script t ms S → total weight (owed_of S t) + total most_owed ms ≤ 12 → Sane script t S → Sound script S (perform t ms S) (tell t ms S)
 each-sound script S t [] fits few s = sound-none script S s.rows
 each-sound script S t (m ∷ ms) fits few s =
     let T = moved t m S in

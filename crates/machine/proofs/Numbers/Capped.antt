@@ -1,7 +1,6 @@
 -- A count that stands still at its type's end tells whether it is 0 or 1.
-use Rattle.std.proofs.Common.{◌≡◌, ℕ, zero, suc, ◌-◌, ◌^◌, ◌<◌, ◌≤◌, Bool, true, false, min, arith, refl, inl, inr, ap, sym, ◌∙◌, ◌⊎◌}
+use Rattle.std.proofs.Common.{◌≡◌, ℕ, ◌-◌, ◌^◌, min, arith}
 use Rattle.std.specs.Prelude.{◌==◌, nat_lt}
-use Rattle.std.proofs.lemmas.Bool.{cases_lt}
 
 pub capped_is_one : (n : ℕ) → (min n (2 ^ 32 - 1) == 1) ≡ (n == 1)
 capped_is_one n = grind arith

@@ -1,5 +1,5 @@
 -- Counts are small, since tables, threads and duties are few.
-use Rattle.std.proofs.Common.{◌≡◌, ℕ, ◌+◌, ◌*◌, ◌<◌, ◌≤◌, length, List, [], ◌∷◌, Option, Some, None, slice_index_or, arith}
+use Rattle.std.proofs.Common.{◌≡◌, ◌*◌, ◌<◌, ◌≤◌, length, List, [], ◌∷◌, Option, Some, None, slice_index_or, arith}
 use Rattle.std.specs.Prelude.{is_some}
 use Rattle.sym_base.specs.declared.number.ObjNo.{ObjNo}
 use Rattle.script_types.specs.declared.script.Script.{Script}
@@ -36,7 +36,7 @@ duties_le : (o : ObjNo) (duties : List Owed) → total (owed_names o) duties ≤
 duties_le o [] = omega arith
 duties_le o (what ∷ rest) = let a = owed_le o what in let b = duties_le o rest in omega arith
 
--- at most 256 references from a table, 2 from a thread, 1 from the kernel and 32 from what a thread owes
+-- at most 256 references from a table, 2 from a thread, 1 from the kernel and 12 from what a thread owes
 pub count_small : (script : Script) (S : State) → AreRows script S → (o : ObjNo) → count_of S o < 65536
 count_small script S rows o =
     let handles : total (total (slot_names o)) S.handles ≤ 256 * length S.handles = total_at_most (total (slot_names o)) 256 S.handles [] (λ k inside.
@@ -44,9 +44,9 @@ count_small script S rows o =
     let size : length (slice_index_or S.handles k []) ≡ 256 = (rows.tables k inside).size in
     omega arith) in
     let threads : total (thread_names o) S.threads ≤ 2 * length S.threads = total_at_most (thread_names o) 2 S.threads None (λ k _. thread_le o _) in
-    let owed : total (total (owed_names o)) S.owed ≤ 32 * length S.owed = total_at_most (total (owed_names o)) 32 S.owed [] (λ k _.
+    let owed : total (total (owed_names o)) S.owed ≤ 12 * length S.owed = total_at_most (total (owed_names o)) 12 S.owed [] (λ k _.
     let few = duties_le o (slice_index_or S.owed k []) in
-    let weighs : total weight (slice_index_or S.owed k []) ≤ 32 = rows.duties.few k in
+    let weighs : total weight (slice_index_or S.owed k []) ≤ 12 = rows.duties.few k in
     omega arith) in
     let kernel : kernel_names S o ≤ 1 = if_le (is_some (thread_of S o)) 1 in
     let tables = rows.sized.tables in

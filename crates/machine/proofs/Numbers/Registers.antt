@@ -1,5 +1,5 @@
 -- The registers that a thread's instruction names are there.
-use Rattle.std.proofs.Common.{◌≡◌, ℕ, ◌<◌, ◌≤◌, Bool, true, false, length, arith, refl, Option, Some, None}
+use Rattle.std.proofs.Common.{◌≡◌, ℕ, Bool, true, false, refl, Option, Some, None}
 use Rattle.std.specs.Prelude.{slice_get, if◌then◌else◌, option_map}
 use Rattle.script_types.specs.declared.declaration.ThreadDecl.{ThreadDecl}
 use Rattle.script_types.specs.declared.instruction.Instr.{Instr}
@@ -9,9 +9,8 @@ use Rattle.state_rows.specs.declared.duty.Owed.{Owed}
 use Rattle.machine.specs.declared.state.Role.{Role}
 use Rattle.machine.specs.declared.state.Role.TheVariants.{Supervisor, Declared}
 use Rattle.machine.specs.declared.state.ThreadRow.{ThreadRow}
-use Rattle.machine.specs.declared.task.Task.{Task}
-use Rattle.machine.specs.declared.task.Task.TheVariants.{Return, Pay, Step}
-use Rattle.machine.specs.Task.{declared_of, instructions_in, instructions_of, instruction, is_returning, pay_or_step, task_of_row}
+use Rattle.machine.specs.declared.task.Task.TheVariants.{Return, Step}
+use Rattle.machine.specs.Task.{declared_of, instructions_in, instruction, is_returning, pay_or_step, task_of_row}
 
 -- of a declaration
 in_declaration : (script : Script) → IsShaped script → (role : Role) (declared : Option ThreadDecl) → declared_of script role ≡ declared → (place : ℕ) (instr : Instr) → slice_get (instructions_in declared) place ≡ Some instr → HasRegisters instr

@@ -1,10 +1,9 @@
 -- Histories, one entry longer.
-use Rattle.std.proofs.Common.{◌≡◌, ℕ, zero, suc, ◌+◌, List, [], ◌∷◌, ◌++◌, length, arith, refl, subst, ap, sym, ◌∙◌, Option, Some, None, Bool, true, false}
-use Rattle.std.specs.Prelude.{IsTrue, ◌==◌, ◌||◌, slice_get}
+use Rattle.std.proofs.Common.{◌≡◌, ℕ, zero, suc, ◌+◌, List, [], ◌∷◌, ◌++◌, length, arith, refl, subst, ap, sym, ◌∙◌, Option, Some, None, Bool, true}
+use Rattle.std.specs.Prelude.{IsTrue, ◌==◌, slice_get}
 use Rattle.std.proofs.lemmas.Bool.{eq-eqb, or_left, or_right}
 use Rattle.sym_base.specs.declared.number.ObjNo.{ObjNo}
-use Rattle.sym_base.specs.Greatest.{first_of_greatest}
-use Rattle.sym_base.proofs.Greatest.{IsFirstOfGreatest, is_first_of_greatest}
+use Rattle.sym_base.proofs.Greatest.{is_first_of_greatest}
 use Rattle.script_types.specs.declared.script.Script.{Script}
 use Rattle.script_types.specs.declared.script.Slot.{Slot}
 use Rattle.script_types.specs.declared.script.Slot.TheVariants.{Go, Irq, Tick}
@@ -12,7 +11,7 @@ use Rattle.entry_log.specs.declared.entry.Entry.{Entry}
 use Rattle.machine.specs.declared.state.State.{State}
 use Rattle.machine.specs.Arrivals.{is_listed}
 use Rattle.machine.specs.Boot.{boot}
-use Rattle.machine.specs.Choice.{actor_of, first_ready, priority_of, chosen}
+use Rattle.machine.specs.Choice.{actor_of, first_ready, priority_of}
 use Rattle.machine.specs.History.{next, after, after_from, CanAct, IsNext, IsLegal, IsLegalFrom}
 use Rattle.machine.specs.Run.{slot_actor}
 use Rattle.machine.specs.Slots.{IsDeclared}

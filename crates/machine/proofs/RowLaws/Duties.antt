@@ -74,13 +74,13 @@ may_owe-append threads k (Close j o ∷ rest) ys h g = (h.0, may_owe-append thre
 may_owe-append threads k (Sweep o ∷ rest) ys h g = may_owe-append threads k rest ys h g
 
 -- what one thread owes changes
-duties-set : (threads : List (Option ThreadRow)) (owed : List (List Owed)) (t : ObjNo) (what : List Owed) → EachMayOwe threads t.0 what → total weight what ≤ 32 → (is_returning (part_of (get_or threads t.0 None)) ≡ true → what ≡ []) → AreDuties threads owed → AreDuties threads (slice_set owed t.0 what)
+duties-set : (threads : List (Option ThreadRow)) (owed : List (List Owed)) (t : ObjNo) (what : List Owed) → EachMayOwe threads t.0 what → total weight what ≤ 12 → (is_returning (part_of (get_or threads t.0 None)) ≡ true → what ≡ []) → AreDuties threads owed → AreDuties threads (slice_set owed t.0 what)
 duties-set threads owed t what own few paid h = record {
   own = λ k. elim (set_either owed t.0 what k []) as (λ _. EachMayOwe threads k (get_or (slice_set owed t.0 what) k [])) [
     | inl at ↦ subst (EachMayOwe threads k) (sym at.1) (subst (λ (n : ℕ). EachMayOwe threads n what) (sym at.0) own)
     | inr e ↦ subst (EachMayOwe threads k) (sym e) (h.own k)
   ];
-  few = λ k. elim (set_either owed t.0 what k []) as (λ _. total weight (get_or (slice_set owed t.0 what) k []) ≤ 32) [
+  few = λ k. elim (set_either owed t.0 what k []) as (λ _. total weight (get_or (slice_set owed t.0 what) k []) ≤ 12) [
     | inl at ↦ let a = ap (total weight) at.1 in omega arith
     | inr e ↦ let a = ap (total weight) e in let b = h.few k in omega arith
   ];
@@ -90,7 +90,7 @@ duties-set threads owed t what own few paid h = record {
   ];
 }
 
-pub duties-owing : (threads : List (Option ThreadRow)) (owed : List (List Owed)) (t : ObjNo) (more : List Owed) → EachMayOwe threads t.0 more → total weight (get_or owed t.0 []) + total weight more ≤ 32 → is_returning (part_of (get_or threads t.0 None)) ≡ false → AreDuties threads owed → AreDuties threads (owing owed t more)
+pub duties-owing : (threads : List (Option ThreadRow)) (owed : List (List Owed)) (t : ObjNo) (more : List Owed) → EachMayOwe threads t.0 more → total weight (get_or owed t.0 []) + total weight more ≤ 12 → is_returning (part_of (get_or threads t.0 None)) ≡ false → AreDuties threads owed → AreDuties threads (owing owed t more)
 duties-owing threads owed t more own few going h =
     let both = total-append weight (get_or owed t.0 []) more in
     duties-set threads owed t (get_or owed t.0 [] ++ more) (may_owe-append threads t.0 (get_or owed t.0 []) more (h.own t.0) own) (omega arith) (λ now. cc) h
