@@ -20,10 +20,10 @@ flock_do S t f =
     if is_free S.nano f then answer t (Of Flock Do) (Nano (Take t f) ∷ []) (pos 0)
     else go_on t (Of Flock Do) (Nano (Want t (Some f))) Done
 
--- the thread comes to act once what it wants is free: it takes that, and wants nothing any more
+-- the thread comes to act once what it wants is free: it takes that
 abbrev pub flock_done : ObjNo → Option ℕ → Decision
 flock_done t None = nothing
-flock_done t (Some f) = answer t (Of Flock Done) (Nano (Want t None) ∷ Nano (Take t f) ∷ []) (pos 0)
+flock_done t (Some f) = answer t (Of Flock Done) (Nano (Take t f) ∷ []) (pos 0)
 
 abbrev pub flock_step : State → ObjNo → ℕ → Option Part → Decision
 flock_step S t f None = unless_holding S t (Of Flock Do) (flock_do S t f)

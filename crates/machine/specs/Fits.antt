@@ -12,7 +12,7 @@ use Rattle.machine.specs.declared.moves.Move.{Move}
 use Rattle.machine.specs.declared.moves.Move.TheVariants.{Make, Gain, Lose, Find, Miss, GoOn, Write, Advance, Wait, Wake, SetPriority, Nano, Pay}
 use Rattle.machine.specs.declared.nano_move.NanoMove.{NanoMove}
 use Rattle.machine.specs.declared.nano_move.NanoMove.TheVariants.{Take, Give, Want, Suspend}
-use Rattle.state_rows.specs.Nano.{suspend_count, want_of, holder_of, held_by}
+use Rattle.state_rows.specs.Nano.{suspend_count, holder_of, held_by}
 use Rattle.machine.specs.NanoMoves.{nano_thread}
 use Rattle.machine.specs.declared.state.Waiting.TheVariants as waiting
 use Rattle.machine.specs.declared.state.ThreadRow.{ThreadRow}
@@ -76,12 +76,11 @@ pub record MayMake (S : State) (kind : Kind) (name : List ℕ) : Type 0 where
   pub new : is_taken kind name S.objects ≡ false
   pub named : is_session kind ≡ false
 
--- a thread that may take a fast mutex: it waits for nothing, and wants and holds none
+-- a thread that may take a fast mutex: it waits for nothing, and holds none
 pub record MayTake (S : State) (t : ObjNo) : Type 0 where
   pub row : ThreadRow
   pub is : thread_of S t ≡ Some row
   pub waits : row.waiting ≡ waiting.Nothing
-  pub wants : want_of S.nano t ≡ None
   pub holds : held_by S.nano t ≡ None
 
 -- A move in the rows of threads that synchronize fits them: a fast mutex is taken that is free, and given up by its

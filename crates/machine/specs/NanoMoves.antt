@@ -1,5 +1,5 @@
 -- Moves in the rows of threads that synchronize: what each changes, what it tells, and whose rows they are.
-use Rattle.std.specs.Prelude.{List, [], ◌∷◌}
+use Rattle.std.specs.Prelude.{List, [], ◌∷◌, None}
 use Rattle.sym_base.specs.declared.number.ObjNo.{ObjNo}
 use Rattle.entry_log.specs.declared.effect.Effect.{Effect}
 use Rattle.entry_log.specs.declared.effect.Effect.TheVariants as effect
@@ -9,9 +9,9 @@ use Rattle.state_rows.specs.NanoChanges.{after_take, after_give, after_want, aft
 use Rattle.machine.specs.declared.nano_move.NanoMove.{NanoMove}
 use Rattle.machine.specs.declared.nano_move.NanoMove.TheVariants.{Take, Give, Want, Enter, Leave, LeaveAll, Suspend, Resume, Raise, Lower}
 
--- the rows after a move
+-- the rows after a move; a thread that takes a fast mutex wants none any more
 abbrev pub nano_moved : NanoMove → NanoRows → NanoRows
-nano_moved (Take t f) r = after_take r t f
+nano_moved (Take t f) r = after_want (after_take r t f) t None
 nano_moved (Give t f) r = after_give r t f
 nano_moved (Want t f) r = after_want r t f
 nano_moved (Enter t) r = after_enter r t

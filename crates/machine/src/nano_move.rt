@@ -8,7 +8,7 @@ use sym_base::ThreadNo;
 /// threads and processes).
 #[derive(Clone, Copy)]
 pub enum NanoMove {
-    /// The thread takes a free fast mutex.
+    /// The thread takes a free fast mutex, and wants none any more.
     Take(ThreadNo, u8),
     /// The thread gives the fast mutex up that it holds.
     Give(ThreadNo, u8),
