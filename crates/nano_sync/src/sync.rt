@@ -57,6 +57,13 @@ impl NanoSync {
         })
     }
 
+    /// The number of threads that the table is made for.
+    pub fn threads(&self) -> usize
+        ensures { result ≡ length self.now.signals }
+    {
+        self.signals.len()
+    }
+
     /// Gives a free fast mutex to a thread that holds none. False exactly where another holds it, and then
     /// nothing changes.
     pub fn take(&mut self, t: ThreadNo, f: u8) -> bool

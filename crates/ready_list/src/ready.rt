@@ -101,6 +101,7 @@ impl ReadyList {
     pub fn pick(&self) -> Option<ThreadNo>
         ensures picked { result ≡ first_of_highest self.now.queues }
         ensures none { IsNone result ↔ All (λ queue. queue ≡ []) self.now.queues }
+        ensures known { IfSome result (λ t. t.0 < self.now.threads) }
     {
         let priority = highest_bit(self.mask)?;
         let first = self.links.first(priority as u32)?;
