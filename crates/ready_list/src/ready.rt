@@ -1,5 +1,5 @@
 //! Queues of ready threads, one for each priority.
-ghost use Rattle.std.specs.Prelude.{◌≡◌, ◌<◌, ◌↔◌, [], All, IsNone, IfOk};
+ghost use Rattle.std.specs.Prelude.{◌≡◌, ◌<◌, ◌↔◌, [], All, IsNone, IfOk, IfSome};
 ghost use Rattle.ready_list.specs.Ready.{IsReady, no_threads, added, removed, rotated, moved, first_of_highest, priority_of};
 
 use crate::mask::{highest_bit, with_bit, without_bit};
