@@ -121,8 +121,8 @@ each_born script shaped =
       ),
     )
 
--- Groups of threads are the kernel threads and then those of each process. The number of the process whose threads are
--- the group behind one
+-- Threads stand in groups: the kernel threads, and then those of each process. This is the number of the process
+-- whose threads are the group behind one
 next : Option ℕ → ℕ
 next None = 0
 next (Some j) = j + 1
