@@ -1,7 +1,7 @@
 //! The tables of the nanokernel, and the choice that they give.
-ghost use Rattle.std.specs.Prelude.{◌≡◌, ◌+◌, ◌<◌, ◌&&◌, is_none, is_some, length, IfOk};
+ghost use Rattle.std.specs.Prelude.{◌≡◌, ◌+◌, ◌<◌, ◌&&◌, is_none, length, IfOk};
 ghost use Rattle.sym_base.specs.declared.limits.TheConstants.Limits.{BOOT_OBJECTS};
-ghost use Rattle.state_rows.specs.Nano.{wanted_holder, held_by};
+ghost use Rattle.state_rows.specs.Nano.{wanted_holder};
 ghost use Rattle.state_rows.specs.NanoChanges.{new_rows};
 ghost use Rattle.ready_list.specs.Ready.{no_threads};
 ghost use Rattle.script_types.specs.Source.{IsValid};
@@ -44,9 +44,6 @@ impl Nano {
     pub fn wanted_holder(&self, t: ThreadNo) -> Option<ThreadNo>
         ensures { result ≡ wanted_holder self.now.sync t }
     {
-        if t.0 as usize >= self.sync.threads() {
-            return None;
-        }
         let wanted = self.sync.want(t)?;
         self.sync.holder(wanted)
     }
@@ -62,13 +59,6 @@ impl Nano {
         }
     }
 
-    /// Whether a thread is spared by the end of a time slice, since it holds a fast mutex.
-    fn is_spared(&self, t: ThreadNo) -> bool
-        ensures { result ≡ is_some (held_by self.now.sync t) }
-    {
-        (t.0 as usize) < self.sync.threads() && self.sync.held(t).is_some()
-    }
-
     /// A time slice ends: the ready thread of the greatest priority that has been ready longest goes behind its
     /// equals, unless it holds a fast mutex. It does so also where the holder of what it wants runs in its place.
     pub fn tick(&mut self)
@@ -78,7 +68,7 @@ impl Nano {
         let Some(first) = self.ready.pick() else {
             return;
         };
-        if self.is_spared(first) {
+        if self.sync.held(first).is_some() {
             return;
         }
         if let Some(priority) = self.ready.priority_of(first) {

@@ -113,6 +113,7 @@ impl ReadyList {
         requires { t.0 < self.now.threads }
         ensures found { result ≡ priority_of self.now t }
         ensures none { IsNone result ↔ (¬ IsReady self.now t) }
+        ensures ranged { IfSome result (λ p. p < 64) }
     {
         if self.links.is_linked(t.0 as u32) {
             Some(self.priorities[t.0 as usize])
