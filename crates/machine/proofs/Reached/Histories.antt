@@ -36,7 +36,7 @@ true-is : {b : Bool} → b ≡ true → IsTrue b
 true-is h = h
 
 -- the chosen actor may act
-can_act_chosen : (script : Script) (S : State) → IsWellFormed script S → CanAct script S (chosen S)
+pub can_act_chosen : (script : Script) (S : State) → IsWellFormed script S → CanAct script S (chosen S)
 can_act_chosen script S formed = by (first_ready S) refl
   where
     by : (found : Option ObjNo) → first_ready S ≡ found → CanAct script S (actor_of (option_map (in_place_of S) found))
