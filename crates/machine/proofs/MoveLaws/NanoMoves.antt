@@ -1,9 +1,8 @@
 -- Moves in the rows of threads that synchronize.
-use Rattle.std.proofs.Common.{◌≡◌, ℕ, ◌<◌, [], ◌∷◌, length, set, arith, refl, Option, Some, None}
+use Rattle.std.proofs.Common.{◌≡◌, ℕ, set, arith, refl, Some, None}
 use Rattle.std.proofs.lemmas.List.{length-set}
 use Rattle.sym_base.specs.declared.number.ObjNo.{ObjNo}
 use Rattle.script_types.specs.declared.script.Script.{Script}
-use Rattle.state_rows.specs.Nano.{holder_of}
 use Rattle.state_rows.proofs.Soundness.{held_none}
 use Rattle.state_rows.proofs.SoundChanges.{sound-signals, sound-sections, sound-suspend, sound-resume}
 use Rattle.machine.specs.declared.moves.Move.TheVariants.{Nano}

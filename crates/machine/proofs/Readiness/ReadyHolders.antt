@@ -12,7 +12,7 @@ use Rattle.state_rows.proofs.Soundness.{held_none}
 use Rattle.machine.specs.declared.state.ThreadRow.{ThreadRow}
 use Rattle.machine.specs.declared.state.State.{State}
 use Rattle.machine.specs.Choice.{in_place_of, or_self}
-use Rattle.machine.specs.Rows.{thread_of, first_owed}
+use Rattle.machine.specs.Rows.{first_owed}
 use Rattle.machine.specs.Task.{instruction, is_returning, return_or, pay_or_step, task_of, task_of_row, is_wait, is_waiting, is_waiting_row, is_stopped, is_ready, is_able, wanted_holder}
 use Rattle.machine.specs.WellFormed.{AreRows}
 
