@@ -1,13 +1,14 @@
 //! The plain machine's state, read by decisions.
-ghost use Rattle.std.specs.Prelude.{◌≡◌, ◌<◌, ◌≤◌, length, IfSome, position};
+ghost use Rattle.std.specs.Prelude.{◌≡◌, ◌<◌, ◌≤◌, length, IfSome, position, slice_index};
 ghost use Rattle.std.specs.List.{list_any};
 ghost use Rattle.machine.specs.Find.{findable, find_object};
+ghost use Rattle.state_rows.specs.Nano.{is_thread};
 ghost use Rattle.state_rows.specs.ObjectRows.{has_name, named, is_taken};
 
 use crate::Reads;
 use machine::{
     HandleSlot, NewHandle, Owed, State, ThreadRow, first_owed, is_counted, is_last, next_handle,
-    object_of, slot_at, table_of, thread_of,
+    object_of, row_of, slot_at, table_of, thread_of,
 };
 use state_rows::{ObjectRow, has_name, is_dead_row, is_session};
 use sym_base::{Kind, Name, ObjNo, ThreadNo};
@@ -55,12 +56,46 @@ fn findable(state: &State, found: Option<ObjNo>) -> Option<ObjNo>
     }
 }
 
+/// Whether a holder is a thread.
+fn is_thread(thread: ThreadNo, holder: Option<ThreadNo>) -> bool
+    ensures { result ≡ is_thread thread holder }
+{
+    match holder {
+        Some(holder) => holder.0 == thread.0,
+        None => false,
+    }
+}
+
+/// The place of the fast mutex that a thread holds.
+fn held_place(holders: &[Option<ThreadNo>], thread: ThreadNo) -> Option<usize>
+    ensures place { result ≡ position (is_thread thread) holders.now }
+    ensures within { IfSome result (λ f. f < length holders.now) }
+{
+    holders.iter().position(|holder| is_thread(thread, *holder))
+}
+
+/// A thread's count, 0 past the list's end.
+fn count_at(counts: &[u64], thread: ThreadNo) -> u64
+    ensures { result ≡ slice_index counts.now thread.0 }
+{
+    let at = thread.0 as usize;
+    if at < counts.len() { counts[at] } else { 0 }
+}
+
+/// A thread's suspend count, 0 past the list's end.
+fn suspensions_at(counts: &[u8], thread: ThreadNo) -> u8
+    ensures { result ≡ slice_index counts.now thread.0 }
+{
+    let at = thread.0 as usize;
+    if at < counts.len() { counts[at] } else { 0 }
+}
+
 impl Reads for State {
-    ghost use Rattle.machine.specs.Room.{HasRoom};
+    ghost use Rattle.decisions.specs.Readable.{IsReadable};
 
     ghost state = { λ S. S };
 
-    ghost is_readable = { λ S. HasRoom 0 S };
+    ghost is_readable = { λ S. IsReadable S };
 
     fn object(&self, object: ObjNo) -> Option<ObjectRow> {
         object_of(self, object)
@@ -99,5 +134,38 @@ impl Reads for State {
 
     fn objects_made(&self) -> usize {
         self.objects.len()
+    }
+
+    fn signal_count(&self, thread: ThreadNo) -> u64 {
+        count_at(self.nano.signals.as_slice(), thread)
+    }
+
+    fn suspend_count(&self, thread: ThreadNo) -> u8 {
+        suspensions_at(self.nano.suspensions.as_slice(), thread)
+    }
+
+    fn critical_count(&self, thread: ThreadNo) -> u64 {
+        count_at(self.nano.sections.as_slice(), thread)
+    }
+
+    fn want(&self, thread: ThreadNo) -> Option<u8> {
+        row_of(&self.nano.wants, thread)
+    }
+
+    fn holder(&self, fast: u8) -> Option<ThreadNo> {
+        row_of(&self.nano.holders, ObjNo(fast as u16))
+    }
+
+    fn held(&self, thread: ThreadNo) -> Option<u8> {
+        let place = held_place(self.nano.holders.as_slice(), thread)?;
+        Some(place as u8)
+    }
+
+    fn is_holding(&self, thread: ThreadNo) -> bool {
+        held_place(self.nano.holders.as_slice(), thread).is_some()
+    }
+
+    fn is_protected(&self, thread: ThreadNo) -> bool {
+        self.is_holding(thread) || self.critical_count(thread) != 0
     }
 }
