@@ -23,16 +23,15 @@ fn flock_do<R: Reads>(reads: &R, thread: ThreadNo, fast: u8) -> Decision
     go_on(thread, step, want, Part::Done)
 }
 
-/// The thread takes what it wants, which is free by now, and wants nothing any more.
+/// The thread takes what it wants, which is free by now.
 fn flock_done(thread: ThreadNo, want: Option<u8>) -> Decision
     ensures { result ≡ flock_done thread want }
 {
     let Some(fast) = want else {
         return nothing();
     };
-    let mut moves = one_move(Move::Nano(NanoMove::Want(thread, None)));
-    moves.push(Move::Nano(NanoMove::Take(thread, fast)));
-    answer(thread, Step::Of(Word::Flock, Part::Done), moves, 0)
+    let take = Move::Nano(NanoMove::Take(thread, fast));
+    answer(thread, Step::Of(Word::Flock, Part::Done), one_move(take), 0)
 }
 
 /// First the fast mutex is taken or wanted, and what is wanted is taken later. A thread that holds a fast

@@ -1,14 +1,14 @@
 //! The plain machine's state, read by decisions.
-ghost use Rattle.std.specs.Prelude.{◌≡◌, ◌<◌, ◌≤◌, length, IfSome, position, slice_index};
+ghost use Rattle.std.specs.Prelude.{◌≡◌, ◌<◌, ◌≤◌, length, IfSome, position};
 ghost use Rattle.std.specs.List.{list_any};
 ghost use Rattle.machine.specs.Find.{findable, find_object};
-ghost use Rattle.state_rows.specs.Nano.{is_thread};
 ghost use Rattle.state_rows.specs.ObjectRows.{has_name, named, is_taken};
 
 use crate::Reads;
 use machine::{
-    HandleSlot, NewHandle, Owed, State, ThreadRow, first_owed, is_counted, is_last, next_handle,
-    object_of, row_of, slot_at, table_of, thread_of,
+    HandleSlot, NewHandle, Owed, State, ThreadRow, critical_count, first_owed, held_place,
+    is_counted, is_last, is_protected, mutex_holder, next_handle, object_of, signal_count, slot_at,
+    suspend_count, table_of, thread_of, wanted_mutex,
 };
 use state_rows::{ObjectRow, has_name, is_dead_row, is_session};
 use sym_base::{Kind, Name, ObjNo, ThreadNo};
@@ -54,40 +54,6 @@ fn findable(state: &State, found: Option<ObjNo>) -> Option<ObjNo>
     } else {
         None
     }
-}
-
-/// Whether a holder is a thread.
-fn is_thread(thread: ThreadNo, holder: Option<ThreadNo>) -> bool
-    ensures { result ≡ is_thread thread holder }
-{
-    match holder {
-        Some(holder) => holder.0 == thread.0,
-        None => false,
-    }
-}
-
-/// The place of the fast mutex that a thread holds.
-fn held_place(holders: &[Option<ThreadNo>], thread: ThreadNo) -> Option<usize>
-    ensures place { result ≡ position (is_thread thread) holders.now }
-    ensures within { IfSome result (λ f. f < length holders.now) }
-{
-    holders.iter().position(|holder| is_thread(thread, *holder))
-}
-
-/// A thread's count, 0 past the list's end.
-fn count_at(counts: &[u64], thread: ThreadNo) -> u64
-    ensures { result ≡ slice_index counts.now thread.0 }
-{
-    let at = thread.0 as usize;
-    if at < counts.len() { counts[at] } else { 0 }
-}
-
-/// A thread's suspend count, 0 past the list's end.
-fn suspensions_at(counts: &[u8], thread: ThreadNo) -> u8
-    ensures { result ≡ slice_index counts.now thread.0 }
-{
-    let at = thread.0 as usize;
-    if at < counts.len() { counts[at] } else { 0 }
 }
 
 impl Reads for State {
@@ -137,23 +103,23 @@ impl Reads for State {
     }
 
     fn signal_count(&self, thread: ThreadNo) -> u64 {
-        count_at(self.nano.signals.as_slice(), thread)
+        signal_count(&self.nano, thread)
     }
 
     fn suspend_count(&self, thread: ThreadNo) -> u8 {
-        suspensions_at(self.nano.suspensions.as_slice(), thread)
+        suspend_count(&self.nano, thread)
     }
 
     fn critical_count(&self, thread: ThreadNo) -> u64 {
-        count_at(self.nano.sections.as_slice(), thread)
+        critical_count(&self.nano, thread)
     }
 
     fn want(&self, thread: ThreadNo) -> Option<u8> {
-        row_of(&self.nano.wants, thread)
+        wanted_mutex(&self.nano, thread)
     }
 
     fn holder(&self, fast: u8) -> Option<ThreadNo> {
-        row_of(&self.nano.holders, ObjNo(fast as u16))
+        mutex_holder(&self.nano, fast)
     }
 
     fn held(&self, thread: ThreadNo) -> Option<u8> {
@@ -166,6 +132,6 @@ impl Reads for State {
     }
 
     fn is_protected(&self, thread: ThreadNo) -> bool {
-        self.is_holding(thread) || self.critical_count(thread) != 0
+        is_protected(&self.nano, thread)
     }
 }

@@ -73,10 +73,10 @@ fn task_of_row<R: Reads>(
     ensures { result ≡ task_of_row script.now (is_protected (R.state reads.now).nano thread) (first_owed (R.state reads.now) thread) (Some row.now) }
 {
     let instr = instruction(script, row);
-    match instr {
-        Some(instr) if is_returning(row.part) => Some(Task::Return(instr)),
-        _ => pay_or_step(reads, thread, instr),
+    if is_returning(row.part) && instr.is_some() {
+        return instr.map(Task::Return);
     }
+    pay_or_step(reads, thread, instr)
 }
 
 /// What a thread does next, None where there is nothing.
