@@ -9,6 +9,7 @@ mod duties;
 mod handles;
 mod moves;
 mod nano_move;
+mod nano_rows;
 mod rows;
 mod state;
 mod task;
@@ -25,6 +26,10 @@ pub use handles::{
 };
 pub use moves::{MAX_MOVES, Move, Moves};
 pub use nano_move::NanoMove;
+pub use nano_rows::{
+    critical_count, held_place, is_protected, is_thread, mutex_holder, signal_count, suspend_count,
+    wanted_mutex,
+};
 pub use rows::{first_owed, object_of, row_of, set_row, set_slot, table_of, thread_of};
 pub use state::{Found, HandleSlot, Role, State, ThreadRow, Waiting};
 pub use state_rows::{NanoRows, Owed};
