@@ -8,6 +8,8 @@ ghost use Rattle.std.specs.Char.{is_ascii_digit};
 ghost use Rattle.script_words.specs.Fields.{cut_of, is_number, number_of};
 ghost use Rattle.script_types.specs.ObjectName.{is_lower_case, is_object_byte, is_object_name};
 
+use memchr::memchr;
+
 /// The place of the first such byte.
 fn place_of(bytes: &[u8], at: u8) -> Option<usize>
     ensures value { result ≡ position (λ byte. byte == at) bytes.now }
@@ -27,11 +29,37 @@ pub fn cut(bytes: &[u8], at: u8) -> Option<(&[u8], &[u8])>
     Some((&bytes[..place], &bytes[place + 1..]))
 }
 
+/// The same, where the first `at` may stand far behind.
+pub fn cut_far(bytes: &[u8], at: u8) -> Option<(&[u8], &[u8])>
+    ensures parts { option_map (λ parts. (parts.0.now, parts.1.now)) result ≡ cut_of at bytes.now }
+    ensures shorter { IfSome result (λ parts. length parts.1.now < length bytes.now) }
+{
+    match memchr(at, bytes) {
+        Some(place) => Some((&bytes[..place], &bytes[place + 1..])),
+        None => None,
+    }
+}
+
+/// Whether two words have the same bytes. Most words are short, and differ in their lengths or in the first bytes.
+pub fn are_same(one: &[u8], other: &[u8]) -> bool
+    ensures { result ≡ bytes_eq one.now other.now }
+{
+    if one.len() != other.len() {
+        return false;
+    }
+    for i in 0..one.len() {
+        if one[i] != other[i] {
+            return false;
+        }
+    }
+    true
+}
+
 /// Whether the bytes are this word.
 pub fn is_word(bytes: &[u8], word: &str) -> bool
     ensures { result ≡ bytes_eq bytes.now word.now }
 {
-    bytes == word.as_bytes()
+    are_same(bytes, word.as_bytes())
 }
 
 /// Whether each byte of a word is a digit.
