@@ -124,14 +124,18 @@ const EVERY_INSTRUCTION: &str =
 fn print_read(alloc: Global, line: &[u8], out: &mut Vec<u8>) -> Result<bool, NoMemory> {
     let mut words = Vec::new(alloc);
     take_words(&mut words, line)?;
-    let Some(keyword) = keyword_of(word_at(&words, 0)) else {
+    let words = words.as_slice();
+    let Some(keyword) = keyword_of(word_at(words, 0)) else {
         return Ok(false);
     };
-    let second = second_of(false, keyword, &words);
-    if !is_counted(keyword, second, &words) || line_fault(keyword, second, &words).is_some() {
+    let second = second_of(false, keyword, words);
+    if !is_counted(keyword, second, words) {
         return Ok(false);
     }
-    match line_as(alloc, keyword, second, &words)? {
+    if line_fault(keyword, second, words).is_some() {
+        return Ok(false);
+    }
+    match line_as(alloc, keyword, second, words)? {
         SourceLine::Instr(what) => put_instr(out, what)?,
         _ => return Ok(false),
     }

@@ -53,19 +53,24 @@ fn add_text<'a>(
     text: &'a [u8],
 ) -> Result<bool, NoMemory> {
     take_words(words, text)?;
-    let Some(keyword) = keyword_of(word_at(words.as_slice(), 0)) else {
+    let words = words.as_slice();
+    let Some(keyword) = keyword_of(word_at(words, 0)) else {
         return Ok(false);
     };
     let scheduled = is_scheduled(context);
-    let second = second_of(scheduled, keyword, words.as_slice());
+    let second = second_of(scheduled, keyword, words);
     if !is_in_order(context, keyword_kind(scheduled, keyword))
-        || !is_counted(keyword, second, words.as_slice())
-        || line_fault(keyword, second, words.as_slice()).is_some()
-        || context.script.processes.len() > 16
+        || !is_counted(keyword, second, words)
     {
         return Ok(false);
     }
-    let line = line_as(alloc, keyword, second, words.as_slice())?;
+    if line_fault(keyword, second, words).is_some() {
+        return Ok(false);
+    }
+    let line = line_as(alloc, keyword, second, words)?;
+    if context.script.processes.len() > 16 {
+        return Ok(false);
+    }
     add_line(alloc, context, line)?;
     Ok(true)
 }

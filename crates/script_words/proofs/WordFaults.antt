@@ -20,8 +20,13 @@ use Rattle.script_types.specs.declared.operand.BodyKind.{BodyKind}
 use Rattle.script_types.specs.declared.operand.Operand.{Operand}
 use Rattle.script_types.specs.declared.operand.Operand.TheVariants as operand
 
-right : (form range : Bool) → form ≡ true → range ≡ true → None ≡ fault_by form range
+pub right : (form range : Bool) → form ≡ true → range ≡ true → None ≡ fault_by form range
 right form range f r = rw (f, r) refl
+
+pub passed : (form range : Bool) → fault_by form range ≡ None → (form ≡ true) × (range ≡ true)
+passed false range h = absurd (cc)
+passed true false h = absurd (cc)
+passed true true h = (refl, refl)
 
 -- a number in its range
 signed_natural : (low high : ℕ) (word : List ℕ) → is_natural low high word ≡ true → is_signed word ≡ true
