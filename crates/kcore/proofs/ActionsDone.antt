@@ -22,7 +22,7 @@ use Rattle.machine.specs.Tick.{moved_behind, tick}
 use Rattle.machine.specs.Transition.{left, act, carried_out, idle}
 use Rattle.sym_base.specs.Greatest.{first_of_greatest}
 use Rattle.kcore.specs.declared.tables.Tables.{Tables}
-use Rattle.kcore.specs.Counts.{Agrees}
+use Rattle.kcore.specs.Noted.{AreKept}
 use Rattle.kcore.specs.Moved.{MovesGo}
 use Rattle.kcore.specs.Performed.{IsPerformed, Does}
 use Rattle.kcore.specs.ReadyQueues.{AreReady, Follow, leave_along}
@@ -124,25 +124,25 @@ act_does script t old new before between after outcome effects go did follow tol
         did = ap (λ (U : State). left U outcome) state ∙ ap (left done.state) tale;
         queues = subst (λ (l : List ObjNo). AreReady (priority_of T) l after) (left_is ∙ sym list) (follow (priority_of T) came (did.queues qs ready));
       };
-  agree = did.agree;
+  kept = did.kept;
 }
 
 -- a time slice ends
-pub tick_does : {W N : Type 0} (script : Script) (tables : Tables W N) (before after : Ready) (outcome : Outcome) → Agrees tables.objects.counts (state_of tables) → ((rank : ObjNo → ℕ) → Follow rank (λ qs. moved_behind qs (first_of_greatest rank qs)) before after) → outcome ≡ record { step = Turn; effects = []; answer = None } → Does script tables before tables after outcome (λ S. tick S)
+pub tick_does : {W N : Type 0} (script : Script) (tables : Tables W N) (before after : Ready) (outcome : Outcome) → AreKept tables → ((rank : ObjNo → ℕ) → Follow rank (λ qs. moved_behind qs (first_of_greatest rank qs)) before after) → outcome ≡ record { step = Turn; effects = []; answer = None } → Does script tables before tables after outcome (λ S. tick S)
 unfolding tick
-tick_does script tables before after outcome agree follow told = record {
+tick_does script tables before after outcome kept follow told = record {
   each = λ qs ready each.
       let S = with_ready (state_of tables) qs in
       record {
         did = ap (λ (o : Outcome). left (tick S).state o) told;
         queues = follow (priority_of (state_of tables)) qs ready;
       };
-  agree = agree;
+  kept = kept;
 }
 
 -- nobody acts
-pub idle_does : {W N : Type 0} (script : Script) (tables : Tables W N) (r : Ready) (outcome : Outcome) → Agrees tables.objects.counts (state_of tables) → outcome ≡ record { step = Wait; effects = []; answer = None } → Does script tables r tables r outcome idle
-idle_does script tables r outcome agree told = record {
+pub idle_does : {W N : Type 0} (script : Script) (tables : Tables W N) (r : Ready) (outcome : Outcome) → AreKept tables → outcome ≡ record { step = Wait; effects = []; answer = None } → Does script tables r tables r outcome idle
+idle_does script tables r outcome kept told = record {
   each = λ qs ready each. record { did = ap (λ (o : Outcome). left (with_ready (state_of tables) qs) o) told; queues = ready };
-  agree = agree;
+  kept = kept;
 }

@@ -17,7 +17,7 @@ use Rattle.machine.specs.declared.state.ThreadRow.{ThreadRow}
 use Rattle.script_types.specs.Source.{IsValid}
 use Rattle.machine.specs.Boot.{boot}
 use Rattle.machine.specs.Choice.{priority_of}
-use Rattle.kcore.specs.Counts.{Agrees}
+use Rattle.kcore.specs.Noted.{AreKept}
 use Rattle.machine.specs.FinalRows.{final_row, rows_of, rows_from, IsNextRow}
 use Rattle.machine.specs.History.{transition, next, entry_of, entry_by, after, CanAct, IsLegal}
 use Rattle.machine.specs.Rows.{thread_of, first_owed}
@@ -102,7 +102,7 @@ kernel_goes_on script history new old T before after_it actor outcome place e ca
       valid = h.valid;
       legal = subst (IsLegal script) (sym pushed) (legal-push script history e h.legal (record { able = subst (CanAct script H) (sym acts) can; told = tale }));
       state = subst (λ (U : State). with_ready (state_of T) U.ready ≡ U) (sym is) rows;
-      agree = does.agree;
+      kept = does.kept;
       queues = subst (λ (U : State). AreReady (priority_of (state_of T)) U.ready after_it) (sym is) leave.queues;
     }
 
@@ -133,11 +133,11 @@ pub next_row_apart : (S T : State) (qs : List ObjNo) (from : ℕ) (found : Optio
 next_row_apart S T qs from found is next = same_next S T from found (λ n. sym (ap (λ (U : State). rows_from U n) is) ∙ final_apart S qs n (drop n S.objects)) next
 
 -- at boot the tables stand for no entry
-pub stands_at_boot : {W N : Type 0} (script : Script) (tables : Tables W N) (ready : Ready) → IsValid script → with_ready (state_of tables) (boot script).ready ≡ boot script → Agrees tables.objects.counts (state_of tables) → AreReady (priority_of (boot script)) (boot script).ready ready → Stands script [] tables ready
-stands_at_boot script tables ready valid state agree queues = record {
+pub stands_at_boot : {W N : Type 0} (script : Script) (tables : Tables W N) (ready : Ready) → IsValid script → with_ready (state_of tables) (boot script).ready ≡ boot script → AreKept tables → AreReady (priority_of (boot script)) (boot script).ready ready → Stands script [] tables ready
+stands_at_boot script tables ready valid state kept queues = record {
   valid = valid;
   legal = tt;
   state = state;
-  agree = agree;
+  kept = kept;
   queues = subst (λ (U : State). AreReady (priority_of U) (boot script).ready ready) (sym state) queues;
 }

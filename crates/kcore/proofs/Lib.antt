@@ -1,14 +1,15 @@
 mod ActionsDone
 mod BootReady
 mod BootTables
+mod BootUses
 mod Finds
 mod FirstCount
 mod FreshTable
 mod Goes
 mod GoingMoves
 mod ListSteps
+mod Noting
 mod Performing
 mod ReadyChanges
 mod ReadyLists
 mod ReadyQueues
-mod Results

@@ -15,6 +15,7 @@ use Rattle.machine.specs.Moves.{moved, told, perform, tell}
 use Rattle.machine.specs.References.{count_of, RefsMove}
 use Rattle.kcore.specs.declared.tables.Tables.{Tables}
 use Rattle.kcore.specs.Counts.{Agrees}
+use Rattle.kcore.specs.Noted.{AreKept}
 use Rattle.kcore.specs.Moved.{IsMoved, MovesGo}
 use Rattle.kcore.specs.Performed.{IsPerformed}
 use Rattle.kcore.specs.ReadyQueues.{AreReady, Follow, pair, pairs, leave, leave_along}
@@ -45,24 +46,24 @@ pub record Came (script : Script) (t : ObjNo) (rest : List Move) (S : State) (r 
 -- after some of the moves, before the rest
 pub record OnTheWay {W N : Type 0} (script : Script) (t : ObjNo) (ms : List Move) (S : State) (before : Ready) (rest : List Move) (tables : Tables W N) (r : Ready) (effects : List Effect) : Type 0 where
   pub go : MovesGo script t rest (state_of tables)
-  pub agree : Agrees tables.objects.counts (state_of tables)
+  pub kept : AreKept tables
   pub state : perform t rest (state_of tables) ≡ perform t ms S
   pub told : effects ++ tell t rest (state_of tables) ≡ tell t ms S
   pub queues : (qs : List ObjNo) → AreReady (priority_of S) qs before → Came script t rest (state_of tables) r (arrivals script t ms S qs)
   pub size : r.threads ≡ BOOT_OBJECTS
 
 -- before the first
-pub way_begins : {W N : Type 0} (script : Script) (t : ObjNo) (ms : List Move) (tables : Tables W N) (r : Ready) → MovesGo script t ms (state_of tables) → Agrees tables.objects.counts (state_of tables) → r.threads ≡ BOOT_OBJECTS → OnTheWay script t ms (state_of tables) r ms tables r []
-way_begins script t ms tables r go agree size = record {
+pub way_begins : {W N : Type 0} (script : Script) (t : ObjNo) (ms : List Move) (tables : Tables W N) (r : Ready) → MovesGo script t ms (state_of tables) → AreKept tables → r.threads ≡ BOOT_OBJECTS → OnTheWay script t ms (state_of tables) r ms tables r []
+way_begins script t ms tables r go kept size = record {
   go = go;
-  agree = agree;
+  kept = kept;
   state = refl;
   told = refl;
   queues = λ qs h. record { now = qs; ready = h; others = refl };
   size = size;
 }
 
--- the counts are still those of the state
+-- the counts are still those of the state, and what threads use is noted still
 still_agree : {W N : Type 0} (t : ObjNo) (m : Move) (old new : Tables W N) → Agrees old.objects.counts (state_of old) → RefsMove (state_of old) (moved t m (state_of old)) (told m (state_of old)) → IsMoved t m old new → Agrees new.objects.counts (state_of new)
 still_agree t m old new agree refs is o =
     let S = state_of old in
@@ -79,7 +80,7 @@ way_goes_on script t ms S before m rest tables new r after effects h is follow s
     let e : state_of new ≡ moved t m T = is.state in
     record {
       go = subst (MovesGo script t rest) (sym e) h.go.1;
-      agree = still_agree t m tables new h.agree h.go.0.refs is;
+      kept = record { counts = still_agree t m tables new h.kept.counts h.go.0.refs is; uses = is.uses };
       state = ap (perform t rest) e ∙ h.state;
       told = ap (λ (U : State). (effects ++ told m T) ++ tell t rest U) e ∙ (append_assoc effects (told m T) (tell t rest (moved t m T)) ∙ h.told);
       queues = λ qs ready.
@@ -97,7 +98,7 @@ way_goes_on script t ms S before m rest tables new r after effects h is follow s
 pub way_ends : {W N : Type 0} (script : Script) (t : ObjNo) (ms : List Move) (old tables : Tables W N) (before r : Ready) (effects : List Effect) → OnTheWay script t ms (state_of old) before [] tables r effects → IsPerformed script t ms old tables before r effects
 way_ends script t ms old tables before r effects h = record {
   state = h.state;
-  agree = h.agree;
+  kept = h.kept;
   told = sym (append-nil effects) ∙ h.told;
   queues = λ qs ready. let came = h.queues qs ready in subst (λ (l : List ObjNo). AreReady (priority_of (state_of tables)) l r) came.others came.ready;
 }

@@ -2,6 +2,7 @@ pub mod BootTable
 pub mod ObjectsView
 pub mod Counts
 pub mod StateOf
+pub mod Noted
 pub mod Moved
 pub mod ReadyQueues
 pub mod Performed

@@ -3,6 +3,7 @@
 
 mod act;
 mod boot;
+mod duties;
 mod handles;
 mod kernel;
 mod moves;
@@ -11,5 +12,6 @@ mod perform;
 mod reading;
 mod ready;
 mod tables;
+mod uses;
 
 pub use kernel::Kernel;
