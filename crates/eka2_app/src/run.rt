@@ -38,7 +38,7 @@ pub fn make_history(alloc: Global, script: Script) -> Result<Kernel<PlainWords>,
     let words = PlainWords::new(alloc, PLACES)?;
     let mut kernel = Kernel::boot(alloc, script, words, room)?;
     for slot in slots.as_slice() {
-        kernel.slot(*slot)?;
+        kernel.slot(*slot);
     }
     Ok(kernel)
 }
