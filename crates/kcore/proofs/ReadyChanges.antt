@@ -1,7 +1,7 @@
 -- The queues of ready threads change as the list of the definitions does: when a thread comes, when one leaves, and at
 -- the end of a time slice.
-use Rattle.std.proofs.Common.{◌≡◌, ◌∙◌, inl, inr, ℕ, ◌<◌, ◌≤◌, true, false, List, [], ◌∷◌, ◌++◌, arith, sym, ap, subst}
-use Rattle.std.specs.Prelude.{Some, None}
+use Rattle.std.proofs.Common.{◌≡◌, ◌∙◌, inl, inr, ℕ, ◌<◌, ◌≤◌, true, false, List, [], ◌∷◌, ◌++◌, arith, refl, sym, ap, subst}
+use Rattle.std.specs.Prelude.{Option, Some, None, is_some}
 use Rattle.std.specs.List.{list_any}
 use Rattle.std.proofs.lemmas.Bool.{cases_Bool, false_from_ne_true}
 use Rattle.sym_base.specs.declared.limits.TheConstants.Limits.{BOOT_OBJECTS}
@@ -13,10 +13,13 @@ use Rattle.ready_list.specs.Queue.{holds}
 use Rattle.ready_list.specs.Ready.{Ready, added, removed, rotated, first_of_highest, priority_of}
 use Rattle.ready_list.specs.Arrival.{AreQueuesOf}
 use Rattle.machine.specs.declared.state.State.{State}
+use Rattle.machine.specs.declared.state.ThreadRow.{ThreadRow}
 use Rattle.machine.specs.Arrivals.{is_listed, unlisted, arrive}
 use Rattle.machine.specs.Choice.{actor_of}
-use Rattle.machine.specs.Task.{is_ready}
+use Rattle.machine.specs.Rows.{thread_of, first_owed}
+use Rattle.machine.specs.Task.{is_ready, task_of_row}
 use Rattle.machine.specs.Tick.{moved_behind}
+use Rattle.kcore.specs.Moved.{AreKnown}
 use Rattle.kcore.specs.ReadyQueues.{AreReady, SomeReady, Follow, pairs, leave}
 use Rattle.kcore.proofs.ReadyLists.{listed_behind, apart_behind, apart_filtered, filtered_listed, without_unlisted, itself_stays}
 use Rattle.kcore.proofs.ReadyQueues.{picked_queued, turned_queued, removed_queued, added_queued, ready_queued, chosen_priority, chosen_listed}
@@ -45,16 +48,28 @@ comes script S rank r t p ready absent known own low qs h =
     rw (ready, none) (subst (λ (n : ℕ). AreReady rank (qs ++ t ∷ []) (added r t n)) own (ready_behind rank qs r t known here none h))
 
 -- one that stands in a queue stays
-pub stays_listed : (script : Script) (S : State) (rank : ObjNo → ℕ) (r : Ready) (t : ObjNo) → is_ready script S t ≡ true → ((list_any (holds t) r.queues ≡ true → ⊥) → ⊥) → Follow rank (arrive script S (t ∷ [])) r r
-stays_listed script S rank r t ready stands qs h =
+pub stays_listed : (script : Script) (S : State) (rank : ObjNo → ℕ) (r : Ready) (t : ObjNo) → ((list_any (holds t) r.queues ≡ true → ⊥) → ⊥) → Follow rank (arrive script S (t ∷ [])) r r
+stays_listed script S rank r t stands qs h =
     elim (cases_Bool (is_listed qs t)) [
-      | inl listed ↦ rw (ready, listed) h
+      | inl listed ↦ elim (cases_Bool (is_ready script S t)) [ inl ready ↦ rw (ready, listed) h | inr unready ↦ rw unready h ]
       | inr none ↦ absurd (stands (λ held. let clash : true ≡ false = sym held ∙ (ready_queued rank qs r t h.queues ∙ none) in cc))
     ]
 
 -- and one that isn't ready doesn't come
 pub stays_unready : (script : Script) (S : State) (rank : ObjNo → ℕ) (r : Ready) (t : ObjNo) → is_ready script S t ≡ false → Follow rank (arrive script S (t ∷ [])) r r
 stays_unready script S rank r t unready qs h = rw unready h
+
+-- a number past those of threads is no thread's
+past_row : (script : Script) (S : State) (t : ObjNo) (row : Option ThreadRow) → AreKnown S → BOOT_OBJECTS ≤ t.0 → thread_of S t ≡ row → is_ready script S t ≡ false
+past_row script S t None known past is = ap (λ (x : Option ThreadRow). is_some (task_of_row script (first_owed S t) x)) is
+past_row script S t (Some row) known past is = let low = known t row is in absurd (omega arith)
+
+pub stays_past : (script : Script) (S : State) (rank : ObjNo → ℕ) (r : Ready) (t : ObjNo) → AreKnown S → BOOT_OBJECTS ≤ t.0 → Follow rank (arrive script S (t ∷ [])) r r
+stays_past script S rank r t known past = stays_unready script S rank r t (past_row script S t (thread_of S t) known past refl)
+
+-- nor is a number without a row
+pub stays_rowless : (script : Script) (S : State) (rank : ObjNo → ℕ) (r : Ready) (t : ObjNo) → thread_of S t ≡ None → Follow rank (arrive script S (t ∷ [])) r r
+stays_rowless script S rank r t none = stays_unready script S rank r t (ap (λ (x : Option ThreadRow). is_some (task_of_row script (first_owed S t) x)) none)
 
 -- who isn't in a list leaves it as it is
 leaves_absent : (rank : ObjNo → ℕ) (qs : List ObjNo) (r : Ready) (t : ObjNo) → is_listed qs t ≡ false → AreReady rank qs r → AreReady rank (unlisted t qs) r

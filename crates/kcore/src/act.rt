@@ -20,7 +20,7 @@ use crate::ready::{leave_along, turn};
 use crate::tables::Tables;
 use decisions::decision_of;
 use entry_log::{Actor, Effects, Step};
-use machine::{Decision, Outcome};
+use machine::Outcome;
 use ready_list::ReadyList;
 use ref_words::RefWords;
 use script_types::Script;
@@ -40,17 +40,13 @@ fn act<W: RefWords + Drop>(
     requires size { ready.old.threads ≡ BOOT_OBJECTS }
     ensures { Does script.now tables.old ready.old tables.new ready.new result (λ S. act script.now S thread) }
 {
-    let Decision {
-        step,
-        moves,
-        answer,
-    } = decision_of(script, tables, thread);
-    let effects = perform(script, tables, ready, thread, moves.as_slice());
-    leave_along(script, tables, ready, thread, moves.as_slice());
+    let decision = decision_of(script, tables, thread);
+    let effects = perform(script, tables, ready, thread, decision.moves.as_slice());
+    leave_along(script, tables, ready, thread, decision.moves.as_slice());
     Outcome {
-        step,
+        step: decision.step,
         effects,
-        answer,
+        answer: decision.answer,
     }
 }
 

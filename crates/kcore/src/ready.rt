@@ -36,10 +36,16 @@ fn arrive<W: RefWords + Drop>(
     let Some(thread) = thread else {
         return;
     };
-    let Some(row) = row_of(&tables.threads, thread) else {
+    if thread.0 as usize >= Limits::BOOT_OBJECTS {
         return;
-    };
-    if is_ready(script, tables, thread) && ready.priority_of(thread).is_none() {
+    }
+    if ready.priority_of(thread).is_some() {
+        return;
+    }
+    if !is_ready(script, tables, thread) {
+        return;
+    }
+    if let Some(row) = row_of(&tables.threads, thread) {
         ready.add(thread, row.priority);
     }
 }
