@@ -1,9 +1,9 @@
 //! How a step answers, refuses, or goes on to the next step of its instruction.
 ghost use Rattle.std.specs.Prelude.{◌≡◌, ◌<◌, [], ◌∷◌, length, IfSome};
-ghost use Rattle.machine.specs.Decide.{nothing, answer, refuse, go_on, answer_handle, give_handle};
+ghost use Rattle.machine.specs.Decide.{nothing, answer, refuse, go_on, wait_for, answer_handle, give_handle};
 
 use entry_log::{Holder, Part, Step};
-use machine::{Decision, Move, Moves, NewHandle, ThreadRow};
+use machine::{Decision, Move, Moves, NewHandle, ThreadRow, Waiting};
 use sym_base::{Error, ObjNo, ThreadNo};
 
 /// One move.
@@ -58,6 +58,13 @@ pub fn go_on(thread: ThreadNo, step: Step, change: Move, part: Part) -> Decision
         moves,
         answer: None,
     }
+}
+
+/// The thread waits for this, and its instruction goes on to its last step once the wait is over.
+pub fn wait_for(thread: ThreadNo, step: Step, what: Waiting) -> Decision
+    ensures { result ≡ wait_for thread step what }
+{
+    go_on(thread, step, Move::Wait(thread, what), Part::Done)
 }
 
 /// The instruction is over: after this move a new handle's number goes to a register and is answered.

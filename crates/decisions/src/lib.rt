@@ -4,8 +4,11 @@
 
 mod close;
 mod create;
+mod critical_section;
 mod decide;
 mod dup;
+mod fast_mutex;
+mod fast_semaphore;
 mod find;
 mod look;
 mod move_effects;
@@ -14,8 +17,9 @@ mod plain_reads;
 mod reads;
 mod steps;
 mod task;
+mod thread_calls;
 
 pub use move_effects::{add_effects, told};
 pub use reads::Reads;
 pub use steps::decision_of;
-pub use task::{is_ready, task_of};
+pub use task::{is_able, is_ready, task_of, wanted_holder};

@@ -1,13 +1,14 @@
 //! The first step of the instructions that name an object by a handle.
 ghost use Rattle.std.specs.Prelude.{◌≡◌, ◌<◌, IfSome};
 ghost use Rattle.machine.specs.Handles.{object_at, index_of};
-ghost use Rattle.machine.specs.Look.{look_at, look};
+ghost use Rattle.machine.specs.Look.{look_at, look, is_of_kind, of_kind, look_kind};
 
 use crate::Reads;
 use crate::decide::{go_on, refuse};
 use entry_log::{Holder, Part, Step, Word};
 use machine::{Decision, Move, ThreadRow, index_of, instance_of, object_in, owner_of};
-use sym_base::{Error, ObjNo, ThreadNo};
+use state_rows::ObjectRow;
+use sym_base::{Error, Kind, ObjNo, ThreadNo};
 
 /// The object that a thread's handle names.
 pub fn object_at<R: Reads>(
@@ -52,4 +53,44 @@ pub fn look<R: Reads>(
 {
     let handle = row.registers[register as usize];
     look_at(thread, word, object_at(reads, thread, row, handle))
+}
+
+/// Whether an object is of a kind.
+fn is_of_kind(kind: Kind, row: Option<ObjectRow>) -> bool
+    ensures { result ≡ is_of_kind kind row }
+{
+    match row {
+        Some(row) => row.kind.is(kind),
+        None => false,
+    }
+}
+
+/// An object, where it is of a kind.
+fn of_kind<R: Reads>(reads: &R, kind: Kind, found: Option<ObjNo>) -> Option<ObjNo>
+    ensures { result ≡ of_kind (R.state reads.now) kind found }
+{
+    let object = found?;
+    if is_of_kind(kind, reads.object(object)) {
+        Some(object)
+    } else {
+        None
+    }
+}
+
+/// The look at the handle in a register, which has to be of an object of a kind.
+pub fn look_kind<R: Reads>(
+    reads: &R,
+    thread: ThreadNo,
+    row: &ThreadRow,
+    kind: Kind,
+    word: Word,
+    register: u8,
+) -> Decision
+    requires readable { R.is_readable reads.now }
+    requires register { register < 8 }
+    ensures { result ≡ look_kind (R.state reads.now) thread row.now kind word register }
+{
+    let handle = row.registers[register as usize];
+    let found = object_at(reads, thread, row, handle);
+    look_at(thread, word, of_kind(reads, kind, found))
 }

@@ -1,10 +1,11 @@
 //! What moves tell.
 ghost use Rattle.std.specs.Prelude.{◌≡◌, ◌+◌, ◌≤◌, [], ◌∷◌, ◌++◌, length};
 ghost use Rattle.machine.specs.Moves.{closed_effects, told};
+ghost use Rattle.machine.specs.NanoMoves.{nano_told};
 
 use crate::Reads;
-use entry_log::{Effect, Effects, Holder};
-use machine::{Move, Owed};
+use entry_log::{Effect, Effects, Holder, LockNo};
+use machine::{Move, NanoMove, Owed};
 use sym_base::ObjNo;
 
 /// One effect.
@@ -38,6 +39,17 @@ fn told_of_payment<R: Reads>(reads: &R, what: Owed) -> Effects
     }
 }
 
+/// What a move in the rows of threads that synchronize tells: who took and gave which fast mutex.
+fn nano_told(change: NanoMove) -> Effects
+    ensures { result ≡ nano_told change }
+{
+    match change {
+        NanoMove::Take(thread, fast) => one_effect(Effect::Take(thread, LockNo::Fast(fast))),
+        NanoMove::Give(thread, fast) => one_effect(Effect::Give(thread, LockNo::Fast(fast))),
+        _ => Effects::new(),
+    }
+}
+
 /// What a move tells, from the state before it.
 pub fn told<R: Reads>(reads: &R, change: Move) -> Effects
     requires { R.is_readable reads.now }
@@ -52,7 +64,13 @@ pub fn told<R: Reads>(reads: &R, change: Move) -> Effects
         Move::Lose(holder, object) => closed_effects(reads.is_last(object), holder, object),
         Move::Find(_, object) => one_effect(Effect::Seek(object)),
         Move::Miss(object) => one_effect(Effect::Missed(object)),
-        Move::GoOn(_, _) | Move::Write(_, _, _) | Move::Advance(_) => Effects::new(),
+        Move::Nano(change) => nano_told(change),
+        Move::GoOn(_, _)
+        | Move::Write(_, _, _)
+        | Move::Advance(_)
+        | Move::Wait(_, _)
+        | Move::Wake(_)
+        | Move::SetPriority(_, _) => Effects::new(),
         Move::Pay(what) => told_of_payment(reads, what),
     }
 }

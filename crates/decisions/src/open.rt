@@ -3,11 +3,11 @@ ghost use Rattle.std.specs.Prelude.{◌≡◌};
 ghost use Rattle.machine.specs.Open.{open_do, open_step, open_return};
 
 use crate::Reads;
-use crate::decide::{give_handle, nothing};
+use crate::decide::{give_handle, nothing, refuse};
 use crate::find::{return_to, seek};
 use entry_log::{Part, Step, Word};
 use machine::{Decision, ThreadRow};
-use sym_base::{Kind, Name, ObjNo, ThreadNo};
+use sym_base::{Error, Kind, Name, ObjNo, ThreadNo};
 
 const STEP: Step = Step::Of(Word::Open, Part::Do);
 
@@ -35,7 +35,7 @@ fn open_do<R: Reads>(
     )
 }
 
-/// First the find, and after the return a handle.
+/// First the find, and after the return a handle. A thread that holds a fast mutex is refused.
 pub fn open_step<R: Reads>(
     reads: &R,
     thread: ThreadNo,
@@ -47,10 +47,13 @@ pub fn open_step<R: Reads>(
     requires { R.is_readable reads.now }
     ensures { result ≡ open_step (R.state reads.now) thread row.now kind name register row.now.part }
 {
-    match row.part {
-        None => seek(reads, thread, Word::Open, kind, name),
-        Some(_) => open_do(reads, thread, row, register, row.uses),
+    if row.part.is_some() {
+        return open_do(reads, thread, row, register, row.uses);
     }
+    if reads.is_holding(thread) {
+        return refuse(thread, Step::Of(Word::Open, Part::Seek), Error::InUse);
+    }
+    seek(reads, thread, Word::Open, kind, name)
 }
 
 /// The return.

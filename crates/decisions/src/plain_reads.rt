@@ -6,8 +6,9 @@ ghost use Rattle.state_rows.specs.ObjectRows.{has_name, named, is_taken};
 
 use crate::Reads;
 use machine::{
-    HandleSlot, NewHandle, Owed, State, ThreadRow, first_owed, is_counted, is_last, next_handle,
-    object_of, slot_at, table_of, thread_of,
+    HandleSlot, NewHandle, Owed, State, ThreadRow, critical_count, first_owed, held_place,
+    is_counted, is_last, is_protected, mutex_holder, next_handle, object_of, signal_count, slot_at,
+    suspend_count, table_of, thread_of, wanted_mutex,
 };
 use state_rows::{ObjectRow, has_name, is_dead_row, is_session};
 use sym_base::{Kind, Name, ObjNo, ThreadNo};
@@ -56,11 +57,11 @@ fn findable(state: &State, found: Option<ObjNo>) -> Option<ObjNo>
 }
 
 impl Reads for State {
-    ghost use Rattle.machine.specs.Room.{HasRoom};
+    ghost use Rattle.decisions.specs.Readable.{IsReadable};
 
     ghost state = { λ S. S };
 
-    ghost is_readable = { λ S. HasRoom 0 S };
+    ghost is_readable = { λ S. IsReadable S };
 
     fn object(&self, object: ObjNo) -> Option<ObjectRow> {
         object_of(self, object)
@@ -99,5 +100,38 @@ impl Reads for State {
 
     fn objects_made(&self) -> usize {
         self.objects.len()
+    }
+
+    fn signal_count(&self, thread: ThreadNo) -> u64 {
+        signal_count(&self.nano, thread)
+    }
+
+    fn suspend_count(&self, thread: ThreadNo) -> u8 {
+        suspend_count(&self.nano, thread)
+    }
+
+    fn critical_count(&self, thread: ThreadNo) -> u64 {
+        critical_count(&self.nano, thread)
+    }
+
+    fn want(&self, thread: ThreadNo) -> Option<u8> {
+        wanted_mutex(&self.nano, thread)
+    }
+
+    fn holder(&self, fast: u8) -> Option<ThreadNo> {
+        mutex_holder(&self.nano, fast)
+    }
+
+    fn held(&self, thread: ThreadNo) -> Option<u8> {
+        let place = held_place(self.nano.holders.as_slice(), thread)?;
+        Some(place as u8)
+    }
+
+    fn is_holding(&self, thread: ThreadNo) -> bool {
+        held_place(self.nano.holders.as_slice(), thread).is_some()
+    }
+
+    fn is_protected(&self, thread: ThreadNo) -> bool {
+        is_protected(&self.nano, thread)
     }
 }

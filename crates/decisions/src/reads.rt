@@ -1,24 +1,26 @@
 //! What decisions read of a state. The plain machine keeps it as lists and the kernel as tables of its own,
 //! and both decide by the same functions.
-ghost use Rattle.std.specs.Prelude.{◌≡◌, ◌<◌, ◌≤◌, length, IfSome};
+ghost use Rattle.std.specs.Prelude.{◌≡◌, ◌<◌, ◌≤◌, length, IfSome, is_some};
 ghost use Rattle.machine.specs.Find.{find_object};
 ghost use Rattle.machine.specs.Handles.{slot_at, next_handle};
 ghost use Rattle.machine.specs.References.{is_last};
 ghost use Rattle.machine.specs.Rows.{object_of, thread_of, table_of, first_owed};
+ghost use Rattle.state_rows.specs.Nano.{signal_count, suspend_count, critical_count, want_of, holder_of, held_by, is_protected};
 ghost use Rattle.state_rows.specs.ObjectRows.{is_taken};
 
 use machine::{HandleSlot, NewHandle, Owed, ThreadRow};
 use state_rows::ObjectRow;
 use sym_base::{Kind, Name, ObjNo, ThreadNo};
 
-/// A state that can be read. A number without a row reads as none.
+/// A state that can be read. A number without a row reads as none, and a count without one as 0.
 pub trait Reads {
     ghost use Rattle.machine.specs.declared.state.State.{State};
 
     /// The state that it stands for.
     ghost state: { Self → State };
 
-    /// What has to hold of it so that its handles and counts can be read.
+    /// What has to hold of it so that its handles and counts can be read, and the number of the fast mutex
+    /// that a thread holds.
     ghost is_readable: { Self → Type 0 };
 
     /// The object of this number, where it was made and isn't swept.
@@ -64,4 +66,37 @@ pub trait Reads {
         requires { is_readable self.now }
         ensures number { result ≡ length (state self.now).objects }
         ensures few { result ≤ 65535 };
+
+    /// How many signals are at a thread's fast semaphore.
+    fn signal_count(&self, thread: ThreadNo) -> u64
+        ensures { result ≡ signal_count (state self.now).nano thread };
+
+    /// How many suspensions of a thread aren't resumed.
+    fn suspend_count(&self, thread: ThreadNo) -> u8
+        ensures { result ≡ suspend_count (state self.now).nano thread };
+
+    /// How many critical sections a thread is in.
+    fn critical_count(&self, thread: ThreadNo) -> u64
+        ensures { result ≡ critical_count (state self.now).nano thread };
+
+    /// The fast mutex that a thread wants.
+    fn want(&self, thread: ThreadNo) -> Option<u8>
+        ensures { result ≡ want_of (state self.now).nano thread };
+
+    /// The thread that holds a fast mutex.
+    fn holder(&self, fast: u8) -> Option<ThreadNo>
+        ensures { result ≡ holder_of (state self.now).nano fast };
+
+    /// The fast mutex that a thread holds.
+    fn held(&self, thread: ThreadNo) -> Option<u8>
+        requires { is_readable self.now }
+        ensures { result ≡ held_by (state self.now).nano thread };
+
+    /// Whether a thread holds a fast mutex.
+    fn is_holding(&self, thread: ThreadNo) -> bool
+        ensures { result ≡ is_some (held_by (state self.now).nano thread) };
+
+    /// Whether a thread holds a fast mutex or is in a critical section.
+    fn is_protected(&self, thread: ThreadNo) -> bool
+        ensures { result ≡ is_protected (state self.now).nano thread };
 }

@@ -6,10 +6,14 @@ ghost use Rattle.machine.specs.Steps.{step_of, return_of, pay_step, pay, decisio
 use crate::Reads;
 use crate::close::close_do;
 use crate::create::create_do;
+use crate::critical_section::{enter_do, flush, leave_do};
 use crate::decide::{nothing, one_move};
 use crate::dup::dup_step;
+use crate::fast_mutex::{flock_step, funlock_do};
+use crate::fast_semaphore::{fssignal_do, fswait_step};
 use crate::open::{open_return, open_step};
-use crate::task::task_of;
+use crate::task::{is_able, task_of};
+use crate::thread_calls::{priority_step, resume_step, suspend_step};
 use entry_log::Step;
 use machine::{Decision, Move, Owed, Task, ThreadRow};
 use script_types::{Instr, Script};
@@ -28,6 +32,17 @@ fn step_of<R: Reads>(reads: &R, thread: ThreadNo, row: &ThreadRow, instr: Instr)
         Instr::Open(kind, name, register) => open_step(reads, thread, row, kind, name, register),
         Instr::Dup(from, to) => dup_step(reads, thread, row, from, to),
         Instr::Close(register) => close_do(reads, thread, row, register),
+        Instr::Flock(fast) => flock_step(reads, thread, fast, row.part),
+        Instr::Funlock(fast) => funlock_do(reads, thread, fast),
+        Instr::Fswait => fswait_step(reads, thread, row.part),
+        Instr::Fssignal(name) => fssignal_do(reads, thread, name),
+        Instr::Enter => enter_do(thread),
+        Instr::Leave => leave_do(reads, thread),
+        Instr::Suspend(register) => suspend_step(reads, thread, row, register),
+        Instr::Resume(register) => resume_step(reads, thread, row, register),
+        Instr::Priority(register, priority) => {
+            priority_step(reads, thread, row, register, priority)
+        }
         _ => nothing(),
     }
 }
@@ -57,13 +72,16 @@ fn pay(what: Owed) -> Decision
     }
 }
 
-/// What a thread does in its next action: nothing, where it has nothing to do.
+/// What a thread does in its next action: nothing, where it isn't able to act.
 #[tactic(auto, using(machine::proofs::Numbers::Registers::task_has_registers))]
 pub fn decision_of<R: Reads>(script: &Script, reads: &R, thread: ThreadNo) -> Decision
     requires shaped { IsShaped script.now }
     requires readable { R.is_readable reads.now }
     ensures { result ≡ decision_of script.now (R.state reads.now) thread }
 {
+    if !is_able(script, reads, thread) {
+        return nothing();
+    }
     let Some(row) = reads.thread(thread) else {
         return nothing();
     };
@@ -71,6 +89,7 @@ pub fn decision_of<R: Reads>(script: &Script, reads: &R, thread: ThreadNo) -> De
         Some(Task::Return(instr)) => return_of(reads, thread, &row, instr),
         Some(Task::Pay(what)) => pay(what),
         Some(Task::Step(instr)) => step_of(reads, thread, &row, instr),
+        Some(Task::Flush) => flush(reads, thread),
         None => nothing(),
     }
 }

@@ -1,10 +1,12 @@
 //! What a thread does next.
-ghost use Rattle.std.specs.Prelude.{◌≡◌, option_copied};
-ghost use Rattle.machine.specs.Task.{instruction, is_returning, task_of_row, task_of, is_ready, declared_of};
+ghost use Rattle.std.specs.Prelude.{◌≡◌, Some, option_copied};
+ghost use Rattle.machine.specs.Rows.{first_owed};
+ghost use Rattle.machine.specs.Task.{instruction, is_returning, end_task, step_or_end, pay_or_step, task_of_row, task_of, is_wait, is_stopped, is_ready, wanted_holder, is_able, declared_of};
+ghost use Rattle.state_rows.specs.Nano.{is_protected};
 
 use crate::Reads;
 use entry_log::Part;
-use machine::{Owed, Role, Task, ThreadRow};
+use machine::{Role, Task, ThreadRow, Waiting};
 use script_types::{Instr, Script, ThreadDecl};
 use sym_base::ThreadNo;
 
@@ -34,18 +36,47 @@ fn is_returning(part: Option<Part>) -> bool
     matches!(part, Some(Part::Return))
 }
 
-/// What the thread of this row does next, where this is the oldest of what it owes.
-fn task_of_row(script: &Script, first: Option<Owed>, row: &ThreadRow) -> Option<Task>
-    ensures { result ≡ task_of_row script.now first (Some row.now) }
+/// What a thread does at its list's end: it gives up what protects it, if it is protected.
+fn end_task(protected: bool) -> Option<Task>
+    ensures { result ≡ end_task protected }
+{
+    if protected { Some(Task::Flush) } else { None }
+}
+
+/// What a thread does that owes nothing.
+fn step_or_end<R: Reads>(reads: &R, thread: ThreadNo, instr: Option<Instr>) -> Option<Task>
+    ensures { result ≡ step_or_end (is_protected (R.state reads.now).nano thread) instr }
+{
+    match instr {
+        Some(instr) => Some(Task::Step(instr)),
+        None => end_task(reads.is_protected(thread)),
+    }
+}
+
+/// What a thread does where it isn't at a return: the oldest of what it owes comes first.
+fn pay_or_step<R: Reads>(reads: &R, thread: ThreadNo, instr: Option<Instr>) -> Option<Task>
+    ensures { result ≡ pay_or_step (is_protected (R.state reads.now).nano thread) (first_owed (R.state reads.now) thread) instr }
+{
+    match reads.first_owed(thread) {
+        Some(what) => Some(Task::Pay(what)),
+        None => step_or_end(reads, thread, instr),
+    }
+}
+
+/// What the thread of this row does next: its return, where it is at one, comes before all else.
+fn task_of_row<R: Reads>(
+    script: &Script,
+    reads: &R,
+    thread: ThreadNo,
+    row: &ThreadRow,
+) -> Option<Task>
+    ensures { result ≡ task_of_row script.now (is_protected (R.state reads.now).nano thread) (first_owed (R.state reads.now) thread) (Some row.now) }
 {
     let instr = instruction(script, row);
-    if is_returning(row.part) {
+    if is_returning(row.part) && instr.is_some() {
         return instr.map(Task::Return);
     }
-    match first {
-        Some(what) => Some(Task::Pay(what)),
-        None => instr.map(Task::Step),
-    }
+    pay_or_step(reads, thread, instr)
 }
 
 /// What a thread does next, None where there is nothing.
@@ -53,12 +84,50 @@ pub fn task_of<R: Reads>(script: &Script, reads: &R, thread: ThreadNo) -> Option
     ensures { result ≡ task_of script.now (R.state reads.now) thread }
 {
     let row = reads.thread(thread)?;
-    task_of_row(script, reads.first_owed(thread), &row)
+    task_of_row(script, reads, thread, &row)
 }
 
-/// A thread is ready where it has something to do.
+/// Whether a thread waits for something.
+fn is_wait(waiting: Waiting) -> bool
+    ensures { result ≡ is_wait waiting }
+{
+    match waiting {
+        Waiting::Nothing => false,
+        Waiting::Fast => true,
+    }
+}
+
+/// Whether a thread is stopped: it is suspended, and nothing protects it from that.
+fn is_stopped<R: Reads>(reads: &R, thread: ThreadNo) -> bool
+    ensures { result ≡ is_stopped (R.state reads.now) thread }
+{
+    reads.suspend_count(thread) != 0 && !reads.is_protected(thread)
+}
+
+/// A thread is ready where it has something to do, doesn't wait and isn't stopped.
 pub fn is_ready<R: Reads>(script: &Script, reads: &R, thread: ThreadNo) -> bool
     ensures { result ≡ is_ready script.now (R.state reads.now) thread }
 {
-    task_of(script, reads, thread).is_some()
+    let Some(row) = reads.thread(thread) else {
+        return false;
+    };
+    if is_wait(row.waiting) || is_stopped(reads, thread) {
+        return false;
+    }
+    task_of_row(script, reads, thread, &row).is_some()
+}
+
+/// The thread that holds the fast mutex that a thread wants, if there is one.
+pub fn wanted_holder<R: Reads>(reads: &R, thread: ThreadNo) -> Option<ThreadNo>
+    ensures { result ≡ wanted_holder (R.state reads.now).nano thread }
+{
+    let fast = reads.want(thread)?;
+    reads.holder(fast)
+}
+
+/// A thread is able to act where it is ready and doesn't want a fast mutex that is held.
+pub fn is_able<R: Reads>(script: &Script, reads: &R, thread: ThreadNo) -> bool
+    ensures { result ≡ is_able script.now (R.state reads.now) thread }
+{
+    is_ready(script, reads, thread) && wanted_holder(reads, thread).is_none()
 }

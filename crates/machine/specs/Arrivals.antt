@@ -7,8 +7,9 @@ use Rattle.script_types.specs.declared.script.Script.{Script}
 use Rattle.state_rows.specs.declared.duty.Owed.TheVariants.{Close, Sweep}
 use Rattle.machine.specs.declared.touches.TouchedThreads.{TouchedThreads}
 use Rattle.machine.specs.declared.moves.Move.{Move}
-use Rattle.machine.specs.declared.moves.Move.TheVariants.{GoOn, Advance, Lose, Pay}
+use Rattle.machine.specs.declared.moves.Move.TheVariants.{GoOn, Advance, Wait, Wake, SetPriority, Nano, Lose, Pay}
 use Rattle.machine.specs.declared.state.State.{State}
+use Rattle.machine.specs.NanoMoves.{nano_thread}
 use Rattle.machine.specs.Moves.{moved, perform}
 use Rattle.machine.specs.Task.{is_ready}
 
@@ -25,9 +26,18 @@ abbrev pub touched : ObjNo → Move → List ObjNo
 touched t (Lose h o) = t ∷ []
 touched t (GoOn u part) = u ∷ []
 touched t (Advance u) = u ∷ []
+touched t (Wait u what) = u ∷ []
+touched t (Wake u) = u ∷ []
+touched t (SetPriority u priority) = u ∷ []
+touched t (Nano m) = nano_thread m ∷ []
 touched t (Pay (Close h o)) = t ∷ []
 touched t (Pay (Sweep o)) = t ∷ o ∷ []
 touched t _ = []
+
+-- a thread whose priority is set leaves the list first, and so arrives anew
+abbrev pub taken_out : Move → List ObjNo → List ObjNo
+taken_out (SetPriority u priority) qs = unlisted u qs
+taken_out _ qs = qs
 
 -- the threads of up to two
 abbrev pub one_of : Option ObjNo → List ObjNo
@@ -45,7 +55,7 @@ arrive script S (u ∷ us) qs = arrive script S us (if is_ready script S u && no
 -- the list along the moves of an action of thread t: after each move those come that it touched
 abbrev pub arrivals : Script → ObjNo → List Move → State → List ObjNo → List ObjNo
 arrivals script t [] S qs = qs
-arrivals script t (m ∷ ms) S qs = arrivals script t ms (moved t m S) (arrive script (moved t m S) (touched t m) qs)
+arrivals script t (m ∷ ms) S qs = arrivals script t ms (moved t m S) (arrive script (moved t m S) (touched t m) (taken_out m qs))
 
 -- the list after an action, in the state that its moves leave
 abbrev pub ready_after : Script → ObjNo → List Move → State → List ObjNo

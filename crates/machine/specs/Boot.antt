@@ -1,6 +1,7 @@
 -- The state at boot. Object 0 is process `kernel`, object 1 thread `supervisor`, and then each process
--- comes with its threads behind it, in the script's order.
-use Rattle.std.specs.Prelude.{ℕ, ◌+◌, ◌==◌, Bool, true, false, if◌then◌else◌, codes, map, List, [], ◌∷◌, ◌++◌, length, Option, Some, None, replicate}
+-- comes with its threads behind it, in the script's order; the kernel threads, which belong to process `kernel`, stand
+-- before the first of these.
+use Rattle.std.specs.Prelude.{ℕ, ◌+◌, ◌==◌, not, ◌&&◌, Bool, true, false, if◌then◌else◌, codes, map, List, [], ◌∷◌, ◌++◌, length, Option, Some, None, replicate}
 use Rattle.sym_base.specs.declared.kind.Kind.{Kind}
 use Rattle.sym_base.specs.declared.kind.Kind.TheVariants.{Process, Thread}
 use Rattle.script_types.specs.declared.script.Script.{Script}
@@ -10,7 +11,10 @@ use Rattle.script_types.specs.declared.instruction.Instr.{Instr}
 use Rattle.state_rows.specs.declared.object.ObjectRow.{ObjectRow}
 use Rattle.sym_base.specs.declared.number.ObjNo.{ObjNo}
 use Rattle.sym_base.specs.declared.limits.TheConstants.Limits.{HANDLES}
+use Rattle.state_rows.specs.declared.nano.NanoRows.{NanoRows}
+use Rattle.state_rows.specs.NanoChanges.{new_rows}
 use Rattle.machine.specs.declared.state.Found.TheVariants.{Nothing}
+use Rattle.machine.specs.declared.state.Waiting.TheVariants as waiting
 use Rattle.machine.specs.declared.state.Role.{Role}
 use Rattle.machine.specs.declared.state.Role.TheVariants.{Supervisor, Declared}
 use Rattle.machine.specs.declared.state.ThreadRow.{ThreadRow}
@@ -24,7 +28,7 @@ boot_object kind name = record { kind = kind; name = name; dead = false }
 
 -- a process
 abbrev pub born_process : List ℕ → Born
-born_process name = record { object = boot_object Process name; thread = None; works = false }
+born_process name = record { object = boot_object Process name; thread = None; works = false; held = false }
 
 -- a thread in the process of object number p
 abbrev pub new_thread : ℕ → Role → ℕ → ThreadRow
@@ -33,6 +37,7 @@ new_thread p role priority = record {
   process = record { 0 = p };
   link = Some (record { 0 = p });
   priority = priority;
+  waiting = waiting.Nothing;
   next_instruction = 0;
   part = None;
   found = Nothing;
@@ -47,15 +52,16 @@ has_any (x ∷ xs) = true
 
 -- the thread of declaration k
 abbrev pub born_thread : ℕ → ℕ → ThreadDecl → Born
-born_thread p k d = record { object = boot_object Thread d.name; thread = Some (new_thread p (Declared k) d.priority); works = has_any d.instrs }
+born_thread p k d = record { object = boot_object Thread d.name; thread = Some (new_thread p (Declared k) d.priority); works = has_any d.instrs && not d.held; held = d.held }
 
--- whether a declared thread is of the j-th process
-abbrev pub is_of : ℕ → Option ℕ → Bool
-is_of j None = false
-is_of j (Some i) = i == j
+-- whether a declared thread is of the j-th process, and whether it is a kernel thread
+abbrev pub is_of : Option ℕ → Option ℕ → Bool
+is_of (Some j) (Some i) = i == j
+is_of None None = true
+is_of _ _ = false
 
--- the threads of the j-th process, whose object number is p; k counts the declarations
-abbrev pub born_threads : ℕ → ℕ → ℕ → List ThreadDecl → List Born
+-- the threads of the j-th process, or the kernel threads, whose process has object number p; k counts the declarations
+abbrev pub born_threads : Option ℕ → ℕ → ℕ → List ThreadDecl → List Born
 born_threads j p k [] = []
 born_threads j p k (d ∷ ds) = if is_of j d.process then born_thread p k d ∷ born_threads j p (k + 1) ds else born_threads j p (k + 1) ds
 
@@ -63,29 +69,38 @@ born_threads j p k (d ∷ ds) = if is_of j d.process then born_thread p k d ∷ 
 abbrev pub born_processes : List ThreadDecl → ℕ → ℕ → List ProcessDecl → List Born
 born_processes threads j p [] = []
 born_processes threads j p (d ∷ ds) =
-    born_process d.name ∷ born_threads j p 0 threads ++ born_processes threads (j + 1) (p + 1 + length (born_threads j p 0 threads)) ds
+    born_process d.name ∷ born_threads (Some j) p 0 threads ++ born_processes threads (j + 1) (p + 1 + length (born_threads (Some j) p 0 threads)) ds
 
 -- all that stands at boot, in order of number
 abbrev pub born : Script → List Born
 born script =
     born_process (codes "kernel")
-    ∷ record { object = boot_object Thread (codes "supervisor"); thread = Some (new_thread 0 Supervisor 48); works = false }
-    ∷ born_processes script.threads 0 2 script.processes
+    ∷ record { object = boot_object Thread (codes "supervisor"); thread = Some (new_thread 0 Supervisor 48); works = false; held = false }
+    ∷ born_threads None 0 0 script.threads ++ born_processes script.threads 0 (2 + length (born_threads None 0 0 script.threads)) script.processes
 
--- the threads that have an instruction are ready, in order of number
+-- the threads that have an instruction and aren't held are ready, in order of number
 abbrev pub ready_from : ℕ → List Born → List ObjNo
 ready_from n [] = []
 ready_from n (b ∷ bs) = if b.works then record { 0 = n } ∷ ready_from (n + 1) bs else ready_from (n + 1) bs
 
+-- a thread that is declared as held is suspended once
+abbrev pub held_count : Born → ℕ
+held_count b = if b.held then 1 else 0
+
+-- nobody has a signal, is in a critical section, or wants or holds a fast mutex
+abbrev pub nano_of : ℕ → List Born → NanoRows
+nano_of fast bs = record (new_rows (length bs) fast) { suspensions = map held_count bs }
+
 -- each has an empty table and owes nothing
-unfoldable pub boot_of : List Born → State
-boot_of bs = record {
+unfoldable pub boot_of : ℕ → List Born → State
+boot_of fast bs = record {
   objects = map (λ b. Some b.object) bs;
   handles = map (λ _. replicate HANDLES fresh_slot) bs;
   threads = map (λ b. b.thread) bs;
   ready = ready_from 0 bs;
   owed = map (λ _. []) bs;
+  nano = nano_of fast bs;
 }
 
 abbrev pub boot : Script → State
-boot script = boot_of (born script)
+boot script = boot_of script.fast (born script)

@@ -1,18 +1,23 @@
 -- Decisions: how a step answers, refuses, or goes on to the next step of its instruction.
-use Rattle.std.specs.Prelude.{ℕ, ℤ, pos, List, [], ◌∷◌, ◌++◌, Option, Some, None}
+use Rattle.std.specs.Prelude.{ℕ, ℤ, pos, is_some, if◌then◌else◌, List, [], ◌∷◌, ◌++◌, Option, Some, None}
 use Rattle.sym_base.specs.declared.error.Error.{Error}
-use Rattle.sym_base.specs.declared.error.Error.TheVariants.{Overflow}
+use Rattle.sym_base.specs.declared.error.Error.TheVariants.{InUse, Overflow}
 use Rattle.sym_base.specs.declared.number.ObjNo.{ObjNo}
 use Rattle.sym_base.specs.ErrorCode.{error_code}
 use Rattle.entry_log.specs.declared.effect.Holder.TheVariants.{InProcess}
 use Rattle.entry_log.specs.declared.step.Part.{Part}
+use Rattle.entry_log.specs.declared.step.Part.TheVariants.{Done}
 use Rattle.entry_log.specs.declared.step.Step.{Step}
 use Rattle.entry_log.specs.declared.step.Step.TheVariants.{Wait}
+use Rattle.state_rows.specs.Nano.{held_by}
 use Rattle.machine.specs.declared.decision.Decision.{Decision}
 use Rattle.machine.specs.declared.handles.NewHandle.{NewHandle}
 use Rattle.machine.specs.declared.moves.Move.{Move}
+use Rattle.machine.specs.declared.moves.Move.TheVariants as move
 use Rattle.machine.specs.declared.moves.Move.TheVariants.{Gain, GoOn, Write, Advance}
+use Rattle.machine.specs.declared.state.Waiting.{Waiting}
 use Rattle.machine.specs.declared.state.ThreadRow.{ThreadRow}
+use Rattle.machine.specs.declared.state.State.{State}
 
 -- nobody acts
 abbrev pub nothing : Decision
@@ -29,6 +34,14 @@ refuse t step error = answer t step [] (error_code error)
 -- the instruction goes on to another step, with this move
 abbrev pub go_on : ObjNo → Step → Move → Part → Decision
 go_on t step move part = record { step = step; moves = GoOn t part ∷ move ∷ []; answer = None }
+
+-- the thread waits for this, and the instruction goes on to its last step once the wait is over
+abbrev pub wait_for : ObjNo → Step → Waiting → Decision
+wait_for t step what = go_on t step (move.Wait t what) Done
+
+-- what may block is refused to a thread that holds a fast mutex: it is in use
+abbrev pub unless_holding : State → ObjNo → Step → Decision → Decision
+unless_holding S t step d = if is_some (held_by S.nano t) then refuse t step InUse else d
 
 -- the instruction is over: after this move a new handle's number goes to a register and is answered
 abbrev pub answer_handle : ObjNo → Step → Move → ℕ → ℕ → Decision

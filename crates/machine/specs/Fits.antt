@@ -9,7 +9,12 @@ use Rattle.entry_log.specs.declared.effect.Holder.{Holder}
 use Rattle.entry_log.specs.declared.effect.Holder.TheVariants.{InProcess, InThread, Temp}
 use Rattle.entry_log.specs.declared.step.Part.{Part}
 use Rattle.machine.specs.declared.moves.Move.{Move}
-use Rattle.machine.specs.declared.moves.Move.TheVariants.{Make, Gain, Lose, Find, Miss, GoOn, Write, Advance, Pay}
+use Rattle.machine.specs.declared.moves.Move.TheVariants.{Make, Gain, Lose, Find, Miss, GoOn, Write, Advance, Wait, Wake, SetPriority, Nano, Pay}
+use Rattle.machine.specs.declared.nano_move.NanoMove.{NanoMove}
+use Rattle.machine.specs.declared.nano_move.NanoMove.TheVariants.{Take, Give, Want, Suspend}
+use Rattle.state_rows.specs.Nano.{suspend_count, holder_of, held_by}
+use Rattle.machine.specs.NanoMoves.{nano_thread}
+use Rattle.machine.specs.declared.state.Waiting.TheVariants as waiting
 use Rattle.machine.specs.declared.state.ThreadRow.{ThreadRow}
 use Rattle.machine.specs.declared.state.State.{State}
 use Rattle.machine.specs.Rows.{object_of, table_of, thread_of, owed_of}
@@ -71,6 +76,23 @@ pub record MayMake (S : State) (kind : Kind) (name : List ℕ) : Type 0 where
   pub new : is_taken kind name S.objects ≡ false
   pub named : is_session kind ≡ false
 
+-- a thread that may take a fast mutex: it waits for nothing, and holds none
+pub record MayTake (S : State) (t : ObjNo) : Type 0 where
+  pub row : ThreadRow
+  pub is : thread_of S t ≡ Some row
+  pub waits : row.waiting ≡ waiting.Nothing
+  pub holds : held_by S.nano t ≡ None
+
+-- A move in the rows of threads that synchronize fits them: a fast mutex is taken that is free, and given up by its
+-- holder; one who holds a fast mutex wants none; and a thread is suspended 127 times at most.
+abbrev pub FitsNano : NanoMove → State → Type 0
+FitsNano (Take t f) S = (f < length S.nano.holders) × (holder_of S.nano f ≡ None) × MayTake S t
+FitsNano (Give t f) S = (f < length S.nano.holders) × (holder_of S.nano f ≡ Some t)
+FitsNano (Want t None) S = Unit {0}
+FitsNano (Want t (Some f)) S = (f < length S.nano.holders) × (held_by S.nano t ≡ None)
+FitsNano (Suspend t) S = suspend_count S.nano t < 127
+FitsNano _ S = Unit {0}
+
 -- A move in an action of thread t fits the state. What is owed is paid by an action of its own.
 abbrev pub FitsMove : Script → ObjNo → Move → State → Type 0
 FitsMove script t (Make kind name h) S = MayMake S kind name × IsFree S h
@@ -81,6 +103,10 @@ FitsMove script t (Miss o) S = Unit {0}
 FitsMove script t (GoOn u part) S = MayGoOn S u (Some part)
 FitsMove script t (Write u x value) S = x < 8
 FitsMove script t (Advance u) S = (u ≡ t) × IsAtInstruction script S u
+FitsMove script t (Wait u what) S = held_by S.nano u ≡ None
+FitsMove script t (Wake u) S = Unit {0}
+FitsMove script t (SetPriority u priority) S = priority ≤ 63
+FitsMove script t (Nano m) S = (is_some (thread_of S (nano_thread m)) ≡ true) × FitsNano m S
 FitsMove script t (Pay what) S = ⊥
 
 -- each move fits when its turn comes
@@ -95,6 +121,9 @@ most_told (Pay what) = 2
 most_told (GoOn u part) = 0
 most_told (Write u x value) = 0
 most_told (Advance u) = 0
+most_told (Wait u what) = 0
+most_told (Wake u) = 0
+most_told (SetPriority u priority) = 0
 most_told _ = 1
 
 -- the most that a move adds to the weight of what its thread owes: with a last reference the close of a link and a

@@ -7,7 +7,7 @@ use Rattle.entry_log.specs.declared.entry.Entry.{Entry}
 use Rattle.machine.specs.declared.decision.Outcome.{Outcome}
 use Rattle.machine.specs.declared.state.State.{State}
 use Rattle.machine.specs.Slots.{declares_interrupt}
-use Rattle.machine.specs.Task.{is_ready}
+use Rattle.machine.specs.Task.{is_able}
 use Rattle.machine.specs.Transition.{Transition, act, idle}
 use Rattle.machine.specs.Choice.{chosen}
 use Rattle.machine.specs.Tick.{tick}
@@ -39,10 +39,10 @@ after_from script S (e ∷ es) = after_from script (next script S e.actor) es
 abbrev pub after : Script → List Entry → State
 after script history = after_from script (boot script) history
 
--- a ready thread may act, a declared interrupt may come and a time slice end at any time, and nobody acts where no
+-- an able thread may act, a declared interrupt may come and a time slice end at any time, and nobody acts where no
 -- thread is ready
 abbrev pub CanAct : Script → State → Actor → Type 0
-CanAct script S (Thread t) = IsTrue (is_ready script S t)
+CanAct script S (Thread t) = IsTrue (is_able script S t)
 CanAct script S Idle = chosen S ≡ Idle
 CanAct script S (Irq k) = IsTrue (declares_interrupt script k)
 CanAct script S Idfc = ⊥

@@ -3,8 +3,11 @@ pub mod Boot
 pub mod Choice
 pub mod Close
 pub mod Create
+pub mod CriticalSection
 pub mod Decide
 pub mod Dup
+pub mod FastMutex
+pub mod FastSemaphore
 pub mod FinalRows
 pub mod Find
 pub mod Fits
@@ -14,6 +17,7 @@ pub mod History
 pub mod Holding
 pub mod Look
 pub mod Moves
+pub mod NanoMoves
 pub mod Open
 pub mod References
 pub mod Room
@@ -22,6 +26,7 @@ pub mod Run
 pub mod Slots
 pub mod Steps
 pub mod Task
+pub mod ThreadCalls
 pub mod Tick
 pub mod Told
 pub mod Transition

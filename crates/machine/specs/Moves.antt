@@ -14,14 +14,17 @@ use Rattle.state_rows.specs.declared.duty.Owed.TheVariants.{Close, Sweep}
 use Rattle.state_rows.specs.declared.object.ObjectRow.{ObjectRow}
 use Rattle.state_rows.specs.ObjectRows.{dead_row}
 use Rattle.machine.specs.declared.moves.Move.{Move}
-use Rattle.machine.specs.declared.moves.Move.TheVariants.{Make, Gain, Lose, Find, Miss, GoOn, Write, Advance, Pay}
+use Rattle.machine.specs.declared.moves.Move.TheVariants.{Make, Gain, Lose, Find, Miss, GoOn, Write, Advance, Wait, Wake, SetPriority, Nano, Pay}
 use Rattle.machine.specs.declared.state.Found.TheVariants.{Nothing, Object}
+use Rattle.machine.specs.declared.state.Waiting.{Waiting}
+use Rattle.machine.specs.declared.state.Waiting.TheVariants as waiting
 use Rattle.machine.specs.declared.state.HandleSlot.{HandleSlot}
 use Rattle.machine.specs.declared.state.ThreadRow.{ThreadRow}
 use Rattle.machine.specs.declared.state.State.{State}
 use Rattle.machine.specs.Rows.{thread_of, with_row, owing, without_first}
 use Rattle.machine.specs.Handles.{with_slot, taken_slot, freed_slot}
 use Rattle.machine.specs.References.{is_last}
+use Rattle.machine.specs.NanoMoves.{nano_moved, nano_told}
 
 -- the number that the next object gets
 abbrev pub next_object : State → ObjNo
@@ -32,7 +35,7 @@ abbrev pub new_object : Kind → List ℕ → ObjectRow
 new_object kind name = record { kind = kind; name = name; dead = false }
 
 -- a thread's row with another use, without its link, with what it found, with another next step, with a value in a
--- register, and at its next instruction
+-- register, at its next instruction, with what it waits for, and with another priority
 abbrev pub with_use : Option ObjNo → ThreadRow → ThreadRow
 with_use uses row = record row { uses = uses }
 
@@ -50,6 +53,12 @@ with_register x value row = record row { registers = slice_set row.registers x v
 
 abbrev pub advanced : ThreadRow → ThreadRow
 advanced row = record row { next_instruction = row.next_instruction + 1; part = None; found = Nothing; uses = None }
+
+abbrev pub with_waiting : Waiting → ThreadRow → ThreadRow
+with_waiting what row = record row { waiting = what }
+
+abbrev pub with_priority : ℕ → ThreadRow → ThreadRow
+with_priority priority row = record row { priority = priority }
 
 -- the handle tables and the threads' rows, where a holder gets a reference
 abbrev pub tables_gain : Holder → ObjNo → List (List HandleSlot) → List (List HandleSlot)
@@ -136,6 +145,10 @@ moved t (Advance u) S = record S {
   threads = with_row S.threads u advanced;
   owed = owing S.owed u (owed_use u (use_of S u));
 }
+moved t (Wait u what) S = record S { threads = with_row S.threads u (with_waiting what) }
+moved t (Wake u) S = record S { threads = with_row S.threads u (with_waiting waiting.Nothing) }
+moved t (SetPriority u priority) S = record S { threads = with_row S.threads u (with_priority priority) }
+moved t (Nano m) S = record S { nano = nano_moved m S.nano }
 moved t (Pay (Close h o)) S = record S {
   objects = objects_closed (is_last S o) o S.objects;
   threads = threads_closed (is_last S o) o S.threads;
@@ -157,6 +170,10 @@ told (Miss o) S = Missed o ∷ []
 told (GoOn t part) S = []
 told (Write t x value) S = []
 told (Advance t) S = []
+told (Wait t what) S = []
+told (Wake t) S = []
+told (SetPriority t priority) S = []
+told (Nano m) S = nano_told m
 told (Pay (Close h o)) S = closed_effects (is_last S o) h o
 told (Pay (Sweep o)) S = Swept o ∷ []
 

@@ -5,13 +5,13 @@ use Rattle.sym_base.specs.declared.number.ObjNo.{ObjNo}
 use Rattle.sym_base.specs.declared.word.Word.TheVariants.{Open}
 use Rattle.entry_log.specs.declared.step.Step.TheVariants.{Of}
 use Rattle.entry_log.specs.declared.step.Part.{Part}
-use Rattle.entry_log.specs.declared.step.Part.TheVariants.{Do}
+use Rattle.entry_log.specs.declared.step.Part.TheVariants.{Do, Seek}
 use Rattle.machine.specs.declared.decision.Decision.{Decision}
 use Rattle.machine.specs.declared.state.ThreadRow.{ThreadRow}
 use Rattle.machine.specs.declared.state.State.{State}
 use Rattle.machine.specs.Rows.{table_of}
 use Rattle.machine.specs.Handles.{next_handle}
-use Rattle.machine.specs.Decide.{nothing, give_handle}
+use Rattle.machine.specs.Decide.{nothing, give_handle, unless_holding}
 use Rattle.machine.specs.Find.{seek, return_to}
 
 -- the third step: a handle of what the thread uses
@@ -21,7 +21,7 @@ open_do S t row x (Some o) = give_handle t row (Of Open Do) o x (next_handle (ta
 
 -- first the find, and after the return a handle
 abbrev pub open_step : State → ObjNo → ThreadRow → Kind → List ℕ → ℕ → Option Part → Decision
-open_step S t row kind name x None = seek S t Open kind name
+open_step S t row kind name x None = unless_holding S t (Of Open Seek) (seek S t Open kind name)
 open_step S t row kind name x (Some part) = open_do S t row x row.uses
 
 -- the return

@@ -1,16 +1,20 @@
 -- What a thread does next.
-use Rattle.std.specs.Prelude.{Bool, true, false, is_some, if◌then◌else◌, List, [], Option, Some, None, option_map, slice_get}
+use Rattle.std.specs.Prelude.{ℕ, Bool, true, false, not, ◌&&◌, ◌==◌, is_some, is_none, if◌then◌else◌, List, [], Option, Some, None, option_and_then, slice_get}
 use Rattle.sym_base.specs.declared.number.ObjNo.{ObjNo}
 use Rattle.script_types.specs.declared.script.Script.{Script}
 use Rattle.script_types.specs.declared.declaration.ThreadDecl.{ThreadDecl}
 use Rattle.script_types.specs.declared.instruction.Instr.{Instr}
 use Rattle.entry_log.specs.declared.step.Part.{Part}
 use Rattle.entry_log.specs.declared.step.Part.TheVariants as part
+use Rattle.state_rows.specs.declared.nano.NanoRows.{NanoRows}
+use Rattle.state_rows.specs.Nano.{suspend_count, want_of, holder_of, is_protected}
 use Rattle.state_rows.specs.declared.duty.Owed.{Owed}
 use Rattle.machine.specs.declared.task.Task.{Task}
-use Rattle.machine.specs.declared.task.Task.TheVariants.{Return, Pay, Step}
+use Rattle.machine.specs.declared.task.Task.TheVariants.{Return, Pay, Step, Flush}
 use Rattle.machine.specs.declared.state.Role.{Role}
 use Rattle.machine.specs.declared.state.Role.TheVariants.{Supervisor, Declared}
+use Rattle.machine.specs.declared.state.Waiting.{Waiting}
+use Rattle.machine.specs.declared.state.Waiting.TheVariants.{Nothing}
 use Rattle.machine.specs.declared.state.ThreadRow.{ThreadRow}
 use Rattle.machine.specs.declared.state.State.{State}
 use Rattle.machine.specs.Rows.{thread_of, first_owed}
@@ -38,21 +42,57 @@ abbrev pub is_returning : Option Part → Bool
 is_returning (Some part.Return) = true
 is_returning _ = false
 
+-- at its list's end a thread gives up what protects it, if it is protected
+abbrev pub end_task : Bool → Option Task
+end_task protected = if protected then Some Flush else None
+
+abbrev pub step_or_end : Bool → Option Instr → Option Task
+step_or_end protected None = end_task protected
+step_or_end protected (Some instr) = Some (Step instr)
+
 -- the oldest of what a thread owes comes before its instruction
-abbrev pub pay_or_step : Option Owed → Option Instr → Option Task
-pay_or_step (Some what) instr = Some (Pay what)
-pay_or_step None instr = option_map Step instr
+abbrev pub pay_or_step : Bool → Option Owed → Option Instr → Option Task
+pay_or_step protected (Some what) instr = Some (Pay what)
+pay_or_step protected None instr = step_or_end protected instr
 
 -- the return comes before all else
-abbrev pub task_of_row : Script → Option Owed → Option ThreadRow → Option Task
-task_of_row script first None = None
-task_of_row script first (Some row) =
-    if is_returning row.part then option_map Return (instruction script row) else pay_or_step first (instruction script row)
+abbrev pub return_or : Bool → Option Instr → Option Task → Option Task
+return_or true (Some instr) other = Some (Return instr)
+return_or _ _ other = other
+
+abbrev pub task_of_row : Script → Bool → Option Owed → Option ThreadRow → Option Task
+task_of_row script protected first None = None
+task_of_row script protected first (Some row) =
+    return_or (is_returning row.part) (instruction script row) (pay_or_step protected first (instruction script row))
 
 -- what a thread does next, None where there is nothing
 abbrev pub task_of : Script → State → ObjNo → Option Task
-task_of script S t = task_of_row script (first_owed S t) (thread_of S t)
+task_of script S t = task_of_row script (is_protected S.nano t) (first_owed S t) (thread_of S t)
 
--- a thread is ready where it has something to do
+-- whether a thread waits
+abbrev pub is_wait : Waiting → Bool
+is_wait Nothing = false
+is_wait _ = true
+
+abbrev pub is_waiting_row : Option ThreadRow → Bool
+is_waiting_row None = false
+is_waiting_row (Some row) = is_wait row.waiting
+
+abbrev pub is_waiting : State → ObjNo → Bool
+is_waiting S t = is_waiting_row (thread_of S t)
+
+-- whether a thread is stopped: it is suspended, and nothing protects it from that
+abbrev pub is_stopped : State → ObjNo → Bool
+is_stopped S t = not (suspend_count S.nano t == 0) && not (is_protected S.nano t)
+
+-- a thread is ready where it has something to do, doesn't wait and isn't stopped
 abbrev pub is_ready : Script → State → ObjNo → Bool
-is_ready script S t = is_some (task_of script S t)
+is_ready script S t = not (is_waiting S t) && not (is_stopped S t) && is_some (task_of script S t)
+
+-- the thread that holds what a thread wants, if there is one
+abbrev pub wanted_holder : NanoRows → ObjNo → Option ObjNo
+wanted_holder r t = option_and_then (holder_of r) (want_of r t)
+
+-- a thread is able to act where it is ready and doesn't want a fast mutex that is held
+abbrev pub is_able : Script → State → ObjNo → Bool
+is_able script S t = is_ready script S t && is_none (wanted_holder S.nano t)

@@ -11,6 +11,10 @@ use Rattle.entry_log.specs.declared.step.Part.TheVariants as part
 use Rattle.state_rows.specs.declared.duty.Owed.{Owed}
 use Rattle.state_rows.specs.declared.duty.Owed.TheVariants.{Close, Sweep}
 use Rattle.state_rows.specs.declared.object.ObjectRow.{ObjectRow}
+use Rattle.state_rows.specs.declared.nano.NanoRows.{NanoRows}
+use Rattle.state_rows.specs.Nano.{want_of, holder_of}
+use Rattle.state_rows.specs.NanoSound.{AreNanoRows}
+use Rattle.machine.specs.declared.state.Waiting.TheVariants as waiting
 use Rattle.machine.specs.declared.state.HandleSlot.{HandleSlot}
 use Rattle.machine.specs.declared.state.ThreadRow.{ThreadRow}
 use Rattle.machine.specs.declared.state.State.{State}
@@ -88,6 +92,20 @@ pub record AreDuties (threads : List (Option ThreadRow)) (owed : List (List Owed
   pub few : (k : ℕ) → total weight (slice_index_or owed k []) ≤ 12
   pub returns : (k : ℕ) → is_returning (part_of (slice_index_or threads k None)) ≡ true → slice_index_or owed k [] ≡ []
 
+-- a thread that holds a fast mutex waits for nothing and wants no other
+pub record IsHolder (threads : List (Option ThreadRow)) (r : NanoRows) (u : ObjNo) : Type 0 where
+  pub row : ThreadRow
+  pub is : slice_index_or threads u.0 None ≡ Some row
+  pub waits : row.waiting ≡ waiting.Nothing
+  pub wants : want_of r u ≡ None
+
+-- the rows of threads that synchronize: one for each thread, and a holder or none for each fast mutex of the script
+pub record AreSynchronized (script : Script) (threads : List (Option ThreadRow)) (r : NanoRows) : Type 0 where
+  pub rows : AreNanoRows r
+  pub sized : length r.signals ≡ length threads
+  pub mutexes : length r.holders ≡ script.fast
+  pub holders : (f : ℕ) (u : ObjNo) → holder_of r f ≡ Some u → IsHolder threads r u
+
 -- an object that is there and has a reference left
 abbrev pub IsAlive : Option ObjectRow → Type 0
 IsAlive None = ⊥
@@ -133,6 +151,7 @@ pub record AreRows (script : Script) (S : State) : Type 0 where
   pub tables : AreTables S.handles
   pub threads : AreThreads script S.threads
   pub duties : AreDuties S.threads S.owed
+  pub nano : AreSynchronized script S.threads S.nano
   pub lives : AreLives S
 
 pub record IsWellFormed (script : Script) (S : State) : Type 0 where

@@ -1,23 +1,24 @@
 //! What stands at boot.
 ghost use Rattle.std.specs.Prelude.{◌≡◌, ℕ, ◌+◌, ◌<◌, ◌≤◌, ◌++◌, [], ◌∷◌, codes, false, IfOk, OnOk, length, map, replicate, vec_len};
 ghost use Rattle.script_types.specs.Shape.{IsShaped};
-ghost use Rattle.machine.specs.Boot.{boot_object, born_process, new_thread, born_thread, is_of, has_any, born_threads, born, ready_from, boot_of, boot};
+ghost use Rattle.machine.specs.Boot.{boot_object, born_process, new_thread, born_thread, is_of, has_any, born_threads, born, ready_from, held_count, nano_of, boot_of, boot};
 ghost use Rattle.machine.specs.Handles.{fresh_slot};
 ghost use Rattle.machine.specs.declared.state.Role.TheVariants as role;
 
 use crate::handles::FRESH_SLOT;
-use crate::{Found, HandleSlot, Owed, Role, State, ThreadRow};
+use crate::{Found, HandleSlot, NanoRows, Owed, Role, State, ThreadRow, Waiting};
 use script_types::{Script, ThreadDecl};
 use state_rows::ObjectRow;
 use std::alloc::Global;
 use sym_base::{Items, Kind, Limits, Name, NoMemory, ObjNo, ThreadNo, read_name};
 
-/// A process or thread that stands at boot; of a thread its row, and whether it has an instruction.
+/// A process or thread that stands at boot; of a thread its row, whether it is ready, and whether it is suspended.
 #[derive(Clone, Copy)]
 pub struct Born {
     pub object: ObjectRow,
     pub thread: Option<ThreadRow>,
     pub works: bool,
+    pub held: bool,
 }
 
 /// The kernel's own process.
@@ -45,6 +46,7 @@ fn born_process(name: Name) -> Born
         object: boot_object(Kind::Process, name),
         thread: None,
         works: false,
+        held: false,
     }
 }
 
@@ -57,6 +59,7 @@ fn new_thread(process: ObjNo, role: Role, priority: u8) -> ThreadRow
         process,
         link: Some(process),
         priority,
+        waiting: Waiting::Nothing,
         next_instruction: 0,
         part: None,
         found: Found::Nothing,
@@ -72,13 +75,14 @@ fn born_thread(process: ObjNo, number: u8, declared: &ThreadDecl) -> Born
     Born {
         object: boot_object(Kind::Thread, declared.name),
         thread: Some(new_thread(process, Role::Declared(number), declared.priority)),
-        works: !declared.instrs.is_empty(),
+        works: !declared.instrs.is_empty() && !declared.held,
+        held: declared.held,
     }
 }
 
 /// The kernel's own process, and the supervisor, its one thread.
 fn born_kernel(alloc: Global) -> Result<Vec<Born>, NoMemory>
-    ensures { IfOk result (λ all. all.items ≡ born_process (codes "kernel") ∷ record { object = boot_object Kind.Thread (codes "supervisor"); thread = Some (new_thread 0 role.Supervisor 48); works = false } ∷ []) }
+    ensures { IfOk result (λ all. all.items ≡ born_process (codes "kernel") ∷ record { object = boot_object Kind.Thread (codes "supervisor"); thread = Some (new_thread 0 role.Supervisor 48); works = false; held = false } ∷ []) }
 {
     let mut all = Vec::new(alloc);
     all.push(born_process(read_name(b"kernel").unwrap()))?;
@@ -86,24 +90,26 @@ fn born_kernel(alloc: Global) -> Result<Vec<Born>, NoMemory>
         object: boot_object(Kind::Thread, read_name(b"supervisor").unwrap()),
         thread: Some(new_thread(KERNEL, Role::Supervisor, SUPERVISOR_PRIORITY)),
         works: false,
+        held: false,
     })?;
     Ok(all)
 }
 
-/// Whether a declared thread is of the process at a place among the declared ones.
-fn is_of(process: u8, of: Option<u8>) -> bool
+/// Whether a declared thread is of the process at a place among the declared ones, or, with none, a kernel thread.
+fn is_of(process: Option<u8>, of: Option<u8>) -> bool
     ensures { result ≡ is_of process of }
 {
-    match of {
-        Some(number) => number == process,
-        None => false,
+    match (process, of) {
+        (Some(process), Some(number)) => number == process,
+        (None, None) => true,
+        _ => false,
     }
 }
 
-/// Adds the threads of a process.
+/// Adds the threads of a process, or the kernel threads.
 fn push_threads(
     all: &mut Vec<Born>,
-    process: u8,
+    process: Option<u8>,
     number: ObjNo,
     threads: &[ThreadDecl],
 ) -> Result<(), NoMemory>
@@ -120,17 +126,18 @@ fn push_threads(
     Ok(())
 }
 
-/// All that stands at boot, in order of object number: the kernel's process and its supervisor, and
-/// then each process with its threads behind it.
+/// All that stands at boot, in order of object number: the kernel's process, its supervisor and the kernel
+/// threads, and then each process with its threads behind it.
 pub fn all_born(alloc: Global, script: &Script) -> Result<Items<Born>, NoMemory>
     requires { IsShaped script.now }
     ensures { IfOk result (λ all. all ≡ born script.now) }
 {
     let mut all = born_kernel(alloc)?;
+    push_threads(&mut all, None, KERNEL, script.threads.as_slice())?;
     for (j, process) in script.processes.as_slice().iter().enumerate() {
         let number = ObjNo(all.len() as u16);
         all.push(born_process(process.name))?;
-        push_threads(&mut all, j as u8, number, script.threads.as_slice())?;
+        push_threads(&mut all, Some(j as u8), number, script.threads.as_slice())?;
     }
     Ok(Items::new(all))
 }
@@ -165,7 +172,7 @@ fn no_duties(alloc: Global, all: &[Born]) -> Result<Items<Items<Owed>>, NoMemory
     Ok(Items::new(duties))
 }
 
-/// The threads that have an instruction are ready, in order of number.
+/// The threads that have an instruction and aren't held are ready, in order of number.
 fn ready_from(alloc: Global, all: &[Born]) -> Result<Items<ThreadNo>, NoMemory>
     requires { length all.now ≤ 65536 }
     ensures { IfOk result (λ ready. ready ≡ ready_from 0 all.now) }
@@ -202,11 +209,36 @@ fn threads_of(alloc: Global, all: &[Born]) -> Result<Items<Option<ThreadRow>>, N
     Ok(Items::new(threads))
 }
 
+/// The suspend count of each: a thread that is declared as held is suspended once.
+fn suspensions_of(alloc: Global, all: &[Born]) -> Result<Items<u8>, NoMemory>
+    ensures { IfOk result (λ suspensions. suspensions ≡ map held_count all.now) }
+{
+    let mut suspensions = Vec::new(alloc);
+    for born in all {
+        suspensions.push(if born.held { 1u8 } else { 0u8 })?;
+    }
+    Ok(Items::new(suspensions))
+}
+
+/// The rows of threads that synchronize: nobody has a signal, is in a critical section, or wants or holds a
+/// fast mutex.
+fn nano_of(alloc: Global, fast: u8, all: &[Born]) -> Result<NanoRows, NoMemory>
+    ensures { IfOk result (λ nano. nano ≡ nano_of fast all.now) }
+{
+    Ok(NanoRows {
+        signals: Items::new(vec![in alloc; 0u64; all.len()]?),
+        suspensions: suspensions_of(alloc, all)?,
+        sections: Items::new(vec![in alloc; 0u64; all.len()]?),
+        wants: Items::new(vec![in alloc; None; all.len()]?),
+        holders: Items::new(vec![in alloc; None; fast as usize]?),
+    })
+}
+
 /// The state in which these stand, each with an empty table and nothing that it owes.
 #[tactic(auto, unfolding(crate::specs::Boot::boot_of))]
-pub fn boot_of(alloc: Global, all: &[Born]) -> Result<State, NoMemory>
+pub fn boot_of(alloc: Global, fast: u8, all: &[Born]) -> Result<State, NoMemory>
     requires { length all.now ≤ 65536 }
-    ensures { IfOk result (λ state. state ≡ boot_of all.now) }
+    ensures { IfOk result (λ state. state ≡ boot_of fast all.now) }
 {
     Ok(State {
         objects: objects_of(alloc, all)?,
@@ -214,6 +246,7 @@ pub fn boot_of(alloc: Global, all: &[Born]) -> Result<State, NoMemory>
         threads: threads_of(alloc, all)?,
         ready: ready_from(alloc, all)?,
         owed: no_duties(alloc, all)?,
+        nano: nano_of(alloc, fast, all)?,
     })
 }
 
@@ -224,5 +257,5 @@ pub fn state_at_boot(alloc: Global, script: &Script) -> Result<State, NoMemory>
     ensures { IfOk result (λ state. state ≡ boot script.now) }
 {
     let all = all_born(alloc, script)?;
-    boot_of(alloc, all.as_slice())
+    boot_of(alloc, script.fast, all.as_slice())
 }

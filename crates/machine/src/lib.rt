@@ -8,6 +8,8 @@ mod decision;
 mod duties;
 mod handles;
 mod moves;
+mod nano_move;
+mod nano_rows;
 mod rows;
 mod state;
 mod task;
@@ -23,12 +25,17 @@ pub use handles::{
     next_instance, object_in, owner_of, slot_at,
 };
 pub use moves::{MAX_MOVES, Move, Moves};
+pub use nano_move::NanoMove;
+pub use nano_rows::{
+    critical_count, held_place, is_protected, is_thread, mutex_holder, signal_count, suspend_count,
+    wanted_mutex,
+};
 pub use rows::{first_owed, object_of, row_of, set_row, set_slot, table_of, thread_of};
-pub use state::{Found, HandleSlot, Role, State, ThreadRow};
-pub use state_rows::Owed;
+pub use state::{Found, HandleSlot, Role, State, ThreadRow, Waiting};
+pub use state_rows::{NanoRows, Owed};
 pub use task::Task;
 pub use thread_rows::{
     threads_advance, threads_closed, threads_find, threads_gain, threads_go_on, threads_lose,
-    threads_write,
+    threads_set_priority, threads_wait, threads_write,
 };
 pub use touches::{TouchedThreads, touched};

@@ -2,6 +2,7 @@
 //! a move of its own (the split is this project's own).
 ghost use Rattle.std.specs.Prelude.{◌≡◌, ◌<◌, ◌≤◌, [], ◌∷◌, ◌++◌, length};
 
+use crate::{NanoMove, Waiting};
 use arrayvec::ArrayVec;
 use entry_log::{Holder, Part};
 use state_rows::Owed;
@@ -29,6 +30,14 @@ pub enum Move {
     /// The thread goes on to its next instruction, and owes the close of its temporary reference, where it
     /// has one.
     Advance(ThreadNo),
+    /// The thread waits for this from now on.
+    Wait(ThreadNo, Waiting),
+    /// The thread's wait is over.
+    Wake(ThreadNo),
+    /// The thread gets a priority, 0 to 63.
+    SetPriority(ThreadNo, u8),
+    /// What the nanokernel keeps of a thread that synchronizes changes.
+    Nano(NanoMove),
     /// The acting thread pays this, the oldest of what it owes.
     Pay(Owed),
 }

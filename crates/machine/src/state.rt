@@ -2,7 +2,7 @@
 ghost use Rattle.std.specs.Prelude.{◌≡◌, IfOk};
 
 use entry_log::Part;
-use state_rows::{ObjectRow, Owed};
+use state_rows::{NanoRows, ObjectRow, Owed};
 use std::alloc::{AllocError, Global};
 use sym_base::{Items, ObjNo, ThreadNo};
 
@@ -32,6 +32,14 @@ pub enum Found {
     Object(ObjNo),
 }
 
+/// What a thread waits for.
+#[derive(Clone, Copy)]
+pub enum Waiting {
+    Nothing,
+    /// A signal of its fast semaphore.
+    Fast,
+}
+
 /// A thread (the chapter on threads and processes).
 #[derive(Clone, Copy)]
 pub struct ThreadRow {
@@ -42,6 +50,7 @@ pub struct ThreadRow {
     pub link: Option<ObjNo>,
     /// 0 to 63, the greatest first.
     pub priority: u8,
+    pub waiting: Waiting,
     /// The number of instructions that are behind it.
     pub next_instruction: u32,
     /// The next step of its present instruction, None before the first.
@@ -66,6 +75,8 @@ pub struct State {
     pub ready: Items<ThreadNo>,
     /// What each thread owes, in order of owing.
     pub owed: Items<Items<Owed>>,
+    /// Fast semaphores, fast mutexes, critical sections and suspension.
+    pub nano: NanoRows,
 }
 
 /// A second list of lists of the same items.
@@ -79,6 +90,19 @@ fn copied_lists<T: Copy>(alloc: Global, lists: &[Items<T>]) -> Result<Items<Item
     Ok(Items::new(copies))
 }
 
+/// The same rows of threads that synchronize, a second time.
+fn copied_nano(alloc: Global, nano: &NanoRows) -> Result<NanoRows, AllocError>
+    ensures { IfOk result (λ copy. copy ≡ nano.now) }
+{
+    Ok(NanoRows {
+        signals: nano.signals.copied(alloc)?,
+        suspensions: nano.suspensions.copied(alloc)?,
+        sections: nano.sections.copied(alloc)?,
+        wants: nano.wants.copied(alloc)?,
+        holders: nano.holders.copied(alloc)?,
+    })
+}
+
 impl State {
     /// A second state that is the same.
     pub fn copied(&self, alloc: Global) -> Result<State, AllocError>
@@ -90,6 +114,7 @@ impl State {
             threads: self.threads.copied(alloc)?,
             ready: self.ready.copied(alloc)?,
             owed: copied_lists(alloc, self.owed.as_slice())?,
+            nano: copied_nano(alloc, &self.nano)?,
         })
     }
 }

@@ -11,4 +11,6 @@ pub enum Task {
     Pay(Owed),
     /// It makes the next step of its instruction.
     Step(Instr),
+    /// At its list's end it gives up what protects it.
+    Flush,
 }

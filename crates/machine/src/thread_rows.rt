@@ -1,13 +1,13 @@
 //! Changes of threads' rows. A number without a row stays without one.
 ghost use Rattle.std.specs.Prelude.{◌≡◌, ◌<◌, Some, option_map, slice_set};
 ghost use Rattle.std.specs.List.{slice_index_or};
-ghost use Rattle.machine.specs.Moves.{with_use, unlinked, with_found, with_part, with_register, advanced, threads_gain, threads_lose, threads_closed};
+ghost use Rattle.machine.specs.Moves.{with_use, unlinked, with_found, with_part, with_register, advanced, with_waiting, with_priority, threads_gain, threads_lose, threads_closed};
 ghost use Rattle.machine.specs.Room.{MayAdvance};
 ghost use Rattle.machine.specs.Rows.{with_row};
 ghost use Rattle.machine.specs.declared.state.ThreadRow.{ThreadRow};
 
 use crate::rows::{row_of, set_row};
-use crate::{Found, ThreadRow};
+use crate::{Found, ThreadRow, Waiting};
 use entry_log::{Holder, Part};
 use sym_base::{Items, ObjNo, ThreadNo};
 
@@ -76,6 +76,25 @@ fn advanced(row: Option<ThreadRow>) -> Option<ThreadRow>
     })
 }
 
+/// The row with what it waits for.
+fn with_waiting(row: Option<ThreadRow>, what: Waiting) -> Option<ThreadRow>
+    ensures { result ≡ option_map (with_waiting what) row }
+{
+    let row = row?;
+    Some(ThreadRow {
+        waiting: what,
+        ..row
+    })
+}
+
+/// The row with another priority.
+fn with_priority(row: Option<ThreadRow>, priority: u8) -> Option<ThreadRow>
+    ensures { result ≡ option_map (with_priority priority) row }
+{
+    let row = row?;
+    Some(ThreadRow { priority, ..row })
+}
+
 /// A holder gets a reference: only a thread's temporary one stands in its row.
 pub fn threads_gain(threads: &mut Items<Option<ThreadRow>>, holder: Holder, object: ObjNo)
     ensures { threads.new ≡ threads_gain holder object threads.old }
@@ -141,5 +160,21 @@ pub fn threads_advance(threads: &mut Items<Option<ThreadRow>>, thread: ThreadNo)
     ensures { threads.new ≡ with_row threads.old thread advanced }
 {
     let row = advanced(row_of(threads, thread));
+    set_row(threads, thread, row);
+}
+
+/// The thread waits for this.
+pub fn threads_wait(threads: &mut Items<Option<ThreadRow>>, thread: ThreadNo, what: Waiting)
+    ensures { threads.new ≡ with_row threads.old thread (with_waiting what) }
+{
+    let row = with_waiting(row_of(threads, thread), what);
+    set_row(threads, thread, row);
+}
+
+/// The thread gets a priority.
+pub fn threads_set_priority(threads: &mut Items<Option<ThreadRow>>, thread: ThreadNo, priority: u8)
+    ensures { threads.new ≡ with_row threads.old thread (with_priority priority) }
+{
+    let row = with_priority(row_of(threads, thread), priority);
     set_row(threads, thread, row);
 }

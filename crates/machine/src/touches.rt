@@ -28,7 +28,12 @@ pub fn touched(thread: ThreadNo, change: Move) -> TouchedThreads
 {
     match change {
         Move::Lose(_, _) | Move::Pay(Owed::Close(_, _)) => one(thread),
-        Move::GoOn(other, _) | Move::Advance(other) => one(other),
+        Move::GoOn(other, _)
+        | Move::Advance(other)
+        | Move::Wait(other, _)
+        | Move::Wake(other)
+        | Move::SetPriority(other, _) => one(other),
+        Move::Nano(change) => one(change.thread()),
         Move::Pay(Owed::Sweep(object)) => TouchedThreads {
             first: Some(thread),
             second: Some(object),

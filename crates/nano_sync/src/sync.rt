@@ -2,8 +2,8 @@
 ghost use Rattle.std.specs.Prelude.{◌≡◌, ◌≢◌, ℕ, ◌-◌, true, false, ◌<◌, ◌≤◌, ◌↔◌, not, ◌==◌, None, length, IfOk, IfSome};
 ghost use Rattle.std.specs.Option.{ForSome};
 ghost use Rattle.sym_base.specs.declared.number.ObjNo.{ObjNo};
-ghost use Rattle.nano_sync.specs.NanoRows.{signal_count, suspend_count, critical_count, want_of, holder_of, is_thread, is_free, is_holder, held_by, is_protected};
-ghost use Rattle.nano_sync.specs.Calls.{new_rows, after_take, after_give, after_enter, after_leave, after_signal, after_wait, after_suspend, after_resume, after_want};
+ghost use Rattle.state_rows.specs.Nano.{signal_count, suspend_count, critical_count, want_of, holder_of, is_thread, is_free, is_holder, held_by, is_protected};
+ghost use Rattle.state_rows.specs.NanoChanges.{new_rows, after_take, after_give, after_enter, after_leave, after_signal, after_wait, after_suspend, after_resume, after_want, one_more};
 
 use std::alloc::Global;
 use std::marker::Model;
@@ -27,14 +27,14 @@ pub struct NanoSync {
 }
 
 impl Model for NanoSync {
-    ghost use Rattle.nano_sync.specs.NanoRows.{NanoRows};
-    ghost use Rattle.nano_sync.specs.Sound.{IsSound};
+    ghost use Rattle.state_rows.specs.declared.nano.NanoRows.{NanoRows};
+    ghost use Rattle.state_rows.specs.NanoSound.{AreNanoRows};
 
     ghost Value = { NanoRows };
 
     ghost view = { λ a. record { signals = a.signals.items; suspensions = a.suspensions.items; sections = a.sections.items; wants = a.wants.items; holders = a.holders.items } };
 
-    ghost invariant = { λ a. IsSound (record { signals = a.signals.items; suspensions = a.suspensions.items; sections = a.sections.items; wants = a.wants.items; holders = a.holders.items }) };
+    ghost invariant = { λ a. AreNanoRows (record { signals = a.signals.items; suspensions = a.suspensions.items; sections = a.sections.items; wants = a.wants.items; holders = a.holders.items }) };
 }
 
 impl NanoSync {
@@ -142,13 +142,12 @@ impl NanoSync {
         self.wants[t.0 as usize]
     }
 
-    /// Takes a thread into one critical section more.
+    /// Takes a thread into one critical section more. A count at the end of its 64 bits stays there.
     pub fn enter(&mut self, t: ThreadNo)
-        requires thread { t.0 < length self.old.signals }
-        requires room { critical_count self.old t < 18446744073709551615 }
+        requires { t.0 < length self.old.signals }
         ensures { self.new ≡ after_enter self.old t }
     {
-        self.sections[t.0 as usize] += 1;
+        raise(&mut self.sections[t.0 as usize]);
     }
 
     /// Takes a thread out of a critical section. False exactly where it is in none, and then nothing
@@ -179,13 +178,12 @@ impl NanoSync {
         self.held(t).is_some() || self.sections[t.0 as usize] != 0
     }
 
-    /// Adds a signal to a thread's fast semaphore.
+    /// Adds a signal to a thread's fast semaphore. A count at the end of its 64 bits stays there.
     pub fn signal(&mut self, t: ThreadNo)
-        requires thread { t.0 < length self.old.signals }
-        requires room { signal_count self.old t < 18446744073709551615 }
+        requires { t.0 < length self.old.signals }
         ensures { self.new ≡ after_signal self.old t }
     {
-        self.signals[t.0 as usize] += 1;
+        raise(&mut self.signals[t.0 as usize]);
     }
 
     /// Takes a signal from a thread's fast semaphore. False exactly where none is there, and then nothing
@@ -264,6 +262,13 @@ fn is_thread(holder: Option<ThreadNo>, t: ThreadNo) -> bool
         Some(holder) => holder == t,
         None => false,
     }
+}
+
+/// Adds one to a count. At its end it stays.
+fn raise(count: &mut u64)
+    ensures { count.new ≡ one_more count.old }
+{
+    *count = count.saturating_add(1);
 }
 
 /// Takes one off a count. False exactly where it is 0, and then it stays.

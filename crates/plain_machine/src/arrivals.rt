@@ -1,10 +1,10 @@
 //! The ready list along the moves of an action.
 ghost use Rattle.std.specs.Prelude.{◌≡◌, IfOk, OnOk, filter};
-ghost use Rattle.machine.specs.Arrivals.{is_listed, unlisted, one_of, threads_of, arrive};
+ghost use Rattle.machine.specs.Arrivals.{is_listed, unlisted, taken_out, one_of, threads_of, arrive};
 ghost use Rattle.machine.specs.Task.{is_ready};
 
 use decisions::is_ready;
-use machine::{State, TouchedThreads};
+use machine::{Move, State, TouchedThreads};
 use script_types::Script;
 use std::alloc::Global;
 use sym_base::{Items, NoMemory, ThreadNo};
@@ -32,6 +32,16 @@ pub fn unlisted(
         rest.push(*other)?;
     }
     Ok(rest)
+}
+
+/// A thread whose priority a move sets leaves the list first, and so arrives anew.
+pub fn take_out(alloc: Global, change: Move, list: &mut Items<ThreadNo>) -> Result<(), NoMemory>
+    ensures { OnOk result (list.new ≡ taken_out change list.old) }
+{
+    if let Move::SetPriority(thread, _) = change {
+        *list = Items::new(unlisted(alloc, thread, list.as_slice())?);
+    }
+    Ok(())
 }
 
 /// A thread comes behind the others, where it is ready and doesn't stand in the list.

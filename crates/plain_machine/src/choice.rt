@@ -1,8 +1,9 @@
 //! The choice of the next actor.
 ghost use Rattle.std.specs.Prelude.{◌≡◌};
-ghost use Rattle.machine.specs.Choice.{priority_of, first_ready, chosen};
+ghost use Rattle.machine.specs.Choice.{priority_of, first_ready, in_place_of, chosen};
 ghost use Rattle.plain_machine.specs.BestSoFar.{better};
 
+use decisions::wanted_holder;
 use entry_log::Actor;
 use machine::{State, thread_of};
 use sym_base::ThreadNo;
@@ -39,12 +40,22 @@ pub fn first_ready(state: &State) -> Option<ThreadNo>
     best
 }
 
-/// That thread, or nobody.
+/// Who acts in a thread's place: the holder of the fast mutex that it wants, or the thread itself.
+fn in_place_of(state: &State, thread: ThreadNo) -> ThreadNo
+    ensures { result ≡ in_place_of state.now thread }
+{
+    match wanted_holder(state, thread) {
+        Some(holder) => holder,
+        None => thread,
+    }
+}
+
+/// Who acts next, or nobody.
 pub fn chosen(state: &State) -> Actor
     ensures { result ≡ chosen state.now }
 {
     match first_ready(state) {
-        Some(thread) => Actor::Thread(thread),
+        Some(thread) => Actor::Thread(in_place_of(state, thread)),
         None => Actor::Idle,
     }
 }

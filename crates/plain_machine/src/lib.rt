@@ -4,6 +4,7 @@
 mod arrivals;
 mod choice;
 mod final_rows;
+mod nano;
 mod perform;
 mod plain;
 mod tick;

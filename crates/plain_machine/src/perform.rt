@@ -1,14 +1,17 @@
 //! The moves of an action, made on the plain machine's lists.
 ghost use Rattle.std.specs.Prelude.{◌≡◌, ◌+◌, ◌≤◌, length, OnOk};
+ghost use Rattle.decisions.specs.Readable.{AreSmallRows};
 ghost use Rattle.machine.specs.Handles.{taken_slot, freed_slot, with_slot};
 ghost use Rattle.machine.specs.Moves.{tables_gain, threads_gain, tables_lose, threads_lose, link_of, use_of, objects_closed, moved};
 ghost use Rattle.machine.specs.Room.{HasRoom, AreSmallTables};
 
+use crate::nano::make_nano_move;
 use entry_log::Holder;
 use machine::{
-    HandleSlot, Move, Owed, State, drop_first_owed, is_last, next_instance, object_of, owe_close,
-    owe_use, set_row, set_slot, slot_at, table_of, thread_of, threads_advance, threads_closed,
-    threads_find, threads_gain, threads_go_on, threads_lose, threads_write,
+    HandleSlot, Move, Owed, State, Waiting, drop_first_owed, is_last, next_instance, object_of,
+    owe_close, owe_use, set_row, set_slot, slot_at, table_of, thread_of, threads_advance,
+    threads_closed, threads_find, threads_gain, threads_go_on, threads_lose, threads_set_priority,
+    threads_wait, threads_write,
 };
 use state_rows::{ObjectRow, dead_row};
 use sym_base::{Kind, Name, NoMemory, ObjNo, ThreadNo};
@@ -169,33 +172,44 @@ fn pay(state: &mut State, thread: ThreadNo, what: Owed) -> Result<(), NoMemory>
     }
 }
 
+/// A holder gets a reference.
+fn gain(state: &mut State, thread: ThreadNo, holder: Holder, object: ObjNo)
+    requires { AreSmallTables state.old.handles }
+    ensures { state.new ≡ moved thread (Move.Gain holder object) state.old }
+{
+    gain_slot(state, holder, object);
+    threads_gain(&mut state.threads, holder, object);
+}
+
 /// One move in an action of a thread.
 pub fn make_move(state: &mut State, thread: ThreadNo, change: Move) -> Result<(), NoMemory>
-    requires { HasRoom 1 state.old }
+    requires room { HasRoom 1 state.old }
+    requires small { AreSmallRows state.old.nano }
     ensures { OnOk result (state.new ≡ moved thread change state.old) }
 {
     match change {
-        Move::Make(kind, name, holder) => make(state, thread, kind, name, holder),
-        Move::Lose(holder, object) => lose(state, thread, holder, object),
-        Move::Advance(other) => advance(state, thread, other),
-        Move::Pay(what) => pay(state, thread, what),
-        Move::Gain(holder, object) => {
-            gain_slot(state, holder, object);
-            threads_gain(&mut state.threads, holder, object);
-            Ok(())
-        }
-        Move::Find(other, object) => {
-            threads_find(&mut state.threads, other, object);
-            Ok(())
-        }
-        Move::Miss(_) => Ok(()),
-        Move::GoOn(other, part) => {
-            threads_go_on(&mut state.threads, other, part);
-            Ok(())
-        }
-        Move::Write(other, register, value) => {
-            threads_write(&mut state.threads, other, register, value);
-            Ok(())
-        }
+        Move::Make(kind, name, holder) => return make(state, thread, kind, name, holder),
+        Move::Lose(holder, object) => return lose(state, thread, holder, object),
+        Move::Advance(other) => return advance(state, thread, other),
+        Move::Pay(what) => return pay(state, thread, what),
+        Move::Gain(holder, object) => gain(state, thread, holder, object),
+        Move::Miss(_) => {}
+        Move::Find(other, object) => threads_find(&mut state.threads, other, object),
+        Move::GoOn(other, part) => threads_go_on(&mut state.threads, other, part),
+        Move::Write(other, register, value) => threads_write(
+            &mut state.threads,
+            other,
+            register,
+            value,
+        ),
+        Move::Wait(other, what) => threads_wait(&mut state.threads, other, what),
+        Move::Wake(other) => threads_wait(&mut state.threads, other, Waiting::Nothing),
+        Move::SetPriority(other, priority) => threads_set_priority(
+            &mut state.threads,
+            other,
+            priority,
+        ),
+        Move::Nano(change) => make_nano_move(&mut state.nano, change),
     }
+    Ok(())
 }

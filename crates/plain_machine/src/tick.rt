@@ -1,10 +1,11 @@
 //! `tick`: a time slice ends.
 ghost use Rattle.std.specs.Prelude.{◌≡◌, IfOk};
-ghost use Rattle.machine.specs.Tick.{moved_behind, tick};
+ghost use Rattle.machine.specs.Tick.{moved_behind, turned, tick};
 ghost use Rattle.machine.specs.Transition.{left};
 
 use crate::arrivals::unlisted;
 use crate::choice::first_ready;
+use decisions::Reads;
 use entry_log::{Effects, Step};
 use machine::{Outcome, State};
 use std::alloc::Global;
@@ -26,12 +27,25 @@ fn moved_behind(
     Ok(Items::new(next))
 }
 
-/// The thread that would act next goes behind its equals.
+/// The thread whose turn ends: one that holds a fast mutex is spared.
+fn turned(state: &State, first: Option<ThreadNo>) -> Option<ThreadNo>
+    ensures { result ≡ turned state.now.nano first }
+{
+    let first = first?;
+    if state.is_holding(first) {
+        None
+    } else {
+        Some(first)
+    }
+}
+
+/// The ready thread of greatest priority that has been ready longest goes behind its equals, unless it holds
+/// a fast mutex.
 #[tactic(auto, unfolding(machine::specs::Tick::tick))]
 pub fn tick(alloc: Global, state: &mut State) -> Result<Outcome, NoMemory>
     ensures { IfOk result (λ outcome. left state.new outcome ≡ tick state.old) }
 {
-    let first = first_ready(state);
+    let first = turned(state, first_ready(state));
     state.ready = moved_behind(alloc, state.ready.as_slice(), first)?;
     Ok(Outcome {
         step: Step::Turn,

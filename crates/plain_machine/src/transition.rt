@@ -1,14 +1,16 @@
 //! Actions on the plain machine's lists.
 ghost use Rattle.std.specs.Prelude.{◌≡◌, ◌≤◌, length, IfOk, List};
 ghost use Rattle.script_types.specs.Shape.{IsShaped};
+ghost use Rattle.decisions.specs.Readable.{AreSmallRows};
 ghost use Rattle.machine.specs.History.{transition};
 ghost use Rattle.machine.specs.Moves.{perform, tell};
 ghost use Rattle.machine.specs.Arrivals.{ready_after};
 ghost use Rattle.machine.specs.Room.{HasRoom};
 ghost use Rattle.machine.specs.Steps.{decision_of};
+ghost use Rattle.sym_base.specs.declared.number.ObjNo.{ObjNo};
 ghost use Rattle.machine.specs.Transition.{idle, act, carried_out, left};
 
-use crate::arrivals::{arrive_touched, still_ready};
+use crate::arrivals::{arrive_touched, still_ready, take_out};
 use crate::perform::make_move;
 use crate::tick::tick;
 use decisions::{add_effects, decision_of, told};
@@ -28,6 +30,7 @@ fn perform(
     moves: &[Move],
 ) -> Result<Effects, NoMemory>
     requires room { HasRoom (length moves.now) state.old }
+    requires small { AreSmallRows state.old.nano }
     requires few { length (tell thread moves.now state.old) ≤ 4 }
     ensures effects { IfOk result (λ effects. effects ≡ tell thread moves.now state.old) }
     ensures state { IfOk result (λ effects. state.new ≡ record (perform thread moves.now state.old) { ready = ready_after script.now thread moves.now state.old }) }
@@ -38,6 +41,7 @@ fn perform(
         let more = told(state, *change);
         add_effects(&mut effects, more.as_slice());
         make_move(state, thread, *change)?;
+        take_out(alloc, *change, &mut ready)?;
         arrive_touched(script, state, touched(thread, *change), &mut ready)?;
     }
     state.ready = still_ready(alloc, script, state, ready.as_slice())?;
@@ -53,6 +57,7 @@ fn carry_out(
     decision: Decision,
 ) -> Result<Outcome, NoMemory>
     requires room { HasRoom 8 state.old }
+    requires small { AreSmallRows state.old.nano }
     requires few { length (tell thread decision.moves state.old) ≤ 4 }
     ensures { IfOk result (λ outcome. left state.new outcome ≡ carried_out script.now thread state.old decision) }
 {
@@ -81,7 +86,7 @@ fn idle(state: &State) -> Outcome
 }
 
 /// An action of a thread.
-#[tactic(auto, unfolding(machine::specs::Transition::act), using(machine::proofs::Numbers::FewEffects::few_effects))]
+#[tactic(auto, unfolding(machine::specs::Transition::act))]
 fn act(
     alloc: Global,
     script: &Script,
@@ -90,6 +95,8 @@ fn act(
 ) -> Result<Outcome, NoMemory>
     requires shaped { IsShaped script.now }
     requires room { HasRoom 8 state.old }
+    requires small { AreSmallRows state.old.nano }
+    requires few { length (tell thread (decision_of script.now state.old thread).moves state.old) ≤ 4 }
     ensures { IfOk result (λ outcome. left state.new outcome ≡ act script.now state.old thread) }
 {
     let decision = decision_of(script, state, thread);
@@ -105,6 +112,8 @@ pub fn transition(
 ) -> Result<Outcome, NoMemory>
     requires shaped { IsShaped script.now }
     requires room { HasRoom 8 state.old }
+    requires small { AreSmallRows state.old.nano }
+    requires few { (t : ObjNo) → length (tell t (decision_of script.now state.old t).moves state.old) ≤ 4 }
     ensures { IfOk result (λ outcome. left state.new outcome ≡ transition script.now state.old actor) }
 {
     match actor {

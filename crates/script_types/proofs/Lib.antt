@@ -1,3 +1,4 @@
+pub mod LimitLaws
 pub mod NameLaws
 pub mod NewNames
 pub mod NumberLaws

@@ -33,7 +33,7 @@ use Rattle.script_types.specs.declared.source_line.SourceLine.{SourceLine}
 use Rattle.script_types.specs.declared.source_line.SourceLine.TheVariants as line
 use Rattle.sym_base.specs.WordText.{word_text}
 use Rattle.script_types.proofs.NumberLaws.{all_push, instr_push}
-use Rattle.script_types.proofs.ShapeLaws.{IsSound, both, or_true, in_form, number_in, earlier, sound-after, sound-start}
+use Rattle.script_types.proofs.LimitLaws.{IsSound, both, or_true, in_form, number_in, earlier, sound-after, sound-start}
 
 -- what lines declare
 abbrev twos : List SourceLine → List Declared

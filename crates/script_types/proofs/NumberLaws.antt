@@ -21,7 +21,7 @@ use Rattle.script_types.specs.declared.operand.BodyKind.TheVariants as body
 use Rattle.script_types.specs.declared.script.Script.{Script}
 use Rattle.script_types.specs.declared.source_line.SourceLine.{SourceLine}
 use Rattle.script_types.specs.declared.source_line.SourceLine.TheVariants as line
-use Rattle.script_types.proofs.ShapeLaws.{both, in_form, number_in, kernel_priority, thread_priority}
+use Rattle.script_types.proofs.LimitLaws.{both, in_form, number_in, kernel_priority, thread_priority}
 
 -- one item more
 pub all_push : {A : Type 0} (test : A → Bool) (xs : List A) (x : A) → list_all test xs ≡ true → test x ≡ true → list_all test (xs ++ x ∷ []) ≡ true

@@ -16,7 +16,7 @@ use Rattle.script_types.specs.declared.source_line.LineKind.{LineKind}
 use Rattle.script_types.specs.declared.source_line.LineKind.TheVariants as of
 use Rattle.script_types.specs.declared.source_line.SourceLine.{SourceLine}
 use Rattle.script_types.specs.declared.source_line.SourceLine.TheVariants as line
-use Rattle.script_types.proofs.ShapeLaws.{IsSound, sound-after, sound-start, thread_needs}
+use Rattle.script_types.proofs.LimitLaws.{IsSound, sound-after, sound-start, thread_needs}
 
 -- threads of processes whose numbers don't fall, from one number on and below another
 abbrev pub AreInOrder : ℕ → ℕ → List ThreadDecl → Type 0

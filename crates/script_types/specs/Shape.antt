@@ -1,6 +1,7 @@
 -- What holds of every valid script, whichever forms of line the grammar has: the kernel's tables have
 -- room for it, and what it names by number is there.
 use Rattle.std.specs.Prelude.{◌≡◌, ℕ, ◌+◌, ◌<◌, ◌≤◌, ⊤, Some, length, slice_get}
+use Rattle.script_types.specs.Resolves.{DoNamesResolve, AreNumbersInRange}
 use Rattle.script_types.specs.declared.declaration.ThreadDecl.{ThreadDecl}
 use Rattle.script_types.specs.declared.instruction.Instr.{Instr}
 use Rattle.script_types.specs.declared.instruction.Instr.TheVariants as instr
@@ -45,9 +46,11 @@ pub record IsShapedThread (processes : ℕ) (thread : ThreadDecl) : Type 0 where
   pub size : length thread.instrs ≤ 16384
 
 -- a script: at most 16 processes, at most 64 threads with the supervisor and those of the queues, and
--- at most 65,536 slots
+-- at most 65,536 slots; what it names is declared, and its numbers are in their ranges
 pub record IsShaped (script : Script) : Type 0 where
   pub processes : length script.processes ≤ 16
   pub count : length script.threads + length script.queues ≤ 63
   pub threads : (k : ℕ) (thread : ThreadDecl) → slice_get script.threads k ≡ Some thread → IsShapedThread (length script.processes) thread
   pub slots : length script.slots ≤ 65536
+  pub names : DoNamesResolve script
+  pub numbers : AreNumbersInRange script

@@ -1,1 +1,4 @@
+pub mod Nano
+pub mod NanoChanges
+pub mod NanoSound
 pub mod ObjectRows

@@ -2,7 +2,9 @@
 #![tactic(auto)]
 
 mod duty;
+mod nano;
 mod object;
 
 pub use duty::{Held, Owed};
+pub use nano::NanoRows;
 pub use object::{MAX_OBJECTS, ObjectRow, dead_row, has_name, is_dead_row, is_session};

@@ -1,9 +1,9 @@
 use Rattle.std.proofs.Common.{◌≡◌, ◌<◌, true, length, sym, ◌∙◌}
 use Rattle.std.specs.Prelude.{None}
 use Rattle.std.proofs.lemmas.List.{get_or_read}
-use Rattle.nano_sync.specs.NanoRows.{is_thread}
-use Rattle.nano_sync.proofs.HeldMutexes.{held_by-give}
-use Rattle.nano_sync.proofs.Soundness.{is_thread-true}
+use Rattle.state_rows.specs.Nano.{is_thread}
+use Rattle.state_rows.proofs.HeldMutexes.{held_by-give}
+use Rattle.state_rows.proofs.Soundness.{is_thread-true}
 use Rattle.nano_sync.proofs.sync.NanoSync.give.Goals as goal
 
 pub returns-clause-own : goal.returns-clause-own

@@ -1,7 +1,7 @@
 use Rattle.std.proofs.Common.{rules, tests, sym, ◌∙◌}
 use Rattle.std.proofs.lemmas.Iterator.{YieldsList-from_slice}
 use Rattle.std.proofs.lemmas.Iterator.Search.{position_from_yields_List}
-use Rattle.nano_sync.specs.NanoRows.{is_thread}
+use Rattle.state_rows.specs.Nano.{is_thread}
 use Rattle.nano_sync.proofs.sync.NanoSync.held.Goals as goal
 
 pub returns-in_err-place-clause-held : goal.returns-in_err-place-clause-held

@@ -1,7 +1,7 @@
 use Rattle.std.proofs.Common.{◌≡◌, ℕ, replicate, rules, arith}
 use Rattle.std.specs.Prelude.{Option, None}
 use Rattle.sym_base.specs.declared.number.ObjNo.{ObjNo}
-use Rattle.nano_sync.proofs.Soundness.{sound_new}
+use Rattle.state_rows.proofs.Soundness.{sound_new}
 use Rattle.nano_sync.proofs.sync.NanoSync.new.Goals as goal
 
 pub invariant_of-result : goal.invariant_of-result

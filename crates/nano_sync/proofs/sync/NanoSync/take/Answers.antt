@@ -1,6 +1,6 @@
 use Rattle.nano_sync.specs.contracts.sync.NanoSync.{the_view}
-use Rattle.nano_sync.proofs.HeldMutexes.{held_by-take}
-use Rattle.nano_sync.proofs.Soundness.{sound_taken}
+use Rattle.state_rows.proofs.HeldMutexes.{held_by-take}
+use Rattle.state_rows.proofs.Soundness.{sound_taken}
 use Rattle.nano_sync.proofs.sync.NanoSync.take.Goals as goal
 
 pub invariant_of-self-2 : goal.invariant_of-self-2

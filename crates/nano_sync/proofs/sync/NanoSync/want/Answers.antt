@@ -1,7 +1,7 @@
 use Rattle.std.proofs.Common.{◌<◌, length, sym, ◌∙◌, arith}
 use Rattle.std.specs.Prelude.{None}
 use Rattle.std.proofs.lemmas.List.{get_or_read}
-use Rattle.nano_sync.proofs.Soundness.{if_some}
+use Rattle.state_rows.proofs.Soundness.{if_some}
 use Rattle.nano_sync.proofs.sync.NanoSync.want.Goals as goal
 
 pub returns-clause-known : goal.returns-clause-known

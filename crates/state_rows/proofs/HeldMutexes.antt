@@ -6,9 +6,10 @@ use Rattle.std.proofs.lemmas.Bool.{cases_Bool, cases_eq, lt-ltb, le-ltb}
 use Rattle.std.proofs.lemmas.List.Folds.{position_or_len-set}
 use Rattle.std.proofs.lemmas.List.Sums.{position_or_len_is}
 use Rattle.sym_base.specs.declared.number.ObjNo.{ObjNo}
-use Rattle.nano_sync.specs.NanoRows.{NanoRows, is_thread, holder_of, held_by}
-use Rattle.nano_sync.specs.Sound.{IsSound}
-use Rattle.nano_sync.proofs.Soundness.{is_thread-own, is_thread-true, held_none}
+use Rattle.state_rows.specs.declared.nano.NanoRows.{NanoRows}
+use Rattle.state_rows.specs.Nano.{is_thread, holder_of, held_by}
+use Rattle.state_rows.specs.NanoSound.{AreNanoRows}
+use Rattle.state_rows.proofs.Soundness.{is_thread-own, is_thread-true, held_none}
 
 -- what isn't the holder fails the test
 not_holder : (t : ObjNo) (holder : Option ObjNo) → (holder ≡ Some t → ⊥) → is_thread t holder ≡ false
@@ -36,7 +37,7 @@ held_by-take r t f inside none =
     rw (first, within) refl
 
 -- the thread that gives its fast mutex holds none
-pub held_by-give : (r : NanoRows) (t : ObjNo) (f : ℕ) → IsSound r → f < length r.holders → holder_of r f ≡ Some t → held_by (record r { holders = set r.holders f None }) t ≡ None
+pub held_by-give : (r : NanoRows) (t : ObjNo) (f : ℕ) → AreNanoRows r → f < length r.holders → holder_of r f ≡ Some t → held_by (record r { holders = set r.holders f None }) t ≡ None
 held_by-give r t f sound inside holds =
     let nobody : Option ObjNo = None in
     let after = set r.holders f nobody in

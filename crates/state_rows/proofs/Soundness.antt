@@ -6,9 +6,10 @@ use Rattle.std.proofs.lemmas.Bool.{cases_eq, cases_lt, eqb-true, eq-eqb, lt-ltb}
 use Rattle.std.proofs.lemmas.List.{get_or_past, get_or-replicate, length-replicate}
 use Rattle.std.proofs.lemmas.List.Sums.{fails_before_first}
 use Rattle.sym_base.specs.declared.number.ObjNo.{ObjNo}
-use Rattle.nano_sync.specs.NanoRows.{NanoRows, is_thread, holder_of, held_by}
-use Rattle.nano_sync.specs.Calls.{new_rows}
-use Rattle.nano_sync.specs.Sound.{IsSound}
+use Rattle.state_rows.specs.declared.nano.NanoRows.{NanoRows}
+use Rattle.state_rows.specs.Nano.{is_thread, holder_of, held_by}
+use Rattle.state_rows.specs.NanoChanges.{new_rows}
+use Rattle.state_rows.specs.NanoSound.{AreNanoRows}
 
 -- a thread is the holder that it is
 pub is_thread-own : (t : ObjNo) → is_thread t (Some t) ≡ true
@@ -41,7 +42,7 @@ zero_anywhere n k = elim (cases_lt k n) [
 ]
 
 -- a new table
-pub sound_new : (threads fast : ℕ) → fast < 256 → IsSound (new_rows threads fast)
+pub sound_new : (threads fast : ℕ) → fast < 256 → AreNanoRows (new_rows threads fast)
 sound_new threads fast small =
     let nobody : Option ObjNo = None in
     let nothing : Option ℕ = None in
@@ -72,7 +73,7 @@ held_none r t f none is = elim (cases_lt f (length r.holders)) [
 ]
 
 -- a thread that holds none takes a fast mutex
-pub sound_taken : (r : NanoRows) (t : ObjNo) (f : ℕ) → IsSound r → t.0 < length r.signals → f < length r.holders → held_by r t ≡ None → IsSound (record r { holders = set r.holders f (Some t) })
+pub sound_taken : (r : NanoRows) (t : ObjNo) (f : ℕ) → AreNanoRows r → t.0 < length r.signals → f < length r.holders → held_by r t ≡ None → AreNanoRows (record r { holders = set r.holders f (Some t) })
 sound_taken r t f sound known inside none = record {
   suspensions_sized = sound.suspensions_sized;
   sections_sized = sound.sections_sized;

@@ -1,15 +1,7 @@
--- What the nanokernel keeps of threads that synchronize, as lists.
+-- Reading the rows of threads that synchronize.
 use Rattle.std.specs.Prelude.{ℕ, Bool, false, not, ◌==◌, ◌||◌, List, Option, Some, None, is_some, is_none, position, slice_index, slice_index_or}
 use Rattle.sym_base.specs.declared.number.ObjNo.{ObjNo}
-
--- of each thread the signals of its fast semaphore, its suspend count, its critical count, and the fast
--- mutex that it wants; of each fast mutex its holder
-pub record NanoRows : Type 0 where
-  pub signals : List ℕ
-  pub suspensions : List ℕ
-  pub sections : List ℕ
-  pub wants : List (Option ℕ)
-  pub holders : List (Option ObjNo)
+use Rattle.state_rows.specs.declared.nano.NanoRows.{NanoRows}
 
 -- how many signals wait at a thread's fast semaphore
 abbrev pub signal_count : NanoRows → ObjNo → ℕ

@@ -1,7 +1,8 @@
--- What each call leaves, one equation a call.
+-- How the rows of threads that synchronize change, one equation a change.
 use Rattle.std.specs.Prelude.{ℕ, ◌+◌, ◌-◌, ◌==◌, if◌then◌else◌, Option, Some, None, replicate, slice_set}
 use Rattle.sym_base.specs.declared.number.ObjNo.{ObjNo}
-use Rattle.nano_sync.specs.NanoRows.{NanoRows, signal_count, suspend_count, critical_count, is_free, is_holder}
+use Rattle.state_rows.specs.declared.nano.NanoRows.{NanoRows}
+use Rattle.state_rows.specs.Nano.{signal_count, suspend_count, critical_count, is_free, is_holder}
 
 -- so many threads and fast mutexes: every count is 0, nobody wants a fast mutex, and nobody holds one
 abbrev pub new_rows : ℕ → ℕ → NanoRows
@@ -15,17 +16,25 @@ after_take r t f = record r { holders = if is_free r f then slice_set r.holders 
 abbrev pub after_give : NanoRows → ObjNo → ℕ → NanoRows
 after_give r t f = record r { holders = if is_holder r t f then slice_set r.holders f None else r.holders }
 
+-- a count that rises stands still at the end of its 64 bits
+abbrev pub one_more : ℕ → ℕ
+one_more n = if n == 18446744073709551615 then n else n + 1
+
 -- the thread is in one critical section more
 abbrev pub after_enter : NanoRows → ObjNo → NanoRows
-after_enter r t = record r { sections = slice_set r.sections t.0 (critical_count r t + 1) }
+after_enter r t = record r { sections = slice_set r.sections t.0 (one_more (critical_count r t)) }
 
 -- the thread is in one critical section less, and in none where it was in none
 abbrev pub after_leave : NanoRows → ObjNo → NanoRows
 after_leave r t = record r { sections = slice_set r.sections t.0 (critical_count r t - 1) }
 
+-- the thread is in no critical section
+abbrev pub after_leave_all : NanoRows → ObjNo → NanoRows
+after_leave_all r t = record r { sections = slice_set r.sections t.0 0 }
+
 -- one signal more
 abbrev pub after_signal : NanoRows → ObjNo → NanoRows
-after_signal r t = record r { signals = slice_set r.signals t.0 (signal_count r t + 1) }
+after_signal r t = record r { signals = slice_set r.signals t.0 (one_more (signal_count r t)) }
 
 -- one signal less, and none where there was none
 abbrev pub after_wait : NanoRows → ObjNo → NanoRows

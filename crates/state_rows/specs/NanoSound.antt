@@ -1,11 +1,12 @@
--- What the table of synchronizing threads keeps.
+-- What holds of the rows of threads that synchronize.
 use Rattle.std.specs.Prelude.{◌≡◌, ℕ, ◌<◌, ◌≤◌, Some, length}
 use Rattle.sym_base.specs.declared.number.ObjNo.{ObjNo}
-use Rattle.nano_sync.specs.NanoRows.{NanoRows, suspend_count, want_of, holder_of}
+use Rattle.state_rows.specs.declared.nano.NanoRows.{NanoRows}
+use Rattle.state_rows.specs.Nano.{suspend_count, want_of, holder_of}
 
 -- every thread has each of its rows; there are fewer than 256 fast mutexes, which a wanted one is among,
 -- as a holder is among the threads; a suspend count is at most 127; and no thread holds two fast mutexes
-pub record IsSound (r : NanoRows) : Type 0 where
+pub record AreNanoRows (r : NanoRows) : Type 0 where
   pub suspensions_sized : length r.suspensions ≡ length r.signals
   pub sections_sized : length r.sections ≡ length r.signals
   pub wants_sized : length r.wants ≡ length r.signals

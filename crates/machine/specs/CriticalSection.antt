@@ -1,0 +1,34 @@
+-- `enter` and `leave`: critical sections, in which a thread isn't stopped; and what a thread at its list's end does
+-- that is protected.
+use Rattle.std.specs.Prelude.{ℕ, pos, ◌==◌, if◌then◌else◌, List, [], ◌∷◌, ◌++◌, Option, Some, None}
+use Rattle.sym_base.specs.declared.error.Error.TheVariants.{General}
+use Rattle.sym_base.specs.declared.number.ObjNo.{ObjNo}
+use Rattle.sym_base.specs.declared.word.Word.TheVariants as word
+use Rattle.entry_log.specs.declared.step.Step.TheVariants as step
+use Rattle.entry_log.specs.declared.step.Part.TheVariants.{Do}
+use Rattle.state_rows.specs.Nano.{critical_count, held_by}
+use Rattle.machine.specs.declared.decision.Decision.{Decision}
+use Rattle.machine.specs.declared.moves.Move.{Move}
+use Rattle.machine.specs.declared.moves.Move.TheVariants.{Nano}
+use Rattle.machine.specs.declared.nano_move.NanoMove.TheVariants.{Give, Enter, Leave, LeaveAll}
+use Rattle.machine.specs.declared.state.State.{State}
+use Rattle.machine.specs.Decide.{answer, refuse}
+
+-- one critical section more
+abbrev pub enter_do : ObjNo → Decision
+enter_do t = answer t (step.Of word.Enter Do) (Nano (Enter t) ∷ []) (pos 0)
+
+-- in none: a general error; else one less
+abbrev pub leave_do : State → ObjNo → Decision
+leave_do S t =
+    if critical_count S.nano t == 0 then refuse t (step.Of word.Leave Do) General
+    else answer t (step.Of word.Leave Do) (Nano (Leave t) ∷ []) (pos 0)
+
+-- the fast mutex goes that the thread holds, if there is one
+abbrev pub give_held : ObjNo → Option ℕ → List Move
+give_held t None = []
+give_held t (Some f) = Nano (Give t f) ∷ []
+
+-- at its list's end a thread gives up what protects it
+abbrev pub flush : State → ObjNo → Decision
+flush S t = record { step = step.Flush; moves = give_held t (held_by S.nano t) ++ Nano (LeaveAll t) ∷ []; answer = None }
