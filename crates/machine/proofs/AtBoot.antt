@@ -3,5 +3,7 @@ pub mod BootCounts
 pub mod BootHolders
 pub mod BootLinks
 pub mod BootNames
+pub mod BootNano
 pub mod BootReady
 pub mod BootRows
+pub mod NamesApart

@@ -2,5 +2,6 @@
 pub mod Living
 pub mod Stepping
 pub mod Shared
+pub mod KernelThreads
 pub mod Steps
 pub mod Actions

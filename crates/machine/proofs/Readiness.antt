@@ -2,4 +2,5 @@
 pub mod ReadyLists
 pub mod Touched
 pub mod FirstReady
+pub mod ReadyHolders
 pub mod ReadyActions

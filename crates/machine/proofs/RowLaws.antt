@@ -2,3 +2,4 @@
 pub mod Tables
 pub mod Threads
 pub mod Duties
+pub mod Synchronized

@@ -1,3 +1,4 @@
 pub mod CountAfter
 pub mod Laws
+pub mod ReadyHolders
 pub mod SafeReferences

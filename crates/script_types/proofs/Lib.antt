@@ -2,5 +2,5 @@ pub mod LimitLaws
 pub mod NameLaws
 pub mod NewNames
 pub mod NumberLaws
+pub mod ProcessThreads
 pub mod ShapeLaws
-pub mod ThreadOrder

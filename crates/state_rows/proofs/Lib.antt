@@ -1,2 +1,4 @@
 pub mod HeldMutexes
+pub mod OtherThreads
+pub mod SoundChanges
 pub mod Soundness

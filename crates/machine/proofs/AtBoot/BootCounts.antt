@@ -9,7 +9,7 @@ use Rattle.script_types.specs.declared.declaration.ProcessDecl.{ProcessDecl}
 use Rattle.script_types.specs.declared.declaration.ThreadDecl.{ThreadDecl}
 use Rattle.script_types.specs.declared.script.Script.{Script}
 use Rattle.script_types.specs.Source.{IsValid}
-use Rattle.script_types.proofs.ThreadOrder.{HasThread, valid_threads_ordered}
+use Rattle.script_types.proofs.ProcessThreads.{HasThread, valid_has_thread}
 use Rattle.state_rows.specs.declared.object.ObjectRow.{ObjectRow}
 use Rattle.machine.specs.declared.boot.Born.{Born}
 use Rattle.machine.specs.declared.state.ThreadRow.{ThreadRow}
@@ -50,12 +50,12 @@ each_held_step all n p k d rest true more = (omega arith, more (n + 1))
 each_held_step all n p k d rest false more = more n
 
 -- the kernel holds each thread
-each_held_threads : (all : List Born) (j p k : ℕ) (ds : List ThreadDecl) (n : ℕ) → EachHeld all n (born_threads j p k ds)
+each_held_threads : (all : List Born) (j : Option ℕ) (p k : ℕ) (ds : List ThreadDecl) (n : ℕ) → EachHeld all n (born_threads j p k ds)
 each_held_threads all j p k [] n = tt
 each_held_threads all j p k (d ∷ ds) n = each_held_step all n p k d (born_threads j p (k + 1) ds) (is_of j d.process) (λ m. each_held_threads all j p (k + 1) ds m)
 
--- whether the j-th process has a thread
-abbrev has_thread : ℕ → List ThreadDecl → Bool
+-- whether the j-th process, or the kernel, has a thread
+abbrev has_thread : Option ℕ → List ThreadDecl → Bool
 has_thread j ds = list_any (λ d. is_of j d.process) ds
 
 linked_step : (p k : ℕ) (d : ThreadDecl) (rest : List Born) (own more : Bool) → (own || more) ≡ true → (more ≡ true → 0 < links (record { 0 = p }) rest) → 0 < links (record { 0 = p }) (if own then born_thread p k d ∷ rest else rest)
@@ -63,36 +63,43 @@ linked_step p k d rest true more any h = let one = same_self (record { 0 = p }) 
 linked_step p k d rest false more any h = h any
 
 -- a thread refers to its process
-linked : (j p k : ℕ) (ds : List ThreadDecl) → has_thread j ds ≡ true → 0 < links (record { 0 = p }) (born_threads j p k ds)
+linked : (j : Option ℕ) (p k : ℕ) (ds : List ThreadDecl) → has_thread j ds ≡ true → 0 < links (record { 0 = p }) (born_threads j p k ds)
 linked j p k [] any = absurd (cc)
 linked j p k (d ∷ ds) any = linked_step p k d (born_threads j p (k + 1) ds) (is_of j d.process) (has_thread j ds) any (linked j p (k + 1) ds)
 
-each_held_processes : (all : List Born) (threads : List ThreadDecl) (j p : ℕ) (ds : List ProcessDecl) → ((i : ℕ) → j ≤ i → i < j + length ds → has_thread i threads ≡ true) → ((o : ObjNo) → links o (born_processes threads j p ds) ≤ links o all) → EachHeld all p (born_processes threads j p ds)
+each_held_processes : (all : List Born) (threads : List ThreadDecl) (j p : ℕ) (ds : List ProcessDecl) → ((i : ℕ) → j ≤ i → i < j + length ds → has_thread (Some i) threads ≡ true) → ((o : ObjNo) → links o (born_processes threads j p ds) ≤ links o all) → EachHeld all p (born_processes threads j p ds)
 each_held_processes all threads j p [] some part = tt
 each_held_processes all threads j p (d ∷ ds) some part =
-    let own = born_threads j p 0 threads in
+    let own = born_threads (Some j) p 0 threads in
     let rest = born_processes threads (j + 1) (p + 1 + length own) ds in (
       let a = part (record { 0 = p }) in
           let b = links-append (record { 0 = p }) own rest in
-          let c = linked j p 0 threads (some j (omega arith) (omega arith)) in omega arith,
-      each_held-append all (p + 1) (p + 1 + length own) own rest refl (each_held_threads all j p 0 threads (p + 1))
+          let c = linked (Some j) p 0 threads (some j (omega arith) (omega arith)) in omega arith,
+      each_held-append all (p + 1) (p + 1 + length own) own rest refl (each_held_threads all (Some j) p 0 threads (p + 1))
           (each_held_processes all threads (j + 1) (p + 1 + length own) ds (λ i above below. some i (omega arith) (omega arith)) (λ o. let a = part o in let b = links-append o own rest in omega arith)),
     )
 
 -- a process that has a thread has one in the list
-has_one : (i : ℕ) (ds : List ThreadDecl) → HasThread i ds → has_thread i ds ≡ true
+has_one : (i : ℕ) (ds : List ThreadDecl) → HasThread i ds → has_thread (Some i) ds ≡ true
 has_one i [] h = absurd h
-has_one i (d ∷ ds) (inl here) = or_left (is_of i d.process) (has_thread i ds) (ap (is_of i) here ∙ eq-eqb i i refl)
-has_one i (d ∷ ds) (inr later) = or_right (is_of i d.process) (has_thread i ds) (has_one i ds later)
+has_one i (d ∷ ds) (inl here) = or_left (is_of (Some i) d.process) (has_thread (Some i) ds) (ap (is_of (Some i)) here ∙ eq-eqb i i refl)
+has_one i (d ∷ ds) (inr later) = or_right (is_of (Some i) d.process) (has_thread (Some i) ds) (has_one i ds later)
 
-valid_has : (script : Script) → IsValid script → (i : ℕ) → i < length script.processes → has_thread i script.threads ≡ true
-valid_has script valid i below = has_one i script.threads ((valid_threads_ordered script valid).each i below)
+valid_has : (script : Script) → IsValid script → (i : ℕ) → i < length script.processes → has_thread (Some i) script.threads ≡ true
+valid_has script valid i below = has_one i script.threads (valid_has_thread script valid i below)
 
 born_held : (script : Script) → IsValid script → EachHeld (born script) 0 (born script)
-born_held script valid = (
-  omega arith,
-  (omega arith, each_held_processes (born script) script.threads 0 2 script.processes (λ i above below. valid_has script valid i (omega arith)) (λ o. omega arith)),
-)
+born_held script valid =
+    let all = born script in
+    let own = born_threads None 0 0 script.threads in
+    let rest = born_processes script.threads 0 (2 + length own) script.processes in (
+      omega arith,
+      (
+        omega arith,
+        each_held-append all 2 (2 + length own) own rest refl (each_held_threads all None 0 0 script.threads 2)
+            (each_held_processes all script.threads 0 (2 + length own) script.processes (λ i above below. valid_has script valid i (omega arith)) (λ o. let a = links-append o own rest in omega arith)),
+      ),
+    )
 
 held_at : (all : List Born) (n : ℕ) (bs : List Born) (i : ℕ) (o : ObjNo) → o.0 ≡ n + i → EachHeld all n bs → i < length bs → 0 < links o all + (if is_some (get_or (map (λ b. b.thread) bs) i None) then 1 else 0)
 held_at all n [] i o at h inside = absurd (omega arith)

@@ -9,7 +9,7 @@ use Rattle.script_types.specs.declared.declaration.ThreadDecl.{ThreadDecl}
 use Rattle.machine.specs.declared.boot.Born.{Born}
 use Rattle.machine.specs.declared.state.Role.TheVariants.{Supervisor, Declared}
 use Rattle.machine.specs.declared.state.ThreadRow.{ThreadRow}
-use Rattle.machine.specs.Boot.{born, born_process, born_thread, born_threads, born_processes, new_thread, is_of}
+use Rattle.machine.specs.Boot.{boot_object, born, born_process, born_thread, born_threads, born_processes, new_thread, is_of}
 
 at_seam : (pre : List Born) (b : Born) (bs : List Born) → get_or (map (λ x. x.thread) (pre ++ b ∷ bs)) (length pre) None ≡ b.thread
 at_seam [] b bs = refl
@@ -28,7 +28,7 @@ linked_threads_step : (all : List Born) (p k : ℕ) (d : ThreadDecl) (rest : Lis
 linked_threads_step all p k d rest true none h = (λ row is. let e : new_thread p (Declared k) d.priority ≡ row = cc in subst (λ (r : ThreadRow). get_or (map (λ x. x.thread) all) r.process.0 None ≡ None) e none, h)
 linked_threads_step all p k d rest false none h = h
 
-linked_threads : (all : List Born) (j p k : ℕ) (ds : List ThreadDecl) → get_or (map (λ x. x.thread) all) p None ≡ None → EachLinked all (born_threads j p k ds)
+linked_threads : (all : List Born) (j : Option ℕ) (p k : ℕ) (ds : List ThreadDecl) → get_or (map (λ x. x.thread) all) p None ≡ None → EachLinked all (born_threads j p k ds)
 linked_threads all j p k [] none = tt
 linked_threads all j p k (d ∷ ds) none = linked_threads_step all p k d (born_threads j p (k + 1) ds) (is_of j d.process) none (linked_threads all j p (k + 1) ds none)
 
@@ -38,7 +38,7 @@ none_some x row e h = cc
 linked_processes : (all pre : List Born) (threads : List ThreadDecl) (j p : ℕ) (ds : List ProcessDecl) → length pre ≡ p → all ≡ pre ++ born_processes threads j p ds → EachLinked all (born_processes threads j p ds)
 linked_processes all pre threads j p [] at e = tt
 linked_processes all pre threads j p (d ∷ ds) at e =
-    let own = born_threads j p 0 threads in
+    let own = born_threads (Some j) p 0 threads in
     let rest = born_processes threads (j + 1) (p + 1 + length own) ds in
     let more = pre ++ born_process d.name ∷ own in
     let none : get_or (map (λ x. x.thread) all) p None ≡ None =
@@ -46,17 +46,25 @@ linked_processes all pre threads j p (d ∷ ds) at e =
     let long : length more ≡ p + 1 + length own = let a = length-append pre (born_process d.name ∷ own) in omega arith in
     let again : all ≡ more ++ rest = e ∙ sym (append_assoc pre (born_process d.name ∷ own) rest) in (
       λ row is. absurd (none_some None row refl is),
-      each_linked-append all own rest (linked_threads all j p 0 threads none) (linked_processes all more threads (j + 1) (p + 1 + length own) ds long again),
+      each_linked-append all own rest (linked_threads all (Some j) p 0 threads none) (linked_processes all more threads (j + 1) (p + 1 + length own) ds long again),
     )
 
+-- the kernel's process and the supervisor
+abbrev first_two : List Born
+first_two = born_process (codes "kernel") ∷ record { object = boot_object Thread (codes "supervisor"); thread = Some (new_thread 0 Supervisor 48); works = false; held = false } ∷ []
+
 pub each_linked : (script : Script) → EachLinked (born script) (born script)
-each_linked script = (
-  λ row is. absurd (none_some None row refl is),
-  (
-    λ row is. let e : new_thread 0 Supervisor 48 ≡ row = cc in subst (λ (r : ThreadRow). get_or (map (λ x. x.thread) (born script)) r.process.0 None ≡ None) e refl,
-    linked_processes (born script) (born_process (codes "kernel") ∷ record { object = record { kind = Thread; name = codes "supervisor"; dead = false }; thread = Some (new_thread 0 Supervisor 48); works = false } ∷ []) script.threads 0 2 script.processes refl refl,
-  ),
-)
+each_linked script =
+    let all = born script in
+    let own = born_threads None 0 0 script.threads in
+    let rest = born_processes script.threads 0 (2 + length own) script.processes in (
+      λ row is. absurd (none_some None row refl is),
+      (
+        λ row is. let e : new_thread 0 Supervisor 48 ≡ row = cc in subst (λ (r : ThreadRow). get_or (map (λ x. x.thread) all) r.process.0 None ≡ None) e refl,
+        each_linked-append all own rest (linked_threads all None 0 0 script.threads refl)
+            (linked_processes all (first_two ++ own) script.threads 0 (2 + length own) script.processes (omega arith) refl),
+      ),
+    )
 
 pub linked_at : (all bs : List Born) (i : ℕ) (row : ThreadRow) → EachLinked all bs → get_or (map (λ x. x.thread) bs) i None ≡ Some row → get_or (map (λ x. x.thread) all) row.process.0 None ≡ None
 linked_at all [] i row h is = cc

@@ -1,18 +1,20 @@
 -- The ready list at boot.
-use Rattle.std.proofs.Common.{◌≡◌, ℕ, suc, zero, ◌+◌, ◌<◌, List, [], ◌∷◌, get_or, arith, refl, ap, ◌∙◌, Option, None, Bool, true, false, map}
-use Rattle.std.specs.Prelude.{◌||◌, is_some, if◌then◌else◌}
+use Rattle.std.proofs.Common.{◌≡◌, ℕ, suc, zero, ◌+◌, ◌<◌, List, [], ◌∷◌, length, get_or, arith, refl, sym, ap, ◌∙◌, Option, Some, None, Bool, true, false, map}
+use Rattle.std.specs.Prelude.{◌||◌, ◌&&◌, not, is_some, if◌then◌else◌}
 use Rattle.std.proofs.lemmas.Bool.{eq-eqb}
 use Rattle.sym_base.specs.declared.number.ObjNo.{ObjNo}
 use Rattle.script_types.specs.declared.script.Script.{Script}
 use Rattle.script_types.specs.Shape.{IsShaped}
 use Rattle.state_rows.specs.declared.duty.Owed.{Owed}
 use Rattle.machine.specs.declared.boot.Born.{Born}
+use Rattle.machine.specs.declared.state.ThreadRow.{ThreadRow}
 use Rattle.machine.specs.Arrivals.{is_listed}
 use Rattle.machine.specs.Boot.{boot, boot_of, born, ready_from}
 use Rattle.machine.specs.Rows.{first_of}
-use Rattle.machine.specs.Task.{task_of_row}
+use Rattle.machine.specs.Task.{task_of, task_of_row, is_wait, is_waiting, is_waiting_row, is_stopped}
 use Rattle.machine.specs.WellFormed.{AreApart, IsReadyList}
-use Rattle.machine.proofs.AtBoot.Born.{EachBorn, each_born}
+use Rattle.machine.proofs.AtBoot.Born.{IsNewThread, EachBorn, each_born}
+use Rattle.machine.proofs.AtBoot.BootNano.{is_held_at, unprotected, stopped-boot}
 use Rattle.machine.proofs.References.Same.{eqb_apart}
 
 -- whether the one at a place works
@@ -39,11 +41,21 @@ listed_at n [] i u at = refl
 listed_at n (b ∷ bs) zero u at = listed_first n (ready_from (n + 1) bs) b.works u (omega arith) (listed_below (n + 1) bs u (omega arith))
 listed_at n (b ∷ bs) (suc i) u at = listed_later n (ready_from (n + 1) bs) b.works u (λ e. absurd (omega arith)) ∙ listed_at (n + 1) bs i u (omega arith)
 
--- who works has something to do
-works_is : (script : Script) (n : ℕ) (bs : List Born) (i : ℕ) → EachBorn script n bs → works_at bs i ≡ is_some (task_of_row script None (get_or (map (λ b. b.thread) bs) i None))
+-- who works isn't held and has something to do
+works_is : (script : Script) (n : ℕ) (bs : List Born) (i : ℕ) → EachBorn script n bs → works_at bs i ≡ (not (is_held_at bs i) && is_some (task_of_row script false None (get_or (map (λ b. b.thread) bs) i None)))
 works_is script n [] i h = refl
 works_is script n (b ∷ bs) zero h = h.0.works
 works_is script n (b ∷ bs) (suc i) h = works_is script n bs i h.1
+
+-- nobody waits
+row_goes_on : (n : ℕ) (thread : Option ThreadRow) → ((row : ThreadRow) → thread ≡ Some row → IsNewThread n row) → is_waiting_row thread ≡ false
+row_goes_on n None rows = refl
+row_goes_on n (Some row) rows = ap is_wait (rows row refl).waiting
+
+goes_on : (script : Script) (n : ℕ) (bs : List Born) (i : ℕ) → EachBorn script n bs → is_waiting_row (get_or (map (λ b. b.thread) bs) i None) ≡ false
+goes_on script n [] i h = refl
+goes_on script n (b ∷ bs) zero h = row_goes_on n b.thread h.0.row
+goes_on script n (b ∷ bs) (suc i) h = goes_on script n bs i h.1
 
 owes_nothing : (bs : List Born) (i : ℕ) → ◌≡◌ {A = Option Owed} None (first_of (get_or (map (λ _. []) bs) i []))
 owes_nothing [] i = refl
@@ -58,11 +70,25 @@ ready_apart : (n : ℕ) (bs : List Born) → AreApart (ready_from n bs)
 ready_apart n [] = tt
 ready_apart n (b ∷ bs) = apart_step n (ready_from (n + 1) bs) b.works (listed_below (n + 1) bs (record { 0 = n }) (omega arith)) (ready_apart (n + 1) bs)
 
--- exactly the threads that have something to do are listed, once
+task-boot : (script : Script) (u : ObjNo) → ◌≡◌ {A = Bool} (is_some (task_of script (boot script) u)) (is_some (task_of_row script false None (get_or (map (λ b. b.thread) (born script)) u.0 None)))
+unfolding boot_of
+task-boot script u =
+    let bs = born script in
+    ap (λ (protected : Bool). is_some (task_of_row script protected (first_of (get_or (map (λ _. []) bs) u.0 [])) (get_or (map (λ b. b.thread) bs) u.0 None))) (unprotected script.fast bs u)
+    ∙ ap (λ (first : Option Owed). is_some (task_of_row script false first (get_or (map (λ b. b.thread) bs) u.0 None))) (sym (owes_nothing bs u.0))
+
+ready_is : (waits stopped task held work : Bool) → waits ≡ false → stopped ≡ held → task ≡ work → (not waits && not stopped && task) ≡ (not held && work)
+ready_is waits stopped task held work a b c = ap (λ x. not x && not stopped && task) a ∙ (ap (λ x. not x && task) b ∙ ap (λ x. not held && x) c)
+
+-- exactly the threads that have something to do and aren't held are listed, once
 pub ready-boot : (script : Script) → IsShaped script → IsReadyList script (boot script) (boot script).ready
 unfolding boot_of
-ready-boot script shaped = record {
-  exact = λ u. listed_at 0 (born script) u.0 u (omega arith) ∙ works_is script _ (born script) u.0 (each_born script shaped)
-      ∙ ap (λ (first : Option Owed). is_some (task_of_row script first (get_or (map (λ b. b.thread) (born script)) u.0 None))) (owes_nothing (born script) u.0);
-  once = ready_apart 0 (born script);
-}
+ready-boot script shaped =
+    let bs = born script in
+    let each = each_born script shaped in
+    record {
+      exact = λ u. listed_at 0 bs u.0 u (omega arith) ∙ works_is script (length bs) bs u.0 each
+          ∙ sym (ready_is (is_waiting (boot script) u) (is_stopped (boot script) u) (is_some (task_of script (boot script) u)) (is_held_at bs u.0) _
+          (goes_on script (length bs) bs u.0 each) (stopped-boot script.fast bs u) (task-boot script u));
+      once = ready_apart 0 bs;
+    }

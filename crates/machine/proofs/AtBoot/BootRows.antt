@@ -18,6 +18,7 @@ use Rattle.machine.specs.Rows.{thread_of}
 use Rattle.machine.specs.WellFormed.{IsTable, EachMayOwe, AreRows, IsWellFormed, IsAlive, is_dead, dead_bit, owed_sweeps, weight}
 use Rattle.machine.proofs.AtBoot.BootCounts.{counted-boot}
 use Rattle.machine.proofs.AtBoot.BootLinks.{each_linked, linked_at}
+use Rattle.machine.proofs.AtBoot.BootNano.{synchronized-boot}
 use Rattle.machine.proofs.AtBoot.BootReady.{ready-boot}
 use Rattle.machine.proofs.AtBoot.Born.{IsNewThread, EachBorn, each_born, born_few}
 use Rattle.machine.proofs.References.Same.{same_other}
@@ -135,6 +136,7 @@ rows-boot script valid =
         few = λ k. owes_nothing bs (λ (l : List Owed). total weight l ≤ 12) k (omega arith);
         returns = λ k _. owes_nothing bs (λ (l : List Owed). l ≡ []) k refl;
       };
+      nano = synchronized-boot script shaped;
       lives = record {
         alive = λ o c. elim (cases_lt o.0 (length bs)) [
           | inl lt ↦ born_alive script (length bs) bs o.0 each lt

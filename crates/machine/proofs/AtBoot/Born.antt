@@ -1,6 +1,6 @@
 -- What holds of each that stands at boot.
 use Rattle.std.proofs.Common.{◌≡◌, ℕ, ◌+◌, ◌<◌, ◌≤◌, List, [], ◌∷◌, ◌++◌, length, arith, refl, sym, subst, ap, ◌∙◌, Option, Some, None, Bool, true, false}
-use Rattle.std.specs.Prelude.{codes, slice_get, is_some, if◌then◌else◌, option_map, nat_le}
+use Rattle.std.specs.Prelude.{codes, slice_get, is_some, not, ◌&&◌, if◌then◌else◌, nat_le}
 use Rattle.std.proofs.lemmas.List.{length-append, append_assoc}
 use Rattle.script_types.specs.declared.script.Script.{Script}
 use Rattle.script_types.specs.declared.declaration.ThreadDecl.{ThreadDecl}
@@ -10,25 +10,26 @@ use Rattle.script_types.specs.Shape.{IsShaped}
 use Rattle.machine.specs.declared.boot.Born.{Born}
 use Rattle.machine.specs.declared.state.Role.TheVariants.{Supervisor, Declared}
 use Rattle.machine.specs.declared.state.ThreadRow.{ThreadRow}
-use Rattle.machine.specs.declared.task.Task.TheVariants.{Step}
+use Rattle.machine.specs.declared.state.Waiting.TheVariants as waiting
 use Rattle.machine.specs.Boot.{born, born_process, born_thread, born_threads, born_processes, new_thread, has_any, is_of}
-use Rattle.machine.specs.Task.{instructions_in, task_of_row}
+use Rattle.machine.specs.Task.{instructions_in, step_or_end, task_of_row}
 
 -- a thread's row, n being the number of those that stand at boot: it has made no step, and is linked to its process
 pub record IsNewThread (n : ℕ) (row : ThreadRow) : Type 0 where
   pub process : row.process.0 < n
   pub link : row.link ≡ Some row.process
   pub priority : row.priority ≤ 63
+  pub waiting : row.waiting ≡ waiting.Nothing
   pub next_instruction : row.next_instruction ≡ 0
   pub part : row.part ≡ None
   pub uses : row.uses ≡ None
   pub registers : length row.registers ≡ 8
 
--- an object is alive, and works exactly where it is a thread that has something to do
+-- an object is alive, and works exactly where it isn't held and is a thread that has something to do
 pub record IsBorn (script : Script) (n : ℕ) (b : Born) : Type 0 where
   pub alive : b.object.dead ≡ false
   pub row : (row : ThreadRow) → b.thread ≡ Some row → IsNewThread n row
-  pub works : b.works ≡ is_some (task_of_row script None b.thread)
+  pub works : b.works ≡ (not b.held && is_some (task_of_row script false None b.thread))
 
 abbrev pub EachBorn : Script → ℕ → List Born → Type 0
 EachBorn script n [] = Unit {0}
@@ -38,9 +39,15 @@ each_born-append : (script : Script) (n : ℕ) (xs ys : List Born) → EachBorn 
 each_born-append script n [] ys h k = k
 each_born-append script n (x ∷ xs) ys h k = (h.0, each_born-append script n xs ys h.1 k)
 
-works_has_first : (instrs : List Instr) → has_any instrs ≡ is_some (option_map Step (slice_get instrs 0))
+works_has_first : (instrs : List Instr) → has_any instrs ≡ is_some (step_or_end false (slice_get instrs 0))
 works_has_first [] = refl
 works_has_first (x ∷ xs) = refl
+
+both_ways : (a b c : Bool) → a ≡ c → (a && b) ≡ (b && c)
+both_ways true true c e = e
+both_ways true false c e = refl
+both_ways false true c e = e
+both_ways false false c e = refl
 
 slice_get-behind : (pre : List ThreadDecl) (d : ThreadDecl) (ds : List ThreadDecl) → slice_get (pre ++ d ∷ ds) (length pre) ≡ Some d
 slice_get-behind [] d ds = refl
@@ -53,19 +60,20 @@ is_born_thread script n p k d lt few at = record {
     process = lt;
     link = refl;
     priority = few;
+    waiting = refl;
     next_instruction = refl;
     part = refl;
     uses = refl;
     registers = refl;
   });
-  works = works_has_first d.instrs ∙ ap (λ (x : Option ThreadDecl). is_some (option_map Step (slice_get (instructions_in x) 0))) (sym at);
+  works = both_ways (has_any d.instrs) (not d.held) _ (works_has_first d.instrs ∙ ap (λ (x : Option ThreadDecl). is_some (step_or_end false (slice_get (instructions_in x) 0))) (sym at));
 }
 
 each_born_threads_step : (script : Script) (n p : ℕ) (k : ℕ) (d : ThreadDecl) (rest : List Born) (b : Bool) → IsBorn script n (born_thread p k d) → EachBorn script n rest → EachBorn script n (if b then born_thread p k d ∷ rest else rest)
 each_born_threads_step script n p k d rest true one more = (one, more)
 each_born_threads_step script n p k d rest false one more = more
 
-each_born_threads : (script : Script) → IsShaped script → (n j p : ℕ) (pre ds : List ThreadDecl) → p < n → script.threads ≡ pre ++ ds → EachBorn script n (born_threads j p (length pre) ds)
+each_born_threads : (script : Script) → IsShaped script → (n : ℕ) (j : Option ℕ) (p : ℕ) (pre ds : List ThreadDecl) → p < n → script.threads ≡ pre ++ ds → EachBorn script n (born_threads j p (length pre) ds)
 each_born_threads script shaped n j p pre [] lt e = tt
 each_born_threads script shaped n j p pre (d ∷ ds) lt e =
     let more : EachBorn script n (born_threads j p (length (pre ++ d ∷ [])) ds) = each_born_threads script shaped n j p (pre ++ d ∷ []) ds lt (e ∙ sym (append_assoc pre (d ∷ []) ds)) in
@@ -84,78 +92,100 @@ is_born_process script n name = record { alive = refl; row = λ row is. absurd (
 each_born_processes : (script : Script) → IsShaped script → (n j p : ℕ) (ds : List ProcessDecl) → p + length (born_processes script.threads j p ds) ≤ n → EachBorn script n (born_processes script.threads j p ds)
 each_born_processes script shaped n j p [] le = tt
 each_born_processes script shaped n j p (d ∷ ds) le =
-    let threads = born_threads j p 0 script.threads in
+    let threads = born_threads (Some j) p 0 script.threads in
     let rest = born_processes script.threads (j + 1) (p + 1 + length threads) ds in
     let long = length-append threads rest in (
       is_born_process script n d.name,
       each_born-append script n threads rest
-          (each_born_threads script shaped n j p [] script.threads (omega arith) refl)
+          (each_born_threads script shaped n (Some j) p [] script.threads (omega arith) refl)
           (each_born_processes script shaped n (j + 1) (p + 1 + length threads) ds (omega arith)),
     )
 
 pub each_born : (script : Script) → IsShaped script → EachBorn script (length (born script)) (born script)
 each_born script shaped =
-    let n = length (born script) in (
+    let n = length (born script) in
+    let kernel = born_threads None 0 0 script.threads in
+    let rest = born_processes script.threads 0 (2 + length kernel) script.processes in
+    let long = length-append kernel rest in (
       is_born_process script n (codes "kernel"),
       (
         record {
           alive = refl;
           row = λ row is. let e : new_thread 0 Supervisor 48 ≡ row = cc in
-              subst (λ (r : ThreadRow). IsNewThread n r) e (record { process = omega arith; link = refl; priority = omega arith; next_instruction = refl; part = refl; uses = refl; registers = refl });
+              subst (λ (r : ThreadRow). IsNewThread n r) e (record { process = omega arith; link = refl; priority = omega arith; waiting = refl; next_instruction = refl; part = refl; uses = refl; registers = refl });
           works = refl;
         },
-        each_born_processes script shaped n 0 2 script.processes (omega arith),
+        each_born-append script n kernel rest
+            (each_born_threads script shaped n None 0 [] script.threads (omega arith) refl)
+            (each_born_processes script shaped n 0 (2 + length kernel) script.processes (omega arith)),
       ),
     )
 
--- how many threads are of the j-th process or a later one
-from_process : ℕ → Option ℕ → ℕ
-from_process j None = 0
-from_process j (Some i) = if nat_le j i then 1 else 0
+-- Threads stand in groups: the kernel threads, and then those of each process. This is the number of the process
+-- whose threads are the group behind one
+next : Option ℕ → ℕ
+next None = 0
+next (Some j) = j + 1
 
-count_from : ℕ → List ThreadDecl → ℕ
+-- 1 where a thread is of this group or a later one
+from_group : Option ℕ → Option ℕ → ℕ
+from_group None process = 1
+from_group (Some j) None = 0
+from_group (Some j) (Some i) = if nat_le j i then 1 else 0
+
+count_from : Option ℕ → List ThreadDecl → ℕ
 count_from j [] = 0
-count_from j (d ∷ ds) = from_process j d.process + count_from j ds
+count_from j (d ∷ ds) = from_group j d.process + count_from j ds
 
-one_of_step : (j : ℕ) (process : Option ℕ) → (if is_of j process then 1 else 0) + from_process (j + 1) process ≤ from_process j process
-unfolding from_process
-one_of_step j None = omega arith
-one_of_step j (Some i) = grind arith
+one_of_step : (j process : Option ℕ) → (if is_of j process then 1 else 0) + from_group (Some (next j)) process ≤ from_group j process
+unfolding from_group next
+one_of_step None None = omega arith
+one_of_step None (Some i) = grind arith
+one_of_step (Some j) None = omega arith
+one_of_step (Some j) (Some i) = grind arith
 
 length_if : (b : Bool) (x : Born) (rest : List Born) → length (if b then x ∷ rest else rest) ≡ (if b then 1 else 0) + length rest
 length_if true x rest = omega arith
 length_if false x rest = omega arith
 
-threads_of_process : (j p k : ℕ) (ds : List ThreadDecl) → length (born_threads j p k ds) + count_from (j + 1) ds ≤ count_from j ds
+threads_of_group : (j : Option ℕ) (p k : ℕ) (ds : List ThreadDecl) → length (born_threads j p k ds) + count_from (Some (next j)) ds ≤ count_from j ds
 unfolding count_from
-threads_of_process j p k [] = omega arith
-threads_of_process j p k (d ∷ ds) =
-    let r = threads_of_process j p (k + 1) ds in
+threads_of_group j p k [] = omega arith
+threads_of_group j p k (d ∷ ds) =
+    let r = threads_of_group j p (k + 1) ds in
     let one = one_of_step j d.process in
     let e = length_if (is_of j d.process) (born_thread p k d) (born_threads j p (k + 1) ds) in omega arith
 
-processes_length : (threads : List ThreadDecl) (j p : ℕ) (ds : List ProcessDecl) → length (born_processes threads j p ds) ≤ length ds + count_from j threads
+threads_of_process : (j p : ℕ) (ds : List ThreadDecl) → length (born_threads (Some j) p 0 ds) + count_from (Some (j + 1)) ds ≤ count_from (Some j) ds
+unfolding next
+threads_of_process j p ds = threads_of_group (Some j) p 0 ds
+
+kernel_threads : (ds : List ThreadDecl) → length (born_threads None 0 0 ds) + count_from (Some 0) ds ≤ count_from None ds
+unfolding next
+kernel_threads ds = threads_of_group None 0 0 ds
+
+processes_length : (threads : List ThreadDecl) (j p : ℕ) (ds : List ProcessDecl) → length (born_processes threads j p ds) ≤ length ds + count_from (Some j) threads
 processes_length threads j p [] = omega arith
 processes_length threads j p (d ∷ ds) =
-    let r = processes_length threads (j + 1) (p + 1 + length (born_threads j p 0 threads)) ds in
-    let t = threads_of_process j p 0 threads in
-    let e = length-append (born_threads j p 0 threads) (born_processes threads (j + 1) (p + 1 + length (born_threads j p 0 threads)) ds) in
+    let own = born_threads (Some j) p 0 threads in
+    let r = processes_length threads (j + 1) (p + 1 + length own) ds in
+    let t = threads_of_process j p threads in
+    let e = length-append own (born_processes threads (j + 1) (p + 1 + length own) ds) in
     omega arith
 
-from_process_le : (j : ℕ) (process : Option ℕ) → from_process j process ≤ 1
-unfolding from_process
-from_process_le j None = omega arith
-from_process_le j (Some i) = grind arith
-
-count_from_le : (j : ℕ) (ds : List ThreadDecl) → count_from j ds ≤ length ds
-unfolding count_from
-count_from_le j [] = omega arith
-count_from_le j (d ∷ ds) = let r = count_from_le j ds in let one = from_process_le j d.process in omega arith
+count_from_all : (ds : List ThreadDecl) → count_from None ds ≡ length ds
+unfolding count_from from_group
+count_from_all [] = refl
+count_from_all (d ∷ ds) = let r = count_from_all ds in omega arith
 
 -- at most 81 stand at boot
 pub born_few : (script : Script) → IsShaped script → length (born script) ≤ 81
 born_few script h =
-    let a = processes_length script.threads 0 2 script.processes in
-    let b = count_from_le 0 script.threads in
+    let kernel = born_threads None 0 0 script.threads in
+    let rest = born_processes script.threads 0 (2 + length kernel) script.processes in
+    let a = processes_length script.threads 0 (2 + length kernel) script.processes in
+    let b = kernel_threads script.threads in
     let c = h.processes in
-    let d = h.count in omega arith
+    let d = h.count in
+    let e = count_from_all script.threads in
+    let f = length-append kernel rest in omega arith

@@ -1,8 +1,8 @@
 -- What a thread does in an action: moves that fit, or it pays the oldest of what it owes.
 use Rattle.std.proofs.Common.{◌≡◌, ◌⊎◌, inl, inr, ℕ, ◌+◌, ◌<◌, ◌≤◌, List, [], ◌∷◌, length, arith, refl, sym, subst, ap, ◌∙◌, Option, Some, None, Bool, true, false}
-use Rattle.std.specs.Prelude.{if◌then◌else◌, option_map, slice_get}
+use Rattle.std.specs.Prelude.{not, ◌&&◌, is_some, is_none, slice_get}
 use Rattle.std.proofs.lemmas.Bool.{cases_lt}
-use Rattle.std.proofs.lemmas.List.{append-nil}
+use Rattle.std.proofs.lemmas.List.{append-nil, get_or_past}
 use Rattle.std.proofs.lemmas.Option.{slice_get_past}
 use Rattle.sym_base.specs.declared.kind.Kind.TheVariants.{Mutex}
 use Rattle.sym_base.specs.declared.number.ObjNo.{ObjNo}
@@ -10,28 +10,33 @@ use Rattle.script_types.specs.declared.script.Script.{Script}
 use Rattle.script_types.specs.declared.instruction.Instr.{Instr}
 use Rattle.script_types.specs.declared.instruction.Instr.TheVariants as instr
 use Rattle.script_types.specs.Shape.{IsShaped}
+use Rattle.script_types.proofs.LimitLaws.{both}
 use Rattle.entry_log.specs.declared.step.Part.{Part}
 use Rattle.entry_log.specs.declared.step.Part.TheVariants as part
+use Rattle.state_rows.specs.Nano.{is_protected}
 use Rattle.state_rows.specs.declared.duty.Owed.{Owed}
 use Rattle.machine.specs.declared.decision.Decision.{Decision}
 use Rattle.machine.specs.declared.moves.Move.{Move}
 use Rattle.machine.specs.declared.moves.Move.TheVariants as move
+use Rattle.machine.specs.declared.state.Waiting.{Waiting}
+use Rattle.machine.specs.declared.state.Waiting.TheVariants as waiting
 use Rattle.machine.specs.declared.state.ThreadRow.{ThreadRow}
 use Rattle.machine.specs.declared.state.State.{State}
-use Rattle.machine.specs.declared.task.Task.TheVariants.{Return}
 use Rattle.machine.specs.Rows.{thread_of, owed_of, first_of, first_owed}
 use Rattle.machine.specs.Moves.{moved, told, perform, tell}
 use Rattle.machine.specs.References.{total}
-use Rattle.machine.specs.Steps.{step_of, return_of, decision_of_row, decision_of}
-use Rattle.machine.specs.Task.{instruction, instructions_of, is_returning, pay_or_step, task_of_row}
+use Rattle.machine.specs.CriticalSection.{flush}
+use Rattle.machine.specs.Steps.{step_of, return_of, decision_of_row, decision_where, decision_of}
+use Rattle.machine.specs.Task.{instruction, instructions_of, is_returning, end_task, pay_or_step, return_or, task_of_row, task_of, is_wait, is_waiting_row, is_waiting, is_stopped, is_ready, is_able, wanted_holder}
 use Rattle.machine.specs.Fits.{EachFits, Fits, Sane, most_told, most_owed}
 use Rattle.machine.specs.WellFormed.{AreRows, is_before_use, part_of, weight}
 use Rattle.machine.proofs.Lists.Totals.{inside}
 use Rattle.machine.proofs.Numbers.FewEffects.{tell_few}
-use Rattle.machine.proofs.Numbers.Registers.{has_registers}
+use Rattle.machine.proofs.Numbers.Registers.{has_registers, has_names, has_ranges}
 use Rattle.machine.proofs.MoveLaws.Sound.{Sound, sound-none}
 use Rattle.machine.proofs.MoveLaws.Run.{each-sound, sound-pay}
 use Rattle.machine.proofs.Fitting.Stepping.{FitsDecision, IsStepping, fits-nothing}
+use Rattle.machine.proofs.Fitting.KernelThreads.{none_is, fits-flock, fits-funlock, fits-fswait, fits-fssignal, fits-enter, fits-leave, fits-flush, fits-suspend, fits-resume, fits-priority}
 use Rattle.machine.proofs.Fitting.Steps.{fits-create, fits-dup, fits-open, fits-open_return, fits-close}
 
 -- the steps of instructions fit
@@ -40,6 +45,15 @@ fits-step script S t row (instr.CreateMutex name x) p h going at = fits-create M
 fits-step script S t row (instr.Open kind name x) p h going at = fits-open kind name x p h h.registers at
 fits-step script S t row (instr.Dup x y) p h going at = fits-dup x y p h h.registers.1 at
 fits-step script S t row (instr.Close x) p h going at = fits-close x h going
+fits-step script S t row (instr.Flock f) p h going at = fits-flock f p h
+fits-step script S t row (instr.Funlock f) p h going at = fits-funlock f h
+fits-step script S t row instr.Fswait p h going at = fits-fswait p h
+fits-step script S t row (instr.Fssignal name) p h going at = fits-fssignal name h
+fits-step script S t row instr.Enter p h going at = fits-enter h
+fits-step script S t row instr.Leave p h going at = fits-leave h
+fits-step script S t row (instr.Suspend x) p h going at = fits-suspend x p h at
+fits-step script S t row (instr.Resume x) p h going at = fits-resume x p h at
+fits-step script S t row (instr.Priority x priority) p h going at = fits-priority x priority p h at
 fits-step script S t row _ p h going at = fits-nothing script S t
 
 -- and so do their returns
@@ -75,33 +89,69 @@ idles script S t rows = record { each = tt; few = let a = rows.duties.few t.0 in
 pub slice_get_inside : {A : Type 0} (xs : List A) (i : ℕ) (x : A) → slice_get xs i ≡ Some x → i < length xs
 slice_get_inside xs i x h = elim (cases_lt i (length xs)) [ inl lt ↦ lt | inr le ↦ let past = slice_get_past xs i le in cc ]
 
-stepping : (script : Script) (S : State) (t : ObjNo) (row : ThreadRow) (instr : Instr) → IsShaped script → AreRows script S → thread_of S t ≡ Some row → instruction script row ≡ Some instr → owed_of S t ≡ [] → IsStepping script S t row instr
-stepping script S t row instr shaped rows is at nothing = record {
+-- what is known of a thread that is able
+record IsAble (S : State) (t : ObjNo) (row : ThreadRow) : Type 0 where
+  pub waits : row.waiting ≡ waiting.Nothing
+  pub free : wanted_holder S.nano t ≡ None
+
+waits_not : (what : Waiting) → not (is_wait what) ≡ true → what ≡ waiting.Nothing
+waits_not waiting.Nothing e = refl
+waits_not waiting.Fast e = absurd (cc)
+
+able_is : (script : Script) (S : State) (t : ObjNo) (row : ThreadRow) → thread_of S t ≡ Some row → is_able script S t ≡ true → IsAble S t row
+able_is script S t row is able =
+    let parts = both (is_ready script S t) (is_none (wanted_holder S.nano t)) able in
+    let ready = both (not (is_waiting S t) && not (is_stopped S t)) (is_some (task_of script S t)) parts.0 in
+    let still = both (not (is_waiting S t)) (not (is_stopped S t)) ready.0 in
+    record {
+      waits = waits_not row.waiting (sym (ap (λ (r : Option ThreadRow). not (is_waiting_row r)) is) ∙ still.0);
+      free = none_is (wanted_holder S.nano t) parts.1;
+    }
+
+stepping : (script : Script) (S : State) (t : ObjNo) (row : ThreadRow) (instr : Instr) → IsShaped script → AreRows script S → thread_of S t ≡ Some row → IsAble S t row → instruction script row ≡ Some instr → owed_of S t ≡ [] → IsStepping script S t row instr
+stepping script S t row instr shaped rows is able at nothing = record {
   rows = rows;
   is = is;
   next = slice_get_inside (instructions_of script row.role) row.next_instruction instr at;
   paid = nothing;
   registers = has_registers script row instr shaped at;
+  names = has_names script row instr shaped at;
+  ranges = has_ranges script row instr shaped at;
+  waits = able.waits;
+  free = able.free;
 }
 
-row-acts : (script : Script) (S : State) (t : ObjNo) (row : ThreadRow) (returns : Bool) (at : Option Instr) (owed : List Owed) → IsShaped script → AreRows script S → thread_of S t ≡ Some row → is_returning row.part ≡ returns → instruction script row ≡ at → owed_of S t ≡ owed
-    → let d = decision_of_row S t (Some row) (if returns then option_map Return at else pay_or_step (first_of owed) at) in Goes script t S d.moves ⊎ Pays S t d.moves
-row-acts script S t row true None owed shaped rows is r e o = inl (idles script S t rows)
-row-acts script S t row true (Some instr) owed shaped rows is r e o =
+-- at its list's end
+end-acts : (script : Script) (S : State) (t : ObjNo) (row : ThreadRow) (protected : Bool) → AreRows script S → thread_of S t ≡ Some row → owed_of S t ≡ [] → Goes script t S (decision_of_row S t (Some row) (end_task protected)).moves
+end-acts script S t row true rows is o = goes_by script S t (flush S t) o (fits-flush script S t row rows is)
+end-acts script S t row false rows is o = idles script S t rows
+
+row-acts : (script : Script) (S : State) (t : ObjNo) (row : ThreadRow) (protected returns : Bool) (at : Option Instr) (owed : List Owed) → IsShaped script → AreRows script S → thread_of S t ≡ Some row → IsAble S t row → is_returning row.part ≡ returns → instruction script row ≡ at → owed_of S t ≡ owed
+    → let d = decision_of_row S t (Some row) (return_or returns at (pay_or_step protected (first_of owed) at)) in Goes script t S d.moves ⊎ Pays S t d.moves
+row-acts script S t row protected true (Some instr) owed shaped rows is able r e o =
     let nothing = rows.duties.returns t.0 (ap (λ (x : Option ThreadRow). is_returning (part_of x)) is ∙ r) in
-    inl (goes_by script S t (return_of S t row instr) nothing (fits-returning script S t row instr (stepping script S t row instr shaped rows is e nothing) (returning_before row.part r)))
-row-acts script S t row false at (what ∷ rest) shaped rows is r e o = inr (record { what = what; rest = rest; moves = refl; owes = o })
-row-acts script S t row false None [] shaped rows is r e o = inl (idles script S t rows)
-row-acts script S t row false (Some instr) [] shaped rows is r e o = inl (goes_by script S t (step_of S t row instr row.part) o (fits-step script S t row instr row.part (stepping script S t row instr shaped rows is e o) r refl))
+    inl (goes_by script S t (return_of S t row instr) nothing (fits-returning script S t row instr (stepping script S t row instr shaped rows is able e nothing) (returning_before row.part r)))
+row-acts script S t row protected true None (what ∷ rest) shaped rows is able r e o = inr (record { what = what; rest = rest; moves = refl; owes = o })
+row-acts script S t row protected true None [] shaped rows is able r e o = inl (end-acts script S t row protected rows is o)
+row-acts script S t row protected false at (what ∷ rest) shaped rows is able r e o = inr (record { what = what; rest = rest; moves = refl; owes = o })
+row-acts script S t row protected false None [] shaped rows is able r e o = inl (end-acts script S t row protected rows is o)
+row-acts script S t row protected false (Some instr) [] shaped rows is able r e o = inl (goes_by script S t (step_of S t row instr row.part) o (fits-step script S t row instr row.part (stepping script S t row instr shaped rows is able e o) r refl))
 
 -- the thread of this row, if there is one
-acts : (script : Script) (S : State) (t : ObjNo) (row : Option ThreadRow) → IsShaped script → AreRows script S → thread_of S t ≡ row → let d = decision_of_row S t row (task_of_row script (first_owed S t) row) in Goes script t S d.moves ⊎ Pays S t d.moves
-acts script S t None shaped rows is = inl (idles script S t rows)
-acts script S t (Some row) shaped rows is = row-acts script S t row (is_returning row.part) (instruction script row) (owed_of S t) shaped rows is refl refl refl
+able-acts : (script : Script) (S : State) (t : ObjNo) (row : Option ThreadRow) → IsShaped script → AreRows script S → thread_of S t ≡ row → is_able script S t ≡ true
+    → let d = decision_of_row S t row (task_of_row script (is_protected S.nano t) (first_owed S t) row) in Goes script t S d.moves ⊎ Pays S t d.moves
+able-acts script S t None shaped rows is able = inl (idles script S t rows)
+able-acts script S t (Some row) shaped rows is able =
+    row-acts script S t row (is_protected S.nano t) (is_returning row.part) (instruction script row) (owed_of S t) shaped rows is (able_is script S t row is able) refl refl refl
+
+-- one that isn't able does nothing
+acts : (script : Script) (S : State) (t : ObjNo) (able : Bool) → IsShaped script → AreRows script S → is_able script S t ≡ able → let d = decision_where able S t (task_of script S t) in Goes script t S d.moves ⊎ Pays S t d.moves
+acts script S t false shaped rows able = inl (idles script S t rows)
+acts script S t true shaped rows able = able-acts script S t (thread_of S t) shaped rows refl able
 
 -- what a thread does in its next action: moves that fit, or it pays the oldest of what it owes
 pub fits-action : (script : Script) (S : State) (t : ObjNo) → IsShaped script → AreRows script S → Fits script t (decision_of script S t).moves S ⊎ Pays S t (decision_of script S t).moves
-fits-action script S t shaped rows = elim (acts script S t (thread_of S t) shaped rows refl) as (λ _. Fits script t (decision_of script S t).moves S ⊎ Pays S t (decision_of script S t).moves) [
+fits-action script S t shaped rows = elim (acts script S t (is_able script S t) shaped rows refl) as (λ _. Fits script t (decision_of script S t).moves S ⊎ Pays S t (decision_of script S t).moves) [
   | inl goes ↦ inl (record { each = goes.each; few = goes.few; told = let a = tell_few t (decision_of script S t).moves S in let b = goes.told in omega arith })
   | inr pays ↦ inr pays
 ]
@@ -115,15 +165,22 @@ sound-pays script S t ms sane pays =
     subst (λ (l : List Move). Sound script S (perform t l S) (tell t l S)) (sym pays.moves)
     (subst (Sound script S (moved t (move.Pay pays.what) S)) (sym (append-nil (told (move.Pay pays.what) S))) (sound-pay script S t pays.what pays.rest pays.owes sane))
 
-sound-row_action : (script : Script) (S : State) (t : ObjNo) (row : Option ThreadRow) → IsShaped script → AreRows script S → thread_of S t ≡ row → let ms = (decision_of_row S t row (task_of_row script (first_owed S t) row)).moves in Sound script S (perform t ms S) (tell t ms S)
-sound-row_action script S t None shaped rows is = sound-none script S rows
-sound-row_action script S t (Some row) shaped rows is =
-    let ms = (decision_of_row S t (Some row) (task_of_row script (first_owed S t) (Some row))).moves in
-    elim (acts script S t (Some row) shaped rows is) as (λ _. Sound script S (perform t ms S) (tell t ms S)) [
-      | inl goes ↦ each-sound script S t ms goes.each goes.few (sane-of script S t row rows is)
-      | inr pays ↦ sound-pays script S t ms (sane-of script S t row rows is) pays
-    ]
+sound-acts : (script : Script) (S : State) (t : ObjNo) (ms : List Move) → AreRows script S → t.0 < length S.threads → Goes script t S ms ⊎ Pays S t ms → Sound script S (perform t ms S) (tell t ms S)
+sound-acts script S t ms rows within acts = elim acts as (λ _. Sound script S (perform t ms S) (tell t ms S)) [
+  | inl goes ↦ each-sound script S t ms goes.each goes.few (record { rows = rows; inside = within })
+  | inr pays ↦ sound-pays script S t ms (record { rows = rows; inside = within }) pays
+]
+
+-- a number past the threads does nothing
+no_thread : (script : Script) (S : State) (t : ObjNo) → thread_of S t ≡ None → (able : Bool) → (decision_where able S t (task_of script S t)).moves ≡ []
+no_thread script S t none false = refl
+no_thread script S t none true = rw none refl
 
 -- what an action of a thread does
 pub sound-action : (script : Script) (S : State) (t : ObjNo) → IsShaped script → AreRows script S → Sound script S (perform t (decision_of script S t).moves S) (tell t (decision_of script S t).moves S)
-sound-action script S t shaped rows = sound-row_action script S t (thread_of S t) shaped rows refl
+sound-action script S t shaped rows = elim (cases_lt t.0 (length S.threads)) as (λ _. Sound script S (perform t (decision_of script S t).moves S) (tell t (decision_of script S t).moves S)) [
+  | inl within ↦ sound-acts script S t (decision_of script S t).moves rows within (acts script S t (is_able script S t) shaped rows refl)
+  | inr past ↦
+      let none = no_thread script S t (get_or_past S.threads t.0 None past) (is_able script S t) in
+      subst (λ (ms : List Move). Sound script S (perform t ms S) (tell t ms S)) (sym none) (sound-none script S rows)
+]

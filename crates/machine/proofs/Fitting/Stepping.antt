@@ -5,12 +5,16 @@ use Rattle.sym_base.specs.declared.error.Error.{Error}
 use Rattle.sym_base.specs.declared.number.ObjNo.{ObjNo}
 use Rattle.script_types.specs.declared.script.Script.{Script}
 use Rattle.script_types.specs.declared.instruction.Instr.{Instr}
+use Rattle.script_types.specs.declared.source_line.SourceLine.TheVariants as line
+use Rattle.script_types.specs.Ranges.{is_source_line}
+use Rattle.script_types.specs.Resolves.{instr_resolves}
 use Rattle.script_types.specs.Shape.{HasRegisters}
 use Rattle.entry_log.specs.declared.effect.Holder.TheVariants.{Temp}
 use Rattle.entry_log.specs.declared.step.Part.{Part}
 use Rattle.entry_log.specs.declared.step.Step.{Step}
 use Rattle.machine.specs.declared.decision.Decision.{Decision}
 use Rattle.machine.specs.declared.moves.Move.TheVariants.{GoOn, Gain}
+use Rattle.machine.specs.declared.state.Waiting.TheVariants as waiting
 use Rattle.machine.specs.declared.state.ThreadRow.{ThreadRow}
 use Rattle.machine.specs.declared.state.State.{State}
 use Rattle.machine.specs.Rows.{object_of, thread_of, owed_of, with_row}
@@ -18,7 +22,7 @@ use Rattle.machine.specs.Moves.{moved, with_part}
 use Rattle.machine.specs.Decide.{nothing, refuse, go_on}
 use Rattle.machine.specs.References.{total}
 use Rattle.machine.specs.HeldIn.{owed_by}
-use Rattle.machine.specs.Task.{instructions_of}
+use Rattle.machine.specs.Task.{instructions_of, wanted_holder}
 use Rattle.machine.specs.Fits.{EachFits, most_told, most_owed, IsAtInstruction, MayGoOn, IsFree}
 use Rattle.machine.specs.WellFormed.{IsAlive, AreRows, is_before_use}
 use Rattle.machine.proofs.Holders.ThreadRows.{row-here}
@@ -30,13 +34,18 @@ pub record FitsDecision (script : Script) (t : ObjNo) (S : State) (d : Decision)
   pub told : total most_told d.moves ≤ 4
   pub light : total most_owed d.moves ≤ 12
 
--- thread t is about to make a step of this instruction, and owes nothing
+-- thread t is about to make a step of this instruction: it owes nothing, doesn't wait, and wants no fast mutex that is
+-- held; and the instruction is one of a valid script
 pub record IsStepping (script : Script) (S : State) (t : ObjNo) (row : ThreadRow) (instr : Instr) : Type 0 where
   pub rows : AreRows script S
   pub is : thread_of S t ≡ Some row
   pub next : row.next_instruction < length (instructions_of script row.role)
   pub paid : owed_of S t ≡ []
   pub registers : HasRegisters instr
+  pub names : instr_resolves script instr ≡ true
+  pub ranges : is_source_line (line.Instr instr) ≡ true
+  pub waits : row.waiting ≡ waiting.Nothing
+  pub free : wanted_holder S.nano t ≡ None
 
 pub fits-nothing : (script : Script) (S : State) (t : ObjNo) → FitsDecision script t S nothing
 fits-nothing script S t = record { each = tt; told = omega arith; light = omega arith }

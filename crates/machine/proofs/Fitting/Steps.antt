@@ -32,6 +32,7 @@ use Rattle.machine.specs.WellFormed.{is_before_use, part_of}
 use Rattle.machine.proofs.Lists.Cases.{if_cases}
 use Rattle.machine.proofs.RowLaws.Tables.{object_in_is}
 use Rattle.machine.proofs.Fitting.Living.{use_is_alive}
+use Rattle.machine.proofs.Fitting.KernelThreads.{fits-unless}
 use Rattle.machine.proofs.Fitting.Stepping.{FitsDecision, IsStepping, fits-nothing, fits-refuse, at_instruction, at-with_row}
 use Rattle.machine.proofs.Fitting.Shared.{fits-look, fits-seek, fits-return, fits-handle, fits-give}
 
@@ -63,7 +64,7 @@ fits-open_do {script = script} {S = S} {t = t} x None h register e = fits-nothin
 fits-open_do {S = S} {t = t} {row = row} x (Some o) h register e = fits-give (Of word.Open part.Do) o x h register (use_is_alive S t row o h.rows.lives h.is e)
 
 pub fits-open : {script : Script} {S : State} {t : ObjNo} {row : ThreadRow} {instr : Instr} (kind : Kind) (name : List ℕ) (x : ℕ) (p : Option Part) → IsStepping script S t row instr → x < 8 → row.part ≡ p → FitsDecision script t S (open_step S t row kind name x p)
-fits-open kind name x None h register at = fits-seek word.Open kind name h (ap is_before_use at)
+fits-open kind name x None h register at = fits-unless (Of word.Open part.Seek) _ h (λ _. fits-seek word.Open kind name h (ap is_before_use at))
 fits-open {row = row} kind name x (Some p) h register at = fits-open_do x row.uses h register refl
 
 pub fits-open_return : {script : Script} {S : State} {t : ObjNo} {row : ThreadRow} {instr : Instr} → IsStepping script S t row instr → is_before_use row.part ≡ true → FitsDecision script t S (open_return S t row)

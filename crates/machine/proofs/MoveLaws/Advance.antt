@@ -24,6 +24,7 @@ use Rattle.machine.proofs.References.Counts.{count-with_row, kernel-with_row, to
 use Rattle.machine.proofs.References.Same.{if_zero}
 use Rattle.machine.proofs.RowLaws.Threads.{length-with_row, threads-with_row}
 use Rattle.machine.proofs.RowLaws.Duties.{paid-with_row, duties-threads, duties-owing}
+use Rattle.machine.proofs.RowLaws.Synchronized.{synchronized-with_row}
 use Rattle.machine.proofs.MoveLaws.Sound.{Sound, sound-of}
 
 -- what the thread used is what it owes then
@@ -102,4 +103,5 @@ sound-advance script S t u fits few inside rows =
       duties = duties-owing (with_row S.threads u advanced) S.owed u (owed_use u used)
           (may_owe_use (with_row S.threads u advanced) u used) (omega arith) (ap (λ (x : Option ThreadRow). is_returning (part_of x)) (row-here S.threads u advanced u.0 refl) ∙ going old)
           (duties-threads S.threads (with_row S.threads u advanced) S.owed (λ k. inr (paid-with_row S.threads u advanced (λ row h. refl) k)) rows.duties);
+      nano = synchronized-with_row script S.threads u advanced S.nano (λ row h. h) rows.nano;
     }) (lives-none S T refl counts sweeps) (holders-none S T held)

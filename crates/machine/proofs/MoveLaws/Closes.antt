@@ -18,7 +18,7 @@ use Rattle.machine.specs.References.{total, same, thread_names, owed_names, opti
 use Rattle.machine.specs.Holding.{is_holder, same_pair, link_names}
 use Rattle.machine.specs.HeldIn.{held_in, use_names, owed_by}
 use Rattle.machine.specs.Task.{is_returning}
-use Rattle.machine.specs.WellFormed.{IsAlive, AreTables, AreThreads, AreDuties, EachMayOwe, AreRows, weight, owed_sweeps, sweeps_of, part_of}
+use Rattle.machine.specs.WellFormed.{IsAlive, AreTables, AreThreads, AreDuties, AreSynchronized, EachMayOwe, AreRows, weight, owed_sweeps, sweeps_of, part_of}
 use Rattle.machine.proofs.Lives.Closes.{lives-closed}
 use Rattle.machine.proofs.Holders.HoldersMove.{holders-closed}
 use Rattle.machine.proofs.Holders.ThreadRows.{rows-with_row}
@@ -26,6 +26,7 @@ use Rattle.machine.proofs.References.Counts.{count-with_row, kernel-with_row, to
 use Rattle.machine.proofs.References.Same.{if_zero, same_self}
 use Rattle.machine.proofs.RowLaws.Threads.{length-with_row, threads-with_row, none-with_row}
 use Rattle.machine.proofs.RowLaws.Duties.{paid-with_row, duties-threads, duties-owing}
+use Rattle.machine.proofs.RowLaws.Synchronized.{synchronized-with_row}
 use Rattle.machine.proofs.MoveLaws.Sound.{Sound, sound-of}
 
 -- the rows in the middle of a close of an object: a holder's reference to it isn't there any more
@@ -40,6 +41,7 @@ pub record HasLost (script : Script) (S : State) (t : ObjNo) (h : Holder) (o : O
   pub tables : AreTables handles
   pub threads_are : AreThreads script threads
   pub duties : AreDuties threads owed
+  pub nano : AreSynchronized script threads S.nano
   pub going : is_returning (part_of (get_or threads t.0 None)) ≡ false
   pub few : total weight (get_or owed t.0 []) + total weight (owed_by_close (is_last S o) o (link_of S o)) ≤ 12
 
@@ -86,6 +88,7 @@ sound-closed false script S t h o handles threads owed e inside lost rows =
       tables = lost.tables;
       threads = lost.threads_are;
       duties = duties-owing threads owed t [] tt (omega arith) lost.going lost.duties;
+      nano = lost.nano;
     })
     (lives-closed false S T h o e alive refl
     (λ p. let a = total-owing (owed_names p) owed t [] here in let b = lost.counts p in omega arith)
@@ -114,6 +117,7 @@ sound-closed true script S t h o handles threads owed e inside lost rows =
       }) lost.threads_are;
       duties = duties-owing other owed t more (may_owe_link script threads other t o link lost.link lost.threads_are (none-with_row threads o f)) few ((paid-with_row threads o f (λ row r. r) t.0).going lost.going)
           (duties-threads threads other owed (λ k. inr (paid-with_row threads o f (λ row r. r) k)) lost.duties);
+      nano = synchronized-with_row script threads o f S.nano (λ row r. r) lost.nano;
     })
     (lives-closed true S T h o e alive refl
     (λ p.

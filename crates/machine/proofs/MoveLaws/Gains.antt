@@ -18,7 +18,7 @@ use Rattle.machine.specs.References.{same, thread_names, option_names, slot_name
 use Rattle.machine.specs.Holding.{is_holder, same_pair}
 use Rattle.machine.specs.HeldIn.{held_in, use_names, own_slot, rows_hold}
 use Rattle.machine.specs.Fits.{FitsMove, IsFree, IsFreeSlot, UsesNothing}
-use Rattle.machine.specs.WellFormed.{AreTables, AreThreads, AreDuties, AreRows, MayOwe}
+use Rattle.machine.specs.WellFormed.{AreTables, AreThreads, AreDuties, AreSynchronized, AreRows, MayOwe}
 use Rattle.machine.proofs.Lives.Kinds.{lives-plus, lives-made}
 use Rattle.machine.proofs.Holders.HoldersMove.{holders-plus}
 use Rattle.machine.proofs.Holders.SlotRows.{slot_holder, rows-with_slot}
@@ -28,6 +28,7 @@ use Rattle.machine.proofs.References.Same.{if_zero}
 use Rattle.machine.proofs.RowLaws.Tables.{length-with_slot, tables-with_slot, taken_keeps, table_inside}
 use Rattle.machine.proofs.RowLaws.Threads.{length-with_row, threads-with_row}
 use Rattle.machine.proofs.RowLaws.Duties.{paid-with_row, duties-threads, none_owed, none_owed_temp}
+use Rattle.machine.proofs.RowLaws.Synchronized.{synchronized-with_row}
 use Rattle.machine.proofs.MoveLaws.Sound.{Sound, sound-of}
 
 -- the tables and threads where a holder got a reference
@@ -40,6 +41,7 @@ pub record HasGained (script : Script) (S : State) (h : Holder) (o : ObjNo) (han
   pub tables : AreTables handles
   pub threads_are : AreThreads script threads
   pub duties : AreDuties threads S.owed
+  pub nano : AreSynchronized script threads S.nano
 
 empty_slot : (c : Bool) (x : ObjNo) (slot : HandleSlot) → slot.object ≡ None → own_slot c x slot ≡ 0
 empty_slot true x slot e = refl
@@ -69,6 +71,7 @@ gained-slot script S thread owner i o is fits rows =
       tables = tables-with_slot S.handles owner i (taken_slot o) (taken_keeps o) rows.tables;
       threads_are = rows.threads;
       duties = rows.duties;
+      nano = rows.nano;
     }
 
 gained-use : (script : Script) (S : State) (u o : ObjNo) → UsesNothing S u → AreRows script S → HasGained script S (Temp u) o S.handles (with_row S.threads u (λ row. record row { uses = Some o }))
@@ -104,6 +107,7 @@ gained-use script S u o fits rows =
         process = refl;
       }) rows.threads;
       duties = duties-threads S.threads (with_row S.threads u f) S.owed (λ k. inr (paid-with_row S.threads u f (λ r h. h) k)) rows.duties;
+      nano = synchronized-with_row script S.threads u f S.nano (λ r h. h) rows.nano;
     }
 
 is_some_of : (x : Option ThreadRow) → x ≡ None → is_some x ≡ false
@@ -120,7 +124,7 @@ sound-gain script S t h o fits rows =
     let T = moved t (Gain h o) S in
     let g = gained script S h o fits.0 rows in
     sound-of script S T (told (Gain h o) S) rows
-    (record { handles_long = g.handles_long; threads_long = g.threads_long; owed_long = refl; objects_few = rows.sized.objects_few; tables = g.tables; threads = g.threads_are; duties = g.duties })
+    (record { handles_long = g.handles_long; threads_long = g.threads_long; owed_long = refl; objects_few = rows.sized.objects_few; tables = g.tables; threads = g.threads_are; duties = g.duties; nano = g.nano })
     (lives-plus S T h o refl g.counts (λ p. refl) fits.1) (holders-plus S T h o g.none g.held)
 
 pub sound-make : (script : Script) (S : State) (t : ObjNo) (kind : Kind) (name : List ℕ) (h : Holder) → FitsMove script t (Make kind name h) S → AreRows script S → Sound script S (moved t (Make kind name h) S) (told (Make kind name h) S)
@@ -131,5 +135,5 @@ sound-make script S t kind name h fits rows =
     let room = fits.0.room in
     let long = length_push S.objects (Some (new_object kind name)) in
     sound-of script S T (told (Make kind name h) S) rows
-    (record { handles_long = g.handles_long; threads_long = g.threads_long; owed_long = refl; objects_few = omega arith; tables = g.tables; threads = g.threads_are; duties = g.duties })
+    (record { handles_long = g.handles_long; threads_long = g.threads_long; owed_long = refl; objects_few = omega arith; tables = g.tables; threads = g.threads_are; duties = g.duties; nano = g.nano })
     (lives-made S T (new_object kind name) h o refl refl refl g.counts (λ p. refl)) (holders-plus S T h o g.none g.held)

@@ -24,6 +24,7 @@ use Rattle.machine.proofs.References.Same.{if_zero}
 use Rattle.machine.proofs.RowLaws.Tables.{length-with_slot, tables-with_slot, freed_keeps, slot_inside, table_inside}
 use Rattle.machine.proofs.RowLaws.Threads.{length-with_row, threads-with_row}
 use Rattle.machine.proofs.RowLaws.Duties.{paid-with_row, duties-threads}
+use Rattle.machine.proofs.RowLaws.Synchronized.{synchronized-with_row}
 use Rattle.machine.proofs.MoveLaws.Closes.{HasLost, sound-closed, close_weight}
 use Rattle.machine.proofs.MoveLaws.Sound.{Sound}
 
@@ -48,6 +49,7 @@ lost-slot script S t thread owner i o is there going few rows =
       tables = tables-with_slot S.handles owner i freed_slot freed_keeps rows.tables;
       threads_are = rows.threads;
       duties = rows.duties;
+      nano = rows.nano;
       going = going;
       few = omega arith;
     }
@@ -93,6 +95,7 @@ lost-use script S t u o uses going few rows =
         process = refl;
       }) rows.threads;
       duties = duties-threads S.threads (with_row S.threads u f) S.owed (λ k. inr (paid-with_row S.threads u f (λ r h. h) k)) rows.duties;
+      nano = synchronized-with_row script S.threads u f S.nano (λ r h. h) rows.nano;
       going = (paid-with_row S.threads u f (λ r h. h) t.0).going going;
       few = omega arith;
     }

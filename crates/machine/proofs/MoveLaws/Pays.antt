@@ -58,6 +58,7 @@ sound-pay_close script S t h o rest e inside rows =
       tables = rows.tables;
       threads_are = rows.threads;
       duties = duties-without_first S.threads S.owed t rows.duties;
+      nano = rows.nano;
       going = not_returning (is_returning (part_of (thread_of S t))) refl (owed_of S t) (Close h o) rest e (rows.duties.returns t.0);
       few = let a = ap (total weight) left in omega arith;
     }) rows
@@ -95,6 +96,7 @@ sound-pay_sweep script S t o rest e inside rows =
       tables = rows.tables;
       threads = rows.threads;
       duties = duties-without_first S.threads S.owed t rows.duties;
+      nano = rows.nano;
     })
     (lives-swept S T o there dead refl counts (λ p. let a = paid p in omega arith))
     (record { fits = (tt, tt); moves = λ g x. let a = total-paying (owed_by g x) S.owed t (Sweep o) rest here e in omega arith }))

@@ -1,4 +1,5 @@
--- Moves that change a thread's row, and no reference: a find, another step, a register; and a miss.
+-- Moves that change a thread's row, and no reference: a find, another step, a register, a wait and its end, a priority; and a
+-- miss.
 use Rattle.std.proofs.Common.{◌≡◌, ◌⊎◌, inl, inr, ℕ, ◌+◌, ◌<◌, List, [], ◌∷◌, length, get_or, arith, refl, sym, subst, ap, ◌∙◌, Option, Some, None}
 use Rattle.std.specs.Prelude.{option_map, if◌then◌else◌, slice_set}
 use Rattle.std.proofs.lemmas.Bool.{cases_Bool, cases_eq}
@@ -10,25 +11,29 @@ use Rattle.entry_log.specs.declared.effect.Holder.TheVariants.{Temp, Link}
 use Rattle.entry_log.specs.declared.effect.Effect.{Effect}
 use Rattle.entry_log.specs.declared.effect.Effect.TheVariants.{Seek, Missed}
 use Rattle.entry_log.specs.declared.step.Part.{Part}
-use Rattle.machine.specs.declared.moves.Move.TheVariants.{Find, Miss, GoOn, Write}
+use Rattle.state_rows.specs.declared.nano.NanoRows.{NanoRows}
+use Rattle.machine.specs.declared.moves.Move.TheVariants.{Find, Miss, GoOn, Write, Wait, Wake, SetPriority}
 use Rattle.machine.specs.declared.state.Found.TheVariants.{Object}
+use Rattle.machine.specs.declared.state.Waiting.{Waiting}
+use Rattle.machine.specs.declared.state.Waiting.TheVariants as waiting
 use Rattle.machine.specs.declared.state.ThreadRow.{ThreadRow}
 use Rattle.machine.specs.declared.state.State.{State}
 use Rattle.machine.specs.Rows.{thread_of, with_row}
-use Rattle.machine.specs.Moves.{moved, told}
+use Rattle.machine.specs.Moves.{moved, told, with_waiting, with_priority}
 use Rattle.machine.specs.References.{thread_names, count_of, pluses}
 use Rattle.machine.specs.Told.{finds}
 use Rattle.machine.specs.Holding.{is_holder, held_after_all, EachFitsHolders, link_names}
 use Rattle.machine.specs.HeldIn.{held_in, use_names}
 use Rattle.machine.specs.Task.{is_returning}
 use Rattle.machine.specs.Fits.{FitsMove}
-use Rattle.machine.specs.WellFormed.{IsThread, AreRows, part_of}
+use Rattle.machine.specs.WellFormed.{IsThread, AreSynchronized, AreRows, part_of}
 use Rattle.machine.proofs.Lives.Kinds.{IsQuiet, lives-quiet}
 use Rattle.machine.proofs.Holders.ThreadRows.{row_holds, rows-with_row, row-other}
 use Rattle.machine.proofs.References.Counts.{count-with_row, kernel-with_row}
 use Rattle.machine.proofs.References.Same.{same_is}
 use Rattle.machine.proofs.RowLaws.Threads.{KeepsThread, length-with_row, threads-with_row, none-with_row}
 use Rattle.machine.proofs.RowLaws.Duties.{IsPaidIn, paid-with_row, duties-threads}
+use Rattle.machine.proofs.RowLaws.Synchronized.{synchronized-with_row, synchronized-unheld}
 use Rattle.machine.proofs.MoveLaws.Sound.{Sound, sound-of}
 
 -- effects that tell of no reference and no death
@@ -39,7 +44,8 @@ pub record IsSilent (S : State) (effects : List Effect) : Type 0 where
   pub fits : EachFitsHolders (held_in S) effects
   pub after : (g : Holder) (x : ObjNo) → held_after_all (held_in S) effects g x ≡ held_in S g x
 
-silent : (S : State) → IsSilent S []
+-- such are none
+pub silent : (S : State) → IsSilent S []
 silent S = record { quiet = record { minuses = λ o. refl; deaths = λ o. refl; removals = λ o. refl }; pluses = λ o. refl; found = λ o h. absurd (omega arith); fits = tt; after = λ g x. refl }
 
 -- a change of a row that leaves its references
@@ -51,8 +57,8 @@ names-map : (f : ThreadRow → ThreadRow) (x : Option ThreadRow) (o : ObjNo) →
 names-map f None o h = (refl, refl, refl)
 names-map f (Some row) o h = let a = h.uses row in let b = h.link row in (cc, cc, cc)
 
-pub sound-row : (script : Script) (S : State) (u : ObjNo) (f : ThreadRow → ThreadRow) (effects : List Effect) → KeepsReferences f → ((row : ThreadRow) → thread_of S u ≡ Some row → IsThread script (length S.threads) row → KeepsThread script (length S.threads) row (f row)) → ((k : ℕ) → (get_or S.owed k [] ≡ []) ⊎ IsPaidIn S.threads (with_row S.threads u f) k) → IsSilent S effects → AreRows script S → Sound script S (record S { threads = with_row S.threads u f }) effects
-sound-row script S u f effects keeps thread paid quiet rows =
+pub sound-row : (script : Script) (S : State) (u : ObjNo) (f : ThreadRow → ThreadRow) (effects : List Effect) → KeepsReferences f → ((row : ThreadRow) → thread_of S u ≡ Some row → IsThread script (length S.threads) row → KeepsThread script (length S.threads) row (f row)) → ((k : ℕ) → (get_or S.owed k [] ≡ []) ⊎ IsPaidIn S.threads (with_row S.threads u f) k) → IsSilent S effects → AreSynchronized script (with_row S.threads u f) S.nano → AreRows script S → Sound script S (record S { threads = with_row S.threads u f }) effects
+sound-row script S u f effects keeps thread paid quiet nano rows =
     let T : State = record S { threads = with_row S.threads u f } in
     let old = thread_of S u in
     let counts : (o : ObjNo) → count_of T o ≡ count_of S o = λ o.
@@ -71,6 +77,7 @@ sound-row script S u f effects keeps thread paid quiet rows =
       tables = rows.tables;
       threads = threads-with_row script S.threads u f thread rows.threads;
       duties = duties-threads S.threads (with_row S.threads u f) S.owed paid rows.duties;
+      nano = nano;
     })
     (lives-quiet S T effects refl quiet.quiet (λ o. let a = counts o in let b = quiet.pluses o in let c = quiet.quiet.minuses o in omega arith) (λ o. refl) (λ o h. let b = quiet.pluses o in absurd (omega arith)) quiet.found)
     (record { fits = quiet.fits; moves = λ g x. quiet.after g x ∙ sym (held g x) })
@@ -85,12 +92,12 @@ sound-find script S t u o fits rows = sound-row script S u (λ row. record row {
       found = λ p h. subst (λ (y : ObjNo). y.0 < length S.objects) (same_is o p (omega arith)) fits;
       fits = (tt, tt);
       after = λ g x. refl;
-    }) rows
+    }) (synchronized-with_row script S.threads u (λ row. record row { found = Object o }) S.nano (λ row h. h) rows.nano) rows
 
 pub sound-write : (script : Script) (S : State) (t u : ObjNo) (x value : ℕ) → FitsMove script t (Write u x value) S → AreRows script S → Sound script S (moved t (Write u x value) S) (told (Write u x value) S)
 sound-write script S t u x value fits rows = sound-row script S u (λ row. record row { registers = slice_set row.registers x value }) [] (record { link = λ row. refl; uses = λ row. refl })
     (λ row is h. record { thread = record { process = h.process; link = h.link; priority = h.priority; next_instruction = h.next_instruction; unused = h.unused; registers = length-set row.registers x value ∙ h.registers }; process = refl })
-    (λ k. inr (paid-with_row S.threads u (λ row. record row { registers = slice_set row.registers x value }) (λ row h. h) k)) (silent S) rows
+    (λ k. inr (paid-with_row S.threads u (λ row. record row { registers = slice_set row.registers x value }) (λ row h. h) k)) (silent S) (synchronized-with_row script S.threads u (λ row. record row { registers = slice_set row.registers x value }) S.nano (λ row h. h) rows.nano) rows
 
 pub sound-go_on : (script : Script) (S : State) (t u : ObjNo) (part : Part) → FitsMove script t (GoOn u part) S → AreRows script S → Sound script S (moved t (GoOn u part) S) (told (GoOn u part) S)
 sound-go_on script S t u part fits rows =
@@ -106,10 +113,32 @@ sound-go_on script S t u part fits rows =
           going = λ h. ap (λ (y : Option ThreadRow). is_returning (part_of y)) (row-other S.threads u f k apart) ∙ h;
         })
       ]
-    ]) (silent S) rows
+    ]) (silent S) (synchronized-with_row script S.threads u f S.nano (λ row h. h) rows.nano) rows
+
+-- a change of what a thread waits for
+sound-waiting : (script : Script) (S : State) (u : ObjNo) (what : Waiting) → AreSynchronized script (with_row S.threads u (with_waiting what)) S.nano → AreRows script S → Sound script S (record S { threads = with_row S.threads u (with_waiting what) }) []
+sound-waiting script S u what nano rows = sound-row script S u (with_waiting what) [] (record { link = λ row. refl; uses = λ row. refl })
+    (λ row is h. record { thread = record { process = h.process; link = h.link; priority = h.priority; next_instruction = h.next_instruction; unused = h.unused; registers = h.registers }; process = refl })
+    (λ k. inr (paid-with_row S.threads u (with_waiting what) (λ row h. h) k)) (silent S) nano rows
+
+pub sound-wait : (script : Script) (S : State) (t u : ObjNo) (what : Waiting) → FitsMove script t (Wait u what) S → AreRows script S → Sound script S (moved t (Wait u what) S) (told (Wait u what) S)
+sound-wait script S t u what fits rows = sound-waiting script S u what (synchronized-unheld script S.threads u (with_waiting what) S.nano fits rows.nano) rows
+
+pub sound-wake : (script : Script) (S : State) (t u : ObjNo) → AreRows script S → Sound script S (moved t (Wake u) S) (told (Wake u) S)
+sound-wake script S t u rows = sound-waiting script S u waiting.Nothing (synchronized-with_row script S.threads u (with_waiting waiting.Nothing) S.nano (λ row h. refl) rows.nano) rows
+
+pub sound-priority : (script : Script) (S : State) (t u : ObjNo) (priority : ℕ) → FitsMove script t (SetPriority u priority) S → AreRows script S → Sound script S (moved t (SetPriority u priority) S) (told (SetPriority u priority) S)
+sound-priority script S t u priority fits rows = sound-row script S u (with_priority priority) [] (record { link = λ row. refl; uses = λ row. refl })
+    (λ row is h. record { thread = record { process = h.process; link = h.link; priority = fits; next_instruction = h.next_instruction; unused = h.unused; registers = h.registers }; process = refl })
+    (λ k. inr (paid-with_row S.threads u (with_priority priority) (λ row h. h) k)) (silent S) (synchronized-with_row script S.threads u (with_priority priority) S.nano (λ row h. h) rows.nano) rows
+
+-- a change of the rows of threads that synchronize leaves all else
+pub sound-rest : (script : Script) (S : State) (nano : NanoRows) (effects : List Effect) → IsSilent S effects → AreSynchronized script S.threads nano → AreRows script S → Sound script S (record S { nano = nano }) effects
+sound-rest script S nano effects quiet sound rows =
+    let T : State = record S { nano = nano } in
+    sound-of script S T effects rows (record { handles_long = refl; threads_long = refl; owed_long = refl; objects_few = rows.sized.objects_few; tables = rows.tables; threads = rows.threads; duties = rows.duties; nano = sound })
+    (lives-quiet S T effects refl quiet.quiet (λ o. let b = quiet.pluses o in let c = quiet.quiet.minuses o in omega arith) (λ o. refl) (λ o h. let b = quiet.pluses o in absurd (omega arith)) quiet.found)
+    (record { fits = quiet.fits; moves = quiet.after })
 
 pub sound-miss : (script : Script) (S : State) (t o : ObjNo) → AreRows script S → Sound script S (moved t (Miss o) S) (told (Miss o) S)
-sound-miss script S t o rows =
-    sound-of script S S (Missed o ∷ []) rows (record { handles_long = refl; threads_long = refl; owed_long = refl; objects_few = rows.sized.objects_few; tables = rows.tables; threads = rows.threads; duties = rows.duties })
-    (lives-quiet S S (Missed o ∷ []) refl (record { minuses = λ p. refl; deaths = λ p. refl; removals = λ p. refl }) (λ p. refl) (λ p. refl) (λ p h. absurd (omega arith)) (λ p h. absurd (omega arith)))
-    (record { fits = (tt, tt); moves = λ g x. refl })
+sound-miss script S t o rows = sound-rest script S S.nano (Missed o ∷ []) (record { quiet = record { minuses = λ p. refl; deaths = λ p. refl; removals = λ p. refl }; pluses = λ p. refl; found = λ p h. absurd (omega arith); fits = (tt, tt); after = λ g x. refl }) rows.nano rows

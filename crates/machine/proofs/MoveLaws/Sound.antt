@@ -6,7 +6,7 @@ use Rattle.script_types.specs.declared.script.Script.{Script}
 use Rattle.entry_log.specs.declared.effect.Effect.{Effect}
 use Rattle.machine.specs.declared.state.State.{State}
 use Rattle.machine.specs.Told.{removals}
-use Rattle.machine.specs.WellFormed.{AreTables, AreThreads, AreDuties, AreRows}
+use Rattle.machine.specs.WellFormed.{AreTables, AreThreads, AreDuties, AreSynchronized, AreRows}
 use Rattle.machine.proofs.Lives.LivesMove.{LivesMove, lives-then, lives-kept}
 use Rattle.machine.proofs.Lives.Kinds.{lives-none}
 use Rattle.machine.proofs.Holders.HoldersMove.{HoldersMove, holders-then, holders-none}
@@ -38,6 +38,7 @@ pub record AreParts (script : Script) (S T : State) : Type 0 where
   pub tables : AreTables T.handles
   pub threads : AreThreads script T.threads
   pub duties : AreDuties T.threads T.owed
+  pub nano : AreSynchronized script T.threads T.nano
 
 pub sound-of : (script : Script) (S T : State) (effects : List Effect) → AreRows script S → AreParts script S T → LivesMove S T effects → HoldersMove S T effects → Sound script S T effects
 sound-of script S T effects rows parts lives holders =
@@ -58,6 +59,7 @@ sound-of script S T effects rows parts lives holders =
         tables = parts.tables;
         threads = parts.threads;
         duties = parts.duties;
+        nano = parts.nano;
         lives = lives-kept S T effects lives rows.lives;
       };
       long = parts.threads_long;

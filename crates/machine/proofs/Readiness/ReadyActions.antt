@@ -1,13 +1,14 @@
 -- After each action the ready list has exactly the threads that are ready, each once.
 use Rattle.std.proofs.Common.{◌≡◌, inl, inr, List, [], ◌∷◌, ◌++◌, refl, sym, ap, ◌∙◌, Option, Some, None, Bool, true, false}
 use Rattle.std.specs.Prelude.{◌==◌, ◌&&◌, ◌||◌, not, if◌then◌else◌, filter}
-use Rattle.std.proofs.lemmas.Bool.{cases_eq, cases_Bool, eq-eqb, eqb-true, ne_eqb}
+use Rattle.std.proofs.lemmas.Bool.{cases_eq, cases_Bool, eq-eqb, eqb-true, eqb-false, ne_eqb, or_parts}
 use Rattle.sym_base.specs.declared.number.ObjNo.{ObjNo}
 use Rattle.script_types.specs.declared.script.Script.{Script}
 use Rattle.machine.specs.declared.moves.Move.{Move}
+use Rattle.machine.specs.declared.moves.Move.TheVariants.{SetPriority}
 use Rattle.machine.specs.declared.state.State.{State}
 use Rattle.machine.specs.Moves.{moved, perform}
-use Rattle.machine.specs.Arrivals.{is_listed, unlisted, touched, arrive, arrivals, ready_after}
+use Rattle.machine.specs.Arrivals.{is_listed, unlisted, touched, taken_out, arrive, arrivals, ready_after}
 use Rattle.machine.specs.Task.{is_ready}
 use Rattle.machine.specs.Tick.{moved_behind}
 use Rattle.machine.specs.WellFormed.{AreApart, IsReadyList}
@@ -58,18 +59,30 @@ arrive-apart : (script : Script) (S : State) (us qs : List ObjNo) → AreApart q
 arrive-apart script S [] qs h = h
 arrive-apart script S (v ∷ us) qs h = arrive-apart script S us (come (is_ready script S v) v qs) (come_if v qs (is_ready script S v) AreApart (λ none. apart-push qs v h none) h)
 
-complete-move : (script : Script) (S : State) (t : ObjNo) (m : Move) (qs : List ObjNo) → IsComplete script S qs → IsComplete script (moved t m S) (arrive script (moved t m S) (touched t m) qs)
+-- whoever isn't the thread that is taken out is listed still
+listed-unlisted : (qs : List ObjNo) (v u : ObjNo) → (u.0 == v.0) ≡ false → is_listed qs u ≡ true → is_listed (unlisted v qs) u ≡ true
+listed-unlisted qs v u apart h = listed-filter (λ q. not (q.0 == v.0)) qs u ∙ rw (h, apart) refl
+
+listed-taken_out : (t : ObjNo) (m : Move) (qs : List ObjNo) (u : ObjNo) → is_listed (touched t m) u ≡ false → is_listed qs u ≡ true → is_listed (taken_out m qs) u ≡ true
+listed-taken_out t (SetPriority v priority) qs u none h = listed-unlisted qs v u (ne_eqb u.0 v.0 (λ at. eqb-false v.0 u.0 (or_parts (v.0 == u.0) false none).0 (sym at))) h
+listed-taken_out t _ qs u none h = h
+
+apart-taken_out : (m : Move) (qs : List ObjNo) → AreApart qs → AreApart (taken_out m qs)
+apart-taken_out (SetPriority v priority) qs h = apart-filter (λ q. not (q.0 == v.0)) qs h
+apart-taken_out _ qs h = h
+
+complete-move : (script : Script) (S : State) (t : ObjNo) (m : Move) (qs : List ObjNo) → IsComplete script S qs → IsComplete script (moved t m S) (arrive script (moved t m S) (touched t m) (taken_out m qs))
 complete-move script S t m qs h = record {
-  listed = λ u ready. elim (cases_Bool (is_listed (touched t m) u)) as (λ _. is_listed (arrive script (moved t m S) (touched t m) qs) u ≡ true) [
-    | inl there ↦ arrive-has script (moved t m S) (touched t m) qs u there ready
-    | inr none ↦ arrive-keeps script (moved t m S) (touched t m) qs u (h.listed u (sym (untouched script S t m u none) ∙ ready))
+  listed = λ u ready. elim (cases_Bool (is_listed (touched t m) u)) as (λ _. is_listed (arrive script (moved t m S) (touched t m) (taken_out m qs)) u ≡ true) [
+    | inl there ↦ arrive-has script (moved t m S) (touched t m) (taken_out m qs) u there ready
+    | inr none ↦ arrive-keeps script (moved t m S) (touched t m) (taken_out m qs) u (listed-taken_out t m qs u none (h.listed u (sym (untouched script S t m u none) ∙ ready)))
   ];
-  once = arrive-apart script (moved t m S) (touched t m) qs h.once;
+  once = arrive-apart script (moved t m S) (touched t m) (taken_out m qs) (apart-taken_out m qs h.once);
 }
 
 complete-moves : (script : Script) (S : State) (t : ObjNo) (ms : List Move) (qs : List ObjNo) → IsComplete script S qs → IsComplete script (perform t ms S) (arrivals script t ms S qs)
 complete-moves script S t [] qs h = h
-complete-moves script S t (m ∷ ms) qs h = complete-moves script (moved t m S) t ms (arrive script (moved t m S) (touched t m) qs) (complete-move script S t m qs h)
+complete-moves script S t (m ∷ ms) qs h = complete-moves script (moved t m S) t ms (arrive script (moved t m S) (touched t m) (taken_out m qs)) (complete-move script S t m qs h)
 
 -- those of them that are ready are the ready ones
 ready-filter : (script : Script) (S : State) (qs : List ObjNo) → IsComplete script S qs → IsReadyList script S (filter (is_ready script S) qs)

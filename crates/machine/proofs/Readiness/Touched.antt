@@ -1,6 +1,6 @@
 -- A move changes the readiness of no other threads than those that it touches.
-use Rattle.std.proofs.Common.{◌≡◌, inl, inr, ℕ, List, [], ◌∷◌, get_or, refl, sym, ap, ◌∙◌, Option, Some, None, Bool, true, false}
-use Rattle.std.specs.Prelude.{option_map, is_some, ◌==◌, slice_set}
+use Rattle.std.proofs.Common.{◌≡◌, ◌≢◌, inl, inr, ℕ, ◌+◌, List, [], ◌∷◌, get_or, refl, sym, ap, ◌∙◌, Option, Some, None, Bool, true, false}
+use Rattle.std.specs.Prelude.{option_map, is_some, not, ◌&&◌, ◌==◌, if◌then◌else◌, slice_set}
 use Rattle.std.proofs.lemmas.Bool.{cases_eq, eqb-false, or_parts}
 use Rattle.std.proofs.lemmas.List.{get_or-set_other}
 use Rattle.sym_base.specs.declared.number.ObjNo.{ObjNo}
@@ -9,43 +9,59 @@ use Rattle.entry_log.specs.declared.effect.Holder.{Holder}
 use Rattle.entry_log.specs.declared.effect.Holder.TheVariants.{Temp}
 use Rattle.state_rows.specs.declared.duty.Owed.{Owed}
 use Rattle.state_rows.specs.declared.duty.Owed.TheVariants.{Close, Sweep}
+use Rattle.state_rows.specs.declared.nano.NanoRows.{NanoRows}
+use Rattle.state_rows.specs.Nano.{suspend_count, critical_count, held_by, is_protected}
+use Rattle.state_rows.specs.NanoChanges.{after_suspend}
+use Rattle.state_rows.proofs.OtherThreads.{held_by-after_take, held_by-after_give, count-other}
 use Rattle.machine.specs.declared.moves.Move.{Move}
-use Rattle.machine.specs.declared.moves.Move.TheVariants.{Make, Gain, Lose, Find, Miss, GoOn, Write, Advance, Pay}
+use Rattle.machine.specs.declared.moves.Move.TheVariants.{Make, Gain, Lose, Find, Miss, GoOn, Write, Advance, Wait, Wake, SetPriority, Nano, Pay}
+use Rattle.machine.specs.declared.nano_move.NanoMove.{NanoMove}
+use Rattle.machine.specs.declared.nano_move.NanoMove.TheVariants.{Take, Give, Enter, Leave, LeaveAll, Suspend, Resume}
+use Rattle.machine.specs.declared.state.Waiting.TheVariants as waiting
 use Rattle.machine.specs.declared.state.ThreadRow.{ThreadRow}
 use Rattle.machine.specs.declared.state.State.{State}
-use Rattle.machine.specs.Rows.{first_of, first_owed, with_row}
-use Rattle.machine.specs.Moves.{moved, threads_gain, threads_lose, threads_closed, next_object, with_use, unlinked, with_found, with_part, with_register, advanced}
+use Rattle.machine.specs.Rows.{thread_of, first_of, first_owed, with_row}
+use Rattle.machine.specs.Moves.{moved, threads_gain, threads_lose, threads_closed, next_object, with_use, unlinked, with_found, with_part, with_register, with_waiting, with_priority, advanced}
+use Rattle.machine.specs.NanoMoves.{nano_moved, nano_thread}
 use Rattle.machine.specs.References.{is_last}
 use Rattle.machine.specs.Arrivals.{is_listed, touched}
-use Rattle.machine.specs.Task.{task_of_row, is_ready}
+use Rattle.machine.specs.Task.{task_of_row, is_waiting_row, is_ready}
 use Rattle.machine.proofs.Holders.ThreadRows.{row-here, row-other}
 
--- whether the thread of this number would be ready, owing this first
-abbrev ready_in : Script → Option Owed → List (Option ThreadRow) → ObjNo → Bool
-ready_in script first threads u = is_some (task_of_row script first (get_or threads u.0 None))
+-- whether a thread of this row would be ready, with these rows of threads that synchronize, and owing this first
+abbrev ready_row : Script → NanoRows → ObjNo → Option Owed → Option ThreadRow → Bool
+ready_row script r u first row = not (is_waiting_row row) && not (not (suspend_count r u == 0) && not (is_protected r u)) && is_some (task_of_row script (is_protected r u) first row)
 
-same_task : (script : Script) (first : Option Owed) (f : ThreadRow → ThreadRow) (x : Option ThreadRow) → ((row : ThreadRow) → task_of_row script first (Some (f row)) ≡ task_of_row script first (Some row)) → task_of_row script first (option_map f x) ≡ task_of_row script first x
-same_task script first f None keeps = refl
-same_task script first f (Some row) keeps = keeps row
+-- a change of a row that leaves what the thread waits for and where its instruction is
+record KeepsTask (f : ThreadRow → ThreadRow) : Type 0 where
+  pub waiting : (row : ThreadRow) → (f row).waiting ≡ row.waiting
+  pub task : (script : Script) (protected : Bool) (first : Option Owed) (row : ThreadRow) → task_of_row script protected first (Some (f row)) ≡ task_of_row script protected first (Some row)
 
--- a change of a row that leaves the thread's task leaves who is ready
-ready-with_row : (script : Script) (first : Option Owed) (threads : List (Option ThreadRow)) (v : ObjNo) (f : ThreadRow → ThreadRow) (u : ObjNo) → ((row : ThreadRow) → task_of_row script first (Some (f row)) ≡ task_of_row script first (Some row)) → ready_in script first (with_row threads v f) u ≡ ready_in script first threads u
-ready-with_row script first threads v f u keeps = elim (cases_eq v.0 u.0) [
-  | inl at ↦ ap (λ (x : Option ThreadRow). is_some (task_of_row script first x)) (row-here threads v f u.0 at) ∙ ap is_some (same_task script first f (get_or threads v.0 None) keeps) ∙ ap (λ (n : ℕ). is_some (task_of_row script first (get_or threads n None))) at
-  | inr apart ↦ ap (λ (x : Option ThreadRow). is_some (task_of_row script first x)) (row-other threads v f u.0 apart)
+same_ready : (script : Script) (r : NanoRows) (u : ObjNo) (first : Option Owed) (f : ThreadRow → ThreadRow) (x : Option ThreadRow) → KeepsTask f → ready_row script r u first (option_map f x) ≡ ready_row script r u first x
+same_ready script r u first f None keeps = refl
+same_ready script r u first f (Some row) keeps = rw (keeps.waiting row, keeps.task script (is_protected r u) first row) refl
+
+-- the row of any thread, where that of one changes
+ready-with_row : (script : Script) (r : NanoRows) (first : Option Owed) (threads : List (Option ThreadRow)) (v : ObjNo) (f : ThreadRow → ThreadRow) (u : ObjNo) → KeepsTask f → ready_row script r u first (get_or (with_row threads v f) u.0 None) ≡ ready_row script r u first (get_or threads u.0 None)
+ready-with_row script r first threads v f u keeps = elim (cases_eq v.0 u.0) [
+  | inl at ↦ ap (ready_row script r u first) (row-here threads v f u.0 at) ∙ same_ready script r u first f (get_or threads v.0 None) keeps ∙ ap (λ (n : ℕ). ready_row script r u first (get_or threads n None)) at
+  | inr apart ↦ ap (ready_row script r u first) (row-other threads v f u.0 apart)
 ]
 
-ready-gain : (script : Script) (first : Option Owed) (threads : List (Option ThreadRow)) (h : Holder) (o u : ObjNo) → ready_in script first (threads_gain h o threads) u ≡ ready_in script first threads u
-ready-gain script first threads (Temp v) o u = ready-with_row script first threads v (with_use (Some o)) u (λ row. refl)
-ready-gain script first threads _ o u = refl
+keeps_use : (uses : Option ObjNo) → KeepsTask (with_use uses)
+keeps_use uses = record { waiting = λ row. refl; task = λ script protected first row. refl }
 
-ready-lose : (script : Script) (first : Option Owed) (threads : List (Option ThreadRow)) (h : Holder) (u : ObjNo) → ready_in script first (threads_lose h threads) u ≡ ready_in script first threads u
-ready-lose script first threads (Temp v) u = ready-with_row script first threads v (with_use None) u (λ row. refl)
-ready-lose script first threads _ u = refl
+ready-gain : (script : Script) (r : NanoRows) (first : Option Owed) (threads : List (Option ThreadRow)) (h : Holder) (o u : ObjNo) → ready_row script r u first (get_or (threads_gain h o threads) u.0 None) ≡ ready_row script r u first (get_or threads u.0 None)
+ready-gain script r first threads (Temp v) o u = ready-with_row script r first threads v (with_use (Some o)) u (keeps_use (Some o))
+ready-gain script r first threads _ o u = refl
 
-ready-closed : (script : Script) (first : Option Owed) (threads : List (Option ThreadRow)) (last : Bool) (o u : ObjNo) → ready_in script first (threads_closed last o threads) u ≡ ready_in script first threads u
-ready-closed script first threads true o u = ready-with_row script first threads o unlinked u (λ row. refl)
-ready-closed script first threads false o u = refl
+ready-lose : (script : Script) (r : NanoRows) (first : Option Owed) (threads : List (Option ThreadRow)) (h : Holder) (u : ObjNo) → ready_row script r u first (get_or (threads_lose h threads) u.0 None) ≡ ready_row script r u first (get_or threads u.0 None)
+ready-lose script r first threads (Temp v) u = ready-with_row script r first threads v (with_use None) u (keeps_use None)
+ready-lose script r first threads _ u = refl
+
+ready-closed : (script : Script) (r : NanoRows) (first : Option Owed) (threads : List (Option ThreadRow)) (last : Bool) (o u : ObjNo) → ready_row script r u first (get_or (threads_closed last o threads) u.0 None) ≡ ready_row script r u first (get_or threads u.0 None)
+ready-closed script r first threads true o u = ready-with_row script r first threads o unlinked u (record { waiting = λ row. refl; task = λ script protected first row. refl })
+ready-closed script r first threads false o u = refl
 
 -- what another thread owes
 owed-other : (owed : List (List Owed)) (t u : ObjNo) (what : List Owed) → (t.0 ≡ u.0 → ⊥) → get_or (slice_set owed t.0 what) u.0 [] ≡ get_or owed u.0 []
@@ -54,28 +70,61 @@ owed-other owed t u what apart = get_or-set_other owed t.0 u.0 what [] (λ e. ap
 apart_of : (t u : ObjNo) → is_listed (t ∷ []) u ≡ false → t.0 ≡ u.0 → ⊥
 apart_of t u none = eqb-false t.0 u.0 (or_parts (t.0 == u.0) false none).0
 
--- the same rows, and the same oldest duty
-ready-by : (script : Script) (S T : State) (u : ObjNo) → get_or T.owed u.0 [] ≡ get_or S.owed u.0 [] → ready_in script (first_owed S u) T.threads u ≡ ready_in script (first_owed S u) S.threads u → is_ready script T u ≡ is_ready script S u
-ready-by script S T u owed threads = ap (λ (what : List Owed). ready_in script (first_of what) T.threads u) owed ∙ threads
+-- the same duties of a thread, and a row with which it is as ready
+ready-by : (script : Script) (S T : State) (u : ObjNo) → T.nano ≡ S.nano → get_or T.owed u.0 [] ≡ get_or S.owed u.0 [] → ready_row script S.nano u (first_owed S u) (thread_of T u) ≡ ready_row script S.nano u (first_owed S u) (thread_of S u) → is_ready script T u ≡ is_ready script S u
+ready-by script S T u nano owed threads = ap (λ (r : NanoRows). ready_row script r u (first_owed T u) (thread_of T u)) nano ∙ ap (λ (what : List Owed). ready_row script S.nano u (first_of what) (thread_of T u)) owed ∙ threads
+
+-- what other threads hold, and how often they are suspended and in a critical section
+record SameRows (r new : NanoRows) (u : ObjNo) : Type 0 where
+  pub suspensions : suspend_count new u ≡ suspend_count r u
+  pub sections : critical_count new u ≡ critical_count r u
+  pub holds : held_by new u ≡ held_by r u
+
+suspensions-other : (r : NanoRows) (t u : ObjNo) → u ≢ t → suspend_count (after_suspend r t) u ≡ suspend_count r u
+suspensions-other r t u apart = by (suspend_count r t == 127)
+  where
+    by : (b : Bool) → get_or (if b then r.suspensions else slice_set r.suspensions t.0 (suspend_count r t + 1)) u.0 0 ≡ suspend_count r u
+    by true = refl
+    by false = count-other r.suspensions t u _ apart
+
+nano-other : (r : NanoRows) (m : NanoMove) (u : ObjNo) → u ≢ nano_thread m → SameRows r (nano_moved m r) u
+nano-other r (Take t f) u apart = record { suspensions = refl; sections = refl; holds = held_by-after_take r t u f apart }
+nano-other r (Give t f) u apart = record { suspensions = refl; sections = refl; holds = held_by-after_give r t u f apart }
+nano-other r (Enter t) u apart = record { suspensions = refl; sections = count-other r.sections t u _ apart; holds = refl }
+nano-other r (Leave t) u apart = record { suspensions = refl; sections = count-other r.sections t u _ apart; holds = refl }
+nano-other r (LeaveAll t) u apart = record { suspensions = refl; sections = count-other r.sections t u _ apart; holds = refl }
+nano-other r (Suspend t) u apart = record { suspensions = suspensions-other r t u apart; sections = refl; holds = refl }
+nano-other r (Resume t) u apart = record { suspensions = count-other r.suspensions t u _ apart; sections = refl; holds = refl }
+nano-other r _ u apart = record { suspensions = refl; sections = refl; holds = refl }
+
+ready-nano : (script : Script) (S : State) (m : NanoMove) (u : ObjNo) → u ≢ nano_thread m → ready_row script (nano_moved m S.nano) u (first_owed S u) (thread_of S u) ≡ ready_row script S.nano u (first_owed S u) (thread_of S u)
+ready-nano script S m u apart =
+    let same = nano-other S.nano m u apart in
+    let protected : is_protected (nano_moved m S.nano) u ≡ is_protected S.nano u = rw (same.holds, same.sections) refl in
+    rw (same.suspensions, protected) refl
 
 pub untouched : (script : Script) (S : State) (t : ObjNo) (m : Move) (u : ObjNo) → is_listed (touched t m) u ≡ false → is_ready script (moved t m S) u ≡ is_ready script S u
-untouched script S t (Make kind name h) u none = ready-gain script (first_owed S u) S.threads h (next_object S) u
-untouched script S t (Gain h o) u none = ready-gain script (first_owed S u) S.threads h o u
+untouched script S t (Make kind name h) u none = ready-gain script S.nano (first_owed S u) S.threads h (next_object S) u
+untouched script S t (Gain h o) u none = ready-gain script S.nano (first_owed S u) S.threads h o u
 untouched script S t (Lose h o) u none =
-    ready-by script S (moved t (Lose h o) S) u (owed-other S.owed t u _ (apart_of t u none))
-    (ready-closed script (first_owed S u) (threads_lose h S.threads) (is_last S o) o u ∙ ready-lose script (first_owed S u) S.threads h u)
-untouched script S t (Find v o) u none = ready-with_row script (first_owed S u) S.threads v (with_found o) u (λ row. refl)
+    ready-by script S (moved t (Lose h o) S) u refl (owed-other S.owed t u _ (apart_of t u none))
+    (ready-closed script S.nano (first_owed S u) (threads_lose h S.threads) (is_last S o) o u ∙ ready-lose script S.nano (first_owed S u) S.threads h u)
+untouched script S t (Find v o) u none = ready-with_row script S.nano (first_owed S u) S.threads v (with_found o) u (record { waiting = λ row. refl; task = λ script protected first row. refl })
 untouched script S t (Miss o) u none = refl
-untouched script S t (GoOn v part) u none = ap (λ (x : Option ThreadRow). is_some (task_of_row script (first_owed S u) x)) (row-other S.threads v (with_part part) u.0 (apart_of v u none))
-untouched script S t (Write v x value) u none = ready-with_row script (first_owed S u) S.threads v (with_register x value) u (λ row. refl)
+untouched script S t (GoOn v part) u none = ap (ready_row script S.nano u (first_owed S u)) (row-other S.threads v (with_part part) u.0 (apart_of v u none))
+untouched script S t (Write v x value) u none = ready-with_row script S.nano (first_owed S u) S.threads v (with_register x value) u (record { waiting = λ row. refl; task = λ script protected first row. refl })
 untouched script S t (Advance v) u none =
-    ready-by script S (moved t (Advance v) S) u (owed-other S.owed v u _ (apart_of v u none))
-    (ap (λ (x : Option ThreadRow). is_some (task_of_row script (first_owed S u) x)) (row-other S.threads v advanced u.0 (apart_of v u none)))
+    ready-by script S (moved t (Advance v) S) u refl (owed-other S.owed v u _ (apart_of v u none))
+    (ap (ready_row script S.nano u (first_owed S u)) (row-other S.threads v advanced u.0 (apart_of v u none)))
+untouched script S t (Wait v what) u none = ap (ready_row script S.nano u (first_owed S u)) (row-other S.threads v (with_waiting what) u.0 (apart_of v u none))
+untouched script S t (Wake v) u none = ap (ready_row script S.nano u (first_owed S u)) (row-other S.threads v (with_waiting waiting.Nothing) u.0 (apart_of v u none))
+untouched script S t (SetPriority v priority) u none = ap (ready_row script S.nano u (first_owed S u)) (row-other S.threads v (with_priority priority) u.0 (apart_of v u none))
+untouched script S t (Nano m) u none = ready-nano script S m u (λ at. apart_of (nano_thread m) u none (ap (λ (v : ObjNo). v.0) (sym at)))
 untouched script S t (Pay (Close h o)) u none =
     let apart = apart_of t u none in
-    ready-by script S (moved t (Pay (Close h o)) S) u (get_or-set_other _ t.0 u.0 _ [] (λ e. apart (sym e)) ∙ owed-other S.owed t u _ apart)
-    (ready-closed script (first_owed S u) S.threads (is_last S o) o u)
+    ready-by script S (moved t (Pay (Close h o)) S) u refl (get_or-set_other _ t.0 u.0 _ [] (λ e. apart (sym e)) ∙ owed-other S.owed t u _ apart)
+    (ready-closed script S.nano (first_owed S u) S.threads (is_last S o) o u)
 untouched script S t (Pay (Sweep o)) u none =
     let parts = or_parts (t.0 == u.0) (is_listed (o ∷ []) u) none in
-    ready-by script S (moved t (Pay (Sweep o)) S) u (owed-other S.owed t u _ (eqb-false t.0 u.0 parts.0))
-    (ap (λ (x : Option ThreadRow). is_some (task_of_row script (first_owed S u) x)) (get_or-set_other S.threads o.0 u.0 None None (λ e. apart_of o u parts.1 (sym e))))
+    ready-by script S (moved t (Pay (Sweep o)) S) u refl (owed-other S.owed t u _ (eqb-false t.0 u.0 parts.0))
+    (ap (ready_row script S.nano u (first_owed S u)) (get_or-set_other S.threads o.0 u.0 None None (λ e. apart_of o u parts.1 (sym e))))

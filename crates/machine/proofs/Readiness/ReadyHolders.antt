@@ -1,0 +1,64 @@
+-- The holder of a fast mutex is ready, and whoever is chosen is able to act.
+use Rattle.std.proofs.Common.{◌≡◌, ℕ, refl, ap, ◌∙◌, Option, Some, None, Bool, true, false}
+use Rattle.std.specs.Prelude.{not, ◌&&◌, ◌==◌, is_some, is_none, option_and_then}
+use Rattle.std.proofs.lemmas.Bool.{and_from, and_right, or_left, not_from_true, not_from_false}
+use Rattle.sym_base.specs.declared.number.ObjNo.{ObjNo}
+use Rattle.script_types.specs.declared.instruction.Instr.{Instr}
+use Rattle.script_types.specs.declared.script.Script.{Script}
+use Rattle.state_rows.specs.declared.duty.Owed.{Owed}
+use Rattle.state_rows.specs.declared.nano.NanoRows.{NanoRows}
+use Rattle.state_rows.specs.Nano.{suspend_count, critical_count, holder_of, held_by, want_of, is_protected}
+use Rattle.state_rows.proofs.Soundness.{held_none}
+use Rattle.machine.specs.declared.state.ThreadRow.{ThreadRow}
+use Rattle.machine.specs.declared.state.State.{State}
+use Rattle.machine.specs.Choice.{in_place_of, or_self}
+use Rattle.machine.specs.Rows.{first_owed}
+use Rattle.machine.specs.Task.{instruction, is_returning, return_or, pay_or_step, task_of, task_of_row, is_wait, is_waiting, is_waiting_row, is_stopped, is_ready, is_able, wanted_holder}
+use Rattle.machine.specs.WellFormed.{AreRows}
+
+-- a thread that is protected has a task: at its list's end it gives up what protects it
+has_task : (script : Script) (first : Option Owed) (row : ThreadRow) → is_some (task_of_row script true first (Some row)) ≡ true
+has_task script first row = by (is_returning row.part) (instruction script row) first
+  where
+    by : (returns : Bool) (at : Option Instr) (first : Option Owed) → is_some (return_or returns at (pay_or_step true first at)) ≡ true
+    by true (Some instr) first = refl
+    by true None (Some what) = refl
+    by true None None = refl
+    by false at (Some what) = refl
+    by false (Some instr) None = refl
+    by false None None = refl
+
+holds_some : (r : NanoRows) (f : ℕ) (u : ObjNo) → holder_of r f ≡ Some u → is_some (held_by r u) ≡ true
+holds_some r f u is = by (held_by r u) refl
+  where
+    by : (held : Option ℕ) → held_by r u ≡ held → is_some held ≡ true
+    by None none = absurd (held_none r u f none is)
+    by (Some g) some = refl
+
+-- the holder of a fast mutex waits for nothing, is protected from being stopped, and has a task
+pub holder_ready : (script : Script) (S : State) (f : ℕ) (u : ObjNo) → AreRows script S → holder_of S.nano f ≡ Some u → is_ready script S u ≡ true
+holder_ready script S f u rows is =
+    let held = rows.nano.holders f u is in
+    let protected : is_protected S.nano u ≡ true = or_left (is_some (held_by S.nano u)) (not (critical_count S.nano u == 0)) (holds_some S.nano f u is) in
+    let waits : is_waiting S u ≡ false = ap is_waiting_row held.is ∙ ap is_wait held.waits in
+    let stopped : is_stopped S u ≡ false = and_right (not (suspend_count S.nano u == 0)) (not (is_protected S.nano u)) (not_from_true (is_protected S.nano u) protected) in
+    let first = first_owed S u in
+    let task : is_some (task_of script S u) ≡ true = ap (λ (row : Option ThreadRow). is_some (task_of_row script (is_protected S.nano u) first row)) held.is ∙ ap (λ (b : Bool). is_some (task_of_row script b first (Some held.row))) protected ∙ has_task script first held.row in
+    and_from (not (is_waiting S u) && not (is_stopped S u)) (is_some (task_of script S u)) (and_from (not (is_waiting S u)) (not (is_stopped S u)) (not_from_false (is_waiting S u) waits) (not_from_false (is_stopped S u) stopped)) task
+
+-- a thread that is wanted to give a fast mutex up holds one
+holds_wanted : (r : NanoRows) (want : Option ℕ) (u : ObjNo) → option_and_then (holder_of r) want ≡ Some u → (f : ℕ) × (holder_of r f ≡ Some u)
+holds_wanted r None u e = absurd (cc)
+holds_wanted r (Some f) u e = (f, e)
+
+-- whoever acts in the place of a thread that is ready is able
+pub place_able : (script : Script) (S : State) (t : ObjNo) → AreRows script S → is_ready script S t ≡ true → is_able script S (in_place_of S t) ≡ true
+place_able script S t rows ready = by (wanted_holder S.nano t) refl
+  where
+    by : (holder : Option ObjNo) → wanted_holder S.nano t ≡ holder → is_able script S (or_self t holder) ≡ true
+    by None e = and_from (is_ready script S t) (is_none (wanted_holder S.nano t)) ready (ap is_none e)
+    by (Some u) e =
+        let holds = holds_wanted S.nano (want_of S.nano t) u e in
+        let held = rows.nano.holders holds.0 u holds.1 in
+        let wants : is_none (wanted_holder S.nano u) ≡ true = ap (λ (want : Option ℕ). is_none (option_and_then (holder_of S.nano) want)) held.wants in
+        and_from (is_ready script S u) (is_none (wanted_holder S.nano u)) (holder_ready script S holds.0 u rows holds.1) wants
