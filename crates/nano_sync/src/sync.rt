@@ -16,7 +16,8 @@ pub const MAX_SUSPENSIONS: u8 = 127;
 /// processes): of each thread the count of its fast semaphore, its suspend count, its critical count and
 /// the fast mutex that it wants, and of each fast mutex the thread that holds it. A thread holds at most
 /// one fast mutex, as in EKA2. A contract sees the lists of these. Nothing clears a count: whoever wants it
-/// to be 0 calls `resume` or `leave` until that answers false.
+/// to be 0 calls `resume` or `leave` until that answers false. A thread or a fast mutex past the table's reads as one
+/// of which nothing is kept.
 #[derive(Drop)]
 pub struct NanoSync {
     signals: Vec<u64>,
@@ -102,16 +103,14 @@ impl NanoSync {
 
     /// The thread that holds a fast mutex. None exactly where nobody holds it.
     pub fn holder(&self, f: u8) -> Option<ThreadNo>
-        requires { f < length self.now.holders }
         ensures holder { result ≡ holder_of self.now f }
         ensures known { IfSome result (λ t. t.0 < length self.now.signals) }
     {
-        self.holders[f as usize]
+        *self.holders.get(f as usize)?
     }
 
     /// The fast mutex that a thread holds. None exactly where it holds none.
     pub fn held(&self, t: ThreadNo) -> Option<u8>
-        requires { t.0 < length self.now.signals }
         ensures held { result ≡ held_by self.now t }
 
         // A thread holds what it is the holder of, and nothing else.
@@ -135,11 +134,10 @@ impl NanoSync {
 
     /// The fast mutex that a thread wants. None exactly where it wants none.
     pub fn want(&self, t: ThreadNo) -> Option<u8>
-        requires { t.0 < length self.now.signals }
         ensures want { result ≡ want_of self.now t }
         ensures known { IfSome result (λ f. f < length self.now.holders) }
     {
-        self.wants[t.0 as usize]
+        *self.wants.get(t.0 as usize)?
     }
 
     /// Takes a thread into one critical section more. A count at the end of its 64 bits stays there.
@@ -163,19 +161,17 @@ impl NanoSync {
 
     /// How many critical sections a thread is in.
     pub fn critical_count(&self, t: ThreadNo) -> u64
-        requires { t.0 < length self.now.signals }
         ensures { result ≡ critical_count self.now t }
     {
-        self.sections[t.0 as usize]
+        self.sections.get(t.0 as usize).copied().unwrap_or(0)
     }
 
     /// Whether a thread holds a fast mutex or is in a critical section. Its suspension and its death wait
     /// until it is neither.
     pub fn protected(&self, t: ThreadNo) -> bool
-        requires { t.0 < length self.now.signals }
         ensures { result ≡ is_protected self.now t }
     {
-        self.held(t).is_some() || self.sections[t.0 as usize] != 0
+        self.held(t).is_some() || self.critical_count(t) != 0
     }
 
     /// Adds a signal to a thread's fast semaphore. A count at the end of its 64 bits stays there.
@@ -199,10 +195,9 @@ impl NanoSync {
 
     /// How many signals are at a thread's fast semaphore.
     pub fn signal_count(&self, t: ThreadNo) -> u64
-        requires { t.0 < length self.now.signals }
         ensures { result ≡ signal_count self.now t }
     {
-        self.signals[t.0 as usize]
+        self.signals.get(t.0 as usize).copied().unwrap_or(0)
     }
 
     /// Suspends a thread once more. False exactly where its suspend count is 127, and then nothing changes.
@@ -238,19 +233,17 @@ impl NanoSync {
 
     /// How many suspensions of a thread aren't resumed, at most 127.
     pub fn suspend_count(&self, t: ThreadNo) -> u8
-        requires { t.0 < length self.now.signals }
         ensures count { result ≡ suspend_count self.now t }
         ensures limited { result ≤ 127 }
     {
-        self.suspensions[t.0 as usize]
+        self.suspensions.get(t.0 as usize).copied().unwrap_or(0)
     }
 
     /// Whether a thread's suspend count isn't 0. Such a thread is stopped only where it isn't protected.
     pub fn is_suspended(&self, t: ThreadNo) -> bool
-        requires { t.0 < length self.now.signals }
         ensures { result ≡ not (suspend_count self.now t == 0) }
     {
-        self.suspensions[t.0 as usize] != 0
+        self.suspend_count(t) != 0
     }
 }
 

@@ -1,5 +1,5 @@
 //! Queues of ready threads, one for each priority.
-ghost use Rattle.std.specs.Prelude.{◌≡◌, ◌<◌, ◌↔◌, [], All, IsNone, IfOk};
+ghost use Rattle.std.specs.Prelude.{◌≡◌, ◌<◌, ◌↔◌, [], All, IsNone, IfOk, IfSome};
 ghost use Rattle.ready_list.specs.Ready.{IsReady, no_threads, added, removed, rotated, moved, first_of_highest, priority_of};
 
 use crate::mask::{highest_bit, with_bit, without_bit};
@@ -101,6 +101,7 @@ impl ReadyList {
     pub fn pick(&self) -> Option<ThreadNo>
         ensures picked { result ≡ first_of_highest self.now.queues }
         ensures none { IsNone result ↔ All (λ queue. queue ≡ []) self.now.queues }
+        ensures known { IfSome result (λ t. t.0 < self.now.threads) }
     {
         let priority = highest_bit(self.mask)?;
         let first = self.links.first(priority as u32)?;
@@ -112,6 +113,7 @@ impl ReadyList {
         requires { t.0 < self.now.threads }
         ensures found { result ≡ priority_of self.now t }
         ensures none { IsNone result ↔ (¬ IsReady self.now t) }
+        ensures ranged { IfSome result (λ p. p < 64) }
     {
         if self.links.is_linked(t.0 as u32) {
             Some(self.priorities[t.0 as usize])

@@ -1,5 +1,5 @@
 -- Reading the rows of threads that synchronize.
-use Rattle.std.specs.Prelude.{ℕ, Bool, false, not, ◌==◌, ◌||◌, List, Option, Some, None, is_some, is_none, position, slice_index, slice_index_or}
+use Rattle.std.specs.Prelude.{ℕ, Bool, if◌then◌else◌, false, not, ◌==◌, ◌||◌, List, Option, Some, None, is_some, is_none, option_and_then, position, slice_index, slice_index_or}
 use Rattle.sym_base.specs.declared.number.ObjNo.{ObjNo}
 use Rattle.state_rows.specs.declared.nano.NanoRows.{NanoRows}
 
@@ -43,3 +43,20 @@ held_by r t = position (is_thread t) r.holders
 -- whether a thread holds a fast mutex or is in a critical section
 abbrev pub is_protected : NanoRows → ObjNo → Bool
 is_protected r t = is_some (held_by r t) || not (critical_count r t == 0)
+
+-- the thread that holds what a thread wants, if there is one
+abbrev pub wanted_holder : NanoRows → ObjNo → Option ObjNo
+wanted_holder r t = option_and_then (holder_of r) (want_of r t)
+
+-- who acts in a thread's place: the holder of what it wants, or the thread itself
+abbrev pub or_self : ObjNo → Option ObjNo → ObjNo
+or_self t None = t
+or_self t (Some u) = u
+
+abbrev pub in_place_of : NanoRows → ObjNo → ObjNo
+in_place_of r t = or_self t (wanted_holder r t)
+
+-- the thread whose turn a time slice ends: one that holds a fast mutex is spared
+abbrev pub turned : NanoRows → Option ObjNo → Option ObjNo
+turned r None = None
+turned r (Some t) = if is_some (held_by r t) then None else Some t
