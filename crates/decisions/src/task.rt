@@ -1,8 +1,8 @@
 //! What a thread does next.
 ghost use Rattle.std.specs.Prelude.{◌≡◌, Some, option_copied};
 ghost use Rattle.machine.specs.Rows.{first_owed};
-ghost use Rattle.machine.specs.Task.{instruction, is_returning, end_task, step_or_end, pay_or_step, task_of_row, task_of, is_wait, is_stopped, is_ready, wanted_holder, is_able, declared_of};
-ghost use Rattle.state_rows.specs.Nano.{is_protected};
+ghost use Rattle.machine.specs.Task.{instruction, is_returning, end_task, step_or_end, pay_or_step, task_of_row, task_of, is_wait, is_stopped, is_ready, is_able, declared_of};
+ghost use Rattle.state_rows.specs.Nano.{is_protected, wanted_holder};
 
 use crate::Reads;
 use entry_log::Part;

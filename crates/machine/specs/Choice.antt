@@ -1,5 +1,6 @@
 -- The choice of the next actor: the ready thread of greatest priority that has been ready longest, or, where it wants
 -- a fast mutex that is held, the holder of that.
+use Rattle.state_rows.specs.Nano.{in_place_of}
 use Rattle.std.specs.Prelude.{ℕ, Option, Some, None, option_map}
 use Rattle.sym_base.specs.Greatest.{first_of_greatest}
 use Rattle.sym_base.specs.declared.number.ObjNo.{ObjNo}
@@ -8,7 +9,6 @@ use Rattle.entry_log.specs.declared.entry.Actor.TheVariants.{Thread, Idle}
 use Rattle.machine.specs.declared.state.ThreadRow.{ThreadRow}
 use Rattle.machine.specs.declared.state.State.{State}
 use Rattle.machine.specs.Rows.{thread_of}
-use Rattle.machine.specs.Task.{wanted_holder}
 
 -- the priority of a thread, 0 where there is none
 abbrev pub priority_of_row : Option ThreadRow → ℕ
@@ -22,18 +22,10 @@ priority_of S t = priority_of_row (thread_of S t)
 abbrev pub first_ready : State → Option ObjNo
 first_ready S = first_of_greatest (priority_of S) S.ready
 
--- who acts in a thread's place: the holder of what it wants, or the thread itself
-abbrev pub or_self : ObjNo → Option ObjNo → ObjNo
-or_self t None = t
-or_self t (Some u) = u
-
-abbrev pub in_place_of : State → ObjNo → ObjNo
-in_place_of S t = or_self t (wanted_holder S.nano t)
-
 -- that thread, or nobody
 abbrev pub actor_of : Option ObjNo → Actor
 actor_of None = Idle
 actor_of (Some t) = Thread t
 
 abbrev pub chosen : State → Actor
-chosen S = actor_of (option_map (in_place_of S) (first_ready S))
+chosen S = actor_of (option_map (in_place_of S.nano) (first_ready S))

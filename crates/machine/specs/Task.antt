@@ -1,13 +1,12 @@
 -- What a thread does next.
-use Rattle.std.specs.Prelude.{ℕ, Bool, true, false, not, ◌&&◌, ◌==◌, is_some, is_none, if◌then◌else◌, List, [], Option, Some, None, option_and_then, slice_get}
+use Rattle.std.specs.Prelude.{ℕ, Bool, true, false, not, ◌&&◌, ◌==◌, is_some, is_none, if◌then◌else◌, List, [], Option, Some, None, slice_get}
 use Rattle.sym_base.specs.declared.number.ObjNo.{ObjNo}
 use Rattle.script_types.specs.declared.script.Script.{Script}
 use Rattle.script_types.specs.declared.declaration.ThreadDecl.{ThreadDecl}
 use Rattle.script_types.specs.declared.instruction.Instr.{Instr}
 use Rattle.entry_log.specs.declared.step.Part.{Part}
 use Rattle.entry_log.specs.declared.step.Part.TheVariants as part
-use Rattle.state_rows.specs.declared.nano.NanoRows.{NanoRows}
-use Rattle.state_rows.specs.Nano.{suspend_count, want_of, holder_of, is_protected}
+use Rattle.state_rows.specs.Nano.{suspend_count, is_protected, wanted_holder}
 use Rattle.state_rows.specs.declared.duty.Owed.{Owed}
 use Rattle.machine.specs.declared.task.Task.{Task}
 use Rattle.machine.specs.declared.task.Task.TheVariants.{Return, Pay, Step, Flush}
@@ -88,10 +87,6 @@ is_stopped S t = not (suspend_count S.nano t == 0) && not (is_protected S.nano t
 -- a thread is ready where it has something to do, doesn't wait and isn't stopped
 abbrev pub is_ready : Script → State → ObjNo → Bool
 is_ready script S t = not (is_waiting S t) && not (is_stopped S t) && is_some (task_of script S t)
-
--- the thread that holds what a thread wants, if there is one
-abbrev pub wanted_holder : NanoRows → ObjNo → Option ObjNo
-wanted_holder r t = option_and_then (holder_of r) (want_of r t)
 
 -- a thread is able to act where it is ready and doesn't want a fast mutex that is held
 abbrev pub is_able : Script → State → ObjNo → Bool

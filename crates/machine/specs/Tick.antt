@@ -1,10 +1,9 @@
 -- `tick`: a time slice ends. The thread of greatest priority that has been ready longest goes behind
 -- its equals, unless it holds a fast mutex.
-use Rattle.std.specs.Prelude.{is_some, if◌then◌else◌, List, [], ◌∷◌, ◌++◌, Option, Some, None}
+use Rattle.std.specs.Prelude.{List, [], ◌∷◌, ◌++◌, Option, Some, None}
 use Rattle.sym_base.specs.declared.number.ObjNo.{ObjNo}
 use Rattle.entry_log.specs.declared.step.Step.TheVariants.{Turn}
-use Rattle.state_rows.specs.declared.nano.NanoRows.{NanoRows}
-use Rattle.state_rows.specs.Nano.{held_by}
+use Rattle.state_rows.specs.Nano.{turned}
 use Rattle.machine.specs.declared.state.State.{State}
 use Rattle.machine.specs.Arrivals.{unlisted}
 use Rattle.machine.specs.Choice.{first_ready}
@@ -14,11 +13,6 @@ use Rattle.machine.specs.Transition.{Transition}
 abbrev pub moved_behind : List ObjNo → Option ObjNo → List ObjNo
 moved_behind qs None = qs
 moved_behind qs (Some t) = unlisted t qs ++ t ∷ []
-
--- the thread whose turn ends: one that holds a fast mutex is spared
-abbrev pub turned : NanoRows → Option ObjNo → Option ObjNo
-turned r None = None
-turned r (Some t) = if is_some (held_by r t) then None else Some t
 
 unfoldable pub tick : State → Transition
 tick S = record {

@@ -1,5 +1,9 @@
 pub mod Best
+pub mod KernelThreadRuns
 pub mod Performing
 pub mod Rooms
+pub mod SmallRows
 pub mod Steps
 pub mod ValidExample
+pub mod ValidKernelThreads
+pub mod ValidScripts

@@ -9,12 +9,13 @@ use Rattle.state_rows.specs.declared.duty.Owed.TheVariants.{Close, Sweep}
 use Rattle.state_rows.specs.declared.object.ObjectRow.{ObjectRow}
 use Rattle.state_rows.specs.ObjectRows.{dead_row}
 use Rattle.machine.specs.declared.moves.Move.{Move}
-use Rattle.machine.specs.declared.moves.Move.TheVariants.{Make, Gain, Lose, Find, Miss, GoOn, Write, Advance, Pay}
+use Rattle.machine.specs.declared.moves.Move.TheVariants.{Make, Gain, Lose, Find, Miss, GoOn, Write, Advance, Wait, Wake, SetPriority, Nano, Pay}
 use Rattle.machine.specs.declared.state.HandleSlot.{HandleSlot}
+use Rattle.machine.specs.declared.state.Waiting.TheVariants.{Nothing}
 use Rattle.machine.specs.declared.state.ThreadRow.{ThreadRow}
 use Rattle.machine.specs.declared.state.State.{State}
 use Rattle.machine.specs.Handles.{slot_at, with_slot, taken_slot, freed_slot, fresh_slot}
-use Rattle.machine.specs.Moves.{moved, with_use, unlinked, with_found, with_part, with_register, advanced, tables_gain, tables_lose, threads_gain, threads_lose, threads_closed, objects_closed, next_object, new_object}
+use Rattle.machine.specs.Moves.{moved, with_use, unlinked, with_found, with_part, with_register, advanced, with_waiting, with_priority, tables_gain, tables_lose, threads_gain, threads_lose, threads_closed, objects_closed, next_object, new_object}
 use Rattle.machine.specs.References.{is_last}
 use Rattle.machine.specs.Room.{HasRoom, IsSmallTable, AreSmallTables, MayAdvance}
 use Rattle.machine.specs.Rows.{with_row}
@@ -137,6 +138,10 @@ room_moved t (Miss o) n S room = room_less n (n + 1) S (omega arith) room
 room_moved t (GoOn u part) n S room = with_threads n S (moved t (GoOn u part) S) refl refl (row_goes (with_part part) (λ row. omega arith) n S.threads u room.instructions) room
 room_moved t (Write u x value) n S room = with_threads n S (moved t (Write u x value) S) refl refl (row_goes (with_register x value) (λ row. omega arith) n S.threads u room.instructions) room
 room_moved t (Advance u) n S room = with_threads n S (moved t (Advance u) S) refl refl (row_goes advanced (λ row. omega arith) n S.threads u room.instructions) room
+room_moved t (Wait u what) n S room = with_threads n S (moved t (Wait u what) S) refl refl (row_goes (with_waiting what) (λ row. omega arith) n S.threads u room.instructions) room
+room_moved t (Wake u) n S room = with_threads n S (moved t (Wake u) S) refl refl (row_goes (with_waiting Nothing) (λ row. omega arith) n S.threads u room.instructions) room
+room_moved t (SetPriority u priority) n S room = with_threads n S (moved t (SetPriority u priority) S) refl refl (row_goes (with_priority priority) (λ row. omega arith) n S.threads u room.instructions) room
+room_moved t (Nano m) n S room = with_threads n S (moved t (Nano m) S) refl refl (threads_less n (n + 1) (omega arith) S.threads room.instructions) room
 room_moved t (Pay (Close h o)) n S room = record {
   objects = let few = room.objects in let long = length_closed (is_last S o) o S.objects in omega arith;
   instructions = threads_unlinked (is_last S o) o n S.threads (threads_less n (n + 1) (omega arith) S.threads room.instructions);

@@ -9,19 +9,26 @@ use Rattle.script_types.specs.Shape.{IsShaped}
 use Rattle.script_types.proofs.ShapeLaws.{valid_is_shaped}
 use Rattle.entry_log.specs.declared.entry.Actor.{Actor}
 use Rattle.entry_log.specs.declared.entry.Entry.{Entry}
+use Rattle.decisions.specs.Readable.{AreSmallRows}
 use Rattle.machine.specs.declared.decision.Outcome.{Outcome}
+use Rattle.machine.specs.declared.moves.Move.{Move}
+use Rattle.machine.specs.declared.moves.Move.TheVariants.{Pay}
 use Rattle.machine.specs.declared.state.HandleSlot.{HandleSlot}
 use Rattle.machine.specs.declared.state.Role.{Role}
 use Rattle.machine.specs.declared.state.Role.TheVariants.{Supervisor, Declared}
 use Rattle.machine.specs.declared.state.State.{State}
 use Rattle.machine.specs.History.{transition, entry_of, IsNext, CanAct, IsLegal, after}
 use Rattle.plain_machine.specs.PlainView.{IsPlain}
+use Rattle.machine.specs.Moves.{tell}
 use Rattle.machine.specs.Room.{HasRoom, IsSmallTable}
 use Rattle.machine.specs.Run.{slot_actor}
 use Rattle.machine.specs.Slots.{IsDeclared}
+use Rattle.machine.specs.Steps.{decision_of}
 use Rattle.machine.specs.Task.{declared_of, instructions_in}
 use Rattle.machine.specs.Transition.{Transition, left}
 use Rattle.machine.specs.WellFormed.{AreRows, AreTables, IsWellFormed}
+use Rattle.machine.proofs.Fitting.Actions.{fits-action}
+use Rattle.machine.proofs.Numbers.FewEffects.{tell_few}
 use Rattle.machine.proofs.Reached.AfterHistory.{well_formed-after}
 use Rattle.machine.proofs.Reached.Histories.{after-push, legal-push, slot_can}
 
@@ -39,11 +46,38 @@ few_in script shaped Supervisor (Some declared) at = absurd (cc)
 few_in script shaped (Declared k) (Some declared) at = (shaped.threads k declared at).size
 
 -- a well-formed state has room for an action
-pub room_of_rows : (script : Script) (S : State) → IsShaped script → AreRows script S → HasRoom 8 S
+room_of_rows : (script : Script) (S : State) → IsShaped script → AreRows script S → HasRoom 8 S
 room_of_rows script S shaped rows = record {
   objects = let few = rows.sized.objects_few in omega arith;
   instructions = λ k row is. let next = (rows.threads.rows k row is).next_instruction in let few = few_in script shaped row.role _ refl in omega arith;
   tables = small_table S.handles rows.tables;
+}
+
+-- its rows of threads that synchronize are small
+small_of_rows : (script : Script) (S : State) → AreRows script S → AreSmallRows S.nano
+small_of_rows script S rows = record {
+  mutexes = let few = rows.nano.rows.few in omega arith;
+  suspensions = rows.nano.rows.limited;
+}
+
+-- an action of a thread tells four effects at most
+few_effects : (script : Script) (S : State) (t : ObjNo) → IsShaped script → AreRows script S → length (tell t (decision_of script S t).moves S) ≤ 4
+few_effects script S t shaped rows = elim (fits-action script S t shaped rows) as (λ _. length (tell t (decision_of script S t).moves S) ≤ 4) [
+  | inl fits ↦ fits.told
+  | inr pays ↦ subst (λ (ms : List Move). length (tell t ms S) ≤ 4) (sym pays.moves) (let few = tell_few t (Pay pays.what ∷ []) S in omega arith)
+]
+
+-- what an action needs of a well-formed state
+pub record AllowsAction (script : Script) (S : State) : Type 0 where
+  pub room : HasRoom 8 S
+  pub small : AreSmallRows S.nano
+  pub few : (t : ObjNo) → length (tell t (decision_of script S t).moves S) ≤ 4
+
+pub allows_action : (script : Script) (S : State) → IsShaped script → AreRows script S → AllowsAction script S
+allows_action script S shaped rows = record {
+  room = room_of_rows script S shaped rows;
+  small = small_of_rows script S rows;
+  few = λ t. few_effects script S t shaped rows;
 }
 
 -- the machine goes on by what an actor does that may act
@@ -64,7 +98,7 @@ plain_goes_by script history S T actor outcome able plain did =
 -- the machine goes on by what the actor of a slot does
 plain_goes_on : (script : Script) (history : List Entry) (S T : State) (slot : Slot) (outcome : Outcome) → IsDeclared script slot → IsWellFormed script S → IsPlain script history S → left T outcome ≡ transition script S (slot_actor S slot)
     → IsPlain script (history ++ entry_of (length history + 1) (slot_actor S slot) outcome ∷ []) T
-plain_goes_on script history S T slot outcome declared formed plain did = plain_goes_by script history S T (slot_actor S slot) outcome (slot_can script S slot declared formed.ready) plain did
+plain_goes_on script history S T slot outcome declared formed plain did = plain_goes_by script history S T (slot_actor S slot) outcome (slot_can script S slot declared formed) plain did
 
 -- the same of a copy of the state, and of what is made in between
 pub plain_goes_on_by : (script : Script) (history new : List Entry) (S copy T : State) (slot : Slot) (actor : Actor) (outcome : Outcome) (place : ℕ) (e : Entry)

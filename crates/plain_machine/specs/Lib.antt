@@ -1,2 +1,3 @@
 pub mod BestSoFar
+pub mod KernelThreadScripts
 pub mod PlainView

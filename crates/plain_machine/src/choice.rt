@@ -1,6 +1,7 @@
 //! The choice of the next actor.
+ghost use Rattle.state_rows.specs.Nano.{in_place_of};
 ghost use Rattle.std.specs.Prelude.{◌≡◌};
-ghost use Rattle.machine.specs.Choice.{priority_of, first_ready, in_place_of, chosen};
+ghost use Rattle.machine.specs.Choice.{priority_of, first_ready, chosen};
 ghost use Rattle.plain_machine.specs.BestSoFar.{better};
 
 use decisions::wanted_holder;
@@ -42,7 +43,7 @@ pub fn first_ready(state: &State) -> Option<ThreadNo>
 
 /// Who acts in a thread's place: the holder of the fast mutex that it wants, or the thread itself.
 fn in_place_of(state: &State, thread: ThreadNo) -> ThreadNo
-    ensures { result ≡ in_place_of state.now thread }
+    ensures { result ≡ in_place_of state.now.nano thread }
 {
     match wanted_holder(state, thread) {
         Some(holder) => holder,

@@ -98,4 +98,6 @@ impl Plain {
 }
 
 #[cfg(test)]
+mod kernel_thread_tests;
+#[cfg(test)]
 mod tests;

@@ -1,6 +1,7 @@
 //! `tick`: a time slice ends.
+ghost use Rattle.state_rows.specs.Nano.{turned};
 ghost use Rattle.std.specs.Prelude.{◌≡◌, IfOk};
-ghost use Rattle.machine.specs.Tick.{moved_behind, turned, tick};
+ghost use Rattle.machine.specs.Tick.{moved_behind, tick};
 ghost use Rattle.machine.specs.Transition.{left};
 
 use crate::arrivals::unlisted;

@@ -13,7 +13,7 @@ use Rattle.script_types.specs.Shape.{IsShaped}
 use Rattle.script_types.proofs.LimitLaws.{both}
 use Rattle.entry_log.specs.declared.step.Part.{Part}
 use Rattle.entry_log.specs.declared.step.Part.TheVariants as part
-use Rattle.state_rows.specs.Nano.{is_protected}
+use Rattle.state_rows.specs.Nano.{is_protected, wanted_holder}
 use Rattle.state_rows.specs.declared.duty.Owed.{Owed}
 use Rattle.machine.specs.declared.decision.Decision.{Decision}
 use Rattle.machine.specs.declared.moves.Move.{Move}
@@ -27,7 +27,7 @@ use Rattle.machine.specs.Moves.{moved, told, perform, tell}
 use Rattle.machine.specs.References.{total}
 use Rattle.machine.specs.CriticalSection.{flush}
 use Rattle.machine.specs.Steps.{step_of, return_of, decision_of_row, decision_where, decision_of}
-use Rattle.machine.specs.Task.{instruction, instructions_of, is_returning, end_task, pay_or_step, return_or, task_of_row, task_of, is_wait, is_waiting_row, is_waiting, is_stopped, is_ready, is_able, wanted_holder}
+use Rattle.machine.specs.Task.{instruction, instructions_of, is_returning, end_task, pay_or_step, return_or, task_of_row, task_of, is_wait, is_waiting_row, is_waiting, is_stopped, is_ready, is_able}
 use Rattle.machine.specs.Fits.{EachFits, Fits, Sane, most_told, most_owed}
 use Rattle.machine.specs.WellFormed.{AreRows, is_before_use, part_of, weight}
 use Rattle.machine.proofs.Lists.Totals.{inside}

@@ -18,7 +18,7 @@ use Rattle.entry_log.specs.declared.step.Part.TheVariants as part
 use Rattle.entry_log.specs.declared.step.Step.{Step}
 use Rattle.entry_log.specs.declared.step.Step.TheVariants as step
 use Rattle.state_rows.specs.declared.nano.NanoRows.{NanoRows}
-use Rattle.state_rows.specs.Nano.{suspend_count, signal_count, critical_count, want_of, holder_of, is_thread, is_free, is_holder, held_by}
+use Rattle.state_rows.specs.Nano.{suspend_count, signal_count, critical_count, want_of, holder_of, is_thread, is_free, is_holder, held_by, wanted_holder}
 use Rattle.state_rows.proofs.Soundness.{is_thread-true}
 use Rattle.machine.specs.declared.decision.Decision.{Decision}
 use Rattle.machine.specs.declared.moves.Move.{Move}
@@ -42,7 +42,6 @@ use Rattle.machine.specs.FastMutex.{flock_do, flock_done, flock_step, funlock_do
 use Rattle.machine.specs.FastSemaphore.{fswait_do, fswait_step, signal_move, signal_thread, signal_found, fssignal_do}
 use Rattle.machine.specs.CriticalSection.{enter_do, leave_do, give_held, flush}
 use Rattle.machine.specs.ThreadCalls.{refusal_of_role, refusal_of, suspend_move, resume_move, move_or_refuse, unless_refused, call_on, suspend_step, resume_step, priority_step}
-use Rattle.machine.specs.Task.{wanted_holder}
 use Rattle.machine.specs.Fits.{FitsMove, FitsNano, MayGoOn, MayTake, IsAtInstruction, most_told, most_owed}
 use Rattle.machine.specs.WellFormed.{AreRows, is_before_use}
 use Rattle.machine.proofs.Lists.Cases.{if_cases}

@@ -1,4 +1,5 @@
 -- What is known where a thread makes a step of an instruction, and how its answers fit.
+use Rattle.state_rows.specs.Nano.{wanted_holder}
 use Rattle.std.proofs.Common.{◌≡◌, ◌<◌, ◌≤◌, List, [], length, get_or, arith, refl, ap, subst, ◌∙◌, Option, Some, None, true, false}
 use Rattle.std.specs.Prelude.{option_map}
 use Rattle.sym_base.specs.declared.error.Error.{Error}
@@ -22,7 +23,7 @@ use Rattle.machine.specs.Moves.{moved, with_part}
 use Rattle.machine.specs.Decide.{nothing, refuse, go_on}
 use Rattle.machine.specs.References.{total}
 use Rattle.machine.specs.HeldIn.{owed_by}
-use Rattle.machine.specs.Task.{instructions_of, wanted_holder}
+use Rattle.machine.specs.Task.{instructions_of}
 use Rattle.machine.specs.Fits.{EachFits, most_told, most_owed, IsAtInstruction, MayGoOn, IsFree}
 use Rattle.machine.specs.WellFormed.{IsAlive, AreRows, is_before_use}
 use Rattle.machine.proofs.Holders.ThreadRows.{row-here}

@@ -1,4 +1,5 @@
 -- Histories, one entry longer.
+use Rattle.state_rows.specs.Nano.{in_place_of}
 use Rattle.std.proofs.Common.{◌≡◌, ℕ, ◌+◌, List, [], ◌∷◌, ◌++◌, length, arith, refl, subst, ap, sym, ◌∙◌, Option, Some, None, Bool, true}
 use Rattle.std.specs.Prelude.{IsTrue, option_map}
 use Rattle.sym_base.specs.declared.number.ObjNo.{ObjNo}
@@ -8,7 +9,7 @@ use Rattle.script_types.specs.declared.script.Slot.TheVariants.{Go, Irq, Tick}
 use Rattle.entry_log.specs.declared.entry.Entry.{Entry}
 use Rattle.machine.specs.declared.state.State.{State}
 use Rattle.machine.specs.Boot.{boot}
-use Rattle.machine.specs.Choice.{actor_of, chosen, first_ready, in_place_of}
+use Rattle.machine.specs.Choice.{actor_of, chosen, first_ready}
 use Rattle.machine.specs.History.{next, after, after_from, CanAct, IsNext, IsLegal, IsLegalFrom}
 use Rattle.machine.specs.Run.{slot_actor}
 use Rattle.machine.specs.Slots.{IsDeclared}
@@ -39,8 +40,8 @@ true-is h = h
 pub can_act_chosen : (script : Script) (S : State) → IsWellFormed script S → CanAct script S (chosen S)
 can_act_chosen script S formed = by (first_ready S) refl
   where
-    by : (found : Option ObjNo) → first_ready S ≡ found → CanAct script S (actor_of (option_map (in_place_of S) found))
-    by None e = ap (λ (found : Option ObjNo). actor_of (option_map (in_place_of S) found)) e
+    by : (found : Option ObjNo) → first_ready S ≡ found → CanAct script S (actor_of (option_map (in_place_of S.nano) found))
+    by None e = ap (λ (found : Option ObjNo). actor_of (option_map (in_place_of S.nano) found)) e
     by (Some t) e = true-is (place_able script S t formed.rows (sym (formed.ready.exact t) ∙ first_listed S t e))
 
 -- so may that of a slot

@@ -8,14 +8,14 @@ use Rattle.entry_log.specs.declared.effect.Effect.{Effect}
 use Rattle.entry_log.specs.declared.entry.Actor.{Actor}
 use Rattle.entry_log.specs.declared.entry.Actor.TheVariants.{Thread, Irq, Idfc, Tick, Idle}
 use Rattle.state_rows.specs.declared.nano.NanoRows.{NanoRows}
-use Rattle.state_rows.specs.Nano.{held_by}
+use Rattle.state_rows.specs.Nano.{held_by, turned}
 use Rattle.machine.specs.declared.state.State.{State}
 use Rattle.machine.specs.Arrivals.{ready_after}
 use Rattle.machine.specs.Choice.{first_ready}
 use Rattle.machine.specs.History.{transition, next}
 use Rattle.machine.specs.Moves.{perform, tell}
 use Rattle.machine.specs.Steps.{decision_of}
-use Rattle.machine.specs.Tick.{tick, moved_behind, turned}
+use Rattle.machine.specs.Tick.{tick, moved_behind}
 use Rattle.machine.specs.Transition.{act}
 use Rattle.machine.specs.WellFormed.{AreRows, IsReadyList, IsWellFormed}
 use Rattle.machine.proofs.Fitting.Actions.{sound-action}

@@ -7,13 +7,12 @@ use Rattle.script_types.specs.declared.instruction.Instr.{Instr}
 use Rattle.script_types.specs.declared.script.Script.{Script}
 use Rattle.state_rows.specs.declared.duty.Owed.{Owed}
 use Rattle.state_rows.specs.declared.nano.NanoRows.{NanoRows}
-use Rattle.state_rows.specs.Nano.{suspend_count, critical_count, holder_of, held_by, want_of, is_protected}
+use Rattle.state_rows.specs.Nano.{suspend_count, critical_count, holder_of, held_by, want_of, is_protected, in_place_of, or_self, wanted_holder}
 use Rattle.state_rows.proofs.Soundness.{held_none}
 use Rattle.machine.specs.declared.state.ThreadRow.{ThreadRow}
 use Rattle.machine.specs.declared.state.State.{State}
-use Rattle.machine.specs.Choice.{in_place_of, or_self}
 use Rattle.machine.specs.Rows.{first_owed}
-use Rattle.machine.specs.Task.{instruction, is_returning, return_or, pay_or_step, task_of, task_of_row, is_wait, is_waiting, is_waiting_row, is_stopped, is_ready, is_able, wanted_holder}
+use Rattle.machine.specs.Task.{instruction, is_returning, return_or, pay_or_step, task_of, task_of_row, is_wait, is_waiting, is_waiting_row, is_stopped, is_ready, is_able}
 use Rattle.machine.specs.WellFormed.{AreRows}
 
 -- a thread that is protected has a task: at its list's end it gives up what protects it
@@ -52,7 +51,7 @@ holds_wanted r None u e = absurd (cc)
 holds_wanted r (Some f) u e = (f, e)
 
 -- whoever acts in the place of a thread that is ready is able
-pub place_able : (script : Script) (S : State) (t : ObjNo) → AreRows script S → is_ready script S t ≡ true → is_able script S (in_place_of S t) ≡ true
+pub place_able : (script : Script) (S : State) (t : ObjNo) → AreRows script S → is_ready script S t ≡ true → is_able script S (in_place_of S.nano t) ≡ true
 place_able script S t rows ready = by (wanted_holder S.nano t) refl
   where
     by : (holder : Option ObjNo) → wanted_holder S.nano t ≡ holder → is_able script S (or_self t holder) ≡ true
