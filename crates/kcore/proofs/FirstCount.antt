@@ -6,7 +6,10 @@ use Rattle.std.proofs.lemmas.List.{get_or-set_same, get_or-set_other, length-set
 use Rattle.sym_base.specs.declared.number.ObjNo.{ObjNo}
 use Rattle.entry_log.specs.declared.effect.Holder.{Holder}
 use Rattle.entry_log.specs.declared.effect.Effect.TheVariants.{Plus}
+use Rattle.machine.specs.declared.nano_move.NanoMove.{NanoMove}
+use Rattle.machine.specs.declared.nano_move.NanoMove.TheVariants as nano
 use Rattle.machine.specs.Moves.{closed_effects}
+use Rattle.machine.specs.NanoMoves.{nano_told}
 use Rattle.machine.specs.References.{same}
 use Rattle.machine.proofs.References.Same.{same_self, same_other, same_object}
 use Rattle.kcore.specs.Counts.{CountsMove}
@@ -41,3 +44,16 @@ counts-less counts x holder true some o =
     elim (at_one counts x (slice_index counts x.0 - 1) o (inside_of counts x.0 some)) [ inl h ↦ omega arith | inr h ↦ omega arith ]
 counts-less counts x holder false some o =
     elim (at_one counts x (slice_index counts x.0 - 1) o (inside_of counts x.0 some)) [ inl h ↦ omega arith | inr h ↦ omega arith ]
+
+-- moves of threads that synchronize tell of no reference
+pub nano_counts : (counts : List ℕ) (m : NanoMove) → CountsMove counts counts (nano_told m)
+nano_counts counts (nano.Take t f) o = refl
+nano_counts counts (nano.Give t f) o = refl
+nano_counts counts (nano.Want t f) o = refl
+nano_counts counts (nano.Enter t) o = refl
+nano_counts counts (nano.Leave t) o = refl
+nano_counts counts (nano.LeaveAll t) o = refl
+nano_counts counts (nano.Suspend t) o = refl
+nano_counts counts (nano.Resume t) o = refl
+nano_counts counts (nano.Raise t) o = refl
+nano_counts counts (nano.Lower t) o = refl

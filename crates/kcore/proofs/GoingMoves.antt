@@ -1,8 +1,8 @@
 -- The moves of each action go through: they can be made in the tables, and keep priorities and the readiness of those that
 -- they don't touch.
 use Rattle.std.proofs.Common.{◌≡◌, inl, inr, ℕ, zero, suc, ◌+◌, ◌*◌, ◌<◌, ◌≤◌, List, [], ◌∷◌, length, get_or, arith, refl, sym, ap, subst, ◌∙◌, Bool, true, false}
-use Rattle.std.specs.Prelude.{IsTrue, is_some, if◌then◌else◌, Option, Some, None, option_map, slice_set}
-use Rattle.std.proofs.lemmas.Bool.{cases_eq, cases_lt}
+use Rattle.std.specs.Prelude.{◌==◌, IsTrue, is_some, if◌then◌else◌, Option, Some, None, option_map, slice_set}
+use Rattle.std.proofs.lemmas.Bool.{cases_eq, cases_lt, eq-eqb}
 use Rattle.std.proofs.lemmas.List.{get_or_past}
 use Rattle.sym_base.specs.declared.number.ObjNo.{ObjNo}
 use Rattle.script_types.specs.declared.script.Script.{Script}
@@ -14,16 +14,20 @@ use Rattle.state_rows.specs.declared.duty.Owed.TheVariants.{Close, Sweep}
 use Rattle.state_rows.specs.declared.object.ObjectRow.{ObjectRow}
 use Rattle.state_rows.specs.ObjectRows.{is_dead_row}
 use Rattle.machine.specs.declared.moves.Move.{Move}
-use Rattle.machine.specs.declared.moves.Move.TheVariants.{Make, Gain, Lose, Find, Miss, GoOn, Write, Advance, Pay}
+use Rattle.machine.specs.declared.moves.Move.TheVariants.{Make, Gain, Lose, Find, Miss, GoOn, Write, Advance, Wait, Wake, SetPriority, Nano, Pay}
+use Rattle.machine.specs.declared.nano_move.NanoMove.{NanoMove}
+use Rattle.machine.specs.declared.nano_move.NanoMove.TheVariants as nano
 use Rattle.machine.specs.declared.state.State.{State}
+use Rattle.machine.specs.declared.state.Waiting.TheVariants as waiting
 use Rattle.machine.specs.declared.state.Role.{Role}
 use Rattle.machine.specs.declared.state.Role.TheVariants.{Supervisor, Declared}
 use Rattle.script_types.specs.declared.declaration.ThreadDecl.{ThreadDecl}
 use Rattle.machine.specs.Task.{declared_of, instructions_in}
 use Rattle.machine.specs.declared.state.ThreadRow.{ThreadRow}
 use Rattle.machine.specs.Choice.{priority_of, priority_of_row}
-use Rattle.machine.specs.Fits.{IsFree, FitsMove, EachFits, Sane, most_told, most_owed}
-use Rattle.machine.specs.Moves.{moved, told, tell, closed_effects, threads_gain, threads_lose, threads_closed, with_use, unlinked, with_found, with_part, with_register, advanced, next_object}
+use Rattle.machine.specs.NanoMoves.{nano_thread}
+use Rattle.machine.specs.Fits.{FitsNano, IsFree, FitsMove, EachFits, Sane, most_told, most_owed}
+use Rattle.machine.specs.Moves.{moved, told, tell, closed_effects, threads_gain, threads_lose, threads_closed, with_use, unlinked, with_found, with_part, with_register, with_waiting, with_priority, advanced, next_object}
 use Rattle.machine.specs.References.{total, same, count_of, kernel_names, pluses, minuses, RefsMove}
 use Rattle.machine.specs.Rows.{object_of, thread_of, owed_of, with_row}
 use Rattle.machine.specs.Steps.{decision_of}
@@ -36,7 +40,8 @@ use Rattle.machine.proofs.Numbers.CountSmall.{count_small}
 use Rattle.machine.proofs.Numbers.FewEffects.{tell_few}
 use Rattle.machine.proofs.Readiness.Touched.{untouched}
 use Rattle.machine.proofs.References.Same.{same_self}
-use Rattle.kcore.specs.Moved.{CanMove, IsReferred, HasPlaces, MayGain, AreKnown, MoveGoes, MovesGo}
+use Rattle.kcore.specs.Moved.{CanMove, IsReferred, HasPlaces, MayGain, AreKnown, MoveGoes, MovesGo, is_set}
+use Rattle.kcore.specs.NanoMoved.{CanNano}
 use Rattle.kcore.specs.ObjectsView.{IsThere}
 
 -- a change of a row that leaves its priority leaves all priorities
@@ -168,6 +173,30 @@ may_gain S (Link x) free = tt
 may_gain S (Message m) free = tt
 may_gain S Kernel free = tt
 
+-- a move in the rows of threads that synchronize is one of a thread and of a fast mutex that are there
+sized_at : (threads : List (Option ThreadRow)) (t : ObjNo) (row : Option ThreadRow) → get_or threads t.0 None ≡ row → is_some (get_or threads t.0 None) ≡ true → t.0 < length threads
+sized_at threads t (Some row) is some = inside threads t.0 row is
+sized_at threads t None is some = let clash : false ≡ true = ap (λ (x : Option ThreadRow). is_some x) (sym is) ∙ some in absurd (cc)
+
+can_nano : (script : Script) (S : State) (m : NanoMove) → AreRows script S → is_some (thread_of S (nano_thread m)) ≡ true → FitsNano m S → CanNano m S.nano
+can_nano script S m rows there fits =
+    let long = rows.nano.sized in
+    let at = sized_at S.threads (nano_thread m) (thread_of S (nano_thread m)) refl there in
+    by_kind m (omega arith) fits
+  where
+    by_kind : (m : NanoMove) → (nano_thread m).0 < length S.nano.signals → FitsNano m S → CanNano m S.nano
+    by_kind (nano.Take t f) at fits = (at, fits.0, fits.2.holds)
+    by_kind (nano.Give t f) at fits = (at, fits.0)
+    by_kind (nano.Want t None) at fits = (at, tt)
+    by_kind (nano.Want t (Some f)) at fits = (at, fits.0)
+    by_kind (nano.Enter t) at fits = at
+    by_kind (nano.Leave t) at fits = at
+    by_kind (nano.LeaveAll t) at fits = at
+    by_kind (nano.Suspend t) at fits = at
+    by_kind (nano.Resume t) at fits = at
+    by_kind (nano.Raise t) at fits = at
+    by_kind (nano.Lower t) at fits = at
+
 -- when a move that fits can be made
 can_move : (script : Script) (S : State) (t : ObjNo) (m : Move) → IsShaped script → FitsMove script t m S → RefsMove S (moved t m S) (told m S) → Sane script t S → CanMove t m S
 can_move script S t (Make kind name h) shaped fits refs s = (fits.0.named, fits.0.new, record { room = fits.0.room; fresh = next_fresh script S s.rows }, may_gain S h fits.1)
@@ -181,19 +210,30 @@ can_move script S t (Advance u) shaped fits refs s = (
   λ k row is. let next = (s.rows.threads.rows k row is).next_instruction in let few = few_in script shaped row.role _ refl in omega arith,
   one_place script S u s.rows,
 )
+can_move script S t (Wait u what) shaped fits refs s = tt
+can_move script S t (Wake u) shaped fits refs s = tt
+can_move script S t (SetPriority u priority) shaped fits refs s = tt
+can_move script S t (Nano m) shaped fits refs s = can_nano script S m s.rows fits.0 fits.1
 can_move script S t (Pay what) shaped fits refs s = absurd fits
 
--- priorities stay
-ranks_move : (script : Script) (S : State) (t : ObjNo) (m : Move) (u : ObjNo) → FitsMove script t m S → priority_of (moved t m S) u ≡ priority_of S u
-ranks_move script S t (Make kind name h) u fits = rank-gain S.threads h (next_object S) u
-ranks_move script S t (Gain h o) u fits = rank-gain S.threads h o u
-ranks_move script S t (Lose h o) u fits = rank-closed (threads_lose h S.threads) _ o u ∙ rank-lose S.threads h u
-ranks_move script S t (Find v o) u fits = rank-with_row S.threads v (with_found o) u (λ r. refl)
-ranks_move script S t (Miss o) u fits = refl
-ranks_move script S t (GoOn v part) u fits = rank-with_row S.threads v (with_part part) u (λ r. refl)
-ranks_move script S t (Write v x value) u fits = rank-with_row S.threads v (with_register x value) u (λ r. refl)
-ranks_move script S t (Advance v) u fits = rank-with_row S.threads v advanced u (λ r. refl)
-ranks_move script S t (Pay what) u fits = absurd fits
+-- priorities stay that aren't set
+set_other : (u v : ObjNo) → (u.0 == v.0) ≡ false → v.0 ≡ u.0 → ⊥
+set_other u v other same = let is : (u.0 == v.0) ≡ true = eq-eqb u.0 v.0 (sym same) in cc
+
+ranks_move : (script : Script) (S : State) (t : ObjNo) (m : Move) (u : ObjNo) → FitsMove script t m S → is_set m u ≡ false → priority_of (moved t m S) u ≡ priority_of S u
+ranks_move script S t (Wait v what) u fits unset = rank-with_row S.threads v (with_waiting what) u (λ r. refl)
+ranks_move script S t (Wake v) u fits unset = rank-with_row S.threads v (with_waiting waiting.Nothing) u (λ r. refl)
+ranks_move script S t (SetPriority v priority) u fits unset = ap priority_of_row (row-other S.threads v (with_priority priority) u.0 (set_other u v unset))
+ranks_move script S t (Nano m) u fits unset = refl
+ranks_move script S t (Make kind name h) u fits unset = rank-gain S.threads h (next_object S) u
+ranks_move script S t (Gain h o) u fits unset = rank-gain S.threads h o u
+ranks_move script S t (Lose h o) u fits unset = rank-closed (threads_lose h S.threads) _ o u ∙ rank-lose S.threads h u
+ranks_move script S t (Find v o) u fits unset = rank-with_row S.threads v (with_found o) u (λ r. refl)
+ranks_move script S t (Miss o) u fits unset = refl
+ranks_move script S t (GoOn v part) u fits unset = rank-with_row S.threads v (with_part part) u (λ r. refl)
+ranks_move script S t (Write v x value) u fits unset = rank-with_row S.threads v (with_register x value) u (λ r. refl)
+ranks_move script S t (Advance v) u fits unset = rank-with_row S.threads v advanced u (λ r. refl)
+ranks_move script S t (Pay what) u fits unset = absurd fits
 
 -- threads have the least numbers, and priorities in their range
 known : (script : Script) (S : State) → AreRows script S → AreKnown S
@@ -215,7 +255,7 @@ each_goes script S t (m ∷ ms) shaped fits few s =
       can = can_move script S t m shaped fits.0 refs s;
       refs = refs;
       known = known script T sound.rows;
-      ranks = λ u. ranks_move script S t m u fits.0;
+      ranks = λ u unset. ranks_move script S t m u fits.0 unset;
       apart = λ u none. untouched script S t m u none;
     } in
     (goes, each_goes script T t ms shaped fits.1 (omega arith) (sane-after script S T t (told m S) s sound))
@@ -241,7 +281,7 @@ pay_goes script S t what rest owes s =
       can = can;
       refs = refs;
       known = known script T sound.rows;
-      ranks = λ u. ranks_pay script S t what u can;
+      ranks = λ u _. ranks_pay script S t what u can;
       apart = λ u none. untouched script S t (Pay what) u none;
     }
 

@@ -1,4 +1,5 @@
 mod ActionsDone
+mod BootNano
 mod BootReady
 mod BootTables
 mod BootUses
@@ -13,3 +14,4 @@ mod Performing
 mod ReadyChanges
 mod ReadyLists
 mod ReadyQueues
+mod ReadyRows

@@ -3,6 +3,7 @@ pub mod ObjectsView
 pub mod Counts
 pub mod StateOf
 pub mod Noted
+pub mod NanoMoved
 pub mod Moved
 pub mod ReadyQueues
 pub mod Performed

@@ -8,7 +8,7 @@ use Rattle.entry_log.specs.declared.effect.Holder.TheVariants.{Temp}
 use Rattle.state_rows.specs.declared.duty.Owed.TheVariants.{Close, Sweep}
 use Rattle.state_rows.specs.ObjectRows.{is_session, is_taken, is_dead_row}
 use Rattle.machine.specs.declared.moves.Move.{Move}
-use Rattle.machine.specs.declared.moves.Move.TheVariants.{Make, Gain, Lose, Find, Miss, GoOn, Write, Advance, Pay}
+use Rattle.machine.specs.declared.moves.Move.TheVariants.{Make, Gain, Lose, Find, Miss, GoOn, Write, Advance, Wait, Wake, SetPriority, Nano, Pay}
 use Rattle.machine.specs.declared.state.State.{State}
 use Rattle.machine.specs.declared.state.ThreadRow.{ThreadRow}
 use Rattle.script_types.specs.declared.script.Script.{Script}
@@ -21,6 +21,7 @@ use Rattle.machine.specs.Rows.{object_of, thread_of, owed_of, owing}
 use Rattle.machine.specs.Task.{is_ready}
 use Rattle.kcore.specs.declared.tables.Tables.{Tables}
 use Rattle.kcore.specs.Counts.{CountsMove}
+use Rattle.kcore.specs.NanoMoved.{CanNano}
 use Rattle.kcore.specs.Noted.{AreNoted}
 use Rattle.kcore.specs.ObjectsView.{IsThere}
 use Rattle.kcore.specs.StateOf.{state_of}
@@ -72,6 +73,10 @@ CanMove t (Miss o) S = Unit {0}
 CanMove t (GoOn u part) S = Unit {0}
 CanMove t (Write u x value) S = Unit {0}
 CanMove t (Advance u) S = CanAdvance u S
+CanMove t (Wait u what) S = Unit {0}
+CanMove t (Wake u) S = Unit {0}
+CanMove t (SetPriority u priority) S = Unit {0}
+CanMove t (Nano m) S = CanNano m S.nano
 CanMove t (Pay (Close h o)) S = IsReferred S o × HasPlaces 2 S t
 CanMove t (Pay (Sweep o)) S = IsTrue (is_dead_row (object_of S o)) × (thread_of S o ≡ None)
 
@@ -101,13 +106,18 @@ pub record IsClosed {W N : Type 0} (t o : ObjNo) (link : Option ObjNo) (old new 
 abbrev pub AreKnown : State → Type 0
 AreKnown S = (u : ObjNo) (row : ThreadRow) → thread_of S u ≡ Some row → (u.0 < BOOT_OBJECTS) × (row.priority < 64)
 
--- A move in an action of thread t goes through: it can be made, the references move with what it tells, priorities stay,
--- and so does the readiness of all threads that it doesn't touch.
+-- whether a move sets a thread's priority
+abbrev pub is_set : Move → ObjNo → Bool
+is_set (SetPriority v priority) u = u.0 == v.0
+is_set _ u = false
+
+-- A move in an action of thread t goes through: it can be made, the references move with what it tells, priorities stay
+-- that it doesn't set, and so does the readiness of all threads that it doesn't touch.
 pub record MoveGoes (script : Script) (t : ObjNo) (m : Move) (S : State) : Type 0 where
   pub can : CanMove t m S
   pub refs : RefsMove S (moved t m S) (told m S)
   pub known : AreKnown (moved t m S)
-  pub ranks : (u : ObjNo) → priority_of (moved t m S) u ≡ priority_of S u
+  pub ranks : (u : ObjNo) → is_set m u ≡ false → priority_of (moved t m S) u ≡ priority_of S u
   pub apart : (u : ObjNo) → is_listed (touched t m) u ≡ false → is_ready script (moved t m S) u ≡ is_ready script S u
 
 -- and so does each of several, when its turn comes

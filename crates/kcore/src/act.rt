@@ -7,6 +7,7 @@ ghost use Rattle.script_types.specs.Shape.{IsShaped};
 ghost use Rattle.machine.specs.History.{transition};
 ghost use Rattle.machine.specs.Rows.{thread_of};
 ghost use Rattle.machine.specs.Tick.{moved_behind};
+ghost use Rattle.state_rows.specs.Nano.{turned};
 ghost use Rattle.machine.specs.Transition.{act};
 ghost use Rattle.machine.specs.WellFormed.{AreRows};
 ghost use Rattle.machine.specs.declared.state.ThreadRow.{ThreadRow};
@@ -21,6 +22,7 @@ use crate::tables::Tables;
 use decisions::decision_of;
 use entry_log::{Actor, Effects, Step};
 use machine::Outcome;
+use nano_sync::NanoSync;
 use ready_list::ReadyList;
 use ref_words::RefWords;
 use script_types::Script;
@@ -51,12 +53,12 @@ fn act<W: RefWords + Drop>(
 }
 
 /// The end of a time slice.
-fn tick(ready: &mut ReadyList) -> Outcome
+fn tick(nano: &NanoSync, ready: &mut ReadyList) -> Outcome
     requires { SomeReady ready.old }
-    ensures queues { (rank : ObjNo → ℕ) → Follow rank (λ qs. moved_behind qs (first_of_greatest rank qs)) ready.old ready.new }
+    ensures queues { (rank : ObjNo → ℕ) → Follow rank (λ qs. moved_behind qs (turned nano.now (first_of_greatest rank qs))) ready.old ready.new }
     ensures told { result ≡ record { step = Step.Turn; effects = []; answer = None } }
 {
-    turn(ready);
+    turn(nano, ready);
     Outcome {
         step: Step::Turn,
         effects: Effects::new(),
@@ -91,7 +93,7 @@ pub fn transition<W: RefWords + Drop>(
 {
     match actor {
         Actor::Thread(thread) => act(script, tables, ready, thread),
-        Actor::Tick => tick(ready),
+        Actor::Tick => tick(&tables.nano, ready),
         Actor::Irq(_) | Actor::Idfc | Actor::Idle => idle(),
     }
 }

@@ -1,5 +1,5 @@
 //! The kernel that a script's schedule drives.
-ghost use Rattle.std.specs.Prelude.{◌≡◌, ◌+◌, ◌<◌, ◌≤◌, ◌++◌, [], ◌∷◌, length, IsTrue, IfOk};
+ghost use Rattle.std.specs.Prelude.{◌≡◌, ◌+◌, ◌<◌, ◌≤◌, ◌++◌, [], ◌∷◌, List, length, IsTrue, IfOk};
 ghost use Rattle.sym_base.specs.declared.limits.TheConstants.Limits.{OBJECTS, SHARED_HISTORY};
 ghost use Rattle.ref_words.specs.Words.{NoneCreated};
 ghost use Rattle.script_types.specs.Source.{IsValid};
@@ -7,21 +7,21 @@ ghost use Rattle.machine.specs.Slots.{IsDeclared};
 ghost use Rattle.machine.specs.FinalRows.{rows_from, IsNextRow};
 ghost use Rattle.entry_log.specs.declared.entry.Actor.TheVariants as Actor;
 ghost use Rattle.machine.specs.Choice.{priority_of};
-ghost use Rattle.machine.specs.Task.{is_ready};
+ghost use Rattle.machine.specs.Task.{is_able};
 ghost use Rattle.machine.specs.History.{after, entry_by, CanAct, IsLegal};
 ghost use Rattle.machine.specs.Run.{slot_actor};
 ghost use Rattle.machine_safe.specs.SafeReferences.{IsSafeReferences};
 ghost use Rattle.kcore.specs.Noted.{AreKept};
 ghost use Rattle.ready_list.specs.Arrival.{AreQueuesOf};
-ghost use Rattle.machine.specs.declared.state.State.{State};
+ghost use Rattle.sym_base.specs.declared.number.ObjNo.{ObjNo};
 ghost use Rattle.kcore.specs.ReadyQueues.{pairs};
-ghost use Rattle.kcore.specs.StateOf.{state_of};
+ghost use Rattle.kcore.specs.StateOf.{state_of, with_ready};
 
 use crate::act::transition;
 use crate::boot;
 use crate::ready::chosen;
 use crate::tables::Tables;
-use decisions::is_ready;
+use decisions::is_able;
 use entry_log::{Actor, Entry, FinalRow};
 use machine::entry_of;
 use ready_list::ReadyList;
@@ -54,11 +54,11 @@ impl<W: RefWords> Model for Kernel<W> {
 }
 
 /// Whom a slot lets act.
-fn slot_actor(ready: &ReadyList, slot: Slot) -> Actor
-    ensures { (S : State) → AreQueuesOf (pairs (priority_of S) S.ready) ready.now → result ≡ slot_actor S slot }
+fn slot_actor<W: RefWords + Drop>(tables: &Tables<W>, ready: &ReadyList, slot: Slot) -> Actor
+    ensures { (qs : List ObjNo) → AreQueuesOf (pairs (priority_of (state_of tables.now)) qs) ready.now → result ≡ slot_actor (with_ready (state_of tables.now) qs) slot }
 {
     match slot {
-        Slot::Go => chosen(ready),
+        Slot::Go => chosen(tables, ready),
         Slot::Irq(number) => Actor::Irq(number),
         Slot::Tick => Actor::Tick,
     }
@@ -119,11 +119,11 @@ impl<W: RefWords + Drop> Kernel<W> {
         self.history.push(entry).unwrap();
     }
 
-    /// Whether a thread may act: it owes something, or isn't at its list's end.
+    /// Whether a thread may act: it is ready, and wants no fast mutex that another holds.
     pub fn able(&self, t: ThreadNo) -> bool
-        ensures { result ≡ is_ready self.now.script (after self.now.script self.now.history) t }
+        ensures { result ≡ is_able self.now.script (after self.now.script self.now.history) t }
     {
-        is_ready(&self.script, &self.tables, t)
+        is_able(&self.script, &self.tables, t)
     }
 
     /// What happened so far, in order. It is a legal history of the script, in which each object died
@@ -156,13 +156,13 @@ impl Kernel<PlainWords> {
         ensures entry { let S = after self.old.script self.old.history in self.new.history ≡ self.old.history ++ entry_by self.old.script S (length self.old.history + 1) (slot_actor S slot) ∷ [] }
         ensures safe { IsSafeReferences self.new.script self.new.history }
     {
-        let actor = slot_actor(&self.ready, slot);
+        let actor = slot_actor(&self.tables, &self.ready, slot);
         self.go(actor);
     }
 
     /// One atomic action of an able thread, told by one entry more, whoever the schedule would choose.
     pub fn act(&mut self, t: ThreadNo)
-        requires able { IsTrue (is_ready self.old.script (after self.old.script self.old.history) t) }
+        requires able { IsTrue (is_able self.old.script (after self.old.script self.old.history) t) }
         requires room { length self.old.history < self.old.room }
         ensures script { self.new.script ≡ self.old.script }
         ensures room { self.new.room ≡ self.old.room }

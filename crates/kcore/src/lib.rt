@@ -7,6 +7,7 @@ mod duties;
 mod handles;
 mod kernel;
 mod moves;
+mod nano_moves;
 mod object_table;
 mod perform;
 mod reading;

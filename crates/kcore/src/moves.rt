@@ -12,10 +12,11 @@ ghost use Rattle.kcore.specs.StateOf.{state_of};
 
 use crate::duties::{drop_first_owed, owe_close, owe_use};
 use crate::handles::Handles;
+use crate::nano_moves::move_nano;
 use crate::tables::Tables;
 use crate::uses::{note_end, note_gain, note_lost, use_of};
 use entry_log::Holder;
-use machine::{Move, Owed};
+use machine::{Move, Owed, Waiting};
 use ref_words::{Closed, RefWords};
 use sym_base::{Items, Kind, Name, ObjNo, ThreadNo};
 
@@ -181,6 +182,14 @@ pub fn make_move<W: RefWords + Drop>(tables: &mut Tables<W>, thread: ThreadNo, c
             machine::threads_write(&mut tables.threads, other, register, value);
         }
         Move::Advance(other) => advance(tables, other),
+        Move::Wait(other, what) => machine::threads_wait(&mut tables.threads, other, what),
+        Move::Wake(other) => {
+            machine::threads_wait(&mut tables.threads, other, Waiting::Nothing);
+        }
+        Move::SetPriority(other, priority) => {
+            machine::threads_set_priority(&mut tables.threads, other, priority);
+        }
+        Move::Nano(change) => move_nano(&mut tables.nano, change),
         Move::Pay(what) => pay(tables, thread, what),
     }
 }

@@ -8,7 +8,7 @@ ghost use Rattle.kcore.specs.Performed.{IsPerformed};
 ghost use Rattle.kcore.specs.StateOf.{state_of};
 
 use crate::moves::make_move;
-use crate::ready::arrive_touched;
+use crate::ready::{arrive_touched, take_out};
 use crate::tables::Tables;
 use decisions::{add_effects, told};
 use entry_log::Effects;
@@ -37,6 +37,7 @@ pub fn perform<W: RefWords + Drop>(
     for change in moves {
         add_effects(&mut effects, told(tables, *change).as_slice());
         make_move(tables, thread, *change);
+        take_out(ready, *change);
         arrive_touched(script, tables, ready, touched(thread, *change));
     }
     effects

@@ -66,4 +66,36 @@ impl<W: RefWords + Drop> Reads for Tables<W> {
     fn objects_made(&self) -> usize {
         self.objects.len()
     }
+
+    fn signal_count(&self, thread: ThreadNo) -> u64 {
+        self.nano.signal_count(thread)
+    }
+
+    fn suspend_count(&self, thread: ThreadNo) -> u8 {
+        self.nano.suspend_count(thread)
+    }
+
+    fn critical_count(&self, thread: ThreadNo) -> u64 {
+        self.nano.critical_count(thread)
+    }
+
+    fn want(&self, thread: ThreadNo) -> Option<u8> {
+        self.nano.want(thread)
+    }
+
+    fn holder(&self, fast: u8) -> Option<ThreadNo> {
+        self.nano.holder(fast)
+    }
+
+    fn held(&self, thread: ThreadNo) -> Option<u8> {
+        self.nano.held(thread)
+    }
+
+    fn is_holding(&self, thread: ThreadNo) -> bool {
+        self.nano.held(thread).is_some()
+    }
+
+    fn is_protected(&self, thread: ThreadNo) -> bool {
+        self.nano.protected(thread)
+    }
 }

@@ -4,6 +4,7 @@ use crate::handles::Handles;
 use crate::object_table::ObjectTable;
 use cleanup::Cleanup;
 use machine::ThreadRow;
+use nano_sync::NanoSync;
 use ref_words::RefWords;
 use sym_base::Items;
 
@@ -17,4 +18,6 @@ pub struct Tables<W: RefWords> {
     pub threads: Items<Option<ThreadRow>>,
     /// What each thread owes, the oldest first, and what its death gives up.
     pub cleanup: Cleanup,
+    /// Fast semaphores, fast mutexes, critical sections and suspension.
+    pub nano: NanoSync,
 }

@@ -1,6 +1,8 @@
 use Rattle.std.proofs.Common.{refl}
-use Rattle.machine.specs.Moves.{with_found, with_part, with_register}
+use Rattle.machine.specs.Moves.{with_found, with_part, with_register, with_waiting, with_priority}
+use Rattle.machine.specs.declared.state.Waiting.TheVariants as waiting
 use Rattle.kcore.proofs.Noting.{noted_row}
+use Rattle.kcore.proofs.FirstCount.{nano_counts}
 use Rattle.kcore.proofs.moves.make_move.Goals as goal
 
 pub returns-in-Make : goal.returns-in-Make
@@ -37,4 +39,39 @@ returns-in-Write g c =
       state = rw c.threads_write.ensures refl;
       counts = λ o. refl;
       uses = rw c.threads_write.ensures (noted_row old.cleanup old.threads c.in-Write.other (with_register c.in-Write.register c.in-Write.value) (λ r. refl) c.requires.kept.uses);
+    })
+
+pub returns-in-Wait : goal.returns-in-Wait
+returns-in-Wait g c =
+    let old = c.args.tables.now in
+    rw c.in-Wait.is (record {
+      state = rw c.threads_wait.ensures refl;
+      counts = λ o. refl;
+      uses = rw c.threads_wait.ensures (noted_row old.cleanup old.threads c.in-Wait.other (with_waiting c.in-Wait.what) (λ r. refl) c.requires.kept.uses);
+    })
+
+pub returns-in-Wake : goal.returns-in-Wake
+returns-in-Wake g c =
+    let old = c.args.tables.now in
+    rw c.in-Wake.is (record {
+      state = rw c.threads_wait-in-Wake.ensures refl;
+      counts = λ o. refl;
+      uses = rw c.threads_wait-in-Wake.ensures (noted_row old.cleanup old.threads c.in-Wake.other (with_waiting waiting.Nothing) (λ r. refl) c.requires.kept.uses);
+    })
+
+pub returns-in-SetPriority : goal.returns-in-SetPriority
+returns-in-SetPriority g c =
+    let old = c.args.tables.now in
+    rw c.in-SetPriority.is (record {
+      state = rw c.threads_set_priority.ensures refl;
+      counts = λ o. refl;
+      uses = rw c.threads_set_priority.ensures (noted_row old.cleanup old.threads c.in-SetPriority.other (with_priority c.in-SetPriority.priority) (λ r. refl) c.requires.kept.uses);
+    })
+
+pub returns-in-Nano : goal.returns-in-Nano
+returns-in-Nano g c =
+    rw c.in-Nano.is (record {
+      state = rw c.move_nano.ensures refl;
+      counts = nano_counts c.args.tables.now.objects.counts c.in-Nano.change;
+      uses = c.requires.kept.uses;
     })
