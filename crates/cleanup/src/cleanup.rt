@@ -61,6 +61,15 @@ impl Cleanup {
         })
     }
 
+    /// The number of threads, each of which has its lists.
+    pub fn threads(&self) -> usize
+        ensures threads { result ≡ self.now.threads }
+        ensures duties { result ≡ length self.now.duties }
+        ensures temporary { result ≡ length self.now.temporary }
+    {
+        self.temporary.len()
+    }
+
     /// Lists a thing that a thread has, behind the others of its kind.
     pub fn push(&mut self, t: ThreadNo, what: Held)
         requires thread { t.0 < self.old.threads }

@@ -1,5 +1,5 @@
 -- What the run of a script prints.
-use Rattle.std.specs.Prelude.{◌≡◌, ℕ, true, List}
+use Rattle.std.specs.Prelude.{◌≡◌, ℕ, List}
 use Rattle.entry_log.specs.HistoryText.{history_text}
 use Rattle.kcore.specs.KernelView.{KernelView}
 use Rattle.machine.specs.FinalRows.{final_rows}
@@ -15,4 +15,3 @@ run_text script = history_text (run script) (final_rows (after script (run scrip
 pub record HasRun (wanted : Script) (kernel : KernelView) : Type 0 where
   pub script : kernel.script ≡ wanted
   pub history : kernel.history ≡ run wanted
-  pub usable : kernel.usable ≡ true

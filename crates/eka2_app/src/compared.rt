@@ -1,5 +1,5 @@
 //! The plain machine and the kernel make one history of a script, and leave the same objects.
-ghost use Rattle.std.specs.Prelude.{◌≡◌, [], true, IfOk, IfSome};
+ghost use Rattle.std.specs.Prelude.{◌≡◌, [], IfOk, IfSome};
 ghost use Rattle.script_types.specs.Source.{IsValid};
 
 use crate::output::{Line, line_of_entry, line_of_row};
@@ -52,9 +52,7 @@ fn plain_after(alloc: Global, text: &str) -> Option<Plain> {
 }
 
 /// The kernel after a text's schedule.
-fn kernel_after(alloc: Global, text: &str) -> Option<Kernel<PlainWords>>
-    ensures { IfSome result (λ kernel. kernel.usable ≡ true) }
-{
+fn kernel_after(alloc: Global, text: &str) -> Option<Kernel<PlainWords>> {
     match script_of(alloc, text) {
         Some(script) => make_history(alloc, script).ok(),
         None => None,
@@ -85,16 +83,12 @@ fn line_left(row: Option<FinalRow>) -> Line {
 }
 
 /// Whether both machines have one first row of the numbers from `from` on, or neither has one.
-fn is_same_row(plain: &Plain, kernel: &Kernel<PlainWords>, from: u16) -> bool
-    requires { kernel.now.usable ≡ true }
-{
+fn is_same_row(plain: &Plain, kernel: &Kernel<PlainWords>, from: u16) -> bool {
     line_left(plain.next_row(from)).as_slice() == line_left(kernel.next_row(from)).as_slice()
 }
 
 /// Whether the same objects are left on both machines.
-fn are_same_rows(plain: &Plain, kernel: &Kernel<PlainWords>) -> bool
-    requires { kernel.now.usable ≡ true }
-{
+fn are_same_rows(plain: &Plain, kernel: &Kernel<PlainWords>) -> bool {
     for from in 0..NUMBERS {
         if !is_same_row(plain, kernel, from) {
             return false;
@@ -104,9 +98,7 @@ fn are_same_rows(plain: &Plain, kernel: &Kernel<PlainWords>) -> bool
 }
 
 /// Whether both machines have one history, and the same objects are left.
-fn is_same(plain: &Plain, kernel: &Kernel<PlainWords>) -> bool
-    requires { kernel.now.usable ≡ true }
-{
+fn is_same(plain: &Plain, kernel: &Kernel<PlainWords>) -> bool {
     is_same_history(plain.history(), kernel.history()) && are_same_rows(plain, kernel)
 }
 
@@ -130,7 +122,6 @@ fn both_machines_make_one_history(rt: HostRuntime) {
 /// The kernel of a script at boot, with room for one entry.
 fn short_kernel(alloc: Global, script: Script) -> Result<Kernel<PlainWords>, NoMemory>
     requires { IsValid script }
-    ensures usable { IfOk result (λ kernel. kernel.usable ≡ true) }
     ensures room { IfOk result (λ kernel. kernel.room ≡ 1) }
     ensures empty { IfOk result (λ kernel. kernel.history ≡ []) }
 {
@@ -141,7 +132,6 @@ fn short_kernel(alloc: Global, script: Script) -> Result<Kernel<PlainWords>, NoM
 /// The kernel at boot of the script in which an object dies between its find and its open, with room
 /// for one entry.
 fn dying_kernel(alloc: Global) -> Option<Kernel<PlainWords>>
-    ensures usable { IfSome result (λ kernel. kernel.usable ≡ true) }
     ensures room { IfSome result (λ kernel. kernel.room ≡ 1) }
     ensures empty { IfSome result (λ kernel. kernel.history ≡ []) }
 {
@@ -166,7 +156,7 @@ fn a_thread_that_is_not_chosen_acts(rt: HostRuntime) -> Result<(), Fail> {
     };
     assert!(rt; !kernel.able(ObjNo(1)));
     assert!(rt; kernel.able(ObjNo(4)));
-    kernel.act(ObjNo(4))?;
+    kernel.act(ObjNo(4));
     assert_eq!(rt; kernel.history().len(), 1);
     assert_eq!(rt;
         first_line(kernel.history()).as_slice(),

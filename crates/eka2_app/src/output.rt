@@ -1,5 +1,5 @@
 //! Writing a history, or the line of a refusal. Each line goes out, with its line feed, as one piece.
-ghost use Rattle.std.specs.Prelude.{◌≡◌, ◌≤◌, true, is_some, OnOk, OnErr};
+ghost use Rattle.std.specs.Prelude.{◌≡◌, ◌≤◌, is_some, OnOk, OnErr};
 ghost use Rattle.std.specs.List.{flat_map};
 ghost use Rattle.edge_io.specs.Faults.{Rose};
 ghost use Rattle.edge_io.specs.Written.{Wrote, WrotePrefix};
@@ -93,7 +93,6 @@ fn write_rows<K: Sink>(
     line: &mut Line,
     kernel: &Kernel<PlainWords>,
 ) -> Result<(), Failed>
-    requires usable { kernel.now.usable ≡ true }
     requires valid { IsValid kernel.now.script }
     ensures whole { OnOk result (Wrote (K.written sink.old) (K.written sink.new)
         (flat_map final_line (final_rows (after kernel.now.script kernel.now.history)))) }
@@ -115,7 +114,6 @@ fn write_rows<K: Sink>(
 /// Writes the whole history of a kernel: its entries, and the objects that are left. One buffer holds
 /// each line in turn.
 pub fn write_history<K: Sink>(sink: &mut K, kernel: &Kernel<PlainWords>) -> Result<(), Failed>
-    requires usable { kernel.now.usable ≡ true }
     requires valid { IsValid kernel.now.script }
     ensures whole { OnOk result (Wrote (K.written sink.old) (K.written sink.new)
         (history_text kernel.now.history (final_rows (after kernel.now.script kernel.now.history)))) }

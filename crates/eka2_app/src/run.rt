@@ -38,7 +38,7 @@ pub fn make_history(alloc: Global, script: Script) -> Result<Kernel<PlainWords>,
     let words = PlainWords::new(alloc, PLACES)?;
     let mut kernel = Kernel::boot(alloc, script, words, room)?;
     for slot in slots.as_slice() {
-        kernel.slot(*slot)?;
+        kernel.slot(*slot);
     }
     Ok(kernel)
 }
@@ -59,10 +59,10 @@ fn run_script<K: Sink>(alloc: Global, script: Script, sink: &mut K) -> Result<()
     let Ok(kernel) = make_history(alloc, script) else {
         return Err(RunFault::NoMemory);
     };
-    if write_history(sink, &kernel).is_err() {
-        return Err(RunFault::WriteFault);
+    match write_history(sink, &kernel) {
+        Ok(()) => Ok(()),
+        Err(_) => Err(RunFault::WriteFault),
     }
-    Ok(())
 }
 
 /// Reads a script, runs it and writes its history. The whole input is read before it is judged, and

@@ -11,23 +11,25 @@ use Rattle.ready_list.specs.Ready.{Ready}
 use Rattle.state_rows.specs.declared.duty.Owed.TheVariants.{Close, Sweep}
 use Rattle.machine.specs.declared.decision.Outcome.{Outcome}
 use Rattle.machine.specs.declared.moves.Move.{Move}
-use Rattle.machine.specs.declared.moves.Move.TheVariants.{Make, Gain, Lose, Find, Miss, GoOn, Write, Advance, Pay}
+use Rattle.machine.specs.declared.moves.Move.TheVariants.{Make, Gain, Lose, Find, Miss, GoOn, Write, Advance, Wake, SetPriority, Nano, Pay}
+use Rattle.machine.specs.declared.moves.Move.TheVariants as move
 use Rattle.machine.specs.declared.state.State.{State}
-use Rattle.machine.specs.Arrivals.{is_listed, touched, arrive, arrivals}
+use Rattle.machine.specs.Arrivals.{is_listed, touched, taken_out, arrive, arrivals}
 use Rattle.machine.specs.Choice.{priority_of}
 use Rattle.machine.specs.Moves.{moved, told, perform, tell}
 use Rattle.machine.specs.Steps.{decision_of}
 use Rattle.machine.specs.Task.{is_ready}
 use Rattle.machine.specs.Tick.{moved_behind, tick}
+use Rattle.state_rows.specs.Nano.{turned}
 use Rattle.machine.specs.Transition.{left, act, carried_out, idle}
 use Rattle.sym_base.specs.Greatest.{first_of_greatest}
 use Rattle.kcore.specs.declared.tables.Tables.{Tables}
-use Rattle.kcore.specs.Counts.{Agrees}
+use Rattle.kcore.specs.Noted.{AreKept}
 use Rattle.kcore.specs.Moved.{MovesGo}
 use Rattle.kcore.specs.Performed.{IsPerformed, Does}
 use Rattle.kcore.specs.ReadyQueues.{AreReady, Follow, leave_along}
 use Rattle.kcore.specs.StateOf.{state_of, with_ready}
-use Rattle.kcore.proofs.ReadyLists.{is_touched, leave_is_filter, listed_behind}
+use Rattle.kcore.proofs.ReadyLists.{is_touched, leave_is_filter, listed_behind, taken_listed}
 
 -- moves don't look at the list of ready threads
 moved_apart : (t : ObjNo) (m : Move) (S : State) (qs : List ObjNo) → moved t m (with_ready S qs) ≡ with_ready (moved t m S) qs
@@ -39,6 +41,10 @@ moved_apart t (Miss o) S qs = refl
 moved_apart t (GoOn u part) S qs = refl
 moved_apart t (Write u x value) S qs = refl
 moved_apart t (Advance u) S qs = refl
+moved_apart t (move.Wait u what) S qs = refl
+moved_apart t (Wake u) S qs = refl
+moved_apart t (SetPriority u priority) S qs = refl
+moved_apart t (Nano m) S qs = refl
 moved_apart t (Pay (Close h o)) S qs = refl
 moved_apart t (Pay (Sweep o)) S qs = refl
 
@@ -51,6 +57,10 @@ told_apart (Miss o) S qs = refl
 told_apart (GoOn u part) S qs = refl
 told_apart (Write u x value) S qs = refl
 told_apart (Advance u) S qs = refl
+told_apart (move.Wait u what) S qs = refl
+told_apart (Wake u) S qs = refl
+told_apart (SetPriority u priority) S qs = refl
+told_apart (Nano m) S qs = refl
 told_apart (Pay (Close h o)) S qs = refl
 told_apart (Pay (Sweep o)) S qs = refl
 
@@ -71,8 +81,8 @@ arrive_apart script S qs (u ∷ us) xs = arrive_apart script S qs us (if is_read
 arrivals_apart : (script : Script) (t : ObjNo) (ms : List Move) (S : State) (qs xs : List ObjNo) → arrivals script t ms (with_ready S qs) xs ≡ arrivals script t ms S xs
 arrivals_apart script t [] S qs xs = refl
 arrivals_apart script t (m ∷ ms) S qs xs =
-    ap (λ (T : State). arrivals script t ms T (arrive script T (touched t m) xs)) (moved_apart t m S qs)
-    ∙ (ap (arrivals script t ms (with_ready (moved t m S) qs)) (arrive_apart script (moved t m S) qs (touched t m) xs) ∙ arrivals_apart script t ms (moved t m S) qs (arrive script (moved t m S) (touched t m) xs))
+    ap (λ (T : State). arrivals script t ms T (arrive script T (touched t m) (taken_out m xs))) (moved_apart t m S qs)
+    ∙ (ap (arrivals script t ms (with_ready (moved t m S) qs)) (arrive_apart script (moved t m S) qs (touched t m) (taken_out m xs)) ∙ arrivals_apart script t ms (moved t m S) qs (arrive script (moved t m S) (touched t m) (taken_out m xs)))
 
 -- who came, or was there
 arrive_listed : (script : Script) (S : State) (us qs : List ObjNo) (u : ObjNo) → is_listed (arrive script S us qs) u ≡ true → is_listed us u ≡ false → is_listed qs u ≡ true
@@ -96,8 +106,8 @@ stays_ready : (script : Script) (t : ObjNo) (ms : List Move) (S : State) (qs : L
 stays_ready script t [] S qs u go was listed apart = was listed
 stays_ready script t (m ∷ ms) S qs u go was listed apart =
     let parts = or_parts (is_listed (touched t m) u) (is_touched t ms u) apart in
-    stays_ready script t ms (moved t m S) (arrive script (moved t m S) (touched t m) qs) u go.1
-    (λ there. go.0.apart u parts.0 ∙ was (arrive_listed script (moved t m S) (touched t m) qs u there parts.0)) listed parts.1
+    stays_ready script t ms (moved t m S) (arrive script (moved t m S) (touched t m) (taken_out m qs)) u go.1
+    (λ there. go.0.apart u parts.0 ∙ was (taken_listed m qs u (arrive_listed script (moved t m S) (touched t m) (taken_out m qs) u there parts.0))) listed parts.1
 
 -- an action of a thread
 pub act_does : {W N : Type 0} (script : Script) (t : ObjNo) (old new : Tables W N) (before between after : Ready) (outcome : Outcome) (effects : List Effect) → let d = decision_of script (state_of old) t in
@@ -124,25 +134,25 @@ act_does script t old new before between after outcome effects go did follow tol
         did = ap (λ (U : State). left U outcome) state ∙ ap (left done.state) tale;
         queues = subst (λ (l : List ObjNo). AreReady (priority_of T) l after) (left_is ∙ sym list) (follow (priority_of T) came (did.queues qs ready));
       };
-  agree = did.agree;
+  kept = did.kept;
 }
 
 -- a time slice ends
-pub tick_does : {W N : Type 0} (script : Script) (tables : Tables W N) (before after : Ready) (outcome : Outcome) → Agrees tables.objects.counts (state_of tables) → ((rank : ObjNo → ℕ) → Follow rank (λ qs. moved_behind qs (first_of_greatest rank qs)) before after) → outcome ≡ record { step = Turn; effects = []; answer = None } → Does script tables before tables after outcome (λ S. tick S)
+pub tick_does : {W N : Type 0} (script : Script) (tables : Tables W N) (before after : Ready) (outcome : Outcome) → AreKept tables → ((rank : ObjNo → ℕ) → Follow rank (λ qs. moved_behind qs (turned tables.nano (first_of_greatest rank qs))) before after) → outcome ≡ record { step = Turn; effects = []; answer = None } → Does script tables before tables after outcome (λ S. tick S)
 unfolding tick
-tick_does script tables before after outcome agree follow told = record {
+tick_does script tables before after outcome kept follow told = record {
   each = λ qs ready each.
       let S = with_ready (state_of tables) qs in
       record {
         did = ap (λ (o : Outcome). left (tick S).state o) told;
         queues = follow (priority_of (state_of tables)) qs ready;
       };
-  agree = agree;
+  kept = kept;
 }
 
 -- nobody acts
-pub idle_does : {W N : Type 0} (script : Script) (tables : Tables W N) (r : Ready) (outcome : Outcome) → Agrees tables.objects.counts (state_of tables) → outcome ≡ record { step = Wait; effects = []; answer = None } → Does script tables r tables r outcome idle
-idle_does script tables r outcome agree told = record {
+pub idle_does : {W N : Type 0} (script : Script) (tables : Tables W N) (r : Ready) (outcome : Outcome) → AreKept tables → outcome ≡ record { step = Wait; effects = []; answer = None } → Does script tables r tables r outcome idle
+idle_does script tables r outcome kept told = record {
   each = λ qs ready each. record { did = ap (λ (o : Outcome). left (with_ready (state_of tables) qs) o) told; queues = ready };
-  agree = agree;
+  kept = kept;
 }

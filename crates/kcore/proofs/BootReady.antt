@@ -21,14 +21,11 @@ use Rattle.kcore.specs.ReadyQueues.{AreReady}
 use Rattle.kcore.proofs.BootTables.{take_get}
 use Rattle.kcore.proofs.ReadyChanges.{ready_behind}
 use Rattle.kcore.proofs.ReadyQueues.{nobody_queued, ready_queued, other_thread}
-
-row_of_ready : (script : Script) (first : Option Owed) (x : Option ThreadRow) → is_some (task_of_row script first x) ≡ true → (row : ThreadRow) × (x ≡ Some row)
-row_of_ready script first None ready = absurd (cc)
-row_of_ready script first (Some row) ready = (row, refl)
+use Rattle.kcore.proofs.ReadyRows.{ready_row}
 
 -- a listed thread has a row
 listed_row : (script : Script) (S : State) (t : ObjNo) → IsWellFormed script S → is_listed S.ready t ≡ true → (row : ThreadRow) × (thread_of S t ≡ Some row)
-listed_row script S t h listed = row_of_ready script (first_owed S t) (thread_of S t) (sym (h.ready.exact t) ∙ listed)
+listed_row script S t h listed = ready_row script S t (sym (h.ready.exact t) ∙ listed)
 
 pub listed_known : (script : Script) (S : State) → IsWellFormed script S → (t : ObjNo) → is_listed S.ready t ≡ true → t.0 < BOOT_OBJECTS
 listed_known script S h t listed =

@@ -1,6 +1,7 @@
 -- A kernel goes on: after an actor's action its tables stand for one entry more.
 use Rattle.std.proofs.Common.{◌≡◌, ℕ, ◌+◌, List, [], ◌∷◌, ◌++◌, length, refl, sym, ap, subst, ◌∙◌, true, Option, Some, None}
-use Rattle.std.specs.Prelude.{drop, is_some, Bool}
+use Rattle.std.specs.Prelude.{drop, is_none}
+use Rattle.std.proofs.lemmas.Bool.{and_parts}
 use Rattle.sym_base.specs.declared.number.ObjNo.{ObjNo}
 use Rattle.script_types.specs.declared.script.Script.{Script}
 use Rattle.script_types.specs.declared.script.Slot.{Slot}
@@ -17,13 +18,14 @@ use Rattle.machine.specs.declared.state.ThreadRow.{ThreadRow}
 use Rattle.script_types.specs.Source.{IsValid}
 use Rattle.machine.specs.Boot.{boot}
 use Rattle.machine.specs.Choice.{priority_of}
-use Rattle.kcore.specs.Counts.{Agrees}
+use Rattle.kcore.specs.Noted.{AreKept}
 use Rattle.machine.specs.FinalRows.{final_row, rows_of, rows_from, IsNextRow}
 use Rattle.machine.specs.History.{transition, next, entry_of, entry_by, after, CanAct, IsLegal}
-use Rattle.machine.specs.Rows.{thread_of, first_owed}
+use Rattle.machine.specs.Rows.{thread_of}
 use Rattle.machine.specs.Run.{slot_actor}
 use Rattle.machine.specs.Slots.{IsDeclared}
-use Rattle.machine.specs.Task.{is_ready, task_of_row}
+use Rattle.machine.specs.Task.{is_ready, is_able}
+use Rattle.state_rows.specs.Nano.{wanted_holder}
 use Rattle.machine.specs.Transition.{Transition}
 use Rattle.machine.specs.WellFormed.{AreRows}
 use Rattle.machine.proofs.Reached.AfterHistory.{well_formed-after}
@@ -31,12 +33,12 @@ use Rattle.machine.proofs.Reached.Histories.{after-push, legal-push, slot_can}
 use Rattle.machine_safe.specs.SafeReferences.{IsSafeReferences}
 use Rattle.machine_safe.proofs.SafeHistories.{legal_safe}
 use Rattle.ready_list.specs.Ready.{Ready}
-use Rattle.ready_list.specs.Arrival.{AreQueuesOf}
 use Rattle.kcore.specs.declared.tables.Tables.{Tables}
 use Rattle.kcore.specs.KernelView.{Stands}
 use Rattle.kcore.specs.Performed.{EachReady, Does}
-use Rattle.kcore.specs.ReadyQueues.{AreReady, SomeReady, pairs}
+use Rattle.kcore.specs.ReadyQueues.{AreReady, SomeReady}
 use Rattle.kcore.specs.StateOf.{state_of, with_ready}
+use Rattle.kcore.proofs.ReadyRows.{ready_row}
 
 -- rows don't look at the list of ready threads
 rows_apart : (script : Script) (S : State) (qs : List ObjNo) → AreRows script (with_ready S qs) → AreRows script S
@@ -45,6 +47,7 @@ rows_apart script S qs h = record {
   tables = h.tables;
   threads = h.threads;
   duties = h.duties;
+  nano = h.nano;
   lives = record { alive = h.lives.alive; counted = h.lives.counted; sweeps = h.lives.sweeps };
 }
 
@@ -65,21 +68,12 @@ each_stands script history tables ready h t listed =
     let list = (well_formed-after script history h.valid).ready in
     ap (λ (U : State). is_ready script U t) h.state ∙ (sym (list.exact t) ∙ listed)
 
--- whether the thread of this row has something to do
-abbrev is_some_task : Script → State → ObjNo → Option ThreadRow → Bool
-is_some_task script S t row = is_some (task_of_row script (first_owed S t) row)
-
 -- a thread that may act has a row
-ready_row : (script : Script) (S : State) (t : ObjNo) (row : Option ThreadRow) → thread_of S t ≡ row → is_ready script S t ≡ true → (r : ThreadRow) × (thread_of S t ≡ Some r)
-ready_row script S t (Some r) is ready = (r, is)
-ready_row script S t None is ready =
-    let clash : is_some_task script S t None ≡ true = ap (is_some_task script S t) (sym is) ∙ ready in
-    absurd (cc)
-
 pub actor_there : {W N : Type 0} (script : Script) (history : List Entry) (tables : Tables W N) (ready : Ready) (actor : Actor) → Stands script history tables ready → CanAct script (after script history) actor → (t : ObjNo) → actor ≡ Thread t → (r : ThreadRow) × (thread_of (state_of tables) t ≡ Some r)
 actor_there script history tables ready actor h can t is =
-    let able : is_ready script (after script history) t ≡ true = subst (CanAct script (after script history)) is can in
-    ready_row script (state_of tables) t (thread_of (state_of tables) t) refl (ap (λ (U : State). is_ready script U t) h.state ∙ able)
+    let H = after script history in
+    let able : is_able script H t ≡ true = subst (CanAct script H) is can in
+    ready_row script (state_of tables) t (ap (λ (U : State). is_ready script U t) h.state ∙ (and_parts (is_ready script H t) (is_none (wanted_holder H.nano t)) able).0)
 
 -- the entry is the one of the definitions
 pub entry_told : {W N : Type 0} (script : Script) (history : List Entry) (old T : Tables W N) (before after_it : Ready) (actor : Actor) (outcome : Outcome) (place : ℕ) (e : Entry) → Stands script history old before → Does script old before T after_it outcome (λ S. transition script S actor) → place ≡ length history + 1 → e ≡ entry_of place actor outcome → e ≡ entry_by script (after script history) (length history + 1) actor
@@ -102,18 +96,14 @@ kernel_goes_on script history new old T before after_it actor outcome place e ca
       valid = h.valid;
       legal = subst (IsLegal script) (sym pushed) (legal-push script history e h.legal (record { able = subst (CanAct script H) (sym acts) can; told = tale }));
       state = subst (λ (U : State). with_ready (state_of T) U.ready ≡ U) (sym is) rows;
-      agree = does.agree;
+      kept = does.kept;
       queues = subst (λ (U : State). AreReady (priority_of (state_of T)) U.ready after_it) (sym is) leave.queues;
     }
-
--- the queues are those of the state after the history
-pub queues_stand : {W N : Type 0} (script : Script) (history : List Entry) (tables : Tables W N) (ready : Ready) → Stands script history tables ready → AreQueuesOf (pairs (priority_of (after script history)) (after script history).ready) ready
-queues_stand script history tables ready h = subst (λ (U : State). AreQueuesOf (pairs (priority_of U) (after script history).ready) ready) h.state h.queues.queues
 
 -- the actor of a slot may act
 pub slot_goes : {W N : Type 0} (script : Script) (history : List Entry) (tables : Tables W N) (ready : Ready) (slot : Slot) (actor : Actor) → IsDeclared script slot → Stands script history tables ready → actor ≡ slot_actor (after script history) slot → CanAct script (after script history) actor
 slot_goes script history tables ready slot actor declared h is =
-    subst (CanAct script (after script history)) (sym is) (slot_can script (after script history) slot declared (well_formed-after script history h.valid).ready)
+    subst (CanAct script (after script history)) (sym is) (slot_can script (after script history) slot declared (well_formed-after script history h.valid))
 
 -- references are safe in the history that tables stand for
 pub safe_history : {W N : Type 0} (script : Script) (history : List Entry) (tables : Tables W N) (ready : Ready) → Stands script history tables ready → IsSafeReferences script history
@@ -133,11 +123,11 @@ pub next_row_apart : (S T : State) (qs : List ObjNo) (from : ℕ) (found : Optio
 next_row_apart S T qs from found is next = same_next S T from found (λ n. sym (ap (λ (U : State). rows_from U n) is) ∙ final_apart S qs n (drop n S.objects)) next
 
 -- at boot the tables stand for no entry
-pub stands_at_boot : {W N : Type 0} (script : Script) (tables : Tables W N) (ready : Ready) → IsValid script → with_ready (state_of tables) (boot script).ready ≡ boot script → Agrees tables.objects.counts (state_of tables) → AreReady (priority_of (boot script)) (boot script).ready ready → Stands script [] tables ready
-stands_at_boot script tables ready valid state agree queues = record {
+pub stands_at_boot : {W N : Type 0} (script : Script) (tables : Tables W N) (ready : Ready) → IsValid script → with_ready (state_of tables) (boot script).ready ≡ boot script → AreKept tables → AreReady (priority_of (boot script)) (boot script).ready ready → Stands script [] tables ready
+stands_at_boot script tables ready valid state kept queues = record {
   valid = valid;
   legal = tt;
   state = state;
-  agree = agree;
+  kept = kept;
   queues = subst (λ (U : State). AreReady (priority_of U) (boot script).ready ready) (sym state) queues;
 }

@@ -1,29 +1,33 @@
 -- The moves of each action go through: they can be made in the tables, and keep priorities and the readiness of those that
 -- they don't touch.
 use Rattle.std.proofs.Common.{◌≡◌, inl, inr, ℕ, zero, suc, ◌+◌, ◌*◌, ◌<◌, ◌≤◌, List, [], ◌∷◌, length, get_or, arith, refl, sym, ap, subst, ◌∙◌, Bool, true, false}
-use Rattle.std.specs.Prelude.{IsTrue, is_some, if◌then◌else◌, Option, Some, None, option_map, slice_set}
-use Rattle.std.proofs.lemmas.Bool.{cases_eq, cases_lt}
+use Rattle.std.specs.Prelude.{◌==◌, IsTrue, is_some, if◌then◌else◌, Option, Some, None, option_map, slice_set}
+use Rattle.std.proofs.lemmas.Bool.{cases_eq, cases_lt, eq-eqb}
 use Rattle.std.proofs.lemmas.List.{get_or_past}
 use Rattle.sym_base.specs.declared.number.ObjNo.{ObjNo}
 use Rattle.script_types.specs.declared.script.Script.{Script}
 use Rattle.script_types.specs.Shape.{IsShaped}
 use Rattle.entry_log.specs.declared.effect.Holder.{Holder}
-use Rattle.entry_log.specs.declared.effect.Holder.TheVariants.{Temp}
+use Rattle.entry_log.specs.declared.effect.Holder.TheVariants.{InProcess, InThread, Temp, Own, Link, Message, Kernel}
 use Rattle.state_rows.specs.declared.duty.Owed.{Owed}
 use Rattle.state_rows.specs.declared.duty.Owed.TheVariants.{Close, Sweep}
 use Rattle.state_rows.specs.declared.object.ObjectRow.{ObjectRow}
 use Rattle.state_rows.specs.ObjectRows.{is_dead_row}
 use Rattle.machine.specs.declared.moves.Move.{Move}
-use Rattle.machine.specs.declared.moves.Move.TheVariants.{Make, Gain, Lose, Find, Miss, GoOn, Write, Advance, Pay}
+use Rattle.machine.specs.declared.moves.Move.TheVariants.{Make, Gain, Lose, Find, Miss, GoOn, Write, Advance, Wait, Wake, SetPriority, Nano, Pay}
+use Rattle.machine.specs.declared.nano_move.NanoMove.{NanoMove}
+use Rattle.machine.specs.declared.nano_move.NanoMove.TheVariants as nano
 use Rattle.machine.specs.declared.state.State.{State}
+use Rattle.machine.specs.declared.state.Waiting.TheVariants as waiting
 use Rattle.machine.specs.declared.state.Role.{Role}
 use Rattle.machine.specs.declared.state.Role.TheVariants.{Supervisor, Declared}
 use Rattle.script_types.specs.declared.declaration.ThreadDecl.{ThreadDecl}
 use Rattle.machine.specs.Task.{declared_of, instructions_in}
 use Rattle.machine.specs.declared.state.ThreadRow.{ThreadRow}
 use Rattle.machine.specs.Choice.{priority_of, priority_of_row}
-use Rattle.machine.specs.Fits.{FitsMove, EachFits, Sane}
-use Rattle.machine.specs.Moves.{moved, told, closed_effects, threads_gain, threads_lose, threads_closed, with_use, unlinked, with_found, with_part, with_register, advanced, next_object}
+use Rattle.machine.specs.NanoMoves.{nano_thread}
+use Rattle.machine.specs.Fits.{FitsNano, IsFree, FitsMove, EachFits, Sane, most_told, most_owed}
+use Rattle.machine.specs.Moves.{moved, told, tell, closed_effects, threads_gain, threads_lose, threads_closed, with_use, unlinked, with_found, with_part, with_register, with_waiting, with_priority, advanced, next_object}
 use Rattle.machine.specs.References.{total, same, count_of, kernel_names, pluses, minuses, RefsMove}
 use Rattle.machine.specs.Rows.{object_of, thread_of, owed_of, with_row}
 use Rattle.machine.specs.Steps.{decision_of}
@@ -33,9 +37,11 @@ use Rattle.machine.proofs.Holders.ThreadRows.{row-here, row-other}
 use Rattle.machine.proofs.Lists.Totals.{inside, total_at_least}
 use Rattle.machine.proofs.MoveLaws.Run.{sound-move, sound-pay, sane-after, refs-of, weight-move}
 use Rattle.machine.proofs.Numbers.CountSmall.{count_small}
+use Rattle.machine.proofs.Numbers.FewEffects.{tell_few}
 use Rattle.machine.proofs.Readiness.Touched.{untouched}
 use Rattle.machine.proofs.References.Same.{same_self}
-use Rattle.kcore.specs.Moved.{CanMove, IsReferred, AreKnown, MoveGoes, MovesGo}
+use Rattle.kcore.specs.Moved.{CanMove, IsReferred, HasPlaces, MayGain, AreKnown, MoveGoes, MovesGo, is_set}
+use Rattle.kcore.specs.NanoMoved.{CanNano}
 use Rattle.kcore.specs.ObjectsView.{IsThere}
 
 -- a change of a row that leaves its priority leaves all priorities
@@ -136,29 +142,98 @@ few_in script shaped role None at = omega arith
 few_in script shaped Supervisor (Some declared) at = absurd (cc)
 few_in script shaped (Declared k) (Some declared) at = (shaped.threads k declared at).size
 
+-- each duty weighs something, so those of a thread are few
+weighs : (what : Owed) → 1 ≤ weight what
+weighs (Sweep o) = omega arith
+weighs (Close (InProcess p i) o) = omega arith
+weighs (Close (InThread t i) o) = omega arith
+weighs (Close (Temp t) o) = omega arith
+weighs (Close (Own t) o) = omega arith
+weighs (Close (Link x) o) = omega arith
+weighs (Close (Message m) o) = omega arith
+weighs (Close Kernel o) = omega arith
+
+few_duties : (owed : List Owed) → length owed ≤ total weight owed
+few_duties [] = omega arith
+few_duties (what ∷ rest) = omega (arith, weighs what, few_duties rest)
+
+few_places : (script : Script) (S : State) (t : ObjNo) → AreRows script S → HasPlaces 2 S t
+few_places script S t rows = omega (arith, few_duties (owed_of S t), rows.duties.few t.0)
+
+one_place : (script : Script) (S : State) (t : ObjNo) → AreRows script S → HasPlaces 1 S t
+one_place script S t rows = let two = few_places script S t rows in omega arith
+
+-- a call that gets a reference uses nothing yet
+may_gain : (S : State) (h : Holder) → IsFree S h → MayGain S h
+may_gain S (InProcess p i) free = tt
+may_gain S (InThread t i) free = tt
+may_gain S (Temp t) free = record { row = free.row; is = free.is; unused = free.unused }
+may_gain S (Own t) free = tt
+may_gain S (Link x) free = tt
+may_gain S (Message m) free = tt
+may_gain S Kernel free = tt
+
+-- a move in the rows of threads that synchronize is one of a thread and of a fast mutex that are there
+sized_at : (threads : List (Option ThreadRow)) (t : ObjNo) (row : Option ThreadRow) → get_or threads t.0 None ≡ row → is_some (get_or threads t.0 None) ≡ true → t.0 < length threads
+sized_at threads t (Some row) is some = inside threads t.0 row is
+sized_at threads t None is some = let clash : false ≡ true = ap (λ (x : Option ThreadRow). is_some x) (sym is) ∙ some in absurd (cc)
+
+can_nano : (script : Script) (S : State) (m : NanoMove) → AreRows script S → is_some (thread_of S (nano_thread m)) ≡ true → FitsNano m S → CanNano m S.nano
+can_nano script S m rows there fits =
+    let long = rows.nano.sized in
+    let at = sized_at S.threads (nano_thread m) (thread_of S (nano_thread m)) refl there in
+    by_kind m (omega arith) fits
+  where
+    by_kind : (m : NanoMove) → (nano_thread m).0 < length S.nano.signals → FitsNano m S → CanNano m S.nano
+    by_kind (nano.Take t f) at fits = (at, fits.0, fits.2.holds)
+    by_kind (nano.Give t f) at fits = (at, fits.0)
+    by_kind (nano.Want t None) at fits = (at, tt)
+    by_kind (nano.Want t (Some f)) at fits = (at, fits.0)
+    by_kind (nano.Enter t) at fits = at
+    by_kind (nano.Leave t) at fits = at
+    by_kind (nano.LeaveAll t) at fits = at
+    by_kind (nano.Suspend t) at fits = at
+    by_kind (nano.Resume t) at fits = at
+    by_kind (nano.Raise t) at fits = at
+    by_kind (nano.Lower t) at fits = at
+
 -- when a move that fits can be made
-can_move : (script : Script) (S : State) (t : ObjNo) (m : Move) → IsShaped script → FitsMove script t m S → RefsMove S (moved t m S) (told m S) → Sane script t S → CanMove m S
-can_move script S t (Make kind name h) shaped fits refs s = (fits.0.named, fits.0.new, record { room = fits.0.room; fresh = next_fresh script S s.rows })
-can_move script S t (Gain h o) shaped fits refs s = referred script S o s.rows (s.rows.lives.counted o fits.1)
-can_move script S t (Lose h o) shaped fits refs s = referred script S o s.rows (was_held S (moved t (Lose h o) S) _ h o refs)
+can_move : (script : Script) (S : State) (t : ObjNo) (m : Move) → IsShaped script → FitsMove script t m S → RefsMove S (moved t m S) (told m S) → Sane script t S → CanMove t m S
+can_move script S t (Make kind name h) shaped fits refs s = (fits.0.named, fits.0.new, record { room = fits.0.room; fresh = next_fresh script S s.rows }, may_gain S h fits.1)
+can_move script S t (Gain h o) shaped fits refs s = (referred script S o s.rows (s.rows.lives.counted o fits.1), may_gain S h fits.0)
+can_move script S t (Lose h o) shaped fits refs s = (referred script S o s.rows (was_held S (moved t (Lose h o) S) _ h o refs), few_places script S t s.rows)
 can_move script S t (Find u o) shaped fits refs s = tt
 can_move script S t (Miss o) shaped fits refs s = tt
 can_move script S t (GoOn u part) shaped fits refs s = tt
 can_move script S t (Write u x value) shaped fits refs s = tt
-can_move script S t (Advance u) shaped fits refs s = λ k row is. let next = (s.rows.threads.rows k row is).next_instruction in let few = few_in script shaped row.role _ refl in omega arith
+can_move script S t (Advance u) shaped fits refs s = (
+  λ k row is. let next = (s.rows.threads.rows k row is).next_instruction in let few = few_in script shaped row.role _ refl in omega arith,
+  one_place script S u s.rows,
+)
+can_move script S t (Wait u what) shaped fits refs s = tt
+can_move script S t (Wake u) shaped fits refs s = tt
+can_move script S t (SetPriority u priority) shaped fits refs s = tt
+can_move script S t (Nano m) shaped fits refs s = can_nano script S m s.rows fits.0 fits.1
 can_move script S t (Pay what) shaped fits refs s = absurd fits
 
--- priorities stay
-ranks_move : (script : Script) (S : State) (t : ObjNo) (m : Move) (u : ObjNo) → FitsMove script t m S → priority_of (moved t m S) u ≡ priority_of S u
-ranks_move script S t (Make kind name h) u fits = rank-gain S.threads h (next_object S) u
-ranks_move script S t (Gain h o) u fits = rank-gain S.threads h o u
-ranks_move script S t (Lose h o) u fits = rank-closed (threads_lose h S.threads) _ o u ∙ rank-lose S.threads h u
-ranks_move script S t (Find v o) u fits = rank-with_row S.threads v (with_found o) u (λ r. refl)
-ranks_move script S t (Miss o) u fits = refl
-ranks_move script S t (GoOn v part) u fits = rank-with_row S.threads v (with_part part) u (λ r. refl)
-ranks_move script S t (Write v x value) u fits = rank-with_row S.threads v (with_register x value) u (λ r. refl)
-ranks_move script S t (Advance v) u fits = rank-with_row S.threads v advanced u (λ r. refl)
-ranks_move script S t (Pay what) u fits = absurd fits
+-- priorities stay that aren't set
+set_other : (u v : ObjNo) → (u.0 == v.0) ≡ false → v.0 ≡ u.0 → ⊥
+set_other u v other same = let is : (u.0 == v.0) ≡ true = eq-eqb u.0 v.0 (sym same) in cc
+
+ranks_move : (script : Script) (S : State) (t : ObjNo) (m : Move) (u : ObjNo) → FitsMove script t m S → is_set m u ≡ false → priority_of (moved t m S) u ≡ priority_of S u
+ranks_move script S t (Wait v what) u fits unset = rank-with_row S.threads v (with_waiting what) u (λ r. refl)
+ranks_move script S t (Wake v) u fits unset = rank-with_row S.threads v (with_waiting waiting.Nothing) u (λ r. refl)
+ranks_move script S t (SetPriority v priority) u fits unset = ap priority_of_row (row-other S.threads v (with_priority priority) u.0 (set_other u v unset))
+ranks_move script S t (Nano m) u fits unset = refl
+ranks_move script S t (Make kind name h) u fits unset = rank-gain S.threads h (next_object S) u
+ranks_move script S t (Gain h o) u fits unset = rank-gain S.threads h o u
+ranks_move script S t (Lose h o) u fits unset = rank-closed (threads_lose h S.threads) _ o u ∙ rank-lose S.threads h u
+ranks_move script S t (Find v o) u fits unset = rank-with_row S.threads v (with_found o) u (λ r. refl)
+ranks_move script S t (Miss o) u fits unset = refl
+ranks_move script S t (GoOn v part) u fits unset = rank-with_row S.threads v (with_part part) u (λ r. refl)
+ranks_move script S t (Write v x value) u fits unset = rank-with_row S.threads v (with_register x value) u (λ r. refl)
+ranks_move script S t (Advance v) u fits unset = rank-with_row S.threads v advanced u (λ r. refl)
+ranks_move script S t (Pay what) u fits unset = absurd fits
 
 -- threads have the least numbers, and priorities in their range
 known : (script : Script) (S : State) → AreRows script S → AreKnown S
@@ -169,7 +244,7 @@ known script S rows u row is =
     (omega arith, omega arith)
 
 -- each of the moves that fit goes through
-each_goes : (script : Script) (S : State) (t : ObjNo) (ms : List Move) → IsShaped script → EachFits script t ms S → total weight (owed_of S t) + 4 * length ms ≤ 32 → Sane script t S → MovesGo script t ms S
+each_goes : (script : Script) (S : State) (t : ObjNo) (ms : List Move) → IsShaped script → EachFits script t ms S → total weight (owed_of S t) + total most_owed ms ≤ 12 → Sane script t S → MovesGo script t ms S
 each_goes script S t [] shaped fits few s = tt
 each_goes script S t (m ∷ ms) shaped fits few s =
     let T = moved t m S in
@@ -180,20 +255,21 @@ each_goes script S t (m ∷ ms) shaped fits few s =
       can = can_move script S t m shaped fits.0 refs s;
       refs = refs;
       known = known script T sound.rows;
-      ranks = λ u. ranks_move script S t m u fits.0;
+      ranks = λ u unset. ranks_move script S t m u fits.0 unset;
       apart = λ u none. untouched script S t m u none;
     } in
     (goes, each_goes script T t ms shaped fits.1 (omega arith) (sane-after script S T t (told m S) s sound))
 
 -- so does the payment of what is owed
-can_pay : (script : Script) (S : State) (t : ObjNo) (what : Owed) (rest : List Owed) → owed_of S t ≡ what ∷ rest → RefsMove S (moved t (Pay what) S) (told (Pay what) S) → Sane script t S → CanMove (Pay what) S
-can_pay script S t (Close h o) rest owes refs s = referred script S o s.rows (was_held S (moved t (Pay (Close h o)) S) _ h o refs)
-can_pay script S t (Sweep o) rest owes refs s = swept_dead script S t o rest s.rows (let long = s.rows.sized.duties in let there = s.inside in omega arith) owes
+can_pay : (script : Script) (S : State) (t : ObjNo) (what : Owed) (rest : List Owed) → owed_of S t ≡ what ∷ rest → RefsMove S (moved t (Pay what) S) (told (Pay what) S) → Sane script t S → CanMove t (Pay what) S
+can_pay script S t (Close h o) rest owes refs s = (referred script S o s.rows (was_held S (moved t (Pay (Close h o)) S) _ h o refs), few_places script S t s.rows)
+can_pay script S t (Sweep o) rest owes refs s =
+    let dead = swept_dead script S t o rest s.rows (let long = s.rows.sized.duties in let there = s.inside in omega arith) owes in
+    (dead, kernel_holds S o (thread_of S o) refl (λ some. dead_alive (object_of S o) dead (s.rows.lives.alive o some)))
 
-ranks_pay : (script : Script) (S : State) (t : ObjNo) (what : Owed) (u : ObjNo) → CanMove (Pay what) S → AreRows script S → priority_of (moved t (Pay what) S) u ≡ priority_of S u
-ranks_pay script S t (Close h o) u can rows = rank-closed S.threads _ o u
-ranks_pay script S t (Sweep o) u can rows =
-    rank-none S.threads o u (kernel_holds S o (thread_of S o) refl (λ some. dead_alive (object_of S o) can (rows.lives.alive o some)))
+ranks_pay : (script : Script) (S : State) (t : ObjNo) (what : Owed) (u : ObjNo) → CanMove t (Pay what) S → priority_of (moved t (Pay what) S) u ≡ priority_of S u
+ranks_pay script S t (Close h o) u can = rank-closed S.threads _ o u
+ranks_pay script S t (Sweep o) u can = rank-none S.threads o u can.1
 
 pay_goes : (script : Script) (S : State) (t : ObjNo) (what : Owed) (rest : List Owed) → owed_of S t ≡ what ∷ rest → Sane script t S → MoveGoes script t (Pay what) S
 pay_goes script S t what rest owes s =
@@ -205,7 +281,7 @@ pay_goes script S t what rest owes s =
       can = can;
       refs = refs;
       known = known script T sound.rows;
-      ranks = λ u. ranks_pay script S t what u can s.rows;
+      ranks = λ u _. ranks_pay script S t what u can;
       apart = λ u none. untouched script S t (Pay what) u none;
     }
 
@@ -216,4 +292,13 @@ action_goes script S t row shaped rows is =
     elim (fits-action script S t shaped rows) as (λ _. MovesGo script t (decision_of script S t).moves S) [
       | inl fits ↦ each_goes script S t (decision_of script S t).moves shaped fits.each fits.few s
       | inr pays ↦ subst (λ (ms : List Move). MovesGo script t ms S) (sym pays.moves) (pay_goes script S t pays.what pays.rest pays.owes s, tt)
+    ]
+
+-- and tell few effects
+pub few_told : (script : Script) (S : State) (t : ObjNo) → IsShaped script → AreRows script S → length (tell t (decision_of script S t).moves S) ≤ 4
+few_told script S t shaped rows =
+    let ms = (decision_of script S t).moves in
+    elim (fits-action script S t shaped rows) as (λ _. length (tell t ms S) ≤ 4) [
+      | inl fits ↦ fits.told
+      | inr pays ↦ let few = tell_few t ms S in let two : total most_told ms ≡ 2 = ap (total most_told) pays.moves in omega arith
     ]

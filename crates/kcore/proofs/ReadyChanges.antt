@@ -1,7 +1,7 @@
 -- The queues of ready threads change as the list of the definitions does: when a thread comes, when one leaves, and at
 -- the end of a time slice.
-use Rattle.std.proofs.Common.{◌≡◌, ◌∙◌, inl, inr, ℕ, ◌<◌, ◌≤◌, true, false, List, [], ◌∷◌, ◌++◌, arith, sym, ap, subst}
-use Rattle.std.specs.Prelude.{Some, None}
+use Rattle.std.proofs.Common.{◌≡◌, ◌∙◌, inl, inr, ℕ, ◌<◌, ◌≤◌, true, false, List, [], ◌∷◌, ◌++◌, arith, refl, sym, ap, subst}
+use Rattle.std.specs.Prelude.{Option, Some, None, option_map, is_some}
 use Rattle.std.specs.List.{list_any}
 use Rattle.std.proofs.lemmas.Bool.{cases_Bool, false_from_ne_true}
 use Rattle.sym_base.specs.declared.limits.TheConstants.Limits.{BOOT_OBJECTS}
@@ -12,13 +12,19 @@ use Rattle.entry_log.specs.declared.entry.Actor.TheVariants.{Thread, Idle}
 use Rattle.ready_list.specs.Queue.{holds}
 use Rattle.ready_list.specs.Ready.{Ready, added, removed, rotated, first_of_highest, priority_of}
 use Rattle.ready_list.specs.Arrival.{AreQueuesOf}
+use Rattle.state_rows.specs.declared.nano.NanoRows.{NanoRows}
+use Rattle.state_rows.specs.Nano.{held_by, in_place_of, turned}
 use Rattle.machine.specs.declared.state.State.{State}
+use Rattle.machine.specs.declared.state.ThreadRow.{ThreadRow}
 use Rattle.machine.specs.Arrivals.{is_listed, unlisted, arrive}
 use Rattle.machine.specs.Choice.{actor_of}
+use Rattle.machine.specs.Rows.{thread_of}
 use Rattle.machine.specs.Task.{is_ready}
 use Rattle.machine.specs.Tick.{moved_behind}
+use Rattle.kcore.specs.Moved.{AreKnown}
 use Rattle.kcore.specs.ReadyQueues.{AreReady, SomeReady, Follow, pairs, leave}
 use Rattle.kcore.proofs.ReadyLists.{listed_behind, apart_behind, apart_filtered, filtered_listed, without_unlisted, itself_stays}
+use Rattle.kcore.proofs.ReadyRows.{rowless_unready}
 use Rattle.kcore.proofs.ReadyQueues.{picked_queued, turned_queued, removed_queued, added_queued, ready_queued, chosen_priority, chosen_listed}
 
 -- a thread that stands in no queue isn't listed, and one that stands in some is
@@ -45,16 +51,28 @@ comes script S rank r t p ready absent known own low qs h =
     rw (ready, none) (subst (λ (n : ℕ). AreReady rank (qs ++ t ∷ []) (added r t n)) own (ready_behind rank qs r t known here none h))
 
 -- one that stands in a queue stays
-pub stays_listed : (script : Script) (S : State) (rank : ObjNo → ℕ) (r : Ready) (t : ObjNo) → is_ready script S t ≡ true → ((list_any (holds t) r.queues ≡ true → ⊥) → ⊥) → Follow rank (arrive script S (t ∷ [])) r r
-stays_listed script S rank r t ready stands qs h =
+pub stays_listed : (script : Script) (S : State) (rank : ObjNo → ℕ) (r : Ready) (t : ObjNo) → ((list_any (holds t) r.queues ≡ true → ⊥) → ⊥) → Follow rank (arrive script S (t ∷ [])) r r
+stays_listed script S rank r t stands qs h =
     elim (cases_Bool (is_listed qs t)) [
-      | inl listed ↦ rw (ready, listed) h
+      | inl listed ↦ elim (cases_Bool (is_ready script S t)) [ inl ready ↦ rw (ready, listed) h | inr unready ↦ rw unready h ]
       | inr none ↦ absurd (stands (λ held. let clash : true ≡ false = sym held ∙ (ready_queued rank qs r t h.queues ∙ none) in cc))
     ]
 
 -- and one that isn't ready doesn't come
 pub stays_unready : (script : Script) (S : State) (rank : ObjNo → ℕ) (r : Ready) (t : ObjNo) → is_ready script S t ≡ false → Follow rank (arrive script S (t ∷ [])) r r
 stays_unready script S rank r t unready qs h = rw unready h
+
+-- a number past those of threads is no thread's
+past_row : (script : Script) (S : State) (t : ObjNo) (row : Option ThreadRow) → AreKnown S → BOOT_OBJECTS ≤ t.0 → thread_of S t ≡ row → is_ready script S t ≡ false
+past_row script S t None known past is = rowless_unready script S t is
+past_row script S t (Some row) known past is = let low = known t row is in absurd (omega arith)
+
+pub stays_past : (script : Script) (S : State) (rank : ObjNo → ℕ) (r : Ready) (t : ObjNo) → AreKnown S → BOOT_OBJECTS ≤ t.0 → Follow rank (arrive script S (t ∷ [])) r r
+stays_past script S rank r t known past = stays_unready script S rank r t (past_row script S t (thread_of S t) known past refl)
+
+-- nor is a number without a row
+pub stays_rowless : (script : Script) (S : State) (rank : ObjNo → ℕ) (r : Ready) (t : ObjNo) → thread_of S t ≡ None → Follow rank (arrive script S (t ∷ [])) r r
+stays_rowless script S rank r t none = stays_unready script S rank r t (rowless_unready script S t none)
 
 -- who isn't in a list leaves it as it is
 leaves_absent : (rank : ObjNo → ℕ) (qs : List ObjNo) (r : Ready) (t : ObjNo) → is_listed qs t ≡ false → AreReady rank qs r → AreReady rank (unlisted t qs) r
@@ -88,15 +106,15 @@ leaves_ready script S rank r t ready qs h = rw ready h
 chosen_by : (rank : ObjNo → ℕ) (qs : List ObjNo) (r : Ready) (t : ObjNo) → AreReady rank qs r → Some t ≡ first_of_highest r.queues → first_of_greatest rank qs ≡ Some t
 chosen_by rank qs r t h is = sym (is ∙ picked_queued rank qs r h.queues)
 
-pub thread_is_chosen : (rank : ObjNo → ℕ) (t : ObjNo) (r : Ready) (qs : List ObjNo) → Some t ≡ first_of_highest r.queues → AreQueuesOf (pairs rank qs) r → Thread t ≡ actor_of (first_of_greatest rank qs)
-thread_is_chosen rank t r qs is are = ap actor_of (is ∙ picked_queued rank qs r are)
+pub thread_is_chosen : (nano : NanoRows) (rank : ObjNo → ℕ) (t : ObjNo) (r : Ready) (qs : List ObjNo) → Some t ≡ first_of_highest r.queues → AreQueuesOf (pairs rank qs) r → Thread (in_place_of nano t) ≡ actor_of (option_map (in_place_of nano) (first_of_greatest rank qs))
+thread_is_chosen nano rank t r qs is are = ap (λ (found : Option ObjNo). actor_of (option_map (in_place_of nano) found)) (is ∙ picked_queued rank qs r are)
 
-pub nobody_is_chosen : (rank : ObjNo → ℕ) (r : Ready) (qs : List ObjNo) → None ≡ first_of_highest r.queues → AreQueuesOf (pairs rank qs) r → Idle ≡ actor_of (first_of_greatest rank qs)
-nobody_is_chosen rank r qs is are = ap actor_of (is ∙ picked_queued rank qs r are)
+pub nobody_is_chosen : (nano : NanoRows) (rank : ObjNo → ℕ) (r : Ready) (qs : List ObjNo) → None ≡ first_of_highest r.queues → AreQueuesOf (pairs rank qs) r → Idle ≡ actor_of (option_map (in_place_of nano) (first_of_greatest rank qs))
+nobody_is_chosen nano rank r qs is are = ap (λ (found : Option ObjNo). actor_of (option_map (in_place_of nano) found)) (is ∙ picked_queued rank qs r are)
 
 -- a time slice ends, and nobody is ready
-pub nobody_turns : (rank : ObjNo → ℕ) (r : Ready) → None ≡ first_of_highest r.queues → Follow rank (λ qs. moved_behind qs (first_of_greatest rank qs)) r r
-nobody_turns rank r none qs h =
+pub nobody_turns : (nano : NanoRows) (rank : ObjNo → ℕ) (r : Ready) → None ≡ first_of_highest r.queues → Follow rank (λ qs. moved_behind qs (turned nano (first_of_greatest rank qs))) r r
+nobody_turns nano rank r none qs h =
     let nobody : first_of_greatest rank qs ≡ None = sym (none ∙ picked_queued rank qs r h.queues) in
     rw nobody h
 
@@ -108,14 +126,20 @@ chosen_known r t some is =
     let size = h.size in
     omega arith
 
--- it turns, and the queue of its priority with it
-pub queue_turns : (rank : ObjNo → ℕ) (r : Ready) (t : ObjNo) (p : ℕ) → Some t ≡ first_of_highest r.queues → Some p ≡ priority_of r t → Follow rank (λ qs. moved_behind qs (first_of_greatest rank qs)) r (rotated r p)
-queue_turns rank r t p is at qs h =
+-- one that holds a fast mutex is spared
+pub holder_spared : (nano : NanoRows) (rank : ObjNo → ℕ) (r : Ready) (t : ObjNo) → is_some (held_by nano t) ≡ true → Some t ≡ first_of_highest r.queues → Follow rank (λ qs. moved_behind qs (turned nano (first_of_greatest rank qs))) r r
+holder_spared nano rank r t holds is qs h =
+    let chosen = chosen_by rank qs r t h is in
+    rw (chosen, holds) h
+
+-- another turns, and the queue of its priority with it
+pub queue_turns : (nano : NanoRows) (rank : ObjNo → ℕ) (r : Ready) (t : ObjNo) (p : ℕ) → is_some (held_by nano t) ≡ false → Some t ≡ first_of_highest r.queues → Some p ≡ priority_of r t → Follow rank (λ qs. moved_behind qs (turned nano (first_of_greatest rank qs))) r (rotated r p)
+queue_turns nano rank r t p free is at qs h =
     let chosen = chosen_by rank qs r t h is in
     let own : Some p ≡ Some (rank t) = at ∙ chosen_priority rank qs r t h.once h.queues chosen in
     let same : p ≡ rank t = cc in
     let listed = chosen_listed rank qs t chosen in
-    let turned : AreReady rank (moved_behind qs (Some t)) (rotated r (rank t)) = record {
+    let behind : AreReady rank (moved_behind qs (Some t)) (rotated r (rank t)) = record {
       queues = turned_queued rank qs r t h.once h.queues chosen;
       once = apart_behind (unlisted t qs) t (apart_filtered _ qs h.once) (gone qs t);
       known = λ u again. elim (listed_behind (unlisted t qs) t u again) as (λ _. u.0 < BOOT_OBJECTS) [
@@ -124,13 +148,13 @@ queue_turns rank r t p is at qs h =
       ];
       size = h.size;
     } in
-    rw (chosen, same) turned
+    rw (chosen, free, same) behind
   where
     gone : (qs : List ObjNo) (t : ObjNo) → is_listed (unlisted t qs) t ≡ false
     gone qs t = false_from_ne_true (is_listed (unlisted t qs) t) (λ listed. let was = filtered_listed _ qs t listed in itself_stays t was.1)
 
 -- the chosen thread has a priority
-pub chosen_stands : (rank : ObjNo → ℕ) (r : Ready) (t : ObjNo) → Some t ≡ first_of_highest r.queues → None ≡ priority_of r t → Follow rank (λ qs. moved_behind qs (first_of_greatest rank qs)) r r
-chosen_stands rank r t is none qs h =
+pub chosen_stands : (nano : NanoRows) (rank : ObjNo → ℕ) (r : Ready) (t : ObjNo) → Some t ≡ first_of_highest r.queues → None ≡ priority_of r t → Follow rank (λ qs. moved_behind qs (turned nano (first_of_greatest rank qs))) r r
+chosen_stands nano rank r t is none qs h =
     let clash : None ≡ Some (rank t) = none ∙ chosen_priority rank qs r t h.once h.queues (chosen_by rank qs r t h is) in
     absurd (cc)

@@ -5,10 +5,12 @@ use Rattle.std.proofs.lemmas.Bool.{cases_Bool, eq-eqb, eqb-true, or_parts, or_fr
 use Rattle.sym_base.specs.declared.number.ObjNo.{ObjNo}
 use Rattle.script_types.specs.declared.script.Script.{Script}
 use Rattle.machine.specs.declared.moves.Move.{Move}
+use Rattle.machine.specs.declared.moves.Move.TheVariants.{SetPriority}
 use Rattle.machine.specs.declared.state.State.{State}
-use Rattle.machine.specs.Arrivals.{is_listed, unlisted, touched}
+use Rattle.machine.specs.Arrivals.{is_listed, unlisted, touched, taken_out}
 use Rattle.machine.specs.Task.{is_ready}
 use Rattle.machine.specs.WellFormed.{AreApart}
+use Rattle.kcore.specs.Moved.{is_set}
 use Rattle.kcore.specs.ReadyQueues.{leave, leave_along}
 
 -- threads of one number are one
@@ -155,3 +157,16 @@ without_unlisted t (q ∷ qs) none =
 pub leave_append : (script : Script) (S : State) (us vs qs : List ObjNo) → leave script S (us ++ vs) qs ≡ leave script S vs (leave script S us qs)
 leave_append script S [] vs qs = refl
 leave_append script S (u ∷ us) vs qs = leave_append script S us vs (if is_ready script S u then qs else unlisted u qs)
+
+-- who is listed once a move took a thread out was listed, and its priority isn't set
+not_true : (b : Bool) → not b ≡ true → b ≡ false
+not_true true h = absurd (cc)
+not_true false h = refl
+
+pub taken_listed : (m : Move) (qs : List ObjNo) (u : ObjNo) → is_listed (taken_out m qs) u ≡ true → is_listed qs u ≡ true
+taken_listed (SetPriority v priority) qs u listed = (filtered_listed (λ q. not (q.0 == v.0)) qs u listed).0
+taken_listed _ qs u listed = listed
+
+pub taken_unset : (m : Move) (qs : List ObjNo) (u : ObjNo) → is_listed (taken_out m qs) u ≡ true → is_set m u ≡ false
+taken_unset (SetPriority v priority) qs u listed = not_true (u.0 == v.0) (filtered_listed (λ q. not (q.0 == v.0)) qs u listed).1
+taken_unset _ qs u listed = refl

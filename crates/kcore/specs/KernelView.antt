@@ -1,5 +1,5 @@
 -- What a contract sees of a kernel.
-use Rattle.std.specs.Prelude.{◌≡◌, ℕ, ◌≤◌, Bool, true, List}
+use Rattle.std.specs.Prelude.{◌≡◌, ℕ, ◌≤◌, List}
 use Rattle.sym_base.specs.declared.limits.TheConstants.Limits.{SHARED_HISTORY}
 use Rattle.script_types.specs.declared.script.Script.{Script}
 use Rattle.script_types.specs.Source.{IsValid}
@@ -8,28 +8,27 @@ use Rattle.ready_list.specs.Ready.{Ready}
 use Rattle.machine.specs.Choice.{priority_of}
 use Rattle.machine.specs.History.{after, IsLegal}
 use Rattle.kcore.specs.declared.tables.Tables.{Tables}
-use Rattle.kcore.specs.Counts.{Agrees}
+use Rattle.kcore.specs.Noted.{AreKept}
 use Rattle.kcore.specs.ReadyQueues.{AreReady}
 use Rattle.kcore.specs.StateOf.{state_of, with_ready}
 
--- its script, its history, the entries that it has room for, and whether it had memory enough so far
+-- its script, its history, and the entries that it has room for
 pub record KernelView : Type 0 where
   pub script : Script
   pub history : List Entry
   pub room : ℕ
-  pub usable : Bool
 
 -- The script is valid, the history is a legal one of it, and the tables and the queues of ready threads
--- stand for the state after it, with the counts of that state.
+-- stand for the state after it and keep what they keep beside it.
 pub record Stands {W N : Type 0} (script : Script) (history : List Entry) (tables : Tables W N) (ready : Ready) : Type 0 where
   pub valid : IsValid script
   pub legal : IsLegal script history
   pub state : with_ready (state_of tables) (after script history).ready ≡ after script history
-  pub agree : Agrees tables.objects.counts (state_of tables)
+  pub kept : AreKept tables
   pub queues : AreReady (priority_of (state_of tables)) (after script history).ready ready
 
--- a kernel that may be used stands for its history, and there is room for its entries
-pub record IsKernel {W N : Type 0} (script : Script) (history : List Entry) (tables : Tables W N) (ready : Ready) (room capacity : ℕ) (usable : Bool) : Type 0 where
+-- a kernel stands for its history, and there is room for its entries
+pub record IsKernel {W N : Type 0} (script : Script) (history : List Entry) (tables : Tables W N) (ready : Ready) (room capacity : ℕ) : Type 0 where
   pub fits : room ≤ capacity
   pub few : room ≤ SHARED_HISTORY
-  pub stands : usable ≡ true → Stands script history tables ready
+  pub stands : Stands script history tables ready

@@ -2,6 +2,8 @@ pub mod BootTable
 pub mod ObjectsView
 pub mod Counts
 pub mod StateOf
+pub mod Noted
+pub mod NanoMoved
 pub mod Moved
 pub mod ReadyQueues
 pub mod Performed

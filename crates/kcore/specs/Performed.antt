@@ -13,15 +13,15 @@ use Rattle.machine.specs.Moves.{perform, tell}
 use Rattle.machine.specs.Task.{is_ready}
 use Rattle.machine.specs.Transition.{Transition, left}
 use Rattle.kcore.specs.declared.tables.Tables.{Tables}
-use Rattle.kcore.specs.Counts.{Agrees}
+use Rattle.kcore.specs.Noted.{AreKept}
 use Rattle.kcore.specs.ReadyQueues.{AreReady}
 use Rattle.kcore.specs.StateOf.{state_of, with_ready}
 
--- the moves were made: the tables stand for the state after them, with its counts, and the queues have the threads that
+-- the moves were made: the tables stand for the state after them and keep what they keep beside it, and the queues have the threads that
 -- arrived along them
 pub record IsPerformed {W N : Type 0} (script : Script) (t : ObjNo) (ms : List Move) (old new : Tables W N) (before after : Ready) (effects : List Effect) : Type 0 where
   pub state : state_of new ≡ perform t ms (state_of old)
-  pub agree : Agrees new.objects.counts (state_of new)
+  pub kept : AreKept new
   pub told : effects ≡ tell t ms (state_of old)
   pub queues : (qs : List ObjNo) → AreReady (priority_of (state_of old)) qs before → AreReady (priority_of (state_of new)) (arrivals script t ms (state_of old) qs) after
 
@@ -34,8 +34,8 @@ pub record IsLeft {W N : Type 0} (tables : Tables W N) (r : Ready) (outcome : Ou
 abbrev pub EachReady : Script → State → List ObjNo → Type 0
 EachReady script S qs = (t : ObjNo) → is_listed qs t ≡ true → is_ready script S t ≡ true
 
--- from the old tables and queues the action was made, whichever list of ready threads these have, and the counts are
--- those of the new ones
+-- from the old tables and queues the action was made, whichever list of ready threads these have, and the new tables
+-- keep what they keep beside the rows
 pub record Does {W N : Type 0} (script : Script) (old : Tables W N) (before : Ready) (new : Tables W N) (after : Ready) (outcome : Outcome) (action : State → Transition) : Type 0 where
   pub each : (qs : List ObjNo) → AreReady (priority_of (state_of old)) qs before → EachReady script (state_of old) qs → IsLeft new after outcome (action (with_ready (state_of old) qs))
-  pub agree : Agrees new.objects.counts (state_of new)
+  pub kept : AreKept new

@@ -1,25 +1,28 @@
 //! The tables and the queues of ready threads at boot.
-ghost use Rattle.std.specs.Prelude.{◌≡◌, ℕ, ◌<◌, ◌≤◌, ◌++◌, [], ◌∷◌, Some, true, false, length, map, replicate, IfOk, slice_index, slice_set};
+ghost use Rattle.std.specs.Prelude.{if◌then◌else◌, ◌≡◌, ℕ, ◌<◌, ◌≤◌, ◌++◌, [], ◌∷◌, Some, None, true, false, length, map, replicate, IfOk, slice_index, slice_set};
 ghost use Rattle.sym_base.specs.declared.limits.TheConstants.Limits.{BOOT_OBJECTS, OBJECTS, HANDLES};
 ghost use Rattle.sym_base.specs.declared.number.ObjNo.{ObjNo};
 ghost use Rattle.script_types.specs.Source.{IsValid};
 ghost use Rattle.ref_words.specs.Words.{NoneCreated};
 ghost use Rattle.state_rows.specs.ObjectRows.{is_session, is_taken};
 ghost use Rattle.machine.specs.Arrivals.{is_listed};
-ghost use Rattle.machine.specs.Boot.{boot};
+ghost use Rattle.machine.specs.Boot.{boot, nano_of};
 ghost use Rattle.machine.specs.Choice.{priority_of};
 ghost use Rattle.machine.specs.Handles.{fresh_slot};
 ghost use Rattle.machine.specs.References.{count_of};
 ghost use Rattle.machine.specs.WellFormed.{AreApart};
+ghost use Rattle.state_rows.specs.Nano.{suspend_count};
 ghost use Rattle.kcore.specs.BootTable.{AreNew, FirstStand};
-ghost use Rattle.kcore.specs.Counts.{Agrees};
+ghost use Rattle.kcore.specs.Noted.{AreKept};
 ghost use Rattle.kcore.specs.ReadyQueues.{AreReady};
 ghost use Rattle.kcore.specs.StateOf.{state_of, with_ready};
 
 use crate::handles::Handles;
 use crate::object_table::ObjectTable;
 use crate::tables::Tables;
+use cleanup::Cleanup;
 use machine::{Born, State, all_born, boot_of, count_of, row_of};
+use nano_sync::NanoSync;
 use ready_list::ReadyList;
 use ref_words::RefWords;
 use script_types::Script;
@@ -78,6 +81,38 @@ fn fresh_handles(alloc: Global, all: &[Born]) -> Result<Items<Handles>, NoMemory
     Ok(Items::new(tables))
 }
 
+/// Lists of what each owes and has, which have nothing.
+fn empty_lists(alloc: Global, all: &[Born]) -> Result<Cleanup, NoMemory>
+    requires { length all.now < 65536 }
+    ensures owed { IfOk result (λ lists. lists.duties ≡ map (λ _. []) all.now) }
+    ensures uses { IfOk result (λ lists. lists.temporary ≡ replicate (length all.now) None) }
+{
+    Cleanup::new(alloc, all.len() as u16, Limits::OBJECTS as u16)
+}
+
+/// Suspends a thread once, where it is declared as held.
+fn hold(nano: &mut NanoSync, thread: ThreadNo, held: bool)
+    requires thread { thread.0 < length nano.old.signals }
+    requires none { suspend_count nano.old thread ≡ 0 }
+    ensures { nano.new ≡ record nano.old { suspensions = slice_set nano.old.suspensions thread.0 (if held then 1 else 0) } }
+{
+    if held {
+        let _ = nano.suspend(thread);
+    }
+}
+
+/// The table of threads that synchronize, of which those are suspended that are declared as held.
+fn nano_of(alloc: Global, fast: u8, all: &[Born]) -> Result<NanoSync, NoMemory>
+    requires { length all.now < 65536 }
+    ensures { IfOk result (λ nano. nano ≡ nano_of fast all.now) }
+{
+    let mut nano = NanoSync::new(alloc, all.len() as u16, fast)?;
+    for (number, born) in all.iter().enumerate() {
+        hold(&mut nano, ObjNo(number as u16), born.held);
+    }
+    Ok(nano)
+}
+
 /// The priority of a thread, 0 where there is none.
 fn priority_of(state: &State, thread: ThreadNo) -> u8
     ensures { result ≡ priority_of state.now thread }
@@ -113,19 +148,22 @@ pub fn boot<W: RefWords + Drop>(
     requires places { length (W.meaning words).own ≡ OBJECTS }
     requires fresh { NoneCreated (W.meaning words) }
     ensures state { IfOk result (λ made. with_ready (state_of made.0) (boot script.now).ready ≡ boot script.now) }
-    ensures agree { IfOk result (λ made. Agrees made.0.objects.counts (state_of made.0)) }
+    ensures kept { IfOk result (λ made. AreKept made.0) }
     ensures queues { IfOk result (λ made. AreReady (priority_of (boot script.now)) (boot script.now).ready made.1) }
 {
     let all = all_born(alloc, script)?;
     let handles = fresh_handles(alloc, all.as_slice())?;
-    let state = boot_of(alloc, all.as_slice())?;
+    let state = boot_of(alloc, script.fast, all.as_slice())?;
     let objects = counted(alloc, words, all.as_slice(), &state)?;
     let ready = queues_of(alloc, &state)?;
+    let cleanup = empty_lists(alloc, all.as_slice())?;
+    let nano = nano_of(alloc, script.fast, all.as_slice())?;
     let tables = Tables {
         objects,
         handles,
         threads: state.threads,
-        owed: state.owed,
+        cleanup,
+        nano,
     };
     Ok((tables, ready))
 }

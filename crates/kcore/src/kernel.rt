@@ -1,5 +1,5 @@
 //! The kernel that a script's schedule drives.
-ghost use Rattle.std.specs.Prelude.{◌≡◌, ◌+◌, ◌<◌, ◌≤◌, ◌++◌, [], ◌∷◌, true, length, IsTrue, IfOk, OnOk};
+ghost use Rattle.std.specs.Prelude.{◌≡◌, ◌+◌, ◌<◌, ◌≤◌, ◌++◌, [], ◌∷◌, List, length, IsTrue, IfOk};
 ghost use Rattle.sym_base.specs.declared.limits.TheConstants.Limits.{OBJECTS, SHARED_HISTORY};
 ghost use Rattle.ref_words.specs.Words.{NoneCreated};
 ghost use Rattle.script_types.specs.Source.{IsValid};
@@ -7,21 +7,21 @@ ghost use Rattle.machine.specs.Slots.{IsDeclared};
 ghost use Rattle.machine.specs.FinalRows.{rows_from, IsNextRow};
 ghost use Rattle.entry_log.specs.declared.entry.Actor.TheVariants as Actor;
 ghost use Rattle.machine.specs.Choice.{priority_of};
-ghost use Rattle.machine.specs.Task.{is_ready};
+ghost use Rattle.machine.specs.Task.{is_able};
 ghost use Rattle.machine.specs.History.{after, entry_by, CanAct, IsLegal};
 ghost use Rattle.machine.specs.Run.{slot_actor};
 ghost use Rattle.machine_safe.specs.SafeReferences.{IsSafeReferences};
-ghost use Rattle.kcore.specs.Counts.{Agrees};
+ghost use Rattle.kcore.specs.Noted.{AreKept};
 ghost use Rattle.ready_list.specs.Arrival.{AreQueuesOf};
-ghost use Rattle.machine.specs.declared.state.State.{State};
+ghost use Rattle.sym_base.specs.declared.number.ObjNo.{ObjNo};
 ghost use Rattle.kcore.specs.ReadyQueues.{pairs};
-ghost use Rattle.kcore.specs.StateOf.{state_of};
+ghost use Rattle.kcore.specs.StateOf.{state_of, with_ready};
 
 use crate::act::transition;
 use crate::boot;
 use crate::ready::chosen;
 use crate::tables::Tables;
-use decisions::is_ready;
+use decisions::is_able;
 use entry_log::{Actor, Entry, FinalRow};
 use machine::entry_of;
 use ready_list::ReadyList;
@@ -31,8 +31,8 @@ use std::alloc::Global;
 use std::marker::Model;
 use sym_base::{NoMemory, ObjNo, ThreadNo};
 
-/// A kernel that runs a script. A contract sees its script, its history, the number of entries that it
-/// has room for, and whether it may be used: once it is out of memory it may not.
+/// A kernel that runs a script. A contract sees its script, its history, and the number of entries that it
+/// has room for. It takes all its memory at boot.
 #[derive(Drop)]
 pub struct Kernel<W: RefWords> {
     script: Script,
@@ -40,7 +40,6 @@ pub struct Kernel<W: RefWords> {
     ready: ReadyList,
     history: Vec<Entry>,
     room: u32,
-    usable: bool,
 }
 
 impl<W: RefWords> Model for Kernel<W> {
@@ -49,17 +48,17 @@ impl<W: RefWords> Model for Kernel<W> {
 
     ghost Value = { KernelView };
 
-    ghost view = { λ k. record { script = k.script; history = k.history.items; room = k.room; usable = k.usable } };
+    ghost view = { λ k. record { script = k.script; history = k.history.items; room = k.room } };
 
-    ghost invariant = { λ k. IsKernel k.script k.history.items k.tables k.ready k.room (vec_capacity k.history) k.usable };
+    ghost invariant = { λ k. IsKernel k.script k.history.items k.tables k.ready k.room (vec_capacity k.history) };
 }
 
 /// Whom a slot lets act.
-fn slot_actor(ready: &ReadyList, slot: Slot) -> Actor
-    ensures { (S : State) → AreQueuesOf (pairs (priority_of S) S.ready) ready.now → result ≡ slot_actor S slot }
+fn slot_actor<W: RefWords + Drop>(tables: &Tables<W>, ready: &ReadyList, slot: Slot) -> Actor
+    ensures { (qs : List ObjNo) → AreQueuesOf (pairs (priority_of (state_of tables.now)) qs) ready.now → result ≡ slot_actor (with_ready (state_of tables.now) qs) slot }
 {
     match slot {
-        Slot::Go => chosen(ready),
+        Slot::Go => chosen(tables, ready),
         Slot::Irq(number) => Actor::Irq(number),
         Slot::Tick => Actor::Tick,
     }
@@ -67,7 +66,7 @@ fn slot_actor(ready: &ReadyList, slot: Slot) -> Actor
 
 /// The first object that isn't swept of the numbers from `from` on, with its count.
 fn next_row<W: RefWords + Drop>(tables: &Tables<W>, from: u16) -> Option<FinalRow>
-    requires { Agrees tables.now.objects.counts (state_of tables.now) }
+    requires { AreKept tables.now }
     ensures { IsNextRow (rows_from (state_of tables.now)) from result }
 {
     for number in from..tables.objects.len() as u16 {
@@ -86,13 +85,13 @@ fn next_row<W: RefWords + Drop>(tables: &Tables<W>, from: u16) -> Option<FinalRo
 
 impl<W: RefWords + Drop> Kernel<W> {
     /// The kernel at boot, over words of 4,096 places of which none is created, with room for so many entries.
-    /// All tables of fixed size take their memory here.
+    /// It takes all the memory that the kernel ever needs.
     pub fn boot(alloc: Global, script: Script, words: W, room: u32) -> Result<Kernel<W>, NoMemory>
         requires valid { IsValid script }
         requires places { length (W.meaning words).own ≡ OBJECTS }
         requires fresh { NoneCreated (W.meaning words) }
         requires room { room ≤ SHARED_HISTORY }
-        ensures { IfOk result (λ kernel. kernel ≡ record { script = script; history = []; room = room; usable = true }) }
+        ensures { IfOk result (λ kernel. kernel ≡ record { script = script; history = []; room = room }) }
     {
         let (tables, ready) = boot::boot(alloc, &script, words)?;
         let history = Vec::with_capacity(alloc, room as usize)?;
@@ -102,44 +101,37 @@ impl<W: RefWords + Drop> Kernel<W> {
             ready,
             history,
             room,
-            usable: true,
         })
     }
 
     /// One atomic action of an actor that may act, told by one entry more.
-    fn go(&mut self, actor: Actor) -> Result<(), NoMemory>
+    fn go(&mut self, actor: Actor)
         requires can { CanAct self.old.script (after self.old.script self.old.history) actor }
-        requires usable { self.old.usable ≡ true }
         requires room { length self.old.history < self.old.room }
         ensures script { self.new.script ≡ self.old.script }
         ensures room { self.new.room ≡ self.old.room }
-        ensures usable { OnOk result (self.new.usable ≡ true) }
-        ensures ok { OnOk result (self.new.history ≡ self.old.history ++ entry_by self.old.script (after self.old.script self.old.history) (length self.old.history + 1) actor ∷ []) }
-        ensures safe { OnOk result (IsSafeReferences self.new.script self.new.history) }
+        ensures entry { self.new.history ≡ self.old.history ++ entry_by self.old.script (after self.old.script self.old.history) (length self.old.history + 1) actor ∷ [] }
+        ensures safe { IsSafeReferences self.new.script self.new.history }
     {
-        self.usable = false;
-        let outcome = transition(&self.script, &mut self.tables, &mut self.ready, actor)?;
+        let outcome = transition(&self.script, &mut self.tables, &mut self.ready, actor);
         let place = self.history.as_slice().len() as u32 + 1;
         let entry = entry_of(place, actor, outcome);
         self.history.push(entry).unwrap();
-        self.usable = true;
-        Ok(())
     }
 
-    /// Whether a thread may act: it owes something, or isn't at its list's end.
+    /// Whether a thread may act: it is ready, and wants no fast mutex that another holds.
     pub fn able(&self, t: ThreadNo) -> bool
-        requires { self.now.usable ≡ true }
-        ensures { result ≡ is_ready self.now.script (after self.now.script self.now.history) t }
+        ensures { result ≡ is_able self.now.script (after self.now.script self.now.history) t }
     {
-        is_ready(&self.script, &self.tables, t)
+        is_able(&self.script, &self.tables, t)
     }
 
     /// What happened so far, in order. It is a legal history of the script, in which each object died
     /// exactly where its last reference went.
     pub fn history(&self) -> &[Entry]
         ensures entries { result.now ≡ self.now.history }
-        ensures legal { self.now.usable ≡ true → IsLegal self.now.script self.now.history }
-        ensures safe { self.now.usable ≡ true → IsSafeReferences self.now.script self.now.history }
+        ensures legal { IsLegal self.now.script self.now.history }
+        ensures safe { IsSafeReferences self.now.script self.now.history }
     {
         self.history.as_slice()
     }
@@ -147,7 +139,6 @@ impl<W: RefWords + Drop> Kernel<W> {
     /// The first object that is left of the numbers from `from` on, with its count. None where there is
     /// none.
     pub fn next_row(&self, from: u16) -> Option<FinalRow>
-        requires { self.now.usable ≡ true }
         ensures { IsNextRow (rows_from (after self.now.script self.now.history)) from result }
     {
         next_row(&self.tables, from)
@@ -155,34 +146,29 @@ impl<W: RefWords + Drop> Kernel<W> {
 }
 
 impl Kernel<PlainWords> {
-    /// One atomic action of the actor that the slot lets act (of an interrupt, one that the script declares), told by one entry more. Once it is out
-    /// of memory the kernel isn't used again.
-    pub fn slot(&mut self, slot: Slot) -> Result<(), NoMemory>
+    /// One atomic action of the actor that the slot lets act (of an interrupt, one that the script declares),
+    /// told by one entry more.
+    pub fn slot(&mut self, slot: Slot)
         requires declared { IsDeclared self.old.script slot }
-        requires usable { self.old.usable ≡ true }
         requires room { length self.old.history < self.old.room }
         ensures script { self.new.script ≡ self.old.script }
         ensures room { self.new.room ≡ self.old.room }
-        ensures usable { OnOk result (self.new.usable ≡ true) }
-        ensures ok { let S = after self.old.script self.old.history in OnOk result (self.new.history ≡ self.old.history ++ entry_by self.old.script S (length self.old.history + 1) (slot_actor S slot) ∷ []) }
-        ensures safe { OnOk result (IsSafeReferences self.new.script self.new.history) }
+        ensures entry { let S = after self.old.script self.old.history in self.new.history ≡ self.old.history ++ entry_by self.old.script S (length self.old.history + 1) (slot_actor S slot) ∷ [] }
+        ensures safe { IsSafeReferences self.new.script self.new.history }
     {
-        let actor = slot_actor(&self.ready, slot);
-        self.go(actor)
+        let actor = slot_actor(&self.tables, &self.ready, slot);
+        self.go(actor);
     }
 
     /// One atomic action of an able thread, told by one entry more, whoever the schedule would choose.
-    /// Once it is out of memory the kernel isn't used again.
-    pub fn act(&mut self, t: ThreadNo) -> Result<(), NoMemory>
-        requires able { IsTrue (is_ready self.old.script (after self.old.script self.old.history) t) }
-        requires usable { self.old.usable ≡ true }
+    pub fn act(&mut self, t: ThreadNo)
+        requires able { IsTrue (is_able self.old.script (after self.old.script self.old.history) t) }
         requires room { length self.old.history < self.old.room }
         ensures script { self.new.script ≡ self.old.script }
         ensures room { self.new.room ≡ self.old.room }
-        ensures usable { OnOk result (self.new.usable ≡ true) }
-        ensures ok { OnOk result (self.new.history ≡ self.old.history ++ entry_by self.old.script (after self.old.script self.old.history) (length self.old.history + 1) (Actor.Thread t) ∷ []) }
-        ensures safe { OnOk result (IsSafeReferences self.new.script self.new.history) }
+        ensures entry { self.new.history ≡ self.old.history ++ entry_by self.old.script (after self.old.script self.old.history) (length self.old.history + 1) (Actor.Thread t) ∷ [] }
+        ensures safe { IsSafeReferences self.new.script self.new.history }
     {
-        self.go(Actor::Thread(t))
+        self.go(Actor::Thread(t));
     }
 }

@@ -1,20 +1,24 @@
 //! Moves in the kernel's tables: each changes the rows, and the counts move with what it tells.
-ghost use Rattle.std.specs.Prelude.{◌≡◌, ◌-◌, ◌==◌, OnOk, IfOk, slice_index, slice_set};
+ghost use Rattle.std.specs.Prelude.{◌≡◌, ◌+◌, ◌-◌, ◌≤◌, ◌==◌, length, slice_index, slice_set};
 ghost use Rattle.sym_base.specs.declared.number.ObjNo.{ObjNo};
-ghost use Rattle.machine.specs.Moves.{tables_gain, tables_lose, link_of_row, use_of_row, threads_closed};
+ghost use Rattle.machine.specs.Moves.{tables_gain, tables_lose, link_of_row};
 ghost use Rattle.machine.specs.Handles.{with_slot, taken_slot, freed_slot};
 ghost use Rattle.machine.specs.Rows.{thread_of};
-ghost use Rattle.kcore.specs.Counts.{Agrees};
-ghost use Rattle.kcore.specs.Moved.{CanMove, IsMoved, IsClosed};
+ghost use Rattle.cleanup.specs.Lists.{list_of};
+ghost use Rattle.kcore.specs.Noted.{AreKept, AreNoted};
+ghost use Rattle.kcore.specs.Moved.{CanMake, CanGain, CanAdvance, CanMove, IsMoved, IsClosed};
 ghost use Rattle.kcore.specs.ObjectsView.{IsHeld};
 ghost use Rattle.kcore.specs.StateOf.{state_of};
 
+use crate::duties::{drop_first_owed, owe_close, owe_use};
 use crate::handles::Handles;
+use crate::nano_moves::move_nano;
 use crate::tables::Tables;
+use crate::uses::{note_end, note_gain, note_lost, use_of};
 use entry_log::Holder;
-use machine::{Move, Owed};
+use machine::{Move, Owed, Waiting};
 use ref_words::{Closed, RefWords};
-use sym_base::{Items, Kind, Name, NoMemory, ObjNo, ThreadNo};
+use sym_base::{Items, Kind, Name, ObjNo, ThreadNo};
 
 /// A holder gets a reference: where it is a handle, that stands in its slot.
 fn gain_slot(tables: &mut Items<Handles>, holder: Holder, object: ObjNo)
@@ -48,23 +52,25 @@ fn lose_slot(tables: &mut Items<Handles>, holder: Holder)
 
 /// Makes an object, whose first reference is the holder's.
 fn make<W: RefWords + Drop>(tables: &mut Tables<W>, kind: Kind, name: Name, holder: Holder)
-    requires can { CanMove (Move.Make kind name holder) (state_of tables.old) }
-    requires agree { Agrees tables.old.objects.counts (state_of tables.old) }
+    requires can { CanMake kind name holder (state_of tables.old) }
+    requires kept { AreKept tables.old }
     ensures { (t : ObjNo) → IsMoved t (Move.Make kind name holder) tables.old tables.new }
 {
     let object = tables.objects.make(kind, &name);
     gain_slot(&mut tables.handles, holder, object);
+    note_gain(&mut tables.cleanup, holder, object);
     machine::threads_gain(&mut tables.threads, holder, object);
 }
 
 /// A holder gets a reference.
 fn gain<W: RefWords + Drop>(tables: &mut Tables<W>, holder: Holder, object: ObjNo)
-    requires can { CanMove (Move.Gain holder object) (state_of tables.old) }
-    requires agree { Agrees tables.old.objects.counts (state_of tables.old) }
+    requires can { CanGain holder object (state_of tables.old) }
+    requires kept { AreKept tables.old }
     ensures { (t : ObjNo) → IsMoved t (Move.Gain holder object) tables.old tables.new }
 {
     tables.objects.add_ref(object);
     gain_slot(&mut tables.handles, holder, object);
+    note_gain(&mut tables.cleanup, holder, object);
     machine::threads_gain(&mut tables.threads, holder, object);
 }
 
@@ -75,30 +81,28 @@ fn close<W: RefWords + Drop>(
     thread: ThreadNo,
     object: ObjNo,
     link: Option<ObjNo>,
-) -> Result<(), NoMemory>
-    requires { IsHeld tables.old.objects object }
-    ensures { OnOk result (IsClosed thread object link tables.old tables.new) }
+)
+    requires held { IsHeld tables.old.objects object }
+    requires places { length (list_of tables.old.cleanup.duties thread) + 2 ≤ 16 }
+    requires uses { AreNoted tables.old.cleanup tables.old.threads }
+    ensures { IsClosed thread object link tables.old tables.new }
 {
     let last = tables.objects.close_ref(object) == Closed::Last;
     machine::threads_closed(&mut tables.threads, last, object);
-    machine::owe_close(&mut tables.owed, thread, last, object, link)
+    owe_close(&mut tables.cleanup, thread, last, object, link);
 }
 
 /// A holder gives its reference up, and the thread owes what a last one leaves to do.
-fn lose<W: RefWords + Drop>(
-    tables: &mut Tables<W>,
-    thread: ThreadNo,
-    holder: Holder,
-    object: ObjNo,
-) -> Result<(), NoMemory>
-    requires can { CanMove (Move.Lose holder object) (state_of tables.old) }
-    requires agree { Agrees tables.old.objects.counts (state_of tables.old) }
-    ensures { OnOk result (IsMoved thread (Move.Lose holder object) tables.old tables.new) }
+fn lose<W: RefWords + Drop>(tables: &mut Tables<W>, thread: ThreadNo, holder: Holder, object: ObjNo)
+    requires can { CanMove thread (Move.Lose holder object) (state_of tables.old) }
+    requires kept { AreKept tables.old }
+    ensures { IsMoved thread (Move.Lose holder object) tables.old tables.new }
 {
     let link = link_of(tables, object);
     lose_slot(&mut tables.handles, holder);
+    note_lost(&mut tables.cleanup, &tables.threads, holder);
     machine::threads_lose(&mut tables.threads, holder);
-    close(tables, thread, object, link)
+    close(tables, thread, object, link);
 }
 
 /// An object's own reference: a thread's link to its process.
@@ -108,21 +112,16 @@ fn link_of<W: RefWords + Drop>(tables: &Tables<W>, object: ObjNo) -> Option<ObjN
     machine::row_of(&tables.threads, object)?.link
 }
 
-/// The object that a thread's instruction uses.
-fn use_of<W: RefWords + Drop>(tables: &Tables<W>, thread: ThreadNo) -> Option<ObjNo>
-    ensures { result ≡ use_of_row (thread_of (state_of tables.now) thread) }
-{
-    machine::row_of(&tables.threads, thread)?.uses
-}
-
 /// The thread goes on to its next instruction, and owes the close of what it used.
-fn advance<W: RefWords + Drop>(tables: &mut Tables<W>, thread: ThreadNo) -> Result<(), NoMemory>
-    requires { CanMove (Move.Advance thread) (state_of tables.old) }
-    ensures { OnOk result ((t : ObjNo) → IsMoved t (Move.Advance thread) tables.old tables.new) }
+fn advance<W: RefWords + Drop>(tables: &mut Tables<W>, thread: ThreadNo)
+    requires can { CanAdvance thread (state_of tables.old) }
+    requires uses { AreNoted tables.old.cleanup tables.old.threads }
+    ensures { (t : ObjNo) → IsMoved t (Move.Advance thread) tables.old tables.new }
 {
-    let uses = use_of(tables, thread);
+    let uses = use_of(&tables.threads, thread);
+    note_end(&mut tables.cleanup, &tables.threads, thread);
     machine::threads_advance(&mut tables.threads, thread);
-    machine::owe_use(&mut tables.owed, thread, uses)
+    owe_use(&mut tables.cleanup, thread, uses);
 }
 
 /// The thread pays a close that it owes.
@@ -131,79 +130,66 @@ fn pay_close<W: RefWords + Drop>(
     thread: ThreadNo,
     holder: Holder,
     object: ObjNo,
-) -> Result<(), NoMemory>
-    requires can { CanMove (Move.Pay (Owed.Close holder object)) (state_of tables.old) }
-    requires agree { Agrees tables.old.objects.counts (state_of tables.old) }
-    ensures { OnOk result (IsMoved thread (Move.Pay (Owed.Close holder object)) tables.old tables.new) }
+)
+    requires can { CanMove thread (Move.Pay (Owed.Close holder object)) (state_of tables.old) }
+    requires kept { AreKept tables.old }
+    ensures { IsMoved thread (Move.Pay (Owed.Close holder object)) tables.old tables.new }
 {
     let link = link_of(tables, object);
-    machine::drop_first_owed(&mut tables.owed, thread);
-    close(tables, thread, object, link)
+    drop_first_owed(&mut tables.cleanup, thread);
+    close(tables, thread, object, link);
 }
 
 /// The thread removes the row of a dead object.
 fn pay_sweep<W: RefWords + Drop>(tables: &mut Tables<W>, thread: ThreadNo, object: ObjNo)
-    requires { CanMove (Move.Pay (Owed.Sweep object)) (state_of tables.old) }
+    requires can { CanMove thread (Move.Pay (Owed.Sweep object)) (state_of tables.old) }
+    requires uses { AreNoted tables.old.cleanup tables.old.threads }
     ensures { IsMoved thread (Move.Pay (Owed.Sweep object)) tables.old tables.new }
 {
     tables.objects.sweep(object);
     machine::set_row(&mut tables.threads, object, None);
-    machine::drop_first_owed(&mut tables.owed, thread);
+    drop_first_owed(&mut tables.cleanup, thread);
 }
 
 /// The thread pays the oldest of what it owes.
-fn pay<W: RefWords + Drop>(
-    tables: &mut Tables<W>,
-    thread: ThreadNo,
-    what: Owed,
-) -> Result<(), NoMemory>
-    requires can { CanMove (Move.Pay what) (state_of tables.old) }
-    requires agree { Agrees tables.old.objects.counts (state_of tables.old) }
-    ensures { OnOk result (IsMoved thread (Move.Pay what) tables.old tables.new) }
+fn pay<W: RefWords + Drop>(tables: &mut Tables<W>, thread: ThreadNo, what: Owed)
+    requires can { CanMove thread (Move.Pay what) (state_of tables.old) }
+    requires kept { AreKept tables.old }
+    ensures { IsMoved thread (Move.Pay what) tables.old tables.new }
 {
     match what {
         Owed::Close(holder, object) => pay_close(tables, thread, holder, object),
-        Owed::Sweep(object) => {
-            pay_sweep(tables, thread, object);
-            Ok(())
-        }
+        Owed::Sweep(object) => pay_sweep(tables, thread, object),
     }
 }
 
 /// One move in an action of a thread.
-pub fn make_move<W: RefWords + Drop>(
-    tables: &mut Tables<W>,
-    thread: ThreadNo,
-    change: Move,
-) -> Result<(), NoMemory>
-    requires can { CanMove change (state_of tables.old) }
-    requires agree { Agrees tables.old.objects.counts (state_of tables.old) }
-    ensures { OnOk result (IsMoved thread change tables.old tables.new) }
+pub fn make_move<W: RefWords + Drop>(tables: &mut Tables<W>, thread: ThreadNo, change: Move)
+    requires can { CanMove thread change (state_of tables.old) }
+    requires kept { AreKept tables.old }
+    ensures { IsMoved thread change tables.old tables.new }
 {
     match change {
+        Move::Make(kind, name, holder) => make(tables, kind, name, holder),
+        Move::Gain(holder, object) => gain(tables, holder, object),
         Move::Lose(holder, object) => lose(tables, thread, holder, object),
-        Move::Advance(other) => advance(tables, other),
-        Move::Pay(what) => pay(tables, thread, what),
-        Move::Make(kind, name, holder) => {
-            make(tables, kind, name, holder);
-            Ok(())
-        }
-        Move::Gain(holder, object) => {
-            gain(tables, holder, object);
-            Ok(())
-        }
         Move::Find(other, object) => {
             machine::threads_find(&mut tables.threads, other, object);
-            Ok(())
         }
-        Move::Miss(_) => Ok(()),
-        Move::GoOn(other, part) => {
-            machine::threads_go_on(&mut tables.threads, other, part);
-            Ok(())
-        }
+        Move::Miss(_) => {}
+        Move::GoOn(other, part) => machine::threads_go_on(&mut tables.threads, other, part),
         Move::Write(other, register, value) => {
             machine::threads_write(&mut tables.threads, other, register, value);
-            Ok(())
         }
+        Move::Advance(other) => advance(tables, other),
+        Move::Wait(other, what) => machine::threads_wait(&mut tables.threads, other, what),
+        Move::Wake(other) => {
+            machine::threads_wait(&mut tables.threads, other, Waiting::Nothing);
+        }
+        Move::SetPriority(other, priority) => {
+            machine::threads_set_priority(&mut tables.threads, other, priority);
+        }
+        Move::Nano(change) => move_nano(&mut tables.nano, change),
+        Move::Pay(what) => pay(tables, thread, what),
     }
 }

@@ -1,14 +1,14 @@
 //! An action of a thread: its moves are made one after the other, and the queues of ready threads follow them.
-ghost use Rattle.std.specs.Prelude.{◌≡◌, ◌≤◌, length, IfOk};
+ghost use Rattle.std.specs.Prelude.{◌≡◌, ◌≤◌, length};
 ghost use Rattle.sym_base.specs.declared.limits.TheConstants.Limits.{BOOT_OBJECTS};
 ghost use Rattle.machine.specs.Moves.{tell};
-ghost use Rattle.kcore.specs.Counts.{Agrees};
+ghost use Rattle.kcore.specs.Noted.{AreKept};
 ghost use Rattle.kcore.specs.Moved.{MovesGo};
 ghost use Rattle.kcore.specs.Performed.{IsPerformed};
 ghost use Rattle.kcore.specs.StateOf.{state_of};
 
 use crate::moves::make_move;
-use crate::ready::arrive_touched;
+use crate::ready::{arrive_touched, take_out};
 use crate::tables::Tables;
 use decisions::{add_effects, told};
 use entry_log::Effects;
@@ -16,7 +16,7 @@ use machine::{Move, touched};
 use ready_list::ReadyList;
 use ref_words::RefWords;
 use script_types::Script;
-use sym_base::{NoMemory, ThreadNo};
+use sym_base::ThreadNo;
 
 /// The moves of an action of a thread, and what they tell.
 pub fn perform<W: RefWords + Drop>(
@@ -25,19 +25,20 @@ pub fn perform<W: RefWords + Drop>(
     ready: &mut ReadyList,
     thread: ThreadNo,
     moves: &[Move],
-) -> Result<Effects, NoMemory>
+) -> Effects
     requires go { MovesGo script.now thread moves.now (state_of tables.old) }
-    requires agree { Agrees tables.old.objects.counts (state_of tables.old) }
+    requires kept { AreKept tables.old }
     requires few { length (tell thread moves.now (state_of tables.old)) ≤ 4 }
     requires size { ready.old.threads ≡ BOOT_OBJECTS }
     ensures size { ready.new.threads ≡ BOOT_OBJECTS }
-    ensures performed { IfOk result (λ effects. IsPerformed script.now thread moves.now tables.old tables.new ready.old ready.new effects) }
+    ensures performed { IsPerformed script.now thread moves.now tables.old tables.new ready.old ready.new result }
 {
     let mut effects = Effects::new();
     for change in moves {
         add_effects(&mut effects, told(tables, *change).as_slice());
-        make_move(tables, thread, *change)?;
+        make_move(tables, thread, *change);
+        take_out(ready, *change);
         arrive_touched(script, tables, ready, touched(thread, *change));
     }
-    Ok(effects)
+    effects
 }

@@ -1,8 +1,9 @@
 //! What decisions read of the kernel's tables.
 ghost use Rattle.std.specs.Prelude.{◌≡◌, ◌<◌, ◌≤◌, None, IfSome};
-ghost use Rattle.kcore.specs.Counts.{Agrees};
+ghost use Rattle.kcore.specs.Noted.{AreKept};
 ghost use Rattle.kcore.specs.StateOf.{state_of};
 
+use crate::duties::first_owed;
 use crate::tables::Tables;
 use decisions::Reads;
 use machine::{FRESH_SLOT, HandleSlot, NewHandle, Owed, ThreadRow};
@@ -13,7 +14,7 @@ use sym_base::{Kind, Name, ObjNo, ThreadNo};
 impl<W: RefWords + Drop> Reads for Tables<W> {
     ghost state = { λ tables. state_of tables };
 
-    ghost is_readable = { λ tables. Agrees tables.objects.counts (state_of tables) };
+    ghost is_readable = { λ tables. AreKept tables };
 
     fn object(&self, object: ObjNo) -> Option<ObjectRow> {
         self.objects.row(object)
@@ -29,12 +30,7 @@ impl<W: RefWords + Drop> Reads for Tables<W> {
     }
 
     fn first_owed(&self, thread: ThreadNo) -> Option<Owed> {
-        let at = thread.0 as usize;
-        if at < self.owed.len() {
-            self.owed.as_slice()[at].as_slice().first().copied()
-        } else {
-            None
-        }
+        first_owed(&self.cleanup, thread)
     }
 
     fn slot(&self, owner: ObjNo, index: usize) -> HandleSlot {
@@ -69,5 +65,37 @@ impl<W: RefWords + Drop> Reads for Tables<W> {
 
     fn objects_made(&self) -> usize {
         self.objects.len()
+    }
+
+    fn signal_count(&self, thread: ThreadNo) -> u64 {
+        self.nano.signal_count(thread)
+    }
+
+    fn suspend_count(&self, thread: ThreadNo) -> u8 {
+        self.nano.suspend_count(thread)
+    }
+
+    fn critical_count(&self, thread: ThreadNo) -> u64 {
+        self.nano.critical_count(thread)
+    }
+
+    fn want(&self, thread: ThreadNo) -> Option<u8> {
+        self.nano.want(thread)
+    }
+
+    fn holder(&self, fast: u8) -> Option<ThreadNo> {
+        self.nano.holder(fast)
+    }
+
+    fn held(&self, thread: ThreadNo) -> Option<u8> {
+        self.nano.held(thread)
+    }
+
+    fn is_holding(&self, thread: ThreadNo) -> bool {
+        self.nano.held(thread).is_some()
+    }
+
+    fn is_protected(&self, thread: ThreadNo) -> bool {
+        self.nano.protected(thread)
     }
 }

@@ -1,21 +1,23 @@
 //! The queues of ready threads follow the moves of an action: who becomes ready comes, and who has nothing left to
 //! do leaves at the end.
-ghost use Rattle.std.specs.Prelude.{◌≡◌, ℕ, ◌<◌, List};
+ghost use Rattle.std.specs.Prelude.{◌≡◌, ℕ, ◌<◌, List, option_map};
 ghost use Rattle.sym_base.specs.declared.limits.TheConstants.Limits.{BOOT_OBJECTS};
 ghost use Rattle.sym_base.specs.declared.number.ObjNo.{ObjNo};
-ghost use Rattle.machine.specs.Arrivals.{arrive, one_of, threads_of, unlisted};
+ghost use Rattle.machine.specs.Arrivals.{arrive, one_of, taken_out, threads_of, unlisted};
 ghost use Rattle.sym_base.specs.Greatest.{first_of_greatest};
 ghost use Rattle.ready_list.specs.Arrival.{AreQueuesOf};
 ghost use Rattle.machine.specs.Choice.{priority_of, actor_of};
 ghost use Rattle.machine.specs.Tick.{moved_behind};
+ghost use Rattle.state_rows.specs.Nano.{in_place_of, turned};
 ghost use Rattle.kcore.specs.Moved.{AreKnown};
 ghost use Rattle.kcore.specs.ReadyQueues.{Follow, SomeReady, pairs, leave, leave_along};
 ghost use Rattle.kcore.specs.StateOf.{state_of};
 
 use crate::tables::Tables;
-use decisions::is_ready;
+use decisions::{is_ready, wanted_holder};
 use entry_log::Actor;
 use machine::{Move, TouchedThreads, row_of, touched};
+use nano_sync::NanoSync;
 use ready_list::ReadyList;
 use ref_words::RefWords;
 use script_types::Script;
@@ -36,10 +38,16 @@ fn arrive<W: RefWords + Drop>(
     let Some(thread) = thread else {
         return;
     };
-    let Some(row) = row_of(&tables.threads, thread) else {
+    if thread.0 as usize >= Limits::BOOT_OBJECTS {
         return;
-    };
-    if is_ready(script, tables, thread) && ready.priority_of(thread).is_none() {
+    }
+    if ready.priority_of(thread).is_some() {
+        return;
+    }
+    if !is_ready(script, tables, thread) {
+        return;
+    }
+    if let Some(row) = row_of(&tables.threads, thread) {
         ready.add(thread, row.priority);
     }
 }
@@ -71,6 +79,17 @@ fn take_off(ready: &mut ReadyList, thread: ThreadNo)
     }
     if ready.priority_of(thread).is_some() {
         ready.remove(thread);
+    }
+}
+
+/// A thread whose priority a move sets leaves, and so comes anew.
+pub fn take_out(ready: &mut ReadyList, change: Move)
+    requires { ready.old.threads ≡ BOOT_OBJECTS }
+    ensures size { ready.new.threads ≡ BOOT_OBJECTS }
+    ensures queues { (rank : ObjNo → ℕ) → Follow rank (taken_out change) ready.old ready.new }
+{
+    if let Move::SetPriority(thread, _) = change {
+        take_off(ready, thread);
     }
 }
 
@@ -125,24 +144,37 @@ pub fn leave_along<W: RefWords + Drop>(
     }
 }
 
-/// Whom the queues let act: the first thread of the highest queue, or nobody.
-pub fn chosen(ready: &ReadyList) -> Actor
-    ensures { (rank : ObjNo → ℕ) (qs : List ObjNo) → AreQueuesOf (pairs rank qs) ready.now → result ≡ actor_of (first_of_greatest rank qs) }
+/// Who acts in a thread's place: the holder of the fast mutex that it wants, or the thread itself.
+fn in_place_of<W: RefWords + Drop>(tables: &Tables<W>, thread: ThreadNo) -> ThreadNo
+    ensures { result ≡ in_place_of (state_of tables.now).nano thread }
+{
+    match wanted_holder(tables, thread) {
+        Some(holder) => holder,
+        None => thread,
+    }
+}
+
+/// Whom the queues let act: the first thread of the highest queue, or who acts in its place, or nobody.
+pub fn chosen<W: RefWords + Drop>(tables: &Tables<W>, ready: &ReadyList) -> Actor
+    ensures { (rank : ObjNo → ℕ) (qs : List ObjNo) → AreQueuesOf (pairs rank qs) ready.now → result ≡ actor_of (option_map (in_place_of (state_of tables.now).nano) (first_of_greatest rank qs)) }
 {
     match ready.pick() {
-        Some(thread) => Actor::Thread(thread),
+        Some(first) => Actor::Thread(in_place_of(tables, first)),
         None => Actor::Idle,
     }
 }
 
-/// Puts the thread that would be chosen behind its equals.
-pub fn turn(ready: &mut ReadyList)
+/// Puts the first thread of the highest queue behind its equals, unless it holds a fast mutex.
+pub fn turn(nano: &NanoSync, ready: &mut ReadyList)
     requires { SomeReady ready.old }
-    ensures { (rank : ObjNo → ℕ) → Follow rank (λ qs. moved_behind qs (first_of_greatest rank qs)) ready.old ready.new }
+    ensures { (rank : ObjNo → ℕ) → Follow rank (λ qs. moved_behind qs (turned nano.now (first_of_greatest rank qs))) ready.old ready.new }
 {
     let Some(first) = ready.pick() else {
         return;
     };
+    if nano.held(first).is_some() {
+        return;
+    }
     if let Some(priority) = ready.priority_of(first) {
         ready.rotate(priority);
     }

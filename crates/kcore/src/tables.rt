@@ -2,7 +2,9 @@
 
 use crate::handles::Handles;
 use crate::object_table::ObjectTable;
-use machine::{Owed, ThreadRow};
+use cleanup::Cleanup;
+use machine::ThreadRow;
+use nano_sync::NanoSync;
 use ref_words::RefWords;
 use sym_base::Items;
 
@@ -14,6 +16,8 @@ pub struct Tables<W: RefWords> {
     pub handles: Items<Handles>,
     /// The row of each thread, None at the number of a process.
     pub threads: Items<Option<ThreadRow>>,
-    /// What each thread owes, the oldest first.
-    pub owed: Items<Items<Owed>>,
+    /// What each thread owes, the oldest first, and what its death gives up.
+    pub cleanup: Cleanup,
+    /// Fast semaphores, fast mutexes, critical sections and suspension.
+    pub nano: NanoSync,
 }

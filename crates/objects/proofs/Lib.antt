@@ -1,2 +1,5 @@
+mod Finding
 mod Keeping
+mod Listing
+mod Order
 mod SameKind

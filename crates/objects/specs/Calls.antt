@@ -1,5 +1,5 @@
 -- What the calls on the table of objects answer and leave.
-use Rattle.std.specs.Prelude.{◌≡◌, ℕ, Bool, false, true, not, ◌||◌, ◌==◌, if◌then◌else◌, List, [], ◌∷◌, ◌++◌, length, Option, Some, None, position, slice_index, slice_set}
+use Rattle.std.specs.Prelude.{ℕ, Bool, false, not, ◌||◌, ◌==◌, if◌then◌else◌, List, [], ◌∷◌, ◌++◌, length, Option, Some, None, position, slice_index, slice_set}
 use Rattle.sym_base.specs.declared.kind.Kind.{Kind}
 use Rattle.sym_base.specs.declared.limits.TheConstants.Limits.{OBJECTS}
 use Rattle.sym_base.specs.declared.number.ObjNo.{ObjNo}

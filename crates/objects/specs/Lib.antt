@@ -1,4 +1,5 @@
 pub mod Calls
 pub mod Kept
+pub mod Names
 pub mod Rows
 pub mod Table

@@ -1,8 +1,7 @@
 -- Rows of objects by number, and the names that they keep.
-use Rattle.std.specs.Prelude.{ℕ, Bool, false, true, not, ◌&&◌, ◌==◌, if◌then◌else◌, List, [], Option, Some, None, slice_index_or}
+use Rattle.std.specs.Prelude.{ℕ, Bool, false, true, not, if◌then◌else◌, List, [], Option, Some, None, slice_index_or}
 use Rattle.state_rows.specs.ObjectRows.{is_session}
 use Rattle.sym_base.specs.declared.kind.Kind.{Kind}
-use Rattle.sym_base.specs.declared.kind.Kind.TheVariants.{Process, Thread, Mutex, Semaphore, Server, Session}
 use Rattle.state_rows.specs.declared.object.ObjectRow.{ObjectRow}
 
 -- the name that an object of a kind keeps: a session has none

@@ -1,6 +1,7 @@
 //! Kernel objects: their kinds, names and reference counts.
 #![tactic(auto)]
 
+mod names;
 mod objects;
 mod row;
 #[cfg(test)]

@@ -6,9 +6,10 @@ ghost use Rattle.objects.specs.Rows.{row_at, is_there, is_alive};
 ghost use Rattle.state_rows.specs.ObjectRows.{is_session, has_name, is_taken, is_dead_row};
 ghost use Rattle.objects.specs.Calls.{is_findable, made_answer, rows_made, words_made, found, told, row_told, rows_closed, rows_swept};
 
+use crate::names::Names;
 use crate::row::{ObjRow, kept_name};
 use ref_words::{Closed, Found, RefWords};
-use state_rows::{ObjectRow, has_name, is_dead_row, is_session};
+use state_rows::{ObjectRow, is_dead_row, is_session};
 use std::alloc::Global;
 use std::marker::Model;
 use sym_base::{Kind, Limits, Name, NoMemory, ObjNo};
@@ -25,12 +26,14 @@ pub enum Made {
 
 /// The objects of the kernel, by number in order of making (Symbian OS Internals, the chapter on kernel
 /// services, on object containers). Names are unique among the unswept objects of a kind, and sessions
-/// have none. The numbers and their limit are this project's own.
+/// have none. The numbers and their limit are this project's own. A name is found by halving, in a list beside the
+/// rows.
 #[derive(Drop)]
 pub struct Objects<W: RefWords> {
     words: W,
     counts: Vec<u32>,
     rows: Vec<Option<ObjectRow>>,
+    names: Names,
 }
 
 impl<W: RefWords> Model for Objects<W> {
@@ -40,10 +43,11 @@ impl<W: RefWords> Model for Objects<W> {
     ghost Value = { Table W };
 
     ghost use Rattle.objects.specs.Kept.{AreKept};
+    ghost use Rattle.objects.specs.Names.{AreListed};
 
     ghost view = { λ a. record { rows = a.rows.items; words = a.words } };
 
-    ghost invariant = { λ a. AreKept a.rows.items a.counts.items (W.meaning a.words) × (length a.counts.items ≤ vec_capacity a.rows) };
+    ghost invariant = { λ a. AreKept a.rows.items a.counts.items (W.meaning a.words) × (length a.counts.items ≤ vec_capacity a.rows) × AreListed a.rows.items a.names };
 }
 
 impl<W: RefWords + Drop> Objects<W> {
@@ -58,10 +62,12 @@ impl<W: RefWords + Drop> Objects<W> {
         let places = words.places().min(Limits::OBJECTS);
         let counts = vec![in alloc; 0u32; places]?;
         let rows = Vec::with_capacity(alloc, places)?;
+        let names = Names::new(alloc)?;
         Ok(Objects {
             words,
             counts,
             rows,
+            names,
         })
     }
 
@@ -76,13 +82,14 @@ impl<W: RefWords + Drop> Objects<W> {
         ensures taken { result ≡ Made.NameTaken → self.new ≡ self.old }
         ensures full { result ≡ Made.Full → self.new ≡ self.old }
     {
-        if self.is_taken(kind, name) {
+        let Some(place) = self.names.new_place(&self.rows, kind, name) else {
             return Made::NameTaken;
-        }
+        };
         let made = self.rows.len();
         if made == Limits::OBJECTS {
             return Made::Full;
         }
+        self.names.list(&self.rows, kind, name, place);
         self.rows.push_reserved(Some(ObjectRow {
             kind,
             name: kept_name(kind, name),
@@ -97,7 +104,7 @@ impl<W: RefWords + Drop> Objects<W> {
     pub fn is_taken(&self, kind: Kind, name: &Name) -> bool
         ensures { result ≡ is_taken kind name.now self.now.rows }
     {
-        !is_session(kind) && self.rows.iter().any(|row| has_name(kind, name, row))
+        self.names.new_place(&self.rows, kind, name).is_none()
     }
 
     /// How many objects were made.
@@ -131,7 +138,10 @@ impl<W: RefWords + Drop> Objects<W> {
         ensures made { IfSome result (λ p. (p < length self.now.rows) × (p < 4096)) }
         ensures alone { IfSome result (λ p. (q : ℕ) → IsTrue (has_name kind name.now (row_at self.now.rows q)) → q ≡ p) }
     {
-        self.rows.iter().position(|row| has_name(kind, name, row))
+        match self.names.place_of(&self.rows, kind, name) {
+            Ok(place) => Some(self.names.number_at(place)),
+            Err(_) => None,
+        }
     }
 
     /// Whether an object has a reference or is dead.
@@ -240,6 +250,7 @@ impl<W: RefWords + Drop> Objects<W> {
         ensures rows { self.new.rows ≡ rows_swept self.old.rows o.0 }
         ensures words { self.new.words ≡ self.old.words }
     {
+        self.names.forget(&self.rows, o.0 as usize);
         self.rows[o.0 as usize] = None;
     }
 

@@ -5,10 +5,7 @@ use script_types::{
     Args, DfcDecl, IdfcDecl, Instr, IrqBody, Op, ProcessDecl, QueueDecl, Script, Slot, SourceLine,
     ThreadDecl,
 };
-use script_words::{
-    have_line_forms, is_counted, is_line_in_range, keyword_of, line_as, second_of, word_at,
-    words_of,
-};
+use script_words::{is_counted, keyword_of, line_as, line_fault, second_of, take_words, word_at};
 use std::alloc::Global;
 use std::test::Fail;
 use sym_base::{Arg, Items, Name, NoMemory, Slots, read_name};
@@ -125,18 +122,20 @@ const EVERY_INSTRUCTION: &str =
 
 /// Reads a line as an instruction, whether the program runs it or not, and prints it. False where it is none.
 fn print_read(alloc: Global, line: &[u8], out: &mut Vec<u8>) -> Result<bool, NoMemory> {
-    let words = words_of(alloc, line)?;
-    let Some(keyword) = keyword_of(word_at(&words, 0)) else {
+    let mut words = Vec::new(alloc);
+    take_words(&mut words, line)?;
+    let words = words.as_slice();
+    let Some(keyword) = keyword_of(word_at(words, 0)) else {
         return Ok(false);
     };
-    let second = second_of(false, keyword, &words);
-    if !is_counted(keyword, second, &words) || !have_line_forms(keyword, second, &words) {
+    let second = second_of(false, keyword, words);
+    if !is_counted(keyword, second, words) {
         return Ok(false);
     }
-    if !is_line_in_range(keyword, second, &words) {
+    if line_fault(keyword, second, words).is_some() {
         return Ok(false);
     }
-    match line_as(alloc, keyword, second, &words)? {
+    match line_as(alloc, keyword, second, words)? {
         SourceLine::Instr(what) => put_instr(out, what)?,
         _ => return Ok(false),
     }

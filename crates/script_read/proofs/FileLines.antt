@@ -3,7 +3,7 @@ use Rattle.std.proofs.Common.{◌≡◌, ℕ, Bool, true, false, List, [], ◌�
 use Rattle.std.proofs.lemmas.List.{append-nil}
 use Rattle.std.specs.Prelude.{if◌then◌else◌}
 use Rattle.script_read.specs.Knows.{Knows, declared_by}
-use Rattle.script_read.specs.declared.known_names.Declarations.{Declarations}
+use Rattle.script_read.specs.declared.declarations.Declarations.{Declarations}
 use Rattle.script_words.proofs.Steps.{some_is}
 use Rattle.script_types.specs.Names.{Declared, first_two, file_declares}
 use Rattle.script_types.specs.SourceText.{text_lines, words_of, is_skipped}

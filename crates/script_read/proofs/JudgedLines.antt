@@ -1,8 +1,9 @@
 -- The tests of a line, tried one by one, give its first reason.
 use Rattle.std.proofs.Common.{◌≡◌, ℕ, Bool, true, false, List, [], ◌∷◌, refl, sym, subst, Option, Some, None, Result, Ok, Err}
 use Rattle.std.specs.Prelude.{not, cond, IfOk}
-use Rattle.script_read.specs.Judging.{refused, word_tests, line_tests, judged_line, judged_words, judged_as, IsJudged}
+use Rattle.script_read.specs.Judging.{refused, reason_of_fault, word_tests, line_tests, judged_line, judged_words, judged_as, IsJudged}
 use Rattle.script_types.specs.Keywords.{keyword_kind}
+use Rattle.script_words.specs.Faults.{fault_by}
 use Rattle.script_words.specs.LineAt.{line_at}
 use Rattle.script_words.specs.LineSigns.{is_counted, have_forms, are_in_range}
 use Rattle.script_read.specs.Reasons.{first_reason, after_text, is_scheduled, keyword_in}
@@ -87,3 +88,13 @@ pub words_pass : (c : Context) (k : Keyword) (words : List (List ℕ)) → None 
 words_pass c k words h =
     let scheduled : Bool = is_scheduled c in
     last_two (is_in_order c (keyword_kind scheduled k)) (is_counted scheduled k words) (have_forms scheduled k words) (are_in_range scheduled k words) reason.Order reason.Count reason.Form reason.Range h
+
+-- words in order with their number have the reason of what is wrong with them
+fault_reason : (form range : Bool) → reason_of_fault (fault_by form range) ≡ refused ((form, reason.Form) ∷ (range, reason.Range) ∷ [])
+fault_reason false range = refl
+fault_reason true false = refl
+fault_reason true true = refl
+
+pub words_reason : (c : Context) (k : Keyword) (words : List (List ℕ)) → is_in_order c (keyword_kind (is_scheduled c) k) ≡ true → is_counted (is_scheduled c) k words ≡ true
+    → reason_of_fault (fault_by (have_forms (is_scheduled c) k words) (are_in_range (is_scheduled c) k words)) ≡ refused (word_tests c k words)
+words_reason c k words order count = rw (order, count) (fault_reason (have_forms (is_scheduled c) k words) (are_in_range (is_scheduled c) k words))

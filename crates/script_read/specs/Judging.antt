@@ -2,6 +2,8 @@
 use Rattle.std.specs.Prelude.{◌≡◌, ℕ, Bool, if◌then◌else◌, IsTrue, List, [], ◌∷◌, Option, Some, None, ⊤}
 use Rattle.script_types.specs.Keywords.{keyword_kind}
 use Rattle.script_words.specs.LineAt.{line_at}
+use Rattle.script_words.specs.declared.fault.Fault.{Fault}
+use Rattle.script_words.specs.declared.fault.Fault.TheVariants as fault
 use Rattle.script_words.specs.LineSigns.{is_counted, have_forms, are_in_range}
 use Rattle.script_read.specs.Reasons.{first_reason, after_text, is_scheduled}
 use Rattle.script_read.specs.declared.judge.Judged.{Judged}
@@ -20,6 +22,12 @@ use Rattle.script_types.specs.declared.source_line.SourceLine.{SourceLine}
 abbrev pub refused : List (Bool × Reason) → Option Reason
 refused [] = None
 refused (test ∷ tests) = if test.0 then refused tests else Some test.1
+
+-- the reason of what is wrong with words
+abbrev pub reason_of_fault : Option Fault → Option Reason
+reason_of_fault (Some fault.Form) = Some reason.Form
+reason_of_fault (Some fault.Range) = Some reason.Range
+reason_of_fault None = None
 
 -- the tests of the words of a line that isn't skipped
 abbrev pub word_tests : Context → Keyword → List (List ℕ) → List (Bool × Reason)

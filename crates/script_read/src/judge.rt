@@ -1,22 +1,23 @@
 //! What a line of a text is: bad, and for which reason, or a line.
 ghost use Rattle.std.specs.Prelude.{◌≡◌, IsTrue, IfNone, IfOk, List};
-ghost use Rattle.script_read.specs.Judging.{refused, word_tests, line_tests, judged_as, IsJudged, IsJudgedWithin};
-ghost use Rattle.script_read.specs.Knows.{Knows};
+ghost use Rattle.script_read.specs.Judging.{refused, reason_of_fault, word_tests, line_tests, judged_as, IsJudged, IsJudgedWithin};
+ghost use Rattle.script_read.specs.Knows.{Knows, AreKnown, names_something};
 ghost use Rattle.script_words.specs.Pieces.{pieces};
-ghost use Rattle.script_types.specs.Names.{Declared};
+ghost use Rattle.script_types.specs.Names.{Declared, file_declares};
+ghost use Rattle.script_types.specs.SourceText.{text_lines};
 ghost use Rattle.script_types.specs.Stands.{all_instrs, is_within};
 
 use crate::Reason;
 use crate::built::is_built_line;
-use crate::known::is_known;
-use crate::known_names::Declarations;
+use crate::declarations::{Declarations, FileNames};
+use crate::known::{is_known, names_something};
 use crate::limits::is_within;
 use crate::order::{is_in_order, is_scheduled};
 use crate::standing::{is_new, is_right_kind};
 use script_types::{Context, SourceLine};
 use script_words::{
-    Keyword, have_line_forms, is_counted, is_line_in_range, is_printed, is_short, is_skipped,
-    keyword_kind, keyword_of, line_as, second_of, word_at, words_of,
+    Fault, Keyword, is_counted, is_printed, is_short, is_skipped, keyword_kind, keyword_of,
+    line_as, line_fault, second_of, take_words, word_at,
 };
 use std::alloc::Global;
 use sym_base::NoMemory;
@@ -32,6 +33,17 @@ pub enum Judged {
     Bad(Reason),
 }
 
+/// The reason of what is wrong with words.
+fn reason_of_fault(fault: Option<Fault>) -> Option<Reason>
+    ensures { result ≡ reason_of_fault fault }
+{
+    match fault {
+        Some(Fault::Form) => Some(Reason::Form),
+        Some(Fault::Range) => Some(Reason::Range),
+        None => None,
+    }
+}
+
 /// The first reason why words may not be a line here: its place, their number, their forms, their ranges.
 fn reason_of_words(context: &Context, keyword: Keyword, words: &[&[u8]]) -> Option<Reason>
     ensures { result ≡ refused (word_tests context.now keyword (pieces words.now)) }
@@ -44,13 +56,7 @@ fn reason_of_words(context: &Context, keyword: Keyword, words: &[&[u8]]) -> Opti
     if !is_counted(keyword, second, words) {
         return Some(Reason::Count);
     }
-    if !have_line_forms(keyword, second, words) {
-        return Some(Reason::Form);
-    }
-    if !is_line_in_range(keyword, second, words) {
-        return Some(Reason::Range);
-    }
-    None
+    reason_of_fault(line_fault(keyword, second, words))
 }
 
 /// The first reason why a line may not stand here: its thread, its names, the limits, or that it isn't
@@ -62,7 +68,7 @@ fn reason_of_line(
     line: &SourceLine,
 ) -> Option<Reason>
     requires { instructions ≡ all_instrs context.now.script.threads }
-    ensures tests { (file : List Declared) → Knows declarations.now file → result ≡ refused (line_tests file context.now line.now) }
+    ensures tests { (file : List Declared) → (IsTrue (names_something line.now) → Knows declarations.now file) → result ≡ refused (line_tests file context.now line.now) }
     ensures within { IfNone result (IsTrue (is_within context.now line.now)) }
 {
     if !is_right_kind(context, line) {
@@ -86,38 +92,46 @@ fn reason_of_line(
 /// What the words of a line are whose first word begins one.
 fn judge_words(
     alloc: Global,
-    declarations: &Declarations<'_>,
+    names: &mut FileNames<'_>,
     context: &Context,
     instructions: usize,
     keyword: Keyword,
     words: &[&[u8]],
 ) -> Result<Judged, NoMemory>
-    requires { instructions ≡ all_instrs context.now.script.threads }
-    ensures judged { (file : List Declared) → Knows declarations.now file → IfOk result (λ judged. judged ≡ judged_as file context.now keyword (pieces words.now)) }
+    requires count { instructions ≡ all_instrs context.now.script.threads }
+    requires known { AreKnown names.old }
+    ensures judged { IfOk result (λ judged. judged ≡ judged_as (file_declares (text_lines names.old.text.now)) context.now keyword (pieces words.now)) }
     ensures within { IfOk result (IsJudgedWithin context.now) }
+    ensures known { AreKnown names.new }
+    ensures text { names.new.text.now ≡ names.old.text.now }
 {
     if let Some(reason) = reason_of_words(context, keyword, words) {
         return Ok(Judged::Bad(reason));
     }
     let second = second_of(is_scheduled(context), keyword, words);
     let line = line_as(alloc, keyword, second, words)?;
-    if let Some(reason) = reason_of_line(declarations, context, instructions, &line) {
+    names.read_where(alloc, names_something(&line))?;
+    if let Some(reason) = reason_of_line(&names.declarations, context, instructions, &line) {
         return Ok(Judged::Bad(reason));
     }
     Ok(Judged::Line(line))
 }
 
 /// What a line of a text is, behind lines that make the context and have so many instructions.
-pub fn judge_text(
+pub fn judge_text<'a>(
     alloc: Global,
-    declarations: &Declarations<'_>,
+    names: &mut FileNames<'_>,
+    words: &mut Vec<&'a [u8]>,
     context: &Context,
     instructions: usize,
-    text: &[u8],
+    text: &'a [u8],
 ) -> Result<Judged, NoMemory>
-    requires { instructions ≡ all_instrs context.now.script.threads }
-    ensures judged { (file : List Declared) → Knows declarations.now file → IfOk result (IsJudged file context.now text.now) }
+    requires count { instructions ≡ all_instrs context.now.script.threads }
+    requires known { AreKnown names.old }
+    ensures judged { IfOk result (IsJudged (file_declares (text_lines names.old.text.now)) context.now text.now) }
     ensures within { IfOk result (IsJudgedWithin context.now) }
+    ensures known { AreKnown names.new }
+    ensures text { names.new.text.now ≡ names.old.text.now }
 {
     if !is_printed(text) {
         return Ok(Judged::Bad(Reason::Byte));
@@ -125,12 +139,13 @@ pub fn judge_text(
     if !is_short(text) {
         return Ok(Judged::Bad(Reason::Long));
     }
-    let words = words_of(alloc, text)?;
-    if is_skipped(&words) {
+    take_words(words, text)?;
+    let words = words.as_slice();
+    if is_skipped(words) {
         return Ok(Judged::Skipped);
     }
-    let Some(keyword) = keyword_of(word_at(&words, 0)) else {
+    let Some(keyword) = keyword_of(word_at(words, 0)) else {
         return Ok(Judged::Bad(Reason::Word));
     };
-    judge_words(alloc, declarations, context, instructions, keyword, &words)
+    judge_words(alloc, names, context, instructions, keyword, words)
 }

@@ -1,11 +1,11 @@
 //! Whether the lines of the whole file declare what a line names.
-ghost use Rattle.std.specs.Prelude.{◌≡◌, List, ◌||◌, codes, decimal};
+ghost use Rattle.std.specs.Prelude.{◌≡◌, IsTrue, List, ◌||◌, codes, decimal};
 ghost use Rattle.std.specs.List.{list_all};
 ghost use Rattle.std.specs.Str.{bytes_eq};
-ghost use Rattle.script_read.specs.Knows.{Knows};
+ghost use Rattle.script_read.specs.Knows.{Knows, names_something};
 ghost use Rattle.script_types.specs.Names.{Declared, is_declared, is_irq_declared, is_known, is_known_instr, is_known_op};
 
-use crate::known_names::{Declarations, has_name};
+use crate::declarations::{Declarations, has_name};
 use script_types::{Context, Instr, Op, SourceLine};
 use script_words::is_word;
 use sym_base::Name;
@@ -39,7 +39,7 @@ fn are_known_ops(declarations: &Declarations<'_>, body: &[Op]) -> bool
 /// Whether what an instruction names is declared, and its fast mutex is one of so many.
 fn is_known_instr(declarations: &Declarations<'_>, fast: u8, what: &Instr) -> bool
     ensures { (file : List Declared) →
-        Knows declarations.now file → result ≡ is_known_instr file fast what.now }
+        (IsTrue (names_something (SourceLine.Instr what.now)) → Knows declarations.now file) → result ≡ is_known_instr file fast what.now }
 {
     match what {
         Instr::Flock(number) | Instr::Funlock(number) => *number < fast,
@@ -68,10 +68,25 @@ fn is_known_irq(declarations: &Declarations<'_>, number: u8) -> bool
     declarations.irqs.contains(&number)
 }
 
+/// Whether a line names what another line declares.
+pub fn names_something(line: &SourceLine) -> bool
+    ensures { result ≡ names_something line.now }
+{
+    match line {
+        SourceLine::Dfc(..)
+        | SourceLine::Idfc(..)
+        | SourceLine::IrqBody(..)
+        | SourceLine::IrqSlot(_)
+        | SourceLine::Instr(Instr::Fssignal(_))
+        | SourceLine::Instr(Instr::Queue(_)) => true,
+        _ => false,
+    }
+}
+
 /// Whether what a line names is declared in the file.
 pub fn is_known(declarations: &Declarations<'_>, context: &Context, line: &SourceLine) -> bool
     ensures { (file : List Declared) →
-        Knows declarations.now file → result ≡ is_known file context.now line.now }
+        (IsTrue (names_something line.now) → Knows declarations.now file) → result ≡ is_known file context.now line.now }
 {
     match line {
         SourceLine::Dfc(_, queue, _, body) => {

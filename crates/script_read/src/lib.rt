@@ -3,25 +3,25 @@
 
 mod built;
 mod context;
+mod declarations;
 mod fault;
 mod first_words;
 mod judge;
-mod judgement;
 mod known;
-mod known_names;
+mod law;
 mod limits;
 mod order;
 #[cfg(test)]
 mod print_tests;
+mod progress;
 mod read;
-mod reading;
 mod reason;
 mod standing;
 #[cfg(test)]
 mod tests;
 
 pub use fault::RunFault;
-pub use judgement::accepted_or_bad;
+pub use law::accepted_or_bad;
 pub use read::{ReadScript, read_script};
 pub use reason::Reason;
 pub use script_print::print_script;

@@ -7,7 +7,7 @@ ghost use Rattle.script_types.specs.Source.{IsAccepted};
 ghost use Rattle.script_types.specs.declared.script.Script.{Script};
 
 use crate::Reason;
-use crate::reading::{Reading, read_text};
+use crate::progress::{Reading, read_text};
 use script_types::Script;
 use std::alloc::Global;
 

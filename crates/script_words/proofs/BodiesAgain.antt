@@ -1,10 +1,10 @@
 -- The words of bodies: those that have their forms and ranges are of the operations that they are, and those of
 -- operations in range are those operations.
-use Rattle.std.proofs.Common.{◌≡◌, ℕ, ℤ, ◌≤◌, Bool, true, false, List, [], ◌∷◌, ◌++◌, length, map, drop, zero, suc, refl, sym, subst, ap, ◌∙◌, arith, Option, Some, None}
+use Rattle.std.proofs.Common.{◌≡◌, ℕ, Bool, true, false, List, [], ◌∷◌, ◌++◌, length, map, refl, sym, subst, ap, ◌∙◌, arith, Option, Some, None}
 use Rattle.std.proofs.lemmas.Bool.{eqb-true}
 use Rattle.std.specs.Fmt.{signed_decimal}
 use Rattle.std.specs.List.{list_all}
-use Rattle.std.specs.Prelude.{◌==◌, ◌&&◌, ◌||◌, not, codes, decimal}
+use Rattle.std.specs.Prelude.{◌==◌, ◌&&◌, not, codes, decimal}
 use Rattle.std.specs.Str.{bytes_eq}
 use Rattle.script_words.specs.LineAt.{op_of, body_in}
 use Rattle.script_words.specs.LineSigns.{operations, are_words, is_op, body_passes}
@@ -20,7 +20,6 @@ use Rattle.script_types.specs.declared.declaration.Op.{Op}
 use Rattle.script_types.specs.declared.declaration.Op.TheVariants as op
 use Rattle.script_types.specs.declared.operand.BodyKind.{BodyKind}
 use Rattle.script_types.specs.declared.operand.BodyKind.TheVariants as body
-use Rattle.script_types.specs.declared.operand.Operand.{Operand}
 use Rattle.script_types.specs.declared.operand.Operand.TheVariants as operand
 
 -- the words of an operation

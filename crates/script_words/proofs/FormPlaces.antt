@@ -1,5 +1,5 @@
 -- The instruction and the line that words are, where their first word is known.
-use Rattle.std.proofs.Common.{◌≡◌, ℕ, Bool, true, false, List, refl, sym, subst, ap, ◌∙◌}
+use Rattle.std.proofs.Common.{◌≡◌, ℕ, Bool, true, false, List, sym, ap, ◌∙◌}
 use Rattle.script_words.specs.LineAt.{natural, values_at, body_at, instr_at, line_as}
 use Rattle.script_words.specs.LineSigns.{word_at}
 use Rattle.script_types.specs.Forms.{instr_operands, operands_of, instr_of, line_of}

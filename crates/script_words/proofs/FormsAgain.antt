@@ -6,14 +6,13 @@ use Rattle.std.proofs.lemmas.List.{append-nil}
 use Rattle.std.proofs.lemmas.Bool.{eqb-true, leb-true, le-leb}
 use Rattle.std.proofs.lemmas.Bool.Decides.{nat_tests}
 use Rattle.std.specs.List.{list_all}
-use Rattle.std.specs.Prelude.{◌==◌, ◌&&◌, nat_le, codes}
-use Rattle.std.specs.Str.{bytes_eq}
+use Rattle.std.specs.Prelude.{◌==◌, ◌&&◌, codes}
 use Rattle.script_words.specs.LineAt.{value_of, values_at, body_in, body_at, line_as, line_at}
 use Rattle.script_words.specs.LineSigns.{word_at, second_of, body_part, body_passes, is_counted_with, is_counted_as, is_counted, all_pass_as, have_forms, are_in_range}
 use Rattle.script_words.specs.Signs.{each_passes, has_form, is_in_range}
-use Rattle.script_words.proofs.BodiesAgain.{BodyTaken, body_taken, BodyAgain, body_again}
+use Rattle.script_words.proofs.BodiesAgain.{BodyTaken, body_taken, body_again}
 use Rattle.script_words.proofs.OperandsAgain.{is_small, taken, again}
-use Rattle.script_words.proofs.Steps.{both, by_test}
+use Rattle.script_words.proofs.Steps.{both}
 use Rattle.script_words.proofs.Tested.{next_word}
 use Rattle.script_types.specs.Context.{kind_of}
 use Rattle.script_types.specs.Forms.{instr_operands, operands_of, body_of, instr_of, line_of, form_of}

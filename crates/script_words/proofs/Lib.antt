@@ -13,4 +13,5 @@ pub mod SourceLines
 pub mod Splits
 pub mod Steps
 pub mod Tested
+pub mod WordFaults
 pub mod WordPlaces

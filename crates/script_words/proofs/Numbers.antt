@@ -1,5 +1,5 @@
 -- Digits, and the numbers that they spell.
-use Rattle.std.proofs.Common.{◌≡◌, ℕ, ◌+◌, ◌-◌, ◌^◌, ◌<◌, ◌≤◌, Bool, true, false, List, [], ◌∷◌, length, get_or, zero, suc, eqb, refl, sym, subst, ap, ◌∙◌, arith, Result, Ok, Err, Some}
+use Rattle.std.proofs.Common.{◌≡◌, ℕ, ◌+◌, ◌-◌, ◌^◌, ◌<◌, ◌≤◌, Bool, true, false, List, [], ◌∷◌, length, get_or, zero, suc, eqb, refl, sym, subst, ap, ◌∙◌, arith, Result, Ok, Err, Option, Some, None}
 use Rattle.std.proofs.lemmas.Bool.{ltb-true, lt-ltb, leb-true, le-leb}
 use Rattle.std.proofs.lemmas.Bool.Decides.{nat_tests}
 use Rattle.std.proofs.lemmas.Fmt.{IsAscii-from_digits, decimal-digits_value, digits_decimal, digits_value-decimal, decimal_nonempty, first_decimal, decimal_digit}
@@ -7,7 +7,7 @@ use Rattle.std.proofs.lemmas.Str.{IsUtf8-from_ascii, digit_value_digit}
 use Rattle.std.proofs.lemmas.Str.Parse.{IsNumeralModel, numerals_by_value, tells_all_ascii_digits, parse_digits}
 use Rattle.std.specs.Char.{is_ascii_digit, digit_value}
 use Rattle.std.specs.List.{list_all}
-use Rattle.std.specs.Prelude.{IsTrue, ◌&&◌, ◌||◌, ◌==◌, not, nat_lt, nat_le, slice_index, decimal}
+use Rattle.std.specs.Prelude.{IsTrue, if◌then◌else◌, ◌&&◌, ◌||◌, ◌==◌, not, nat_lt, nat_le, slice_index, decimal}
 use Rattle.std.specs.Str.{IsUtf8, all_ascii_digits}
 use Rattle.std.specs.Option.{SomeIff}
 use Rattle.std.specs.Result.{result_ok}
@@ -85,3 +85,15 @@ one_digit d h =
     let high : d ≤ 57 = leb-true d 57 range.1 in
     let value : digit_value d + 48 ≡ d = digit_value_digit d (low, high) in
     (low, high, (omega arith))
+
+-- one digit, and another byte
+pub digit_right : (max d : ℕ) (found : Option ℕ) → IsTrue (is_ascii_digit d) → found ≡ (if nat_le (d - 48) max then Some (d - 48) else None) → found ≡ number_of max (d ∷ [])
+unfolding number_of
+digit_right max d found digit is =
+    let one = one_digit d (rw digit refl) in
+    let value = one.2 in
+    rw (digit, value) is
+
+pub digit_wrong : (max d : ℕ) → is_ascii_digit d ≡ false → None ≡ number_of max (d ∷ [])
+unfolding number_of
+digit_wrong max d digit = rw digit refl

@@ -1,6 +1,6 @@
 -- Each kind of operand: a word that has its form and its range is the word of an operand in range, and the word of
 -- an operand in range has the form and the range, and is that operand.
-use Rattle.std.proofs.Common.{◌≡◌, ℕ, ℤ, pos, negsuc, zero, suc, ◌<◌, ◌≤◌, ◌^◌, Bool, true, false, List, [], ◌∷◌, ◌++◌, append_assoc, length, drop, refl, sym, subst, ap, ◌∙◌, arith, Some}
+use Rattle.std.proofs.Common.{◌≡◌, ℕ, ℤ, pos, negsuc, zero, suc, ◌<◌, ◌≤◌, ◌^◌, Bool, true, false, List, [], ◌∷◌, ◌++◌, append_assoc, length, refl, sym, subst, ap, ◌∙◌, arith}
 use Rattle.std.proofs.lemmas.Bool.{leb-true, le-leb, ltb-true}
 use Rattle.std.proofs.lemmas.Bool.Decides.{nat_tests}
 use Rattle.std.proofs.lemmas.Fmt.{decimal_digit}
@@ -9,15 +9,13 @@ use Rattle.std.specs.Fmt.{signed_decimal}
 use Rattle.std.specs.List.{list_all}
 use Rattle.std.specs.Prelude.{◌==◌, ◌&&◌, ◌||◌, not, nat_le, nat_lt, int_le, neg_ℤ, codes, decimal}
 use Rattle.std.specs.Str.{bytes_eq}
-use Rattle.std.specs.Str.Parse.{digits_value}
 use Rattle.script_words.specs.Fields.{is_number}
-use Rattle.script_words.specs.LineAt.{natural, kind_named, slots_named, arg_of, value_of}
+use Rattle.script_words.specs.LineAt.{natural, kind_named, arg_of, value_of}
 use Rattle.script_words.specs.Signs.{is_signed, signed_value, is_natural, is_between, is_number_word, is_size_word, are_arg_parts, colon_parts, has_form, is_in_range}
 use Rattle.script_words.proofs.Fields.{natural_takes, natural_again, natural_is_number, number_is_signed, no_sign, lettered_takes, lettered_again}
 use Rattle.script_words.proofs.Splits.{joined, is_clear, split_clear, split_before, split_joined}
 use Rattle.script_words.proofs.Steps.{both, by_test, same_bytes}
-use Rattle.script_types.specs.Operands.{Value, is_opened, is_slots, is_arg, is_size, is_value, kind_word, slots_word, arg_word, value_word}
-use Rattle.script_types.specs.SourceText.{split}
+use Rattle.script_types.specs.Operands.{Value, is_opened, is_slots, is_arg, is_size, is_value, kind_word, arg_word, value_word}
 use Rattle.script_types.specs.declared.operand.Operand.{Operand}
 use Rattle.script_types.specs.declared.operand.Operand.TheVariants as operand
 use Rattle.sym_base.specs.declared.kind.Arg.{Arg}

@@ -1,7 +1,7 @@
 -- Parts of a list between the items that pass a test, joined and split again.
 use Rattle.std.proofs.Common.{◌≡◌, Bool, true, false, List, [], ◌∷◌, ◌++◌, refl, sym, ap, ◌∙◌}
 use Rattle.std.specs.List.{list_all}
-use Rattle.std.specs.Prelude.{◌&&◌, not}
+use Rattle.std.specs.Prelude.{not}
 use Rattle.script_words.proofs.Steps.{both, by_test}
 use Rattle.script_types.specs.SourceText.{split, in_first}
 

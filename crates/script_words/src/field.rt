@@ -1,5 +1,5 @@
 //! The parts of a line: words, numbers and names.
-ghost use Rattle.std.specs.Prelude.{◌≡◌, ◌^◌, IsTrue, ◌≢◌, ◌==◌, All, IfNone, ◌<◌, ◌≤◌, length, position, option_map, IfSome};
+ghost use Rattle.std.specs.Prelude.{◌≡◌, [], ◌∷◌, ◌^◌, IsTrue, ◌≢◌, ◌==◌, All, IfNone, ◌<◌, ◌≤◌, length, position, option_map, IfSome};
 ghost use Rattle.std.specs.List.{list_all};
 ghost use Rattle.std.specs.Option.{SomeIff};
 ghost use Rattle.std.specs.Str.{bytes_eq};
@@ -7,6 +7,8 @@ ghost use Rattle.std.specs.Str.Parse.{digits_value};
 ghost use Rattle.std.specs.Char.{is_ascii_digit};
 ghost use Rattle.script_words.specs.Fields.{cut_of, is_number, number_of};
 ghost use Rattle.script_types.specs.ObjectName.{is_lower_case, is_object_byte, is_object_name};
+
+use memchr::memchr;
 
 /// The place of the first such byte.
 fn place_of(bytes: &[u8], at: u8) -> Option<usize>
@@ -27,11 +29,37 @@ pub fn cut(bytes: &[u8], at: u8) -> Option<(&[u8], &[u8])>
     Some((&bytes[..place], &bytes[place + 1..]))
 }
 
+/// The same, where the first `at` may stand far behind.
+pub fn cut_far(bytes: &[u8], at: u8) -> Option<(&[u8], &[u8])>
+    ensures parts { option_map (λ parts. (parts.0.now, parts.1.now)) result ≡ cut_of at bytes.now }
+    ensures shorter { IfSome result (λ parts. length parts.1.now < length bytes.now) }
+{
+    match memchr(at, bytes) {
+        Some(place) => Some((&bytes[..place], &bytes[place + 1..])),
+        None => None,
+    }
+}
+
+/// Whether two words have the same bytes. Most words are short, and differ in their lengths or in the first bytes.
+pub fn are_same(one: &[u8], other: &[u8]) -> bool
+    ensures { result ≡ bytes_eq one.now other.now }
+{
+    if one.len() != other.len() {
+        return false;
+    }
+    for i in 0..one.len() {
+        if one[i] != other[i] {
+            return false;
+        }
+    }
+    true
+}
+
 /// Whether the bytes are this word.
 pub fn is_word(bytes: &[u8], word: &str) -> bool
     ensures { result ≡ bytes_eq bytes.now word.now }
 {
-    bytes == word.as_bytes()
+    are_same(bytes, word.as_bytes())
 }
 
 /// Whether each byte of a word is a digit.
@@ -66,30 +94,42 @@ fn parsed_number(digits: &[u8]) -> Option<u32>
     digits_text(digits).parse().ok()
 }
 
-/// The number that digits spell. Most numbers of a script have one digit.
-#[tactic(auto, using(crate::proofs::Numbers::one_digit))]
-fn digits_number(digits: &[u8]) -> Option<u32>
-    requires digits { IsTrue (list_all is_ascii_digit digits.now) }
-    requires some { 0 < length digits.now }
-    ensures { SomeIff result (digits_value 10 digits.now < 2 ^ 32) (digits_value 10 digits.now) }
+/// The number that one digit spells. None where it is none, or greater than `max`.
+#[tactic(auto, using(crate::proofs::Numbers::digit_right, crate::proofs::Numbers::digit_wrong))]
+fn read_digit(digit: u8, max: u32) -> Option<u32>
+    ensures value { result ≡ number_of max (digit ∷ []) }
+    ensures small { IfSome result (λ number. number ≤ max) }
 {
-    match digits {
-        [digit] => Some(u32::from(*digit - b'0')),
-        _ => parsed_number(digits),
+    if !digit.is_ascii_digit() {
+        return None;
     }
+    let number = u32::from(digit - b'0');
+    (number <= max).then_some(number)
 }
 
-/// The number that a word spells. None where it spells none, or one greater than `max`.
+/// The number that some digits spell. None where they spell none, or one greater than `max`.
 #[tactic(auto, unfolding(crate::specs::Fields::number_of))]
-pub fn read_natural(word: &[u8], max: u32) -> Option<u32>
+fn read_digits(word: &[u8], max: u32) -> Option<u32>
     ensures value { result ≡ number_of max word.now }
     ensures small { IfSome result (λ number. number ≤ max) }
 {
     if !is_number(word) {
         return None;
     }
-    let number = digits_number(word)?;
+    let number = parsed_number(word)?;
     (number <= max).then_some(number)
+}
+
+/// The number that a word spells. None where it spells none, or one greater than `max`. Most numbers of a script
+/// have one digit.
+pub fn read_natural(word: &[u8], max: u32) -> Option<u32>
+    ensures value { result ≡ number_of max word.now }
+    ensures small { IfSome result (λ number. number ≤ max) }
+{
+    match word {
+        [digit] => read_digit(*digit, max),
+        _ => read_digits(word, max),
+    }
 }
 
 /// Whether a byte is a lower-case letter.

@@ -7,9 +7,10 @@ ghost use Rattle.script_words.specs.Operands.{AreOf};
 ghost use Rattle.script_words.specs.Pieces.{pieces};
 ghost use Rattle.script_words.specs.Signs.{lettered_value};
 
+use crate::line_signs::word_at;
 use crate::operand::{
-    argument_at, code_at, item_at, kind_at, name_at, number_at, register_at, size_at, slots_at,
-    small_at,
+    argument_at, code_at, item_at, kind_named, name_at, number_at, register_at, size_at,
+    slots_named, small_at,
 };
 use script_types::{Args, Instr};
 use sym_base::Word;
@@ -101,7 +102,11 @@ pub fn instruction_at(word: Word, second: bool, words: &[&[u8]]) -> Instr
 {
     match word {
         Word::Create => created(words, second),
-        Word::Open => Instr::Open(kind_at(words, 1), name_at(words, 2), register_at(words, 3)),
+        Word::Open => Instr::Open(
+            kind_named(word_at(words, 1)),
+            name_at(words, 2),
+            register_at(words, 3),
+        ),
         Word::Dup => Instr::Dup(register_at(words, 1), register_at(words, 2)),
         Word::Duplocal => Instr::DupLocal(register_at(words, 1), register_at(words, 2)),
         Word::Close => Instr::Close(register_at(words, 1)),
@@ -132,7 +137,11 @@ pub fn instruction_at(word: Word, second: bool, words: &[&[u8]]) -> Instr
         Word::Status => Instr::Status(item_at(words, 1)),
         Word::Server => Instr::Server(name_at(words, 1), register_at(words, 2)),
         Word::Connect => {
-            Instr::Connect(name_at(words, 1), slots_at(words, 2), register_at(words, 3))
+            Instr::Connect(
+                name_at(words, 1),
+                slots_named(word_at(words, 2)),
+                register_at(words, 3),
+            )
         }
         Word::Send => sent(words, second),
         Word::Call => called(words, second),

@@ -4,6 +4,7 @@ ghost use Rattle.std.specs.List.{find};
 ghost use Rattle.std.specs.Str.{bytes_eq};
 ghost use Rattle.script_types.specs.Keywords.{keyword_text, keywords, keyword_of, keyword_kind};
 
+use crate::field::are_same;
 use script_types::{Keyword, LineKind};
 use sym_base::Word;
 
@@ -72,7 +73,7 @@ fn keyword_among(word: &[u8], among: &[Keyword]) -> Option<Keyword>
 {
     for i in 0..among.len() {
         let keyword = among[i];
-        if word == keyword.text() {
+        if are_same(word, keyword.text()) {
             return Some(keyword);
         }
     }

@@ -3,6 +3,7 @@
 
 mod argument;
 mod body;
+mod fault;
 mod field;
 mod instruction_at;
 mod keyword;
@@ -14,10 +15,11 @@ mod sign;
 mod source;
 mod source_line;
 
+pub use fault::Fault;
 pub use field::{cut, is_word, read_natural};
 pub use keyword::{keyword_kind, keyword_of};
-pub use line_form::{have_line_forms, is_line_in_range};
+pub use line_form::line_fault;
 pub use line_signs::{is_counted, second_of, word_at};
 pub use script_types::Keyword;
-pub use source::{first_line, is_printed, is_short, is_skipped, words_of};
+pub use source::{first_line, is_printed, is_short, is_skipped, take_words};
 pub use source_line::line_as;

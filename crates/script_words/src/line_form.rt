@@ -2,11 +2,13 @@
 ghost use Rattle.std.specs.List.{list_all};
 ghost use Rattle.std.specs.Prelude.{◌≡◌, drop, option_map, codes};
 ghost use Rattle.std.specs.Str.{bytes_eq};
-ghost use Rattle.script_words.specs.LineSigns.{op_signs, are_words, is_op, operations, body_passes, all_pass_as};
+ghost use Rattle.script_words.specs.Faults.{fault_by, fault_with, is_of_form};
+ghost use Rattle.script_words.specs.LineSigns.{op_signs, are_words, is_op, operations, all_pass_as};
 ghost use Rattle.script_words.specs.Pieces.{pieces};
 ghost use Rattle.script_words.specs.Signs.{each_passes, has_form, is_in_range};
 ghost use Rattle.script_words.specs.Tests.{passes};
 
+use crate::fault::{Fault, word_fault};
 use crate::field::is_word;
 use crate::line_signs::{DEVICE, body_of, operands_of};
 use crate::sign::{has_form, is_in_range};
@@ -129,38 +131,63 @@ fn are_operations(test: Test, kind: BodyKind, words: &[&[u8]]) -> bool
         .all(|operation| is_operation(test, kind, operation))
 }
 
-/// Whether the body behind so many operands passes the test, where the line has one.
-fn body_passes(test: Test, kind: Option<BodyKind>, words: &[&[u8]]) -> bool
-    ensures { result ≡ body_passes (passes test) kind (pieces words.now) }
+/// Whether a fault is one of form.
+fn is_of_form(fault: Option<Fault>) -> bool
+    ensures { result ≡ is_of_form fault }
 {
-    match kind {
-        None => true,
-        Some(kind) => are_operations(test, kind, words),
+    match fault {
+        Some(Fault::Form) => true,
+        _ => false,
     }
 }
 
-/// Whether each word behind the first passes the test.
-fn all_pass(test: Test, keyword: Keyword, second: bool, words: &[&[u8]]) -> bool
-    ensures { result ≡ all_pass_as (passes test) keyword second (pieces words.now) }
+/// What is wrong with words: a form first.
+fn words_fault(operands: &[Operand], words: &[&[u8]]) -> Option<Fault>
+    ensures { result ≡ fault_by (each_passes has_form operands.now (pieces words.now)) (each_passes is_in_range operands.now (pieces words.now)) }
+{
+    let mut are_in_range = true;
+    for i in 0..operands.len() {
+        if i >= words.len() {
+            return Some(Fault::Form);
+        }
+        let fault = word_fault(operands[i], words[i]);
+        if is_of_form(fault) {
+            return Some(Fault::Form);
+        }
+        are_in_range &= fault.is_none();
+    }
+    if are_in_range {
+        None
+    } else {
+        Some(Fault::Range)
+    }
+}
+
+/// What is wrong with words and a body behind them.
+fn fault_with(fault: Option<Fault>, form: bool, range: bool) -> Option<Fault>
+    ensures { result ≡ fault_with fault form range }
+{
+    match fault {
+        Some(Fault::Form) => Some(Fault::Form),
+        _ if !form => Some(Fault::Form),
+        None if range => None,
+        _ => Some(Fault::Range),
+    }
+}
+
+/// What is wrong with the words of a line: a form first, of an operand or in the body.
+#[tactic(auto, using(crate::proofs::WordFaults::line_without, crate::proofs::WordFaults::line_with))]
+pub fn line_fault(keyword: Keyword, second: bool, words: &[&[u8]]) -> Option<Fault>
+    ensures { result ≡ fault_by (all_pass_as has_form keyword second (pieces words.now)) (all_pass_as is_in_range keyword second (pieces words.now)) }
 {
     let operands = operands_of(keyword, second);
-    if !each_passes(test, operands, words_behind(words, 1)) {
-        return false;
+    let fault = words_fault(operands, words_behind(words, 1));
+    match body_of(keyword, second) {
+        None => fault,
+        Some(kind) => {
+            let body = words_behind(words, operands.len() + 1);
+            let form = are_operations(Test::Form, kind, body);
+            fault_with(fault, form, are_operations(Test::Range, kind, body))
+        }
     }
-    let body = words_behind(words, operands.len() + 1);
-    body_passes(test, body_of(keyword, second), body)
-}
-
-/// Whether each word of a line has its form.
-pub fn have_line_forms(keyword: Keyword, second: bool, words: &[&[u8]]) -> bool
-    ensures { result ≡ all_pass_as has_form keyword second (pieces words.now) }
-{
-    all_pass(Test::Form, keyword, second, words)
-}
-
-/// Whether each number of a line is in its range.
-pub fn is_line_in_range(keyword: Keyword, second: bool, words: &[&[u8]]) -> bool
-    ensures { result ≡ all_pass_as is_in_range keyword second (pieces words.now) }
-{
-    all_pass(Test::Range, keyword, second, words)
 }

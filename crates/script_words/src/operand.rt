@@ -50,7 +50,7 @@ fn signed(word: &[u8]) -> i32
 }
 
 /// The kind of object that a word names.
-fn kind_named(word: &[u8]) -> Kind
+pub fn kind_named(word: &[u8]) -> Kind
     ensures { result ≡ kind_named word.now }
 {
     if is_word(word, "process") {
@@ -65,7 +65,7 @@ fn kind_named(word: &[u8]) -> Kind
 }
 
 /// The slots of a session that a word names.
-fn slots_named(word: &[u8]) -> Slots
+pub fn slots_named(word: &[u8]) -> Slots
     requires { IsSlots word.now }
     ensures { result ≡ slots_named word.now }
 {
@@ -157,21 +157,6 @@ pub fn name_at(words: &[&[u8]], at: usize) -> Name
     ensures { result ≡ word_at (pieces words.now) at }
 {
     read_name(word_at(words, at)).unwrap()
-}
-
-/// The kind of object at a place.
-pub fn kind_at(words: &[&[u8]], at: usize) -> Kind
-    ensures { result ≡ kind_named (word_at (pieces words.now) at) }
-{
-    kind_named(word_at(words, at))
-}
-
-/// The slots of a session at a place.
-pub fn slots_at(words: &[&[u8]], at: usize) -> Slots
-    requires { IsSlots (word_at (pieces words.now) at) }
-    ensures { result ≡ slots_named (word_at (pieces words.now) at) }
-{
-    slots_named(word_at(words, at))
 }
 
 /// The argument of a message at a place.

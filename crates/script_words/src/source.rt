@@ -1,11 +1,10 @@
 //! A text as lines, and a line as words.
-ghost use Rattle.std.specs.Prelude.{◌≡◌, ◌<◌, ◌++◌, ◌∷◌, length, IfOk, OnOk};
+ghost use Rattle.std.specs.Prelude.{◌≡◌, ◌<◌, ◌++◌, ◌∷◌, ◌&&◌, nat_le, length, OnOk};
 ghost use Rattle.script_words.specs.Pieces.{pieces, one_word};
 ghost use Rattle.script_types.specs.SourceText.{text_lines, words_of, is_skipped, is_printed, is_short};
 
-use crate::field::cut;
+use crate::field::{cut, cut_far};
 use script_types::Limits;
-use std::alloc::Global;
 use sym_base::NoMemory;
 
 /// The byte between two words, and the one that ends a line.
@@ -19,7 +18,7 @@ pub fn first_line(text: &[u8]) -> (&[u8], &[u8])
     ensures lines { text_lines text.now ≡ result.0.now ∷ text_lines result.1.now }
     ensures shorter { length result.1.now < length text.now }
 {
-    match cut(text, LINE_FEED) {
+    match cut_far(text, LINE_FEED) {
         Some((line, rest)) => (line, rest),
         None => (text, &text[..0]),
     }
@@ -35,18 +34,18 @@ fn push_word<'a>(words: &mut Vec<&'a [u8]>, word: &'a [u8]) -> Result<(), NoMemo
     Ok(())
 }
 
-/// The words of a line.
-pub fn words_of(alloc: Global, line: &[u8]) -> Result<Vec<&[u8]>, NoMemory>
-    ensures { IfOk result (λ words. pieces words.items ≡ words_of line.now) }
+/// Puts the words of a line in place of those of another.
+pub fn take_words<'a>(words: &mut Vec<&'a [u8]>, line: &'a [u8]) -> Result<(), NoMemory>
+    ensures { OnOk result (pieces words.new.items ≡ words_of line.now) }
 {
-    let mut words = Vec::new(alloc);
+    words.clear();
     let mut rest = line;
     while let Some((word, after)) = cut(rest, SPACE) {
-        push_word(&mut words, word)?;
+        push_word(words, word)?;
         rest = after;
     }
-    push_word(&mut words, rest)?;
-    Ok(words)
+    push_word(words, rest)?;
+    Ok(())
 }
 
 /// Whether a line of these words is skipped: it has none, or the first begins with `#`.
@@ -62,11 +61,22 @@ pub fn is_skipped(words: &[&[u8]]) -> bool
     }
 }
 
-/// Whether each byte of a line may stand in it.
+/// Whether a byte may stand in a line.
+fn is_printed_byte(byte: u8) -> bool
+    ensures { result ≡ (nat_le 32 byte && nat_le byte 126) }
+{
+    32 <= byte && byte <= 126
+}
+
+/// Whether each byte of a line may stand in it. Every byte is looked at, so that many are at a time.
 pub fn is_printed(line: &[u8]) -> bool
     ensures { result ≡ is_printed line.now }
 {
-    line.iter().all(|byte| 32 <= *byte && *byte <= 126)
+    let mut printed = true;
+    for byte in line {
+        printed &= is_printed_byte(*byte);
+    }
+    printed
 }
 
 /// Whether a line isn't too long.

@@ -1,6 +1,7 @@
 //! The line that words are, once their forms and ranges are tested.
-ghost use Rattle.std.specs.Prelude.{◌≡◌, IsTrue, IfOk};
+ghost use Rattle.std.specs.Prelude.{◌≡◌, None, IfOk};
 ghost use Rattle.script_types.specs.Forms.{operands_of};
+ghost use Rattle.script_words.specs.Faults.{fault_by};
 ghost use Rattle.script_words.specs.LineAt.{line_as};
 ghost use Rattle.script_words.specs.LineSigns.{all_pass_as};
 ghost use Rattle.script_words.specs.Operands.{AreOf, IsTestedAs};
@@ -97,15 +98,14 @@ fn tested_line(
     }
 }
 
-/// The line of a first word's form that words are, where their forms and ranges are right.
+/// The line of a first word's form that words are, where nothing is wrong with them.
 pub fn line_as(
     alloc: Global,
     keyword: Keyword,
     second: bool,
     words: &[&[u8]],
 ) -> Result<SourceLine, NoMemory>
-    requires forms { IsTrue (all_pass_as has_form keyword second (pieces words.now)) }
-    requires ranges { IsTrue (all_pass_as is_in_range keyword second (pieces words.now)) }
+    requires { fault_by (all_pass_as has_form keyword second (pieces words.now)) (all_pass_as is_in_range keyword second (pieces words.now)) ≡ None }
     ensures { IfOk result (λ line. line ≡ line_as keyword second (pieces words.now)) }
 {
     tested_line(alloc, keyword, second, words)

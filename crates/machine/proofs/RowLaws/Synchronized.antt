@@ -44,7 +44,7 @@ synchronized-unheld script threads t change r none h = synchronized-threads scri
     }) h
 
 -- a holder in other rows that say the same of what it wants
-pub holder-rows : {threads : List (Option ThreadRow)} {r new : NanoRows} {u : ObjNo} → want_of new u ≡ want_of r u → IsHolder threads r u → IsHolder threads new u
+holder-rows : {threads : List (Option ThreadRow)} {r new : NanoRows} {u : ObjNo} → want_of new u ≡ want_of r u → IsHolder threads r u → IsHolder threads new u
 holder-rows same held = record { row = held.row; is = held.is; waits = held.waits; wants = same ∙ held.wants }
 
 -- other counts of as many threads

@@ -1,4 +1,4 @@
-use Rattle.std.proofs.Common.{◌≡◌, ◌+◌, ◌++◌, length, drop, true}
+use Rattle.std.proofs.Common.{◌≡◌, ◌+◌, ◌++◌, length, drop}
 use Rattle.machine.specs.History.{after}
 use Rattle.machine.specs.Run.{run, run_from}
 use Rattle.eka2_app.proofs.run.make_history.Given as goal
@@ -8,7 +8,6 @@ abbrev pub invariant-loop-slot : goal.invariant-loop-slot
 invariant-loop-slot l = record {
   script : l.kernel.script ≡ l.fn.script;
   room : l.kernel.room ≡ length l.fn.script.slots;
-  usable : l.kernel.usable ≡ true;
   count : length l.kernel.history ≡ l.slot-index;
   rest : l.kernel.history ++ run_from l.fn.script (after l.fn.script l.kernel.history) (length l.kernel.history + 1) (drop l.slot-index l.fn.script.slots) ≡ run l.fn.script;
 }

@@ -1,5 +1,4 @@
 use Rattle.std.proofs.Common.{subst, sym}
-use Rattle.std.specs.Prelude.{IfOk}
 use Rattle.entry_log.specs.declared.entry.Actor.{Actor}
 use Rattle.machine.specs.History.{transition}
 use Rattle.kcore.specs.Performed.{Does}
@@ -7,7 +6,7 @@ use Rattle.kcore.proofs.ActionsDone.{tick_does}
 use Rattle.kcore.proofs.act.transition.Goals as goal
 
 pub returns-in-Thread : goal.returns-in-Thread
-returns-in-Thread g c = subst (λ (a : Actor). IfOk c.act.result (λ outcome. Does c.args.script.now c.args.tables.now c.args.ready.now c.act.new.tables c.act.new.ready outcome (λ S. transition c.args.script.now S a))) (sym c.in-Thread.is) c.act.ensures
+returns-in-Thread g c = subst (λ (a : Actor). Does c.args.script.now c.args.tables.now c.args.ready.now c.act.new.tables c.act.new.ready c.act.result (λ S. transition c.args.script.now S a)) (sym c.in-Thread.is) c.act.ensures
 
 pub returns-in-Tick : goal.returns-in-Tick
-returns-in-Tick g c = subst (λ (a : Actor). Does c.args.script.now c.args.tables.now c.args.ready.now c.args.tables.now c.tick.new.ready c.tick.result (λ S. transition c.args.script.now S a)) (sym c.in-Tick.is) (tick_does c.args.script.now c.args.tables.now c.args.ready.now c.tick.new.ready c.tick.result c.requires.agree c.tick.ensures.queues c.tick.ensures.told)
+returns-in-Tick g c = subst (λ (a : Actor). Does c.args.script.now c.args.tables.now c.args.ready.now c.args.tables.now c.tick.new.ready c.tick.result (λ S. transition c.args.script.now S a)) (sym c.in-Tick.is) (tick_does c.args.script.now c.args.tables.now c.args.ready.now c.tick.new.ready c.tick.result c.requires.kept c.tick.ensures.queues c.tick.ensures.told)

@@ -1,4 +1,4 @@
-use Rattle.std.proofs.Common.{◌≡◌, ◌<◌, ◌∙◌, List, sym, ap, subst, length, arith, true, map, replicate}
+use Rattle.std.proofs.Common.{◌≡◌, ◌<◌, ◌∙◌, List, sym, ap, subst, length, arith, true, map, replicate, refl, ℕ, [], None}
 use Rattle.sym_base.specs.declared.limits.TheConstants.Limits.{BOOT_OBJECTS, HANDLES}
 use Rattle.sym_base.specs.declared.number.ObjNo.{ObjNo}
 use Rattle.script_types.proofs.ShapeLaws.{valid_is_shaped}
@@ -11,13 +11,15 @@ use Rattle.machine.specs.Choice.{priority_of}
 use Rattle.machine.specs.Handles.{fresh_slot}
 use Rattle.machine.specs.References.{count_of}
 use Rattle.machine.specs.WellFormed.{AreApart}
-use Rattle.machine.proofs.AtBoot.Born.{born_few}
+use Rattle.machine.specs.Moves.{use_of_row}
+use Rattle.machine.proofs.AtBoot.Born.{born_few, each_born}
 use Rattle.machine.proofs.AtBoot.BootRows.{rows-boot, well_formed-boot}
 use Rattle.machine.proofs.Numbers.CountSmall.{count_small}
 use Rattle.kcore.specs.BootTable.{AreNew, FirstStand}
 use Rattle.kcore.specs.Counts.{Agrees}
 use Rattle.kcore.proofs.BootReady.{listed_known, listed_ranged}
 use Rattle.kcore.proofs.BootTables.{new_at_boot, agrees_at_boot}
+use Rattle.kcore.proofs.BootUses.{none_used}
 use Rattle.kcore.proofs.boot.boot.Goals as goal
 
 pub all_born-requires : goal.all_born-requires
@@ -60,9 +62,9 @@ queues_of-requires-clause-ranged g c =
     let is : c.in_ok-state.state ≡ boot script = c.in_ok-state.ensures ∙ ap boot_of (c.as_slice-2.ensures ∙ c.in_ok-all.ensures) in
     subst (λ (S : State). (t : ObjNo) → is_listed S.ready t ≡ true → priority_of S t < 64) (sym is) (listed_ranged script (boot script) (well_formed-boot script c.requires.valid))
 
-pub returns-clause-agree : goal.returns-clause-agree
+pub returns-clause-kept : goal.returns-clause-kept
 unfolding boot_of
-returns-clause-agree g c =
+returns-clause-kept g c =
     let script = c.args.script.now in
     let is : c.in_ok-state.state ≡ boot script = c.in_ok-state.ensures ∙ ap boot_of (c.as_slice-2.ensures ∙ c.in_ok-all.ensures) in
     let all : c.as_slice-3.result.now ≡ born script = c.as_slice-3.ensures ∙ c.in_ok-all.ensures in
@@ -70,4 +72,10 @@ returns-clause-agree g c =
     let objects = c.in_ok-objects.objects in
     let agree : Agrees objects.counts (boot script) = agrees_at_boot script c.requires.valid bs objects.rows objects.counts all (subst (λ (S : State). FirstStand bs S objects.rows objects.counts (length bs)) is c.in_ok-objects.ensures) in
     let handles : c.in_ok-handles.handles ≡ (boot script).handles = c.in_ok-handles.ensures ∙ ap (map (λ (_ : Born). replicate HANDLES fresh_slot)) (c.as_slice.ensures ∙ c.in_ok-all.ensures) in
-    λ o. agree o ∙ sym (ap (λ (S : State). count_of (record S { handles = c.in_ok-handles.handles }) o) is ∙ ap (λ (hs : List (List HandleSlot)). count_of (record (boot script) { handles = hs }) o) handles)
+    let owed : c.in_ok-cleanup.cleanup.duties ≡ (boot script).owed = c.in_ok-cleanup.ensures.owed ∙ ap (map (λ (_ : Born). [])) (c.as_slice-4.ensures ∙ c.in_ok-all.ensures) in
+    let long : length c.as_slice-4.result.now ≡ length (born script) = ap length (c.as_slice-4.ensures ∙ c.in_ok-all.ensures) in
+    let same : (S : State) → S ≡ boot script → record S { handles = c.in_ok-handles.handles; ready = []; owed = c.in_ok-cleanup.cleanup.duties } ≡ record (boot script) { ready = [] } = λ S e. rw (e, handles, owed) refl in
+    record {
+      counts = λ o. agree o ∙ sym (ap (λ (S : State). count_of S o) (same c.in_ok-state.state is));
+      uses = c.in_ok-cleanup.ensures.uses ∙ (ap (λ (n : ℕ). replicate n None) long ∙ (none_used script (length (born script)) (born script) (each_born script (valid_is_shaped script c.requires.valid)) ∙ sym (ap (λ (S : State). map use_of_row S.threads) is)));
+    }

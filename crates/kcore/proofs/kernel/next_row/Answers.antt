@@ -11,4 +11,4 @@ returns-in-Some g c =
     let n = c.loop-number.number in
     let row = c.in-Some.row in
     let left = rows_from_left S n row (slice_get_row c.args.tables.now.objects.rows n row (sym c.in-Some.ensures)) in
-    sym c.loop-number.invariant ∙ left ∙ ap (λ (k : ℕ). record { object = record { 0 = n }; kind = row.kind; name = row.name; count = k; exit = None } ∷ rows_from S (n + 1)) (sym (c.count.ensures ∙ c.requires (record { 0 = n })))
+    sym c.loop-number.invariant ∙ left ∙ ap (λ (k : ℕ). record { object = record { 0 = n }; kind = row.kind; name = row.name; count = k; exit = None } ∷ rows_from S (n + 1)) (sym (c.count.ensures ∙ c.requires.counts (record { 0 = n })))

@@ -30,4 +30,4 @@ loop-change-preserved g c =
     let h = rw next at c.loop-change.invariant in
     let T = state_of c.make_move.new.tables in
     let follow = rw c.touched.ensures at c.arrive_touched.ensures.queues in
-    rw (c.add_effects.ensures, c.as_slice.ensures.effects, c.told.ensures) (way_goes_on c.args.script.now c.args.thread c.args.moves.now (state_of c.args.tables.now) c.args.ready.now m rest c.loop-change.tables c.make_move.new.tables c.loop-change.ready c.arrive_touched.new.ready c.loop-change.effects h c.in_ok-make_move.ensures follow c.arrive_touched.ensures.size)
+    rw (c.add_effects.ensures, c.as_slice.ensures.effects, c.told.ensures) (way_goes_on c.args.script.now c.args.thread c.args.moves.now (state_of c.args.tables.now) c.args.ready.now m rest c.loop-change.tables c.make_move.new.tables c.loop-change.ready c.take_out.new.ready c.arrive_touched.new.ready c.loop-change.effects h c.make_move.ensures c.take_out.ensures.queues follow c.arrive_touched.ensures.size)

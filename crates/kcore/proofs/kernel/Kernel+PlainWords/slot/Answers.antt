@@ -1,21 +1,22 @@
-use Rattle.std.proofs.Common.{◌≡◌, ap, ◌∙◌, true}
+use Rattle.std.proofs.Common.{◌≡◌, ◌∙◌, ap}
 use Rattle.machine.specs.History.{after}
 use Rattle.machine.specs.Run.{slot_actor}
-use Rattle.kcore.specs.KernelView.{KernelView}
-use Rattle.kcore.proofs.Goes.{slot_goes, queues_stand}
+use Rattle.machine.specs.declared.state.State.{State}
+use Rattle.kcore.proofs.Goes.{slot_goes}
 use Rattle.kcore.proofs.kernel.Kernel+PlainWords.slot.Goals as goal
 
 pub go-requires-clause-can : goal.go-requires-clause-can
 go-requires-clause-can c =
     let k = c.self.inside in
-    let usable : k.usable ≡ true = ap (λ (v : KernelView). v.usable) c.self.view_is ∙ c.requires.usable in
-    let h = c.self.invariant.stands usable in
-    rw (← c.self.view_is) (slot_goes k.script k.history.items k.tables k.ready c.args.slot c.slot_actor-actor.result (rw (← c.self.view_is) at c.requires.declared) h (c.slot_actor-actor.ensures (after k.script k.history.items) (queues_stand k.script k.history.items k.tables k.ready h)))
+    let h = c.self.invariant.stands in
+    let H = after k.script k.history.items in
+    let is : c.slot_actor-actor.result ≡ slot_actor H c.args.slot = c.slot_actor-actor.ensures H.ready h.queues.queues ∙ ap (λ (U : State). slot_actor U c.args.slot) h.state in
+    rw (← c.self.view_is) (slot_goes k.script k.history.items k.tables k.ready c.args.slot c.slot_actor-actor.result (rw (← c.self.view_is) at c.requires.declared) h is)
 
-pub returns-clause-ok : goal.returns-clause-ok
-returns-clause-ok c =
+pub returns-clause-entry : goal.returns-clause-entry
+returns-clause-entry c =
     let k = c.self.inside in
-    let usable : k.usable ≡ true = ap (λ (v : KernelView). v.usable) c.self.view_is ∙ c.requires.usable in
-    let h = c.self.invariant.stands usable in
-    let is : c.slot_actor-actor.result ≡ slot_actor (after k.script k.history.items) c.args.slot = c.slot_actor-actor.ensures (after k.script k.history.items) (queues_stand k.script k.history.items k.tables k.ready h) in
-    rw (← c.self.view_is, ← is) (rw (← c.self.view_is) at c.go.ensures.ok)
+    let h = c.self.invariant.stands in
+    let H = after k.script k.history.items in
+    let is : c.slot_actor-actor.result ≡ slot_actor H c.args.slot = c.slot_actor-actor.ensures H.ready h.queues.queues ∙ ap (λ (U : State). slot_actor U c.args.slot) h.state in
+    rw (← c.self.view_is, ← is) (rw (← c.self.view_is) at c.go.ensures.entry)

@@ -1,6 +1,7 @@
 use Rattle.std.proofs.Common.{◌-◌, ap, arith, length-set}
 use Rattle.ref_words.specs.Words.{Words}
 use Rattle.objects.proofs.Keeping.{there_made, kept_counts, kept_dead, read_own}
+use Rattle.objects.proofs.Listing.{listed_closed}
 use Rattle.objects.proofs.objects.Objects.close_ref.Goals as goal
 
 pub invariant_of-self : goal.invariant_of-self
@@ -10,7 +11,7 @@ invariant_of-self g c =
     let made = there_made c.self.inside.rows.items c.args.o.0 there in
     let read = read_own c.self.inside.rows.items c.self.inside.counts.items _ c.args.o.0 c.index_mut.result.now kept made c.index_mut.ensures.value in
     let words = rw (c.in-Stays.is, c.from.ensures) at c.close-left.ensures.closes in
-    (kept_counts c.self.inside.rows.items c.self.inside.counts.items _ _ c.args.o.0 _ _ kept made (ap (λ (w : Words). w.own) words) (ap (λ (w : Words). w.stages) words) (ap (λ n. n - 1) read), rw length-set c.self.invariant.1)
+    (kept_counts c.self.inside.rows.items c.self.inside.counts.items _ _ c.args.o.0 _ _ kept made (ap (λ (w : Words). w.own) words) (ap (λ (w : Words). w.stages) words) (ap (λ n. n - 1) read), rw length-set c.self.invariant.1, c.self.invariant.2)
 
 pub invariant_of-self-in-Last : goal.invariant_of-self-in-Last
 invariant_of-self-in-Last g c =
@@ -19,4 +20,4 @@ invariant_of-self-in-Last g c =
     let made = there_made c.self.inside.rows.items c.args.o.0 there in
     let read = read_own c.self.inside.rows.items c.self.inside.counts.items _ c.args.o.0 c.index_mut.result.now kept made c.index_mut.ensures.value in
     let words = rw (c.in-Last.is, c.from.ensures) at c.close-left.ensures.closes in
-    (rw c.bury.ensures.rows (kept_dead c.self.inside.rows.items c.self.inside.counts.items _ _ c.args.o.0 _ _ kept there (ap (λ (w : Words). w.own) words) (ap (λ (w : Words). w.stages) words) (ap (λ n. n - 1) read)), rw length-set (omega (arith, c.self.invariant.1, c.bury.ensures.room)))
+    (rw c.bury.ensures.rows (kept_dead c.self.inside.rows.items c.self.inside.counts.items _ _ c.args.o.0 _ _ kept there (ap (λ (w : Words). w.own) words) (ap (λ (w : Words). w.stages) words) (ap (λ n. n - 1) read)), rw length-set (omega (arith, c.self.invariant.1, c.bury.ensures.room)), rw c.bury.ensures.rows (listed_closed c.self.inside.rows.items c.self.inside.names c.args.o.0 c.self.invariant.2 made))

@@ -1,21 +1,20 @@
-use Rattle.std.proofs.Common.{rules, tests}
-use Rattle.std.proofs.lemmas.Iterator.{YieldsList-from_slice}
-use Rattle.std.proofs.lemmas.Iterator.Search.{position_from_yields_List}
-use Rattle.state_rows.specs.ObjectRows.{has_name}
-use Rattle.objects.proofs.Keeping.{named_place, named_alone}
+use Rattle.std.specs.Prelude.{Some, slice_index}
+use Rattle.objects.proofs.Keeping.{named_alone}
+use Rattle.objects.proofs.Finding.{found_position, gap_position}
 use Rattle.objects.proofs.objects.Objects.place_named.Goals as goal
 
-pub returns-clause-place : goal.returns-clause-place
-returns-clause-place g c =
-    let is = position_from_yields_List (has_name c.args.kind c.args.name.now) _ _ _ c.position.ensures.ran (YieldsList-from_slice c.self.inside.rows.items cc) (λ x b q k. search (rules, tests)) in
-    rw (← c.self.view_is) is
+pub returns-in-Ok-clause-place : goal.returns-in-Ok-clause-place
+returns-in-Ok-clause-place g c =
+    let found = rw c.deref.ensures.value at c.in-Ok.ensures in
+    rw (← c.self.view_is, c.number_at.ensures) (found_position c.self.inside.rows.items c.self.inside.counts.items _ c.self.inside.names c.args.kind c.args.name.now c.in-Ok.place c.self.invariant.0 c.self.invariant.2 c.requires found.0 found.1)
 
-pub returns-clause-made : goal.returns-clause-made
-returns-clause-made g c =
-    let is = position_from_yields_List (has_name c.args.kind c.args.name.now) _ _ _ c.position.ensures.ran (YieldsList-from_slice c.self.inside.rows.items cc) (λ x b q k. search (rules, tests)) in
-    rw (← c.self.view_is) (named_place c.self.inside.rows.items c.self.inside.counts.items _ c.args.kind c.args.name.now _ c.self.invariant.0 is)
+pub returns-in-Ok-clause-alone : goal.returns-in-Ok-clause-alone
+returns-in-Ok-clause-alone g c =
+    let found = rw c.deref.ensures.value at c.in-Ok.ensures in
+    let is = found_position c.self.inside.rows.items c.self.inside.counts.items _ c.self.inside.names c.args.kind c.args.name.now c.in-Ok.place c.self.invariant.0 c.self.invariant.2 c.requires found.0 found.1 in
+    rw (← c.self.view_is, c.number_at.ensures) (named_alone c.self.inside.rows.items c.self.inside.counts.items _ c.args.kind c.args.name.now (Some (slice_index c.self.inside.names c.in-Ok.place)) c.self.invariant.0 c.requires is)
 
-pub returns-clause-alone : goal.returns-clause-alone
-returns-clause-alone g c =
-    let is = position_from_yields_List (has_name c.args.kind c.args.name.now) _ _ _ c.position.ensures.ran (YieldsList-from_slice c.self.inside.rows.items cc) (λ x b q k. search (rules, tests)) in
-    rw (← c.self.view_is) (named_alone c.self.inside.rows.items c.self.inside.counts.items _ c.args.kind c.args.name.now _ c.self.invariant.0 c.requires is)
+pub returns-in-Err-clause-place : goal.returns-in-Err-clause-place
+returns-in-Err-clause-place g c =
+    let gap = rw c.deref.ensures.value at c.in-Err.ensures in
+    rw (← c.self.view_is) (gap_position c.self.inside.rows.items c.self.inside.names c.args.kind c.args.name.now c.in-Err.field-0 c.self.invariant.2 c.requires gap)

@@ -1,0 +1,124 @@
+-- What each call answers and leaves.
+use Rattle.std.specs.Prelude.{ℕ, ℤ, pos, negsuc, ◌+◌, ◌-◌, ◌==◌, nat_lt, if◌then◌else◌, List, [], ◌∷◌, ◌++◌, Option, Some, None, map, replicate, slice_set}
+use Rattle.sym_base.specs.declared.number.ObjNo.{ObjNo}
+use Rattle.kern_sync.specs.declared.answers.Owner.{Owner}
+use Rattle.kern_sync.specs.declared.answers.Locked.{Locked}
+use Rattle.kern_sync.specs.declared.answers.Locked.TheVariants.{Taken, Again, Waits}
+use Rattle.kern_sync.specs.declared.answers.Unlocked.{Unlocked}
+use Rattle.kern_sync.specs.declared.answers.Unlocked.TheVariants.{Level, Freed, Passed, NotOwner}
+use Rattle.kern_sync.specs.declared.answers.Signalled.{Signalled}
+use Rattle.kern_sync.specs.declared.answers.Signalled.TheVariants.{Counted, Woke, Overflow}
+use Rattle.kern_sync.specs.KernelLocks.{KernelLocks, owner_at, count_at, waiters_at, best_of, without}
+
+-- so many objects and threads: nobody owns or waits, and every count and priority is 0
+abbrev pub new_locks : ℕ → ℕ → KernelLocks
+new_locks objects threads = record { owners = replicate objects None; counts = replicate objects 0; waiters = replicate objects []; priorities = replicate threads 0 }
+
+-- the count that a semaphore starts with, and 0 for a mutex, which has none
+abbrev pub start_count : Option ℤ → ℕ
+start_count None = 0
+start_count (Some (pos count)) = count
+start_count (Some (negsuc below)) = 0
+
+abbrev pub after_new_row : KernelLocks → ObjNo → Option ℤ → KernelLocks
+after_new_row s o start = record s { counts = slice_set s.counts o.0 (start_count start) }
+
+-- an owner that holds a mutex once
+abbrev pub once : ObjNo → Option Owner
+once t = Some (record { thread = t; level = 1 })
+
+-- a thread takes a free mutex, takes its own again, and waits for another's
+abbrev pub lock_answer : Option Owner → ObjNo → Locked
+lock_answer None t = Taken
+lock_answer (Some owner) t = if owner.thread.0 == t.0 then Again else Waits
+
+-- the owner then: the thread, with one level more where it was the owner
+abbrev pub owner_after_lock : Option Owner → ObjNo → Locked → Option Owner
+owner_after_lock owner t Taken = once t
+owner_after_lock None t Again = None
+owner_after_lock (Some owner) t Again = Some (record owner { level = owner.level + 1 })
+owner_after_lock owner t Waits = owner
+
+-- the waiters then: the thread stands last where it waits
+abbrev pub waiters_after_lock : List ObjNo → ObjNo → Locked → List ObjNo
+waiters_after_lock queue t Taken = queue
+waiters_after_lock queue t Again = queue
+waiters_after_lock queue t Waits = queue ++ t ∷ []
+
+abbrev pub after_lock : KernelLocks → ObjNo → ObjNo → Locked → KernelLocks
+after_lock s o t answer = record s { owners = slice_set s.owners o.0 (owner_after_lock (owner_at s o) t answer); waiters = slice_set s.waiters o.0 (waiters_after_lock (waiters_at s o) t answer) }
+
+-- a mutex whose last level goes is passed to the best waiter, or is free without one
+abbrev pub passed : Option ObjNo → Unlocked
+passed None = Freed
+passed (Some t) = Passed t
+
+-- only its owner unlocks a mutex, and only its last level gives it away
+abbrev pub unlock_answer : Option Owner → ObjNo → Option ObjNo → Unlocked
+unlock_answer None t best = NotOwner
+unlock_answer (Some owner) t best = if owner.thread.0 == t.0 then (if nat_lt 1 owner.level then Level else passed best) else NotOwner
+
+-- the owner then: with one level less, or nobody, or the waiter
+abbrev pub owner_after_unlock : Option Owner → Unlocked → Option Owner
+owner_after_unlock None Level = None
+owner_after_unlock (Some owner) Level = Some (record owner { level = owner.level - 1 })
+owner_after_unlock owner Freed = None
+owner_after_unlock owner (Passed t) = once t
+owner_after_unlock owner NotOwner = owner
+
+-- the waiters then: without the one that owns the mutex
+abbrev pub waiters_after_unlock : List ObjNo → Unlocked → List ObjNo
+waiters_after_unlock queue Level = queue
+waiters_after_unlock queue Freed = queue
+waiters_after_unlock queue (Passed t) = without t queue
+waiters_after_unlock queue NotOwner = queue
+
+abbrev pub after_unlock : KernelLocks → ObjNo → Unlocked → KernelLocks
+after_unlock s o answer = record s { owners = slice_set s.owners o.0 (owner_after_unlock (owner_at s o) answer); waiters = slice_set s.waiters o.0 (waiters_after_unlock (waiters_at s o) answer) }
+
+-- some waiters without one, where there is one
+abbrev pub left : Option ObjNo → List ObjNo → List ObjNo
+left None queue = queue
+left (Some t) queue = without t queue
+
+-- the waiter that is served next waits no longer
+abbrev pub without_best : KernelLocks → ObjNo → KernelLocks
+without_best s o = record s { waiters = slice_set s.waiters o.0 (left (best_of s o) (waiters_at s o)) }
+
+-- the next owner is the best waiter, or nobody
+abbrev pub next_owner : Option ObjNo → Option Owner
+next_owner None = None
+next_owner (Some t) = once t
+
+abbrev pub after_free : KernelLocks → ObjNo → KernelLocks
+after_free s o = record (without_best s o) { owners = slice_set s.owners o.0 (next_owner (best_of s o)) }
+
+-- a count falls, or the thread stands last among the waiters
+abbrev pub after_wait : KernelLocks → ObjNo → ObjNo → KernelLocks
+after_wait s o t = record s { counts = slice_set s.counts o.0 (count_at s o - 1); waiters = slice_set s.waiters o.0 (if count_at s o == 0 then waiters_at s o ++ t ∷ [] else waiters_at s o) }
+
+-- the best waiter goes on; without one the count rises, unless it is the greatest
+abbrev pub signal_answer : Option ObjNo → ℕ → Signalled
+signal_answer (Some t) count = Woke t
+signal_answer None count = if nat_lt count 2147483647 then Counted else Overflow
+
+abbrev pub count_after_signal : ℕ → Signalled → ℕ
+count_after_signal count Counted = count + 1
+count_after_signal count (Woke t) = count
+count_after_signal count Overflow = count
+
+abbrev pub waiters_after_signal : List ObjNo → Signalled → List ObjNo
+waiters_after_signal queue Counted = queue
+waiters_after_signal queue (Woke t) = without t queue
+waiters_after_signal queue Overflow = queue
+
+abbrev pub after_signal : KernelLocks → ObjNo → Signalled → KernelLocks
+after_signal s o answer = record s { counts = slice_set s.counts o.0 (count_after_signal (count_at s o) answer); waiters = slice_set s.waiters o.0 (waiters_after_signal (waiters_at s o) answer) }
+
+-- the thread waits for nothing
+abbrev pub after_remove : KernelLocks → ObjNo → KernelLocks
+after_remove s t = record s { waiters = map (without t) s.waiters }
+
+-- the thread has another priority, and its place among waiters stays
+abbrev pub after_priority : KernelLocks → ObjNo → ℕ → KernelLocks
+after_priority s t priority = record s { priorities = slice_set s.priorities t.0 priority }

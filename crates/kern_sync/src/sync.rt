@@ -1,0 +1,263 @@
+//! The table of mutexes and semaphores, and its calls.
+ghost use Rattle.std.specs.Prelude.{◌≡◌, ℕ, pos, ◌≤ℤ◌, false, ◌<◌, ◌≤◌, ◌↔◌, [], not, ◌==◌, IsNone, IsSome, length, slice_set, IfOk, IfSome};
+ghost use Rattle.sym_base.specs.declared.number.ObjNo.{ObjNo};
+ghost use Rattle.kern_sync.specs.KernelLocks.{owner_at, level_of, count_at, waiters_at, best_of, is_waiting, IsWaiting};
+ghost use Rattle.kern_sync.specs.Calls.{new_locks, start_count, after_new_row, lock_answer, after_lock, unlock_answer, after_unlock, after_free, after_wait, signal_answer, after_signal, after_remove, after_priority, without_best};
+ghost use Rattle.kern_sync.specs.declared.answers.Unlocked.TheVariants.{NotOwner, Passed};
+ghost use Rattle.kern_sync.specs.declared.answers.Signalled.TheVariants.{Overflow, Woke};
+
+use crate::answers::{Locked, Owner, Signalled, Unlocked};
+use links::Links;
+use std::alloc::Global;
+use std::marker::Model;
+use sym_base::{NoMemory, ObjNo, ThreadNo};
+
+/// The greatest count of a semaphore.
+pub const MAX_COUNT: u32 = 2_147_483_647;
+
+/// Kernel mutexes and semaphores (Symbian OS Internals, the chapter on threads and processes): who owns
+/// each mutex and how often, the count of each semaphore, and the threads that wait for one of either. A
+/// waiter is served by its priority, which is that of the thread when it is served, and then in order of
+/// waiting; a mutex that is passed on belongs to the waiter at once. That priorities aren't inherited, and
+/// the greatest count, are this project's own. A contract sees the owners and counts by object, the
+/// waiters of each object in order of waiting, and the priorities by thread.
+///
+/// No call but `new` takes memory.
+#[derive(Drop)]
+pub struct KernSync {
+    owners: Vec<Option<Owner>>,
+    counts: Vec<u32>,
+    priorities: Vec<u8>,
+    links: Links,
+}
+
+impl Model for KernSync {
+    ghost use Rattle.kern_sync.specs.KernelLocks.{KernelLocks};
+    ghost use Rattle.kern_sync.specs.Kept.{AreKept, locks_of};
+
+    ghost Value = { KernelLocks };
+
+    ghost view = { λ a. locks_of a.owners.items a.counts.items a.priorities.items a.links };
+
+    ghost invariant = { λ a. AreKept a.owners.items a.counts.items a.priorities.items a.links };
+}
+
+impl KernSync {
+    /// A table for the objects below a number and the threads below another. Nobody owns or waits for
+    /// anything, and every count and priority is 0. It takes all the memory that the table ever needs.
+    pub fn new(alloc: Global, objects: u16, threads: u16) -> Result<KernSync, NoMemory>
+        ensures { IfOk result (λ table. table ≡ new_locks objects threads) }
+    {
+        let owners = vec![in alloc; None; objects as usize]?;
+        let counts = vec![in alloc; 0u32; objects as usize]?;
+        let priorities = vec![in alloc; 0u8; threads as usize]?;
+        let links = Links::new(alloc, threads as u32, objects as u32)?;
+        Ok(KernSync {
+            owners,
+            counts,
+            priorities,
+            links,
+        })
+    }
+
+    /// Makes an object a free mutex, or a semaphore with a count.
+    pub fn new_row(&mut self, o: ObjNo, start: Option<i32>)
+        requires object { o.0 < length self.old.owners }
+        requires free { owner_at self.old o ≡ None }
+        requires alone { waiters_at self.old o ≡ [] }
+        requires count { IfSome start (λ count. pos 0 ≤ℤ count) }
+        ensures { self.new ≡ after_new_row self.old o start }
+    {
+        self.counts[o.0 as usize] = count_from(start);
+    }
+
+    /// Locks a mutex for a thread that waits for nothing. Where another thread owns it the thread waits,
+    /// behind the others; where the thread owns it already its level rises.
+    pub fn lock(&mut self, o: ObjNo, t: ThreadNo) -> Locked
+        requires object { o.0 < length self.old.owners }
+        requires thread { t.0 < length self.old.priorities }
+        requires waits { ¬ IsWaiting self.old t }
+        requires level { level_of (owner_at self.old o) < 18446744073709551615 }
+        ensures answer { result ≡ lock_answer (owner_at self.old o) t }
+        ensures after { self.new ≡ after_lock self.old o t result }
+    {
+        match self.owners[o.0 as usize] {
+            None => {
+                self.owners[o.0 as usize] = Some(Owner {
+                    thread: t,
+                    level: 1,
+                });
+                Locked::Taken
+            }
+            Some(Owner { thread, level }) if thread == t => {
+                self.owners[o.0 as usize] = Some(Owner {
+                    thread,
+                    level: level + 1,
+                });
+                Locked::Again
+            }
+            Some(_) => {
+                self.links.push_back(o.0 as u32, t.0 as u32);
+                Locked::Waits
+            }
+        }
+    }
+
+    /// Unlocks a mutex once. Where that was the last level of its owner, the mutex is passed to the best
+    /// waiter, or is free where nobody waits. NotOwner exactly where the thread doesn't own it, and then
+    /// nothing changes.
+    pub fn unlock(&mut self, o: ObjNo, t: ThreadNo) -> Unlocked
+        requires object { o.0 < length self.old.owners }
+        ensures answer { result ≡ unlock_answer (owner_at self.old o) t (best_of self.old o) }
+        ensures after { self.new ≡ after_unlock self.old o result }
+        ensures unchanged { result ≡ NotOwner → self.new ≡ self.old }
+        ensures woken { (u : ObjNo) → result ≡ Passed u → (u.0 < length self.old.priorities) × (is_waiting self.new u ≡ false) }
+    {
+        let Some(Owner { thread, level }) = self.owners[o.0 as usize] else {
+            return Unlocked::NotOwner;
+        };
+        if thread != t {
+            return Unlocked::NotOwner;
+        }
+        if level > 1 {
+            self.owners[o.0 as usize] = Some(Owner {
+                thread,
+                level: level - 1,
+            });
+            return Unlocked::Level;
+        }
+        match self.free(o) {
+            None => Unlocked::Freed,
+            Some(next) => Unlocked::Passed(next),
+        }
+    }
+
+    /// Takes a mutex from its owner, all levels at once, and passes it to the best waiter. None exactly
+    /// where nobody waits, and then the mutex is free.
+    pub fn free(&mut self, o: ObjNo) -> Option<ThreadNo>
+        requires object { o.0 < length self.old.owners }
+        requires owned { IsSome (owner_at self.old o) }
+        ensures answer { result ≡ best_of self.old o }
+        ensures none { IsNone result ↔ (waiters_at self.old o ≡ []) }
+        ensures after { self.new ≡ after_free self.old o }
+        ensures woken { IfSome result (λ t. (t.0 < length self.old.priorities) × (is_waiting self.new t ≡ false)) }
+    {
+        let next = self.take_best(o);
+        self.owners[o.0 as usize] = match next {
+            None => None,
+            Some(thread) => Some(Owner { thread, level: 1 }),
+        };
+        next
+    }
+
+    /// Takes one from the count of a semaphore, for a thread that waits for nothing. False exactly where
+    /// the count is 0, and then the thread waits, behind the others.
+    pub fn sem_wait(&mut self, o: ObjNo, t: ThreadNo) -> bool
+        requires object { o.0 < length self.old.owners }
+        requires thread { t.0 < length self.old.priorities }
+        requires waits { ¬ IsWaiting self.old t }
+        ensures answer { result ≡ not (count_at self.old o == 0) }
+        ensures after { self.new ≡ after_wait self.old o t }
+    {
+        let count = self.counts[o.0 as usize];
+        if count == 0 {
+            self.links.push_back(o.0 as u32, t.0 as u32);
+            return false;
+        }
+        self.counts[o.0 as usize] = count - 1;
+        true
+    }
+
+    /// Signals a semaphore: the best waiter goes on, or the count rises where nobody waits. Overflow
+    /// exactly where nobody waits and the count is 2,147,483,647, and then nothing changes.
+    pub fn sem_signal(&mut self, o: ObjNo) -> Signalled
+        requires { o.0 < length self.old.owners }
+        ensures answer { result ≡ signal_answer (best_of self.old o) (count_at self.old o) }
+        ensures after { self.new ≡ after_signal self.old o result }
+        ensures unchanged { result ≡ Overflow → self.new ≡ self.old }
+        ensures woken { (u : ObjNo) → result ≡ Woke u → (u.0 < length self.old.priorities) × (is_waiting self.new u ≡ false) }
+    {
+        if let Some(t) = self.take_best(o) {
+            return Signalled::Woke(t);
+        }
+        let count = self.counts[o.0 as usize];
+        if count >= MAX_COUNT {
+            return Signalled::Overflow;
+        }
+        self.counts[o.0 as usize] = count + 1;
+        Signalled::Counted
+    }
+
+    /// Ends the wait of a thread. Where it waits for nothing, nothing changes.
+    pub fn remove_waiter(&mut self, t: ThreadNo)
+        requires { t.0 < length self.old.priorities }
+        ensures after { self.new ≡ after_remove self.old t }
+        ensures unchanged { (¬ IsWaiting self.old t) → self.new ≡ self.old }
+        ensures ended { is_waiting self.new t ≡ false }
+    {
+        if self.links.is_linked(t.0 as u32) {
+            self.links.unlink(t.0 as u32);
+        }
+    }
+
+    /// Sets a thread's priority. A thread that waits keeps its place among the waiters of its priority
+    /// that the order of waiting gives it.
+    pub fn set_priority(&mut self, t: ThreadNo, priority: u8)
+        requires { t.0 < length self.old.priorities }
+        ensures { self.new ≡ after_priority self.old t priority }
+    {
+        self.priorities[t.0 as usize] = priority;
+    }
+
+    /// Who owns a mutex, and how often. None exactly where nobody does.
+    pub fn owner(&self, o: ObjNo) -> Option<Owner>
+        requires { o.0 < length self.now.owners }
+        ensures { result ≡ owner_at self.now o }
+    {
+        self.owners[o.0 as usize]
+    }
+
+    /// The count of a semaphore.
+    pub fn count(&self, o: ObjNo) -> u32
+        requires { o.0 < length self.now.owners }
+        ensures { result ≡ count_at self.now o }
+    {
+        self.counts[o.0 as usize]
+    }
+
+    /// The waiter that is served next: of those of the greatest priority the one that waits longest. None
+    /// exactly where nobody waits.
+    pub fn best_waiter(&self, o: ObjNo) -> Option<ThreadNo>
+        requires { o.0 < length self.now.owners }
+        ensures best { result ≡ best_of self.now o }
+        ensures none { IsNone result ↔ (waiters_at self.now o ≡ []) }
+        ensures known { IfSome result (λ t. t.0 < length self.now.priorities) }
+    {
+        let node = self.links.first_of_greatest(o.0 as u32, &self.priorities)?;
+        Some(ObjNo(node as u16))
+    }
+
+    /// Takes the waiter that is served next off its list.
+    fn take_best(&mut self, o: ObjNo) -> Option<ThreadNo>
+        requires { o.0 < length self.old.owners }
+        ensures best { result ≡ best_of self.old o }
+        ensures none { IsNone result ↔ (waiters_at self.old o ≡ []) }
+        ensures after { self.new ≡ without_best self.old o }
+        ensures woken { IfSome result (λ t. (t.0 < length self.old.priorities) × (is_waiting self.new t ≡ false)) }
+    {
+        let t = self.best_waiter(o)?;
+        self.links.unlink(t.0 as u32);
+        Some(t)
+    }
+}
+
+/// The count that a row starts with: that of a semaphore, and 0 for a mutex.
+fn count_from(start: Option<i32>) -> u32
+    requires { IfSome start (λ count. pos 0 ≤ℤ count) }
+    ensures { result ≡ start_count start }
+{
+    match start {
+        None => 0,
+        Some(count) => count as u32,
+    }
+}
