@@ -1,7 +1,7 @@
 -- The queues of ready threads change as the list of the definitions does: when a thread comes, when one leaves, and at
 -- the end of a time slice.
 use Rattle.std.proofs.Common.{◌≡◌, ◌∙◌, inl, inr, ℕ, ◌<◌, ◌≤◌, true, false, List, [], ◌∷◌, ◌++◌, arith, refl, sym, ap, subst}
-use Rattle.std.specs.Prelude.{Option, Some, None, option_map, is_some}
+use Rattle.std.specs.Prelude.{Option, Some, None, option_map, option_and_then, is_some, if◌then◌else◌}
 use Rattle.std.specs.List.{list_any}
 use Rattle.std.proofs.lemmas.Bool.{cases_Bool, false_from_ne_true}
 use Rattle.sym_base.specs.declared.limits.TheConstants.Limits.{BOOT_OBJECTS}
@@ -13,14 +13,14 @@ use Rattle.ready_list.specs.Queue.{holds}
 use Rattle.ready_list.specs.Ready.{Ready, added, removed, rotated, first_of_highest, priority_of}
 use Rattle.ready_list.specs.Arrival.{AreQueuesOf}
 use Rattle.state_rows.specs.declared.nano.NanoRows.{NanoRows}
-use Rattle.state_rows.specs.Nano.{held_by, in_place_of, turned}
+use Rattle.state_rows.specs.Nano.{held_by, in_place_of, turned, actor_of}
 use Rattle.machine.specs.declared.state.State.{State}
 use Rattle.machine.specs.declared.state.ThreadRow.{ThreadRow}
 use Rattle.machine.specs.Arrivals.{is_listed, unlisted, arrive}
-use Rattle.machine.specs.Choice.{actor_of}
 use Rattle.machine.specs.Rows.{thread_of}
 use Rattle.machine.specs.Task.{is_ready}
 use Rattle.machine.specs.Tick.{moved_behind}
+use Rattle.nano.specs.Choice.{chosen, after_tick, rotated_at}
 use Rattle.kcore.specs.Moved.{AreKnown}
 use Rattle.kcore.specs.ReadyQueues.{AreReady, SomeReady, Follow, pairs, leave}
 use Rattle.kcore.proofs.ReadyLists.{listed_behind, apart_behind, apart_filtered, filtered_listed, without_unlisted, itself_stays}
@@ -106,25 +106,14 @@ leaves_ready script S rank r t ready qs h = rw ready h
 chosen_by : (rank : ObjNo → ℕ) (qs : List ObjNo) (r : Ready) (t : ObjNo) → AreReady rank qs r → Some t ≡ first_of_highest r.queues → first_of_greatest rank qs ≡ Some t
 chosen_by rank qs r t h is = sym (is ∙ picked_queued rank qs r h.queues)
 
-pub thread_is_chosen : (nano : NanoRows) (rank : ObjNo → ℕ) (t : ObjNo) (r : Ready) (qs : List ObjNo) → Some t ≡ first_of_highest r.queues → AreQueuesOf (pairs rank qs) r → Thread (in_place_of nano t) ≡ actor_of (option_map (in_place_of nano) (first_of_greatest rank qs))
-thread_is_chosen nano rank t r qs is are = ap (λ (found : Option ObjNo). actor_of (option_map (in_place_of nano) found)) (is ∙ picked_queued rank qs r are)
-
-pub nobody_is_chosen : (nano : NanoRows) (rank : ObjNo → ℕ) (r : Ready) (qs : List ObjNo) → None ≡ first_of_highest r.queues → AreQueuesOf (pairs rank qs) r → Idle ≡ actor_of (option_map (in_place_of nano) (first_of_greatest rank qs))
-nobody_is_chosen nano rank r qs is are = ap (λ (found : Option ObjNo). actor_of (option_map (in_place_of nano) found)) (is ∙ picked_queued rank qs r are)
+pub chosen_follows : (sync : NanoRows) (rank : ObjNo → ℕ) (r : Ready) (qs : List ObjNo) → AreQueuesOf (pairs rank qs) r → chosen r sync ≡ actor_of (option_map (in_place_of sync) (first_of_greatest rank qs))
+chosen_follows sync rank r qs are = ap (λ (found : Option ObjNo). actor_of (option_map (in_place_of sync) found)) (picked_queued rank qs r are)
 
 -- a time slice ends, and nobody is ready
 pub nobody_turns : (nano : NanoRows) (rank : ObjNo → ℕ) (r : Ready) → None ≡ first_of_highest r.queues → Follow rank (λ qs. moved_behind qs (turned nano (first_of_greatest rank qs))) r r
 nobody_turns nano rank r none qs h =
     let nobody : first_of_greatest rank qs ≡ None = sym (none ∙ picked_queued rank qs r h.queues) in
     rw nobody h
-
--- the chosen thread is one of those for which the queues are made
-pub chosen_known : (r : Ready) (t : ObjNo) → SomeReady r → Some t ≡ first_of_highest r.queues → t.0 < r.threads
-chosen_known r t some is =
-    let h = some.2 in
-    let low = h.known t (chosen_listed some.0 some.1 t (chosen_by some.0 some.1 r t h is)) in
-    let size = h.size in
-    omega arith
 
 -- one that holds a fast mutex is spared
 pub holder_spared : (nano : NanoRows) (rank : ObjNo → ℕ) (r : Ready) (t : ObjNo) → is_some (held_by nano t) ≡ true → Some t ≡ first_of_highest r.queues → Follow rank (λ qs. moved_behind qs (turned nano (first_of_greatest rank qs))) r r
@@ -158,3 +147,17 @@ pub chosen_stands : (nano : NanoRows) (rank : ObjNo → ℕ) (r : Ready) (t : Ob
 chosen_stands nano rank r t is none qs h =
     let clash : None ≡ Some (rank t) = none ∙ chosen_priority rank qs r t h.once h.queues (chosen_by rank qs r t h is) in
     absurd (cc)
+
+-- what the end of a time slice does to the queues it does to the list
+pub tick_follows : (sync : NanoRows) (rank : ObjNo → ℕ) (r : Ready) → Follow rank (λ qs. moved_behind qs (turned sync (first_of_greatest rank qs))) r (after_tick r sync)
+tick_follows sync rank r = by (first_of_highest r.queues) refl
+  where
+    at : (t : ObjNo) (p : Option ℕ) → is_some (held_by sync t) ≡ false → Some t ≡ first_of_highest r.queues → p ≡ priority_of r t → Follow rank (λ qs. moved_behind qs (turned sync (first_of_greatest rank qs))) r (rotated_at r p)
+    at t None free is stands = chosen_stands sync rank r t is stands
+    at t (Some p) free is stands = queue_turns sync rank r t p free is stands
+    held : (t : ObjNo) (b : Bool) → is_some (held_by sync t) ≡ b → Some t ≡ first_of_highest r.queues → Follow rank (λ qs. moved_behind qs (turned sync (first_of_greatest rank qs))) r (rotated_at r (option_and_then (priority_of r) (if b then None else Some t)))
+    held t true holds is = holder_spared sync rank r t holds is
+    held t false free is = at t (priority_of r t) free is refl
+    by : (found : Option ObjNo) → found ≡ first_of_highest r.queues → Follow rank (λ qs. moved_behind qs (turned sync (first_of_greatest rank qs))) r (rotated_at r (option_and_then (priority_of r) (turned sync found)))
+    by None none = nobody_turns sync rank r none
+    by (Some t) is = held t (is_some (held_by sync t)) refl is

@@ -54,7 +54,6 @@ fn act<W: RefWords + Drop>(
 
 /// The end of a time slice.
 fn tick(nano: &NanoSync, ready: &mut ReadyList) -> Outcome
-    requires { SomeReady ready.old }
     ensures queues { (rank : ObjNo → ℕ) → Follow rank (λ qs. moved_behind qs (turned nano.now (first_of_greatest rank qs))) ready.old ready.new }
     ensures told { result ≡ record { step = Step.Turn; effects = []; answer = None } }
 {

@@ -6,9 +6,9 @@ ghost use Rattle.sym_base.specs.declared.number.ObjNo.{ObjNo};
 ghost use Rattle.machine.specs.Arrivals.{arrive, one_of, taken_out, threads_of, unlisted};
 ghost use Rattle.sym_base.specs.Greatest.{first_of_greatest};
 ghost use Rattle.ready_list.specs.Arrival.{AreQueuesOf};
-ghost use Rattle.machine.specs.Choice.{priority_of, actor_of};
+ghost use Rattle.machine.specs.Choice.{priority_of};
 ghost use Rattle.machine.specs.Tick.{moved_behind};
-ghost use Rattle.state_rows.specs.Nano.{in_place_of, turned};
+ghost use Rattle.state_rows.specs.Nano.{in_place_of, turned, actor_of};
 ghost use Rattle.kcore.specs.Moved.{AreKnown};
 ghost use Rattle.kcore.specs.ReadyQueues.{Follow, SomeReady, pairs, leave, leave_along};
 ghost use Rattle.kcore.specs.StateOf.{state_of};
@@ -144,38 +144,18 @@ pub fn leave_along<W: RefWords + Drop>(
     }
 }
 
-/// Who acts in a thread's place: the holder of the fast mutex that it wants, or the thread itself.
-fn in_place_of<W: RefWords + Drop>(tables: &Tables<W>, thread: ThreadNo) -> ThreadNo
-    ensures { result ≡ in_place_of (state_of tables.now).nano thread }
-{
-    match wanted_holder(tables, thread) {
-        Some(holder) => holder,
-        None => thread,
-    }
-}
-
 /// Whom the queues let act: the first thread of the highest queue, or who acts in its place, or nobody.
+#[tactic(auto, using(crate::proofs::ReadyChanges::chosen_follows))]
 pub fn chosen<W: RefWords + Drop>(tables: &Tables<W>, ready: &ReadyList) -> Actor
     ensures { (rank : ObjNo → ℕ) (qs : List ObjNo) → AreQueuesOf (pairs rank qs) ready.now → result ≡ actor_of (option_map (in_place_of (state_of tables.now).nano) (first_of_greatest rank qs)) }
 {
-    match ready.pick() {
-        Some(first) => Actor::Thread(in_place_of(tables, first)),
-        None => Actor::Idle,
-    }
+    nano::chosen(ready, &tables.nano)
 }
 
 /// Puts the first thread of the highest queue behind its equals, unless it holds a fast mutex.
+#[tactic(auto, using(crate::proofs::ReadyChanges::tick_follows))]
 pub fn turn(nano: &NanoSync, ready: &mut ReadyList)
-    requires { SomeReady ready.old }
     ensures { (rank : ObjNo → ℕ) → Follow rank (λ qs. moved_behind qs (turned nano.now (first_of_greatest rank qs))) ready.old ready.new }
 {
-    let Some(first) = ready.pick() else {
-        return;
-    };
-    if nano.held(first).is_some() {
-        return;
-    }
-    if let Some(priority) = ready.priority_of(first) {
-        ready.rotate(priority);
-    }
+    nano::tick(ready, nano);
 }

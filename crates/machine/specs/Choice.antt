@@ -1,11 +1,10 @@
 -- The choice of the next actor: the ready thread of greatest priority that has been ready longest, or, where it wants
 -- a fast mutex that is held, the holder of that.
-use Rattle.state_rows.specs.Nano.{in_place_of}
+use Rattle.state_rows.specs.Nano.{in_place_of, actor_of}
 use Rattle.std.specs.Prelude.{ℕ, Option, Some, None, option_map}
 use Rattle.sym_base.specs.Greatest.{first_of_greatest}
 use Rattle.sym_base.specs.declared.number.ObjNo.{ObjNo}
 use Rattle.entry_log.specs.declared.entry.Actor.{Actor}
-use Rattle.entry_log.specs.declared.entry.Actor.TheVariants.{Thread, Idle}
 use Rattle.machine.specs.declared.state.ThreadRow.{ThreadRow}
 use Rattle.machine.specs.declared.state.State.{State}
 use Rattle.machine.specs.Rows.{thread_of}
@@ -22,10 +21,6 @@ priority_of S t = priority_of_row (thread_of S t)
 abbrev pub first_ready : State → Option ObjNo
 first_ready S = first_of_greatest (priority_of S) S.ready
 
--- that thread, or nobody
-abbrev pub actor_of : Option ObjNo → Actor
-actor_of None = Idle
-actor_of (Some t) = Thread t
-
+-- who acts next: that thread, or who acts in its place, or nobody
 abbrev pub chosen : State → Actor
 chosen S = actor_of (option_map (in_place_of S.nano) (first_ready S))

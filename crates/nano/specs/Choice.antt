@@ -3,16 +3,10 @@ use Rattle.std.specs.Prelude.{ℕ, Bool, Option, Some, None, option_map, option_
 use Rattle.std.specs.List.{list_any}
 use Rattle.sym_base.specs.declared.number.ObjNo.{ObjNo}
 use Rattle.entry_log.specs.declared.entry.Actor.{Actor}
-use Rattle.entry_log.specs.declared.entry.Actor.TheVariants.{Thread, Idle}
 use Rattle.state_rows.specs.declared.nano.NanoRows.{NanoRows}
-use Rattle.state_rows.specs.Nano.{in_place_of, turned}
+use Rattle.state_rows.specs.Nano.{in_place_of, actor_of, turned}
 use Rattle.ready_list.specs.Queue.{holds}
 use Rattle.ready_list.specs.Ready.{Ready, priority_of, rotated, first_of_highest}
-
--- a thread, or nobody
-abbrev pub actor_of : Option ObjNo → Actor
-actor_of None = Idle
-actor_of (Some t) = Thread t
 
 -- the first thread of the highest queue, or the holder of the fast mutex that it wants
 abbrev pub chosen : Ready → NanoRows → Actor

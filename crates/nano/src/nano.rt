@@ -7,6 +7,7 @@ ghost use Rattle.ready_list.specs.Ready.{no_threads};
 ghost use Rattle.script_types.specs.Source.{IsValid};
 ghost use Rattle.nano.specs.Choice.{chosen, after_tick, is_listed};
 
+use crate::choice::{chosen, tick, wanted_holder};
 use entry_log::Actor;
 use nano_sync::NanoSync;
 use ready_list::ReadyList;
@@ -40,23 +41,12 @@ impl Nano {
         })
     }
 
-    /// The thread that holds the fast mutex which a thread wants. None where it wants none, or nobody holds that.
-    pub fn wanted_holder(&self, t: ThreadNo) -> Option<ThreadNo>
-        ensures { result ≡ wanted_holder self.now.sync t }
-    {
-        let wanted = self.sync.want(t)?;
-        self.sync.holder(wanted)
-    }
-
     /// Who acts next: the ready thread of the greatest priority that has been ready longest, or, where it wants a fast
     /// mutex that is held, the holder of that in its place; nobody where no thread is ready.
     pub fn chosen(&self) -> Actor
         ensures { result ≡ chosen self.now.ready self.now.sync }
     {
-        match self.ready.pick() {
-            None => Actor::Idle,
-            Some(first) => Actor::Thread(self.wanted_holder(first).unwrap_or(first)),
-        }
+        chosen(&self.ready, &self.sync)
     }
 
     /// A time slice ends: the ready thread of the greatest priority that has been ready longest goes behind its
@@ -65,15 +55,7 @@ impl Nano {
         ensures ready { self.new.ready ≡ after_tick self.old.ready self.old.sync }
         ensures sync { self.new.sync ≡ self.old.sync }
     {
-        let Some(first) = self.ready.pick() else {
-            return;
-        };
-        if self.sync.held(first).is_some() {
-            return;
-        }
-        if let Some(priority) = self.ready.priority_of(first) {
-            self.ready.rotate(priority);
-        }
+        tick(&mut self.ready, &self.sync);
     }
 
     /// Whether a thread is able to act: it is ready, and wants no fast mutex that is held. False exactly where it isn't.
@@ -81,6 +63,6 @@ impl Nano {
         requires { t.0 < self.now.ready.threads }
         ensures { result ≡ (is_listed self.now.ready t && is_none (wanted_holder self.now.sync t)) }
     {
-        self.ready.priority_of(t).is_some() && self.wanted_holder(t).is_none()
+        self.ready.priority_of(t).is_some() && wanted_holder(&self.sync, t).is_none()
     }
 }

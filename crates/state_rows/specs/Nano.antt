@@ -1,6 +1,8 @@
 -- Reading the rows of threads that synchronize.
 use Rattle.std.specs.Prelude.{ℕ, Bool, if◌then◌else◌, false, not, ◌==◌, ◌||◌, List, Option, Some, None, is_some, is_none, option_and_then, position, slice_index, slice_index_or}
 use Rattle.sym_base.specs.declared.number.ObjNo.{ObjNo}
+use Rattle.entry_log.specs.declared.entry.Actor.{Actor}
+use Rattle.entry_log.specs.declared.entry.Actor.TheVariants.{Thread, Idle}
 use Rattle.state_rows.specs.declared.nano.NanoRows.{NanoRows}
 
 -- how many signals wait at a thread's fast semaphore
@@ -60,3 +62,8 @@ in_place_of r t = or_self t (wanted_holder r t)
 abbrev pub turned : NanoRows → Option ObjNo → Option ObjNo
 turned r None = None
 turned r (Some t) = if is_some (held_by r t) then None else Some t
+
+-- the actor that a choice gives: a thread, or nobody
+abbrev pub actor_of : Option ObjNo → Actor
+actor_of None = Idle
+actor_of (Some t) = Thread t

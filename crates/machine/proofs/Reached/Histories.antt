@@ -1,5 +1,5 @@
 -- Histories, one entry longer.
-use Rattle.state_rows.specs.Nano.{in_place_of}
+use Rattle.state_rows.specs.Nano.{in_place_of, actor_of}
 use Rattle.std.proofs.Common.{◌≡◌, ℕ, ◌+◌, List, [], ◌∷◌, ◌++◌, length, arith, refl, subst, ap, sym, ◌∙◌, Option, Some, None, Bool, true}
 use Rattle.std.specs.Prelude.{IsTrue, option_map}
 use Rattle.sym_base.specs.declared.number.ObjNo.{ObjNo}
@@ -9,7 +9,7 @@ use Rattle.script_types.specs.declared.script.Slot.TheVariants.{Go, Irq, Tick}
 use Rattle.entry_log.specs.declared.entry.Entry.{Entry}
 use Rattle.machine.specs.declared.state.State.{State}
 use Rattle.machine.specs.Boot.{boot}
-use Rattle.machine.specs.Choice.{actor_of, chosen, first_ready}
+use Rattle.machine.specs.Choice.{chosen, first_ready}
 use Rattle.machine.specs.History.{next, after, after_from, CanAct, IsNext, IsLegal, IsLegalFrom}
 use Rattle.machine.specs.Run.{slot_actor}
 use Rattle.machine.specs.Slots.{IsDeclared}

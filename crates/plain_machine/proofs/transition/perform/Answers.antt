@@ -2,8 +2,8 @@ use Rattle.std.proofs.Common.{◌∙◌}
 use Rattle.plain_machine.proofs.Performing.{goes_on_at, tells_few_at, room_for_one, readable_at}
 use Rattle.plain_machine.proofs.transition.perform.Goals as goal
 
-pub told-requires : goal.told-requires
-told-requires c = readable_at _ _ _ _ _ _ _ _ c.loop-change.invariant
+pub told-more-requires : goal.told-more-requires
+told-more-requires c = readable_at _ _ _ _ _ _ _ _ c.loop-change.invariant
 
 pub add_effects-requires : goal.add_effects-requires
 add_effects-requires c = tells_few_at _ _ _ _ _ c.loop-change.change-index c.change-item.result _ _ _ c.loop-change-test.true c.change-item.is c.loop-change.invariant (c.as_slice.ensures.effects ∙ c.told-more.ensures) c.requires.few
