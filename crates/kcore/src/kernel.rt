@@ -10,6 +10,7 @@ ghost use Rattle.machine.specs.Choice.{priority_of};
 ghost use Rattle.machine.specs.Task.{is_able};
 ghost use Rattle.machine.specs.History.{after, entry_by, CanAct, IsLegal};
 ghost use Rattle.machine.specs.Run.{slot_actor};
+ghost use Rattle.machine_safe.specs.ReadyHolders.{AreHoldersReady};
 ghost use Rattle.machine_safe.specs.SafeReferences.{IsSafeReferences};
 ghost use Rattle.kcore.specs.Noted.{AreKept};
 ghost use Rattle.ready_list.specs.Arrival.{AreQueuesOf};
@@ -112,6 +113,7 @@ impl<W: RefWords + Drop> Kernel<W> {
         ensures room { self.new.room ≡ self.old.room }
         ensures entry { self.new.history ≡ self.old.history ++ entry_by self.old.script (after self.old.script self.old.history) (length self.old.history + 1) actor ∷ [] }
         ensures safe { IsSafeReferences self.new.script self.new.history }
+        ensures holders { AreHoldersReady self.new.script self.new.history }
     {
         let outcome = transition(&self.script, &mut self.tables, &mut self.ready, actor);
         let place = self.history.as_slice().len() as u32 + 1;
@@ -127,11 +129,12 @@ impl<W: RefWords + Drop> Kernel<W> {
     }
 
     /// What happened so far, in order. It is a legal history of the script, in which each object died
-    /// exactly where its last reference went.
+    /// exactly where its last reference went, and after which whoever holds a fast mutex is ready.
     pub fn history(&self) -> &[Entry]
         ensures entries { result.now ≡ self.now.history }
         ensures legal { IsLegal self.now.script self.now.history }
         ensures safe { IsSafeReferences self.now.script self.now.history }
+        ensures holders { AreHoldersReady self.now.script self.now.history }
     {
         self.history.as_slice()
     }
@@ -155,6 +158,7 @@ impl Kernel<PlainWords> {
         ensures room { self.new.room ≡ self.old.room }
         ensures entry { let S = after self.old.script self.old.history in self.new.history ≡ self.old.history ++ entry_by self.old.script S (length self.old.history + 1) (slot_actor S slot) ∷ [] }
         ensures safe { IsSafeReferences self.new.script self.new.history }
+        ensures holders { AreHoldersReady self.new.script self.new.history }
     {
         let actor = slot_actor(&self.tables, &self.ready, slot);
         self.go(actor);
@@ -168,6 +172,7 @@ impl Kernel<PlainWords> {
         ensures room { self.new.room ≡ self.old.room }
         ensures entry { self.new.history ≡ self.old.history ++ entry_by self.old.script (after self.old.script self.old.history) (length self.old.history + 1) (Actor.Thread t) ∷ [] }
         ensures safe { IsSafeReferences self.new.script self.new.history }
+        ensures holders { AreHoldersReady self.new.script self.new.history }
     {
         self.go(Actor::Thread(t));
     }

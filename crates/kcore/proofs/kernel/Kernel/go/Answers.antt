@@ -47,3 +47,6 @@ returns-clause-entry g c =
     let k = c.self.inside in
     let told = entry_told k.script k.history.items k.tables c.transition-outcome.new.tables k.ready c.transition-outcome.new.ready c.args.actor c.transition-outcome.result (length c.as_slice.result.now + 1) c.entry_of-entry.result c.self.invariant.stands c.transition-outcome.ensures (ap (λ (n : ℕ). n + 1) (ap length c.as_slice.ensures.value)) c.entry_of-entry.ensures in
     rw (← c.self.view_is) (rw c.unwrap.ensures at c.push.ensures.items ∙ ap (λ (e : Entry). k.history.items ++ e ∷ []) told)
+
+pub returns-clause-holders : goal.returns-clause-holders
+returns-clause-holders g c = holders_ready c.self.inside.script c.push.new.self.items c.self.invariant.stands.valid
