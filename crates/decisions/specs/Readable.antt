@@ -1,6 +1,6 @@
 -- What the plain machine's state needs so that decisions can read it, and moves change it: the numbers there fit their
 -- types. It only serves proofs: every state that a history leaves has it.
-use Rattle.std.specs.Prelude.{ℕ, ◌≤◌, length}
+use Rattle.std.specs.Prelude.{◌≤◌, length}
 use Rattle.sym_base.specs.declared.number.ObjNo.{ObjNo}
 use Rattle.state_rows.specs.declared.nano.NanoRows.{NanoRows}
 use Rattle.state_rows.specs.Nano.{suspend_count}

@@ -1,7 +1,7 @@
 -- The best so far, against the best of a list.
-use Rattle.std.proofs.Common.{◌≡◌, ℕ, ◌<◌, ◌≤◌, suc, ◌+◌, Option, Some, None, List, ◌∷◌, length, get_or, drop, refl, ap, sym, ◌∙◌, arith, add-one, drop-cons, Bool, true, false}
+use Rattle.std.proofs.Common.{◌≡◌, ℕ, Option, Some, None, refl, arith, Bool, true, false}
 use Rattle.std.specs.Prelude.{nat_lt, if◌then◌else◌}
-use Rattle.sym_base.specs.Greatest.{unless_greater, first_of_greatest}
+use Rattle.sym_base.specs.Greatest.{unless_greater}
 use Rattle.plain_machine.specs.BestSoFar.{best_of, better}
 
 -- nothing to come leaves the best so far

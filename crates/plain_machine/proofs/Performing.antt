@@ -1,5 +1,5 @@
 -- The moves of an action, made one after the other.
-use Rattle.std.proofs.Common.{◌≡◌, ℕ, suc, ◌+◌, ◌<◌, ◌≤◌, add-one, drop-cons, get_or, List, [], ◌∷◌, ◌++◌, length, length-append, append_assoc, drop, arith, ap, sym, ◌∙◌, subst}
+use Rattle.std.proofs.Common.{◌≡◌, ℕ, suc, ◌+◌, ◌<◌, ◌≤◌, add-one, drop-cons, get_or, List, ◌∷◌, ◌++◌, length, length-append, append_assoc, drop, arith, ap, sym, ◌∙◌, subst}
 use Rattle.sym_base.specs.declared.number.ObjNo.{ObjNo}
 use Rattle.entry_log.specs.declared.effect.Effect.{Effect}
 use Rattle.script_types.specs.declared.script.Script.{Script}

@@ -1,5 +1,5 @@
 -- The plain machine after one more entry.
-use Rattle.std.proofs.Common.{◌≡◌, ℕ, ◌+◌, ◌<◌, ◌≤◌, List, [], ◌∷◌, ◌++◌, length, get_or, arith, ap, subst, sym, ◌∙◌, inl, inr, Option, Some, None, refl}
+use Rattle.std.proofs.Common.{◌≡◌, ℕ, ◌+◌, ◌≤◌, List, [], ◌∷◌, ◌++◌, length, get_or, arith, ap, subst, sym, ◌∙◌, inl, inr, Option, Some, None, refl}
 use Rattle.std.proofs.lemmas.Bool.{cases_lt}
 use Rattle.std.proofs.lemmas.List.{get_or_past}
 use Rattle.sym_base.specs.declared.number.ObjNo.{ObjNo}
@@ -7,7 +7,6 @@ use Rattle.script_types.specs.declared.declaration.ThreadDecl.{ThreadDecl}
 use Rattle.script_types.specs.declared.script.Script.{Script}
 use Rattle.script_types.specs.declared.script.Slot.{Slot}
 use Rattle.script_types.specs.Shape.{IsShaped}
-use Rattle.script_types.proofs.ShapeLaws.{valid_is_shaped}
 use Rattle.entry_log.specs.declared.entry.Actor.{Actor}
 use Rattle.entry_log.specs.declared.entry.Entry.{Entry}
 use Rattle.decisions.specs.Readable.{AreSmallRows}
@@ -18,7 +17,7 @@ use Rattle.machine.specs.declared.state.HandleSlot.{HandleSlot}
 use Rattle.machine.specs.declared.state.Role.{Role}
 use Rattle.machine.specs.declared.state.Role.TheVariants.{Supervisor, Declared}
 use Rattle.machine.specs.declared.state.State.{State}
-use Rattle.machine.specs.History.{transition, entry_of, IsNext, CanAct, IsLegal, after}
+use Rattle.machine.specs.History.{transition, entry_of, IsNext, CanAct, after}
 use Rattle.plain_machine.specs.PlainView.{IsPlain}
 use Rattle.machine.specs.Moves.{tell}
 use Rattle.machine.specs.Room.{HasRoom, IsSmallTable}

@@ -1,7 +1,6 @@
 -- The scripts of the tests of kernel threads, and what happens in them.
 use Rattle.std.specs.Prelude.{ℕ, ℤ, pos, codes, false, List, [], ◌∷◌, Option, Some, None, replicate}
 use Rattle.sym_base.specs.declared.kind.Kind.TheVariants as kind
-use Rattle.sym_base.specs.declared.number.ObjNo.{ObjNo}
 use Rattle.sym_base.specs.declared.word.Word.TheVariants as word
 use Rattle.entry_log.specs.declared.effect.Effect.{Effect}
 use Rattle.entry_log.specs.declared.effect.Effect.TheVariants as effect
