@@ -9,6 +9,7 @@ use Rattle.entry_log.specs.declared.effect.Effect.{Effect}
 use Rattle.entry_log.specs.declared.step.Step.TheVariants.{Turn, Wait}
 use Rattle.ready_list.specs.Ready.{Ready}
 use Rattle.state_rows.specs.declared.duty.Owed.TheVariants.{Close, Sweep}
+use Rattle.machine.specs.declared.decision.Decision.{Decision}
 use Rattle.machine.specs.declared.decision.Outcome.{Outcome}
 use Rattle.machine.specs.declared.moves.Move.{Move}
 use Rattle.machine.specs.declared.moves.Move.TheVariants.{Make, Gain, Lose, Find, Miss, GoOn, Write, Advance, Wake, SetPriority, Nano, Pay}
@@ -29,6 +30,7 @@ use Rattle.kcore.specs.Moved.{MovesGo}
 use Rattle.kcore.specs.Performed.{IsPerformed, Does}
 use Rattle.kcore.specs.ReadyQueues.{AreReady, Follow, leave_along}
 use Rattle.kcore.specs.StateOf.{state_of, with_ready}
+use Rattle.kcore.proofs.DecidedApart.{decision_apart}
 use Rattle.kcore.proofs.ReadyLists.{is_touched, leave_is_filter, listed_behind, taken_listed}
 
 -- moves don't look at the list of ready threads
@@ -122,6 +124,7 @@ act_does script t old new before between after outcome effects go did follow tol
       let T = state_of new in
       let came = arrivals script t d.moves X qs in
       let rest = filter (is_ready script T) came in
+      let same : decision_of script S t ≡ d = decision_apart script X qs t in
       let done = carried_out script t S d in
       let rows : perform t d.moves S ≡ with_ready T qs = perform_apart t d.moves X qs ∙ ap (λ (U : State). with_ready U qs) (sym did.state) in
       let list : done.state.ready ≡ rest = ap (λ (U : State). filter (is_ready script U) (arrivals script t d.moves S qs)) rows ∙ ap (filter (is_ready script T)) (arrivals_apart script t d.moves X qs qs) in
@@ -131,8 +134,8 @@ act_does script t old new before between after outcome effects go did follow tol
       let left_is : leave_along script T t d.moves came ≡ rest = leave_is_filter script T t d.moves came (λ u listed apart.
       ap (λ (U : State). is_ready script U u) did.state ∙ stays_ready script t d.moves X qs u go (each u) listed apart) in
       record {
-        did = ap (λ (U : State). left U outcome) state ∙ ap (left done.state) tale;
-        queues = subst (λ (l : List ObjNo). AreReady (priority_of T) l after) (left_is ∙ sym list) (follow (priority_of T) came (did.queues qs ready));
+        did = subst (λ (x : Decision). left (with_ready T (carried_out script t S x).state.ready) outcome ≡ carried_out script t S x) (sym same) (ap (λ (U : State). left U outcome) state ∙ ap (left done.state) tale);
+        queues = subst (λ (x : Decision). AreReady (priority_of T) (carried_out script t S x).state.ready after) (sym same) (subst (λ (l : List ObjNo). AreReady (priority_of T) l after) (left_is ∙ sym list) (follow (priority_of T) came (did.queues qs ready)));
       };
   kept = did.kept;
 }

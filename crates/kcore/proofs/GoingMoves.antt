@@ -187,8 +187,8 @@ can_nano script S m rows there fits =
     by_kind : (m : NanoMove) → (nano_thread m).0 < length S.nano.signals → FitsNano m S → CanNano m S.nano
     by_kind (nano.Take t f) at fits = (at, fits.0, fits.2.holds)
     by_kind (nano.Give t f) at fits = (at, fits.0)
-    by_kind (nano.Want t None) at fits = (at, tt)
-    by_kind (nano.Want t (Some f)) at fits = (at, fits.0)
+    by_kind (nano.Want t None) at fits = (at, λ wanted is. absurd (cc))
+    by_kind (nano.Want t (Some f)) at fits = (at, λ wanted is. let same : f ≡ wanted = cc in subst (λ (n : ℕ). n < length S.nano.holders) same fits.0)
     by_kind (nano.Enter t) at fits = at
     by_kind (nano.Leave t) at fits = at
     by_kind (nano.LeaveAll t) at fits = at

@@ -3,6 +3,7 @@ mod BootNano
 mod BootReady
 mod BootTables
 mod BootUses
+mod DecidedApart
 mod Finds
 mod FirstCount
 mod FreshTable
