@@ -1,5 +1,5 @@
 -- The threads that are held at boot are suspended one after the other.
-use Rattle.std.proofs.Common.{◌≡◌, ℕ, zero, suc, ◌+◌, List, [], ◌∷◌, length, get_or, set, map, replicate, refl, ap, ◌∙◌, add-one}
+use Rattle.std.proofs.Common.{◌≡◌, ℕ, zero, suc, ◌+◌, List, [], ◌∷◌, length, get_or, set, map, replicate, refl, ap, add-one}
 use Rattle.std.specs.Prelude.{Some, slice_get}
 use Rattle.machine.specs.declared.boot.Born.{Born}
 use Rattle.machine.specs.Boot.{held_count}

@@ -1,20 +1,18 @@
 -- The ready threads of a well-formed state, one after another.
-use Rattle.std.proofs.Common.{◌≡◌, ℕ, zero, suc, ◌+◌, ◌<◌, List, [], ◌∷◌, take, arith, refl, sym, subst, ap, ◌∙◌, true, false, Option, Some, None}
-use Rattle.std.specs.Prelude.{◌==◌, slice_get, is_some}
+use Rattle.std.proofs.Common.{◌≡◌, ℕ, zero, suc, ◌+◌, ◌<◌, List, [], ◌∷◌, take, arith, refl, sym, subst, ap, ◌∙◌, true, false, Some}
+use Rattle.std.specs.Prelude.{◌==◌, slice_get}
 use Rattle.std.specs.List.{list_any}
 use Rattle.std.proofs.lemmas.Bool.{eq-eqb, or_from, or_left, or_right}
 use Rattle.sym_base.specs.declared.limits.TheConstants.Limits.{BOOT_OBJECTS}
 use Rattle.sym_base.specs.declared.number.ObjNo.{ObjNo}
 use Rattle.script_types.specs.declared.script.Script.{Script}
-use Rattle.state_rows.specs.declared.duty.Owed.{Owed}
 use Rattle.ready_list.specs.Queue.{holds}
 use Rattle.ready_list.specs.Ready.{Ready, added, no_threads}
 use Rattle.machine.specs.declared.state.State.{State}
 use Rattle.machine.specs.declared.state.ThreadRow.{ThreadRow}
 use Rattle.machine.specs.Arrivals.{is_listed}
 use Rattle.machine.specs.Choice.{priority_of, priority_of_row}
-use Rattle.machine.specs.Rows.{thread_of, first_owed}
-use Rattle.machine.specs.Task.{task_of_row}
+use Rattle.machine.specs.Rows.{thread_of}
 use Rattle.machine.specs.WellFormed.{AreApart, IsWellFormed}
 use Rattle.machine.proofs.Lists.Totals.{inside}
 use Rattle.kcore.specs.ReadyQueues.{AreReady}

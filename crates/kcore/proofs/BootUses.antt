@@ -1,5 +1,5 @@
 -- No thread owes or uses anything at boot.
-use Rattle.std.proofs.Common.{Result, Ok, Err, ◌≡◌, ◌∙◌, ℕ, List, [], ◌∷◌, length, map, replicate, refl, sym, ap}
+use Rattle.std.proofs.Common.{Result, Ok, Err, ◌≡◌, ℕ, List, [], ◌∷◌, length, map, replicate, refl, ap}
 use Rattle.std.specs.Prelude.{IfOk, Option, Some, None}
 use Rattle.sym_base.specs.declared.number.ObjNo.{ObjNo}
 use Rattle.script_types.specs.declared.script.Script.{Script}

@@ -1,6 +1,6 @@
 -- What is noted of threads for their deaths follows their rows.
-use Rattle.std.proofs.Common.{◌≡◌, ◌∙◌, inl, inr, ◌+◌, ◌<◌, ◌≤◌, List, [], ◌∷◌, ◌++◌, length, get_or, map, set, arith, refl, sym, ap, append_assoc, append-nil}
-use Rattle.std.specs.Prelude.{option_map, Option, Some, None, slice_get, true, false, Bool, IsTrue}
+use Rattle.std.proofs.Common.{◌≡◌, ◌∙◌, inl, inr, ◌≤◌, List, [], ◌∷◌, ◌++◌, length, get_or, map, set, arith, refl, sym, ap, append_assoc, append-nil}
+use Rattle.std.specs.Prelude.{option_map, Option, Some, None, slice_get, true, false, Bool}
 use Rattle.std.proofs.lemmas.Bool.{cases_lt}
 use Rattle.std.proofs.lemmas.List.{map-set, set-get_or, set-set, set_past, get_or-set_same, length-set}
 use Rattle.std.proofs.Math.ListN.{get_or-map as each-map}
@@ -9,11 +9,10 @@ use Rattle.sym_base.specs.declared.number.ObjNo.{ObjNo}
 use Rattle.entry_log.specs.declared.effect.Holder.{Holder}
 use Rattle.entry_log.specs.declared.effect.Holder.TheVariants.{InProcess, InThread, Temp, Own, Link, Message, Kernel}
 use Rattle.state_rows.specs.declared.duty.Owed.{Owed}
-use Rattle.state_rows.specs.declared.duty.Owed.TheVariants.{Sweep}
 use Rattle.cleanup.specs.Lists.{Lists}
 use Rattle.machine.specs.declared.state.State.{State}
 use Rattle.machine.specs.declared.state.ThreadRow.{ThreadRow}
-use Rattle.machine.specs.Moves.{use_of_row, with_use as row_with_use, threads_gain, threads_lose, threads_closed, unlinked, advanced, owed_by_close, owed_link}
+use Rattle.machine.specs.Moves.{use_of_row, with_use as row_with_use, threads_gain, threads_lose, threads_closed, unlinked, advanced}
 use Rattle.machine.specs.Rows.{with_row, owing, first_of}
 use Rattle.kcore.specs.Moved.{MayGain}
 use Rattle.kcore.specs.Noted.{with_use, use_gained, use_lost, MayUse, AreNoted}

@@ -1,7 +1,6 @@
 -- When a move in the table of threads that synchronize can be made.
-use Rattle.std.specs.Prelude.{◌≡◌, ◌<◌, length, Option, Some, None}
+use Rattle.std.specs.Prelude.{◌≡◌, ◌<◌, length, None}
 use Rattle.std.specs.Option.{ForSome}
-use Rattle.sym_base.specs.declared.number.ObjNo.{ObjNo}
 use Rattle.state_rows.specs.declared.nano.NanoRows.{NanoRows}
 use Rattle.state_rows.specs.Nano.{held_by}
 use Rattle.machine.specs.declared.nano_move.NanoMove.{NanoMove}

@@ -4,7 +4,6 @@ use Rattle.sym_base.specs.declared.number.ObjNo.{ObjNo}
 use Rattle.script_types.proofs.ShapeLaws.{valid_is_shaped}
 use Rattle.machine.specs.declared.boot.Born.{Born}
 use Rattle.machine.specs.declared.state.State.{State}
-use Rattle.machine.specs.declared.state.HandleSlot.{HandleSlot}
 use Rattle.machine.specs.Arrivals.{is_listed}
 use Rattle.machine.specs.Boot.{boot, boot_of, born, nano_of}
 use Rattle.machine.specs.Choice.{priority_of}

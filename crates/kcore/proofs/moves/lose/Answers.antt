@@ -1,7 +1,5 @@
-use Rattle.std.proofs.Common.{refl, ◌∙◌, ap, ℕ, sym}
+use Rattle.std.proofs.Common.{refl, ◌∙◌}
 use Rattle.std.specs.Prelude.{◌==◌, slice_index}
-use Rattle.machine.specs.Moves.{told}
-use Rattle.kcore.specs.StateOf.{state_of}
 use Rattle.kcore.proofs.FirstCount.{counts-less}
 use Rattle.kcore.proofs.Noting.{noted_lost, duties_lost}
 use Rattle.kcore.proofs.moves.lose.Goals as goal

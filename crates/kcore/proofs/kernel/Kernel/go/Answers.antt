@@ -1,4 +1,4 @@
-use Rattle.std.proofs.Common.{◌≡◌, length, ap, [], ◌∷◌, ◌++◌, ◌+◌, ◌∙◌, ℕ, arith}
+use Rattle.std.proofs.Common.{length, ap, [], ◌∷◌, ◌++◌, ◌+◌, ◌∙◌, ℕ, arith}
 use Rattle.entry_log.specs.declared.entry.Entry.{Entry}
 use Rattle.kcore.proofs.Goes.{rows_stand, shape_stands, some_stand, actor_there, kernel_goes_on, entry_told, safe_history}
 use Rattle.kcore.proofs.kernel.Kernel.go.Goals as goal
