@@ -153,7 +153,6 @@ pub fn chosen<W: RefWords + Drop>(tables: &Tables<W>, ready: &ReadyList) -> Acto
 }
 
 /// Puts the first thread of the highest queue behind its equals, unless it holds a fast mutex.
-#[tactic(auto, using(crate::proofs::ReadyChanges::tick_follows))]
 pub fn turn(nano: &NanoSync, ready: &mut ReadyList)
     ensures { (rank : ObjNo → ℕ) → Follow rank (λ qs. moved_behind qs (turned nano.now (first_of_greatest rank qs))) ready.old ready.new }
 {

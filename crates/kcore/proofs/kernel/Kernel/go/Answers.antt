@@ -1,6 +1,7 @@
 use Rattle.std.proofs.Common.{length, ap, [], ◌∷◌, ◌++◌, ◌+◌, ◌∙◌, ℕ, arith}
 use Rattle.entry_log.specs.declared.entry.Entry.{Entry}
 use Rattle.kcore.proofs.Goes.{rows_stand, shape_stands, some_stand, actor_there, kernel_goes_on, entry_told, safe_history}
+use Rattle.machine_safe.proofs.ReadyHolders.{holders_ready}
 use Rattle.kcore.proofs.kernel.Kernel.go.Goals as goal
 
 pub transition-outcome-requires-clause-shaped : goal.transition-outcome-requires-clause-shaped
