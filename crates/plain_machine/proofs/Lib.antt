@@ -5,5 +5,4 @@ pub mod Rooms
 pub mod SmallRows
 pub mod Steps
 pub mod ValidExample
-pub mod ValidKernelThreads
 pub mod ValidScripts

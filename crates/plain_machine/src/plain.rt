@@ -98,6 +98,4 @@ impl Plain {
 }
 
 #[cfg(test)]
-mod kernel_thread_tests;
-#[cfg(test)]
 mod tests;
