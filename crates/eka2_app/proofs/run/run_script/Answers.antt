@@ -5,8 +5,8 @@ use Rattle.machine.specs.Run.{run}
 use Rattle.machine_safe.proofs.SafeHistories.{legal_safe}
 use Rattle.eka2_app.proofs.run.run_script.Goals as goal
 
-pub returns-clause-safe : goal.returns-clause-safe
-returns-clause-safe g c =
+pub returns-in-Ok-write_history-clause-safe : goal.returns-in-Ok-write_history-clause-safe
+returns-in-Ok-write_history-clause-safe g c =
     let kernel = c.in-Ok.kernel in
     let script = c.args.script in
     let legal = subst (λ (s : Script). IsLegal s kernel.history) c.in-Ok.ensures.script c.write_history.ensures.legal in
