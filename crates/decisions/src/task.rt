@@ -1,5 +1,5 @@
 //! What a thread does next.
-ghost use Rattle.std.specs.Prelude.{◌≡◌, Some, option_copied};
+ghost use Rattle.std.specs.Prelude.{◌≡◌, Some, is_some, option_copied};
 ghost use Rattle.machine.specs.Rows.{first_owed};
 ghost use Rattle.machine.specs.Task.{instruction, is_returning, end_task, step_or_end, pay_or_step, task_of_row, task_of, is_wait, is_stopped, is_ready, is_able, declared_of};
 ghost use Rattle.state_rows.specs.Nano.{is_protected, wanted_holder};
@@ -27,6 +27,17 @@ pub fn instruction(script: &Script, row: &ThreadRow) -> Option<Instr>
     let declared = declared_of(script, row.role)?;
     let at = row.next_instruction as usize;
     declared.instrs.as_slice().get(at).copied()
+}
+
+/// Whether a thread is at an instruction, and not at its list's end.
+fn has_instruction(script: &Script, row: &ThreadRow) -> bool
+    ensures { result ≡ is_some (instruction script.now row.now) }
+{
+    let Some(declared) = declared_of(script, row.role) else {
+        return false;
+    };
+    let at = row.next_instruction as usize;
+    declared.instrs.as_slice().get(at).is_some()
 }
 
 /// Whether a thread is between a find and its return.
@@ -79,6 +90,13 @@ fn task_of_row<R: Reads>(
     pay_or_step(reads, thread, instr)
 }
 
+/// Whether the thread of this row has something to do: an instruction, something that it owes, or what protects it.
+fn has_task<R: Reads>(script: &Script, reads: &R, thread: ThreadNo, row: &ThreadRow) -> bool
+    ensures { result ≡ is_some (task_of_row script.now (is_protected (R.state reads.now).nano thread) (first_owed (R.state reads.now) thread) (Some row.now)) }
+{
+    has_instruction(script, row) || reads.first_owed(thread).is_some() || reads.is_protected(thread)
+}
+
 /// What a thread does next, None where there is nothing.
 pub fn task_of<R: Reads>(script: &Script, reads: &R, thread: ThreadNo) -> Option<Task>
     ensures { result ≡ task_of script.now (R.state reads.now) thread }
@@ -114,7 +132,7 @@ pub fn is_ready<R: Reads>(script: &Script, reads: &R, thread: ThreadNo) -> bool
     if is_wait(row.waiting) || is_stopped(reads, thread) {
         return false;
     }
-    task_of_row(script, reads, thread, &row).is_some()
+    has_task(script, reads, thread, &row)
 }
 
 /// The thread that holds the fast mutex that a thread wants, if there is one.
