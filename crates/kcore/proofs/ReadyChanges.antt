@@ -155,9 +155,11 @@ tick_follows sync rank r = by (first_of_highest r.queues) refl
     at : (t : ObjNo) (p : Option ℕ) → is_some (held_by sync t) ≡ false → Some t ≡ first_of_highest r.queues → p ≡ priority_of r t → Follow rank (λ qs. moved_behind qs (turned sync (first_of_greatest rank qs))) r (rotated_at r p)
     at t None free is stands = chosen_stands sync rank r t is stands
     at t (Some p) free is stands = queue_turns sync rank r t p free is stands
+
     held : (t : ObjNo) (b : Bool) → is_some (held_by sync t) ≡ b → Some t ≡ first_of_highest r.queues → Follow rank (λ qs. moved_behind qs (turned sync (first_of_greatest rank qs))) r (rotated_at r (option_and_then (priority_of r) (if b then None else Some t)))
     held t true holds is = holder_spared sync rank r t holds is
     held t false free is = at t (priority_of r t) free is refl
+
     by : (found : Option ObjNo) → found ≡ first_of_highest r.queues → Follow rank (λ qs. moved_behind qs (turned sync (first_of_greatest rank qs))) r (rotated_at r (option_and_then (priority_of r) (turned sync found)))
     by None none = nobody_turns sync rank r none
     by (Some t) is = held t (is_some (held_by sync t)) refl is
