@@ -1,5 +1,5 @@
 -- Servers, sessions and their links, as lists.
-use Rattle.std.specs.Prelude.{ℕ, Bool, false, not, ◌&&◌, ◌==◌, List, [], Option, None, Some, option_map, slice_index_or, IsSome}
+use Rattle.std.specs.Prelude.{Bool, false, not, ◌&&◌, ◌==◌, List, [], Option, None, Some, option_map, slice_index_or, IsSome}
 use Rattle.std.specs.List.{list_any}
 use Rattle.sym_base.specs.declared.number.ObjNo.{ObjNo}
 use Rattle.server_table.specs.declared.rows.ServerRow.{ServerRow}
