@@ -5,10 +5,11 @@ use Rattle.std.specs.List.{AllByRecursion, flat_map}
 use Rattle.script_print.specs.CanonicalText.{spaced, source_text, canonical_lines, canonical_text}
 use Rattle.script_print.proofs.CutAgain.{words_again, words_clean, lines_again}
 use Rattle.script_print.proofs.LinesAgain.{canonical_stands}
+use Rattle.script_print.proofs.NamesAgain.{twos}
 use Rattle.script_print.proofs.PlainLines.{line_printed}
 use Rattle.script_print.proofs.ScheduleAgain.{Stand}
 use Rattle.script_types.specs.Context.{start, after, after_all, is_ended}
-use Rattle.script_types.specs.Names.{Declared, file_declares}
+use Rattle.script_types.specs.Names.{Declared, first_two}
 use Rattle.script_types.specs.Source.{IsClean, IsAccepted}
 use Rattle.script_types.specs.SourceText.{text_lines, told_words, words_of}
 use Rattle.script_types.specs.SourceWords.{source_words}
@@ -66,20 +67,18 @@ joined [] = refl
 joined (l ∷ ls) = ap (λ t. source_text l ++ t) (joined ls)
 
 -- lines that stand are accepted as they are printed
-lines_accepted : (lines : List SourceLine) (made : Context) → ((file : List Declared) → Stand file start lines made) → is_ended made ≡ true → IsAccepted (flat_map source_text lines) made.script
-lines_accepted lines made stands ended =
+lines_accepted : (lines : List SourceLine) (made : Context) → Stand (twos lines) start lines made → is_ended made ≡ true → IsAccepted (flat_map source_text lines) made.script
+lines_accepted lines made h ended =
     let texts = texts_of lines in
-    let here = stands [] in
-    let p = printed [] start lines here.stand in
+    let p = printed (twos lines) start lines h.stand in
     let cut : text_lines (flat_map source_text lines) ≡ texts = ap text_lines (joined lines) ∙ lines_again texts p.clean in
-    let file = file_declares (text_lines (flat_map source_text lines)) in
-    let h = stands file in
+    let spelled : told_words (text_lines (flat_map source_text lines)) ≡ map source_words lines = ap told_words cut ∙ p.told in
     record {
       lines = lines;
       are = record {
         clean = subst (λ (ts : List (List ℕ)). AllByRecursion IsClean ts) (sym cut) p.clean;
-        spelled = ap told_words cut ∙ p.told;
-        stand = h.stand;
+        spelled = spelled;
+        stand = subst (λ (ws : List (List (List ℕ))). AllStand (map first_two ws) start lines) (sym spelled) h.stand;
       };
       ended = ap is_ended h.makes ∙ ended;
       built = h.built;
@@ -90,5 +89,6 @@ pub canonical_accepted : (bytes : List ℕ) (script : Script) → IsAccepted byt
 unfolding canonical_text
 canonical_accepted bytes script a =
     let made : Context = after_all start a.lines in
-    let accepted = lines_accepted (canonical_lines made.script) made (λ other. canonical_stands (file_declares (text_lines bytes)) other a.lines a.are.stand a.ended a.built) a.ended in
+    let stand : AllStand (twos a.lines) start a.lines = subst (λ (ws : List (List (List ℕ))). AllStand (map first_two ws) start a.lines) a.are.spelled a.are.stand in
+    let accepted = lines_accepted (canonical_lines made.script) made (canonical_stands a.lines stand a.ended a.built) a.ended in
     subst (λ (s : Script). IsAccepted (flat_map source_text (canonical_lines s)) s) (sym a.same) accepted

@@ -1,145 +1,162 @@
--- The lines that declare processes and threads are the canonical ones.
-use Rattle.std.proofs.Common.{◌≡◌, ℕ, suc, ◌+◌, ◌<◌, ◌≤◌, true, false, List, [], ◌∷◌, ◌++◌, append_assoc, length, length-append, map, refl, ap, sym, ◌∙◌, Option, Some, None, arith}
+-- The lines that declare what lines make are those lines, but for the settings of 0.
+use Rattle.std.proofs.Common.{◌≡◌, ℕ, ◌<◌, ◌≤◌, Bool, true, false, List, [], ◌∷◌, ◌++◌, append_assoc, map, refl, ap, sym, ◌∙◌, Some, None, arith}
 use Rattle.std.proofs.lemmas.Bool.Decides.{nat_tests}
 use Rattle.std.proofs.lemmas.List.{append-nil, map-append}
-use Rattle.std.proofs.lemmas.List.Concat.{flat_map-append}
-use Rattle.std.proofs.lemmas.List.Elements.{filter-append}
 use Rattle.std.specs.List.{AllByRecursion, flat_map}
-use Rattle.std.specs.Prelude.{◌==◌}
-use Rattle.script_print.specs.CanonicalText.{thread_line, thread_lines, is_same, threads_of, process_lines, processes_lines, declared_lines, schedule_lines, canonical_lines}
-use Rattle.script_types.specs.Context.{with_instr, last_of}
-use Rattle.script_types.specs.declared.declaration.ProcessDecl.{ProcessDecl}
-use Rattle.script_types.specs.declared.declaration.ThreadDecl.{ThreadDecl}
-use Rattle.script_types.specs.declared.instruction.Instr.{Instr}
+use Rattle.std.specs.Prelude.{◌==◌, not}
+use Rattle.script_print.specs.CanonicalText.{setting_lines, queue_line, dfc_line, idfc_line, irq_line, processes_lines, declared_lines}
+use Rattle.script_print.proofs.Front.{so_far, IsFront, front_after, HasLast, last_after, in_last, owner_is}
+use Rattle.script_print.proofs.ThreadGroups.{owned_lines, last_owner, thread_push, instr_push, process_push}
+use Rattle.script_types.specs.Context.{may_stand, after_all, kind_of, rank_of, told, is_process, last_of}
+use Rattle.script_types.specs.Names.{Declared}
+use Rattle.script_types.specs.Stands.{Stands, AllStand}
 use Rattle.script_types.specs.declared.script.Script.{Script}
-use Rattle.script_types.specs.declared.script.Slot.{Slot}
+use Rattle.script_types.specs.declared.declaration.ThreadDecl.{ThreadDecl}
+use Rattle.script_types.specs.declared.source_line.LineKind.TheVariants as of
 use Rattle.script_types.specs.declared.source_line.SourceLine.{SourceLine}
 use Rattle.script_types.specs.declared.source_line.SourceLine.TheVariants as line
+use Rattle.script_types.proofs.LimitLaws.{IsSound, sound-after, earlier, thread_needs}
 
--- a script of processes and threads alone, and its lines
-abbrev pub plain_script : List ProcessDecl → List ThreadDecl → Script
-plain_script ps ts = record { version = 1; pool = 0; fast = 0; queues = []; dfcs = []; idfcs = []; irqs = []; processes = ps; threads = ts; slots = [] }
+-- What a line leaves among the lines that declare: itself, but for a setting of 0, and for the schedule's lines.
+abbrev pub tells : SourceLine → List SourceLine
+tells (line.Pool count) = setting_lines line.Pool count
+tells (line.Fast count) = setting_lines line.Fast count
+tells line.Schedule = []
+tells (line.Go count) = []
+tells (line.IrqSlot k) = []
+tells line.Tick = []
+tells line.End = []
+tells l = l ∷ []
 
-abbrev pub plain_lines : List ProcessDecl → List ThreadDecl → List SourceLine
-plain_lines ps ts = line.Header ∷ processes_lines ts 0 ps
+abbrev pub said : List SourceLine → List SourceLine
+said lines = flat_map tells lines
 
--- each thread is of one of so many processes
-pub record IsOwned (count : ℕ) (t : ThreadDecl) : Type 0 where
-  pub owner : ℕ
-  pub is : t.process ≡ Some owner
-  pub below : owner < count
+-- groups of lines, one behind another
+abbrev behind : List SourceLine → List (List SourceLine) → List SourceLine
+behind front [] = front
+behind front (group ∷ groups) = behind (front ++ group) groups
 
-abbrev pub AreOwned : ℕ → List ThreadDecl → Type 0
-AreOwned count ts = AllByRecursion (IsOwned count) ts
+abbrev AreEmpty : List (List SourceLine) → Type 0
+AreEmpty groups = AllByRecursion (λ (group : List SourceLine). group ≡ []) groups
 
-pub owned_wider : (less more : ℕ) (ts : List ThreadDecl) → less ≤ more → AreOwned less ts → AreOwned more ts
-owned_wider less more [] le all = tt
-owned_wider less more (t ∷ ts) le all = let below = all.0.below in (record { owner = all.0.owner; is = all.0.is; below = omega arith }, owned_wider less more ts le all.1)
+-- what stands before empty groups stands at the end
+before_empty : (front more : List SourceLine) (groups : List (List SourceLine)) → AreEmpty groups → behind (front ++ more) groups ≡ behind front groups ++ more
+before_empty front more [] all = refl
+before_empty front more (g ∷ gs) all =
+    let long : front ++ more ++ g ≡ front ++ more = ap (λ (ls : List SourceLine). front ++ more ++ ls) all.0 ∙ append-nil (front ++ more) in
+    let short : front ++ g ≡ front = ap (λ (ls : List SourceLine). front ++ ls) all.0 ∙ append-nil front in
+    ap (λ (ls : List SourceLine). behind ls gs) long ∙ before_empty front more gs all.1 ∙ ap (λ (ls : List SourceLine). behind ls gs ++ more) (sym short)
 
-pub owned_push : (count : ℕ) (ts : List ThreadDecl) (t : ThreadDecl) → AreOwned count ts → IsOwned count t → AreOwned count (ts ++ t ∷ [])
-owned_push count [] t all h = (h, tt)
-owned_push count (u ∷ us) t all h = (all.0, owned_push count us t all.1 h)
+-- one line more in a group
+group_grows : (front group grown more : List SourceLine) (groups : List (List SourceLine)) → grown ≡ group ++ more → AreEmpty groups → behind (front ++ grown) groups ≡ behind (front ++ group) groups ++ more
+group_grows front group grown more groups e all =
+    ap (λ (ls : List SourceLine). behind (front ++ ls) groups) e ∙ ap (λ (ls : List SourceLine). behind ls groups) (sym (append_assoc front group more)) ∙ before_empty (front ++ group) more groups all
 
-pub owned_front : (count : ℕ) (ts : List ThreadDecl) (t : ThreadDecl) → AreOwned count (ts ++ t ∷ []) → AreOwned count ts × IsOwned count t
-owned_front count [] t all = (tt, all.0)
-owned_front count (u ∷ us) t all = let later = owned_front count us t all.1 in ((all.0, later.0), later.1)
+-- a header stands nowhere but first
+pub no_header : (awaits : Bool) (rank : ℕ) → may_stand (Some rank) awaits of.Header ≡ true → ⊥
+no_header true rank h = cc
+no_header false rank h = cc
 
--- the owner of no thread
-not_same : (one other : ℕ) → other < one → (one == other) ≡ false
-not_same one other h = grind (arith, nat_tests)
+-- a setting stands once
+pub first_setting : (rank last : ℕ) → rank ≤ last → not (rank == last) ≡ true → rank < last
+first_setting rank last le h = grind (arith, nat_tests)
 
-not_owner : (count number : ℕ) (t : ThreadDecl) → IsOwned count t → count ≤ number → is_same (Some number) t.process ≡ false
-not_owner count number t h le =
-    let below = h.below in
-    let e : is_same (Some number) t.process ≡ is_same (Some number) (Some h.owner) = ap (is_same (Some number)) h.is in
-    e ∙ not_same number h.owner (omega arith)
+-- the groups of a script
+module _ (s : Script) where
+  abbrev pool : List SourceLine
+  pool = setting_lines line.Pool s.pool
 
-no_threads : (count number : ℕ) (ts : List ThreadDecl) → AreOwned count ts → count ≤ number → threads_of (Some number) ts ≡ []
-no_threads count number [] all le = refl
-no_threads count number (t ∷ ts) all le = rw (not_owner count number t all.0 le, no_threads count number ts all.1 le) refl
+  abbrev fast : List SourceLine
+  fast = setting_lines line.Fast s.fast
 
-pub no_kernel_threads : (count : ℕ) (ts : List ThreadDecl) → AreOwned count ts → threads_of None ts ≡ []
-no_kernel_threads count [] all = refl
-no_kernel_threads count (t ∷ ts) all =
-    let e : is_same None t.process ≡ false = ap (is_same None) all.0.is in
-    rw (e, no_kernel_threads count ts all.1) refl
+  abbrev queues : List SourceLine
+  queues = map queue_line s.queues
 
--- one process more
-processes_push : (ts : List ThreadDecl) (n m : ℕ) (ps : List ProcessDecl) (p : ProcessDecl) → m ≡ n + length ps → processes_lines ts n (ps ++ p ∷ []) ≡ processes_lines ts n ps ++ process_lines ts m p
-processes_push ts n m [] p e =
-    let same : n ≡ m = omega arith in
-    append-nil (process_lines ts n p) ∙ ap (λ (k : ℕ). process_lines ts k p) same
-processes_push ts n m (q ∷ qs) p e =
-    let later = processes_push ts (suc n) m qs p (omega arith) in
-    ap (λ (ls : List SourceLine). process_lines ts n q ++ ls) later ∙ sym (append_assoc (process_lines ts n q) (processes_lines ts (suc n) qs) (process_lines ts m p))
+  abbrev dfcs : List SourceLine
+  dfcs = map dfc_line s.dfcs
 
-pub process_push : (ps : List ProcessDecl) (p : ProcessDecl) (ts : List ThreadDecl) → AreOwned (length ps) ts → plain_lines (ps ++ p ∷ []) ts ≡ plain_lines ps ts ++ line.Process p.name ∷ []
-process_push ps p ts all =
-    let none = no_threads (length ps) (length ps) ts all (omega arith) in
-    ap (λ (ls : List SourceLine). line.Header ∷ ls) (processes_push ts 0 (length ps) ps p (omega arith) ∙ ap (λ (us : List ThreadDecl). processes_lines ts 0 ps ++ line.Process p.name ∷ flat_map thread_lines us) none)
+  abbrev idfcs : List SourceLine
+  idfcs = map idfc_line s.idfcs
 
--- one thread more, of the last process
-is_other : (one other : ℕ) → one < other → (one == other) ≡ false
-is_other one other h = grind (arith, nat_tests)
+  abbrev irqs : List SourceLine
+  irqs = map irq_line s.irqs
 
-others_stay : (n m : ℕ) (ps : List ProcessDecl) (ts : List ThreadDecl) (t : ThreadDecl) → t.process ≡ Some m → n + length ps ≤ m → processes_lines (ts ++ t ∷ []) n ps ≡ processes_lines ts n ps
-others_stay n m [] ts t e le = refl
-others_stay n m (p ∷ ps) ts t e le =
-    let apart : is_same (Some n) t.process ≡ false = ap (is_same (Some n)) e ∙ is_other n m (omega arith) in
-    let one : threads_of (Some n) (t ∷ []) ≡ [] = rw apart refl in
-    let stays : threads_of (Some n) (ts ++ t ∷ []) ≡ threads_of (Some n) ts = filter-append (λ (u : ThreadDecl). is_same (Some n) u.process) ts (t ∷ []) ∙ ap (λ (us : List ThreadDecl). threads_of (Some n) ts ++ us) one ∙ append-nil (threads_of (Some n) ts) in
-    let later = others_stay (suc n) m ps ts t e (omega arith) in
-    rw (stays, later) refl
+  abbrev kernel : List SourceLine
+  kernel = owned_lines None s.threads
 
-last_grows : (m : ℕ) (p : ProcessDecl) (ts : List ThreadDecl) (t : ThreadDecl) → t.process ≡ Some m → process_lines (ts ++ t ∷ []) m p ≡ process_lines ts m p ++ thread_lines t
-last_grows m p ts t e =
-    let here : (m == m) ≡ true = grind (arith, nat_tests) in
-    let same : is_same (Some m) t.process ≡ true = ap (is_same (Some m)) e ∙ here in
-    let one : threads_of (Some m) (t ∷ []) ≡ t ∷ [] = rw same refl in
-    let grown : threads_of (Some m) (ts ++ t ∷ []) ≡ threads_of (Some m) ts ++ t ∷ [] = filter-append (λ (u : ThreadDecl). is_same (Some m) u.process) ts (t ∷ []) ∙ ap (λ (us : List ThreadDecl). threads_of (Some m) ts ++ us) one in
-    ap (λ (us : List ThreadDecl). line.Process p.name ∷ flat_map thread_lines us) grown ∙ ap (λ (ls : List SourceLine). line.Process p.name ∷ ls) (flat_map-append thread_lines (threads_of (Some m) ts) (t ∷ []) ∙ ap (λ (ls : List SourceLine). flat_map thread_lines (threads_of (Some m) ts) ++ ls) (append-nil (thread_lines t)))
+  abbrev processes : List SourceLine
+  processes = processes_lines s.threads 0 s.processes
 
-pub thread_push : (ps : List ProcessDecl) (p : ProcessDecl) (ts : List ThreadDecl) (t : ThreadDecl) → t.process ≡ Some (length ps) → plain_lines (ps ++ p ∷ []) (ts ++ t ∷ []) ≡ plain_lines (ps ++ p ∷ []) ts ++ thread_lines t
-thread_push ps p ts t e =
-    let m : ℕ = length ps in
-    let number : m ≡ 0 + m = omega arith in
-    let new = processes_push (ts ++ t ∷ []) 0 m ps p number in
-    let old = processes_push ts 0 m ps p number in
-    let stays = others_stay 0 m ps ts t e (omega arith) in
-    let grows = last_grows m p ts t e in
-    ap (λ (ls : List SourceLine). line.Header ∷ ls) (
-    new ∙ ap (λ (ls : List SourceLine). ls ++ process_lines (ts ++ t ∷ []) m p) stays ∙ ap (λ (ls : List SourceLine). processes_lines ts 0 ps ++ ls) grows
-    ∙ sym (append_assoc (processes_lines ts 0 ps) (process_lines ts m p) (thread_lines t)) ∙ ap (λ (ls : List SourceLine). ls ++ thread_lines t) (sym old))
+  module _ (rank : ℕ) (f : IsFront s rank) where
+    no_pool : rank < 1 → pool ≡ []
+    no_pool e = ap (setting_lines line.Pool) (f.pool e)
 
--- one instruction more of the last thread
-abbrev pub grown : ThreadDecl → Instr → ThreadDecl
-grown t what = record t { instrs = t.instrs ++ what ∷ [] }
+    no_fast : rank < 2 → fast ≡ []
+    no_fast e = ap (setting_lines line.Fast) (f.fast e)
 
-line_stays : (process : Option ℕ) (t : ThreadDecl) (what : Instr) → thread_line process (grown t what) ≡ thread_line process t
-line_stays None t what = refl
-line_stays (Some number) t what = refl
+    no_queues : rank < 3 → queues ≡ []
+    no_queues e = ap (map queue_line) (f.queues e)
 
-thread_grows : (t : ThreadDecl) (what : Instr) → thread_lines (grown t what) ≡ thread_lines t ++ line.Instr what ∷ []
-thread_grows t what =
-    ap (λ (l : SourceLine). l ∷ map line.Instr (t.instrs ++ what ∷ [])) (line_stays t.process t what) ∙ ap (λ (ls : List SourceLine). thread_line t.process t ∷ ls) (map-append line.Instr t.instrs (what ∷ []))
+    no_dfcs : rank < 4 → dfcs ≡ []
+    no_dfcs e = ap (map dfc_line) (f.dfcs e)
 
-pub instr_push : (ps : List ProcessDecl) (p : ProcessDecl) (ts : List ThreadDecl) (t : ThreadDecl) (what : Instr) → t.process ≡ Some (length ps) → plain_lines (ps ++ p ∷ []) (ts ++ grown t what ∷ []) ≡ plain_lines (ps ++ p ∷ []) (ts ++ t ∷ []) ++ line.Instr what ∷ []
-instr_push ps p ts t what e =
-    thread_push ps p ts (grown t what) e ∙ ap (λ (ls : List SourceLine). plain_lines (ps ++ p ∷ []) ts ++ ls) (thread_grows t what)
-    ∙ sym (append_assoc (plain_lines (ps ++ p ∷ []) ts) (thread_lines t) (line.Instr what ∷ [])) ∙ ap (λ (ls : List SourceLine). ls ++ line.Instr what ∷ []) (sym (thread_push ps p ts t e))
+    no_idfcs : rank < 5 → idfcs ≡ []
+    no_idfcs e = ap (map idfc_line) (f.idfcs e)
 
-pub instr_last : (ts : List ThreadDecl) (t : ThreadDecl) (what : Instr) → with_instr (ts ++ t ∷ []) what ≡ ts ++ grown t what ∷ []
-instr_last [] t what = refl
-instr_last (u ∷ []) t what = refl
-instr_last (u ∷ v ∷ us) t what = ap (λ (ds : List ThreadDecl). u ∷ ds) (instr_last (v ∷ us) t what)
+    no_irqs : rank < 6 → irqs ≡ []
+    no_irqs e = ap (map irq_line) (f.irqs e)
 
-pub last_push : (ps : List ProcessDecl) (p : ProcessDecl) → last_of (ps ++ p ∷ []) ≡ length ps
-last_push [] p = refl
-last_push (q ∷ qs) p = let size : length (qs ++ p ∷ []) ≡ length qs + 1 = simp length-append in omega arith
+    no_kernel : rank < 7 → kernel ≡ []
+    no_kernel e = ap (owned_lines None) (f.threads e)
 
--- all lines
-pub canonical_plain : (ps : List ProcessDecl) (ts : List ThreadDecl) (slots : List Slot) → AreOwned (length ps) ts → canonical_lines (record (plain_script ps ts) { slots = slots }) ≡ plain_lines ps ts ++ (schedule_lines slots ++ line.End ∷ [])
-canonical_plain ps ts slots all =
-    let none = no_kernel_threads (length ps) ts all in
-    let declared : declared_lines (record (plain_script ps ts) { slots = slots }) ≡ plain_lines ps ts = ap (λ (us : List ThreadDecl). line.Header ∷ (flat_map thread_lines us ++ processes_lines ts 0 ps)) none in
-    ap (λ (ls : List SourceLine). ls ++ schedule_lines slots ++ line.End ∷ []) declared ∙ append_assoc (plain_lines ps ts) (schedule_lines slots) (line.End ∷ [])
+    no_processes : rank < 8 → processes ≡ []
+    no_processes e = ap (processes_lines s.threads 0) (f.processes e)
+
+-- one line more
+line_again : (file : List Declared) (s : Script) (rank : ℕ) (awaits : Bool) (l : SourceLine) → Stands file (so_far s rank awaits) l → IsSound (so_far s rank awaits) → IsFront s rank → HasLast s rank awaits → declared_lines (told s l) ≡ declared_lines s ++ tells l
+line_again file s rank awaits line.Header h sound f o = absurd (no_header awaits rank h.order)
+line_again file s rank awaits (line.Pool n) h sound f o =
+    let below = first_setting rank 1 (earlier (Some rank) awaits of.Pool refl h.order) h.new in
+    ap (λ (ls : List SourceLine). line.Header ∷ ls) (group_grows [] (pool s) (setting_lines line.Pool n) (setting_lines line.Pool n) (fast s ∷ queues s ∷ dfcs s ∷ idfcs s ∷ irqs s ∷ kernel s ∷ processes s ∷ []) (ap (λ (ls : List SourceLine). ls ++ setting_lines line.Pool n) (sym (no_pool s rank f below)))
+    (no_fast s rank f (omega arith), (no_queues s rank f (omega arith), (no_dfcs s rank f (omega arith), (no_idfcs s rank f (omega arith), (no_irqs s rank f (omega arith), (no_kernel s rank f (omega arith), (no_processes s rank f (omega arith), tt))))))))
+line_again file s rank awaits (line.Fast n) h sound f o =
+    let below = first_setting rank 2 (earlier (Some rank) awaits of.Fast refl h.order) h.new in
+    ap (λ (ls : List SourceLine). line.Header ∷ ls) (group_grows (pool s) (fast s) (setting_lines line.Fast n) (setting_lines line.Fast n) (queues s ∷ dfcs s ∷ idfcs s ∷ irqs s ∷ kernel s ∷ processes s ∷ []) (ap (λ (ls : List SourceLine). ls ++ setting_lines line.Fast n) (sym (no_fast s rank f below)))
+    (no_queues s rank f (omega arith), (no_dfcs s rank f (omega arith), (no_idfcs s rank f (omega arith), (no_irqs s rank f (omega arith), (no_kernel s rank f (omega arith), (no_processes s rank f (omega arith), tt)))))))
+line_again file s rank awaits (line.Queue name p) h sound f o =
+    let le = earlier (Some rank) awaits of.Queue refl h.order in
+    ap (λ (ls : List SourceLine). line.Header ∷ ls) (group_grows (pool s ++ fast s) (queues s) (map queue_line (told s (line.Queue name p)).queues) (line.Queue name p ∷ []) (dfcs s ∷ idfcs s ∷ irqs s ∷ kernel s ∷ processes s ∷ []) (map-append queue_line s.queues _)
+    (no_dfcs s rank f (omega arith), (no_idfcs s rank f (omega arith), (no_irqs s rank f (omega arith), (no_kernel s rank f (omega arith), (no_processes s rank f (omega arith), tt))))))
+line_again file s rank awaits (line.Dfc name queue p ops) h sound f o =
+    let le = earlier (Some rank) awaits of.Dfc refl h.order in
+    ap (λ (ls : List SourceLine). line.Header ∷ ls) (group_grows (pool s ++ fast s ++ queues s) (dfcs s) (map dfc_line (told s (line.Dfc name queue p ops)).dfcs) (line.Dfc name queue p ops ∷ []) (idfcs s ∷ irqs s ∷ kernel s ∷ processes s ∷ []) (map-append dfc_line s.dfcs _)
+    (no_idfcs s rank f (omega arith), (no_irqs s rank f (omega arith), (no_kernel s rank f (omega arith), (no_processes s rank f (omega arith), tt)))))
+line_again file s rank awaits (line.Idfc name ops) h sound f o =
+    let le = earlier (Some rank) awaits of.Idfc refl h.order in
+    ap (λ (ls : List SourceLine). line.Header ∷ ls) (group_grows (pool s ++ fast s ++ queues s ++ dfcs s) (idfcs s) (map idfc_line (told s (line.Idfc name ops)).idfcs) (line.Idfc name ops ∷ []) (irqs s ∷ kernel s ∷ processes s ∷ []) (map-append idfc_line s.idfcs _)
+    (no_irqs s rank f (omega arith), (no_kernel s rank f (omega arith), (no_processes s rank f (omega arith), tt))))
+line_again file s rank awaits (line.IrqBody k ops) h sound f o =
+    let le = earlier (Some rank) awaits of.IrqBody refl h.order in
+    ap (λ (ls : List SourceLine). line.Header ∷ ls) (group_grows (pool s ++ fast s ++ queues s ++ dfcs s ++ idfcs s) (irqs s) (map irq_line (told s (line.IrqBody k ops)).irqs) (line.IrqBody k ops ∷ []) (kernel s ∷ processes s ∷ []) (map-append irq_line s.irqs _)
+    (no_kernel s rank f (omega arith), (no_processes s rank f (omega arith), tt)))
+line_again file s rank awaits (line.KernelThread name p held) h sound f o =
+    let le = earlier (Some rank) awaits of.KernelThread refl h.order in
+    let none : last_owner s.processes ≡ None = ap last_owner (f.processes (omega arith)) in
+    let t : ThreadDecl = record { name = name; priority = p; held = held; process = None; instrs = [] } in
+    ap (λ (ls : List SourceLine). line.Header ∷ ls) (thread_push (pool s ++ fast s ++ queues s ++ dfcs s ++ idfcs s ++ irqs s) s.processes s.threads t (sym none))
+line_again file s rank awaits (line.Process name) h sound f o =
+    ap (λ (ls : List SourceLine). line.Header ∷ ls) (process_push (pool s ++ fast s ++ queues s ++ dfcs s ++ idfcs s ++ irqs s) s.processes (record { name = name }) s.threads sound.threads)
+line_again file s rank awaits (line.Thread name p held) h sound f o =
+    let least = thread_needs (so_far s rank awaits) (Some rank) awaits refl refl h.order sound in
+    let t : ThreadDecl = record { name = name; priority = p; held = held; process = Some (last_of s.processes); instrs = [] } in
+    ap (λ (ls : List SourceLine). line.Header ∷ ls) (thread_push (pool s ++ fast s ++ queues s ++ dfcs s ++ idfcs s ++ irqs s) s.processes s.threads t (owner_is s.processes least))
+line_again file s rank awaits (line.Instr what) h sound f o =
+    ap (λ (ls : List SourceLine). line.Header ∷ ls) (instr_push (pool s ++ fast s ++ queues s ++ dfcs s ++ idfcs s ++ irqs s) s.processes s.threads what (in_last s rank awaits h.order o))
+line_again file s rank awaits _ h sound f o = sym (append-nil (declared_lines s))
+
+-- all lines behind the header
+pub lines_again : (file : List Declared) (s : Script) (rank : ℕ) (awaits : Bool) (lines : List SourceLine) → AllStand file (so_far s rank awaits) lines → IsSound (so_far s rank awaits) → IsFront s rank → HasLast s rank awaits → declared_lines (after_all (so_far s rank awaits) lines).script ≡ declared_lines s ++ said lines
+lines_again file s rank awaits [] stand sound f o = sym (append-nil (declared_lines s))
+lines_again file s rank awaits (l ∷ ls) stand sound f o =
+    lines_again file (told s l) (rank_of rank (kind_of l)) (is_process (kind_of l)) ls stand.1 (sound-after file (so_far s rank awaits) l stand.0 sound) (front_after file s rank awaits l stand.0 o.awaited f) (last_after file s rank awaits l stand.0 sound f o)
+    ∙ ap (λ (xs : List SourceLine). xs ++ said ls) (line_again file s rank awaits l stand.0 sound f o) ∙ append_assoc (declared_lines s) (tells l) (said ls)

@@ -1,7 +1,10 @@
 pub mod Canonical
 pub mod CutAgain
 pub mod DeclaredAgain
+pub mod Front
 pub mod LinesAgain
+pub mod NamesAgain
 pub mod PlainLines
 pub mod Printing
 pub mod ScheduleAgain
+pub mod ThreadGroups

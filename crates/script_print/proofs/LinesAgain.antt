@@ -1,169 +1,179 @@
 -- The canonical lines of what accepted lines make stand, and make the same.
-use Rattle.std.proofs.Common.{◌≡◌, ℕ, suc, true, false, List, [], ◌∷◌, ◌++◌, append_assoc, length, length-append, refl, ap, sym, subst, ◌∙◌, Some, arith}
-use Rattle.std.specs.Prelude.{nat_le}
-use Rattle.script_print.specs.CanonicalText.{schedule_lines, canonical_lines}
-use Rattle.script_print.proofs.DeclaredAgain.{plain_script, plain_lines, AreOwned, owned_wider, owned_push, owned_front, process_push, thread_push, grown, instr_push, instr_last, last_push, canonical_plain}
-use Rattle.script_print.proofs.ScheduleAgain.{AreBuilt, at_rank, last_line, schedule_makes, Stand, schedule_stands}
-use Rattle.script_types.specs.BuiltLine.{is_built_line, is_built_instr}
-use Rattle.script_types.specs.Context.{start, after, after_all, is_ended, with_instr, last_of}
-use Rattle.script_types.specs.Names.{Declared, is_known}
+use Rattle.std.proofs.Common.{◌≡◌, ℕ, zero, suc, ◌<◌, ◌≤◌, Bool, true, false, List, [], ◌∷◌, ◌++◌, append_assoc, refl, ap, sym, subst, ◌∙◌, Some, arith}
+use Rattle.std.proofs.lemmas.Bool.{le-leb}
+use Rattle.std.proofs.lemmas.Bool.Decides.{nat_tests}
+use Rattle.std.specs.Prelude.{IsTrue, ◌==◌, not}
+use Rattle.script_print.specs.CanonicalText.{setting_lines, declared_lines, schedule_lines, canonical_lines}
+use Rattle.script_print.proofs.DeclaredAgain.{said, first_setting, lines_again, no_header}
+use Rattle.script_print.proofs.Front.{so_far, IsFront, front_start, front_after, last_start}
+use Rattle.script_print.proofs.NamesAgain.{twos, Carries, carries, known_again, no_slot, not_zero}
+use Rattle.script_print.proofs.ScheduleAgain.{AreBuilt, at_rank, last_line, schedule_makes, Stand, schedule_stands, AreKnown}
+use Rattle.script_types.specs.BuiltLine.{is_built_line}
+use Rattle.script_types.specs.Context.{empty_script, start, after_all, is_ended, may_stand, kind_of, rank_of, told, is_process}
+use Rattle.script_types.specs.Names.{Declared}
 use Rattle.script_types.specs.Stands.{Stands, AllStand}
 use Rattle.script_types.specs.declared.context.Context.{Context}
-use Rattle.script_types.specs.declared.declaration.ProcessDecl.{ProcessDecl}
-use Rattle.script_types.specs.declared.declaration.ThreadDecl.{ThreadDecl}
-use Rattle.script_types.specs.declared.instruction.Instr.{Instr}
-use Rattle.script_types.specs.declared.instruction.Instr.TheVariants as instr
+use Rattle.script_types.specs.declared.script.Script.{Script}
+use Rattle.script_types.specs.declared.script.Slot.{Slot}
+use Rattle.script_types.specs.declared.script.Slot.TheVariants as slot
+use Rattle.script_types.specs.declared.source_line.LineKind.{LineKind}
+use Rattle.script_types.specs.declared.source_line.LineKind.TheVariants as of
 use Rattle.script_types.specs.declared.source_line.SourceLine.{SourceLine}
 use Rattle.script_types.specs.declared.source_line.SourceLine.TheVariants as line
+use Rattle.script_types.proofs.LimitLaws.{sound-after, sound-start, in_thread, earlier}
 
--- a line that this program runs names nothing that another line declares
-known_instr : (file : List Declared) (c : Context) (what : Instr) → is_built_instr what ≡ true → is_known file c (line.Instr what) ≡ true
-known_instr file c (instr.CreateMutex name x) b = refl
-known_instr file c (instr.Open what name x) b = refl
-known_instr file c (instr.Dup x y) b = refl
-known_instr file c (instr.Close x) b = refl
-known_instr file c _ b = absurd (cc)
+-- a line stands in another file that declares as much
+known_stands : (file other : List Declared) → Carries file other → (c : Context) (l : SourceLine) → Stands file c l → Stands other c l
+known_stands file other t c l h = record { order = h.order; ranges = h.ranges; kind = h.kind; new = h.new; known = known_again file other t c l h.known; within = h.within }
 
-known_line : (file : List Declared) (c : Context) (l : SourceLine) → is_built_line l ≡ true → is_known file c l ≡ true
-known_line file c line.Header b = refl
-known_line file c (line.Process name) b = refl
-known_line file c (line.Thread name priority held) b = refl
-known_line file c (line.Instr what) b = known_instr file c what b
-known_line file c line.Schedule b = refl
-known_line file c (line.Go count) b = refl
-known_line file c line.Tick b = refl
-known_line file c line.End b = refl
-known_line file c _ b = absurd (cc)
+-- The rank of the canonical lines so far is lower where settings of 0 were the last lines, and else the same.
+record IsLower (low high : ℕ) : Type 0 where
+  under : low ≤ high
+  same : 2 < high → low ≡ high
 
--- so it stands in another file too
-stands_too : (file other : List Declared) (c : Context) (l : SourceLine) → Stands file c l → is_built_line l ≡ true → Stands other c l
-stands_too file other c l h b = record { order = h.order; ranges = h.ranges; kind = h.kind; new = h.new; known = known_line other c l b; within = h.within }
+-- what isn't an instruction or a setting may stand behind a lower rank
+order_lower : (low high : ℕ) (awaits : Bool) (kind : LineKind) → IsLower low high → may_stand (Some high) awaits kind ≡ true → may_stand (Some low) awaits kind ≡ true
+order_lower low high true kind lower h = h
+order_lower low high false of.Header lower h = absurd (cc)
+order_lower low high false of.Thread lower h = let is : high ≡ 8 = grind (arith, nat_tests) in let same : low ≡ high = lower.same (omega arith) in rw same h
+order_lower low high false of.Instr lower h = let late = in_thread (Some high) false h in let same : low ≡ high = lower.same (omega arith) in rw same h
+order_lower low high false of.Slot lower h = let late : 9 ≤ high = grind (arith, nat_tests) in let same : low ≡ high = lower.same (omega arith) in rw same h
+order_lower low high false of.Schedule lower h = let under = lower.under in grind (arith, nat_tests)
+order_lower low high false of.End lower h = let under = lower.under in grind (arith, nat_tests)
+order_lower low high false of.Pool lower h = let under = lower.under in grind (arith, nat_tests)
+order_lower low high false of.Fast lower h = let under = lower.under in grind (arith, nat_tests)
+order_lower low high false of.Queue lower h = let under = lower.under in grind (arith, nat_tests)
+order_lower low high false of.Dfc lower h = let under = lower.under in grind (arith, nat_tests)
+order_lower low high false of.Idfc lower h = let under = lower.under in grind (arith, nat_tests)
+order_lower low high false of.IrqBody lower h = let under = lower.under in grind (arith, nat_tests)
+order_lower low high false of.KernelThread lower h = let under = lower.under in grind (arith, nat_tests)
+order_lower low high false of.Process lower h = let under = lower.under in grind (arith, nat_tests)
 
--- The canonical lines of what lines make, behind the lines before them: they are those and a rest, which
--- stands and makes the same.
-record Tail (other : List Declared) (before : List SourceLine) (c : Context) (lines : List SourceLine) : Type 0 where
-  tail : List SourceLine
-  are : canonical_lines (after_all c lines).script ≡ before ++ tail
-  stand : Stand other c tail (after_all c lines)
+setting_lower : (low high last : ℕ) → low ≤ high → high < last → not (low == last) ≡ true
+setting_lower low high last under below = grind (arith, nat_tests)
 
-abbrev Goes : List Declared → List Declared → List SourceLine → Context → List SourceLine → Type 0
-Goes file other before c lines = AllStand file c lines → is_ended (after_all c lines) ≡ true → AreBuilt lines → Tail other before c lines
+lower_stands : (file : List Declared) (s : Script) (low high : ℕ) (awaits : Bool) (l : SourceLine) → IsLower low high → Stands file (so_far s high awaits) l → Stands file (so_far s low awaits) l
+lower_stands file s low high awaits (line.Instr what) lower h =
+    let late = in_thread (Some high) awaits h.order in
+    let same : low ≡ high = lower.same (omega arith) in
+    subst (λ (rank : ℕ). Stands file (so_far s rank awaits) (line.Instr what)) (sym same) h
+lower_stands file s low high awaits (line.Pool n) lower h =
+    let below = first_setting high 1 (earlier (Some high) awaits of.Pool refl h.order) h.new in
+    record { order = order_lower low high awaits of.Pool lower h.order; ranges = h.ranges; kind = refl; new = setting_lower low high 1 lower.under below; known = refl; within = refl }
+lower_stands file s low high awaits (line.Fast n) lower h =
+    let below = first_setting high 2 (earlier (Some high) awaits of.Fast refl h.order) h.new in
+    record { order = order_lower low high awaits of.Fast lower h.order; ranges = h.ranges; kind = refl; new = setting_lower low high 2 lower.under below; known = refl; within = refl }
+lower_stands file s low high awaits l lower h = record { order = order_lower low high awaits (kind_of l) lower h.order; ranges = h.ranges; kind = h.kind; new = h.new; known = h.known; within = h.within }
 
--- a line that stays
-stays : (file other : List Declared) (before : List SourceLine) (c : Context) (l : SourceLine) (ls : List SourceLine) → Goes file other (before ++ l ∷ []) (after c l) ls → Goes file other before c (l ∷ ls)
-stays file other before c l ls go stand ended built =
-    let t = go stand.1 ended built.1 in
-    record {
-      tail = l ∷ t.tail;
-      are = t.are ∙ append_assoc before (l ∷ []) t.tail;
-      stand = record { stand = (stands_too file other c l stand.0 built.0, t.stand.stand); built = (built.0, t.stand.built); makes = t.stand.makes };
-    }
+lower_after : (low high : ℕ) (kind : LineKind) → IsLower low high → IsLower (rank_of low kind) (rank_of high kind)
+lower_after low high of.Instr lower = lower
+lower_after low high _ lower = record { under = omega arith; same = λ e. refl }
 
--- the lines from `schedule` or `end` on
-abbrev declared_at : ℕ → List ProcessDecl → List ThreadDecl → Context
-declared_at rank ps ts = record { script = plain_script ps ts; rank = Some rank; awaits_thread = false }
+awaits_after : (rank : ℕ) (kind : LineKind) → is_process kind ≡ true → rank_of rank kind ≡ 8
+awaits_after rank of.Process h = refl
+awaits_after rank _ h = absurd (cc)
 
-ends : (file other : List Declared) (rank : ℕ) (ps : List ProcessDecl) (ts : List ThreadDecl) (ls : List SourceLine) → nat_le rank 8 ≡ true → nat_le rank 10 ≡ true → AreOwned (length ps) ts → Goes file other (plain_lines ps ts) (declared_at rank ps ts) (line.End ∷ ls)
-ends file other rank ps ts ls before under all stand ended built =
-    let none = last_line file (plain_script ps ts) [] ls stand.1 in
-    let made : after_all (declared_at rank ps ts) (line.End ∷ ls) ≡ at_rank (plain_script ps ts) 11 [] = ap (after_all (at_rank (plain_script ps ts) 11 [])) none in
-    let h = schedule_stands other (plain_script ps ts) rank [] before under (omega arith) tt in
-    record {
-      tail = line.End ∷ [];
-      are = ap (λ (d : Context). canonical_lines d.script) made ∙ canonical_plain ps ts [] all;
-      stand = record { stand = h.stand; built = h.built; makes = h.makes ∙ sym made };
-    }
+-- a setting that isn't 0 has its line
+setting_stays : (setting : ℕ → SourceLine) (n : ℕ) → setting_lines setting (suc n) ≡ setting (suc n) ∷ []
+setting_stays setting n = rw (not_zero n) refl
 
-schedules : (file other : List Declared) (rank : ℕ) (ps : List ProcessDecl) (ts : List ThreadDecl) (ls : List SourceLine) → nat_le rank 8 ≡ true → nat_le rank 10 ≡ true → AreOwned (length ps) ts → Goes file other (plain_lines ps ts) (declared_at rank ps ts) (line.Schedule ∷ ls)
-schedules file other rank ps ts ls before under all stand ended built =
-    let m = schedule_makes file (plain_script ps ts) ls stand.1 ended built.1 in
-    let h = schedule_stands other (plain_script ps ts) rank m.slots before under m.few m.quiet in
-    record {
-      tail = schedule_lines m.slots ++ line.End ∷ [];
-      are = ap (λ (d : Context). canonical_lines d.script) m.makes ∙ canonical_plain ps ts m.slots all;
-      stand = record { stand = h.stand; built = h.built; makes = h.makes ∙ sym m.makes };
-    }
+-- interrupts that come have a body there too
+slots_known : (file other : List Declared) → Carries file other → (slots : List Slot) → AreKnown file slots → AreKnown other slots
+slots_known file other t [] all = tt
+slots_known file other t (slot.Irq k ∷ xs) all = (record { ranges = all.0.ranges; known = t.irqs _ all.0.known; built = all.0.built }, slots_known file other t xs all.1)
+slots_known file other t (slot.Go ∷ xs) all = (tt, slots_known file other t xs all.1)
+slots_known file other t (slot.Tick ∷ xs) all = (tt, slots_known file other t xs all.1)
 
--- the same lines before, in other words, and the same context
-renamed : (file other : List Declared) (before now : List SourceLine) (c d : Context) (lines : List SourceLine) → now ≡ before → d ≡ c → Goes file other now d lines → Goes file other before c lines
-renamed file other before now c d lines same is go =
-    subst (λ (x : Context). Goes file other before x lines) is (subst (λ (ls : List SourceLine). Goes file other ls d lines) same go)
+-- the canonical lines from those of these lines on
+abbrev rest_of : List SourceLine → Context → List SourceLine
+rest_of lines made = said lines ++ (schedule_lines made.script.slots ++ line.End ∷ [])
 
--- behind the line of a process
-abbrev awaiting : List ProcessDecl → ProcessDecl → List ThreadDecl → Context
-awaiting ps p ts = record { script = plain_script (ps ++ p ∷ []) ts; rank = Some 8; awaits_thread = true }
+module _ (file other : List Declared) (t : Carries file other) where
+  -- from `schedule` on
+  schedules : (s : Script) (low high : ℕ) (ls : List SourceLine) → IsLower low high → high ≤ 8 → IsFront s high → AllStand file (so_far s high false) (line.Schedule ∷ ls) → is_ended (after_all (so_far s 9 false) ls) ≡ true → AreBuilt ls → Stand other (so_far s low false) (rest_of ls (after_all (so_far s 9 false) ls)) (after_all (so_far s 9 false) ls)
+  schedules s low high ls lower le f stand ended built =
+      let none : s.slots ≡ [] = f.slots (omega arith) in
+      let same : so_far s 9 false ≡ at_rank s 9 [] = ap (λ (xs : List Slot). at_rank s 9 xs) none in
+      let m = schedule_makes file s ls (subst (λ (d : Context). AllStand file d ls) same stand.1) (subst (λ (d : Context). is_ended (after_all d ls) ≡ true) same ended) built in
+      let made = ap (λ (d : Context). after_all d ls) same ∙ m.makes in
+      let before : so_far s low false ≡ at_rank s low [] = ap (λ (xs : List Slot). at_rank s low xs) none in
+      let under = lower.under in
+      let h = schedule_stands other s low m.slots (le-leb low 8 (omega arith)) (le-leb low 10 (omega arith)) m.few (slots_known file other t m.slots m.known) in
+      let lines : rest_of ls (after_all (so_far s 9 false) ls) ≡ schedule_lines m.slots ++ line.End ∷ [] = ap (λ (xs : List SourceLine). xs ++ (schedule_lines (after_all (so_far s 9 false) ls).script.slots ++ line.End ∷ [])) m.silent ∙ ap (λ (d : Context). schedule_lines d.script.slots ++ line.End ∷ []) made in
+      subst (λ (xs : List SourceLine). Stand other (so_far s low false) xs (after_all (so_far s 9 false) ls)) (sym lines)
+      (subst (λ (d : Context). Stand other d (schedule_lines m.slots ++ line.End ∷ []) (after_all (so_far s 9 false) ls)) (sym before)
+      (subst (λ (d : Context). Stand other (at_rank s low []) (schedule_lines m.slots ++ line.End ∷ []) d) (sym made) h))
 
--- behind the lines of the last process's last thread
-abbrev within : List ProcessDecl → ProcessDecl → List ThreadDecl → ThreadDecl → Context
-within ps p ts t = declared_at 8 (ps ++ p ∷ []) (ts ++ t ∷ [])
+  -- without a schedule
+  ends : (s : Script) (low high : ℕ) (ls : List SourceLine) → IsLower low high → high ≤ 8 → IsFront s high → AllStand file (so_far s high false) (line.End ∷ ls) → Stand other (so_far s low false) (rest_of ls (after_all (so_far s 11 false) ls)) (after_all (so_far s 11 false) ls)
+  ends s low high ls lower le f stand =
+      let none = last_line file s ls stand.1 in
+      let empty : s.slots ≡ [] = f.slots (omega arith) in
+      let under = lower.under in
+      let h = schedule_stands other s low [] (le-leb low 8 (omega arith)) (le-leb low 10 (omega arith)) (omega arith) tt in
+      let alone : Stand other (so_far s low false) (schedule_lines s.slots ++ line.End ∷ []) (so_far s 11 false) = subst (λ (xs : List Slot). Stand other (at_rank s low xs) (schedule_lines xs ++ line.End ∷ []) (at_rank s 11 xs)) (sym empty) h in
+      subst (λ (xs : List SourceLine). Stand other (so_far s low false) (rest_of xs (after_all (so_far s 11 false) xs)) (after_all (so_far s 11 false) xs)) (sym none) alone
 
-more_size : (ps : List ProcessDecl) (p : ProcessDecl) → length (ps ++ p ∷ []) ≡ suc (length ps)
-more_size ps p = simp length-append (omega arith)
+  -- one line more
+  stays : (s : Script) (low high : ℕ) (awaits : Bool) (l : SourceLine) (rest : List SourceLine) (made : Context) → IsLower low high → Stands file (so_far s high awaits) l → IsTrue (is_built_line l) → Stand other (so_far (told s l) (rank_of low (kind_of l)) (is_process (kind_of l))) rest made → Stand other (so_far s low awaits) (l ∷ rest) made
+  stays s low high awaits l rest made lower here built h =
+      record { stand = (lower_stands other s low high awaits l lower (known_stands file other t (so_far s high awaits) l here), h.stand); built = (built, h.built); makes = h.makes }
 
-owned_more : (ps : List ProcessDecl) (p : ProcessDecl) (ts : List ThreadDecl) (t : ThreadDecl) → t.process ≡ Some (length ps) → AreOwned (length (ps ++ p ∷ [])) ts → AreOwned (length (ps ++ p ∷ [])) (ts ++ t ∷ [])
-owned_more ps p ts t e all =
-    let size = more_size ps p in
-    owned_push (length (ps ++ p ∷ [])) ts t all (record { owner = length ps; is = e; below = omega arith })
-
-mutual
-  from_process : (file other : List Declared) (ps : List ProcessDecl) (p : ProcessDecl) (ts : List ThreadDecl) (lines : List SourceLine) → AreOwned (length ps) ts → Goes file other (plain_lines (ps ++ p ∷ []) ts) (awaiting ps p ts) lines
-  from_process file other ps p ts [] all stand ended built = absurd (cc)
-  from_process file other ps p ts (line.Thread name priority true ∷ ls) all stand ended built = let b = built.0 in absurd (cc)
-  from_process file other ps p ts (line.Thread name priority false ∷ ls) all stand ended built =
-      let t : ThreadDecl = record { name = name; priority = priority; held = false; process = Some (last_of (ps ++ p ∷ [])); instrs = [] } in
-      let is : t.process ≡ Some (length ps) = ap Some (last_push ps p) in
-      let size = more_size ps p in
-      let wide = owned_wider (length ps) (length (ps ++ p ∷ [])) ts (omega arith) all in
-      let pushed = thread_push ps p ts t is in
-      stays file other (plain_lines (ps ++ p ∷ []) ts) (awaiting ps p ts) (line.Thread name priority false) ls
-      (renamed file other (plain_lines (ps ++ p ∷ []) ts ++ line.Thread name priority false ∷ []) (plain_lines (ps ++ p ∷ []) (ts ++ t ∷ [])) (within ps p ts t) (within ps p ts t) ls pushed refl (from_thread file other ps p ts t ls is (owned_more ps p ts t is wide))) stand ended built
-  from_process file other ps p ts (l ∷ ls) all stand ended built = let order = stand.0.order in absurd (cc)
-
-  from_thread : (file other : List Declared) (ps : List ProcessDecl) (p : ProcessDecl) (ts : List ThreadDecl) (t : ThreadDecl) (lines : List SourceLine) → t.process ≡ Some (length ps) → AreOwned (length (ps ++ p ∷ [])) (ts ++ t ∷ []) → Goes file other (plain_lines (ps ++ p ∷ []) (ts ++ t ∷ [])) (within ps p ts t) lines
-  from_thread file other ps p ts t [] is all stand ended built = absurd (cc)
-  from_thread file other ps p ts t (line.Process name ∷ ls) is all stand ended built =
-      let q : ProcessDecl = record { name = name } in
-      let pushed = process_push (ps ++ p ∷ []) q (ts ++ t ∷ []) all in
-      stays file other (plain_lines (ps ++ p ∷ []) (ts ++ t ∷ [])) (within ps p ts t) (line.Process name) ls
-      (renamed file other (plain_lines (ps ++ p ∷ []) (ts ++ t ∷ []) ++ line.Process name ∷ []) (plain_lines ((ps ++ p ∷ []) ++ q ∷ []) (ts ++ t ∷ [])) (awaiting (ps ++ p ∷ []) q (ts ++ t ∷ [])) (awaiting (ps ++ p ∷ []) q (ts ++ t ∷ [])) ls pushed refl (from_process file other (ps ++ p ∷ []) q (ts ++ t ∷ []) ls all)) stand ended built
-  from_thread file other ps p ts t (line.Thread name priority true ∷ ls) is all stand ended built = let b = built.0 in absurd (cc)
-  from_thread file other ps p ts t (line.Thread name priority false ∷ ls) is all stand ended built =
-      let u : ThreadDecl = record { name = name; priority = priority; held = false; process = Some (last_of (ps ++ p ∷ [])); instrs = [] } in
-      let of_last : u.process ≡ Some (length ps) = ap Some (last_push ps p) in
-      let pushed = thread_push ps p (ts ++ t ∷ []) u of_last in
-      stays file other (plain_lines (ps ++ p ∷ []) (ts ++ t ∷ [])) (within ps p ts t) (line.Thread name priority false) ls
-      (renamed file other (plain_lines (ps ++ p ∷ []) (ts ++ t ∷ []) ++ line.Thread name priority false ∷ []) (plain_lines (ps ++ p ∷ []) ((ts ++ t ∷ []) ++ u ∷ [])) (within ps p (ts ++ t ∷ []) u) (within ps p (ts ++ t ∷ []) u) ls pushed refl (from_thread file other ps p (ts ++ t ∷ []) u ls of_last (owned_more ps p (ts ++ t ∷ []) u of_last all))) stand ended built
-  from_thread file other ps p ts t (line.Instr what ∷ ls) is all stand ended built =
-      let pushed = instr_push ps p ts t what is in
-      let threads : ts ++ grown t what ∷ [] ≡ with_instr (ts ++ t ∷ []) what = sym (instr_last ts t what) in
-      let same : within ps p ts (grown t what) ≡ after (within ps p ts t) (line.Instr what) = ap (λ (us : List ThreadDecl). declared_at 8 (ps ++ p ∷ []) us) threads in
-      let front = owned_front (length (ps ++ p ∷ [])) ts t all in
-      stays file other (plain_lines (ps ++ p ∷ []) (ts ++ t ∷ [])) (within ps p ts t) (line.Instr what) ls
-      (renamed file other (plain_lines (ps ++ p ∷ []) (ts ++ t ∷ []) ++ line.Instr what ∷ []) (plain_lines (ps ++ p ∷ []) (ts ++ grown t what ∷ [])) (after (within ps p ts t) (line.Instr what)) (within ps p ts (grown t what)) ls pushed same (from_thread file other ps p ts (grown t what) ls is (owned_more ps p ts (grown t what) is front.0))) stand ended built
-  from_thread file other ps p ts t (line.Schedule ∷ ls) is all stand ended built = schedules file other 8 (ps ++ p ∷ []) (ts ++ t ∷ []) ls refl refl all stand ended built
-  from_thread file other ps p ts t (line.End ∷ ls) is all stand ended built = ends file other 8 (ps ++ p ∷ []) (ts ++ t ∷ []) ls refl refl all stand ended built
-  from_thread file other ps p ts t (line.KernelThread name priority held ∷ ls) is all stand ended built = let b = built.0 in absurd (cc)
-  from_thread file other ps p ts t (l ∷ ls) is all stand ended built = let order = stand.0.order in absurd (cc)
-
--- behind the header
-from_header : (file other : List Declared) (lines : List SourceLine) → Goes file other (line.Header ∷ []) (declared_at 0 [] []) lines
-from_header file other [] stand ended built = absurd (cc)
-from_header file other (line.Process name ∷ ls) stand ended built =
-    stays file other (line.Header ∷ []) (declared_at 0 [] []) (line.Process name) ls (from_process file other [] (record { name = name }) [] ls tt) stand ended built
-from_header file other (line.Schedule ∷ ls) stand ended built = schedules file other 0 [] [] ls refl refl tt stand ended built
-from_header file other (line.End ∷ ls) stand ended built = ends file other 0 [] [] ls refl refl tt stand ended built
-from_header file other (line.Header ∷ ls) stand ended built = let order = stand.0.order in absurd (cc)
-from_header file other (line.Thread name priority held ∷ ls) stand ended built = let order = stand.0.order in absurd (cc)
-from_header file other (line.Instr what ∷ ls) stand ended built = let order = stand.0.order in absurd (cc)
-from_header file other (line.Go count ∷ ls) stand ended built = let order = stand.0.order in absurd (cc)
-from_header file other (line.Tick ∷ ls) stand ended built = let order = stand.0.order in absurd (cc)
-from_header file other (l ∷ ls) stand ended built = let b = built.0 in absurd (cc)
+  goes : (s : Script) (low high : ℕ) (awaits : Bool) (lines : List SourceLine) → IsLower low high → high ≤ 8 → (awaits ≡ true → high ≡ 8) → IsFront s high → AllStand file (so_far s high awaits) lines → is_ended (after_all (so_far s high awaits) lines) ≡ true → AreBuilt lines → Stand other (so_far s low awaits) (rest_of lines (after_all (so_far s high awaits) lines)) (after_all (so_far s high awaits) lines)
+  goes s low high awaits [] lower le at f stand ended built = let eleven : high ≡ 11 = grind (arith, nat_tests) in absurd (omega arith)
+  goes s low high awaits (line.Header ∷ ls) lower le at f stand ended built = absurd (no_header awaits high stand.0.order)
+  goes s low high awaits (line.Go count ∷ ls) lower le at f stand ended built = absurd (no_slot awaits high le stand.0.order)
+  goes s low high awaits (line.IrqSlot k ∷ ls) lower le at f stand ended built = absurd (no_slot awaits high le stand.0.order)
+  goes s low high awaits (line.Tick ∷ ls) lower le at f stand ended built = absurd (no_slot awaits high le stand.0.order)
+  goes s low high true (line.Schedule ∷ ls) lower le at f stand ended built = let order = stand.0.order in absurd (cc)
+  goes s low high false (line.Schedule ∷ ls) lower le at f stand ended built = schedules s low high ls lower le f stand ended built.1
+  goes s low high true (line.End ∷ ls) lower le at f stand ended built = let order = stand.0.order in absurd (cc)
+  goes s low high false (line.End ∷ ls) lower le at f stand ended built = ends s low high ls lower le f stand
+  goes s low high true (line.Pool zero ∷ ls) lower le at f stand ended built = let order = stand.0.order in absurd (cc)
+  goes s low high false (line.Pool zero ∷ ls) lower le at f stand ended built =
+      let below = first_setting high 1 (earlier (Some high) false of.Pool refl stand.0.order) stand.0.new in
+      let under = lower.under in
+      let none : s.pool ≡ 0 = f.pool below in
+      let same : so_far (told s (line.Pool zero)) low false ≡ so_far s low false = ap (λ (n : ℕ). so_far (record s { pool = n }) low false) (sym none) in
+      let more = goes (told s (line.Pool zero)) low 1 false ls (record { under = omega arith; same = λ e. absurd (omega arith) }) (omega arith) (λ e. absurd (cc)) (front_after file s high false (line.Pool zero) stand.0 at f) stand.1 ended built.1 in
+      let made : Context = after_all (so_far s high false) (line.Pool zero ∷ ls) in
+      subst (λ (d : Context). Stand other d (rest_of ls made) made) same more
+  goes s low high true (line.Fast zero ∷ ls) lower le at f stand ended built = let order = stand.0.order in absurd (cc)
+  goes s low high false (line.Fast zero ∷ ls) lower le at f stand ended built =
+      let below = first_setting high 2 (earlier (Some high) false of.Fast refl stand.0.order) stand.0.new in
+      let under = lower.under in
+      let none : s.fast ≡ 0 = f.fast below in
+      let same : so_far (told s (line.Fast zero)) low false ≡ so_far s low false = ap (λ (n : ℕ). so_far (record s { fast = n }) low false) (sym none) in
+      let more = goes (told s (line.Fast zero)) low 2 false ls (record { under = omega arith; same = λ e. absurd (omega arith) }) (omega arith) (λ e. absurd (cc)) (front_after file s high false (line.Fast zero) stand.0 at f) stand.1 ended built.1 in
+      let made : Context = after_all (so_far s high false) (line.Fast zero ∷ ls) in
+      subst (λ (d : Context). Stand other d (rest_of ls made) made) same more
+  goes s low high awaits (line.Pool (suc n) ∷ ls) lower le at f stand ended built =
+      let more = goes (told s (line.Pool (suc n))) 1 1 false ls (record { under = omega arith; same = λ e. refl }) (omega arith) (λ e. absurd (cc)) (front_after file s high awaits (line.Pool (suc n)) stand.0 at f) stand.1 ended built.1 in
+      let made : Context = after_all (so_far s high awaits) (line.Pool (suc n) ∷ ls) in
+      let lines : rest_of (line.Pool (suc n) ∷ ls) made ≡ line.Pool (suc n) ∷ rest_of ls made = ap (λ (xs : List SourceLine). xs ++ said ls ++ (schedule_lines made.script.slots ++ line.End ∷ [])) (setting_stays line.Pool n) in
+      subst (λ (xs : List SourceLine). Stand other (so_far s low awaits) xs made) (sym lines) (stays s low high awaits (line.Pool (suc n)) (rest_of ls made) made lower stand.0 built.0 more)
+  goes s low high awaits (line.Fast (suc n) ∷ ls) lower le at f stand ended built =
+      let more = goes (told s (line.Fast (suc n))) 2 2 false ls (record { under = omega arith; same = λ e. refl }) (omega arith) (λ e. absurd (cc)) (front_after file s high awaits (line.Fast (suc n)) stand.0 at f) stand.1 ended built.1 in
+      let made : Context = after_all (so_far s high awaits) (line.Fast (suc n) ∷ ls) in
+      let lines : rest_of (line.Fast (suc n) ∷ ls) made ≡ line.Fast (suc n) ∷ rest_of ls made = ap (λ (xs : List SourceLine). xs ++ said ls ++ (schedule_lines made.script.slots ++ line.End ∷ [])) (setting_stays line.Fast n) in
+      subst (λ (xs : List SourceLine). Stand other (so_far s low awaits) xs made) (sym lines) (stays s low high awaits (line.Fast (suc n)) (rest_of ls made) made lower stand.0 built.0 more)
+  goes s low high awaits (l ∷ ls) lower le at f stand ended built =
+      let more = goes (told s l) (rank_of low (kind_of l)) (rank_of high (kind_of l)) (is_process (kind_of l)) ls (lower_after low high (kind_of l) lower) (omega arith) (awaits_after high (kind_of l)) (front_after file s high awaits l stand.0 at f) stand.1 ended built.1 in
+      let made : Context = after_all (so_far s high awaits) (l ∷ ls) in
+      stays s low high awaits l (rest_of ls made) made lower stand.0 built.0 more
 
 -- from the start
-pub canonical_stands : (file other : List Declared) (lines : List SourceLine) → AllStand file start lines → is_ended (after_all start lines) ≡ true → AreBuilt lines → Stand other start (canonical_lines (after_all start lines).script) (after_all start lines)
-canonical_stands file other [] stand ended built = absurd (cc)
-canonical_stands file other (line.Header ∷ ls) stand ended built =
-    let t = from_header file other ls stand.1 ended built.1 in
-    let whole : Stand other start (line.Header ∷ t.tail) (after_all start (line.Header ∷ ls)) = record { stand = (stands_too file other start line.Header stand.0 refl, t.stand.stand); built = (refl, t.stand.built); makes = t.stand.makes } in
-    subst (λ (ks : List SourceLine). Stand other start ks (after_all start (line.Header ∷ ls))) (sym t.are) whole
-canonical_stands file other (l ∷ ls) stand ended built = let order = stand.0.order in absurd (cc)
+pub canonical_stands : (lines : List SourceLine) → AllStand (twos lines) start lines → is_ended (after_all start lines) ≡ true → AreBuilt lines
+    → Stand (twos (canonical_lines (after_all start lines).script)) start (canonical_lines (after_all start lines).script) (after_all start lines)
+canonical_stands [] stand ended built = absurd (cc)
+canonical_stands (line.Header ∷ ls) stand ended built =
+    let file : List Declared = twos (line.Header ∷ ls) in
+    let made : Context = after_all (so_far empty_script 0 false) ls in
+    let declared : declared_lines made.script ≡ line.Header ∷ said ls = lines_again file empty_script 0 false ls stand.1 (sound-after file start line.Header stand.0 sound-start) front_start last_start in
+    let are : canonical_lines made.script ≡ line.Header ∷ rest_of ls made = ap (λ (xs : List SourceLine). xs ++ schedule_lines made.script.slots ++ line.End ∷ []) declared ∙ append_assoc (line.Header ∷ said ls) (schedule_lines made.script.slots) (line.End ∷ []) in
+    let other : List Declared = twos (line.Header ∷ rest_of ls made) in
+    let t : Carries file other = carries file ls (schedule_lines made.script.slots ++ line.End ∷ []) stand.1 in
+    let h = goes file other t empty_script 0 0 false ls (record { under = omega arith; same = λ e. refl }) (omega arith) (λ e. absurd (cc)) front_start stand.1 ended built.1 in
+    let whole : Stand other start (line.Header ∷ rest_of ls made) made = record { stand = (known_stands file other t start line.Header stand.0, h.stand); built = (built.0, h.built); makes = h.makes } in
+    subst (λ (ks : List SourceLine). Stand (twos ks) start ks made) (sym are) whole
+canonical_stands (l ∷ ls) stand ended built = let order = stand.0.order in absurd (cc)
