@@ -11,7 +11,19 @@ fn is_built_instr(what: &Instr) -> bool
 {
     matches!(
         what,
-        Instr::CreateMutex(..) | Instr::Open(Kind::Mutex, ..) | Instr::Dup(..) | Instr::Close(_)
+        Instr::CreateMutex(..)
+            | Instr::Open(Kind::Mutex | Kind::Thread | Kind::Process, ..)
+            | Instr::Dup(..)
+            | Instr::Close(_)
+            | Instr::Suspend(_)
+            | Instr::Resume(_)
+            | Instr::Priority(..)
+            | Instr::Flock(_)
+            | Instr::Funlock(_)
+            | Instr::Fswait
+            | Instr::Fssignal(_)
+            | Instr::Enter
+            | Instr::Leave
     )
 }
 
@@ -21,12 +33,14 @@ pub fn is_built_line(line: &SourceLine) -> bool
 {
     match line {
         SourceLine::Header
+        | SourceLine::Fast(_)
+        | SourceLine::KernelThread(..)
         | SourceLine::Process(_)
+        | SourceLine::Thread(..)
         | SourceLine::Schedule
         | SourceLine::Go(_)
         | SourceLine::Tick
         | SourceLine::End => true,
-        SourceLine::Thread(_, _, held) => !*held,
         SourceLine::Instr(what) => is_built_instr(what),
         _ => false,
     }

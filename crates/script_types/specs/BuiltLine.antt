@@ -1,5 +1,5 @@
 -- Which lines this program runs so far.
-use Rattle.std.specs.Prelude.{Bool, true, false, not}
+use Rattle.std.specs.Prelude.{Bool, true, false}
 use Rattle.script_types.specs.declared.instruction.Instr.{Instr}
 use Rattle.script_types.specs.declared.instruction.Instr.TheVariants as instr
 use Rattle.script_types.specs.declared.source_line.SourceLine.{SourceLine}
@@ -9,14 +9,27 @@ use Rattle.sym_base.specs.declared.kind.Kind.TheVariants as kind
 abbrev pub is_built_instr : Instr → Bool
 is_built_instr (instr.CreateMutex name x) = true
 is_built_instr (instr.Open kind.Mutex name x) = true
+is_built_instr (instr.Open kind.Thread name x) = true
+is_built_instr (instr.Open kind.Process name x) = true
 is_built_instr (instr.Dup x y) = true
 is_built_instr (instr.Close x) = true
+is_built_instr (instr.Suspend x) = true
+is_built_instr (instr.Resume x) = true
+is_built_instr (instr.Priority x priority) = true
+is_built_instr (instr.Flock f) = true
+is_built_instr (instr.Funlock f) = true
+is_built_instr instr.Fswait = true
+is_built_instr (instr.Fssignal name) = true
+is_built_instr instr.Enter = true
+is_built_instr instr.Leave = true
 is_built_instr _ = false
 
 abbrev pub is_built_line : SourceLine → Bool
 is_built_line line.Header = true
+is_built_line (line.Fast count) = true
+is_built_line (line.KernelThread name priority held) = true
 is_built_line (line.Process name) = true
-is_built_line (line.Thread name priority held) = not held
+is_built_line (line.Thread name priority held) = true
 is_built_line (line.Instr what) = is_built_instr what
 is_built_line line.Schedule = true
 is_built_line (line.Go count) = true
