@@ -1,4 +1,9 @@
+pub mod Deferred
+pub mod DeferredChanges
 pub mod Nano
 pub mod NanoChanges
 pub mod NanoSound
 pub mod ObjectRows
+pub mod RequestChanges
+pub mod RequestSound
+pub mod Requests
