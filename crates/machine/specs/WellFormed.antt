@@ -1,5 +1,5 @@
 -- What holds of every state that a legal history leaves: a predicate for each part of the state.
-use Rattle.std.specs.Prelude.{◌≡◌, ℕ, ◌<◌, ◌≤◌, Bool, true, false, List, [], ◌∷◌, length, Option, Some, None}
+use Rattle.std.specs.Prelude.{◌≡◌, ℕ, ◌+◌, ◌<◌, ◌≤◌, Bool, true, false, List, [], ◌∷◌, length, Option, Some, None}
 use Rattle.std.specs.List.{slice_index_or}
 use Rattle.sym_base.specs.declared.limits.TheConstants.Limits.{OBJECTS, BOOT_OBJECTS, DEVICES, HANDLES}
 use Rattle.sym_base.specs.declared.number.ObjNo.{ObjNo}
