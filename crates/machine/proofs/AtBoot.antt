@@ -6,4 +6,3 @@ pub mod BootNames
 pub mod BootNano
 pub mod BootReady
 pub mod BootRows
-pub mod NamesApart
