@@ -1,6 +1,7 @@
--- The choice of the next actor: the ready thread of greatest priority that has been ready longest, or, where it wants
--- a fast mutex that is held, the holder of that.
-use Rattle.state_rows.specs.Nano.{in_place_of, actor_of}
+-- The choice of the next actor: the oldest item of the immediate queue, where it has one; else the ready thread of
+-- greatest priority that has been ready longest, or, where it wants a fast mutex that is held, the holder of that.
+use Rattle.state_rows.specs.Deferred.{next_immediate}
+use Rattle.state_rows.specs.Nano.{in_place_of, actor_of, item_or}
 use Rattle.std.specs.Prelude.{ℕ, Option, Some, None, option_map}
 use Rattle.sym_base.specs.Greatest.{first_of_greatest}
 use Rattle.sym_base.specs.declared.number.ObjNo.{ObjNo}
@@ -21,6 +22,10 @@ priority_of S t = priority_of_row (thread_of S t)
 abbrev pub first_ready : State → Option ObjNo
 first_ready S = first_of_greatest (priority_of S) S.ready
 
--- who acts next: that thread, or who acts in its place, or nobody
+-- the thread that acts next: that one, or who acts in its place; or nobody
+abbrev pub chosen_thread : State → Actor
+chosen_thread S = actor_of (option_map (in_place_of S.nano) (first_ready S))
+
+-- who acts next
 abbrev pub chosen : State → Actor
-chosen S = actor_of (option_map (in_place_of S.nano) (first_ready S))
+chosen S = item_or (next_immediate S.deferred) (chosen_thread S)

@@ -9,9 +9,17 @@ use Rattle.entry_log.specs.declared.effect.Holder.{Holder}
 use Rattle.entry_log.specs.declared.effect.Holder.TheVariants.{InProcess, InThread, Temp}
 use Rattle.entry_log.specs.declared.step.Part.{Part}
 use Rattle.machine.specs.declared.moves.Move.{Move}
-use Rattle.machine.specs.declared.moves.Move.TheVariants.{Make, Gain, Lose, Find, Miss, GoOn, Write, Advance, Wait, Wake, SetPriority, Nano, Pay}
+use Rattle.machine.specs.declared.moves.Move.TheVariants.{Make, Gain, Lose, Find, Miss, GoOn, Write, Advance, Wait, Wake, SetPriority, Nano, Deferred, Requests, Pay}
 use Rattle.machine.specs.declared.nano_move.NanoMove.{NanoMove}
 use Rattle.machine.specs.declared.nano_move.NanoMove.TheVariants.{Take, Give, Want, Suspend}
+use Rattle.machine.specs.declared.deferred_move.DeferredMove.{DeferredMove}
+use Rattle.machine.specs.declared.deferred_move.DeferredMove.TheVariants.{AddImmediate, AddFromInterrupt, Add, TakeImmediate, Take as TakeCall}
+use Rattle.machine.specs.declared.request_move.RequestMove.{RequestMove}
+use Rattle.machine.specs.declared.request_move.RequestMove.TheVariants.{Begin, Complete, TakeSignal}
+use Rattle.state_rows.specs.declared.deferred.DeferredRows.{DeferredRows}
+use Rattle.state_rows.specs.Deferred.{queue_of}
+use Rattle.state_rows.specs.declared.requests.RequestRows.{RequestRows}
+use Rattle.state_rows.specs.Requests.{request_at, is_pending}
 use Rattle.state_rows.specs.Nano.{suspend_count, holder_of, held_by}
 use Rattle.machine.specs.NanoMoves.{nano_thread}
 use Rattle.machine.specs.declared.state.Waiting.TheVariants as waiting
@@ -93,6 +101,28 @@ FitsNano (Want t (Some f)) S = (f < length S.nano.holders) × (held_by S.nano t 
 FitsNano (Suspend t) S = suspend_count S.nano t < 127
 FitsNano _ S = Unit {0}
 
+-- A move in the rows of deferred function calls fits them: what it names is there, and a call joins its own queue.
+abbrev pub FitsDeferred : DeferredMove → DeferredRows → Type 0
+FitsDeferred (AddImmediate item) r = item < r.idfcs
+FitsDeferred (AddFromInterrupt dfc) r = dfc < length r.places
+FitsDeferred (Add dfc queue) r = (dfc < length r.places) × (queue ≡ queue_of r dfc)
+FitsDeferred TakeImmediate r = Unit {0}
+FitsDeferred (TakeCall queue) r = queue < length r.queues
+
+-- a device that may get a request of a thread's status: it has none, and the status isn't pending
+pub record MayBegin (r : RequestRows) (d : ℕ) (t : ObjNo) (s : ℕ) : Type 0 where
+  pub device : d < length r.devices
+  pub thread : t.0 < length r.signals
+  pub status : s < 16
+  pub free : request_at r d ≡ None
+  pub done : is_pending r t s ≡ false
+
+-- A move in the rows of requests fits them: what it names is there, a request begins where it may, and the device's own is completed.
+abbrev pub FitsRequests : RequestMove → RequestRows → Type 0
+FitsRequests (Begin d t s) r = MayBegin r d t s
+FitsRequests (Complete d t s code) r = (d < length r.devices) × (request_at r d ≡ Some (record { thread = t; status = s }))
+FitsRequests (TakeSignal t) r = t.0 < length r.signals
+
 -- A move in an action of thread t fits the state. What is owed is paid by an action of its own.
 abbrev pub FitsMove : Script → ObjNo → Move → State → Type 0
 FitsMove script t (Make kind name h) S = MayMake S kind name × IsFree S h
@@ -107,6 +137,8 @@ FitsMove script t (Wait u what) S = held_by S.nano u ≡ None
 FitsMove script t (Wake u) S = Unit {0}
 FitsMove script t (SetPriority u priority) S = priority ≤ 63
 FitsMove script t (Nano m) S = (is_some (thread_of S (nano_thread m)) ≡ true) × FitsNano m S
+FitsMove script t (Deferred m) S = FitsDeferred m S.deferred
+FitsMove script t (Requests m) S = FitsRequests m S.requests
 FitsMove script t (Pay what) S = ⊥
 
 -- each move fits when its turn comes
@@ -124,6 +156,7 @@ most_told (Advance u) = 0
 most_told (Wait u what) = 0
 most_told (Wake u) = 0
 most_told (SetPriority u priority) = 0
+most_told (Deferred m) = 0
 most_told _ = 1
 
 -- the most that a move adds to the weight of what its thread owes: with a last reference the close of a link and a

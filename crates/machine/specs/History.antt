@@ -1,9 +1,10 @@
 -- Histories: each entry is what its actor does in the state before it.
-use Rattle.std.specs.Prelude.{◌≡◌, ℕ, ◌+◌, IsTrue, List, [], ◌∷◌}
+use Rattle.std.specs.Prelude.{◌≡◌, ℕ, ◌+◌, IsTrue, is_some, List, [], ◌∷◌}
 use Rattle.script_types.specs.declared.script.Script.{Script}
 use Rattle.entry_log.specs.declared.entry.Actor.{Actor}
 use Rattle.entry_log.specs.declared.entry.Actor.TheVariants.{Thread, Irq, Idfc, Tick, Idle}
 use Rattle.entry_log.specs.declared.entry.Entry.{Entry}
+use Rattle.state_rows.specs.Deferred.{next_immediate}
 use Rattle.machine.specs.declared.decision.Outcome.{Outcome}
 use Rattle.machine.specs.declared.state.State.{State}
 use Rattle.machine.specs.Slots.{declares_interrupt}
@@ -11,13 +12,16 @@ use Rattle.machine.specs.Task.{is_able}
 use Rattle.machine.specs.Transition.{Transition, act, idle}
 use Rattle.machine.specs.Choice.{chosen}
 use Rattle.machine.specs.Tick.{tick}
+use Rattle.machine.specs.Interrupts.{immediate, interrupt}
 use Rattle.machine.specs.Boot.{boot}
 
--- what an actor does; interrupts and deferred calls come later, and do nothing yet
+-- what an actor does
 abbrev pub transition : Script → State → Actor → Transition
 transition script S (Thread t) = act script S t
+transition script S (Irq k) = interrupt script S k
+transition script S Idfc = immediate script S
 transition script S Tick = tick S
-transition script S _ = idle S
+transition script S Idle = idle S
 
 -- the state that an actor's action leaves
 abbrev pub next : Script → State → Actor → State
@@ -39,13 +43,13 @@ after_from script S (e ∷ es) = after_from script (next script S e.actor) es
 abbrev pub after : Script → List Entry → State
 after script history = after_from script (boot script) history
 
--- an able thread may act, a declared interrupt may come and a time slice end at any time, and nobody acts where no
--- thread is ready
+-- an able thread may act, and the oldest item of the immediate queue; a declared interrupt may come and a time slice
+-- end at any time; and nobody acts where nobody is chosen
 abbrev pub CanAct : Script → State → Actor → Type 0
 CanAct script S (Thread t) = IsTrue (is_able script S t)
 CanAct script S Idle = chosen S ≡ Idle
 CanAct script S (Irq k) = IsTrue (declares_interrupt script k)
-CanAct script S Idfc = ⊥
+CanAct script S Idfc = IsTrue (is_some (next_immediate S.deferred))
 CanAct script S Tick = Unit {0}
 
 -- an entry that may stand at a place: its actor may act, and it tells what the actor does

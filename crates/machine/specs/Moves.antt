@@ -14,7 +14,7 @@ use Rattle.state_rows.specs.declared.duty.Owed.TheVariants.{Close, Sweep}
 use Rattle.state_rows.specs.declared.object.ObjectRow.{ObjectRow}
 use Rattle.state_rows.specs.ObjectRows.{dead_row}
 use Rattle.machine.specs.declared.moves.Move.{Move}
-use Rattle.machine.specs.declared.moves.Move.TheVariants.{Make, Gain, Lose, Find, Miss, GoOn, Write, Advance, Wait, Wake, SetPriority, Nano, Pay}
+use Rattle.machine.specs.declared.moves.Move.TheVariants.{Make, Gain, Lose, Find, Miss, GoOn, Write, Advance, Wait, Wake, SetPriority, Nano, Deferred, Requests, Pay}
 use Rattle.machine.specs.declared.state.Found.TheVariants.{Nothing, Object}
 use Rattle.machine.specs.declared.state.Waiting.{Waiting}
 use Rattle.machine.specs.declared.state.Waiting.TheVariants as waiting
@@ -25,6 +25,8 @@ use Rattle.machine.specs.Rows.{thread_of, with_row, owing, without_first}
 use Rattle.machine.specs.Handles.{with_slot, taken_slot, freed_slot}
 use Rattle.machine.specs.References.{is_last}
 use Rattle.machine.specs.NanoMoves.{nano_moved, nano_told}
+use Rattle.machine.specs.DeferredMoves.{deferred_moved}
+use Rattle.machine.specs.RequestMoves.{request_moved, request_told}
 
 -- the number that the next object gets
 abbrev pub next_object : State → ObjNo
@@ -149,6 +151,8 @@ moved t (Wait u what) S = record S { threads = with_row S.threads u (with_waitin
 moved t (Wake u) S = record S { threads = with_row S.threads u (with_waiting waiting.Nothing) }
 moved t (SetPriority u priority) S = record S { threads = with_row S.threads u (with_priority priority) }
 moved t (Nano m) S = record S { nano = nano_moved m S.nano }
+moved t (Deferred m) S = record S { deferred = deferred_moved m S.deferred }
+moved t (Requests m) S = record S { requests = request_moved m S.requests }
 moved t (Pay (Close h o)) S = record S {
   objects = objects_closed (is_last S o) o S.objects;
   threads = threads_closed (is_last S o) o S.threads;
@@ -174,6 +178,8 @@ told (Wait t what) S = []
 told (Wake t) S = []
 told (SetPriority t priority) S = []
 told (Nano m) S = nano_told m
+told (Deferred m) S = []
+told (Requests m) S = request_told m
 told (Pay (Close h o)) S = closed_effects (is_last S o) h o
 told (Pay (Sweep o)) S = Swept o ∷ []
 

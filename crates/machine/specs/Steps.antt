@@ -26,24 +26,34 @@ use Rattle.machine.specs.FastMutex.{flock_step, funlock_do}
 use Rattle.machine.specs.FastSemaphore.{fswait_step, fssignal_do}
 use Rattle.machine.specs.CriticalSection.{enter_do, leave_do, flush}
 use Rattle.machine.specs.ThreadCalls.{suspend_step, resume_step, priority_step}
+use Rattle.machine.specs.Queueing.{queue_do}
+use Rattle.machine.specs.RequestCalls.{request_do, cancel_do, waitany_step, waitfor_step, status_do}
+use Rattle.machine.specs.Bodies.{run_body}
+use Rattle.machine.specs.declared.plan.Body.TheVariants.{Deferred}
 use Rattle.machine.specs.Task.{task_of, is_able}
 
 -- an instruction's step, by the part that is next, None being its first. What isn't built yet does nothing
-abbrev pub step_of : State → ObjNo → ThreadRow → Instr → Option Part → Decision
-step_of S t row (instr.CreateMutex name x) p = create_do S t row Mutex name x
-step_of S t row (instr.Open kind name x) p = open_step S t row kind name x p
-step_of S t row (instr.Dup x y) p = dup_step S t row x y p
-step_of S t row (instr.Close x) p = close_do S t row x
-step_of S t row (instr.Flock f) p = flock_step S t f p
-step_of S t row (instr.Funlock f) p = funlock_do S t f
-step_of S t row instr.Fswait p = fswait_step S t p
-step_of S t row (instr.Fssignal name) p = fssignal_do S t name
-step_of S t row instr.Enter p = enter_do t
-step_of S t row instr.Leave p = leave_do S t
-step_of S t row (instr.Suspend x) p = suspend_step S t row x p
-step_of S t row (instr.Resume x) p = resume_step S t row x p
-step_of S t row (instr.Priority x priority) p = priority_step S t row x priority p
-step_of S t row _ p = nothing
+abbrev pub step_of : Script → State → ObjNo → ThreadRow → Instr → Option Part → Decision
+step_of script S t row (instr.CreateMutex name x) p = create_do S t row Mutex name x
+step_of script S t row (instr.Open kind name x) p = open_step S t row kind name x p
+step_of script S t row (instr.Dup x y) p = dup_step S t row x y p
+step_of script S t row (instr.Close x) p = close_do S t row x
+step_of script S t row (instr.Flock f) p = flock_step S t f p
+step_of script S t row (instr.Funlock f) p = funlock_do S t f
+step_of script S t row instr.Fswait p = fswait_step S t p
+step_of script S t row (instr.Fssignal name) p = fssignal_do S t name
+step_of script S t row instr.Enter p = enter_do t
+step_of script S t row instr.Leave p = leave_do S t
+step_of script S t row (instr.Suspend x) p = suspend_step S t row x p
+step_of script S t row (instr.Resume x) p = resume_step S t row x p
+step_of script S t row (instr.Priority x priority) p = priority_step S t row x priority p
+step_of script S t row (instr.Queue name) p = queue_do script S t name
+step_of script S t row (instr.Request d s) p = request_do S t d s
+step_of script S t row (instr.Cancel d) p = cancel_do S t d
+step_of script S t row instr.WaitAny p = waitany_step S t p
+step_of script S t row (instr.WaitFor s) p = waitfor_step S t s p
+step_of script S t row (instr.Status s) p = status_do S t s
+step_of script S t row _ p = nothing
 
 -- the return of an instruction that found an object
 abbrev pub return_of : State → ObjNo → ThreadRow → Instr → Decision
@@ -59,21 +69,22 @@ abbrev pub pay : Owed → Decision
 pay what = record { step = pay_step what; moves = move.Pay what ∷ []; answer = None }
 
 -- the decision of a task
-abbrev pub decision_of_task : State → ObjNo → ThreadRow → Task → Decision
-decision_of_task S t row (task.Return instr) = return_of S t row instr
-decision_of_task S t row (task.Pay what) = pay what
-decision_of_task S t row (task.Step instr) = step_of S t row instr row.part
-decision_of_task S t row task.Flush = flush S t
+abbrev pub decision_of_task : Script → State → ObjNo → ThreadRow → Task → Decision
+decision_of_task script S t row (task.Return instr) = return_of S t row instr
+decision_of_task script S t row (task.Pay what) = pay what
+decision_of_task script S t row (task.RunDfc dfc) = run_body script t S (Deferred dfc)
+decision_of_task script S t row (task.Step instr) = step_of script S t row instr row.part
+decision_of_task script S t row task.Flush = flush S t
 
 -- a thread that has nothing to do does nothing
-abbrev pub decision_of_row : State → ObjNo → Option ThreadRow → Option Task → Decision
-decision_of_row S t (Some row) (Some what) = decision_of_task S t row what
-decision_of_row S t _ _ = nothing
+abbrev pub decision_of_row : Script → State → ObjNo → Option ThreadRow → Option Task → Decision
+decision_of_row script S t (Some row) (Some what) = decision_of_task script S t row what
+decision_of_row script S t _ _ = nothing
 
 -- what a thread does in its next action; one that isn't able does nothing
-abbrev pub decision_where : Bool → State → ObjNo → Option Task → Decision
-decision_where false S t task = nothing
-decision_where true S t task = decision_of_row S t (thread_of S t) task
+abbrev pub decision_where : Script → Bool → State → ObjNo → Option Task → Decision
+decision_where script false S t task = nothing
+decision_where script true S t task = decision_of_row script S t (thread_of S t) task
 
 abbrev pub decision_of : Script → State → ObjNo → Decision
-decision_of script S t = decision_where (is_able script S t) S t (task_of script S t)
+decision_of script S t = decision_where script (is_able script S t) S t (task_of script S t)

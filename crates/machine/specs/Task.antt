@@ -1,26 +1,29 @@
 -- What a thread does next.
-use Rattle.std.specs.Prelude.{ℕ, Bool, true, false, not, ◌&&◌, ◌==◌, is_some, is_none, if◌then◌else◌, List, [], Option, Some, None, slice_get}
+use Rattle.std.specs.Prelude.{ℕ, Bool, true, false, not, ◌&&◌, ◌==◌, is_some, is_none, if◌then◌else◌, List, [], Option, Some, None, option_and_then, slice_get}
 use Rattle.sym_base.specs.declared.number.ObjNo.{ObjNo}
 use Rattle.script_types.specs.declared.script.Script.{Script}
 use Rattle.script_types.specs.declared.declaration.ThreadDecl.{ThreadDecl}
 use Rattle.script_types.specs.declared.instruction.Instr.{Instr}
 use Rattle.entry_log.specs.declared.step.Part.{Part}
 use Rattle.entry_log.specs.declared.step.Part.TheVariants as part
+use Rattle.state_rows.specs.Deferred.{next_of}
+use Rattle.state_rows.specs.declared.deferred.DeferredRows.{DeferredRows}
 use Rattle.state_rows.specs.Nano.{suspend_count, is_protected, wanted_holder}
 use Rattle.state_rows.specs.declared.duty.Owed.{Owed}
 use Rattle.machine.specs.declared.task.Task.{Task}
-use Rattle.machine.specs.declared.task.Task.TheVariants.{Return, Pay, Step, Flush}
+use Rattle.machine.specs.declared.task.Task.TheVariants.{Return, Pay, RunDfc, Step, Flush}
 use Rattle.machine.specs.declared.state.Role.{Role}
-use Rattle.machine.specs.declared.state.Role.TheVariants.{Supervisor, Declared}
+use Rattle.machine.specs.declared.state.Role.TheVariants.{Supervisor, Queue, Declared}
 use Rattle.machine.specs.declared.state.Waiting.{Waiting}
 use Rattle.machine.specs.declared.state.Waiting.TheVariants.{Nothing}
 use Rattle.machine.specs.declared.state.ThreadRow.{ThreadRow}
 use Rattle.machine.specs.declared.state.State.{State}
 use Rattle.machine.specs.Rows.{thread_of, first_owed}
 
--- the declaration of a thread: the supervisor has none
+-- the declaration of a thread: the supervisor and the thread of a queue have none
 abbrev pub declared_of : Script → Role → Option ThreadDecl
 declared_of script Supervisor = None
+declared_of script (Queue queue) = None
 declared_of script (Declared k) = slice_get script.threads k
 
 -- the instructions of a declaration
@@ -49,24 +52,40 @@ abbrev pub step_or_end : Bool → Option Instr → Option Task
 step_or_end protected None = end_task protected
 step_or_end protected (Some instr) = Some (Step instr)
 
--- the oldest of what a thread owes comes before its instruction
-abbrev pub pay_or_step : Bool → Option Owed → Option Instr → Option Task
-pay_or_step protected (Some what) instr = Some (Pay what)
-pay_or_step protected None instr = step_or_end protected instr
+-- the queue of deferred function calls that a thread serves
+abbrev pub served_queue : Role → Option ℕ
+served_queue Supervisor = Some 0
+served_queue (Queue queue) = Some queue
+served_queue (Declared k) = None
+
+-- the call of its queue that comes next
+abbrev pub next_call : DeferredRows → Role → Option ℕ
+next_call r role = option_and_then (next_of r) (served_queue role)
+
+-- a call comes before an instruction, which no thread has that serves a queue
+abbrev pub run_or : Option ℕ → Option Task → Option Task
+run_or None other = other
+run_or (Some dfc) other = Some (RunDfc dfc)
+
+-- the oldest of what a thread owes comes before these
+abbrev pub pay_or : Option Owed → Option Task → Option Task
+pay_or None other = other
+pay_or (Some what) other = Some (Pay what)
 
 -- the return comes before all else
 abbrev pub return_or : Bool → Option Instr → Option Task → Option Task
 return_or true (Some instr) other = Some (Return instr)
 return_or _ _ other = other
 
-abbrev pub task_of_row : Script → Bool → Option Owed → Option ThreadRow → Option Task
-task_of_row script protected first None = None
-task_of_row script protected first (Some row) =
-    return_or (is_returning row.part) (instruction script row) (pay_or_step protected first (instruction script row))
+abbrev pub task_of_row : Script → DeferredRows → Bool → Option Owed → Option ThreadRow → Option Task
+task_of_row script calls protected first None = None
+task_of_row script calls protected first (Some row) =
+    return_or (is_returning row.part) (instruction script row)
+    (pay_or first (run_or (next_call calls row.role) (step_or_end protected (instruction script row))))
 
 -- what a thread does next, None where there is nothing
 abbrev pub task_of : Script → State → ObjNo → Option Task
-task_of script S t = task_of_row script (is_protected S.nano t) (first_owed S t) (thread_of S t)
+task_of script S t = task_of_row script S.deferred (is_protected S.nano t) (first_owed S t) (thread_of S t)
 
 -- whether a thread waits
 abbrev pub is_wait : Waiting → Bool

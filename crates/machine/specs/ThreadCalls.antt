@@ -15,16 +15,17 @@ use Rattle.machine.specs.declared.moves.Move.{Move}
 use Rattle.machine.specs.declared.moves.Move.TheVariants.{SetPriority, Nano}
 use Rattle.machine.specs.declared.nano_move.NanoMove.TheVariants.{Suspend, Resume}
 use Rattle.machine.specs.declared.state.Role.{Role}
-use Rattle.machine.specs.declared.state.Role.TheVariants.{Supervisor, Declared}
+use Rattle.machine.specs.declared.state.Role.TheVariants.{Supervisor, Queue, Declared}
 use Rattle.machine.specs.declared.state.ThreadRow.{ThreadRow}
 use Rattle.machine.specs.declared.state.State.{State}
 use Rattle.machine.specs.Rows.{thread_of}
 use Rattle.machine.specs.Decide.{nothing, answer, refuse}
 use Rattle.machine.specs.Look.{look_kind}
 
--- nobody may call on the supervisor
+-- nobody may call on the supervisor and the thread of a queue
 abbrev pub refusal_of_role : Role → Option Error
 refusal_of_role Supervisor = Some PermissionDenied
+refusal_of_role (Queue queue) = Some PermissionDenied
 refusal_of_role (Declared k) = None
 
 -- why a call on a thread is refused: permission is denied, or the thread died

@@ -1,7 +1,7 @@
 -- What holds of every state that a legal history leaves: a predicate for each part of the state.
-use Rattle.std.specs.Prelude.{◌≡◌, ℕ, ◌<◌, ◌≤◌, Bool, true, false, List, [], ◌∷◌, length, Option, Some, None}
-use Rattle.std.specs.List.{slice_index_or}
-use Rattle.sym_base.specs.declared.limits.TheConstants.Limits.{OBJECTS, BOOT_OBJECTS, HANDLES}
+use Rattle.std.specs.Prelude.{◌≡◌, ℕ, ◌+◌, ◌<◌, ◌≤◌, Bool, true, false, List, [], ◌∷◌, length, Option, Some, None}
+use Rattle.std.specs.List.{slice_index_or, AllByRecursion}
+use Rattle.sym_base.specs.declared.limits.TheConstants.Limits.{OBJECTS, BOOT_OBJECTS, DEVICES, HANDLES}
 use Rattle.sym_base.specs.declared.number.ObjNo.{ObjNo}
 use Rattle.script_types.specs.declared.script.Script.{Script}
 use Rattle.entry_log.specs.declared.effect.Holder.{Holder}
@@ -11,7 +11,13 @@ use Rattle.entry_log.specs.declared.step.Part.TheVariants as part
 use Rattle.state_rows.specs.declared.duty.Owed.{Owed}
 use Rattle.state_rows.specs.declared.duty.Owed.TheVariants.{Close, Sweep}
 use Rattle.state_rows.specs.declared.object.ObjectRow.{ObjectRow}
+use Rattle.state_rows.specs.declared.deferred.DeferredRows.{DeferredRows}
 use Rattle.state_rows.specs.declared.nano.NanoRows.{NanoRows}
+use Rattle.state_rows.specs.Deferred.{IsKnown}
+use Rattle.state_rows.specs.declared.requests.Request.{Request}
+use Rattle.state_rows.specs.declared.requests.RequestRows.{RequestRows}
+use Rattle.state_rows.specs.Requests.{request_at, is_pending}
+use Rattle.state_rows.specs.RequestSound.{AreRequestRows}
 use Rattle.state_rows.specs.Nano.{want_of, holder_of}
 use Rattle.state_rows.specs.NanoSound.{AreNanoRows}
 use Rattle.machine.specs.declared.state.Waiting.TheVariants as waiting
@@ -21,14 +27,16 @@ use Rattle.machine.specs.declared.state.State.{State}
 use Rattle.machine.specs.Rows.{object_of}
 use Rattle.machine.specs.Handles.{slot_at}
 use Rattle.machine.specs.References.{total, same, count_of}
-use Rattle.machine.specs.Task.{instructions_of, is_ready, is_returning}
+use Rattle.machine.specs.Task.{instructions_of, served_queue, is_ready, is_returning}
 use Rattle.machine.specs.Arrivals.{is_listed}
+use Rattle.machine.specs.Boot.{calls_of}
 
--- processes and threads have the least numbers, and a handle table and a list of duties each
+-- processes and threads, the supervisor among them, have the least numbers, and a handle table and a list of duties each
 pub record AreSized (S : State) : Type 0 where
   pub tables : length S.handles ≡ length S.threads
   pub duties : length S.owed ≡ length S.threads
   pub first : length S.threads ≤ length S.objects
+  pub supervised : 2 ≤ length S.threads
   pub threads_few : length S.threads ≤ BOOT_OBJECTS
   pub objects_few : length S.objects ≤ OBJECTS
 
@@ -56,10 +64,11 @@ pub record IsThread (script : Script) (count : ℕ) (row : ThreadRow) : Type 0 w
   pub unused : is_before_use row.part ≡ true → row.uses ≡ None
   pub registers : length row.registers ≡ 8
 
--- each thread's row is one, and no process is a thread
+-- each thread's row is one, no process is a thread, and who serves a queue has the number of its thread
 pub record AreThreads (script : Script) (threads : List (Option ThreadRow)) : Type 0 where
   pub rows : (k : ℕ) (row : ThreadRow) → slice_index_or threads k None ≡ Some row → IsThread script (length threads) row
   pub processes : (k : ℕ) (row : ThreadRow) → slice_index_or threads k None ≡ Some row → slice_index_or threads row.process.0 None ≡ None
+  pub servers : (k queue : ℕ) (row : ThreadRow) → slice_index_or threads k None ≡ Some row → served_queue row.role ≡ Some queue → k ≡ 1 + queue
 
 -- what a duty weighs: each duty done leaves less, since a close may owe the close of a link and a sweep, and the
 -- close of a link a sweep
@@ -105,6 +114,21 @@ pub record AreSynchronized (script : Script) (threads : List (Option ThreadRow))
   pub sized : length r.signals ≡ length threads
   pub mutexes : length r.holders ≡ script.fast
   pub holders : (f : ℕ) (u : ObjNo) → holder_of r f ≡ Some u → IsHolder threads r u
+
+-- the rows of deferred function calls are made for those of the script, and so is what waits in the immediate queue
+pub record AreCalls (script : Script) (r : DeferredRows) : Type 0 where
+  pub idfcs : r.idfcs ≡ length script.idfcs
+  pub places : r.places ≡ (calls_of script).places
+  pub queues : length r.queues ≡ 1 + length script.queues
+  pub known : AllByRecursion (IsKnown r) r.immediate
+
+-- the rows of requests: one for each thread; the status of a request is pending, and no two requests have one status
+pub record AreRequests (count : ℕ) (r : RequestRows) : Type 0 where
+  pub rows : AreRequestRows r
+  pub sized : length r.signals ≡ count
+  pub devices : length r.devices ≡ DEVICES
+  pub pending : (d : ℕ) (request : Request) → request_at r d ≡ Some request → is_pending r request.thread request.status ≡ true
+  pub apart : (d e : ℕ) (request : Request) → request_at r d ≡ Some request → request_at r e ≡ Some request → d ≡ e
 
 -- an object that is there and has a reference left
 abbrev pub IsAlive : Option ObjectRow → Type 0
@@ -152,6 +176,8 @@ pub record AreRows (script : Script) (S : State) : Type 0 where
   pub threads : AreThreads script S.threads
   pub duties : AreDuties S.threads S.owed
   pub nano : AreSynchronized script S.threads S.nano
+  pub deferred : AreCalls script S.deferred
+  pub requests : AreRequests (length S.threads) S.requests
   pub lives : AreLives S
 
 pub record IsWellFormed (script : Script) (S : State) : Type 0 where

@@ -1,14 +1,19 @@
 //! What stands at boot.
-ghost use Rattle.std.specs.Prelude.{◌≡◌, ℕ, ◌+◌, ◌<◌, ◌≤◌, ◌++◌, [], ◌∷◌, codes, false, IfOk, OnOk, length, map, replicate, vec_len};
+ghost use Rattle.std.specs.Prelude.{◌≡◌, ℕ, ◌+◌, ◌<◌, ◌≤◌, ◌++◌, [], ◌∷◌, codes, false, IfOk, OnOk, length, map, pos, replicate, vec_len};
 ghost use Rattle.script_types.specs.Shape.{IsShaped};
-ghost use Rattle.machine.specs.Boot.{boot_object, born_process, new_thread, born_thread, is_of, has_any, born_threads, born, ready_from, held_count, nano_of, boot_of, boot};
+ghost use Rattle.sym_base.specs.declared.limits.TheConstants.Limits.{DEVICES};
+ghost use Rattle.state_rows.specs.RequestChanges.{new_rows as request_rows};
+ghost use Rattle.machine.specs.Boot.{boot_object, born_process, new_thread, born_thread, born_queue, born_queues, is_of, has_any, born_threads, born, ready_from, held_count, nano_of, boot_of, boot};
 ghost use Rattle.machine.specs.Handles.{fresh_slot};
 ghost use Rattle.machine.specs.declared.state.Role.TheVariants as role;
 
+use crate::calls::calls_of;
 use crate::handles::FRESH_SLOT;
-use crate::{Found, HandleSlot, NanoRows, Owed, Role, State, ThreadRow, Waiting};
-use script_types::{Script, ThreadDecl};
-use state_rows::ObjectRow;
+use crate::{
+    DeferredRows, Found, HandleSlot, NanoRows, Owed, RequestRows, Role, State, ThreadRow, Waiting,
+};
+use script_types::{QueueDecl, Script, ThreadDecl};
+use state_rows::{ObjectRow, STATUSES};
 use std::alloc::Global;
 use sym_base::{Items, Kind, Limits, Name, NoMemory, ObjNo, ThreadNo, read_name};
 
@@ -80,6 +85,30 @@ fn born_thread(process: ObjNo, number: u8, declared: &ThreadDecl) -> Born
     }
 }
 
+/// The thread of a queue of deferred function calls.
+fn born_queue(queue: u8, declared: &QueueDecl) -> Born
+    ensures { result ≡ born_queue queue declared.now }
+{
+    Born {
+        object: boot_object(Kind::Thread, declared.name),
+        thread: Some(new_thread(KERNEL, Role::Queue(queue), declared.priority)),
+        works: false,
+        held: false,
+    }
+}
+
+/// Adds the threads of the queues of deferred function calls.
+fn push_queues(all: &mut Vec<Born>, queues: &[QueueDecl]) -> Result<(), NoMemory>
+    requires { length queues.now ≤ 63 }
+    ensures ok { OnOk result (all.new.items ≡ all.old.items ++ born_queues 1 queues.now) }
+    ensures few { vec_len all.new ≤ vec_len all.old + 63 }
+{
+    for (k, declared) in queues.iter().enumerate() {
+        all.push(born_queue(k as u8 + 1, declared))?;
+    }
+    Ok(())
+}
+
 /// The kernel's own process, and the supervisor, its one thread.
 fn born_kernel(alloc: Global) -> Result<Vec<Born>, NoMemory>
     ensures { IfOk result (λ all. all.items ≡ born_process (codes "kernel") ∷ record { object = boot_object Kind.Thread (codes "supervisor"); thread = Some (new_thread 0 role.Supervisor 48); works = false; held = false } ∷ []) }
@@ -126,13 +155,14 @@ fn push_threads(
     Ok(())
 }
 
-/// All that stands at boot, in order of object number: the kernel's process, its supervisor and the kernel
-/// threads, and then each process with its threads behind it.
+/// All that stands at boot, in order of object number: the kernel's process, its supervisor, the threads of queues and
+/// the kernel threads, and then each process with its threads behind it.
 pub fn all_born(alloc: Global, script: &Script) -> Result<Items<Born>, NoMemory>
     requires { IsShaped script.now }
     ensures { IfOk result (λ all. all ≡ born script.now) }
 {
     let mut all = born_kernel(alloc)?;
+    push_queues(&mut all, script.queues.as_slice())?;
     push_threads(&mut all, None, KERNEL, script.threads.as_slice())?;
     for (j, process) in script.processes.as_slice().iter().enumerate() {
         let number = ObjNo(all.len() as u16);
@@ -234,11 +264,39 @@ fn nano_of(alloc: Global, fast: u8, all: &[Born]) -> Result<NanoRows, NoMemory>
     })
 }
 
-/// The state in which these stand, each with an empty table and nothing that it owes.
+/// The statuses of so many threads, each 0.
+fn no_statuses(alloc: Global, threads: usize) -> Result<Items<[i32; STATUSES]>, NoMemory>
+    ensures { IfOk result (λ statuses. statuses ≡ replicate threads (replicate 16 (pos 0))) }
+{
+    let mut statuses = Vec::new(alloc);
+    for _thread in 0..threads {
+        statuses.push([0i32; STATUSES])?;
+    }
+    Ok(Items::new(statuses))
+}
+
+/// No request, and statuses and semaphores that are 0, of so many threads.
+fn no_requests(alloc: Global, threads: usize) -> Result<RequestRows, NoMemory>
+    ensures { IfOk result (λ requests. requests ≡ request_rows threads DEVICES) }
+{
+    Ok(RequestRows {
+        devices: Items::new(vec![in alloc; None; Limits::DEVICES]?),
+        statuses: no_statuses(alloc, threads)?,
+        signals: Items::new(vec![in alloc; 0u64; threads]?),
+        replies: Items::new(vec![in alloc; 0i32; threads]?),
+    })
+}
+
+/// The state in which these stand, each with an empty table and nothing that it owes, and no device with a request.
 #[tactic(auto, unfolding(crate::specs::Boot::boot_of))]
-pub fn boot_of(alloc: Global, fast: u8, all: &[Born]) -> Result<State, NoMemory>
+pub fn boot_of(
+    alloc: Global,
+    fast: u8,
+    calls: DeferredRows,
+    all: &[Born],
+) -> Result<State, NoMemory>
     requires { length all.now ≤ 65536 }
-    ensures { IfOk result (λ state. state ≡ boot_of fast all.now) }
+    ensures { IfOk result (λ state. state ≡ boot_of fast calls all.now) }
 {
     Ok(State {
         objects: objects_of(alloc, all)?,
@@ -247,6 +305,8 @@ pub fn boot_of(alloc: Global, fast: u8, all: &[Born]) -> Result<State, NoMemory>
         ready: ready_from(alloc, all)?,
         owed: no_duties(alloc, all)?,
         nano: nano_of(alloc, fast, all)?,
+        deferred: calls,
+        requests: no_requests(alloc, all.len())?,
     })
 }
 
@@ -257,5 +317,6 @@ pub fn state_at_boot(alloc: Global, script: &Script) -> Result<State, NoMemory>
     ensures { IfOk result (λ state. state ≡ boot script.now) }
 {
     let all = all_born(alloc, script)?;
-    boot_of(alloc, script.fast, all.as_slice())
+    let calls = calls_of(alloc, script)?;
+    boot_of(alloc, script.fast, calls, all.as_slice())
 }

@@ -3,13 +3,17 @@
 #![tactic(auto)]
 
 mod boot;
+mod calls;
 mod count;
 mod decision;
+mod deferred_move;
 mod duties;
 mod handles;
 mod moves;
 mod nano_move;
 mod nano_rows;
+mod plan;
+mod request_move;
 mod rows;
 mod state;
 mod task;
@@ -17,8 +21,10 @@ mod thread_rows;
 mod touches;
 
 pub use boot::{Born, all_born, boot_of, state_at_boot};
+pub use calls::declared_places;
 pub use count::{count_of, is_counted, is_last};
 pub use decision::{Decision, Outcome, entry_of};
+pub use deferred_move::DeferredMove;
 pub use duties::{drop_first_owed, owe_close, owe_use};
 pub use handles::{
     FRESH_SLOT, NewHandle, free_index, holder_of, index_of, instance_of, next_handle,
@@ -30,12 +36,14 @@ pub use nano_rows::{
     critical_count, held_place, is_protected, is_thread, mutex_holder, signal_count, suspend_count,
     wanted_mutex,
 };
+pub use plan::{Body, Plan};
+pub use request_move::RequestMove;
 pub use rows::{first_owed, object_of, row_of, set_row, set_slot, table_of, thread_of};
 pub use state::{Found, HandleSlot, Role, State, ThreadRow, Waiting};
-pub use state_rows::{NanoRows, Owed};
+pub use state_rows::{DeferredRows, NanoRows, Owed, RequestRows};
 pub use task::Task;
 pub use thread_rows::{
     threads_advance, threads_closed, threads_find, threads_gain, threads_go_on, threads_lose,
     threads_set_priority, threads_wait, threads_write,
 };
-pub use touches::{TouchedThreads, touched};
+pub use touches::{TouchedThreads, thread_of_queue, touched};

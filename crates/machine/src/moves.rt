@@ -2,7 +2,7 @@
 //! a move of its own (the split is this project's own).
 ghost use Rattle.std.specs.Prelude.{◌≡◌, ◌<◌, ◌≤◌, [], ◌∷◌, ◌++◌, length};
 
-use crate::{NanoMove, Waiting};
+use crate::{DeferredMove, NanoMove, RequestMove, Waiting};
 use arrayvec::ArrayVec;
 use entry_log::{Holder, Part};
 use state_rows::Owed;
@@ -38,6 +38,10 @@ pub enum Move {
     SetPriority(ThreadNo, u8),
     /// What the nanokernel keeps of a thread that synchronizes changes.
     Nano(NanoMove),
+    /// What the nanokernel keeps of deferred function calls changes.
+    Deferred(DeferredMove),
+    /// What the kernel keeps of requests changes.
+    Requests(RequestMove),
     /// The acting thread pays this, the oldest of what it owes.
     Pay(Owed),
 }

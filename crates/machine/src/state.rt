@@ -2,7 +2,7 @@
 ghost use Rattle.std.specs.Prelude.{◌≡◌, IfOk};
 
 use entry_log::Part;
-use state_rows::{NanoRows, ObjectRow, Owed};
+use state_rows::{DeferredRows, NanoRows, ObjectRow, Owed, RequestRows};
 use std::alloc::{AllocError, Global};
 use sym_base::{Items, ObjNo, ThreadNo};
 
@@ -15,12 +15,14 @@ pub struct HandleSlot {
     pub object: Option<ObjNo>,
 }
 
-/// Whose instructions a thread carries out.
+/// What a thread carries out.
 #[derive(Clone, Copy)]
 pub enum Role {
-    /// The kernel's own thread, which has none.
+    /// The kernel's own thread, which serves queue 0 of deferred function calls.
     Supervisor,
-    /// The thread that the script declares at this place, from 0.
+    /// The thread of a queue of deferred function calls, of which the script declares the first as number 1.
+    Queue(u8),
+    /// The instructions of the thread that the script declares at this place, from 0.
     Declared(u8),
 }
 
@@ -38,6 +40,10 @@ pub enum Waiting {
     Nothing,
     /// A signal of its fast semaphore.
     Fast,
+    /// A signal of its request semaphore.
+    Any,
+    /// A signal of its request semaphore, and the completion of this status.
+    Status(u8),
 }
 
 /// A thread (the chapter on threads and processes).
@@ -77,6 +83,10 @@ pub struct State {
     pub owed: Items<Items<Owed>>,
     /// Fast semaphores, fast mutexes, critical sections and suspension.
     pub nano: NanoRows,
+    /// The queues of deferred function calls.
+    pub deferred: DeferredRows,
+    /// Devices' requests, statuses and request semaphores.
+    pub requests: RequestRows,
 }
 
 /// A second list of lists of the same items.
@@ -103,6 +113,30 @@ fn copied_nano(alloc: Global, nano: &NanoRows) -> Result<NanoRows, AllocError>
     })
 }
 
+/// The same rows of deferred function calls, a second time.
+fn copied_deferred(alloc: Global, deferred: &DeferredRows) -> Result<DeferredRows, AllocError>
+    ensures { IfOk result (λ copy. copy ≡ deferred.now) }
+{
+    Ok(DeferredRows {
+        idfcs: deferred.idfcs,
+        places: deferred.places.copied(alloc)?,
+        immediate: deferred.immediate.copied(alloc)?,
+        queues: copied_lists(alloc, deferred.queues.as_slice())?,
+    })
+}
+
+/// The same rows of requests, a second time.
+fn copied_requests(alloc: Global, requests: &RequestRows) -> Result<RequestRows, AllocError>
+    ensures { IfOk result (λ copy. copy ≡ requests.now) }
+{
+    Ok(RequestRows {
+        devices: requests.devices.copied(alloc)?,
+        statuses: requests.statuses.copied(alloc)?,
+        signals: requests.signals.copied(alloc)?,
+        replies: requests.replies.copied(alloc)?,
+    })
+}
+
 impl State {
     /// A second state that is the same.
     pub fn copied(&self, alloc: Global) -> Result<State, AllocError>
@@ -115,6 +149,8 @@ impl State {
             ready: self.ready.copied(alloc)?,
             owed: copied_lists(alloc, self.owed.as_slice())?,
             nano: copied_nano(alloc, &self.nano)?,
+            deferred: copied_deferred(alloc, &self.deferred)?,
+            requests: copied_requests(alloc, &self.requests)?,
         })
     }
 }

@@ -9,6 +9,8 @@ pub enum Task {
     Return(Instr),
     /// It pays the oldest of what it owes.
     Pay(Owed),
+    /// It runs the call of its queue that comes next.
+    RunDfc(u8),
     /// It makes the next step of its instruction.
     Step(Instr),
     /// At its list's end it gives up what protects it.

@@ -1,9 +1,10 @@
 //! The threads that a move touches.
 ghost use Rattle.std.specs.Prelude.{◌≡◌, None, Some};
 ghost use Rattle.machine.specs.Arrivals.{touched, threads_of};
+ghost use Rattle.machine.specs.DeferredMoves.{thread_of_queue};
 
-use crate::{Move, Owed};
-use sym_base::ThreadNo;
+use crate::{DeferredMove, Move, Owed};
+use sym_base::{ObjNo, ThreadNo};
 
 /// The threads whose readiness a move may change: up to two, the first before the second.
 #[derive(Clone, Copy)]
@@ -22,6 +23,14 @@ fn one(thread: ThreadNo) -> TouchedThreads
     }
 }
 
+/// The thread that serves a queue of deferred function calls: the supervisor is object 1, and the threads of the others
+/// stand right behind it.
+pub fn thread_of_queue(queue: u8) -> ThreadNo
+    ensures { result ≡ thread_of_queue queue }
+{
+    ObjNo(1 + queue as u16)
+}
+
 /// The threads whose readiness a move in an action of a thread may change.
 pub fn touched(thread: ThreadNo, change: Move) -> TouchedThreads
     ensures { threads_of result ≡ touched thread change }
@@ -34,6 +43,9 @@ pub fn touched(thread: ThreadNo, change: Move) -> TouchedThreads
         | Move::Wake(other)
         | Move::SetPriority(other, _) => one(other),
         Move::Nano(change) => one(change.thread()),
+        Move::Deferred(DeferredMove::Add(_, queue) | DeferredMove::Take(queue)) => {
+            one(thread_of_queue(queue))
+        }
         Move::Pay(Owed::Sweep(object)) => TouchedThreads {
             first: Some(thread),
             second: Some(object),

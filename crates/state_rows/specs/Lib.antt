@@ -1,4 +1,10 @@
+pub mod DeclaredCalls
+pub mod Deferred
+pub mod DeferredChanges
 pub mod Nano
 pub mod NanoChanges
 pub mod NanoSound
 pub mod ObjectRows
+pub mod RequestChanges
+pub mod RequestSound
+pub mod Requests

@@ -2,7 +2,8 @@
 use Rattle.std.specs.Prelude.{ℕ, Bool, if◌then◌else◌, false, not, ◌==◌, ◌||◌, List, Option, Some, None, is_some, is_none, option_and_then, position, slice_index, slice_index_or}
 use Rattle.sym_base.specs.declared.number.ObjNo.{ObjNo}
 use Rattle.entry_log.specs.declared.entry.Actor.{Actor}
-use Rattle.entry_log.specs.declared.entry.Actor.TheVariants.{Thread, Idle}
+use Rattle.entry_log.specs.declared.entry.Actor.TheVariants.{Thread, Idfc, Idle}
+use Rattle.state_rows.specs.declared.deferred.Item.{Item}
 use Rattle.state_rows.specs.declared.nano.NanoRows.{NanoRows}
 
 -- how many signals wait at a thread's fast semaphore
@@ -67,3 +68,8 @@ turned r (Some t) = if is_some (held_by r t) then None else Some t
 abbrev pub actor_of : Option ObjNo → Actor
 actor_of None = Idle
 actor_of (Some t) = Thread t
+
+-- the immediate queue comes first, where it has an item
+abbrev pub item_or : Option Item → Actor → Actor
+item_or None other = other
+item_or (Some item) other = Idfc

@@ -1,16 +1,9 @@
--- Requests, statuses and semaphores, as lists.
-use Rattle.std.specs.Prelude.{ℕ, ℤ, pos, negsuc, Bool, List, [], Option, Some, None, slice_index, slice_index_or}
+-- Reading the rows of requests.
+use Rattle.std.specs.Prelude.{ℕ, ℤ, pos, negsuc, Bool, ◌==◌, if◌then◌else◌, List, [], Option, Some, None, slice_index, slice_index_or}
 use Rattle.std.specs.Ordering.{int_eq}
 use Rattle.sym_base.specs.declared.number.ObjNo.{ObjNo}
-use Rattle.requests.specs.declared.table.Request.{Request}
-
--- of each device the request that it has to complete; of each thread the values of its sixteen statuses,
--- the signals of its request semaphore, and the status of its synchronous message
-pub record RequestRows : Type 0 where
-  pub devices : List (Option Request)
-  pub statuses : List (List ℤ)
-  pub signals : List ℕ
-  pub replies : List ℤ
+use Rattle.state_rows.specs.declared.requests.Request.{Request}
+use Rattle.state_rows.specs.declared.requests.RequestRows.{RequestRows}
 
 -- the value of a status whose request isn't completed
 abbrev pub pending : ℤ
@@ -20,10 +13,10 @@ pending = negsuc 2147483646
 abbrev pub request_at : RequestRows → ℕ → Option Request
 request_at r d = slice_index_or r.devices d None
 
--- the thread and the status of a request
-abbrev pub parts_of : Option Request → Option (ObjNo × ℕ)
-parts_of None = None
-parts_of (Some request) = Some (request.thread, request.status)
+-- the status of a request, where the request is the thread's
+abbrev pub status_of : ObjNo → Option Request → Option ℕ
+status_of t None = None
+status_of t (Some request) = if request.thread.0 == t.0 then Some request.status else None
 
 -- the value of a thread's status
 abbrev pub value_of : RequestRows → ObjNo → ℕ → ℤ
