@@ -86,12 +86,16 @@ born_processes threads j p [] = []
 born_processes threads j p (d ∷ ds) =
     born_process d.name ∷ born_threads (Some j) p 0 threads ++ born_processes threads (j + 1) (p + 1 + length (born_threads (Some j) p 0 threads)) ds
 
--- all that stands at boot, in order of number
-abbrev pub born : Script → List Born
-born script =
+-- process `kernel` with its threads: the supervisor, the threads of queues, and the kernel threads
+abbrev pub born_kernel : Script → List Born
+born_kernel script =
     born_process (codes "kernel")
     ∷ record { object = boot_object Thread (codes "supervisor"); thread = Some (new_thread 0 Supervisor 48); works = false; held = false }
-    ∷ born_queues 1 script.queues ++ born_threads None 0 0 script.threads ++ born_processes script.threads 0 (2 + length script.queues + length (born_threads None 0 0 script.threads)) script.processes
+    ∷ born_queues 1 script.queues ++ born_threads None 0 0 script.threads
+
+-- all that stands at boot, in order of number
+abbrev pub born : Script → List Born
+born script = born_kernel script ++ born_processes script.threads 0 (length (born_kernel script)) script.processes
 
 -- the threads that have an instruction and aren't held are ready, in order of number
 abbrev pub ready_from : ℕ → List Born → List ObjNo
