@@ -7,13 +7,12 @@ ghost use Rattle.machine.specs.Boot.{boot_object, born_process, new_thread, born
 ghost use Rattle.machine.specs.Handles.{fresh_slot};
 ghost use Rattle.machine.specs.declared.state.Role.TheVariants as role;
 
-use crate::calls::calls_of;
 use crate::handles::FRESH_SLOT;
 use crate::{
     DeferredRows, Found, HandleSlot, NanoRows, Owed, RequestRows, Role, State, ThreadRow, Waiting,
 };
 use script_types::{QueueDecl, Script, ThreadDecl};
-use state_rows::{ObjectRow, STATUSES};
+use state_rows::{ObjectRow, STATUSES, calls_of};
 use std::alloc::Global;
 use sym_base::{Items, Kind, Limits, Name, NoMemory, ObjNo, ThreadNo, read_name};
 

@@ -17,7 +17,8 @@ use Rattle.machine.specs.declared.state.Role.{Role}
 use Rattle.machine.specs.declared.state.Role.TheVariants.{Supervisor, Queue, Declared}
 use Rattle.machine.specs.declared.state.ThreadRow.{ThreadRow}
 use Rattle.machine.specs.declared.state.Waiting.TheVariants as waiting
-use Rattle.machine.specs.Boot.{born, born_kernel, born_process, born_queues, born_thread, born_threads, born_processes, calls_of, new_thread, has_any, is_of}
+use Rattle.state_rows.specs.DeclaredCalls.{calls_of}
+use Rattle.machine.specs.Boot.{born, born_kernel, born_process, born_queues, born_thread, born_threads, born_processes, new_thread, has_any, is_of}
 use Rattle.machine.specs.Task.{instructions_in, run_or, step_or_end, task_of_row}
 use Rattle.machine.proofs.Lists.Copies.{copy_at}
 
