@@ -3,7 +3,6 @@
 #![tactic(auto)]
 
 mod boot;
-mod calls;
 mod count;
 mod decision;
 mod deferred_move;
@@ -21,7 +20,6 @@ mod thread_rows;
 mod touches;
 
 pub use boot::{Born, all_born, boot_of, state_at_boot};
-pub use calls::declared_places;
 pub use count::{count_of, is_counted, is_last};
 pub use decision::{Decision, Outcome, entry_of};
 pub use deferred_move::DeferredMove;
