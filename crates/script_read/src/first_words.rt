@@ -1,10 +1,10 @@
 //! The first words of a line.
 ghost use Rattle.std.specs.Prelude.{◌≡◌, List, ℕ, ◌∷◌, [], option_map, MatchOption};
-ghost use Rattle.script_types.specs.SourceText.{words_of, is_skipped};
+ghost use Rattle.script_types.specs.SourceText.{words_of};
 ghost use Rattle.script_types.specs.Names.{first_two};
 ghost use Rattle.script_read.specs.Knows.{declared_by};
 
-use script_words::cut;
+use script_words::{begins_comment, cut};
 
 /// The byte between two words.
 const SPACE: u8 = b' ';
@@ -25,16 +25,6 @@ fn first_word(line: &[u8]) -> Option<(&[u8], &[u8])>
         None
     } else {
         Some((rest, &rest[..0]))
-    }
-}
-
-/// Whether a line that begins with this word is a comment.
-fn begins_comment(word: &[u8]) -> bool
-    ensures { (words : List (List ℕ)) → result ≡ is_skipped (word.now ∷ words) }
-{
-    match word {
-        [] => false,
-        [first, ..] => *first == b'#',
     }
 }
 
