@@ -1,7 +1,12 @@
 -- What holds of every valid script, whichever forms of line the grammar has: the kernel's tables have
 -- room for it, and what it names by number is there.
-use Rattle.std.specs.Prelude.{◌≡◌, ℕ, ◌+◌, ◌<◌, ◌≤◌, ⊤, Some, length, slice_get}
+use Rattle.std.specs.List.{list_all}
+use Rattle.std.specs.Prelude.{◌≡◌, ℕ, ◌+◌, ◌<◌, ◌≤◌, Bool, nat_le, IsTrue, ⊤, List, Some, length, slice_get}
 use Rattle.script_types.specs.Resolves.{DoNamesResolve, AreNumbersInRange}
+use Rattle.script_types.specs.declared.declaration.DfcDecl.{DfcDecl}
+use Rattle.script_types.specs.declared.declaration.IdfcDecl.{IdfcDecl}
+use Rattle.script_types.specs.declared.declaration.IrqBody.{IrqBody}
+use Rattle.script_types.specs.declared.declaration.Op.{Op}
 use Rattle.script_types.specs.declared.declaration.ThreadDecl.{ThreadDecl}
 use Rattle.script_types.specs.declared.instruction.Instr.{Instr}
 use Rattle.script_types.specs.declared.instruction.Instr.TheVariants as instr
@@ -45,9 +50,21 @@ pub record IsShapedThread (processes : ℕ) (thread : ThreadDecl) : Type 0 where
   pub registers : (k : ℕ) (what : Instr) → slice_get thread.instrs k ≡ Some what → HasRegisters what
   pub size : length thread.instrs ≤ 16384
 
--- a script: at most 16 processes, at most 64 threads with the supervisor and those of the queues, and
--- at most 65,536 slots; what it names is declared, and its numbers are in their ranges
+-- a body has at most four operations
+abbrev pub is_short : List Op → Bool
+is_short body = nat_le (length body) 4
+
+-- a script: at most 7 queues, 64 deferred function calls, 64 immediate ones and 32 interrupts, each with a short body;
+-- at most 16 processes, at most 64 threads with the supervisor and those of the queues, and at most 65,536 slots; what
+-- it names is declared, and its numbers are in their ranges
 pub record IsShaped (script : Script) : Type 0 where
+  pub queues : length script.queues ≤ 7
+  pub dfcs : length script.dfcs ≤ 64
+  pub idfcs : length script.idfcs ≤ 64
+  pub irqs : length script.irqs ≤ 32
+  pub dfc_bodies : IsTrue (list_all (λ (d : DfcDecl). is_short d.body) script.dfcs)
+  pub idfc_bodies : IsTrue (list_all (λ (d : IdfcDecl). is_short d.body) script.idfcs)
+  pub irq_bodies : IsTrue (list_all (λ (i : IrqBody). is_short i.body) script.irqs)
   pub processes : length script.processes ≤ 16
   pub count : length script.threads + length script.queues ≤ 63
   pub threads : (k : ℕ) (thread : ThreadDecl) → slice_get script.threads k ≡ Some thread → IsShapedThread (length script.processes) thread
