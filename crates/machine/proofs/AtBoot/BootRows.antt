@@ -143,7 +143,7 @@ rows-boot script valid =
         returns = λ k _. owes_nothing bs (λ (l : List Owed). l ≡ []) k refl;
       };
       nano = synchronized-boot script shaped;
-      deferred = record { idfcs = refl; places = refl; queues = length-replicate {A = List ℕ} (1 + length script.queues) [] };
+      deferred = record { idfcs = refl; places = refl; queues = length-replicate {A = List ℕ} (1 + length script.queues) []; known = tt };
       requests = subst (λ (n : ℕ). AreRequests n (request_rows (length bs) DEVICES)) (sym threads) (requests-boot (length bs));
       lives = record {
         alive = λ o c. elim (cases_lt o.0 (length bs)) [
