@@ -5,12 +5,14 @@ ghost use Rattle.machine.specs.Find.{findable, find_object};
 ghost use Rattle.state_rows.specs.ObjectRows.{has_name, named, is_taken};
 
 use crate::Reads;
+use crate::plain_calls::{is_queued, next_immediate, next_of, queue_of};
+use crate::plain_requests::{request_at, request_signals, value_of};
 use machine::{
     HandleSlot, NewHandle, Owed, State, ThreadRow, critical_count, first_owed, held_place,
     is_counted, is_last, is_protected, mutex_holder, next_handle, object_of, signal_count, slot_at,
     suspend_count, table_of, thread_of, wanted_mutex,
 };
-use state_rows::{ObjectRow, has_name, is_dead_row, is_session};
+use state_rows::{Item, ObjectRow, Request, has_name, is_dead_row, is_session};
 use sym_base::{Kind, Name, ObjNo, ThreadNo};
 
 /// The place of the unswept object of this kind and name.
@@ -133,5 +135,33 @@ impl Reads for State {
 
     fn is_protected(&self, thread: ThreadNo) -> bool {
         is_protected(&self.nano, thread)
+    }
+
+    fn next_call(&self, queue: u8) -> Option<u8> {
+        next_of(&self.deferred, queue)
+    }
+
+    fn next_immediate(&self) -> Option<Item> {
+        next_immediate(&self.deferred)
+    }
+
+    fn is_queued(&self, item: Item) -> bool {
+        is_queued(&self.deferred, item)
+    }
+
+    fn queue_of(&self, dfc: u8) -> u8 {
+        queue_of(&self.deferred, dfc)
+    }
+
+    fn request_at(&self, device: u8) -> Option<Request> {
+        request_at(&self.requests, device)
+    }
+
+    fn value_of(&self, thread: ThreadNo, status: u8) -> i32 {
+        value_of(&self.requests, thread, status)
+    }
+
+    fn request_signals(&self, thread: ThreadNo) -> u64 {
+        request_signals(&self.requests, thread)
     }
 }

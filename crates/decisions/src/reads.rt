@@ -5,11 +5,13 @@ ghost use Rattle.machine.specs.Find.{find_object};
 ghost use Rattle.machine.specs.Handles.{slot_at, next_handle};
 ghost use Rattle.machine.specs.References.{is_last};
 ghost use Rattle.machine.specs.Rows.{object_of, thread_of, table_of, first_owed};
+ghost use Rattle.state_rows.specs.Deferred.{next_of, next_immediate, is_queued, queue_of};
 ghost use Rattle.state_rows.specs.Nano.{signal_count, suspend_count, critical_count, want_of, holder_of, held_by, is_protected};
 ghost use Rattle.state_rows.specs.ObjectRows.{is_taken};
+ghost use Rattle.state_rows.specs.Requests.{request_at, value_of, signal_count as request_signals};
 
 use machine::{HandleSlot, NewHandle, Owed, ThreadRow};
-use state_rows::ObjectRow;
+use state_rows::{Item, ObjectRow, Request};
 use sym_base::{Kind, Name, ObjNo, ThreadNo};
 
 /// A state that can be read. A number without a row reads as none, and a count without one as 0.
@@ -99,4 +101,32 @@ pub trait Reads {
     /// Whether a thread holds a fast mutex or is in a critical section.
     fn is_protected(&self, thread: ThreadNo) -> bool
         ensures { result ≡ is_protected (state self.now).nano thread };
+
+    /// The call of a queue of deferred function calls that runs next.
+    fn next_call(&self, queue: u8) -> Option<u8>
+        ensures { result ≡ next_of (state self.now).deferred queue };
+
+    /// The item of the immediate queue that comes next.
+    fn next_immediate(&self) -> Option<Item>
+        ensures { result ≡ next_immediate (state self.now).deferred };
+
+    /// Whether a deferred function call, immediate or not, stands in a queue.
+    fn is_queued(&self, item: Item) -> bool
+        ensures { result ≡ is_queued (state self.now).deferred item };
+
+    /// The queue of a deferred function call.
+    fn queue_of(&self, dfc: u8) -> u8
+        ensures { result ≡ queue_of (state self.now).deferred dfc };
+
+    /// The request that a device has to complete.
+    fn request_at(&self, device: u8) -> Option<Request>
+        ensures { result ≡ request_at (state self.now).requests device };
+
+    /// The value of a thread's status.
+    fn value_of(&self, thread: ThreadNo, status: u8) -> i32
+        ensures { result ≡ value_of (state self.now).requests thread status };
+
+    /// How many signals are at a thread's request semaphore.
+    fn request_signals(&self, thread: ThreadNo) -> u64
+        ensures { result ≡ request_signals (state self.now).requests thread };
 }

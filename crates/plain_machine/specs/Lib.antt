@@ -1,3 +1,2 @@
-pub mod BestSoFar
 pub mod KernelThreadScripts
 pub mod PlainView
