@@ -1,4 +1,4 @@
-//! Actions: a thread's next one, or the end of a time slice.
+//! Actions: of a thread, of an interrupt or of the immediate queue, or the end of a time slice.
 ghost use Rattle.std.specs.Prelude.{◌≡◌, ℕ, [], Some, None};
 ghost use Rattle.sym_base.specs.declared.limits.TheConstants.Limits.{BOOT_OBJECTS};
 ghost use Rattle.sym_base.specs.declared.number.ObjNo.{ObjNo};
@@ -16,10 +16,11 @@ ghost use Rattle.kcore.specs.Performed.{Does};
 ghost use Rattle.kcore.specs.ReadyQueues.{Follow, SomeReady};
 ghost use Rattle.kcore.specs.StateOf.{state_of};
 
-use crate::perform::perform;
-use crate::ready::{leave_along, turn};
+use crate::interrupts::{immediate, interrupt};
+use crate::plans::follow;
+use crate::ready::turn;
 use crate::tables::Tables;
-use decisions::decision_of;
+use decisions::plan_of;
 use entry_log::{Actor, Effects, Step};
 use machine::Outcome;
 use nano_sync::NanoSync;
@@ -42,14 +43,8 @@ fn act<W: RefWords + Drop>(
     requires size { ready.old.threads ≡ BOOT_OBJECTS }
     ensures { Does script.now tables.old ready.old tables.new ready.new result (λ S. act script.now S thread) }
 {
-    let decision = decision_of(script, tables, thread);
-    let effects = perform(script, tables, ready, thread, decision.moves.as_slice());
-    leave_along(script, tables, ready, thread, decision.moves.as_slice());
-    Outcome {
-        step: decision.step,
-        effects,
-        answer: decision.answer,
-    }
+    let plan = plan_of(script, tables, thread);
+    follow(script, tables, ready, thread, plan)
 }
 
 /// The end of a time slice.
@@ -76,7 +71,7 @@ fn idle() -> Outcome
     }
 }
 
-/// An action of an actor. Interrupts and deferred calls do nothing yet.
+/// An action of an actor.
 pub fn transition<W: RefWords + Drop>(
     script: &Script,
     tables: &mut Tables<W>,
@@ -93,6 +88,8 @@ pub fn transition<W: RefWords + Drop>(
     match actor {
         Actor::Thread(thread) => act(script, tables, ready, thread),
         Actor::Tick => tick(&tables.nano, ready),
-        Actor::Irq(_) | Actor::Idfc | Actor::Idle => idle(),
+        Actor::Irq(number) => interrupt(script, tables, ready, number),
+        Actor::Idfc => immediate(script, tables, ready),
+        Actor::Idle => idle(),
     }
 }

@@ -17,11 +17,12 @@ ghost use Rattle.kcore.specs.Noted.{AreKept};
 ghost use Rattle.kcore.specs.ReadyQueues.{AreReady};
 ghost use Rattle.kcore.specs.StateOf.{state_of, with_ready};
 
+use crate::calls_at_boot::{deferred_of, requests_of};
 use crate::handles::Handles;
 use crate::object_table::ObjectTable;
 use crate::tables::Tables;
 use cleanup::Cleanup;
-use machine::{Born, State, all_born, boot_of, count_of, row_of};
+use machine::{Born, State, all_born, boot_of, calls_of, count_of, row_of};
 use nano_sync::NanoSync;
 use ready_list::ReadyList;
 use ref_words::RefWords;
@@ -153,17 +154,22 @@ pub fn boot<W: RefWords + Drop>(
 {
     let all = all_born(alloc, script)?;
     let handles = fresh_handles(alloc, all.as_slice())?;
-    let state = boot_of(alloc, script.fast, all.as_slice())?;
+    let calls = calls_of(alloc, script)?;
+    let state = boot_of(alloc, script.fast, calls, all.as_slice())?;
     let objects = counted(alloc, words, all.as_slice(), &state)?;
     let ready = queues_of(alloc, &state)?;
     let cleanup = empty_lists(alloc, all.as_slice())?;
     let nano = nano_of(alloc, script.fast, all.as_slice())?;
+    let deferred = deferred_of(alloc, script)?;
+    let requests = requests_of(alloc, all.as_slice())?;
     let tables = Tables {
         objects,
         handles,
         threads: state.threads,
         cleanup,
         nano,
+        deferred,
+        requests,
     };
     Ok((tables, ready))
 }

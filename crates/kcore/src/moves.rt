@@ -10,9 +10,11 @@ ghost use Rattle.kcore.specs.Moved.{CanMake, CanGain, CanAdvance, CanMove, IsMov
 ghost use Rattle.kcore.specs.ObjectsView.{IsHeld};
 ghost use Rattle.kcore.specs.StateOf.{state_of};
 
+use crate::deferred_moves::move_deferred;
 use crate::duties::{drop_first_owed, owe_close, owe_use};
 use crate::handles::Handles;
 use crate::nano_moves::move_nano;
+use crate::request_moves::move_request;
 use crate::tables::Tables;
 use crate::uses::{note_end, note_gain, note_lost, use_of};
 use entry_log::Holder;
@@ -190,6 +192,8 @@ pub fn make_move<W: RefWords + Drop>(tables: &mut Tables<W>, thread: ThreadNo, c
             machine::threads_set_priority(&mut tables.threads, other, priority);
         }
         Move::Nano(change) => move_nano(&mut tables.nano, change),
+        Move::Deferred(change) => move_deferred(&mut tables.deferred, change),
+        Move::Requests(change) => move_request(&mut tables.requests, change),
         Move::Pay(what) => pay(tables, thread, what),
     }
 }
