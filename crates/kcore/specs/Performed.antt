@@ -19,7 +19,7 @@ use Rattle.kcore.specs.ReadyQueues.{AreReady}
 use Rattle.kcore.specs.StateOf.{state_of, with_ready}
 
 -- the moves of an action of thread t go through, and tell what an entry has room for
-pub record Goes (script : Script) (t : ObjNo) (ms : List Move) (S : State) : Type 0 where
+pub record ActionGoes (script : Script) (t : ObjNo) (ms : List Move) (S : State) : Type 0 where
   pub each : MovesGo script t ms S
   pub few : length (tell t ms S) ≤ 4
 

@@ -5,12 +5,10 @@ ghost use Rattle.sym_base.specs.declared.number.ObjNo.{ObjNo};
 ghost use Rattle.sym_base.specs.Greatest.{first_of_greatest};
 ghost use Rattle.script_types.specs.Shape.{IsShaped};
 ghost use Rattle.machine.specs.History.{transition};
-ghost use Rattle.machine.specs.Rows.{thread_of};
 ghost use Rattle.machine.specs.Tick.{moved_behind};
 ghost use Rattle.state_rows.specs.Nano.{turned};
 ghost use Rattle.machine.specs.Transition.{act};
 ghost use Rattle.machine.specs.WellFormed.{AreRows};
-ghost use Rattle.machine.specs.declared.state.ThreadRow.{ThreadRow};
 ghost use Rattle.kcore.specs.Noted.{AreKept};
 ghost use Rattle.kcore.specs.Performed.{Does};
 ghost use Rattle.kcore.specs.ReadyQueues.{Follow, SomeReady};
@@ -38,7 +36,6 @@ fn act<W: RefWords + Drop>(
 ) -> Outcome
     requires shaped { IsShaped script.now }
     requires rows { AreRows script.now (state_of tables.old) }
-    requires there { (row : ThreadRow) × (thread_of (state_of tables.old) thread ≡ Some row) }
     requires kept { AreKept tables.old }
     requires size { ready.old.threads ≡ BOOT_OBJECTS }
     ensures { Does script.now tables.old ready.old tables.new ready.new result (λ S. act script.now S thread) }
@@ -80,7 +77,6 @@ pub fn transition<W: RefWords + Drop>(
 ) -> Outcome
     requires shaped { IsShaped script.now }
     requires rows { AreRows script.now (state_of tables.old) }
-    requires there { (t : ObjNo) → actor ≡ Actor.Thread t → (row : ThreadRow) × (thread_of (state_of tables.old) t ≡ Some row) }
     requires kept { AreKept tables.old }
     requires ready { SomeReady ready.old }
     ensures { Does script.now tables.old ready.old tables.new ready.new result (λ S. transition script.now S actor) }

@@ -5,7 +5,7 @@ ghost use Rattle.script_types.specs.Shape.{IsShaped};
 ghost use Rattle.machine.specs.Bodies.{decision_by};
 ghost use Rattle.machine.specs.Transition.{carried_out};
 ghost use Rattle.kcore.specs.Noted.{AreKept};
-ghost use Rattle.kcore.specs.Performed.{Does, Goes};
+ghost use Rattle.kcore.specs.Performed.{ActionGoes, Does};
 ghost use Rattle.kcore.specs.StateOf.{state_of};
 
 use crate::bodies::run_body;
@@ -27,7 +27,7 @@ fn carry_out<W: RefWords + Drop>(
     thread: ThreadNo,
     decision: Decision,
 ) -> Outcome
-    requires goes { Goes script.now thread decision.moves (state_of tables.old) }
+    requires goes { ActionGoes script.now thread decision.moves (state_of tables.old) }
     requires kept { AreKept tables.old }
     requires size { ready.old.threads ≡ BOOT_OBJECTS }
     ensures { Does script.now tables.old ready.old tables.new ready.new result (λ S. carried_out script.now thread S decision) }
@@ -52,10 +52,10 @@ pub fn follow<W: RefWords + Drop>(
     plan: Plan,
 ) -> Outcome
     requires shaped { IsShaped script.now }
-    requires goes { Goes script.now thread (decision_by script.now thread (state_of tables.old) plan).moves (state_of tables.old) }
+    requires goes { ActionGoes script.now thread (decision_by script.now thread (state_of tables.old) plan).moves (state_of tables.old) }
     requires kept { AreKept tables.old }
     requires size { ready.old.threads ≡ BOOT_OBJECTS }
-    ensures { Does script.now tables.old ready.old tables.new ready.new result (λ S. carried_out script.now thread S (decision_by script.now thread S plan)) }
+    ensures { Does script.now tables.old ready.old tables.new ready.new result (λ S. carried_out script.now thread S (decision_by script.now thread (state_of tables.old) plan)) }
 {
     match plan {
         Plan::Decided(decision) => carry_out(script, tables, ready, thread, decision),
