@@ -5,5 +5,6 @@ pub mod BootLinks
 pub mod BootNames
 pub mod BootNano
 pub mod BootReady
+pub mod BootRequests
 pub mod BootRows
-pub mod NamesApart
+pub mod BootServers

@@ -3,5 +3,8 @@ pub mod Living
 pub mod Stepping
 pub mod Shared
 pub mod KernelThreads
+pub mod Bodies
+pub mod Requests
 pub mod Steps
 pub mod Actions
+pub mod Interrupts

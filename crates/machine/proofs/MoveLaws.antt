@@ -2,6 +2,7 @@
 pub mod Sound
 pub mod RowMoves
 pub mod NanoMoves
+pub mod CallMoves
 pub mod Advance
 pub mod Gains
 pub mod Closes

@@ -3,3 +3,6 @@ pub mod Tables
 pub mod Threads
 pub mod Duties
 pub mod Synchronized
+pub mod Calls
+pub mod Declared
+pub mod Requests

@@ -1,6 +1,6 @@
 -- What holds of every state that a legal history leaves: a predicate for each part of the state.
 use Rattle.std.specs.Prelude.{◌≡◌, ℕ, ◌+◌, ◌<◌, ◌≤◌, Bool, true, false, List, [], ◌∷◌, length, Option, Some, None}
-use Rattle.std.specs.List.{slice_index_or}
+use Rattle.std.specs.List.{slice_index_or, AllByRecursion}
 use Rattle.sym_base.specs.declared.limits.TheConstants.Limits.{OBJECTS, BOOT_OBJECTS, DEVICES, HANDLES}
 use Rattle.sym_base.specs.declared.number.ObjNo.{ObjNo}
 use Rattle.script_types.specs.declared.script.Script.{Script}
@@ -13,6 +13,7 @@ use Rattle.state_rows.specs.declared.duty.Owed.TheVariants.{Close, Sweep}
 use Rattle.state_rows.specs.declared.object.ObjectRow.{ObjectRow}
 use Rattle.state_rows.specs.declared.deferred.DeferredRows.{DeferredRows}
 use Rattle.state_rows.specs.declared.nano.NanoRows.{NanoRows}
+use Rattle.state_rows.specs.Deferred.{IsKnown}
 use Rattle.state_rows.specs.declared.requests.Request.{Request}
 use Rattle.state_rows.specs.declared.requests.RequestRows.{RequestRows}
 use Rattle.state_rows.specs.Requests.{request_at, is_pending}
@@ -114,11 +115,12 @@ pub record AreSynchronized (script : Script) (threads : List (Option ThreadRow))
   pub mutexes : length r.holders ≡ script.fast
   pub holders : (f : ℕ) (u : ObjNo) → holder_of r f ≡ Some u → IsHolder threads r u
 
--- the rows of deferred function calls are made for those of the script
+-- the rows of deferred function calls are made for those of the script, and so is what waits in the immediate queue
 pub record AreCalls (script : Script) (r : DeferredRows) : Type 0 where
   pub idfcs : r.idfcs ≡ length script.idfcs
   pub places : r.places ≡ (calls_of script).places
   pub queues : length r.queues ≡ 1 + length script.queues
+  pub known : AllByRecursion (IsKnown r) r.immediate
 
 -- the rows of requests: one for each thread; the status of a request is pending, and no two requests have one status
 pub record AreRequests (count : ℕ) (r : RequestRows) : Type 0 where

@@ -1,5 +1,5 @@
 //! What stands at boot.
-ghost use Rattle.std.specs.Prelude.{◌≡◌, ℕ, ◌+◌, ◌<◌, ◌≤◌, ◌++◌, [], ◌∷◌, codes, false, IfOk, OnOk, length, map, replicate, vec_len};
+ghost use Rattle.std.specs.Prelude.{◌≡◌, ℕ, ◌+◌, ◌<◌, ◌≤◌, ◌++◌, [], ◌∷◌, codes, false, IfOk, OnOk, length, map, pos, replicate, vec_len};
 ghost use Rattle.script_types.specs.Shape.{IsShaped};
 ghost use Rattle.sym_base.specs.declared.limits.TheConstants.Limits.{DEVICES};
 ghost use Rattle.state_rows.specs.RequestChanges.{new_rows as request_rows};
@@ -7,9 +7,11 @@ ghost use Rattle.machine.specs.Boot.{boot_object, born_process, new_thread, born
 ghost use Rattle.machine.specs.Handles.{fresh_slot};
 ghost use Rattle.machine.specs.declared.state.Role.TheVariants as role;
 
-use crate::handles::FRESH_SLOT;
 use crate::calls::calls_of;
-use crate::{DeferredRows, Found, HandleSlot, NanoRows, Owed, RequestRows, Role, State, ThreadRow, Waiting};
+use crate::handles::FRESH_SLOT;
+use crate::{
+    DeferredRows, Found, HandleSlot, NanoRows, Owed, RequestRows, Role, State, ThreadRow, Waiting,
+};
 use script_types::{QueueDecl, Script, ThreadDecl};
 use state_rows::{ObjectRow, STATUSES};
 use std::alloc::Global;
@@ -102,7 +104,7 @@ fn push_queues(all: &mut Vec<Born>, queues: &[QueueDecl]) -> Result<(), NoMemory
     ensures few { vec_len all.new ≤ vec_len all.old + 63 }
 {
     for (k, declared) in queues.iter().enumerate() {
-        all.push(born_queue(1 + k as u8, declared))?;
+        all.push(born_queue(k as u8 + 1, declared))?;
     }
     Ok(())
 }
@@ -262,13 +264,24 @@ fn nano_of(alloc: Global, fast: u8, all: &[Born]) -> Result<NanoRows, NoMemory>
     })
 }
 
+/// The statuses of so many threads, each 0.
+fn no_statuses(alloc: Global, threads: usize) -> Result<Items<[i32; STATUSES]>, NoMemory>
+    ensures { IfOk result (λ statuses. statuses ≡ replicate threads (replicate 16 (pos 0))) }
+{
+    let mut statuses = Vec::new(alloc);
+    for _thread in 0..threads {
+        statuses.push([0i32; STATUSES])?;
+    }
+    Ok(Items::new(statuses))
+}
+
 /// No request, and statuses and semaphores that are 0, of so many threads.
 fn no_requests(alloc: Global, threads: usize) -> Result<RequestRows, NoMemory>
     ensures { IfOk result (λ requests. requests ≡ request_rows threads DEVICES) }
 {
     Ok(RequestRows {
         devices: Items::new(vec![in alloc; None; Limits::DEVICES]?),
-        statuses: Items::new(vec![in alloc; [0i32; STATUSES]; threads]?),
+        statuses: no_statuses(alloc, threads)?,
         signals: Items::new(vec![in alloc; 0u64; threads]?),
         replies: Items::new(vec![in alloc; 0i32; threads]?),
     })
@@ -276,7 +289,12 @@ fn no_requests(alloc: Global, threads: usize) -> Result<RequestRows, NoMemory>
 
 /// The state in which these stand, each with an empty table and nothing that it owes, and no device with a request.
 #[tactic(auto, unfolding(crate::specs::Boot::boot_of))]
-pub fn boot_of(alloc: Global, fast: u8, calls: DeferredRows, all: &[Born]) -> Result<State, NoMemory>
+pub fn boot_of(
+    alloc: Global,
+    fast: u8,
+    calls: DeferredRows,
+    all: &[Born],
+) -> Result<State, NoMemory>
     requires { length all.now ≤ 65536 }
     ensures { IfOk result (λ state. state ≡ boot_of fast calls all.now) }
 {

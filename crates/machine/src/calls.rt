@@ -1,5 +1,5 @@
 //! The queues of deferred function calls at boot, and what scripts declare of them.
-ghost use Rattle.std.specs.Prelude.{◌≡◌, ◌+◌, ◌≤◌, ◌<◌, map, length, position, replicate, IfOk, IfSome};
+ghost use Rattle.std.specs.Prelude.{◌≡◌, ◌≤◌, ◌<◌, [], map, length, position, replicate, IfOk, IfSome};
 ghost use Rattle.std.specs.Str.{bytes_eq};
 ghost use Rattle.script_types.specs.Shape.{IsShaped};
 ghost use Rattle.script_types.specs.declared.declaration.QueueDecl.{QueueDecl};
@@ -21,17 +21,24 @@ const BURIAL: DfcPlace = DfcPlace {
     priority: 7,
 };
 
+/// The place of the queue of a name among the declared ones.
+fn queue_place(script: &Script, name: &Name) -> Option<usize>
+    ensures place { result ≡ position (λ (q : QueueDecl). bytes_eq name.now q.name) script.now.queues }
+    ensures within { IfSome result (λ k. k < length script.now.queues) }
+{
+    script
+        .queues
+        .as_slice()
+        .iter()
+        .position(|queue| name.is(&queue.name))
+}
+
 /// The number of the queue of a name: the supervisor's is queue 0.
 fn queue_named(script: &Script, name: &Name) -> u8
     requires { IsShaped script.now }
     ensures { result ≡ queue_named script.now name.now }
 {
-    let place = script
-        .queues
-        .as_slice()
-        .iter()
-        .position(|queue| name.is(&queue.name));
-    match place {
+    match queue_place(script, name) {
         None => 0,
         Some(place) => place as u8 + 1,
     }
@@ -73,20 +80,27 @@ fn all_places(alloc: Global, script: &Script, burials: usize) -> Result<Items<Df
     Ok(Items::new(places))
 }
 
+/// So many queues in which nothing stands.
+fn empty_queues(alloc: Global, count: usize) -> Result<Items<Items<u8>>, NoMemory>
+    ensures { IfOk result (λ queues. queues ≡ replicate count []) }
+{
+    let mut queues = Vec::new(alloc);
+    for _queue in 0..count {
+        queues.push(Items::new(Vec::new(alloc)))?;
+    }
+    Ok(Items::new(queues))
+}
+
 /// Nothing is queued, in the supervisor's queue and in each declared one. Each thread has a burial.
 pub fn calls_of(alloc: Global, script: &Script) -> Result<DeferredRows, NoMemory>
     requires { IsShaped script.now }
     ensures { IfOk result (λ calls. calls ≡ calls_of script.now) }
 {
     let burials = 1 + script.queues.len() + script.threads.len();
-    let mut queues = Vec::new(alloc);
-    for _queue in 0..1 + script.queues.len() {
-        queues.push(Items::new(Vec::new(alloc)))?;
-    }
     Ok(DeferredRows {
         idfcs: script.idfcs.len() as u8,
         places: all_places(alloc, script, burials)?,
         immediate: Items::new(Vec::new(alloc)),
-        queues: Items::new(queues),
+        queues: empty_queues(alloc, 1 + script.queues.len())?,
     })
 }

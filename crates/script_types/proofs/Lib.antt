@@ -1,5 +1,6 @@
 pub mod LimitLaws
 pub mod NameLaws
+pub mod NamesApart
 pub mod NewNames
 pub mod NumberLaws
 pub mod ProcessThreads

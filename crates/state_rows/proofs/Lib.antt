@@ -1,4 +1,5 @@
 pub mod HeldMutexes
 pub mod OtherThreads
 pub mod SoundChanges
+pub mod SoundRequests
 pub mod Soundness

@@ -3,9 +3,10 @@ use Rattle.std.proofs.Common.{◌≡◌, inl, inr, ℕ, suc, zero, ◌+◌, ◌<
 use Rattle.std.specs.Prelude.{is_some, if◌then◌else◌, ◌||◌}
 use Rattle.std.specs.List.{list_any}
 use Rattle.std.proofs.lemmas.Bool.{eq-eqb, or_left, or_right}
-use Rattle.std.proofs.lemmas.List.{length-map}
+use Rattle.std.proofs.lemmas.List.{length-append, length-map}
 use Rattle.sym_base.specs.declared.number.ObjNo.{ObjNo}
 use Rattle.script_types.specs.declared.declaration.ProcessDecl.{ProcessDecl}
+use Rattle.script_types.specs.declared.declaration.QueueDecl.{QueueDecl}
 use Rattle.script_types.specs.declared.declaration.ThreadDecl.{ThreadDecl}
 use Rattle.script_types.specs.declared.script.Script.{Script}
 use Rattle.script_types.specs.Source.{IsValid}
@@ -13,10 +14,11 @@ use Rattle.script_types.proofs.ProcessThreads.{HasThread, valid_has_thread}
 use Rattle.state_rows.specs.declared.object.ObjectRow.{ObjectRow}
 use Rattle.machine.specs.declared.boot.Born.{Born}
 use Rattle.machine.specs.declared.state.ThreadRow.{ThreadRow}
-use Rattle.machine.specs.Boot.{boot, boot_of, born, born_thread, born_threads, born_processes, is_of}
+use Rattle.machine.specs.Boot.{boot, boot_of, born, born_queues, born_thread, born_threads, born_processes, is_of}
 use Rattle.machine.specs.Rows.{object_of}
 use Rattle.machine.specs.WellFormed.{IsAlive}
 use Rattle.machine.specs.References.{total, thread_names, count_of}
+use Rattle.machine.proofs.AtBoot.Born.{length_queues}
 use Rattle.machine.proofs.References.Same.{same_object, same_self}
 
 alive_is_some : (objects : List (Option ObjectRow)) (i : ℕ) → IsAlive (get_or objects i None) → i < length objects
@@ -53,6 +55,10 @@ each_held_step all n p k d rest false more = more n
 each_held_threads : (all : List Born) (j : Option ℕ) (p k : ℕ) (ds : List ThreadDecl) (n : ℕ) → EachHeld all n (born_threads j p k ds)
 each_held_threads all j p k [] n = tt
 each_held_threads all j p k (d ∷ ds) n = each_held_step all n p k d (born_threads j p (k + 1) ds) (is_of j d.process) (λ m. each_held_threads all j p (k + 1) ds m)
+
+each_held_queues : (all : List Born) (q : ℕ) (ds : List QueueDecl) (n : ℕ) → EachHeld all n (born_queues q ds)
+each_held_queues all q [] n = tt
+each_held_queues all q (d ∷ ds) n = (omega arith, each_held_queues all (q + 1) ds (n + 1))
 
 -- whether the j-th process, or the kernel, has a thread
 abbrev has_thread : Option ℕ → List ThreadDecl → Bool
@@ -91,13 +97,19 @@ valid_has script valid i below = has_one i script.threads (valid_has_thread scri
 born_held : (script : Script) → IsValid script → EachHeld (born script) 0 (born script)
 born_held script valid =
     let all = born script in
+    let queues = born_queues 1 script.queues in
     let own = born_threads None 0 0 script.threads in
-    let rest = born_processes script.threads 0 (2 + length own) script.processes in (
+    let behind = 2 + length script.queues in
+    let first = behind + length own in
+    let rest = born_processes script.threads 0 first script.processes in
+    let many = length_queues 1 script.queues in
+    let long = length-append queues own in (
       omega arith,
       (
         omega arith,
-        each_held-append all 2 (2 + length own) own rest refl (each_held_threads all None 0 0 script.threads 2)
-            (each_held_processes all script.threads 0 (2 + length own) script.processes (λ i above below. valid_has script valid i (omega arith)) (λ o. let a = links-append o own rest in omega arith)),
+        each_held-append all 2 first (queues ++ own) rest (omega arith)
+            (each_held-append all 2 behind queues own (omega arith) (each_held_queues all 1 script.queues 2) (each_held_threads all None 0 0 script.threads behind))
+            (each_held_processes all script.threads 0 first script.processes (λ i above below. valid_has script valid i (omega arith)) (λ o. let a = links-append o (queues ++ own) rest in omega arith)),
       ),
     )
 

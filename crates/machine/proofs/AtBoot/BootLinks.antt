@@ -5,11 +5,14 @@ use Rattle.std.proofs.lemmas.List.{length-append, append_assoc}
 use Rattle.sym_base.specs.declared.kind.Kind.TheVariants.{Thread}
 use Rattle.script_types.specs.declared.script.Script.{Script}
 use Rattle.script_types.specs.declared.declaration.ProcessDecl.{ProcessDecl}
+use Rattle.script_types.specs.declared.declaration.QueueDecl.{QueueDecl}
 use Rattle.script_types.specs.declared.declaration.ThreadDecl.{ThreadDecl}
 use Rattle.machine.specs.declared.boot.Born.{Born}
-use Rattle.machine.specs.declared.state.Role.TheVariants.{Supervisor, Declared}
+use Rattle.machine.specs.declared.state.Role.{Role}
+use Rattle.machine.specs.declared.state.Role.TheVariants.{Supervisor, Queue, Declared}
 use Rattle.machine.specs.declared.state.ThreadRow.{ThreadRow}
-use Rattle.machine.specs.Boot.{boot_object, born, born_process, born_thread, born_threads, born_processes, new_thread, is_of}
+use Rattle.machine.specs.Boot.{boot_object, born, born_process, born_queues, born_thread, born_threads, born_processes, new_thread, is_of}
+use Rattle.machine.proofs.AtBoot.Born.{length_queues}
 
 at_seam : (pre : List Born) (b : Born) (bs : List Born) → get_or (map (λ x. x.thread) (pre ++ b ∷ bs)) (length pre) None ≡ b.thread
 at_seam [] b bs = refl
@@ -24,13 +27,21 @@ each_linked-append : (all xs ys : List Born) → EachLinked all xs → EachLinke
 each_linked-append all [] ys h k = k
 each_linked-append all (x ∷ xs) ys h k = (h.0, each_linked-append all xs ys h.1 k)
 
+-- one whose process is no thread
+linked_thread : (all : List Born) (p : ℕ) (role : Role) (priority : ℕ) → get_or (map (λ x. x.thread) all) p None ≡ None → (row : ThreadRow) → Some (new_thread p role priority) ≡ Some row → get_or (map (λ x. x.thread) all) row.process.0 None ≡ None
+linked_thread all p role priority none row is = let e : new_thread p role priority ≡ row = cc in subst (λ (r : ThreadRow). get_or (map (λ x. x.thread) all) r.process.0 None ≡ None) e none
+
 linked_threads_step : (all : List Born) (p k : ℕ) (d : ThreadDecl) (rest : List Born) (own : Bool) → get_or (map (λ x. x.thread) all) p None ≡ None → EachLinked all rest → EachLinked all (if own then born_thread p k d ∷ rest else rest)
-linked_threads_step all p k d rest true none h = (λ row is. let e : new_thread p (Declared k) d.priority ≡ row = cc in subst (λ (r : ThreadRow). get_or (map (λ x. x.thread) all) r.process.0 None ≡ None) e none, h)
+linked_threads_step all p k d rest true none h = (linked_thread all p (Declared k) d.priority none, h)
 linked_threads_step all p k d rest false none h = h
 
 linked_threads : (all : List Born) (j : Option ℕ) (p k : ℕ) (ds : List ThreadDecl) → get_or (map (λ x. x.thread) all) p None ≡ None → EachLinked all (born_threads j p k ds)
 linked_threads all j p k [] none = tt
 linked_threads all j p k (d ∷ ds) none = linked_threads_step all p k d (born_threads j p (k + 1) ds) (is_of j d.process) none (linked_threads all j p (k + 1) ds none)
+
+linked_queues : (all : List Born) (q : ℕ) (ds : List QueueDecl) → get_or (map (λ x. x.thread) all) 0 None ≡ None → EachLinked all (born_queues q ds)
+linked_queues all q [] none = tt
+linked_queues all q (d ∷ ds) none = (linked_thread all 0 (Queue q) d.priority none, linked_queues all (q + 1) ds none)
 
 none_some : (x : Option ThreadRow) (row : ThreadRow) → x ≡ None → x ≡ Some row → ⊥
 none_some x row e h = cc
@@ -50,19 +61,24 @@ linked_processes all pre threads j p (d ∷ ds) at e =
     )
 
 -- the kernel's process and the supervisor
-abbrev first_two : List Born
+abbrev pub first_two : List Born
 first_two = born_process (codes "kernel") ∷ record { object = boot_object Thread (codes "supervisor"); thread = Some (new_thread 0 Supervisor 48); works = false; held = false } ∷ []
 
 pub each_linked : (script : Script) → EachLinked (born script) (born script)
 each_linked script =
     let all = born script in
+    let queues = born_queues 1 script.queues in
     let own = born_threads None 0 0 script.threads in
-    let rest = born_processes script.threads 0 (2 + length own) script.processes in (
+    let first = 2 + length script.queues + length own in
+    let rest = born_processes script.threads 0 first script.processes in
+    let long = length-append queues own in
+    let many = length_queues 1 script.queues in (
       λ row is. absurd (none_some None row refl is),
       (
-        λ row is. let e : new_thread 0 Supervisor 48 ≡ row = cc in subst (λ (r : ThreadRow). get_or (map (λ x. x.thread) all) r.process.0 None ≡ None) e refl,
-        each_linked-append all own rest (linked_threads all None 0 0 script.threads refl)
-            (linked_processes all (first_two ++ own) script.threads 0 (2 + length own) script.processes (omega arith) refl),
+        linked_thread all 0 Supervisor 48 refl,
+        each_linked-append all (queues ++ own) rest
+            (each_linked-append all queues own (linked_queues all 1 script.queues refl) (linked_threads all None 0 0 script.threads refl))
+            (linked_processes all (first_two ++ queues ++ own) script.threads 0 first script.processes (omega arith) refl),
       ),
     )
 

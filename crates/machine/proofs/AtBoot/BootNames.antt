@@ -4,19 +4,20 @@ use Rattle.std.specs.Prelude.{if◌then◌else◌, ◌==◌, codes, slice_get}
 use Rattle.std.specs.List.{AllByRecursion, list_any}
 use Rattle.std.specs.Str.{bytes_eq}
 use Rattle.std.proofs.lemmas.Bool.{eq-eqb, eqb-true, ne_eqb, and_left, and_right, or_parts, or_from}
-use Rattle.std.proofs.lemmas.List.{length-map}
+use Rattle.std.proofs.lemmas.List.{append_assoc, length-map}
 use Rattle.sym_base.specs.KindNumber.{kind_number}
 use Rattle.sym_base.specs.declared.kind.Kind.TheVariants.{Process, Thread}
 use Rattle.script_types.specs.declared.declaration.ProcessDecl.{ProcessDecl}
+use Rattle.script_types.specs.declared.declaration.QueueDecl.{QueueDecl}
 use Rattle.script_types.specs.declared.declaration.ThreadDecl.{ThreadDecl}
 use Rattle.script_types.specs.declared.script.Script.{Script}
 use Rattle.script_types.specs.Source.{IsValid}
-use Rattle.script_types.proofs.NewNames.{process_names, thread_names, valid_names_new}
+use Rattle.script_types.proofs.NamesApart.{AreNamesApart, IsPut, put_behind, none_put, apart_put}
+use Rattle.script_types.proofs.NewNames.{process_names, queue_names, thread_names, valid_names_new}
 use Rattle.machine.specs.declared.boot.Born.{Born}
 use Rattle.state_rows.specs.declared.object.ObjectRow.{ObjectRow}
-use Rattle.machine.specs.Boot.{boot, boot_of, born, born_thread, born_threads, born_processes, is_of}
+use Rattle.machine.specs.Boot.{boot, boot_of, born, born_queues, born_thread, born_threads, born_processes, is_of}
 use Rattle.state_rows.specs.ObjectRows.{has_name}
-use Rattle.machine.proofs.AtBoot.NamesApart.{AreNamesApart, IsPut, apart_with, put_behind, none_put, apart_put}
 
 -- the rows of the objects of a list
 abbrev rows_of : List Born → List (Option ObjectRow)
@@ -47,12 +48,21 @@ plain_processes threads j p (d ∷ ds) =
       plain-append own rest (plain_threads (Some j) p 0 threads) (plain_processes threads (j + 1) (p + 1 + length own) ds),
     )
 
+plain_queues : (q : ℕ) (ds : List QueueDecl) → AllByRecursion IsPlain (born_queues q ds)
+plain_queues q [] = tt
+plain_queues q (d ∷ ds) = ((refl, inr refl), plain_queues (q + 1) ds)
+
 plain_born : (script : Script) → AllByRecursion IsPlain (born script)
 plain_born script =
+    let queues = born_queues 1 script.queues in
     let own = born_threads None 0 0 script.threads in
-    let rest = born_processes script.threads 0 (2 + length own) script.processes in (
+    let first = 2 + length script.queues + length own in
+    let rest = born_processes script.threads 0 first script.processes in (
       (refl, inl refl),
-      ((refl, inr refl), plain-append own rest (plain_threads None 0 0 script.threads) (plain_processes script.threads 0 (2 + length own) script.processes)),
+      (
+        (refl, inr refl),
+        plain-append (queues ++ own) rest (plain-append queues own (plain_queues 1 script.queues) (plain_threads None 0 0 script.threads)) (plain_processes script.threads 0 first script.processes),
+      ),
     )
 
 -- what holds of a row at boot
@@ -139,6 +149,10 @@ no_process : (j : Option ℕ) (p k : ℕ) (ds : List ThreadDecl) → names_of 0 
 no_process j p k [] = refl
 no_process j p k (d ∷ ds) = no_process_step p k d (born_threads j p (k + 1) ds) (is_of j d.process) (no_process j p (k + 1) ds)
 
+no_process_queue : (q : ℕ) (ds : List QueueDecl) → names_of 0 (born_queues q ds) ≡ []
+no_process_queue q [] = refl
+no_process_queue q (d ∷ ds) = no_process_queue (q + 1) ds
+
 born_processes-names : (threads : List ThreadDecl) (j p : ℕ) (ds : List ProcessDecl) → names_of 0 (born_processes threads j p ds) ≡ process_names ds
 born_processes-names threads j p [] = refl
 born_processes-names threads j p (d ∷ ds) =
@@ -159,6 +173,10 @@ born_names_step p k d rest names false e = e
 born_names : (j : Option ℕ) (p k : ℕ) (ds : List ThreadDecl) → names_of 1 (born_threads j p k ds) ≡ own_names j ds
 born_names j p k [] = refl
 born_names j p k (d ∷ ds) = born_names_step p k d (born_threads j p (k + 1) ds) (own_names j ds) (is_of j d.process) (born_names j p (k + 1) ds)
+
+born_queue-names : (q : ℕ) (ds : List QueueDecl) → names_of 1 (born_queues q ds) ≡ queue_names ds
+born_queue-names q [] = refl
+born_queue-names q (d ∷ ds) = ap (λ (l : List (List ℕ)). d.name ∷ l) (born_queue-names (q + 1) ds)
 
 -- the names of the threads of the processes from the j-th on, one process after another
 abbrev names_from : ℕ → List ProcessDecl → List ThreadDecl → List (List ℕ)
@@ -220,24 +238,39 @@ apart_grouped : (ds : List ProcessDecl) (ts : List ThreadDecl) → AreNamesApart
 apart_grouped ds [] apart = subst AreNamesApart (sym (from-none 0 ds)) tt
 apart_grouped ds (t ∷ ts) apart = apart_put t.name (grouped ds ts) (grouped ds (t ∷ ts)) (grouped-put ds t ts) (none_grouped t.name ds ts apart.0) (apart_grouped ds ts apart.1)
 
+-- also behind other names
+none_behind : (x : List ℕ) (front : List (List ℕ)) (ds : List ProcessDecl) (ts : List ThreadDecl) → list_any (bytes_eq x) (front ++ thread_names ts) ≡ false → list_any (bytes_eq x) (front ++ grouped ds ts) ≡ false
+none_behind x [] ds ts none = none_grouped x ds ts none
+none_behind x (y ∷ ys) ds ts none =
+    let parts = or_parts (bytes_eq x y) (list_any (bytes_eq x) (ys ++ thread_names ts)) none in
+    or_from (bytes_eq x y) (list_any (bytes_eq x) (ys ++ grouped ds ts)) parts.0 (none_behind x ys ds ts parts.1)
+
+apart_behind : (front : List (List ℕ)) (ds : List ProcessDecl) (ts : List ThreadDecl) → AreNamesApart (front ++ thread_names ts) → AreNamesApart (front ++ grouped ds ts)
+apart_behind [] ds ts apart = apart_grouped ds ts apart
+apart_behind (x ∷ xs) ds ts apart = (none_behind x xs ds ts apart.0, apart_behind xs ds ts apart.1)
+
+-- the names of what stands behind the first two, of those of a kind
+names_behind : (c : ℕ) (script : Script) → let own = born_threads None 0 0 script.threads in let rest = born_processes script.threads 0 (2 + length script.queues + length own) script.processes in names_of c (born_queues 1 script.queues ++ own ++ rest) ≡ names_of c (born_queues 1 script.queues) ++ (names_of c own ++ names_of c rest)
+names_behind c script =
+    let own = born_threads None 0 0 script.threads in
+    let rest = born_processes script.threads 0 (2 + length script.queues + length own) script.processes in
+    ap (names_of c) (append_assoc (born_queues 1 script.queues) own rest)
+    ∙ (names_of-append c (born_queues 1 script.queues) (own ++ rest) ∙ ap (λ (l : List (List ℕ)). names_of c (born_queues 1 script.queues) ++ l) (names_of-append c own rest))
+
 processes_apart : (script : Script) → IsValid script → AreNamesApart (names_of 0 (born script))
 processes_apart script valid =
-    let own = born_threads None 0 0 script.threads in
-    let rest = born_processes script.threads 0 (2 + length own) script.processes in
-    let names = names_of-append 0 own rest
-    ∙ (ap (λ (l : List (List ℕ)). l ++ names_of 0 rest) (no_process None 0 0 script.threads) ∙ born_processes-names script.threads 0 (2 + length own) script.processes) in
-    subst (λ (l : List (List ℕ)). AreNamesApart (codes "kernel" ∷ l)) (sym names) (apart_with (codes "kernel") (process_names script.processes) (valid_names_new script valid).processes)
+    let first = 2 + length script.queues + length (born_threads None 0 0 script.threads) in
+    let names = names_behind 0 script
+    ∙ rw (no_process_queue 1 script.queues, no_process None 0 0 script.threads) (born_processes-names script.threads 0 first script.processes) in
+    subst (λ (l : List (List ℕ)). AreNamesApart (codes "kernel" ∷ l)) (sym names) (valid_names_new script valid).processes
 
 threads_apart : (script : Script) → IsValid script → AreNamesApart (names_of 1 (born script))
 threads_apart script valid =
-    let own = born_threads None 0 0 script.threads in
-    let rest = born_processes script.threads 0 (2 + length own) script.processes in
-    let names = names_of-append 1 own rest
-    ∙ (ap (λ (l : List (List ℕ)). l ++ names_of 1 rest) (born_names None 0 0 script.threads)
-    ∙ ap (λ (l : List (List ℕ)). own_names None script.threads ++ l) (born_threads-names script.threads 0 (2 + length own) script.processes)) in
-    let apart = apart_with (codes "supervisor") (thread_names script.threads) (valid_names_new script valid).threads in
+    let first = 2 + length script.queues + length (born_threads None 0 0 script.threads) in
+    let names = names_behind 1 script
+    ∙ rw (born_queue-names 1 script.queues, born_names None 0 0 script.threads, born_threads-names script.threads 0 first script.processes) refl in
     subst (λ (l : List (List ℕ)). AreNamesApart (codes "supervisor" ∷ l)) (sym names)
-    (none_grouped (codes "supervisor") script.processes script.threads apart.0, apart_grouped script.processes script.threads apart.1)
+    (apart_behind (codes "supervisor" ∷ queue_names script.queues) script.processes script.threads (valid_names_new script valid).threads)
 
 -- no two objects at boot have one kind and one name
 pub boot_names_new : (script : Script) → IsValid script → (k : ℕ) (row : ObjectRow) → slice_get (boot script).objects k ≡ Some (Some row) → list_any (has_name row.kind row.name) (take k (boot script).objects) ≡ false

@@ -9,6 +9,7 @@ use Rattle.std.proofs.lemmas.List.Sums.{position_or_len_is}
 use Rattle.sym_base.specs.declared.number.ObjNo.{ObjNo}
 use Rattle.script_types.specs.declared.script.Script.{Script}
 use Rattle.script_types.specs.Shape.{IsShaped}
+use Rattle.state_rows.specs.declared.deferred.DeferredRows.{DeferredRows}
 use Rattle.state_rows.specs.Nano.{is_thread, held_by, critical_count, is_protected}
 use Rattle.state_rows.specs.NanoSound.{AreNanoRows}
 use Rattle.state_rows.proofs.Soundness.{sound_new}
@@ -18,7 +19,7 @@ use Rattle.machine.specs.Task.{is_stopped}
 use Rattle.machine.specs.WellFormed.{AreSynchronized}
 
 -- a list of nothing has nothing anywhere
-nothing_at : {X : Type 0} (n k : ℕ) → ◌≡◌ {A = Option X} (get_or (replicate n None) k None) None
+pub nothing_at : {X : Type 0} (n k : ℕ) → ◌≡◌ {A = Option X} (get_or (replicate n None) k None) None
 nothing_at zero k = refl
 nothing_at (suc n) zero = refl
 nothing_at {X = X} (suc n) (suc k) = nothing_at {X = X} n k
@@ -57,9 +58,9 @@ suspended_at (b ∷ bs) zero = held_count_is b.held
 suspended_at (b ∷ bs) (suc i) = suspended_at bs i
 
 -- a thread is stopped at boot exactly where it is held
-pub stopped-boot : (fast : ℕ) (bs : List Born) (t : ObjNo) → is_stopped (boot_of fast bs) t ≡ is_held_at bs t.0
+pub stopped-boot : (fast : ℕ) (calls : DeferredRows) (bs : List Born) (t : ObjNo) → is_stopped (boot_of fast calls bs) t ≡ is_held_at bs t.0
 unfolding boot_of
-stopped-boot fast bs t = ap (λ (protected : Bool). not (get_or (map held_count bs) t.0 0 == 0) && not protected) (unprotected fast bs t) ∙ (and-true (not (get_or (map held_count bs) t.0 0 == 0)) ∙ suspended_at bs t.0)
+stopped-boot fast calls bs t = ap (λ (protected : Bool). not (get_or (map held_count bs) t.0 0 == 0) && not protected) (unprotected fast bs t) ∙ (and-true (not (get_or (map held_count bs) t.0 0 == 0)) ∙ suspended_at bs t.0)
 
 held_count_few : (held : Bool) → (if held then 1 else 0) ≤ 127
 held_count_few true = omega arith

@@ -9,7 +9,7 @@ use Rattle.state_rows.specs.declared.duty.Owed.{Owed}
 use Rattle.machine.specs.declared.boot.Born.{Born}
 use Rattle.machine.specs.declared.state.ThreadRow.{ThreadRow}
 use Rattle.machine.specs.Arrivals.{is_listed}
-use Rattle.machine.specs.Boot.{boot, boot_of, born, ready_from}
+use Rattle.machine.specs.Boot.{boot, boot_of, born, calls_of, ready_from}
 use Rattle.machine.specs.Rows.{first_of}
 use Rattle.machine.specs.Task.{task_of, task_of_row, is_wait, is_waiting, is_waiting_row, is_stopped}
 use Rattle.machine.specs.WellFormed.{AreApart, IsReadyList}
@@ -42,7 +42,7 @@ listed_at n (b ∷ bs) zero u at = listed_first n (ready_from (n + 1) bs) b.work
 listed_at n (b ∷ bs) (suc i) u at = listed_later n (ready_from (n + 1) bs) b.works u (λ e. absurd (omega arith)) ∙ listed_at (n + 1) bs i u (omega arith)
 
 -- who works isn't held and has something to do
-works_is : (script : Script) (n : ℕ) (bs : List Born) (i : ℕ) → EachBorn script n bs → works_at bs i ≡ (not (is_held_at bs i) && is_some (task_of_row script false None (get_or (map (λ b. b.thread) bs) i None)))
+works_is : (script : Script) (n : ℕ) (bs : List Born) (i : ℕ) → EachBorn script n bs → works_at bs i ≡ (not (is_held_at bs i) && is_some (task_of_row script (calls_of script) false None (get_or (map (λ b. b.thread) bs) i None)))
 works_is script n [] i h = refl
 works_is script n (b ∷ bs) zero h = h.0.works
 works_is script n (b ∷ bs) (suc i) h = works_is script n bs i h.1
@@ -70,12 +70,12 @@ ready_apart : (n : ℕ) (bs : List Born) → AreApart (ready_from n bs)
 ready_apart n [] = tt
 ready_apart n (b ∷ bs) = apart_step n (ready_from (n + 1) bs) b.works (listed_below (n + 1) bs (record { 0 = n }) (omega arith)) (ready_apart (n + 1) bs)
 
-task-boot : (script : Script) (u : ObjNo) → ◌≡◌ {A = Bool} (is_some (task_of script (boot script) u)) (is_some (task_of_row script false None (get_or (map (λ b. b.thread) (born script)) u.0 None)))
+task-boot : (script : Script) (u : ObjNo) → ◌≡◌ {A = Bool} (is_some (task_of script (boot script) u)) (is_some (task_of_row script (calls_of script) false None (get_or (map (λ b. b.thread) (born script)) u.0 None)))
 unfolding boot_of
 task-boot script u =
     let bs = born script in
-    ap (λ (protected : Bool). is_some (task_of_row script protected (first_of (get_or (map (λ _. []) bs) u.0 [])) (get_or (map (λ b. b.thread) bs) u.0 None))) (unprotected script.fast bs u)
-    ∙ ap (λ (first : Option Owed). is_some (task_of_row script false first (get_or (map (λ b. b.thread) bs) u.0 None))) (sym (owes_nothing bs u.0))
+    ap (λ (protected : Bool). is_some (task_of_row script (calls_of script) protected (first_of (get_or (map (λ _. []) bs) u.0 [])) (get_or (map (λ b. b.thread) bs) u.0 None))) (unprotected script.fast bs u)
+    ∙ ap (λ (first : Option Owed). is_some (task_of_row script (calls_of script) false first (get_or (map (λ b. b.thread) bs) u.0 None))) (sym (owes_nothing bs u.0))
 
 ready_is : (waits stopped task held work : Bool) → waits ≡ false → stopped ≡ held → task ≡ work → (not waits && not stopped && task) ≡ (not held && work)
 ready_is waits stopped task held work a b c = ap (λ x. not x && not stopped && task) a ∙ (ap (λ x. not x && task) b ∙ ap (λ x. not held && x) c)
@@ -89,6 +89,6 @@ ready-boot script shaped =
     record {
       exact = λ u. listed_at 0 bs u.0 u (omega arith) ∙ works_is script (length bs) bs u.0 each
           ∙ sym (ready_is (is_waiting (boot script) u) (is_stopped (boot script) u) (is_some (task_of script (boot script) u)) (is_held_at bs u.0) _
-          (goes_on script (length bs) bs u.0 each) (stopped-boot script.fast bs u) (task-boot script u));
+          (goes_on script (length bs) bs u.0 each) (stopped-boot script.fast (calls_of script) bs u) (task-boot script u));
       once = ready_apart 0 bs;
     }

@@ -1,5 +1,5 @@
 -- The state at boot is well-formed.
-use Rattle.std.proofs.Common.{◌≡◌, ◌⊎◌, inl, inr, ℕ, suc, zero, ◌<◌, ◌≤◌, List, [], ◌∷◌, length, get_or, arith, refl, sym, subst, ap, ◌∙◌, Option, Some, None, map, replicate}
+use Rattle.std.proofs.Common.{◌≡◌, ◌⊎◌, inl, inr, ℕ, suc, zero, ◌+◌, ◌<◌, ◌≤◌, List, [], ◌∷◌, length, get_or, arith, refl, sym, subst, ap, ◌∙◌, Option, Some, None, map, replicate}
 use Rattle.std.specs.Prelude.{is_some, if◌then◌else◌}
 use Rattle.std.proofs.lemmas.List.{length-map, length-replicate, get_or_past}
 use Rattle.std.proofs.lemmas.Bool.{cases_lt}
@@ -8,6 +8,8 @@ use Rattle.script_types.specs.declared.script.Script.{Script}
 use Rattle.script_types.specs.Shape.{IsShaped}
 use Rattle.script_types.specs.Source.{IsValid}
 use Rattle.script_types.proofs.ShapeLaws.{valid_is_shaped}
+use Rattle.sym_base.specs.declared.limits.TheConstants.Limits.{DEVICES}
+use Rattle.state_rows.specs.RequestChanges.{new_rows as request_rows}
 use Rattle.state_rows.specs.declared.duty.Owed.{Owed}
 use Rattle.machine.specs.declared.boot.Born.{Born}
 use Rattle.machine.specs.declared.state.ThreadRow.{ThreadRow}
@@ -15,11 +17,13 @@ use Rattle.machine.specs.Boot.{boot, boot_of, born}
 use Rattle.machine.specs.Handles.{fresh_slot, slot_at}
 use Rattle.machine.specs.References.{total, option_names, slot_names, thread_names, kernel_names, owed_names, count_of}
 use Rattle.machine.specs.Rows.{thread_of}
-use Rattle.machine.specs.WellFormed.{IsTable, EachMayOwe, AreRows, IsWellFormed, IsAlive, is_dead, dead_bit, owed_sweeps, weight}
+use Rattle.machine.specs.WellFormed.{IsTable, EachMayOwe, AreRequests, AreRows, IsWellFormed, IsAlive, is_dead, dead_bit, owed_sweeps, weight}
 use Rattle.machine.proofs.AtBoot.BootCounts.{counted-boot}
 use Rattle.machine.proofs.AtBoot.BootLinks.{each_linked, linked_at}
 use Rattle.machine.proofs.AtBoot.BootNano.{synchronized-boot}
 use Rattle.machine.proofs.AtBoot.BootReady.{ready-boot}
+use Rattle.machine.proofs.AtBoot.BootRequests.{requests-boot}
+use Rattle.machine.proofs.AtBoot.BootServers.{servers-boot}
 use Rattle.machine.proofs.AtBoot.Born.{IsNewThread, EachBorn, each_born, born_few}
 use Rattle.machine.proofs.References.Same.{same_other}
 
@@ -113,6 +117,7 @@ rows-boot script valid =
         tables = length-map bs (λ _. replicate 256 fresh_slot) ∙ sym threads;
         duties = length-map bs (λ _. []) ∙ sym threads;
         first = omega arith;
+        supervised = omega arith;
         threads_few = omega arith;
         objects_few = omega arith;
       };
@@ -130,6 +135,7 @@ rows-boot script valid =
               registers = new.registers;
             };
         processes = λ k row is. linked_at bs bs k row (each_linked script) is;
+        servers = λ k queue row is serves. servers-boot script k queue row is serves;
       };
       duties = record {
         own = λ k. owes_nothing bs (EachMayOwe (map (λ b. b.thread) bs) k) k tt;
@@ -137,6 +143,8 @@ rows-boot script valid =
         returns = λ k _. owes_nothing bs (λ (l : List Owed). l ≡ []) k refl;
       };
       nano = synchronized-boot script shaped;
+      deferred = record { idfcs = refl; places = refl; queues = length-replicate {A = List ℕ} (1 + length script.queues) []; known = tt };
+      requests = subst (λ (n : ℕ). AreRequests n (request_rows (length bs) DEVICES)) (sym threads) (requests-boot (length bs));
       lives = record {
         alive = λ o c. elim (cases_lt o.0 (length bs)) [
           | inl lt ↦ born_alive script (length bs) bs o.0 each lt

@@ -1,18 +1,25 @@
 -- What holds of each that stands at boot.
-use Rattle.std.proofs.Common.{◌≡◌, ℕ, ◌+◌, ◌<◌, ◌≤◌, List, [], ◌∷◌, ◌++◌, length, arith, refl, sym, subst, ap, ◌∙◌, Option, Some, None, Bool, true, false}
-use Rattle.std.specs.Prelude.{codes, slice_get, is_some, not, ◌&&◌, if◌then◌else◌, nat_le}
+use Rattle.std.proofs.Common.{◌≡◌, ℕ, suc, zero, ◌+◌, ◌<◌, ◌≤◌, List, [], ◌∷◌, ◌++◌, length, get_or, replicate, arith, refl, sym, subst, ap, ◌∙◌, Option, Some, None, Bool, true, false}
+use Rattle.std.specs.Prelude.{codes, slice_get, is_some, not, ◌&&◌, if◌then◌else◌, nat_le, IsTrue}
+use Rattle.std.specs.List.{list_all}
+use Rattle.std.proofs.lemmas.Bool.{and_parts, leb-true}
 use Rattle.std.proofs.lemmas.List.{length-append, append_assoc}
 use Rattle.script_types.specs.declared.script.Script.{Script}
 use Rattle.script_types.specs.declared.declaration.ThreadDecl.{ThreadDecl}
 use Rattle.script_types.specs.declared.declaration.ProcessDecl.{ProcessDecl}
+use Rattle.script_types.specs.declared.declaration.QueueDecl.{QueueDecl}
 use Rattle.script_types.specs.declared.instruction.Instr.{Instr}
 use Rattle.script_types.specs.Shape.{IsShaped}
+use Rattle.state_rows.specs.Deferred.{next_of, priority_of}
+use Rattle.sym_base.specs.Greatest.{first_of_greatest}
+use Rattle.sym_base.specs.declared.kind.Kind.TheVariants.{Thread}
 use Rattle.machine.specs.declared.boot.Born.{Born}
-use Rattle.machine.specs.declared.state.Role.TheVariants.{Supervisor, Declared}
+use Rattle.machine.specs.declared.state.Role.{Role}
+use Rattle.machine.specs.declared.state.Role.TheVariants.{Supervisor, Queue, Declared}
 use Rattle.machine.specs.declared.state.ThreadRow.{ThreadRow}
 use Rattle.machine.specs.declared.state.Waiting.TheVariants as waiting
-use Rattle.machine.specs.Boot.{born, born_process, born_thread, born_threads, born_processes, new_thread, has_any, is_of}
-use Rattle.machine.specs.Task.{instructions_in, step_or_end, task_of_row}
+use Rattle.machine.specs.Boot.{boot_object, born, born_process, born_queues, born_thread, born_threads, born_processes, calls_of, new_thread, has_any, is_of}
+use Rattle.machine.specs.Task.{instructions_in, run_or, step_or_end, task_of_row}
 
 -- a thread's row, n being the number of those that stand at boot: it has made no step, and is linked to its process
 pub record IsNewThread (n : ℕ) (row : ThreadRow) : Type 0 where
@@ -29,7 +36,7 @@ pub record IsNewThread (n : ℕ) (row : ThreadRow) : Type 0 where
 pub record IsBorn (script : Script) (n : ℕ) (b : Born) : Type 0 where
   pub alive : b.object.dead ≡ false
   pub row : (row : ThreadRow) → b.thread ≡ Some row → IsNewThread n row
-  pub works : b.works ≡ (not b.held && is_some (task_of_row script false None b.thread))
+  pub works : b.works ≡ (not b.held && is_some (task_of_row script (calls_of script) false None b.thread))
 
 abbrev pub EachBorn : Script → ℕ → List Born → Type 0
 EachBorn script n [] = Unit {0}
@@ -53,19 +60,15 @@ slice_get-behind : (pre : List ThreadDecl) (d : ThreadDecl) (ds : List ThreadDec
 slice_get-behind [] d ds = refl
 slice_get-behind (x ∷ xs) d ds = slice_get-behind xs d ds
 
+is_new_thread : (n p : ℕ) (role : Role) (priority : ℕ) → p < n → priority ≤ 63 → (row : ThreadRow) → Some (new_thread p role priority) ≡ Some row → IsNewThread n row
+is_new_thread n p role priority lt few row is =
+    let e : new_thread p role priority ≡ row = cc in
+    subst (λ (r : ThreadRow). IsNewThread n r) e (record { process = lt; link = refl; priority = few; waiting = refl; next_instruction = refl; part = refl; uses = refl; registers = refl })
+
 is_born_thread : (script : Script) (n p k : ℕ) (d : ThreadDecl) → p < n → d.priority ≤ 63 → slice_get script.threads k ≡ Some d → IsBorn script n (born_thread p k d)
 is_born_thread script n p k d lt few at = record {
   alive = refl;
-  row = λ row is. let e : new_thread p (Declared k) d.priority ≡ row = cc in subst (λ (r : ThreadRow). IsNewThread n r) e (record {
-    process = lt;
-    link = refl;
-    priority = few;
-    waiting = refl;
-    next_instruction = refl;
-    part = refl;
-    uses = refl;
-    registers = refl;
-  });
+  row = λ row is. is_new_thread n p (Declared k) d.priority lt few row is;
   works = both_ways (has_any d.instrs) (not d.held) _ (works_has_first d.instrs ∙ ap (λ (x : Option ThreadDecl). is_some (step_or_end false (slice_get (instructions_in x) 0))) (sym at));
 }
 
@@ -101,23 +104,48 @@ each_born_processes script shaped n j p (d ∷ ds) le =
           (each_born_processes script shaped n (j + 1) (p + 1 + length threads) ds (omega arith)),
     )
 
+empty_queue : (n q : ℕ) → ◌≡◌ {A = List ℕ} (get_or (replicate n []) q []) []
+empty_queue zero q = refl
+empty_queue (suc n) zero = refl
+empty_queue (suc n) (suc q) = empty_queue n q
+
+-- no call is queued
+no_call : (script : Script) (q : ℕ) → next_of (calls_of script) q ≡ None
+no_call script q = ap (first_of_greatest (priority_of (calls_of script))) (empty_queue (1 + length script.queues) q)
+
+no_work : (script : Script) (q : ℕ) → false ≡ is_some (run_or (next_of (calls_of script) q) None)
+no_work script q = ap (λ (call : Option ℕ). is_some (run_or call None)) (sym (no_call script q))
+
+each_born_queues : (script : Script) (n q : ℕ) (ds : List QueueDecl) → 0 < n → IsTrue (list_all (λ (d : QueueDecl). nat_le d.priority 63) ds) → EachBorn script n (born_queues q ds)
+each_born_queues script n q [] lt few = tt
+each_born_queues script n q (d ∷ ds) lt few =
+    let parts = and_parts (nat_le d.priority 63) (list_all (λ (x : QueueDecl). nat_le x.priority 63) ds) few in (
+      record { alive = refl; row = λ row is. is_new_thread n 0 (Queue q) d.priority lt (leb-true d.priority 63 parts.0) row is; works = no_work script q },
+      each_born_queues script n (q + 1) ds lt parts.1,
+    )
+
+pub length_queues : (q : ℕ) (ds : List QueueDecl) → length (born_queues q ds) ≡ length ds
+length_queues q [] = refl
+length_queues q (d ∷ ds) = let r = length_queues (q + 1) ds in omega arith
+
 pub each_born : (script : Script) → IsShaped script → EachBorn script (length (born script)) (born script)
 each_born script shaped =
     let n = length (born script) in
+    let queues = born_queues 1 script.queues in
     let kernel = born_threads None 0 0 script.threads in
-    let rest = born_processes script.threads 0 (2 + length kernel) script.processes in
-    let long = length-append kernel rest in (
+    let first = 2 + length script.queues + length kernel in
+    let rest = born_processes script.threads 0 first script.processes in
+    let long = length-append (queues ++ kernel) rest in
+    let more = length-append queues kernel in
+    let many = length_queues 1 script.queues in (
       is_born_process script n (codes "kernel"),
       (
-        record {
-          alive = refl;
-          row = λ row is. let e : new_thread 0 Supervisor 48 ≡ row = cc in
-              subst (λ (r : ThreadRow). IsNewThread n r) e (record { process = omega arith; link = refl; priority = omega arith; waiting = refl; next_instruction = refl; part = refl; uses = refl; registers = refl });
-          works = refl;
-        },
-        each_born-append script n kernel rest
-            (each_born_threads script shaped n None 0 [] script.threads (omega arith) refl)
-            (each_born_processes script shaped n 0 (2 + length kernel) script.processes (omega arith)),
+        record { alive = refl; row = λ row is. is_new_thread n 0 Supervisor 48 (omega arith) (omega arith) row is; works = no_work script 0 },
+        each_born-append script n (queues ++ kernel) rest
+            (each_born-append script n queues kernel
+            (each_born_queues script n 1 script.queues (omega arith) shaped.numbers.queues)
+            (each_born_threads script shaped n None 0 [] script.threads (omega arith) refl))
+            (each_born_processes script shaped n 0 first script.processes (omega arith)),
       ),
     )
 
@@ -181,11 +209,15 @@ count_from_all (d ∷ ds) = let r = count_from_all ds in omega arith
 -- at most 81 stand at boot
 pub born_few : (script : Script) → IsShaped script → length (born script) ≤ 81
 born_few script h =
+    let queues = born_queues 1 script.queues in
     let kernel = born_threads None 0 0 script.threads in
-    let rest = born_processes script.threads 0 (2 + length kernel) script.processes in
-    let a = processes_length script.threads 0 (2 + length kernel) script.processes in
+    let first = 2 + length script.queues + length kernel in
+    let rest = born_processes script.threads 0 first script.processes in
+    let a = processes_length script.threads 0 first script.processes in
     let b = kernel_threads script.threads in
     let c = h.processes in
     let d = h.count in
     let e = count_from_all script.threads in
-    let f = length-append kernel rest in omega arith
+    let f = length-append (queues ++ kernel) rest in
+    let g = length-append queues kernel in
+    let i = length_queues 1 script.queues in omega arith

@@ -1,5 +1,5 @@
 -- What a thread does in an action: moves that fit, or it pays the oldest of what it owes.
-use Rattle.std.proofs.Common.{◌≡◌, ◌⊎◌, inl, inr, ℕ, ◌+◌, ◌<◌, ◌≤◌, List, [], ◌∷◌, length, arith, refl, sym, subst, ap, ◌∙◌, Option, Some, None, Bool, true, false}
+use Rattle.std.proofs.Common.{◌≡◌, ◌⊎◌, inl, inr, ℕ, ◌<◌, List, [], ◌∷◌, length, arith, refl, sym, subst, ap, ◌∙◌, Option, Some, None, Bool, true, false}
 use Rattle.std.specs.Prelude.{not, ◌&&◌, is_some, is_none, slice_get}
 use Rattle.std.proofs.lemmas.Bool.{cases_lt}
 use Rattle.std.proofs.lemmas.List.{append-nil, get_or_past}
@@ -18,6 +18,7 @@ use Rattle.state_rows.specs.declared.duty.Owed.{Owed}
 use Rattle.machine.specs.declared.decision.Decision.{Decision}
 use Rattle.machine.specs.declared.moves.Move.{Move}
 use Rattle.machine.specs.declared.moves.Move.TheVariants as move
+use Rattle.machine.specs.declared.plan.Body.TheVariants.{Deferred}
 use Rattle.machine.specs.declared.state.Waiting.{Waiting}
 use Rattle.machine.specs.declared.state.Waiting.TheVariants as waiting
 use Rattle.machine.specs.declared.state.ThreadRow.{ThreadRow}
@@ -27,8 +28,8 @@ use Rattle.machine.specs.Moves.{moved, told, perform, tell}
 use Rattle.machine.specs.References.{total}
 use Rattle.machine.specs.CriticalSection.{flush}
 use Rattle.machine.specs.Steps.{step_of, return_of, decision_of_row, decision_where, decision_of}
-use Rattle.machine.specs.Task.{instruction, instructions_of, is_returning, end_task, pay_or_step, return_or, task_of_row, task_of, is_wait, is_waiting_row, is_waiting, is_stopped, is_ready, is_able}
-use Rattle.machine.specs.Fits.{EachFits, Fits, Sane, most_told, most_owed}
+use Rattle.machine.specs.Task.{instruction, instructions_of, is_returning, end_task, next_call, pay_or, return_or, run_or, step_or_end, task_of_row, task_of, is_wait, is_waiting_row, is_waiting, is_stopped, is_ready, is_able}
+use Rattle.machine.specs.Fits.{Fits, Sane}
 use Rattle.machine.specs.WellFormed.{AreRows, is_before_use, part_of, weight}
 use Rattle.machine.proofs.Lists.Totals.{inside}
 use Rattle.machine.proofs.Numbers.FewEffects.{tell_few}
@@ -37,10 +38,12 @@ use Rattle.machine.proofs.MoveLaws.Sound.{Sound, sound-none}
 use Rattle.machine.proofs.MoveLaws.Run.{each-sound, sound-pay}
 use Rattle.machine.proofs.Fitting.Stepping.{FitsDecision, IsStepping, fits-nothing}
 use Rattle.machine.proofs.Fitting.KernelThreads.{none_is, fits-flock, fits-funlock, fits-fswait, fits-fssignal, fits-enter, fits-leave, fits-flush, fits-suspend, fits-resume, fits-priority}
+use Rattle.machine.proofs.Fitting.Bodies.{Goes, goes-body}
+use Rattle.machine.proofs.Fitting.Requests.{fits-queue, fits-request, fits-cancel, fits-waitany, fits-waitfor, fits-status}
 use Rattle.machine.proofs.Fitting.Steps.{fits-create, fits-dup, fits-open, fits-open_return, fits-close}
 
 -- the steps of instructions fit
-fits-step : (script : Script) (S : State) (t : ObjNo) (row : ThreadRow) (instr : Instr) (p : Option Part) → IsStepping script S t row instr → is_returning row.part ≡ false → row.part ≡ p → FitsDecision script t S (step_of S t row instr p)
+fits-step : (script : Script) (S : State) (t : ObjNo) (row : ThreadRow) (instr : Instr) (p : Option Part) → IsStepping script S t row instr → is_returning row.part ≡ false → row.part ≡ p → FitsDecision script t S (step_of script S t row instr p)
 fits-step script S t row (instr.CreateMutex name x) p h going at = fits-create Mutex name x h h.registers refl
 fits-step script S t row (instr.Open kind name x) p h going at = fits-open kind name x p h h.registers at
 fits-step script S t row (instr.Dup x y) p h going at = fits-dup x y p h h.registers.1 at
@@ -54,6 +57,12 @@ fits-step script S t row instr.Leave p h going at = fits-leave h
 fits-step script S t row (instr.Suspend x) p h going at = fits-suspend x p h at
 fits-step script S t row (instr.Resume x) p h going at = fits-resume x p h at
 fits-step script S t row (instr.Priority x priority) p h going at = fits-priority x priority p h at
+fits-step script S t row (instr.Queue name) p h going at = fits-queue name h
+fits-step script S t row (instr.Request d s) p h going at = fits-request d s h
+fits-step script S t row (instr.Cancel d) p h going at = fits-cancel d h
+fits-step script S t row instr.WaitAny p h going at = fits-waitany p h
+fits-step script S t row (instr.WaitFor s) p h going at = fits-waitfor s p h
+fits-step script S t row (instr.Status s) p h going at = fits-status s h
 fits-step script S t row _ p h going at = fits-nothing script S t
 
 -- and so do their returns
@@ -73,12 +82,6 @@ pub record Pays (S : State) (t : ObjNo) (ms : List Move) : Type 0 where
   pub moves : ms ≡ move.Pay what ∷ []
   pub owes : owed_of S t ≡ what ∷ rest
 
--- the moves fit one by one, and what they may owe has room
-pub record Goes (script : Script) (t : ObjNo) (S : State) (ms : List Move) : Type 0 where
-  pub each : EachFits script t ms S
-  pub few : total weight (owed_of S t) + total most_owed ms ≤ 12
-  pub told : total most_told ms ≤ 4
-
 goes_by : (script : Script) (S : State) (t : ObjNo) (d : Decision) → owed_of S t ≡ [] → FitsDecision script t S d → Goes script t S d.moves
 goes_by script S t d nothing fits = record { each = fits.each; few = let a : total weight (owed_of S t) ≡ 0 = ap (total weight) nothing in let b = fits.light in omega arith; told = fits.told }
 
@@ -96,7 +99,7 @@ record IsAble (S : State) (t : ObjNo) (row : ThreadRow) : Type 0 where
 
 waits_not : (what : Waiting) → not (is_wait what) ≡ true → what ≡ waiting.Nothing
 waits_not waiting.Nothing e = refl
-waits_not waiting.Fast e = absurd (cc)
+waits_not _ e = absurd (cc)
 
 able_is : (script : Script) (S : State) (t : ObjNo) (row : ThreadRow) → thread_of S t ≡ Some row → is_able script S t ≡ true → IsAble S t row
 able_is script S t row is able =
@@ -121,31 +124,37 @@ stepping script S t row instr shaped rows is able at nothing = record {
   free = able.free;
 }
 
+-- a thread that is there may act
+pub sane-of : (script : Script) (S : State) (t : ObjNo) (row : ThreadRow) → AreRows script S → thread_of S t ≡ Some row → Sane script t S
+sane-of script S t row rows is = record { rows = rows; inside = inside S.threads t.0 row is }
+
 -- at its list's end
-end-acts : (script : Script) (S : State) (t : ObjNo) (row : ThreadRow) (protected : Bool) → AreRows script S → thread_of S t ≡ Some row → owed_of S t ≡ [] → Goes script t S (decision_of_row S t (Some row) (end_task protected)).moves
+end-acts : (script : Script) (S : State) (t : ObjNo) (row : ThreadRow) (protected : Bool) → AreRows script S → thread_of S t ≡ Some row → owed_of S t ≡ [] → Goes script t S (decision_of_row script S t (Some row) (end_task protected)).moves
 end-acts script S t row true rows is o = goes_by script S t (flush S t) o (fits-flush script S t row rows is)
 end-acts script S t row false rows is o = idles script S t rows
 
-row-acts : (script : Script) (S : State) (t : ObjNo) (row : ThreadRow) (protected returns : Bool) (at : Option Instr) (owed : List Owed) → IsShaped script → AreRows script S → thread_of S t ≡ Some row → IsAble S t row → is_returning row.part ≡ returns → instruction script row ≡ at → owed_of S t ≡ owed
-    → let d = decision_of_row S t (Some row) (return_or returns at (pay_or_step protected (first_of owed) at)) in Goes script t S d.moves ⊎ Pays S t d.moves
-row-acts script S t row protected true (Some instr) owed shaped rows is able r e o =
+row-acts : (script : Script) (S : State) (t : ObjNo) (row : ThreadRow) (protected returns : Bool) (at : Option Instr) (owed : List Owed) (call : Option ℕ) → IsShaped script → AreRows script S → thread_of S t ≡ Some row → IsAble S t row → is_returning row.part ≡ returns → instruction script row ≡ at → owed_of S t ≡ owed
+    → let d = decision_of_row script S t (Some row) (return_or returns at (pay_or (first_of owed) (run_or call (step_or_end protected at)))) in Goes script t S d.moves ⊎ Pays S t d.moves
+row-acts script S t row protected true (Some instr) owed call shaped rows is able r e o =
     let nothing = rows.duties.returns t.0 (ap (λ (x : Option ThreadRow). is_returning (part_of x)) is ∙ r) in
     inl (goes_by script S t (return_of S t row instr) nothing (fits-returning script S t row instr (stepping script S t row instr shaped rows is able e nothing) (returning_before row.part r)))
-row-acts script S t row protected true None (what ∷ rest) shaped rows is able r e o = inr (record { what = what; rest = rest; moves = refl; owes = o })
-row-acts script S t row protected true None [] shaped rows is able r e o = inl (end-acts script S t row protected rows is o)
-row-acts script S t row protected false at (what ∷ rest) shaped rows is able r e o = inr (record { what = what; rest = rest; moves = refl; owes = o })
-row-acts script S t row protected false None [] shaped rows is able r e o = inl (end-acts script S t row protected rows is o)
-row-acts script S t row protected false (Some instr) [] shaped rows is able r e o = inl (goes_by script S t (step_of S t row instr row.part) o (fits-step script S t row instr row.part (stepping script S t row instr shaped rows is able e o) r refl))
+row-acts script S t row protected true None (what ∷ rest) call shaped rows is able r e o = inr (record { what = what; rest = rest; moves = refl; owes = o })
+row-acts script S t row protected true None [] (Some dfc) shaped rows is able r e o = inl (goes-body script S t (Deferred dfc) shaped (sane-of script S t row rows is))
+row-acts script S t row protected true None [] None shaped rows is able r e o = inl (end-acts script S t row protected rows is o)
+row-acts script S t row protected false at (what ∷ rest) call shaped rows is able r e o = inr (record { what = what; rest = rest; moves = refl; owes = o })
+row-acts script S t row protected false at [] (Some dfc) shaped rows is able r e o = inl (goes-body script S t (Deferred dfc) shaped (sane-of script S t row rows is))
+row-acts script S t row protected false None [] None shaped rows is able r e o = inl (end-acts script S t row protected rows is o)
+row-acts script S t row protected false (Some instr) [] None shaped rows is able r e o = inl (goes_by script S t (step_of script S t row instr row.part) o (fits-step script S t row instr row.part (stepping script S t row instr shaped rows is able e o) r refl))
 
 -- the thread of this row, if there is one
 able-acts : (script : Script) (S : State) (t : ObjNo) (row : Option ThreadRow) → IsShaped script → AreRows script S → thread_of S t ≡ row → is_able script S t ≡ true
-    → let d = decision_of_row S t row (task_of_row script (is_protected S.nano t) (first_owed S t) row) in Goes script t S d.moves ⊎ Pays S t d.moves
+    → let d = decision_of_row script S t row (task_of_row script S.deferred (is_protected S.nano t) (first_owed S t) row) in Goes script t S d.moves ⊎ Pays S t d.moves
 able-acts script S t None shaped rows is able = inl (idles script S t rows)
 able-acts script S t (Some row) shaped rows is able =
-    row-acts script S t row (is_protected S.nano t) (is_returning row.part) (instruction script row) (owed_of S t) shaped rows is (able_is script S t row is able) refl refl refl
+    row-acts script S t row (is_protected S.nano t) (is_returning row.part) (instruction script row) (owed_of S t) (next_call S.deferred row.role) shaped rows is (able_is script S t row is able) refl refl refl
 
 -- one that isn't able does nothing
-acts : (script : Script) (S : State) (t : ObjNo) (able : Bool) → IsShaped script → AreRows script S → is_able script S t ≡ able → let d = decision_where able S t (task_of script S t) in Goes script t S d.moves ⊎ Pays S t d.moves
+acts : (script : Script) (S : State) (t : ObjNo) (able : Bool) → IsShaped script → AreRows script S → is_able script S t ≡ able → let d = decision_where script able S t (task_of script S t) in Goes script t S d.moves ⊎ Pays S t d.moves
 acts script S t false shaped rows able = inl (idles script S t rows)
 acts script S t true shaped rows able = able-acts script S t (thread_of S t) shaped rows refl able
 
@@ -156,31 +165,28 @@ fits-action script S t shaped rows = elim (acts script S t (is_able script S t) 
   | inr pays ↦ inr pays
 ]
 
--- a thread that is there may act
-pub sane-of : (script : Script) (S : State) (t : ObjNo) (row : ThreadRow) → AreRows script S → thread_of S t ≡ Some row → Sane script t S
-sane-of script S t row rows is = record { rows = rows; inside = inside S.threads t.0 row is }
-
-sound-pays : (script : Script) (S : State) (t : ObjNo) (ms : List Move) → Sane script t S → Pays S t ms → Sound script S (perform t ms S) (tell t ms S)
-sound-pays script S t ms sane pays =
-    subst (λ (l : List Move). Sound script S (perform t l S) (tell t l S)) (sym pays.moves)
-    (subst (Sound script S (moved t (move.Pay pays.what) S)) (sym (append-nil (told (move.Pay pays.what) S))) (sound-pay script S t pays.what pays.rest pays.owes sane))
-
-sound-acts : (script : Script) (S : State) (t : ObjNo) (ms : List Move) → AreRows script S → t.0 < length S.threads → Goes script t S ms ⊎ Pays S t ms → Sound script S (perform t ms S) (tell t ms S)
-sound-acts script S t ms rows within acts = elim acts as (λ _. Sound script S (perform t ms S) (tell t ms S)) [
-  | inl goes ↦ each-sound script S t ms goes.each goes.few (record { rows = rows; inside = within })
-  | inr pays ↦ sound-pays script S t ms (record { rows = rows; inside = within }) pays
+-- What a thread does in its next action, by what it is: moves that fit, a payment of the oldest of what it owes, or nothing at a number past the
+-- threads.
+pub of_action : (script : Script) (S : State) (t : ObjNo) (P : List Move → Type 0) → IsShaped script → AreRows script S
+    → ((ms : List Move) → Sane script t S → Goes script t S ms → P ms) → ((what : Owed) (rest : List Owed) → Sane script t S → owed_of S t ≡ what ∷ rest → P (move.Pay what ∷ [])) → P [] → P (decision_of script S t).moves
+of_action script S t P shaped rows goes pays none = elim (cases_lt t.0 (length S.threads)) as (λ _. P (decision_of script S t).moves) [
+  | inl within ↦
+      let sane : Sane script t S = record { rows = rows; inside = within } in
+      elim (acts script S t (is_able script S t) shaped rows refl) as (λ _. P (decision_of script S t).moves) [
+        | inl fits ↦ goes (decision_of script S t).moves sane fits
+        | inr paid ↦ subst P (sym paid.moves) (pays paid.what paid.rest sane paid.owes)
+      ]
+  | inr past ↦ subst P (sym (no_thread script S t (get_or_past S.threads t.0 None past) (is_able script S t))) none
 ]
+  where
+    no_thread : (script : Script) (S : State) (t : ObjNo) → thread_of S t ≡ None → (able : Bool) → (decision_where script able S t (task_of script S t)).moves ≡ []
+    no_thread script S t none false = refl
+    no_thread script S t none true = rw none refl
 
--- a number past the threads does nothing
-no_thread : (script : Script) (S : State) (t : ObjNo) → thread_of S t ≡ None → (able : Bool) → (decision_where able S t (task_of script S t)).moves ≡ []
-no_thread script S t none false = refl
-no_thread script S t none true = rw none refl
+pub sound-pays : (script : Script) (S : State) (t : ObjNo) (what : Owed) (rest : List Owed) → Sane script t S → owed_of S t ≡ what ∷ rest → Sound script S (perform t (move.Pay what ∷ []) S) (tell t (move.Pay what ∷ []) S)
+sound-pays script S t what rest sane owes = subst (Sound script S (moved t (move.Pay what) S)) (sym (append-nil (told (move.Pay what) S))) (sound-pay script S t what rest owes sane)
 
 -- what an action of a thread does
 pub sound-action : (script : Script) (S : State) (t : ObjNo) → IsShaped script → AreRows script S → Sound script S (perform t (decision_of script S t).moves S) (tell t (decision_of script S t).moves S)
-sound-action script S t shaped rows = elim (cases_lt t.0 (length S.threads)) as (λ _. Sound script S (perform t (decision_of script S t).moves S) (tell t (decision_of script S t).moves S)) [
-  | inl within ↦ sound-acts script S t (decision_of script S t).moves rows within (acts script S t (is_able script S t) shaped rows refl)
-  | inr past ↦
-      let none = no_thread script S t (get_or_past S.threads t.0 None past) (is_able script S t) in
-      subst (λ (ms : List Move). Sound script S (perform t ms S) (tell t ms S)) (sym none) (sound-none script S rows)
-]
+sound-action script S t shaped rows = of_action script S t (λ (ms : List Move). Sound script S (perform t ms S) (tell t ms S)) shaped rows
+    (λ ms sane goes. each-sound script S t ms goes.each goes.few sane) (λ what rest sane owes. sound-pays script S t what rest sane owes) (sound-none script S rows)

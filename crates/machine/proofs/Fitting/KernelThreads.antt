@@ -1,5 +1,5 @@
 -- The steps of kernel threads, and of the calls on threads.
-use Rattle.std.proofs.Common.{◌≡◌, ◌≢◌, ℕ, ◌<◌, ◌≤◌, List, length, arith, refl, ap, subst, ◌∙◌, Option, Some, None, Bool, true, false}
+use Rattle.std.proofs.Common.{◌≡◌, ◌≢◌, ℕ, ◌<◌, List, length, arith, refl, ap, subst, ◌∙◌, Option, Some, None, Bool, true, false}
 use Rattle.std.specs.Prelude.{pos, ◌==◌, [], ◌∷◌, ◌++◌, ℤ, nat_lt, is_some, is_none, if◌then◌else◌, option_and_then, option_map, slice_index}
 use Rattle.std.proofs.lemmas.Bool.{eq-eqb, ltb-true}
 use Rattle.std.proofs.lemmas.List.Quantifiers.{position-Some}
@@ -18,7 +18,7 @@ use Rattle.entry_log.specs.declared.step.Part.TheVariants as part
 use Rattle.entry_log.specs.declared.step.Step.{Step}
 use Rattle.entry_log.specs.declared.step.Step.TheVariants as step
 use Rattle.state_rows.specs.declared.nano.NanoRows.{NanoRows}
-use Rattle.state_rows.specs.Nano.{suspend_count, signal_count, critical_count, want_of, holder_of, is_thread, is_free, is_holder, held_by, wanted_holder}
+use Rattle.state_rows.specs.Nano.{suspend_count, signal_count, critical_count, want_of, holder_of, is_thread, is_free, is_holder, held_by}
 use Rattle.state_rows.proofs.Soundness.{is_thread-true}
 use Rattle.machine.specs.declared.decision.Decision.{Decision}
 use Rattle.machine.specs.declared.moves.Move.{Move}
@@ -26,7 +26,7 @@ use Rattle.machine.specs.declared.moves.Move.TheVariants as move
 use Rattle.machine.specs.declared.nano_move.NanoMove.{NanoMove}
 use Rattle.machine.specs.declared.nano_move.NanoMove.TheVariants as nano
 use Rattle.machine.specs.declared.state.Role.{Role}
-use Rattle.machine.specs.declared.state.Role.TheVariants.{Supervisor, Declared}
+use Rattle.machine.specs.declared.state.Role.TheVariants.{Supervisor, Queue, Declared}
 use Rattle.machine.specs.declared.state.Waiting.{Waiting}
 use Rattle.machine.specs.declared.state.Waiting.TheVariants as waiting
 use Rattle.machine.specs.declared.state.ThreadRow.{ThreadRow}
@@ -38,11 +38,11 @@ use Rattle.machine.specs.NanoMoves.{nano_thread}
 use Rattle.machine.specs.Decide.{answer, go_on, unless_holding}
 use Rattle.machine.specs.Find.{find_object}
 use Rattle.machine.specs.Look.{is_of_kind, of_kind, look_kind, look_at}
-use Rattle.machine.specs.FastMutex.{flock_do, flock_done, flock_step, funlock_do}
-use Rattle.machine.specs.FastSemaphore.{fswait_do, fswait_step, signal_move, signal_thread, signal_found, fssignal_do}
+use Rattle.machine.specs.FastMutex.{flock_done, flock_step, funlock_do}
+use Rattle.machine.specs.FastSemaphore.{fswait_step, signal_move, signal_thread, signal_found, fssignal_do}
 use Rattle.machine.specs.CriticalSection.{enter_do, leave_do, give_held, flush}
 use Rattle.machine.specs.ThreadCalls.{refusal_of_role, refusal_of, suspend_move, resume_move, move_or_refuse, unless_refused, call_on, suspend_step, resume_step, priority_step}
-use Rattle.machine.specs.Fits.{FitsMove, FitsNano, MayGoOn, MayTake, IsAtInstruction, most_told, most_owed}
+use Rattle.machine.specs.Fits.{FitsMove, FitsNano, MayTake, IsAtInstruction}
 use Rattle.machine.specs.WellFormed.{AreRows, is_before_use}
 use Rattle.machine.proofs.Lists.Cases.{if_cases}
 use Rattle.machine.proofs.Numbers.Registers.{priority_small}
@@ -52,7 +52,7 @@ use Rattle.machine.proofs.Fitting.Living.{handle_is_alive}
 use Rattle.machine.proofs.Fitting.Shared.{IsCheap}
 use Rattle.machine.proofs.Fitting.Stepping.{FitsDecision, IsStepping, fits-nothing, fits-refuse, fits-use, at_instruction, at-with_row}
 
-none_of : {A : Type 0} (x : Option A) → is_some x ≡ false → x ≡ None
+pub none_of : {A : Type 0} (x : Option A) → is_some x ≡ false → x ≡ None
 none_of None e = refl
 none_of (Some x) e = absurd (cc)
 
@@ -73,11 +73,11 @@ wants_holds_none script S t f rows wants = held (held_by S.nano t) refl
     held (Some g) e = let none = (rows.nano.holders g t (held_holder S.nano t g e).1).wants in absurd (cc)
 
 -- an answer after no move
-fits-answer : {script : Script} {S : State} {t : ObjNo} {row : ThreadRow} {instr : Instr} (told : Step) (code : ℤ) → IsStepping script S t row instr → FitsDecision script t S (answer t told [] code)
+pub fits-answer : {script : Script} {S : State} {t : ObjNo} {row : ThreadRow} {instr : Instr} (told : Step) (code : ℤ) → IsStepping script S t row instr → FitsDecision script t S (answer t told [] code)
 fits-answer told code h = record { each = ((refl, at_instruction h), tt); told = omega arith; light = omega arith }
 
 -- an answer after one move that fits and leaves the thread at its instruction
-fits-move : {script : Script} {S : State} {t : ObjNo} {row : ThreadRow} {instr : Instr} (told : Step) (m : Move) (code : ℤ) → IsStepping script S t row instr → IsCheap m → FitsMove script t m S → IsAtInstruction script (moved t m S) t → FitsDecision script t S (answer t told (m ∷ []) code)
+pub fits-move : {script : Script} {S : State} {t : ObjNo} {row : ThreadRow} {instr : Instr} (told : Step) (m : Move) (code : ℤ) → IsStepping script S t row instr → IsCheap m → FitsMove script t m S → IsAtInstruction script (moved t m S) t → FitsDecision script t S (answer t told (m ∷ []) code)
 fits-move told m code h cheap fits at = record {
   each = (fits, ((refl, at), tt));
   told = let a = cheap.told in omega arith;
@@ -95,7 +95,7 @@ own_row : {script : Script} {S : State} {t : ObjNo} {row : ThreadRow} {instr : I
 own_row h = ap is_some h.is
 
 -- the last step comes next, with a move that fits then
-fits-later : {script : Script} {S : State} {t : ObjNo} (told : Step) (m : Move) → IsCheap m → FitsMove script t m (moved t (move.GoOn t part.Done) S) → FitsDecision script t S (go_on t told m part.Done)
+pub fits-later : {script : Script} {S : State} {t : ObjNo} (told : Step) (m : Move) → IsCheap m → FitsMove script t m (moved t (move.GoOn t part.Done) S) → FitsDecision script t S (go_on t told m part.Done)
 fits-later told m cheap fits = record {
   each = (record { unused = λ r is e. absurd (cc); paid = λ e. absurd (cc) }, (fits, tt));
   told = let a = cheap.told in omega arith;
@@ -151,10 +151,10 @@ fits-fswait (Some p) h = fits-answer (step.Of word.Fswait part.Done) (pos 0) h
 
 -- `fssignal`
 signalled : {script : Script} {S : State} {t : ObjNo} {row : ThreadRow} {instr : Instr} (u : ObjNo) (r : ThreadRow) (what : Waiting) → IsStepping script S t row instr → thread_of S u ≡ Some r → FitsDecision script t S (answer t (step.Of word.Fssignal part.Do) (signal_move u what ∷ []) (pos 0))
-signalled u r waiting.Nothing h is = fits-nano (step.Of word.Fssignal part.Do) (nano.Raise u) (pos 0) h (ap is_some is) tt
 signalled {script = script} {S = S} {t = t} u r waiting.Fast h is =
     fits-move (step.Of word.Fssignal part.Do) (move.Wake u) (pos 0) h (record { told = omega arith; light = refl }) tt
     (at-with_row script S (moved t (move.Wake u) S) t u (with_waiting waiting.Nothing) (record { role = λ r. refl; next = λ r. refl }) refl (at_instruction h))
+signalled u r _ h is = fits-nano (step.Of word.Fssignal part.Do) (nano.Raise u) (pos 0) h (ap is_some is) tt
 
 pub fits-fssignal : {script : Script} {S : State} {t : ObjNo} {row : ThreadRow} {instr : Instr} (name : List ℕ) → IsStepping script S t row instr → FitsDecision script t S (fssignal_do S t name)
 fits-fssignal {script = script} {S = S} {t = t} name h = found (find_object S kind.Thread name)
@@ -219,6 +219,7 @@ fits-call {script = script} {S = S} {t = t} word failure call (Some u) h fits = 
 
     by : (r : ThreadRow) (role : Role) → thread_of S u ≡ Some r → FitsDecision script t S (unless_refused t word (refusal_of_role role) failure (call u))
     by r Supervisor is = fits-refuse (step.Of word part.Do) error.PermissionDenied h
+    by r (Queue queue) is = fits-refuse (step.Of word part.Do) error.PermissionDenied h
     by r (Declared k) is = made r (call u) is refl
 
     there : (r : Option ThreadRow) → thread_of S u ≡ r → FitsDecision script t S (unless_refused t word (refusal_of r) failure (call u))

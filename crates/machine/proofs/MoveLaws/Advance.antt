@@ -99,9 +99,12 @@ sound-advance script S t u fits few inside rows =
           registers = h.registers;
         };
         process = refl;
+        role = refl;
       }) rows.threads;
       duties = duties-owing (with_row S.threads u advanced) S.owed u (owed_use u used)
           (may_owe_use (with_row S.threads u advanced) u used) (omega arith) (ap (λ (x : Option ThreadRow). is_returning (part_of x)) (row-here S.threads u advanced u.0 refl) ∙ going old)
           (duties-threads S.threads (with_row S.threads u advanced) S.owed (λ k. inr (paid-with_row S.threads u advanced (λ row h. refl) k)) rows.duties);
       nano = synchronized-with_row script S.threads u advanced S.nano (λ row h. h) rows.nano;
+      deferred = rows.deferred;
+      requests = rows.requests;
     }) (lives-none S T refl counts sweeps) (holders-none S T held)

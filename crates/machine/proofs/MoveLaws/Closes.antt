@@ -89,6 +89,8 @@ sound-closed false script S t h o handles threads owed e inside lost rows =
       threads = lost.threads_are;
       duties = duties-owing threads owed t [] tt (omega arith) lost.going lost.duties;
       nano = lost.nano;
+      deferred = rows.deferred;
+      requests = rows.requests;
     })
     (lives-closed false S T h o e alive refl
     (λ p. let a = total-owing (owed_names p) owed t [] here in let b = lost.counts p in omega arith)
@@ -114,10 +116,13 @@ sound-closed true script S t h o handles threads owed e inside lost rows =
       threads = threads-with_row script threads o f (λ row is r. record {
         thread = record { process = r.process; link = λ p linked. cc; priority = r.priority; next_instruction = r.next_instruction; unused = r.unused; registers = r.registers };
         process = refl;
+        role = refl;
       }) lost.threads_are;
       duties = duties-owing other owed t more (may_owe_link script threads other t o link lost.link lost.threads_are (none-with_row threads o f)) few ((paid-with_row threads o f (λ row r. r) t.0).going lost.going)
           (duties-threads threads other owed (λ k. inr (paid-with_row threads o f (λ row r. r) k)) lost.duties);
       nano = synchronized-with_row script threads o f S.nano (λ row r. r) lost.nano;
+      deferred = rows.deferred;
+      requests = rows.requests;
     })
     (lives-closed true S T h o e alive refl
     (λ p.

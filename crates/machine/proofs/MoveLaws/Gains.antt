@@ -105,6 +105,7 @@ gained-use script S u o fits rows =
           registers = h.registers;
         };
         process = refl;
+        role = refl;
       }) rows.threads;
       duties = duties-threads S.threads (with_row S.threads u f) S.owed (λ k. inr (paid-with_row S.threads u f (λ r h. h) k)) rows.duties;
       nano = synchronized-with_row script S.threads u f S.nano (λ r h. h) rows.nano;
@@ -124,7 +125,7 @@ sound-gain script S t h o fits rows =
     let T = moved t (Gain h o) S in
     let g = gained script S h o fits.0 rows in
     sound-of script S T (told (Gain h o) S) rows
-    (record { handles_long = g.handles_long; threads_long = g.threads_long; owed_long = refl; objects_few = rows.sized.objects_few; tables = g.tables; threads = g.threads_are; duties = g.duties; nano = g.nano })
+    (record { handles_long = g.handles_long; threads_long = g.threads_long; owed_long = refl; objects_few = rows.sized.objects_few; tables = g.tables; threads = g.threads_are; duties = g.duties; nano = g.nano; deferred = rows.deferred; requests = rows.requests })
     (lives-plus S T h o refl g.counts (λ p. refl) fits.1) (holders-plus S T h o g.none g.held)
 
 pub sound-make : (script : Script) (S : State) (t : ObjNo) (kind : Kind) (name : List ℕ) (h : Holder) → FitsMove script t (Make kind name h) S → AreRows script S → Sound script S (moved t (Make kind name h) S) (told (Make kind name h) S)
@@ -135,5 +136,5 @@ sound-make script S t kind name h fits rows =
     let room = fits.0.room in
     let long = length_push S.objects (Some (new_object kind name)) in
     sound-of script S T (told (Make kind name h) S) rows
-    (record { handles_long = g.handles_long; threads_long = g.threads_long; owed_long = refl; objects_few = omega arith; tables = g.tables; threads = g.threads_are; duties = g.duties; nano = g.nano })
+    (record { handles_long = g.handles_long; threads_long = g.threads_long; owed_long = refl; objects_few = omega arith; tables = g.tables; threads = g.threads_are; duties = g.duties; nano = g.nano; deferred = rows.deferred; requests = rows.requests })
     (lives-made S T (new_object kind name) h o refl refl refl g.counts (λ p. refl)) (holders-plus S T h o g.none g.held)

@@ -93,6 +93,7 @@ lost-use script S t u o uses going few rows =
       threads_are = threads-with_row script S.threads u f (λ r is h. record {
         thread = record { process = h.process; link = h.link; priority = h.priority; next_instruction = h.next_instruction; unused = λ before. refl; registers = h.registers };
         process = refl;
+        role = refl;
       }) rows.threads;
       duties = duties-threads S.threads (with_row S.threads u f) S.owed (λ k. inr (paid-with_row S.threads u f (λ r h. h) k)) rows.duties;
       nano = synchronized-with_row script S.threads u f S.nano (λ r h. h) rows.nano;

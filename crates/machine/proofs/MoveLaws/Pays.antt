@@ -97,6 +97,8 @@ sound-pay_sweep script S t o rest e inside rows =
       threads = rows.threads;
       duties = duties-without_first S.threads S.owed t rows.duties;
       nano = rows.nano;
+      deferred = rows.deferred;
+      requests = rows.requests;
     })
     (lives-swept S T o there dead refl counts (λ p. let a = paid p in omega arith))
     (record { fits = (tt, tt); moves = λ g x. let a = total-paying (owed_by g x) S.owed t (Sweep o) rest here e in omega arith }))

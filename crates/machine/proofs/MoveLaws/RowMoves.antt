@@ -11,7 +11,9 @@ use Rattle.entry_log.specs.declared.effect.Holder.TheVariants.{Temp, Link}
 use Rattle.entry_log.specs.declared.effect.Effect.{Effect}
 use Rattle.entry_log.specs.declared.effect.Effect.TheVariants.{Seek, Missed}
 use Rattle.entry_log.specs.declared.step.Part.{Part}
+use Rattle.state_rows.specs.declared.deferred.DeferredRows.{DeferredRows}
 use Rattle.state_rows.specs.declared.nano.NanoRows.{NanoRows}
+use Rattle.state_rows.specs.declared.requests.RequestRows.{RequestRows}
 use Rattle.machine.specs.declared.moves.Move.TheVariants.{Find, Miss, GoOn, Write, Wait, Wake, SetPriority}
 use Rattle.machine.specs.declared.state.Found.TheVariants.{Object}
 use Rattle.machine.specs.declared.state.Waiting.{Waiting}
@@ -26,7 +28,7 @@ use Rattle.machine.specs.Holding.{is_holder, held_after_all, EachFitsHolders, li
 use Rattle.machine.specs.HeldIn.{held_in, use_names}
 use Rattle.machine.specs.Task.{is_returning}
 use Rattle.machine.specs.Fits.{FitsMove}
-use Rattle.machine.specs.WellFormed.{IsThread, AreSynchronized, AreRows, part_of}
+use Rattle.machine.specs.WellFormed.{IsThread, AreSynchronized, AreCalls, AreRequests, AreRows, part_of}
 use Rattle.machine.proofs.Lives.Kinds.{IsQuiet, lives-quiet}
 use Rattle.machine.proofs.Holders.ThreadRows.{row_holds, rows-with_row, row-other}
 use Rattle.machine.proofs.References.Counts.{count-with_row, kernel-with_row}
@@ -78,13 +80,15 @@ sound-row script S u f effects keeps thread paid quiet nano rows =
       threads = threads-with_row script S.threads u f thread rows.threads;
       duties = duties-threads S.threads (with_row S.threads u f) S.owed paid rows.duties;
       nano = nano;
+      deferred = rows.deferred;
+      requests = rows.requests;
     })
     (lives-quiet S T effects refl quiet.quiet (λ o. let a = counts o in let b = quiet.pluses o in let c = quiet.quiet.minuses o in omega arith) (λ o. refl) (λ o h. let b = quiet.pluses o in absurd (omega arith)) quiet.found)
     (record { fits = quiet.fits; moves = λ g x. quiet.after g x ∙ sym (held g x) })
 
 pub sound-find : (script : Script) (S : State) (t u o : ObjNo) → FitsMove script t (Find u o) S → AreRows script S → Sound script S (moved t (Find u o) S) (told (Find u o) S)
 sound-find script S t u o fits rows = sound-row script S u (λ row. record row { found = Object o }) (Seek o ∷ []) (record { link = λ row. refl; uses = λ row. refl })
-    (λ row is h. record { thread = record { process = h.process; link = h.link; priority = h.priority; next_instruction = h.next_instruction; unused = h.unused; registers = h.registers }; process = refl })
+    (λ row is h. record { thread = record { process = h.process; link = h.link; priority = h.priority; next_instruction = h.next_instruction; unused = h.unused; registers = h.registers }; process = refl; role = refl })
     (λ k. inr (paid-with_row S.threads u (λ row. record row { found = Object o }) (λ row h. h) k))
     (record {
       quiet = record { minuses = λ p. refl; deaths = λ p. refl; removals = λ p. refl };
@@ -96,14 +100,14 @@ sound-find script S t u o fits rows = sound-row script S u (λ row. record row {
 
 pub sound-write : (script : Script) (S : State) (t u : ObjNo) (x value : ℕ) → FitsMove script t (Write u x value) S → AreRows script S → Sound script S (moved t (Write u x value) S) (told (Write u x value) S)
 sound-write script S t u x value fits rows = sound-row script S u (λ row. record row { registers = slice_set row.registers x value }) [] (record { link = λ row. refl; uses = λ row. refl })
-    (λ row is h. record { thread = record { process = h.process; link = h.link; priority = h.priority; next_instruction = h.next_instruction; unused = h.unused; registers = length-set row.registers x value ∙ h.registers }; process = refl })
+    (λ row is h. record { thread = record { process = h.process; link = h.link; priority = h.priority; next_instruction = h.next_instruction; unused = h.unused; registers = length-set row.registers x value ∙ h.registers }; process = refl; role = refl })
     (λ k. inr (paid-with_row S.threads u (λ row. record row { registers = slice_set row.registers x value }) (λ row h. h) k)) (silent S) (synchronized-with_row script S.threads u (λ row. record row { registers = slice_set row.registers x value }) S.nano (λ row h. h) rows.nano) rows
 
 pub sound-go_on : (script : Script) (S : State) (t u : ObjNo) (part : Part) → FitsMove script t (GoOn u part) S → AreRows script S → Sound script S (moved t (GoOn u part) S) (told (GoOn u part) S)
 sound-go_on script S t u part fits rows =
     let f : ThreadRow → ThreadRow = λ row. record row { part = Some part } in
     sound-row script S u f [] (record { link = λ row. refl; uses = λ row. refl })
-    (λ row is h. record { thread = record { process = h.process; link = h.link; priority = h.priority; next_instruction = h.next_instruction; unused = fits.unused row is; registers = h.registers }; process = refl })
+    (λ row is h. record { thread = record { process = h.process; link = h.link; priority = h.priority; next_instruction = h.next_instruction; unused = fits.unused row is; registers = h.registers }; process = refl; role = refl })
     (λ k. elim (cases_Bool (is_returning (Some part))) as (λ _. (get_or S.owed k [] ≡ []) ⊎ IsPaidIn S.threads (with_row S.threads u f) k) [
       | inr going ↦ inr (paid-with_row S.threads u f (λ row h. going) k)
       | inl returns ↦ elim (cases_eq u.0 k) as (λ _. (get_or S.owed k [] ≡ []) ⊎ IsPaidIn S.threads (with_row S.threads u f) k) [
@@ -118,7 +122,7 @@ sound-go_on script S t u part fits rows =
 -- a change of what a thread waits for
 sound-waiting : (script : Script) (S : State) (u : ObjNo) (what : Waiting) → AreSynchronized script (with_row S.threads u (with_waiting what)) S.nano → AreRows script S → Sound script S (record S { threads = with_row S.threads u (with_waiting what) }) []
 sound-waiting script S u what nano rows = sound-row script S u (with_waiting what) [] (record { link = λ row. refl; uses = λ row. refl })
-    (λ row is h. record { thread = record { process = h.process; link = h.link; priority = h.priority; next_instruction = h.next_instruction; unused = h.unused; registers = h.registers }; process = refl })
+    (λ row is h. record { thread = record { process = h.process; link = h.link; priority = h.priority; next_instruction = h.next_instruction; unused = h.unused; registers = h.registers }; process = refl; role = refl })
     (λ k. inr (paid-with_row S.threads u (with_waiting what) (λ row h. h) k)) (silent S) nano rows
 
 pub sound-wait : (script : Script) (S : State) (t u : ObjNo) (what : Waiting) → FitsMove script t (Wait u what) S → AreRows script S → Sound script S (moved t (Wait u what) S) (told (Wait u what) S)
@@ -129,16 +133,16 @@ sound-wake script S t u rows = sound-waiting script S u waiting.Nothing (synchro
 
 pub sound-priority : (script : Script) (S : State) (t u : ObjNo) (priority : ℕ) → FitsMove script t (SetPriority u priority) S → AreRows script S → Sound script S (moved t (SetPriority u priority) S) (told (SetPriority u priority) S)
 sound-priority script S t u priority fits rows = sound-row script S u (with_priority priority) [] (record { link = λ row. refl; uses = λ row. refl })
-    (λ row is h. record { thread = record { process = h.process; link = h.link; priority = fits; next_instruction = h.next_instruction; unused = h.unused; registers = h.registers }; process = refl })
+    (λ row is h. record { thread = record { process = h.process; link = h.link; priority = fits; next_instruction = h.next_instruction; unused = h.unused; registers = h.registers }; process = refl; role = refl })
     (λ k. inr (paid-with_row S.threads u (with_priority priority) (λ row h. h) k)) (silent S) (synchronized-with_row script S.threads u (with_priority priority) S.nano (λ row h. h) rows.nano) rows
 
--- a change of the rows of threads that synchronize leaves all else
-pub sound-rest : (script : Script) (S : State) (nano : NanoRows) (effects : List Effect) → IsSilent S effects → AreSynchronized script S.threads nano → AreRows script S → Sound script S (record S { nano = nano }) effects
-sound-rest script S nano effects quiet sound rows =
-    let T : State = record S { nano = nano } in
-    sound-of script S T effects rows (record { handles_long = refl; threads_long = refl; owed_long = refl; objects_few = rows.sized.objects_few; tables = rows.tables; threads = rows.threads; duties = rows.duties; nano = sound })
+-- a change of the rows of threads that synchronize, of deferred function calls and of requests leaves all else
+pub sound-rest : (script : Script) (S : State) (nano : NanoRows) (calls : DeferredRows) (requests : RequestRows) (effects : List Effect) → IsSilent S effects → AreSynchronized script S.threads nano → AreCalls script calls → AreRequests (length S.threads) requests → AreRows script S → Sound script S (record S { nano = nano; deferred = calls; requests = requests }) effects
+sound-rest script S nano calls requests effects quiet sound called requested rows =
+    let T : State = record S { nano = nano; deferred = calls; requests = requests } in
+    sound-of script S T effects rows (record { handles_long = refl; threads_long = refl; owed_long = refl; objects_few = rows.sized.objects_few; tables = rows.tables; threads = rows.threads; duties = rows.duties; nano = sound; deferred = called; requests = requested })
     (lives-quiet S T effects refl quiet.quiet (λ o. let b = quiet.pluses o in let c = quiet.quiet.minuses o in omega arith) (λ o. refl) (λ o h. let b = quiet.pluses o in absurd (omega arith)) quiet.found)
     (record { fits = quiet.fits; moves = quiet.after })
 
 pub sound-miss : (script : Script) (S : State) (t o : ObjNo) → AreRows script S → Sound script S (moved t (Miss o) S) (told (Miss o) S)
-sound-miss script S t o rows = sound-rest script S S.nano (Missed o ∷ []) (record { quiet = record { minuses = λ p. refl; deaths = λ p. refl; removals = λ p. refl }; pluses = λ p. refl; found = λ p h. absurd (omega arith); fits = (tt, tt); after = λ g x. refl }) rows.nano rows
+sound-miss script S t o rows = sound-rest script S S.nano S.deferred S.requests (Missed o ∷ []) (record { quiet = record { minuses = λ p. refl; deaths = λ p. refl; removals = λ p. refl }; pluses = λ p. refl; found = λ p h. absurd (omega arith); fits = (tt, tt); after = λ g x. refl }) rows.nano rows.deferred rows.requests rows

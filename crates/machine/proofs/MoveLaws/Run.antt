@@ -7,7 +7,7 @@ use Rattle.entry_log.specs.declared.effect.Effect.{Effect}
 use Rattle.state_rows.specs.declared.duty.Owed.{Owed}
 use Rattle.state_rows.specs.declared.duty.Owed.TheVariants.{Close, Sweep}
 use Rattle.machine.specs.declared.moves.Move.{Move}
-use Rattle.machine.specs.declared.moves.Move.TheVariants.{Make, Gain, Lose, Find, Miss, GoOn, Write, Advance, Wait, Wake, SetPriority, Nano, Pay}
+use Rattle.machine.specs.declared.moves.Move.TheVariants.{Make, Gain, Lose, Find, Miss, GoOn, Write, Advance, Wait, Wake, SetPriority, Nano, Deferred, Requests, Pay}
 use Rattle.machine.specs.declared.state.State.{State}
 use Rattle.machine.specs.Rows.{owed_of}
 use Rattle.machine.specs.Moves.{moved, told, perform, tell, closed_effects, link_of, owed_by_close, owed_use, use_of}
@@ -19,6 +19,7 @@ use Rattle.machine.proofs.References.Effects.{removals-append}
 use Rattle.machine.proofs.RowLaws.Duties.{weight-owing}
 use Rattle.machine.proofs.MoveLaws.Sound.{Sound, sound-then, sound-none}
 use Rattle.machine.proofs.MoveLaws.NanoMoves.{sound-nano, nano_silent}
+use Rattle.machine.proofs.MoveLaws.CallMoves.{sound-deferred, request_silent, sound-requests}
 use Rattle.machine.proofs.MoveLaws.RowMoves.{sound-find, sound-miss, sound-go_on, sound-write, sound-wait, sound-wake, sound-priority}
 use Rattle.machine.proofs.MoveLaws.Advance.{sound-advance, use_weight}
 use Rattle.machine.proofs.MoveLaws.Gains.{sound-gain, sound-make}
@@ -40,6 +41,8 @@ sound-move script S t (Wait u what) fits few s = sound-wait script S t u what fi
 sound-move script S t (Wake u) fits few s = sound-wake script S t u s.rows
 sound-move script S t (SetPriority u priority) fits few s = sound-priority script S t u priority fits s.rows
 sound-move script S t (Nano m) fits few s = sound-nano script S t m fits s.rows
+sound-move script S t (Deferred m) fits few s = sound-deferred script S t m fits s.rows
+sound-move script S t (Requests m) fits few s = sound-requests script S t m fits s.rows
 sound-move script S t (Pay what) fits few s = absurd fits
 
 -- what paying the oldest duty does
@@ -63,6 +66,7 @@ close_removes false h o p = refl
 move_removes : (script : Script) (S : State) (t : ObjNo) (m : Move) (p : ObjNo) → FitsMove script t m S → removals (told m S) p ≡ 0
 move_removes script S t (Lose h o) p fits = close_removes (is_last S o) h o p
 move_removes script S t (Nano m) p fits = (nano_silent S m).quiet.removals p
+move_removes script S t (Requests m) p fits = (request_silent S m).quiet.removals p
 move_removes script S t (Pay what) p fits = absurd fits
 move_removes script S t _ p fits = refl
 

@@ -1,12 +1,12 @@
 -- All that moves do, in one record, and its composition.
-use Rattle.std.proofs.Common.{◌≡◌, ◌≤◌, List, [], ◌++◌, length, arith, refl, ◌∙◌}
+use Rattle.std.proofs.Common.{◌≡◌, ℕ, ◌≤◌, List, [], ◌++◌, length, arith, refl, sym, subst, ◌∙◌}
 use Rattle.sym_base.specs.declared.limits.TheConstants.Limits.{OBJECTS}
 use Rattle.sym_base.specs.declared.number.ObjNo.{ObjNo}
 use Rattle.script_types.specs.declared.script.Script.{Script}
 use Rattle.entry_log.specs.declared.effect.Effect.{Effect}
 use Rattle.machine.specs.declared.state.State.{State}
 use Rattle.machine.specs.Told.{removals}
-use Rattle.machine.specs.WellFormed.{AreTables, AreThreads, AreDuties, AreSynchronized, AreRows}
+use Rattle.machine.specs.WellFormed.{AreTables, AreThreads, AreDuties, AreSynchronized, AreCalls, AreRequests, AreRows}
 use Rattle.machine.proofs.Lives.LivesMove.{LivesMove, lives-then, lives-kept}
 use Rattle.machine.proofs.Lives.Kinds.{lives-none}
 use Rattle.machine.proofs.Holders.HoldersMove.{HoldersMove, holders-then, holders-none}
@@ -39,6 +39,8 @@ pub record AreParts (script : Script) (S T : State) : Type 0 where
   pub threads : AreThreads script T.threads
   pub duties : AreDuties T.threads T.owed
   pub nano : AreSynchronized script T.threads T.nano
+  pub deferred : AreCalls script T.deferred
+  pub requests : AreRequests (length S.threads) T.requests
 
 pub sound-of : (script : Script) (S T : State) (effects : List Effect) → AreRows script S → AreParts script S T → LivesMove S T effects → HoldersMove S T effects → Sound script S T effects
 sound-of script S T effects rows parts lives holders =
@@ -53,6 +55,7 @@ sound-of script S T effects rows parts lives holders =
           tables = let a = parts.handles_long in let b = parts.threads_long in let c = s.tables in omega arith;
           duties = let a = parts.owed_long in let b = parts.threads_long in let c = s.duties in omega arith;
           first = let b = parts.threads_long in let c = s.first in omega arith;
+          supervised = let b = parts.threads_long in let c = s.supervised in omega arith;
           threads_few = let b = parts.threads_long in omega arith;
           objects_few = parts.objects_few;
         };
@@ -60,6 +63,8 @@ sound-of script S T effects rows parts lives holders =
         threads = parts.threads;
         duties = parts.duties;
         nano = parts.nano;
+        deferred = parts.deferred;
+        requests = subst (λ (n : ℕ). AreRequests n T.requests) (sym parts.threads_long) parts.requests;
         lives = lives-kept S T effects lives rows.lives;
       };
       long = parts.threads_long;

@@ -4,13 +4,16 @@ use Rattle.entry_log.specs.declared.effect.Holder.{Holder}
 use Rattle.state_rows.specs.declared.duty.Owed.TheVariants.{Close, Sweep}
 use Rattle.sym_base.specs.declared.number.ObjNo.{ObjNo}
 use Rattle.machine.specs.declared.moves.Move.{Move}
-use Rattle.machine.specs.declared.moves.Move.TheVariants.{Lose, Nano, Pay}
+use Rattle.machine.specs.declared.moves.Move.TheVariants.{Lose, Nano, Requests, Pay}
 use Rattle.machine.specs.declared.nano_move.NanoMove.{NanoMove}
 use Rattle.machine.specs.declared.nano_move.NanoMove.TheVariants.{Take, Give}
+use Rattle.machine.specs.declared.request_move.RequestMove.{RequestMove}
+use Rattle.machine.specs.declared.request_move.RequestMove.TheVariants.{Complete}
 use Rattle.machine.specs.declared.state.State.{State}
 use Rattle.machine.specs.Fits.{most_told}
 use Rattle.machine.specs.Moves.{moved, told, tell, closed_effects}
 use Rattle.machine.specs.NanoMoves.{nano_told}
+use Rattle.machine.specs.RequestMoves.{request_told}
 use Rattle.machine.specs.References.{total, is_last}
 
 closed_few : (last : Bool) (h : Holder) (o : ObjNo) → length (closed_effects last h o) ≤ 2
@@ -22,11 +25,16 @@ nano_few (Take t f) = omega arith
 nano_few (Give t f) = omega arith
 nano_few _ = omega arith
 
+request_few : (m : RequestMove) → length (request_told m) ≤ 1
+request_few (Complete d t s code) = omega arith
+request_few _ = omega arith
+
 told_few : (m : Move) (S : State) → length (told m S) ≤ most_told m
 told_few (Lose h o) S = closed_few (is_last S o) h o
 told_few (Pay (Close h o)) S = closed_few (is_last S o) h o
 told_few (Pay (Sweep o)) S = omega arith
 told_few (Nano m) S = nano_few m
+told_few (Requests m) S = request_few m
 told_few _ S = omega arith
 
 pub tell_few : (t : ObjNo) (ms : List Move) (S : State) → length (tell t ms S) ≤ total most_told ms

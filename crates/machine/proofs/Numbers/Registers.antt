@@ -1,7 +1,8 @@
 -- What holds of each instruction of a script holds of the one that a thread is at.
 use Rattle.std.proofs.Common.{◌≡◌, ℕ, zero, suc, ◌≤◌, Bool, true, false, List, [], ◌∷◌, refl, subst, Option, Some, None}
 use Rattle.std.specs.List.{list_all}
-use Rattle.std.specs.Prelude.{slice_get, if◌then◌else◌}
+use Rattle.std.specs.Prelude.{slice_get}
+use Rattle.std.proofs.lemmas.Bool.{leb-true}
 use Rattle.script_types.specs.declared.declaration.ThreadDecl.{ThreadDecl}
 use Rattle.script_types.specs.declared.instruction.Instr.{Instr}
 use Rattle.script_types.specs.declared.instruction.Instr.TheVariants as instr
@@ -12,15 +13,16 @@ use Rattle.script_types.specs.Ranges.{is_source_line}
 use Rattle.script_types.specs.Resolves.{instr_resolves}
 use Rattle.script_types.specs.Shape.{HasRegisters, IsShaped}
 use Rattle.script_types.proofs.LimitLaws.{both, in_form, number_in}
+use Rattle.state_rows.specs.declared.deferred.DeferredRows.{DeferredRows}
 use Rattle.state_rows.specs.declared.duty.Owed.{Owed}
 use Rattle.machine.specs.declared.state.Role.{Role}
-use Rattle.machine.specs.declared.state.Role.TheVariants.{Supervisor, Declared}
+use Rattle.machine.specs.declared.state.Role.TheVariants.{Supervisor, Queue, Declared}
 use Rattle.machine.specs.declared.state.ThreadRow.{ThreadRow}
 use Rattle.machine.specs.declared.task.Task.TheVariants.{Step}
-use Rattle.machine.specs.Task.{declared_of, instructions_in, instruction, is_returning, pay_or_step, return_or, task_of_row}
+use Rattle.machine.specs.Task.{declared_of, instructions_in, instruction, is_returning, next_call, pay_or, return_or, run_or, step_or_end, task_of_row}
 
 -- what each of a list passes, the one at a place does
-all_at : {A : Type 0} (test : A → Bool) (xs : List A) (k : ℕ) (x : A) → list_all test xs ≡ true → slice_get xs k ≡ Some x → test x ≡ true
+pub all_at : {A : Type 0} (test : A → Bool) (xs : List A) (k : ℕ) (x : A) → list_all test xs ≡ true → slice_get xs k ≡ Some x → test x ≡ true
 all_at test [] k x all at = absurd (cc)
 all_at test (y ∷ ys) zero x all at =
     let e : y ≡ x = cc in
@@ -34,6 +36,7 @@ Each script P = (k : ℕ) (thread : ThreadDecl) → slice_get script.threads k �
 in_declaration : (script : Script) (P : Instr → Type 0) → Each script P → (role : Role) (declared : Option ThreadDecl) → declared_of script role ≡ declared → (place : ℕ) (instr : Instr) → slice_get (instructions_in declared) place ≡ Some instr → P instr
 in_declaration script P each role None at place instr there = absurd (cc)
 in_declaration script P each Supervisor (Some declared) at place instr there = absurd (cc)
+in_declaration script P each (Queue queue) (Some declared) at place instr there = absurd (cc)
 in_declaration script P each (Declared k) (Some declared) at place instr there = each k declared at place instr there
 
 -- holds of the one that a thread is at
@@ -61,19 +64,25 @@ has_ranges script row instr shaped there = of_test script (λ what. is_source_li
 pub priority_small : (x priority : ℕ) → is_source_line (line.Instr (instr.Priority x priority)) ≡ true → priority ≤ 63
 priority_small x priority h = let v = in_form (instr_form (instr.Priority x priority)) h in (number_in 0 63 priority v.0.1.0).1
 
+-- a device is one of sixteen, and so is a status
+pub request_small : (d s : ℕ) → is_source_line (line.Instr (instr.Request d s)) ≡ true → (d ≤ 15) × (s ≤ 15)
+request_small d s h = let v = in_form (instr_form (instr.Request d s)) h in (leb-true d 15 v.0.0, leb-true s 15 v.0.1.0)
+
 -- of the step of a row
-of_row : (script : Script) (protected : Bool) (first : Option Owed) (row : ThreadRow) (instr : Instr) → IsShaped script → (returns : Bool) (at : Option Instr) → instruction script row ≡ at
-    → return_or returns at (pay_or_step protected first at) ≡ Some (Step instr) → HasRegisters instr
-of_row script protected first row instr shaped true (Some x) at next = absurd (cc)
-of_row script protected (Some what) row instr shaped true None at next = absurd (cc)
-of_row script true None row instr shaped true None at next = absurd (cc)
-of_row script false None row instr shaped true None at next = absurd (cc)
-of_row script protected (Some what) row instr shaped false x at next = absurd (cc)
-of_row script true None row instr shaped false None at next = absurd (cc)
-of_row script false None row instr shaped false None at next = absurd (cc)
-of_row script protected None row instr shaped false (Some x) at next = has_registers script row instr shaped (cc)
+of_row : (script : Script) (protected : Bool) (call : Option ℕ) (first : Option Owed) (row : ThreadRow) (instr : Instr) → IsShaped script → (returns : Bool) (at : Option Instr) → instruction script row ≡ at
+    → return_or returns at (pay_or first (run_or call (step_or_end protected at))) ≡ Some (Step instr) → HasRegisters instr
+of_row script protected call first row instr shaped true (Some x) at next = absurd (cc)
+of_row script protected call (Some what) row instr shaped true None at next = absurd (cc)
+of_row script protected (Some dfc) None row instr shaped true None at next = absurd (cc)
+of_row script true None None row instr shaped true None at next = absurd (cc)
+of_row script false None None row instr shaped true None at next = absurd (cc)
+of_row script protected call (Some what) row instr shaped false x at next = absurd (cc)
+of_row script protected (Some dfc) None row instr shaped false x at next = absurd (cc)
+of_row script true None None row instr shaped false None at next = absurd (cc)
+of_row script false None None row instr shaped false None at next = absurd (cc)
+of_row script protected None None row instr shaped false (Some x) at next = has_registers script row instr shaped (cc)
 
 -- of a step that a thread does next
-pub task_has_registers : (script : Script) (protected : Bool) (first : Option Owed) (row : Option ThreadRow) (instr : Instr) → IsShaped script → task_of_row script protected first row ≡ Some (Step instr) → HasRegisters instr
-task_has_registers script protected first None instr shaped next = absurd (cc)
-task_has_registers script protected first (Some row) instr shaped next = of_row script protected first row instr shaped (is_returning row.part) (instruction script row) refl next
+pub task_has_registers : (script : Script) (calls : DeferredRows) (protected : Bool) (first : Option Owed) (row : Option ThreadRow) (instr : Instr) → IsShaped script → task_of_row script calls protected first row ≡ Some (Step instr) → HasRegisters instr
+task_has_registers script calls protected first None instr shaped next = absurd (cc)
+task_has_registers script calls protected first (Some row) instr shaped next = of_row script protected (next_call calls row.role) first row instr shaped (is_returning row.part) (instruction script row) refl next

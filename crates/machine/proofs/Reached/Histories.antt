@@ -1,7 +1,9 @@
 -- Histories, one entry longer.
-use Rattle.state_rows.specs.Nano.{in_place_of, actor_of}
+use Rattle.state_rows.specs.Deferred.{next_immediate}
+use Rattle.state_rows.specs.Nano.{in_place_of, actor_of, item_or}
+use Rattle.state_rows.specs.declared.deferred.Item.{Item}
 use Rattle.std.proofs.Common.{◌≡◌, ℕ, ◌+◌, List, [], ◌∷◌, ◌++◌, length, arith, refl, subst, ap, sym, ◌∙◌, Option, Some, None, Bool, true}
-use Rattle.std.specs.Prelude.{IsTrue, option_map}
+use Rattle.std.specs.Prelude.{IsTrue, is_some, option_map}
 use Rattle.sym_base.specs.declared.number.ObjNo.{ObjNo}
 use Rattle.script_types.specs.declared.script.Script.{Script}
 use Rattle.script_types.specs.declared.script.Slot.{Slot}
@@ -9,7 +11,7 @@ use Rattle.script_types.specs.declared.script.Slot.TheVariants.{Go, Irq, Tick}
 use Rattle.entry_log.specs.declared.entry.Entry.{Entry}
 use Rattle.machine.specs.declared.state.State.{State}
 use Rattle.machine.specs.Boot.{boot}
-use Rattle.machine.specs.Choice.{chosen, first_ready}
+use Rattle.machine.specs.Choice.{chosen, chosen_thread, first_ready}
 use Rattle.machine.specs.History.{next, after, after_from, CanAct, IsNext, IsLegal, IsLegalFrom}
 use Rattle.machine.specs.Run.{slot_actor}
 use Rattle.machine.specs.Slots.{IsDeclared}
@@ -38,11 +40,15 @@ true-is h = h
 
 -- the chosen actor may act
 pub can_act_chosen : (script : Script) (S : State) → IsWellFormed script S → CanAct script S (chosen S)
-can_act_chosen script S formed = by (first_ready S) refl
+can_act_chosen script S formed = by (next_immediate S.deferred) refl
   where
-    by : (found : Option ObjNo) → first_ready S ≡ found → CanAct script S (actor_of (option_map (in_place_of S.nano) found))
-    by None e = ap (λ (found : Option ObjNo). actor_of (option_map (in_place_of S.nano) found)) e
-    by (Some t) e = true-is (place_able script S t formed.rows (sym (formed.ready.exact t) ∙ first_listed S t e))
+    thread : next_immediate S.deferred ≡ None → (found : Option ObjNo) → first_ready S ≡ found → CanAct script S (actor_of (option_map (in_place_of S.nano) found))
+    thread none None e = ap (λ (item : Option Item). item_or item (chosen_thread S)) none ∙ ap (λ (found : Option ObjNo). actor_of (option_map (in_place_of S.nano) found)) e
+    thread none (Some t) e = true-is (place_able script S t formed.rows (sym (formed.ready.exact t) ∙ first_listed S t e))
+
+    by : (item : Option Item) → next_immediate S.deferred ≡ item → CanAct script S (item_or item (chosen_thread S))
+    by (Some item) e = true-is (ap is_some e)
+    by None e = thread e (first_ready S) refl
 
 -- so may that of a slot
 pub slot_can : (script : Script) (S : State) (slot : Slot) → IsDeclared script slot → IsWellFormed script S → CanAct script S (slot_actor S slot)

@@ -1,20 +1,26 @@
 -- After each action the ready list has exactly the threads that are ready, each once.
-use Rattle.std.proofs.Common.{◌≡◌, inl, inr, List, [], ◌∷◌, ◌++◌, refl, sym, ap, ◌∙◌, Option, Some, None, Bool, true, false}
+use Rattle.std.proofs.Common.{◌≡◌, ◌+◌, ◌≤◌, arith, inl, inr, List, [], ◌∷◌, ◌++◌, refl, sym, ap, ◌∙◌, Option, Some, None, Bool, true, false}
 use Rattle.std.specs.Prelude.{◌==◌, ◌&&◌, ◌||◌, not, if◌then◌else◌, filter}
 use Rattle.std.proofs.lemmas.Bool.{cases_eq, cases_Bool, eq-eqb, eqb-true, eqb-false, ne_eqb, or_parts}
 use Rattle.sym_base.specs.declared.number.ObjNo.{ObjNo}
 use Rattle.script_types.specs.declared.script.Script.{Script}
+use Rattle.state_rows.specs.declared.duty.Owed.{Owed}
+use Rattle.machine.specs.declared.deferred_move.DeferredMove.TheVariants.{Add}
 use Rattle.machine.specs.declared.moves.Move.{Move}
-use Rattle.machine.specs.declared.moves.Move.TheVariants.{SetPriority}
+use Rattle.machine.specs.declared.moves.Move.TheVariants.{SetPriority, Deferred, Pay}
 use Rattle.machine.specs.declared.state.State.{State}
-use Rattle.machine.specs.Moves.{moved, perform}
+use Rattle.machine.specs.Moves.{moved, told, perform}
+use Rattle.machine.specs.Fits.{FitsMove, EachFits, Sane, most_owed}
+use Rattle.machine.specs.References.{total}
+use Rattle.machine.specs.Rows.{owed_of}
 use Rattle.machine.specs.Arrivals.{is_listed, unlisted, touched, taken_out, arrive, arrivals, ready_after}
 use Rattle.machine.specs.Task.{is_ready}
 use Rattle.machine.specs.Tick.{moved_behind}
-use Rattle.machine.specs.WellFormed.{AreApart, IsReadyList}
+use Rattle.machine.specs.WellFormed.{AreApart, AreThreads, IsReadyList, weight}
+use Rattle.machine.proofs.MoveLaws.Run.{sound-move, weight-move, sane-after}
 use Rattle.machine.proofs.References.Same.{same_object}
 use Rattle.machine.proofs.Readiness.ReadyLists.{listed-filter, listed-push, listed-last, unlisted-push, apart-push, apart-filter}
-use Rattle.machine.proofs.Readiness.Touched.{untouched}
+use Rattle.machine.proofs.Readiness.Touched.{JoinsOwnQueue, untouched}
 
 -- each thread that is ready is listed, and none twice
 pub record IsComplete (script : Script) (S : State) (qs : List ObjNo) : Type 0 where
@@ -71,18 +77,27 @@ apart-taken_out : (m : Move) (qs : List ObjNo) → AreApart qs → AreApart (tak
 apart-taken_out (SetPriority v priority) qs h = apart-filter (λ q. not (q.0 == v.0)) qs h
 apart-taken_out _ qs h = h
 
-complete-move : (script : Script) (S : State) (t : ObjNo) (m : Move) (qs : List ObjNo) → IsComplete script S qs → IsComplete script (moved t m S) (arrive script (moved t m S) (touched t m) (taken_out m qs))
-complete-move script S t m qs h = record {
+complete-move : (script : Script) (S : State) (t : ObjNo) (m : Move) (qs : List ObjNo) → AreThreads script S.threads → JoinsOwnQueue m S → IsComplete script S qs → IsComplete script (moved t m S) (arrive script (moved t m S) (touched t m) (taken_out m qs))
+complete-move script S t m qs threads joins h = record {
   listed = λ u ready. elim (cases_Bool (is_listed (touched t m) u)) as (λ _. is_listed (arrive script (moved t m S) (touched t m) (taken_out m qs)) u ≡ true) [
     | inl there ↦ arrive-has script (moved t m S) (touched t m) (taken_out m qs) u there ready
-    | inr none ↦ arrive-keeps script (moved t m S) (touched t m) (taken_out m qs) u (listed-taken_out t m qs u none (h.listed u (sym (untouched script S t m u none) ∙ ready)))
+    | inr none ↦ arrive-keeps script (moved t m S) (touched t m) (taken_out m qs) u (listed-taken_out t m qs u none (h.listed u (sym (untouched script S t m u threads joins none) ∙ ready)))
   ];
   once = arrive-apart script (moved t m S) (touched t m) (taken_out m qs) (apart-taken_out m qs h.once);
 }
 
-complete-moves : (script : Script) (S : State) (t : ObjNo) (ms : List Move) (qs : List ObjNo) → IsComplete script S qs → IsComplete script (perform t ms S) (arrivals script t ms S qs)
-complete-moves script S t [] qs h = h
-complete-moves script S t (m ∷ ms) qs h = complete-moves script (moved t m S) t ms (arrive script (moved t m S) (touched t m) (taken_out m qs)) (complete-move script S t m qs h)
+-- a move that fits makes a call join its own queue
+pub joins_own : (script : Script) (S : State) (t : ObjNo) (m : Move) → FitsMove script t m S → JoinsOwnQueue m S
+joins_own script S t (Deferred (Add dfc queue)) fits = fits.1
+joins_own script S t _ fits = tt
+
+complete-moves : (script : Script) (S : State) (t : ObjNo) (ms : List Move) (qs : List ObjNo) → EachFits script t ms S → total weight (owed_of S t) + total most_owed ms ≤ 12 → Sane script t S → IsComplete script S qs → IsComplete script (perform t ms S) (arrivals script t ms S qs)
+complete-moves script S t [] qs fits few s h = h
+complete-moves script S t (m ∷ ms) qs fits few s h =
+    let one = sound-move script S t m fits.0 (omega arith) s in
+    let w = weight-move script S t m fits.0 in
+    complete-moves script (moved t m S) t ms (arrive script (moved t m S) (touched t m) (taken_out m qs)) fits.1 (omega arith) (sane-after script S (moved t m S) t (told m S) s one)
+    (complete-move script S t m qs s.rows.threads (joins_own script S t m fits.0) h)
 
 -- those of them that are ready are the ready ones
 ready-filter : (script : Script) (S : State) (qs : List ObjNo) → IsComplete script S qs → IsReadyList script S (filter (is_ready script S) qs)
@@ -100,8 +115,15 @@ complete-of : (script : Script) (S : State) (qs : List ObjNo) → IsReadyList sc
 complete-of script S qs h = record { listed = λ u ready. h.exact u ∙ ready; once = h.once }
 
 -- the moves of an action leave the ready list exact
-pub ready-moves : (script : Script) (S : State) (t : ObjNo) (ms : List Move) → IsReadyList script S S.ready → IsReadyList script (perform t ms S) (ready_after script t ms S)
-ready-moves script S t ms h = ready-filter script (perform t ms S) (arrivals script t ms S S.ready) (complete-moves script S t ms S.ready (complete-of script S S.ready h))
+pub ready-moves : (script : Script) (S : State) (t : ObjNo) (ms : List Move) → EachFits script t ms S → total weight (owed_of S t) + total most_owed ms ≤ 12 → Sane script t S → IsReadyList script S S.ready → IsReadyList script (perform t ms S) (ready_after script t ms S)
+ready-moves script S t ms fits few s h = ready-filter script (perform t ms S) (arrivals script t ms S S.ready) (complete-moves script S t ms S.ready fits few s (complete-of script S S.ready h))
+
+-- so does a payment, and so does no move
+pub ready-pay : (script : Script) (S : State) (t : ObjNo) (what : Owed) → AreThreads script S.threads → IsReadyList script S S.ready → IsReadyList script (perform t (Pay what ∷ []) S) (ready_after script t (Pay what ∷ []) S)
+ready-pay script S t what threads h = ready-filter script (moved t (Pay what) S) (arrivals script t (Pay what ∷ []) S S.ready) (complete-move script S t (Pay what) S.ready threads tt (complete-of script S S.ready h))
+
+pub ready-none : (script : Script) (S : State) (t : ObjNo) → IsReadyList script S S.ready → IsReadyList script S (ready_after script t [] S)
+ready-none script S t h = ready-filter script S S.ready (complete-of script S S.ready h)
 
 behind_self : (t u : ObjNo) (qs : List ObjNo) → is_listed qs t ≡ true → (same : Bool) → (t.0 == u.0) ≡ same → is_listed (unlisted t qs ++ t ∷ []) u ≡ is_listed qs u
 behind_self t u qs there true e =

@@ -1,12 +1,14 @@
 -- Rows of threads, where one changes.
-use Rattle.std.proofs.Common.{◌≡◌, inl, inr, ℕ, List, length, get_or, refl, sym, subst, ap, ◌∙◌, Option, Some, None, false}
+use Rattle.std.proofs.Common.{◌≡◌, inl, inr, ℕ, ◌+◌, List, length, get_or, refl, sym, subst, ap, ◌∙◌, Option, Some, None, false}
 use Rattle.std.specs.Prelude.{option_map, is_some}
 use Rattle.std.proofs.lemmas.Bool.{cases_eq}
 use Rattle.std.proofs.lemmas.List.{length-set}
 use Rattle.sym_base.specs.declared.number.ObjNo.{ObjNo}
 use Rattle.script_types.specs.declared.script.Script.{Script}
+use Rattle.machine.specs.declared.state.Role.{Role}
 use Rattle.machine.specs.declared.state.ThreadRow.{ThreadRow}
 use Rattle.machine.specs.Rows.{with_row}
+use Rattle.machine.specs.Task.{served_queue}
 use Rattle.machine.specs.WellFormed.{IsThread, AreThreads}
 use Rattle.machine.proofs.Holders.ThreadRows.{row-here, row-other}
 
@@ -14,6 +16,7 @@ use Rattle.machine.proofs.Holders.ThreadRows.{row-here, row-other}
 pub record KeepsThread (script : Script) (count : ℕ) (old new : ThreadRow) : Type 0 where
   pub thread : IsThread script count new
   pub process : new.process ≡ old.process
+  pub role : new.role ≡ old.role
 
 pub length-with_row : (threads : List (Option ThreadRow)) (t : ObjNo) (f : ThreadRow → ThreadRow) → length (with_row threads t f) ≡ length threads
 length-with_row threads t f = length-set threads t.0 (option_map f (get_or threads t.0 None))
@@ -30,19 +33,22 @@ map_some f None row e = absurd (cc)
 map_some f (Some old) row e = (old, refl, cc)
 
 -- a row after the change is the changed one, or was there before
-was_row : (threads : List (Option ThreadRow)) (t : ObjNo) (f : ThreadRow → ThreadRow) (P : ThreadRow → Type 0) → ((old : ThreadRow) → get_or threads t.0 None ≡ Some old → P (f old)) → ((k : ℕ) (row : ThreadRow) → get_or threads k None ≡ Some row → P row) → (k : ℕ) (row : ThreadRow) → get_or (with_row threads t f) k None ≡ Some row → P row
-was_row threads t f P here there k row is = elim (cases_eq t.0 k) as (λ _. P row) [
-  | inl at ↦ let was = map_some f (get_or threads t.0 None) row (sym (row-here threads t f k at) ∙ is) in subst P was.2 (here was.0 was.1)
+was_row : (threads : List (Option ThreadRow)) (t : ObjNo) (f : ThreadRow → ThreadRow) (P : ℕ → ThreadRow → Type 0) → ((old : ThreadRow) → get_or threads t.0 None ≡ Some old → P t.0 (f old)) → ((k : ℕ) (row : ThreadRow) → get_or threads k None ≡ Some row → P k row) → (k : ℕ) (row : ThreadRow) → get_or (with_row threads t f) k None ≡ Some row → P k row
+was_row threads t f P here there k row is = elim (cases_eq t.0 k) as (λ _. P k row) [
+  | inl at ↦ let was = map_some f (get_or threads t.0 None) row (sym (row-here threads t f k at) ∙ is) in subst (λ (n : ℕ). P n row) at (subst (P t.0) was.2 (here was.0 was.1))
   | inr apart ↦ there k row (sym (row-other threads t f k apart) ∙ is)
 ]
 
 pub threads-with_row : (script : Script) (threads : List (Option ThreadRow)) (t : ObjNo) (f : ThreadRow → ThreadRow) → ((row : ThreadRow) → get_or threads t.0 None ≡ Some row → IsThread script (length threads) row → KeepsThread script (length threads) row (f row)) → AreThreads script threads → AreThreads script (with_row threads t f)
 threads-with_row script threads t f keeps h = record {
   rows = λ k row is. subst (λ (n : ℕ). IsThread script n row) (sym (length-with_row threads t f))
-      (was_row threads t f (IsThread script (length threads)) (λ old is. (keeps old is (h.rows t.0 old is)).thread) h.rows k row is);
+      (was_row threads t f (λ (n : ℕ). IsThread script (length threads)) (λ old is. (keeps old is (h.rows t.0 old is)).thread) h.rows k row is);
   processes = λ k row is. none-with_row threads t f row.process.0
-      (was_row threads t f (λ (r : ThreadRow). get_or threads r.process.0 None ≡ None)
+      (was_row threads t f (λ (n : ℕ) (r : ThreadRow). get_or threads r.process.0 None ≡ None)
       (λ old is. subst (λ (p : ObjNo). get_or threads p.0 None ≡ None) (sym (keeps old is (h.rows t.0 old is)).process) (h.processes t.0 old is)) h.processes k row is);
+  servers = λ k queue row is. was_row threads t f (λ (n : ℕ) (r : ThreadRow). served_queue r.role ≡ Some queue → n ≡ 1 + queue)
+      (λ old was serves. h.servers t.0 queue old was (subst (λ (role : Role). served_queue role ≡ Some queue) (keeps old was (h.rows t.0 old was)).role serves))
+      (λ n old was. h.servers n queue old was) k row is;
 }
 
 none_by : (x : Option ThreadRow) → is_some x ≡ false → x ≡ None

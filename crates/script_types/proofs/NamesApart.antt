@@ -1,13 +1,10 @@
 -- Lists of names of which no two are one.
-use Rattle.std.proofs.Common.{◌≡◌, ◌⊎◌, inl, inr, List, ℕ, [], ◌∷◌, ◌++◌, refl, sym, subst, ap, ◌∙◌, true, false}
-use Rattle.std.specs.Prelude.{◌||◌, not, IsTrue}
+use Rattle.std.proofs.Common.{◌≡◌, ◌⊎◌, inl, inr, List, ℕ, [], ◌∷◌, ◌++◌, sym, subst, ap, ◌∙◌, true, false}
 use Rattle.std.specs.List.{list_any}
 use Rattle.std.specs.Str.{bytes_eq}
-use Rattle.std.proofs.lemmas.Bool.{not-true, and_parts, or_parts, or_from, false_from_ne_true}
+use Rattle.std.proofs.lemmas.Bool.{or_parts, or_from, false_from_ne_true}
 use Rattle.std.proofs.lemmas.List.{append_assoc}
-use Rattle.std.proofs.lemmas.List.Folds.{list_any-append}
 use Rattle.std.proofs.lemmas.Slice.Eq.{bytes_eq-Decides}
-use Rattle.script_types.proofs.NewNames.{are_new}
 
 -- no name stands in the list again behind its place
 abbrev pub AreNamesApart : List (List ℕ) → Type 0
@@ -17,26 +14,6 @@ AreNamesApart (x ∷ xs) = (list_any (bytes_eq x) xs ≡ false) × AreNamesApart
 -- names that aren't one aren't one the other way round
 other_way : (xs ys : List ℕ) → bytes_eq xs ys ≡ false → bytes_eq ys xs ≡ false
 other_way xs ys apart = false_from_ne_true (bytes_eq ys xs) (λ same. let back : bytes_eq xs ys ≡ true = (bytes_eq-Decides xs ys).1 (sym ((bytes_eq-Decides ys xs).0 same)) in cc)
-
--- a name that is taken is none of the new ones
-never_again : (taken more names : List (List ℕ)) (x : List ℕ) → IsTrue (are_new (taken ++ x ∷ more) names) → list_any (bytes_eq x) names ≡ false
-never_again taken more [] x new = refl
-never_again taken more (name ∷ names) x new =
-    let parts = and_parts (not (list_any (bytes_eq name) (taken ++ x ∷ more))) (are_new ((taken ++ x ∷ more) ++ name ∷ []) names) new in
-    let split = or_parts (list_any (bytes_eq name) taken) (bytes_eq name x || list_any (bytes_eq name) more) (sym (list_any-append (bytes_eq name) taken (x ∷ more)) ∙ not-true (list_any (bytes_eq name) (taken ++ x ∷ more)) parts.0) in
-    let here = (or_parts (bytes_eq name x) (list_any (bytes_eq name) more) split.1).0 in
-    let later = subst (λ (l : List (List ℕ)). IsTrue (are_new l names)) (append_assoc taken (x ∷ more) (name ∷ [])) parts.1 in
-    or_from (bytes_eq x name) (list_any (bytes_eq x) names) (other_way name x here) (never_again taken (more ++ name ∷ []) names x later)
-
-apart_each : (taken names : List (List ℕ)) → IsTrue (are_new taken names) → AreNamesApart names
-apart_each taken [] new = tt
-apart_each taken (name ∷ names) new =
-    let parts = and_parts (not (list_any (bytes_eq name) taken)) (are_new (taken ++ name ∷ []) names) new in
-    (never_again taken [] names name parts.1, apart_each (taken ++ name ∷ []) names parts.1)
-
--- names that are new beside one are apart together with it
-pub apart_with : (x : List ℕ) (names : List (List ℕ)) → IsTrue (are_new (x ∷ []) names) → AreNamesApart (x ∷ names)
-apart_with x names new = (never_again [] [] names x new, apart_each (x ∷ []) names new)
 
 -- the same names, or with one more, put in somewhere
 abbrev pub IsPut : List ℕ → List (List ℕ) → List (List ℕ) → Type 0
