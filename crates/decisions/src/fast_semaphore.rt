@@ -40,12 +40,12 @@ pub fn fswait_step<R: Reads>(reads: &R, thread: ThreadNo, part: Option<Part>) ->
 }
 
 /// What a signal does to a thread: its wait for one ends, or its count rises.
-fn signal_move(other: ThreadNo, waiting: Waiting) -> Move
+pub fn signal_move(other: ThreadNo, waiting: Waiting) -> Move
     ensures { result ≡ signal_move other waiting }
 {
     match waiting {
         Waiting::Fast => Move::Wake(other),
-        Waiting::Nothing => Move::Nano(NanoMove::Raise(other)),
+        Waiting::Nothing | Waiting::Any | Waiting::Status(_) => Move::Nano(NanoMove::Raise(other)),
     }
 }
 

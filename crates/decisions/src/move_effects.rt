@@ -2,10 +2,11 @@
 ghost use Rattle.std.specs.Prelude.{◌≡◌, ◌+◌, ◌≤◌, [], ◌∷◌, ◌++◌, length};
 ghost use Rattle.machine.specs.Moves.{closed_effects, told};
 ghost use Rattle.machine.specs.NanoMoves.{nano_told};
+ghost use Rattle.machine.specs.RequestMoves.{request_told};
 
 use crate::Reads;
-use entry_log::{Effect, Effects, Holder, LockNo};
-use machine::{Move, NanoMove, Owed};
+use entry_log::{Effect, Effects, Holder, LockNo, StatusNo};
+use machine::{Move, NanoMove, Owed, RequestMove};
 use sym_base::ObjNo;
 
 /// One effect.
@@ -50,6 +51,18 @@ fn nano_told(change: NanoMove) -> Effects
     }
 }
 
+/// What a move in the rows of requests tells: which status of whom got which code.
+fn request_told(change: RequestMove) -> Effects
+    ensures { result ≡ request_told change }
+{
+    match change {
+        RequestMove::Complete(_, thread, status, code) => {
+            one_effect(Effect::Signal(thread, StatusNo::Async(status), code))
+        }
+        RequestMove::Begin(_, _, _) | RequestMove::TakeSignal(_) => Effects::new(),
+    }
+}
+
 /// What a move tells, from the state before it.
 pub fn told<R: Reads>(reads: &R, change: Move) -> Effects
     requires { R.is_readable reads.now }
@@ -65,12 +78,14 @@ pub fn told<R: Reads>(reads: &R, change: Move) -> Effects
         Move::Find(_, object) => one_effect(Effect::Seek(object)),
         Move::Miss(object) => one_effect(Effect::Missed(object)),
         Move::Nano(change) => nano_told(change),
+        Move::Requests(change) => request_told(change),
         Move::GoOn(_, _)
         | Move::Write(_, _, _)
         | Move::Advance(_)
         | Move::Wait(_, _)
         | Move::Wake(_)
-        | Move::SetPriority(_, _) => Effects::new(),
+        | Move::SetPriority(_, _)
+        | Move::Deferred(_) => Effects::new(),
         Move::Pay(what) => told_of_payment(reads, what),
     }
 }

@@ -102,10 +102,7 @@ fn is_immediate(rows: &DeferredRows, item: Item) -> bool
 fn is_in_queues(rows: &DeferredRows, dfc: u8) -> bool
     ensures { result ≡ list_any (holds dfc) rows.now.queues }
 {
-    rows.queues
-        .as_slice()
-        .iter()
-        .any(|calls| holds(dfc, calls))
+    rows.queues.as_slice().iter().any(|calls| holds(dfc, calls))
 }
 
 /// Whether an item stands in a queue.

@@ -1,7 +1,10 @@
 //! The decision of each task of a thread.
-ghost use Rattle.std.specs.Prelude.{◌≡◌, Some};
+ghost use Rattle.std.specs.Prelude.{◌≡◌};
+ghost use Rattle.machine.specs.declared.task.Task.TheVariants.{Step};
+ghost use Rattle.script_types.specs.declared.instruction.Instr.{Instr};
 ghost use Rattle.script_types.specs.Shape.{HasRegisters, IsShaped};
-ghost use Rattle.machine.specs.Steps.{step_of, return_of, pay_step, pay, decision_of};
+ghost use Rattle.machine.specs.Bodies.{decision_by};
+ghost use Rattle.machine.specs.Steps.{step_of, return_of, pay_step, pay, decision_of_task, decision_of};
 
 use crate::Reads;
 use crate::close::close_do;
@@ -12,18 +15,27 @@ use crate::dup::dup_step;
 use crate::fast_mutex::{flock_step, funlock_do};
 use crate::fast_semaphore::{fssignal_do, fswait_step};
 use crate::open::{open_return, open_step};
+use crate::queueing::queue_do;
+use crate::request_calls::{cancel_do, request_do, status_do, waitany_step, waitfor_step};
 use crate::task::{is_able, task_of};
 use crate::thread_calls::{priority_step, resume_step, suspend_step};
 use entry_log::Step;
-use machine::{Decision, Move, Owed, Task, ThreadRow};
+use machine::{Body, Decision, Move, Owed, Plan, Task, ThreadRow};
 use script_types::{Instr, Script};
 use sym_base::{Kind, ThreadNo};
 
 /// The next step of an instruction. What isn't built yet does nothing.
-fn step_of<R: Reads>(reads: &R, thread: ThreadNo, row: &ThreadRow, instr: Instr) -> Decision
+fn step_of<R: Reads>(
+    script: &Script,
+    reads: &R,
+    thread: ThreadNo,
+    row: &ThreadRow,
+    instr: Instr,
+) -> Decision
+    requires shaped { IsShaped script.now }
     requires readable { R.is_readable reads.now }
     requires registers { HasRegisters instr }
-    ensures { result ≡ step_of (R.state reads.now) thread row.now instr row.now.part }
+    ensures { result ≡ step_of script.now (R.state reads.now) thread row.now instr row.now.part }
 {
     match instr {
         Instr::CreateMutex(name, register) => {
@@ -43,6 +55,12 @@ fn step_of<R: Reads>(reads: &R, thread: ThreadNo, row: &ThreadRow, instr: Instr)
         Instr::Priority(register, priority) => {
             priority_step(reads, thread, row, register, priority)
         }
+        Instr::Queue(name) => queue_do(script, reads, thread, name),
+        Instr::Request(device, status) => request_do(reads, thread, device, status),
+        Instr::Cancel(device) => cancel_do(reads, thread, device),
+        Instr::WaitAny => waitany_step(reads, thread, row.part),
+        Instr::WaitFor(status) => waitfor_step(reads, thread, status, row.part),
+        Instr::Status(status) => status_do(reads, thread, status),
         _ => nothing(),
     }
 }
@@ -72,24 +90,43 @@ fn pay(what: Owed) -> Decision
     }
 }
 
-/// What a thread does in its next action: nothing, where it isn't able to act.
-#[tactic(auto, using(machine::proofs::Numbers::Registers::task_has_registers))]
-pub fn decision_of<R: Reads>(script: &Script, reads: &R, thread: ThreadNo) -> Decision
+/// What a task comes to: a body that runs, or a decision.
+fn plan_of_task<R: Reads>(
+    script: &Script,
+    reads: &R,
+    thread: ThreadNo,
+    row: &ThreadRow,
+    task: Task,
+) -> Plan
     requires shaped { IsShaped script.now }
     requires readable { R.is_readable reads.now }
-    ensures { result ≡ decision_of script.now (R.state reads.now) thread }
+    requires registers { (instr : Instr) → task ≡ Step instr → HasRegisters instr }
+    ensures { let S = R.state reads.now in decision_by script.now thread S result ≡ decision_of_task script.now S thread row.now task }
+{
+    match task {
+        Task::RunDfc(dfc) => Plan::Runs(Body::Deferred(dfc)),
+        Task::Return(instr) => Plan::Decided(return_of(reads, thread, row, instr)),
+        Task::Pay(what) => Plan::Decided(pay(what)),
+        Task::Step(instr) => Plan::Decided(step_of(script, reads, thread, row, instr)),
+        Task::Flush => Plan::Decided(flush(reads, thread)),
+    }
+}
+
+/// What a thread does in its next action: nothing, where it isn't able to act.
+#[tactic(auto, using(machine::proofs::Numbers::Registers::task_has_registers))]
+pub fn plan_of<R: Reads>(script: &Script, reads: &R, thread: ThreadNo) -> Plan
+    requires shaped { IsShaped script.now }
+    requires readable { R.is_readable reads.now }
+    ensures { let S = R.state reads.now in decision_by script.now thread S result ≡ decision_of script.now S thread }
 {
     if !is_able(script, reads, thread) {
-        return nothing();
+        return Plan::Decided(nothing());
     }
     let Some(row) = reads.thread(thread) else {
-        return nothing();
+        return Plan::Decided(nothing());
     };
     match task_of(script, reads, thread) {
-        Some(Task::Return(instr)) => return_of(reads, thread, &row, instr),
-        Some(Task::Pay(what)) => pay(what),
-        Some(Task::Step(instr)) => step_of(reads, thread, &row, instr),
-        Some(Task::Flush) => flush(reads, thread),
-        None => nothing(),
+        Some(task) => plan_of_task(script, reads, thread, &row, task),
+        None => Plan::Decided(nothing()),
     }
 }

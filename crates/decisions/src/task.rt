@@ -1,7 +1,7 @@
 //! What a thread does next.
 ghost use Rattle.std.specs.Prelude.{◌≡◌, Some, is_some, option_copied};
 ghost use Rattle.machine.specs.Rows.{first_owed};
-ghost use Rattle.machine.specs.Task.{instruction, is_returning, end_task, step_or_end, pay_or_step, task_of_row, task_of, is_wait, is_stopped, is_ready, is_able, declared_of};
+ghost use Rattle.machine.specs.Task.{instruction, is_returning, end_task, step_or_end, served_queue, next_call, run_or, pay_or, task_of_row, task_of, is_wait, is_stopped, is_ready, is_able, declared_of};
 ghost use Rattle.state_rows.specs.Nano.{is_protected, wanted_holder};
 
 use crate::Reads;
@@ -10,13 +10,13 @@ use machine::{Role, Task, ThreadRow, Waiting};
 use script_types::{Instr, Script, ThreadDecl};
 use sym_base::ThreadNo;
 
-/// The declaration of a thread; the supervisor has none.
+/// The declaration of a thread: the supervisor and the thread of a queue have none.
 fn declared_of(script: &Script, role: Role) -> Option<&ThreadDecl>
     ensures { option_copied result ≡ declared_of script.now role }
 {
     match role {
         Role::Declared(number) => script.threads.as_slice().get(number as usize),
-        Role::Supervisor => None,
+        Role::Supervisor | Role::Queue(_) => None,
     }
 }
 
@@ -54,7 +54,7 @@ fn end_task(protected: bool) -> Option<Task>
     if protected { Some(Task::Flush) } else { None }
 }
 
-/// What a thread does that owes nothing.
+/// What a thread does for which no call is queued: its instruction, or what is left at its list's end.
 fn step_or_end<R: Reads>(reads: &R, thread: ThreadNo, instr: Option<Instr>) -> Option<Task>
     ensures { result ≡ step_or_end (is_protected (R.state reads.now).nano thread) instr }
 {
@@ -64,13 +64,52 @@ fn step_or_end<R: Reads>(reads: &R, thread: ThreadNo, instr: Option<Instr>) -> O
     }
 }
 
+/// The queue of deferred function calls that a thread of this role serves.
+fn served_queue(role: Role) -> Option<u8>
+    ensures { result ≡ served_queue role }
+{
+    match role {
+        Role::Supervisor => Some(0),
+        Role::Queue(queue) => Some(queue),
+        Role::Declared(_) => None,
+    }
+}
+
+/// The call that comes next of the queue that a thread of this role serves.
+fn next_call<R: Reads>(reads: &R, role: Role) -> Option<u8>
+    ensures { result ≡ next_call (R.state reads.now).deferred role }
+{
+    let queue = served_queue(role)?;
+    reads.next_call(queue)
+}
+
+/// What a thread does that owes nothing: a call of its queue comes first.
+fn run_or_step<R: Reads>(
+    reads: &R,
+    thread: ThreadNo,
+    role: Role,
+    instr: Option<Instr>,
+) -> Option<Task>
+    ensures { let S = R.state reads.now in result ≡ run_or (next_call S.deferred role) (step_or_end (is_protected S.nano thread) instr) }
+{
+    match next_call(reads, role) {
+        Some(dfc) => Some(Task::RunDfc(dfc)),
+        None => step_or_end(reads, thread, instr),
+    }
+}
+
 /// What a thread does where it isn't at a return: the oldest of what it owes comes first.
-fn pay_or_step<R: Reads>(reads: &R, thread: ThreadNo, instr: Option<Instr>) -> Option<Task>
-    ensures { result ≡ pay_or_step (is_protected (R.state reads.now).nano thread) (first_owed (R.state reads.now) thread) instr }
+fn pay_or_step<R: Reads>(
+    reads: &R,
+    thread: ThreadNo,
+    role: Role,
+    instr: Option<Instr>,
+) -> Option<Task>
+    ensures { let S = R.state reads.now in result ≡ pay_or (first_owed S thread) (run_or (next_call S.deferred role) (step_or_end (is_protected S.nano thread) instr)) }
 {
     match reads.first_owed(thread) {
         Some(what) => Some(Task::Pay(what)),
-        None => step_or_end(reads, thread, instr),
+        None => run_or_step(reads, thread, role, instr),
     }
 }
 
@@ -81,20 +120,24 @@ fn task_of_row<R: Reads>(
     thread: ThreadNo,
     row: &ThreadRow,
 ) -> Option<Task>
-    ensures { result ≡ task_of_row script.now (is_protected (R.state reads.now).nano thread) (first_owed (R.state reads.now) thread) (Some row.now) }
+    ensures { let S = R.state reads.now in result ≡ task_of_row script.now S.deferred (is_protected S.nano thread) (first_owed S thread) (Some row.now) }
 {
     let instr = instruction(script, row);
     if is_returning(row.part) && instr.is_some() {
         return instr.map(Task::Return);
     }
-    pay_or_step(reads, thread, instr)
+    pay_or_step(reads, thread, row.role, instr)
 }
 
-/// Whether the thread of this row has something to do: an instruction, something that it owes, or what protects it.
+/// Whether the thread of this row has something to do: an instruction, something that it owes, a call of its queue, or what
+/// protects it.
 fn has_task<R: Reads>(script: &Script, reads: &R, thread: ThreadNo, row: &ThreadRow) -> bool
-    ensures { result ≡ is_some (task_of_row script.now (is_protected (R.state reads.now).nano thread) (first_owed (R.state reads.now) thread) (Some row.now)) }
+    ensures { let S = R.state reads.now in result ≡ is_some (task_of_row script.now S.deferred (is_protected S.nano thread) (first_owed S thread) (Some row.now)) }
 {
-    has_instruction(script, row) || reads.first_owed(thread).is_some() || reads.is_protected(thread)
+    has_instruction(script, row)
+        || reads.first_owed(thread).is_some()
+        || next_call(reads, row.role).is_some()
+        || reads.is_protected(thread)
 }
 
 /// What a thread does next, None where there is nothing.
@@ -111,7 +154,7 @@ fn is_wait(waiting: Waiting) -> bool
 {
     match waiting {
         Waiting::Nothing => false,
-        Waiting::Fast => true,
+        Waiting::Fast | Waiting::Any | Waiting::Status(_) => true,
     }
 }
 

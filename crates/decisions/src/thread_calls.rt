@@ -16,12 +16,12 @@ use sym_base::{Error, Kind, ObjNo, ThreadNo};
 /// The greatest suspend count.
 const MAX_SUSPENSIONS: u8 = 127;
 
-/// Why a call on a thread of this role is refused: nobody may call on the supervisor.
+/// Why a call on a thread of this role is refused: nobody may call on the supervisor and the thread of a queue.
 fn refusal_of_role(role: Role) -> Option<Error>
     ensures { result ≡ refusal_of_role role }
 {
     match role {
-        Role::Supervisor => Some(Error::PermissionDenied),
+        Role::Supervisor | Role::Queue(_) => Some(Error::PermissionDenied),
         Role::Declared(_) => None,
     }
 }
