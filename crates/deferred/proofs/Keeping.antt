@@ -11,11 +11,11 @@ use Rattle.sym_base.specs.Greatest.{first_of_greatest}
 use Rattle.sym_base.proofs.Greatest.{is_first_of_greatest}
 use Rattle.links.specs.Linked.{Linked, list_at, holds, without, with_list}
 use Rattle.links.proofs.Marks.{place_of}
-use Rattle.deferred.specs.declared.item.DfcPlace.{DfcPlace}
-use Rattle.deferred.specs.declared.item.Item.{Item}
-use Rattle.deferred.specs.declared.item.Item.TheVariants.{Idfc, Move}
-use Rattle.deferred.specs.DeferredCalls.{is_queued, next_of, priority_of, queue_at, queue_of}
-use Rattle.deferred.specs.Calls.{after_next_dfc}
+use Rattle.state_rows.specs.declared.deferred.DfcPlace.{DfcPlace}
+use Rattle.state_rows.specs.declared.deferred.Item.{Item}
+use Rattle.state_rows.specs.declared.deferred.Item.TheVariants.{Idfc, Move}
+use Rattle.state_rows.specs.Deferred.{is_queued, next_of, priority_of, queue_at, queue_of}
+use Rattle.state_rows.specs.DeferredChanges.{after_next_dfc}
 use Rattle.deferred.specs.Kept.{AreKept, item_of, calls_of}
 use Rattle.deferred.proofs.Nodes.{drop_set, drop_first, read_behind, first_stays, any_behind, item_move, item_idfc, any_move, any_idfc}
 use Rattle.deferred.proofs.Order.{padded, greatest_same}

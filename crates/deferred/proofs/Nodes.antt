@@ -4,9 +4,9 @@ use Rattle.std.specs.Prelude.{◌||◌}
 use Rattle.std.specs.List.{list_any}
 use Rattle.std.proofs.lemmas.Bool.{cases_Bool, cases_eq, lt-ltb, ltb-false, ltb-true, ne_eqb}
 use Rattle.links.specs.Linked.{holds}
-use Rattle.deferred.specs.declared.item.Item.{Item}
-use Rattle.deferred.specs.declared.item.Item.TheVariants.{Idfc, Move}
-use Rattle.deferred.specs.DeferredCalls.{is_same}
+use Rattle.state_rows.specs.declared.deferred.Item.{Item}
+use Rattle.state_rows.specs.declared.deferred.Item.TheVariants.{Idfc, Move}
+use Rattle.state_rows.specs.Deferred.{is_same}
 use Rattle.deferred.specs.Kept.{item_of}
 
 -- another list behind the first is another among those behind it

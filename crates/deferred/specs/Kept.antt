@@ -2,17 +2,17 @@
 -- number. The nodes are the numbers of deferred calls, and behind them the immediate calls.
 use Rattle.std.specs.Prelude.{◌≡◌, ℕ, suc, ◌+◌, ◌-◌, ◌^◌, ◌<◌, ◌≤◌, nat_lt, if◌then◌else◌, List, ◌++◌, All, drop, length, map, replicate}
 use Rattle.links.specs.Linked.{Linked, list_at}
-use Rattle.deferred.specs.declared.item.DfcPlace.{DfcPlace}
-use Rattle.deferred.specs.declared.item.Item.{Item}
-use Rattle.deferred.specs.declared.item.Item.TheVariants.{Idfc, Move}
-use Rattle.deferred.specs.DeferredCalls.{DeferredCalls}
+use Rattle.state_rows.specs.declared.deferred.DfcPlace.{DfcPlace}
+use Rattle.state_rows.specs.declared.deferred.Item.{Item}
+use Rattle.state_rows.specs.declared.deferred.Item.TheVariants.{Idfc, Move}
+use Rattle.state_rows.specs.declared.deferred.DeferredRows.{DeferredRows}
 
 -- the item that a node stands for, where so many numbers are those of deferred calls
 abbrev pub item_of : ℕ → ℕ → Item
 item_of calls node = if nat_lt node calls then Move node else Idfc (node - calls)
 
 -- the queues that the lists stand for
-abbrev pub calls_of : ℕ → List DfcPlace → Linked → DeferredCalls
+abbrev pub calls_of : ℕ → List DfcPlace → Linked → DeferredRows
 calls_of idfcs places links = record { idfcs = idfcs; places = places; immediate = map (item_of (length places)) (list_at links 0); queues = drop 1 links.lists }
 
 -- the queue of each call has a list, only deferred calls stand in those lists, and each node has its priority

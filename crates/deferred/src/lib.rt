@@ -6,5 +6,5 @@ mod queues;
 #[cfg(test)]
 mod tests;
 
-pub use item::{DfcPlace, Item};
 pub use queues::{Deferred, FIRST_BURIAL};
+pub use state_rows::{DfcPlace, Item};

@@ -2,12 +2,13 @@
 ghost use Rattle.std.specs.Prelude.{◌≡◌, false, [], ℕ, ◌+◌, ◌<◌, ◌≤◌, ◌++◌, ◌∷◌, ◌↔◌, not, None, IsNone, All, length, map, replicate, slice_get, slice_set, if◌then◌else◌, IfOk, IfSome};
 ghost use Rattle.std.specs.List.{list_any};
 ghost use Rattle.links.specs.Linked.{holds, list_at};
-ghost use Rattle.deferred.specs.declared.item.Item.TheVariants.{Idfc, Move};
-ghost use Rattle.deferred.specs.DeferredCalls.{IsKnown, is_queued, queue_at, next_of};
-ghost use Rattle.deferred.specs.Calls.{places_of, new_calls, after_add_idfc, after_add_from_irq, after_add, after_next_idfc, after_next_dfc};
+ghost use Rattle.state_rows.specs.declared.deferred.Item.TheVariants.{Idfc, Move};
+ghost use Rattle.state_rows.specs.Deferred.{IsKnown, is_queued, queue_at, next_of};
+ghost use Rattle.state_rows.specs.DeferredChanges.{places_of, new_calls, after_add_idfc, after_add_from_irq, after_add, after_next_idfc, after_next_dfc};
 
-use crate::item::{DfcPlace, Item, item_of};
+use crate::item::item_of;
 use links::Links;
+use state_rows::{DfcPlace, Item};
 use std::alloc::Global;
 use std::marker::Model;
 use sym_base::NoMemory;
@@ -41,10 +42,10 @@ pub struct Deferred {
 }
 
 impl Model for Deferred {
-    ghost use Rattle.deferred.specs.DeferredCalls.{DeferredCalls};
+    ghost use Rattle.state_rows.specs.declared.deferred.DeferredRows.{DeferredRows};
     ghost use Rattle.deferred.specs.Kept.{AreKept, calls_of};
 
-    ghost Value = { DeferredCalls };
+    ghost Value = { DeferredRows };
 
     ghost view = { λ a. calls_of a.idfcs a.places.items a.links };
 

@@ -3,6 +3,7 @@ ghost use Rattle.std.specs.Prelude.{◌≡◌};
 ghost use Rattle.state_rows.specs.Nano.{wanted_holder};
 ghost use Rattle.nano.specs.Choice.{chosen, after_tick};
 
+use deferred::Deferred;
 use entry_log::Actor;
 use nano_sync::NanoSync;
 use ready_list::ReadyList;
@@ -16,11 +17,14 @@ pub fn wanted_holder(sync: &NanoSync, t: ThreadNo) -> Option<ThreadNo>
     sync.holder(wanted)
 }
 
-/// Who acts next, of these tables: the first thread of the highest queue, or, where it wants a fast mutex that is held,
-/// the holder of that; nobody where all queues are empty.
-pub fn chosen(ready: &ReadyList, sync: &NanoSync) -> Actor
-    ensures { result ≡ chosen ready.now sync.now }
+/// Who acts next, of these tables: the immediate queue, where it has an item; else the first thread of the highest
+/// queue, or, where that wants a fast mutex that is held, the holder of it; nobody where all queues are empty.
+pub fn chosen(ready: &ReadyList, sync: &NanoSync, deferred: &Deferred) -> Actor
+    ensures { result ≡ chosen ready.now sync.now deferred.now }
 {
+    if deferred.first_idfc().is_some() {
+        return Actor::Idfc;
+    }
     match ready.pick() {
         None => Actor::Idle,
         Some(first) => Actor::Thread(wanted_holder(sync, first).unwrap_or(first)),

@@ -4,10 +4,11 @@ use Rattle.std.specs.Prelude.{Option, Some, None}
 use Rattle.std.proofs.lemmas.Bool.{cases_Bool, cases_lt}
 use Rattle.std.proofs.lemmas.List.{get_or-map, get_or_past, length-map, take_all, drop_all}
 use Rattle.sym_base.specs.declared.number.ObjNo.{ObjNo}
-use Rattle.requests.specs.declared.table.Request.{Request}
-use Rattle.requests.specs.RequestRows.{RequestRows, request_at}
-use Rattle.requests.specs.Calls.{without}
-use Rattle.requests.specs.Sound.{IsSound}
+use Rattle.state_rows.specs.declared.requests.Request.{Request}
+use Rattle.state_rows.specs.declared.requests.RequestRows.{RequestRows}
+use Rattle.state_rows.specs.Requests.{request_at}
+use Rattle.state_rows.specs.RequestChanges.{without}
+use Rattle.state_rows.specs.RequestSound.{AreRequestRows}
 
 -- a request that is left is one that was there
 without-Some : (t : ObjNo) (slot : Option Request) (request : Request) → without t slot ≡ Some request → slot ≡ Some request
@@ -18,7 +19,7 @@ without-Some t (Some other) request is = elim (cases_Bool (eqb other.thread.0 t.
 ]
 
 -- a thread's requests are dropped
-pub sound_dropped : (r : RequestRows) (t : ObjNo) → IsSound r → IsSound (record r { devices = map (without t) r.devices })
+pub sound_dropped : (r : RequestRows) (t : ObjNo) → AreRequestRows r → AreRequestRows (record r { devices = map (without t) r.devices })
 sound_dropped r t sound = record {
   statuses_sized = sound.statuses_sized;
   replies_sized = sound.replies_sized;

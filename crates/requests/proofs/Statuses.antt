@@ -1,8 +1,9 @@
 -- What each status is after one of them was written.
 use Rattle.std.proofs.Common.{◌≡◌, ◌≢◌, ℕ, ℤ, ◌<◌, [], length, get_or, refl, get_or-set_same, get_or-set_other}
 use Rattle.sym_base.specs.declared.number.ObjNo.{ObjNo}
-use Rattle.requests.specs.RequestRows.{RequestRows, value_of}
-use Rattle.requests.specs.Calls.{with_status}
+use Rattle.state_rows.specs.declared.requests.RequestRows.{RequestRows}
+use Rattle.state_rows.specs.Requests.{value_of}
+use Rattle.state_rows.specs.RequestChanges.{with_status}
 
 -- the status that was written
 pub value_of-written : (r : RequestRows) (t : ObjNo) (s : ℕ) (value : ℤ) → t.0 < length r.statuses → s < length (get_or r.statuses t.0 []) → value_of (record r { statuses = with_status r.statuses t s value }) t s ≡ value

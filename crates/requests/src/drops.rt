@@ -1,8 +1,8 @@
 //! The requests of a thread are taken from every device.
 ghost use Rattle.std.specs.Prelude.{◌≡◌, map};
-ghost use Rattle.requests.specs.Calls.{without};
+ghost use Rattle.state_rows.specs.RequestChanges.{without};
 
-use crate::table::Request;
+use state_rows::Request;
 use sym_base::ThreadNo;
 
 /// Takes a thread's requests away.

@@ -7,4 +7,5 @@ mod table;
 #[cfg(test)]
 mod tests;
 
-pub use table::{Began, PENDING, Request, Requests, STATUSES};
+pub use state_rows::{PENDING, Request, STATUSES};
+pub use table::{Began, Requests};

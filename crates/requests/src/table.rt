@@ -1,26 +1,14 @@
 //! The table of requests and statuses, and its calls.
-ghost use Rattle.std.specs.Prelude.{◌≡◌, false, ◌<◌, not, ◌==◌, length, IfOk, IfSome, IsTrue, replicate, pos};
-ghost use Rattle.requests.specs.RequestRows.{request_at, parts_of, value_of, pending, is_pending, signal_count, reply_of};
-ghost use Rattle.requests.specs.Calls.{new_rows, begin_answer, after_begin, after_finish, status_of, without, after_cancel, after_drop, after_set_pending, after_signal, after_take, after_reply};
+ghost use Rattle.std.specs.Prelude.{◌≡◌, false, ◌<◌, not, ◌==◌, None, length, IfOk, IfSome, IsTrue, replicate, pos};
+ghost use Rattle.state_rows.specs.Requests.{request_at, status_of, value_of, pending, is_pending, signal_count, reply_of};
+ghost use Rattle.state_rows.specs.RequestChanges.{new_rows, after_begin, after_finish, without, after_cancel, after_drop, after_set_pending, after_signal, after_take, after_reply};
+ghost use Rattle.requests.specs.Calls.{begin_answer, parts_of};
 
 use crate::drops::drop_requests;
+use state_rows::{PENDING, Request, STATUSES};
 use std::alloc::Global;
 use std::marker::Model;
 use sym_base::{NoMemory, ThreadNo};
-
-/// The value of a status whose request isn't completed: KRequestPending.
-pub const PENDING: i32 = -2_147_483_647;
-
-/// How many statuses each thread has. The number is this project's own.
-pub const STATUSES: usize = 16;
-
-/// A request that a device has to complete: the thread that made it, and which of the thread's statuses
-/// tells its completion.
-#[derive(Clone, Copy, Debug, PartialEq, Eq)]
-pub struct Request {
-    pub thread: ThreadNo,
-    pub status: u8,
-}
 
 /// What beginning a request answers.
 #[derive(Clone, Copy, Debug, PartialEq, Eq)]
@@ -34,7 +22,8 @@ pub enum Began {
 /// the request that it has to complete, at most one; and of each thread its statuses s0 to s15, the count
 /// of its request semaphore, and the status of its synchronous message, which leaves the semaphore alone.
 /// The devices, that each has one request at a time, that a thread has sixteen statuses, and that a
-/// synchronous message has a status of its own are this project's rules. A contract sees the lists of these.
+/// synchronous message has a status of its own are this project's rules. A contract sees the lists of these. A
+/// device, a thread or a status past the table's reads as one of which nothing is kept.
 #[derive(Drop)]
 pub struct Requests {
     devices: Vec<Option<Request>>,
@@ -44,14 +33,14 @@ pub struct Requests {
 }
 
 impl Model for Requests {
-    ghost use Rattle.requests.specs.RequestRows.{RequestRows};
-    ghost use Rattle.requests.specs.Sound.{IsSound};
+    ghost use Rattle.state_rows.specs.declared.requests.RequestRows.{RequestRows};
+    ghost use Rattle.state_rows.specs.RequestSound.{AreRequestRows};
 
     ghost Value = { RequestRows };
 
     ghost view = { λ a. record { devices = a.devices.items; statuses = a.statuses.items; signals = a.signals.items; replies = a.replies.items } };
 
-    ghost invariant = { λ a. IsSound (record { devices = a.devices.items; statuses = a.statuses.items; signals = a.signals.items; replies = a.replies.items }) };
+    ghost invariant = { λ a. AreRequestRows (record { devices = a.devices.items; statuses = a.statuses.items; signals = a.signals.items; replies = a.replies.items }) };
 }
 
 impl Requests {
@@ -95,11 +84,10 @@ impl Requests {
 
     /// The request that a device has to complete. None exactly where it has none.
     pub fn request_at(&self, device: u8) -> Option<Request>
-        requires { device < length self.now.devices }
         ensures request { result ≡ request_at self.now device }
         ensures known { IfSome result (λ request. (request.thread.0 < length self.now.signals) × (request.status < 16)) }
     {
-        self.devices[device as usize]
+        *self.devices.get(device as usize)?
     }
 
     /// Takes the request of a device away, as the device completes it. None exactly where it has none.
@@ -157,17 +145,18 @@ impl Requests {
         true
     }
 
-    /// Completes a pending status with a code, and adds a signal to the thread's request semaphore.
+    /// Completes a pending status with a code, and adds a signal to the thread's request semaphore. A count at the end
+    /// of its 64 bits stays there.
     pub fn signal(&mut self, t: ThreadNo, s: u8, code: i32)
         requires thread { t.0 < length self.old.signals }
         requires status { s < 16 }
         requires pending { IsTrue (is_pending self.old t s) }
-        requires room { signal_count self.old t < 18446744073709551615 }
         ensures after { self.new ≡ after_signal self.old t s code }
         ensures told { value_of self.new t s ≡ code }
     {
         self.statuses[t.0 as usize][s as usize] = code;
-        self.signals[t.0 as usize] += 1;
+        let signals = &mut self.signals[t.0 as usize];
+        *signals = signals.saturating_add(1);
     }
 
     /// Takes a signal from a thread's request semaphore. False exactly where none is there, and then nothing
@@ -188,19 +177,26 @@ impl Requests {
 
     /// How many signals are at a thread's request semaphore.
     pub fn signal_count(&self, t: ThreadNo) -> u64
-        requires { t.0 < length self.now.signals }
         ensures { result ≡ signal_count self.now t }
     {
-        self.signals[t.0 as usize]
+        self.signals.get(t.0 as usize).copied().unwrap_or(0)
     }
 
     /// The value of a status: 0 at first, then `PENDING` or the code of its last completion.
     pub fn value(&self, t: ThreadNo, s: u8) -> i32
-        requires thread { t.0 < length self.now.signals }
-        requires status { s < 16 }
         ensures { result ≡ value_of self.now t s }
     {
-        self.statuses[t.0 as usize][s as usize]
+        let Some(statuses) = self.statuses.get(t.0 as usize) else {
+            return 0;
+        };
+        statuses.get(s as usize).copied().unwrap_or(0)
+    }
+
+    /// Whether a status waits for its completion.
+    pub fn is_pending(&self, t: ThreadNo, s: u8) -> bool
+        ensures { result ≡ is_pending self.now t s }
+    {
+        self.value(t, s) == PENDING
     }
 
     /// Writes the code of a thread's synchronous message. The thread's semaphore and statuses stay.
@@ -213,10 +209,9 @@ impl Requests {
 
     /// The code of a thread's last synchronous message, 0 at first.
     pub fn sync_value(&self, t: ThreadNo) -> i32
-        requires { t.0 < length self.now.signals }
         ensures { result ≡ reply_of self.now t }
     {
-        self.replies[t.0 as usize]
+        self.replies.get(t.0 as usize).copied().unwrap_or(0)
     }
 }
 

@@ -1,7 +1,8 @@
 -- How the rows of deferred function calls change, one equation a change.
-use Rattle.std.specs.Prelude.{ℕ, ◌+◌, ◌-◌, not, ◌==◌, if◌then◌else◌, filter, List, [], ◌∷◌, ◌++◌, Option, Some, None, drop, length, replicate, slice_set}
+use Rattle.std.specs.Prelude.{ℕ, ◌+◌, ◌-◌, not, ◌==◌, if◌then◌else◌, filter, List, [], ◌∷◌, ◌++◌, Option, Some, None, drop, fold, length, replicate, slice_set}
 use Rattle.state_rows.specs.declared.deferred.DeferredRows.{DeferredRows}
 use Rattle.state_rows.specs.declared.deferred.DfcPlace.{DfcPlace}
+use Rattle.state_rows.specs.declared.deferred.Item.{Item}
 use Rattle.state_rows.specs.declared.deferred.Item.TheVariants.{Idfc, Move}
 use Rattle.state_rows.specs.Deferred.{is_queued, next_of, queue_at, queue_of}
 
@@ -24,6 +25,14 @@ after_add_idfc r item = record r { immediate = if is_queued r (Idfc item) then r
 -- the deferred call stands last among the items of the immediate queue, to be moved, unless it is queued already
 abbrev pub after_add_from_irq : DeferredRows → ℕ → DeferredRows
 after_add_from_irq r dfc = record r { immediate = if is_queued r (Move dfc) then r.immediate else r.immediate ++ Move dfc ∷ [] }
+
+-- an item joins the immediate queue, and items do so one after the other
+abbrev pub after_item : DeferredRows → Item → DeferredRows
+after_item r (Idfc item) = after_add_idfc r item
+after_item r (Move dfc) = after_add_from_irq r dfc
+
+abbrev pub after_items : DeferredRows → List Item → DeferredRows
+after_items r items = fold after_item r items
 
 -- the deferred call stands last in its queue, unless it is queued already
 abbrev pub after_add : DeferredRows → ℕ → DeferredRows

@@ -1,3 +1,4 @@
+pub mod DeclaredCalls
 pub mod Deferred
 pub mod DeferredChanges
 pub mod Nano

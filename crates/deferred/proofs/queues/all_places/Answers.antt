@@ -1,7 +1,7 @@
 use Rattle.std.proofs.Common.{◌≡◌, ℕ, ◌+◌, ◌-◌, List, [], ◌∷◌, ◌++◌, length, replicate, ap, ◌∙◌, append_assoc, arith}
 use Rattle.std.proofs.lemmas.List.{replicate-append-replicate}
-use Rattle.deferred.specs.declared.item.DfcPlace.{DfcPlace}
-use Rattle.deferred.specs.Calls.{burial}
+use Rattle.state_rows.specs.declared.deferred.DfcPlace.{DfcPlace}
+use Rattle.state_rows.specs.DeferredChanges.{burial}
 use Rattle.deferred.proofs.queues.all_places.Goals as goal
 
 -- one more of the same at the end

@@ -1,5 +1,5 @@
 use Rattle.std.proofs.Common.{◌≡◌, ◌++◌, ◌-◌, length, replicate}
-use Rattle.deferred.specs.Calls.{burial}
+use Rattle.state_rows.specs.DeferredChanges.{burial}
 use Rattle.deferred.proofs.queues.all_places.Given as goal
 
 abbrev pub invariant-loop-number : goal.invariant-loop-number

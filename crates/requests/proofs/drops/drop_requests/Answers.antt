@@ -2,7 +2,7 @@ use Rattle.std.proofs.Common.{◌<◌, length, get_or, arith}
 use Rattle.std.specs.Prelude.{None}
 use Rattle.std.proofs.lemmas.List.{get_or_default}
 use Rattle.std.proofs.lemmas.List.Edits.{map_over_more}
-use Rattle.requests.specs.Calls.{without}
+use Rattle.state_rows.specs.RequestChanges.{without}
 use Rattle.requests.proofs.drops.drop_requests.Goals as goal
 
 pub loop-slot-preserved : goal.loop-slot-preserved

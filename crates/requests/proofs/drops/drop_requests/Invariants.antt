@@ -1,5 +1,5 @@
 use Rattle.std.proofs.Common.{◌≡◌, ◌++◌, map, take, drop}
-use Rattle.requests.specs.Calls.{without}
+use Rattle.state_rows.specs.RequestChanges.{without}
 use Rattle.requests.proofs.drops.drop_requests.Given as goal
 
 abbrev pub invariant-loop-slot : goal.invariant-loop-slot

@@ -1,5 +1,5 @@
 use Rattle.std.proofs.Common.{◌∙◌, ap, not, sym}
-use Rattle.deferred.specs.declared.item.Item.TheVariants.{Move}
+use Rattle.state_rows.specs.declared.deferred.Item.TheVariants.{Move}
 use Rattle.deferred.proofs.Keeping.{move_queued, immediate_added}
 use Rattle.deferred.proofs.Nodes.{item_move}
 use Rattle.deferred.proofs.queues.Deferred.add_from_irq.Goals as goal

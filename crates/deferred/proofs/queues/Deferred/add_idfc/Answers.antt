@@ -1,5 +1,5 @@
 use Rattle.std.proofs.Common.{◌∙◌, ap, not, sym, arith}
-use Rattle.deferred.specs.declared.item.Item.TheVariants.{Idfc}
+use Rattle.state_rows.specs.declared.deferred.Item.TheVariants.{Idfc}
 use Rattle.deferred.proofs.Keeping.{idfc_queued, immediate_added}
 use Rattle.deferred.proofs.Nodes.{item_idfc}
 use Rattle.deferred.proofs.queues.Deferred.add_idfc.Goals as goal

@@ -1,7 +1,7 @@
 use Rattle.std.proofs.Common.{◌≡◌, length, map, sym, ap, ◌∙◌}
 use Rattle.std.proofs.lemmas.List.{length-map}
 use Rattle.requests.specs.contracts.table.Requests.{the_view}
-use Rattle.requests.specs.Calls.{without}
+use Rattle.state_rows.specs.RequestChanges.{without}
 use Rattle.requests.proofs.Dropping.{sound_dropped, written_back}
 use Rattle.requests.proofs.table.Requests.drop_all.Goals as goal
 

@@ -1,7 +1,8 @@
-use Rattle.std.proofs.Common.{refl}
-use Rattle.requests.specs.contracts.table.Requests.{the_view}
-use Rattle.requests.proofs.Known.{known_if_some}
+use Rattle.std.proofs.Common.{get_or, sym, ap, ◌∙◌}
+use Rattle.std.specs.Prelude.{None}
+use Rattle.state_rows.proofs.Soundness.{if_some}
 use Rattle.requests.proofs.table.Requests.request_at.Goals as goal
 
 pub returns-clause-known : goal.returns-clause-known
-returns-clause-known c = rw (← c.self.view_is) (known_if_some (the_view c.self.inside) c.args.device c.index.result.now _ c.self.invariant (rw (← c.self.view_is) at c.requires) c.index.ensures refl)
+returns-clause-known c =
+    rw (← c.self.view_is) (if_some _ _ (λ request is. c.self.invariant.requests_known c.args.device request (ap (λ xs. get_or xs c.args.device None) (sym c.deref.ensures.value) ∙ sym (c.in_ok-get.ensures.lookup.3.1 None) ∙ is)))
