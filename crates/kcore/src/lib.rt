@@ -4,8 +4,7 @@
 mod act;
 mod bodies;
 mod boot;
-mod calls_at_boot;
-mod deferred_moves;
+mod call_queues;
 mod duties;
 mod handles;
 mod interrupts;

@@ -10,7 +10,6 @@ ghost use Rattle.kcore.specs.Moved.{CanMake, CanGain, CanAdvance, CanMove, IsMov
 ghost use Rattle.kcore.specs.ObjectsView.{IsHeld};
 ghost use Rattle.kcore.specs.StateOf.{state_of};
 
-use crate::deferred_moves::move_deferred;
 use crate::duties::{drop_first_owed, owe_close, owe_use};
 use crate::handles::Handles;
 use crate::nano_moves::move_nano;
@@ -192,7 +191,7 @@ pub fn make_move<W: RefWords + Drop>(tables: &mut Tables<W>, thread: ThreadNo, c
             machine::threads_set_priority(&mut tables.threads, other, priority);
         }
         Move::Nano(change) => move_nano(&mut tables.nano, change),
-        Move::Deferred(change) => move_deferred(&mut tables.deferred, change),
+        Move::Deferred(change) => tables.deferred.change(change),
         Move::Requests(change) => move_request(&mut tables.requests, change),
         Move::Pay(what) => pay(tables, thread, what),
     }

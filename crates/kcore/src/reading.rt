@@ -100,15 +100,15 @@ impl<W: RefWords + Drop> Reads for Tables<W> {
     }
 
     fn next_call(&self, queue: u8) -> Option<u8> {
-        self.deferred.first_dfc(queue)
+        self.deferred.next_call(queue)
     }
 
     fn next_immediate(&self) -> Option<Item> {
-        self.deferred.first_idfc()
+        self.deferred.next_immediate()
     }
 
-    fn is_queued(&self, item: Item) -> bool {
-        self.deferred.is_queued(item)
+    fn is_queued(&self, dfc: u8) -> bool {
+        self.deferred.is_queued(dfc)
     }
 
     fn queue_of(&self, dfc: u8) -> u8 {

@@ -151,7 +151,7 @@ pub fn leave_along<W: RefWords + Drop>(
 pub fn chosen<W: RefWords + Drop>(tables: &Tables<W>, ready: &ReadyList) -> Actor
     ensures { (rank : ObjNo → ℕ) (qs : List ObjNo) → AreQueuesOf (pairs rank qs) ready.now → result ≡ item_or (next_immediate (state_of tables.now).deferred) (actor_of (option_map (in_place_of (state_of tables.now).nano) (first_of_greatest rank qs))) }
 {
-    nano::chosen(ready, &tables.nano, &tables.deferred)
+    nano::chosen(ready, &tables.nano, tables.deferred.calls())
 }
 
 /// Puts the first thread of the highest queue behind its equals, unless it holds a fast mutex.

@@ -1,9 +1,9 @@
 //! The kernel's tables.
 
+use crate::call_queues::CallQueues;
 use crate::handles::Handles;
 use crate::object_table::ObjectTable;
 use cleanup::Cleanup;
-use deferred::Deferred;
 use machine::ThreadRow;
 use nano_sync::NanoSync;
 use ref_words::RefWords;
@@ -23,7 +23,7 @@ pub struct Tables<W: RefWords> {
     /// Fast semaphores, fast mutexes, critical sections and suspension.
     pub nano: NanoSync,
     /// Deferred function calls, and the immediate ones.
-    pub deferred: Deferred,
+    pub deferred: CallQueues,
     /// Requests of devices, statuses and request semaphores.
     pub requests: Requests,
 }

@@ -77,7 +77,7 @@ returns-in-Nano g c =
     })
 
 pub returns-in-Deferred : goal.returns-in-Deferred
-returns-in-Deferred g c = rw c.in-Deferred.is (record { state = rw c.move_deferred.ensures refl; counts = λ o. refl; uses = c.requires.kept.uses })
+returns-in-Deferred g c = rw c.in-Deferred.is (record { state = rw c.change.ensures refl; counts = λ o. refl; uses = c.requires.kept.uses })
 
 pub returns-in-Requests : goal.returns-in-Requests
 returns-in-Requests g c =

@@ -1,4 +1,5 @@
-use Rattle.std.proofs.Common.{◌∷◌, [], ◌+◌, List, drop, subst}
+use Rattle.std.proofs.Common.{◌∷◌, [], ◌+◌, ◌≤◌, List, length, append-nil, drop, subst}
+use Rattle.entry_log.specs.declared.effect.Effect.{Effect}
 use Rattle.machine.specs.declared.moves.Move.{Move}
 use Rattle.machine.specs.Moves.{told}
 use Rattle.kcore.specs.Moved.{MovesGo}
@@ -12,7 +13,8 @@ add_effects-requires g c =
     let i = c.loop-change.change-index in
     let next = next_move c.args.moves.now i m c.loop-change-test.true c.change-item.is in
     let h = rw next at c.loop-change.invariant in
-    rw (c.as_slice.ensures.effects, c.told.ensures) (way_few c.args.script.now c.args.thread c.args.moves.now (m ∷ []) (drop (i + 1) c.args.moves.now) c.args.tables.now c.loop-change.tables c.args.ready.now c.loop-change.ready c.args.effects.now c.loop-change.effects c.requires.few h)
+    let told_now = told m (state_of c.loop-change.tables) in
+    rw (c.as_slice.ensures.effects, c.told.ensures) (subst (λ (es : List Effect). length c.loop-change.effects + length es ≤ 4) (append-nil told_now) (way_few c.args.script.now c.args.thread c.args.moves.now (m ∷ []) (drop (i + 1) c.args.moves.now) c.args.tables.now c.loop-change.tables c.args.ready.now c.loop-change.ready c.args.effects.now c.loop-change.effects c.requires.few h))
 
 pub make_move-requires-clause-can : goal.make_move-requires-clause-can
 make_move-requires-clause-can g c =
