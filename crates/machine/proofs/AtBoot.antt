@@ -8,3 +8,4 @@ pub mod BootReady
 pub mod BootRequests
 pub mod BootRows
 pub mod BootServers
+pub mod Declared

@@ -16,6 +16,7 @@ use Rattle.script_types.proofs.NamesApart.{AreNamesApart, IsPut, put_behind, non
 use Rattle.script_types.proofs.NewNames.{process_names, queue_names, thread_names, valid_names_new}
 use Rattle.machine.specs.declared.boot.Born.{Born}
 use Rattle.state_rows.specs.declared.object.ObjectRow.{ObjectRow}
+use Rattle.machine.proofs.AtBoot.Declared.{all-append, all_threads, all_processes}
 use Rattle.machine.specs.Boot.{boot, boot_of, born, born_queues, born_thread, born_threads, born_processes, is_of}
 use Rattle.state_rows.specs.ObjectRows.{has_name}
 
@@ -27,26 +28,8 @@ rows_of bs = map (λ b. Some b.object) bs
 abbrev IsPlain : Born → Type 0
 IsPlain b = (b.object.dead ≡ false) × ((b.object.kind ≡ Process) ⊎ (b.object.kind ≡ Thread))
 
-plain-append : (xs ys : List Born) → AllByRecursion IsPlain xs → AllByRecursion IsPlain ys → AllByRecursion IsPlain (xs ++ ys)
-plain-append [] ys h k = k
-plain-append (x ∷ xs) ys h k = (h.0, plain-append xs ys h.1 k)
-
-plain_step : (p k : ℕ) (d : ThreadDecl) (rest : List Born) (own : Bool) → AllByRecursion IsPlain rest → AllByRecursion IsPlain (if own then born_thread p k d ∷ rest else rest)
-plain_step p k d rest true more = ((refl, inr refl), more)
-plain_step p k d rest false more = more
-
-plain_threads : (j : Option ℕ) (p k : ℕ) (ds : List ThreadDecl) → AllByRecursion IsPlain (born_threads j p k ds)
-plain_threads j p k [] = tt
-plain_threads j p k (d ∷ ds) = plain_step p k d (born_threads j p (k + 1) ds) (is_of j d.process) (plain_threads j p (k + 1) ds)
-
-plain_processes : (threads : List ThreadDecl) (j p : ℕ) (ds : List ProcessDecl) → AllByRecursion IsPlain (born_processes threads j p ds)
-plain_processes threads j p [] = tt
-plain_processes threads j p (d ∷ ds) =
-    let own = born_threads (Some j) p 0 threads in
-    let rest = born_processes threads (j + 1) (p + 1 + length own) ds in (
-      (refl, inl refl),
-      plain-append own rest (plain_threads (Some j) p 0 threads) (plain_processes threads (j + 1) (p + 1 + length own) ds),
-    )
+plain_thread : (p k : ℕ) (d : ThreadDecl) → IsPlain (born_thread p k d)
+plain_thread p k d = (refl, inr refl)
 
 plain_queues : (q : ℕ) (ds : List QueueDecl) → AllByRecursion IsPlain (born_queues q ds)
 plain_queues q [] = tt
@@ -61,7 +44,8 @@ plain_born script =
       (refl, inl refl),
       (
         (refl, inr refl),
-        plain-append (queues ++ own) rest (plain-append queues own (plain_queues 1 script.queues) (plain_threads None 0 0 script.threads)) (plain_processes script.threads 0 first script.processes),
+        all-append IsPlain (queues ++ own) rest (all-append IsPlain queues own (plain_queues 1 script.queues) (all_threads IsPlain plain_thread None 0 0 script.threads))
+            (all_processes IsPlain plain_thread (λ name. (refl, inl refl)) script.threads 0 first script.processes),
       ),
     )
 

@@ -17,30 +17,20 @@ use Rattle.machine.specs.declared.boot.Born.{Born}
 use Rattle.machine.specs.Boot.{boot, boot_of, born, held_count, nano_of}
 use Rattle.machine.specs.Task.{is_stopped}
 use Rattle.machine.specs.WellFormed.{AreSynchronized}
-
--- a list of nothing has nothing anywhere
-pub nothing_at : {X : Type 0} (n k : ℕ) → ◌≡◌ {A = Option X} (get_or (replicate n None) k None) None
-nothing_at zero k = refl
-nothing_at (suc n) zero = refl
-nothing_at {X = X} (suc n) (suc k) = nothing_at {X = X} n k
-
-zero_at : (n k : ℕ) → ◌≡◌ {A = ℕ} (get_or (replicate n 0) k 0) 0
-zero_at zero k = refl
-zero_at (suc n) zero = refl
-zero_at (suc n) (suc k) = zero_at n k
+use Rattle.machine.proofs.Lists.Copies.{copy_at}
 
 -- nobody holds a fast mutex
 nobody_holds : (fast : ℕ) (bs : List Born) (t : ObjNo) → held_by (nano_of fast bs) t ≡ None
 nobody_holds fast bs t =
     let holders : List (Option ObjNo) = replicate fast None in
-    let none = position_or_len_is (is_thread t) holders (length holders) None (omega arith) (λ k below. ap (is_thread t) (nothing_at {X = ObjNo} fast k)) (λ past. absurd (omega arith)) in
+    let none = position_or_len_is (is_thread t) holders (length holders) None (omega arith) (λ k below. ap (is_thread t) (copy_at {A = Option ObjNo} None fast k)) (λ past. absurd (omega arith)) in
     let out : nat_lt (position_or_len (is_thread t) holders) (length holders) ≡ false = le-ltb (position_or_len (is_thread t) holders) (length holders) (omega arith) in
     ap (λ (b : Bool). cond b (Some (position_or_len (is_thread t) holders)) None) out
 
 -- nothing protects a thread at boot
 pub unprotected : (fast : ℕ) (bs : List Born) (t : ObjNo) → is_protected (nano_of fast bs) t ≡ false
 unprotected fast bs t =
-    or_from (is_some (held_by (nano_of fast bs) t)) (not (critical_count (nano_of fast bs) t == 0)) (ap is_some (nobody_holds fast bs t)) (ap (λ (n : ℕ). not (n == 0)) (zero_at (length bs) t.0))
+    or_from (is_some (held_by (nano_of fast bs) t)) (not (critical_count (nano_of fast bs) t == 0)) (ap is_some (nobody_holds fast bs t)) (ap (λ (n : ℕ). not (n == 0)) (copy_at 0 (length bs) t.0))
 
 -- whether the one at a place is held
 abbrev pub is_held_at : List Born → ℕ → Bool
@@ -96,5 +86,5 @@ synchronized-boot script shaped =
       rows = sound-boot script.fast bs (omega arith);
       sized = length-replicate {A = ℕ} (length bs) 0 ∙ sym (length-map bs (λ b. b.thread));
       mutexes = length-replicate script.fast nobody;
-      holders = λ f u is. let none = nothing_at {X = ObjNo} script.fast f in absurd (cc);
+      holders = λ f u is. let none = copy_at {A = Option ObjNo} None script.fast f in absurd (cc);
     }

@@ -1,15 +1,15 @@
 -- The rows of requests at boot: no device has a request.
-use Rattle.std.proofs.Common.{◌≡◌, ℕ, ◌<◌, pos, [], length, replicate, arith, sym, ap, ◌∙◌, Option, Some, None}
+use Rattle.std.proofs.Common.{◌≡◌, ℕ, pos, [], length, replicate, arith, sym, ap, ◌∙◌, Option, Some, None}
 use Rattle.std.proofs.lemmas.List.{length-replicate, get_or-replicate}
 use Rattle.sym_base.specs.declared.limits.TheConstants.Limits.{DEVICES}
 use Rattle.state_rows.specs.declared.requests.Request.{Request}
 use Rattle.state_rows.specs.Requests.{request_at}
 use Rattle.state_rows.specs.RequestChanges.{new_rows}
 use Rattle.machine.specs.WellFormed.{AreRequests}
-use Rattle.machine.proofs.AtBoot.BootNano.{nothing_at}
+use Rattle.machine.proofs.Lists.Copies.{copy_at}
 
 no_request : (n : ℕ) (d : ℕ) (request : Request) → request_at (new_rows n DEVICES) d ≡ Some request → ⊥
-no_request n d request is = let none = nothing_at {X = Request} DEVICES d in cc
+no_request n d request is = let none = copy_at {A = Option Request} None DEVICES d in cc
 
 pub requests-boot : (n : ℕ) → AreRequests n (new_rows n DEVICES)
 requests-boot n =

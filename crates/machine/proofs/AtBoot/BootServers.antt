@@ -1,15 +1,15 @@
 -- At boot whoever serves a queue has the number of its thread.
-use Rattle.std.proofs.Common.{◌≡◌, ℕ, suc, zero, ◌+◌, List, [], ◌∷◌, ◌++◌, length, get_or, arith, refl, sym, subst, ap, ◌∙◌, Option, Some, None, Bool, true, false, map}
-use Rattle.std.specs.Prelude.{if◌then◌else◌}
+use Rattle.std.proofs.Common.{◌≡◌, ℕ, suc, zero, ◌+◌, List, [], ◌∷◌, ◌++◌, length, get_or, arith, refl, sym, subst, ap, ◌∙◌, Option, Some, None, map}
+use Rattle.std.specs.List.{AllByRecursion}
 use Rattle.std.proofs.lemmas.List.{append_assoc}
-use Rattle.script_types.specs.declared.declaration.ProcessDecl.{ProcessDecl}
 use Rattle.script_types.specs.declared.declaration.QueueDecl.{QueueDecl}
 use Rattle.script_types.specs.declared.declaration.ThreadDecl.{ThreadDecl}
 use Rattle.script_types.specs.declared.script.Script.{Script}
 use Rattle.machine.specs.declared.boot.Born.{Born}
 use Rattle.machine.specs.declared.state.ThreadRow.{ThreadRow}
-use Rattle.machine.specs.Boot.{born, born_queues, born_thread, born_threads, born_processes, is_of}
+use Rattle.machine.specs.Boot.{born, born_queues, born_thread, born_threads, born_processes}
 use Rattle.machine.specs.Task.{served_queue}
+use Rattle.machine.proofs.AtBoot.Declared.{all-append, all_threads, all_processes}
 
 -- the queue that a thread serves, None also where there is no thread
 abbrev served_by : Option ThreadRow → Option ℕ
@@ -21,35 +21,19 @@ abbrev EachServes : ℕ → List Born → Type 0
 EachServes n [] = Unit {0}
 EachServes n (b ∷ bs) = ((queue : ℕ) → served_by b.thread ≡ Some queue → n ≡ 1 + queue) × EachServes (n + 1) bs
 
--- those that serve none
-abbrev NoneServes : List Born → Type 0
-NoneServes [] = Unit {0}
-NoneServes (b ∷ bs) = (served_by b.thread ≡ None) × NoneServes bs
+-- one that serves none
+abbrev ServesNone : Born → Type 0
+ServesNone b = served_by b.thread ≡ None
 
-none_serves-append : (xs ys : List Born) → NoneServes xs → NoneServes ys → NoneServes (xs ++ ys)
-none_serves-append [] ys h k = k
-none_serves-append (x ∷ xs) ys h k = (h.0, none_serves-append xs ys h.1 k)
+no_server : (p k : ℕ) (d : ThreadDecl) → ServesNone (born_thread p k d)
+no_server p k d = refl
 
-none_step : (p k : ℕ) (d : ThreadDecl) (rest : List Born) (own : Bool) → NoneServes rest → NoneServes (if own then born_thread p k d ∷ rest else rest)
-none_step p k d rest true more = (refl, more)
-none_step p k d rest false more = more
-
-none_threads : (j : Option ℕ) (p k : ℕ) (ds : List ThreadDecl) → NoneServes (born_threads j p k ds)
-none_threads j p k [] = tt
-none_threads j p k (d ∷ ds) = none_step p k d (born_threads j p (k + 1) ds) (is_of j d.process) (none_threads j p (k + 1) ds)
-
-none_processes : (threads : List ThreadDecl) (j p : ℕ) (ds : List ProcessDecl) → NoneServes (born_processes threads j p ds)
-none_processes threads j p [] = tt
-none_processes threads j p (d ∷ ds) =
-    let own = born_threads (Some j) p 0 threads in
-    (refl, none_serves-append own (born_processes threads (j + 1) (p + 1 + length own) ds) (none_threads (Some j) p 0 threads) (none_processes threads (j + 1) (p + 1 + length own) ds))
-
-serve_none : (n : ℕ) (bs : List Born) → NoneServes bs → EachServes n bs
+serve_none : (n : ℕ) (bs : List Born) → AllByRecursion ServesNone bs → EachServes n bs
 serve_none n [] h = tt
 serve_none n (b ∷ bs) h = (λ queue is. let none = h.0 in absurd (cc), serve_none (n + 1) bs h.1)
 
 -- the thread of queue q has the number behind it
-serve_queues : (n q : ℕ) (ds : List QueueDecl) (bs : List Born) → n ≡ 1 + q → NoneServes bs → EachServes n (born_queues q ds ++ bs)
+serve_queues : (n q : ℕ) (ds : List QueueDecl) (bs : List Born) → n ≡ 1 + q → AllByRecursion ServesNone bs → EachServes n (born_queues q ds ++ bs)
 serve_queues n q [] bs at h = serve_none n bs h
 serve_queues n q (d ∷ ds) bs at h = (λ queue is. let e : q ≡ queue = cc in omega arith, serve_queues (n + 1) (q + 1) ds bs (omega arith) h)
 
@@ -58,7 +42,7 @@ each_serves script =
     let own = born_threads None 0 0 script.threads in
     let first = 2 + length script.queues + length own in
     let rest = born_processes script.threads 0 first script.processes in
-    let others = none_serves-append own rest (none_threads None 0 0 script.threads) (none_processes script.threads 0 first script.processes) in (
+    let others = all-append ServesNone own rest (all_threads ServesNone no_server None 0 0 script.threads) (all_processes ServesNone no_server (λ name. refl) script.threads 0 first script.processes) in (
       λ queue is. absurd (cc),
       (
         λ queue is. let e : 0 ≡ queue = cc in omega arith,

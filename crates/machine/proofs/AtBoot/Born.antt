@@ -1,5 +1,5 @@
 -- What holds of each that stands at boot.
-use Rattle.std.proofs.Common.{◌≡◌, ℕ, suc, zero, ◌+◌, ◌<◌, ◌≤◌, List, [], ◌∷◌, ◌++◌, length, get_or, replicate, arith, refl, sym, subst, ap, ◌∙◌, Option, Some, None, Bool, true, false}
+use Rattle.std.proofs.Common.{◌≡◌, ℕ, ◌+◌, ◌<◌, ◌≤◌, List, [], ◌∷◌, ◌++◌, length, arith, refl, sym, subst, ap, ◌∙◌, Option, Some, None, Bool, true, false}
 use Rattle.std.specs.Prelude.{codes, slice_get, is_some, not, ◌&&◌, if◌then◌else◌, nat_le, IsTrue}
 use Rattle.std.specs.List.{list_all}
 use Rattle.std.proofs.lemmas.Bool.{and_parts, leb-true}
@@ -12,14 +12,14 @@ use Rattle.script_types.specs.declared.instruction.Instr.{Instr}
 use Rattle.script_types.specs.Shape.{IsShaped}
 use Rattle.state_rows.specs.Deferred.{next_of, priority_of}
 use Rattle.sym_base.specs.Greatest.{first_of_greatest}
-use Rattle.sym_base.specs.declared.kind.Kind.TheVariants.{Thread}
 use Rattle.machine.specs.declared.boot.Born.{Born}
 use Rattle.machine.specs.declared.state.Role.{Role}
 use Rattle.machine.specs.declared.state.Role.TheVariants.{Supervisor, Queue, Declared}
 use Rattle.machine.specs.declared.state.ThreadRow.{ThreadRow}
 use Rattle.machine.specs.declared.state.Waiting.TheVariants as waiting
-use Rattle.machine.specs.Boot.{boot_object, born, born_process, born_queues, born_thread, born_threads, born_processes, calls_of, new_thread, has_any, is_of}
+use Rattle.machine.specs.Boot.{born, born_process, born_queues, born_thread, born_threads, born_processes, calls_of, new_thread, has_any, is_of}
 use Rattle.machine.specs.Task.{instructions_in, run_or, step_or_end, task_of_row}
+use Rattle.machine.proofs.Lists.Copies.{copy_at}
 
 -- a thread's row, n being the number of those that stand at boot: it has made no step, and is linked to its process
 pub record IsNewThread (n : ℕ) (row : ThreadRow) : Type 0 where
@@ -104,14 +104,9 @@ each_born_processes script shaped n j p (d ∷ ds) le =
           (each_born_processes script shaped n (j + 1) (p + 1 + length threads) ds (omega arith)),
     )
 
-empty_queue : (n q : ℕ) → ◌≡◌ {A = List ℕ} (get_or (replicate n []) q []) []
-empty_queue zero q = refl
-empty_queue (suc n) zero = refl
-empty_queue (suc n) (suc q) = empty_queue n q
-
 -- no call is queued
 no_call : (script : Script) (q : ℕ) → next_of (calls_of script) q ≡ None
-no_call script q = ap (first_of_greatest (priority_of (calls_of script))) (empty_queue (1 + length script.queues) q)
+no_call script q = ap (first_of_greatest (priority_of (calls_of script))) (copy_at {A = List ℕ} [] (1 + length script.queues) q)
 
 no_work : (script : Script) (q : ℕ) → false ≡ is_some (run_or (next_of (calls_of script) q) None)
 no_work script q = ap (λ (call : Option ℕ). is_some (run_or call None)) (sym (no_call script q))

@@ -158,10 +158,14 @@ acts : (script : Script) (S : State) (t : ObjNo) (able : Bool) → IsShaped scri
 acts script S t false shaped rows able = inl (idles script S t rows)
 acts script S t true shaped rows able = able-acts script S t (thread_of S t) shaped rows refl able
 
+-- such moves fit, and tell four effects at most
+pub fits_goes : (script : Script) (S : State) (t : ObjNo) (ms : List Move) → Goes script t S ms → Fits script t ms S
+fits_goes script S t ms goes = record { each = goes.each; few = goes.few; told = let a = tell_few t ms S in let b = goes.told in omega arith }
+
 -- what a thread does in its next action: moves that fit, or it pays the oldest of what it owes
 pub fits-action : (script : Script) (S : State) (t : ObjNo) → IsShaped script → AreRows script S → Fits script t (decision_of script S t).moves S ⊎ Pays S t (decision_of script S t).moves
 fits-action script S t shaped rows = elim (acts script S t (is_able script S t) shaped rows refl) as (λ _. Fits script t (decision_of script S t).moves S ⊎ Pays S t (decision_of script S t).moves) [
-  | inl goes ↦ inl (record { each = goes.each; few = goes.few; told = let a = tell_few t (decision_of script S t).moves S in let b = goes.told in omega arith })
+  | inl goes ↦ inl (fits_goes script S t (decision_of script S t).moves goes)
   | inr pays ↦ inr pays
 ]
 
