@@ -9,7 +9,6 @@ use entry_log::{Part, Step, Word};
 use machine::{Decision, Moves};
 use readings::Reads;
 use script_types::Script;
-use state_rows::Item;
 use sym_base::{Name, ThreadNo};
 
 const STEP: Step = Step::Of(Word::Queue, Part::Do);
@@ -21,7 +20,7 @@ fn queue_named<R: Reads>(reads: &R, thread: ThreadNo, dfc: Option<u8>) -> Decisi
     let Some(dfc) = dfc else {
         return nothing();
     };
-    if reads.is_queued(Item::Move(dfc)) {
+    if reads.is_queued(dfc) {
         return answer(thread, STEP, Moves::new(), 0);
     }
     answer(thread, STEP, one_move(add_call(reads, dfc)), 1)

@@ -1,4 +1,5 @@
 mod ActionsDone
+mod BodiesApart
 mod BootNano
 mod BootReady
 mod BootTables
@@ -10,6 +11,7 @@ mod FreshTable
 mod Goes
 mod GoingMoves
 mod ListSteps
+mod MovesApart
 mod Noting
 mod Performing
 mod ReadyChanges

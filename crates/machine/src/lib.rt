@@ -21,7 +21,7 @@ mod thread_rows;
 mod touches;
 
 pub use boot::{Born, all_born, boot_of, state_at_boot};
-pub use calls::declared_places;
+pub use calls::{calls_of, declared_places};
 pub use count::{count_of, is_counted, is_last};
 pub use decision::{Decision, Outcome, entry_of};
 pub use deferred_move::DeferredMove;

@@ -145,8 +145,8 @@ impl Reads for State {
         next_immediate(&self.deferred)
     }
 
-    fn is_queued(&self, item: Item) -> bool {
-        is_queued(&self.deferred, item)
+    fn is_queued(&self, dfc: u8) -> bool {
+        is_queued(&self.deferred, Item::Move(dfc))
     }
 
     fn queue_of(&self, dfc: u8) -> u8 {

@@ -5,6 +5,7 @@ ghost use Rattle.machine.specs.Find.{find_object};
 ghost use Rattle.machine.specs.Handles.{slot_at, next_handle};
 ghost use Rattle.machine.specs.References.{is_last};
 ghost use Rattle.machine.specs.Rows.{object_of, thread_of, table_of, first_owed};
+ghost use Rattle.state_rows.specs.declared.deferred.Item.TheVariants.{Move};
 ghost use Rattle.state_rows.specs.Deferred.{next_of, next_immediate, is_queued, queue_of};
 ghost use Rattle.state_rows.specs.Nano.{signal_count, suspend_count, critical_count, want_of, holder_of, held_by, is_protected};
 ghost use Rattle.state_rows.specs.ObjectRows.{is_taken};
@@ -110,9 +111,9 @@ pub trait Reads {
     fn next_immediate(&self) -> Option<Item>
         ensures { result ≡ next_immediate (state self.now).deferred };
 
-    /// Whether a deferred function call, immediate or not, stands in a queue.
-    fn is_queued(&self, item: Item) -> bool
-        ensures { result ≡ is_queued (state self.now).deferred item };
+    /// Whether a deferred function call stands in the immediate queue or in its own.
+    fn is_queued(&self, dfc: u8) -> bool
+        ensures { result ≡ is_queued (state self.now).deferred (Move dfc) };
 
     /// The queue of a deferred function call.
     fn queue_of(&self, dfc: u8) -> u8

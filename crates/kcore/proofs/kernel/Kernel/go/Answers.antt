@@ -1,6 +1,6 @@
 use Rattle.std.proofs.Common.{length, ap, [], ◌∷◌, ◌++◌, ◌+◌, ◌∙◌, ℕ, arith}
 use Rattle.entry_log.specs.declared.entry.Entry.{Entry}
-use Rattle.kcore.proofs.Goes.{rows_stand, shape_stands, some_stand, actor_there, kernel_goes_on, entry_told, safe_history}
+use Rattle.kcore.proofs.Goes.{rows_stand, shape_stands, some_stand, kernel_goes_on, entry_told, safe_history}
 use Rattle.machine_safe.proofs.ReadyHolders.{holders_ready}
 use Rattle.kcore.proofs.kernel.Kernel.go.Goals as goal
 
@@ -13,11 +13,6 @@ pub transition-outcome-requires-clause-rows : goal.transition-outcome-requires-c
 transition-outcome-requires-clause-rows g c =
     let k = c.self.inside in
     rows_stand k.script k.history.items k.tables k.ready c.self.invariant.stands
-
-pub transition-outcome-requires-clause-there : goal.transition-outcome-requires-clause-there
-transition-outcome-requires-clause-there g c =
-    let k = c.self.inside in
-    actor_there k.script k.history.items k.tables k.ready c.args.actor c.self.invariant.stands (rw (← c.self.view_is) at c.requires.can)
 
 pub transition-outcome-requires-clause-kept : goal.transition-outcome-requires-clause-kept
 transition-outcome-requires-clause-kept g c =
