@@ -19,7 +19,7 @@ mod steps;
 mod task;
 mod thread_calls;
 
-pub use move_effects::{add_effects, told};
+pub use move_effects::tell;
 pub use reads::Reads;
 pub use steps::decision_of;
-pub use task::{is_able, is_ready, task_of, wanted_holder};
+pub use task::{is_able, is_ready, wanted_holder};

@@ -1,12 +1,12 @@
 //! What a thread does next.
 ghost use Rattle.std.specs.Prelude.{◌≡◌, Some, is_some, option_copied};
 ghost use Rattle.machine.specs.Rows.{first_owed};
-ghost use Rattle.machine.specs.Task.{instruction, is_returning, end_task, step_or_end, pay_or_step, task_of_row, task_of, is_wait, is_stopped, is_ready, is_able, declared_of};
+ghost use Rattle.machine.specs.Task.{instruction, is_returning, task_of_row, is_wait, is_stopped, is_ready, is_able, declared_of};
 ghost use Rattle.state_rows.specs.Nano.{is_protected, wanted_holder};
 
 use crate::Reads;
 use entry_log::Part;
-use machine::{Role, Task, ThreadRow, Waiting};
+use machine::{Role, ThreadRow, Waiting};
 use script_types::{Instr, Script, ThreadDecl};
 use sym_base::ThreadNo;
 
@@ -21,88 +21,28 @@ fn declared_of(script: &Script, role: Role) -> Option<&ThreadDecl>
 }
 
 /// The instruction that a thread is at, None at its list's end.
-pub fn instruction(script: &Script, row: &ThreadRow) -> Option<Instr>
-    ensures { result ≡ instruction script.now row.now }
+pub fn instruction<'a>(script: &'a Script, row: &ThreadRow) -> Option<&'a Instr>
+    ensures { option_copied result ≡ instruction script.now row.now }
 {
     let declared = declared_of(script, row.role)?;
     let at = row.next_instruction as usize;
-    declared.instrs.as_slice().get(at).copied()
-}
-
-/// Whether a thread is at an instruction, and not at its list's end.
-fn has_instruction(script: &Script, row: &ThreadRow) -> bool
-    ensures { result ≡ is_some (instruction script.now row.now) }
-{
-    let Some(declared) = declared_of(script, row.role) else {
-        return false;
-    };
-    let at = row.next_instruction as usize;
-    declared.instrs.as_slice().get(at).is_some()
+    declared.instrs.as_slice().get(at)
 }
 
 /// Whether a thread is between a find and its return.
-fn is_returning(part: Option<Part>) -> bool
+pub fn is_returning(part: Option<Part>) -> bool
     ensures { result ≡ is_returning part }
 {
     matches!(part, Some(Part::Return))
-}
-
-/// What a thread does at its list's end: it gives up what protects it, if it is protected.
-fn end_task(protected: bool) -> Option<Task>
-    ensures { result ≡ end_task protected }
-{
-    if protected { Some(Task::Flush) } else { None }
-}
-
-/// What a thread does that owes nothing.
-fn step_or_end<R: Reads>(reads: &R, thread: ThreadNo, instr: Option<Instr>) -> Option<Task>
-    ensures { result ≡ step_or_end (is_protected (R.state reads.now).nano thread) instr }
-{
-    match instr {
-        Some(instr) => Some(Task::Step(instr)),
-        None => end_task(reads.is_protected(thread)),
-    }
-}
-
-/// What a thread does where it isn't at a return: the oldest of what it owes comes first.
-fn pay_or_step<R: Reads>(reads: &R, thread: ThreadNo, instr: Option<Instr>) -> Option<Task>
-    ensures { result ≡ pay_or_step (is_protected (R.state reads.now).nano thread) (first_owed (R.state reads.now) thread) instr }
-{
-    match reads.first_owed(thread) {
-        Some(what) => Some(Task::Pay(what)),
-        None => step_or_end(reads, thread, instr),
-    }
-}
-
-/// What the thread of this row does next: its return, where it is at one, comes before all else.
-fn task_of_row<R: Reads>(
-    script: &Script,
-    reads: &R,
-    thread: ThreadNo,
-    row: &ThreadRow,
-) -> Option<Task>
-    ensures { result ≡ task_of_row script.now (is_protected (R.state reads.now).nano thread) (first_owed (R.state reads.now) thread) (Some row.now) }
-{
-    let instr = instruction(script, row);
-    if is_returning(row.part) && instr.is_some() {
-        return instr.map(Task::Return);
-    }
-    pay_or_step(reads, thread, instr)
 }
 
 /// Whether the thread of this row has something to do: an instruction, something that it owes, or what protects it.
 fn has_task<R: Reads>(script: &Script, reads: &R, thread: ThreadNo, row: &ThreadRow) -> bool
     ensures { result ≡ is_some (task_of_row script.now (is_protected (R.state reads.now).nano thread) (first_owed (R.state reads.now) thread) (Some row.now)) }
 {
-    has_instruction(script, row) || reads.first_owed(thread).is_some() || reads.is_protected(thread)
-}
-
-/// What a thread does next, None where there is nothing.
-pub fn task_of<R: Reads>(script: &Script, reads: &R, thread: ThreadNo) -> Option<Task>
-    ensures { result ≡ task_of script.now (R.state reads.now) thread }
-{
-    let row = reads.thread(thread)?;
-    task_of_row(script, reads, thread, &row)
+    instruction(script, row).is_some()
+        || reads.first_owed(thread).is_some()
+        || reads.is_protected(thread)
 }
 
 /// Whether a thread waits for something.
@@ -132,7 +72,7 @@ pub fn is_ready<R: Reads>(script: &Script, reads: &R, thread: ThreadNo) -> bool
     if is_wait(row.waiting) || is_stopped(reads, thread) {
         return false;
     }
-    has_task(script, reads, thread, &row)
+    has_task(script, reads, thread, row)
 }
 
 /// The thread that holds the fast mutex that a thread wants, if there is one.

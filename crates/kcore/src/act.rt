@@ -21,18 +21,19 @@ use crate::ready::{leave_along, turn};
 use crate::tables::Tables;
 use decisions::decision_of;
 use entry_log::{Actor, Effects, Step};
-use machine::Outcome;
+use machine::{Decision, Outcome};
 use nano_sync::NanoSync;
 use ready_list::ReadyList;
 use ref_words::RefWords;
 use script_types::Script;
 use sym_base::ThreadNo;
 
-/// The next action of a thread.
+/// The next action of a thread, decided in the place of the decision before it.
 fn act<W: RefWords + Drop>(
     script: &Script,
     tables: &mut Tables<W>,
     ready: &mut ReadyList,
+    decision: &mut Decision,
     thread: ThreadNo,
 ) -> Outcome
     requires shaped { IsShaped script.now }
@@ -42,7 +43,7 @@ fn act<W: RefWords + Drop>(
     requires size { ready.old.threads ≡ BOOT_OBJECTS }
     ensures { Does script.now tables.old ready.old tables.new ready.new result (λ S. act script.now S thread) }
 {
-    let decision = decision_of(script, tables, thread);
+    decision_of(decision, script, tables, thread);
     let effects = perform(script, tables, ready, thread, decision.moves.as_slice());
     leave_along(script, tables, ready, thread, decision.moves.as_slice());
     Outcome {
@@ -81,6 +82,7 @@ pub fn transition<W: RefWords + Drop>(
     script: &Script,
     tables: &mut Tables<W>,
     ready: &mut ReadyList,
+    decision: &mut Decision,
     actor: Actor,
 ) -> Outcome
     requires shaped { IsShaped script.now }
@@ -91,7 +93,7 @@ pub fn transition<W: RefWords + Drop>(
     ensures { Does script.now tables.old ready.old tables.new ready.new result (λ S. transition script.now S actor) }
 {
     match actor {
-        Actor::Thread(thread) => act(script, tables, ready, thread),
+        Actor::Thread(thread) => act(script, tables, ready, decision, thread),
         Actor::Tick => tick(&tables.nano, ready),
         Actor::Irq(_) | Actor::Idfc | Actor::Idle => idle(),
     }

@@ -30,7 +30,7 @@ pub use nano_rows::{
     critical_count, held_place, is_protected, is_thread, mutex_holder, signal_count, suspend_count,
     wanted_mutex,
 };
-pub use rows::{first_owed, object_of, row_of, set_row, set_slot, table_of, thread_of};
+pub use rows::{first_owed, object_of, row_of, set_row, set_slot, table_of, thread_in, thread_of};
 pub use state::{Found, HandleSlot, Role, State, ThreadRow, Waiting};
 pub use state_rows::{NanoRows, Owed};
 pub use task::Task;

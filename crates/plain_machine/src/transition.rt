@@ -13,7 +13,7 @@ ghost use Rattle.machine.specs.Transition.{idle, act, carried_out, left};
 use crate::arrivals::{arrive_touched, still_ready, take_out};
 use crate::perform::make_move;
 use crate::tick::tick;
-use decisions::{add_effects, decision_of, told};
+use decisions::{decision_of, tell};
 use entry_log::{Actor, Effects, Step};
 use machine::{Decision, Move, Outcome, State, touched};
 use script_types::Script;
@@ -38,8 +38,7 @@ fn perform(
     let mut effects = Effects::new();
     let mut ready = state.ready.copied(alloc)?;
     for change in moves {
-        let more = told(state, *change);
-        add_effects(&mut effects, more.as_slice());
+        tell(&mut effects, state, *change);
         make_move(state, thread, *change)?;
         take_out(alloc, *change, &mut ready)?;
         arrive_touched(script, state, touched(thread, *change), &mut ready)?;
@@ -99,7 +98,8 @@ fn act(
     requires few { length (tell thread (decision_of script.now state.old thread).moves state.old) ≤ 4 }
     ensures { IfOk result (λ outcome. left state.new outcome ≡ act script.now state.old thread) }
 {
-    let decision = decision_of(script, state, thread);
+    let mut decision = Decision::new();
+    decision_of(&mut decision, script, state, thread);
     carry_out(alloc, script, state, thread, decision)
 }
 
