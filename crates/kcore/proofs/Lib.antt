@@ -9,6 +9,7 @@ mod FirstCount
 mod FreshTable
 mod Goes
 mod GoingMoves
+mod LeastFree
 mod ListSteps
 mod Noting
 mod Performing

@@ -21,7 +21,7 @@ pub use count::{count_of, is_counted, is_last};
 pub use decision::{Decision, Outcome, entry_of};
 pub use duties::{drop_first_owed, owe_close, owe_use};
 pub use handles::{
-    FRESH_SLOT, NewHandle, free_index, holder_of, index_of, instance_of, next_handle,
+    FRESH_SLOT, NewHandle, free_index, handle_at, holder_of, index_of, instance_of, next_handle,
     next_instance, object_in, owner_of, slot_at,
 };
 pub use moves::{MAX_MOVES, Move, Moves};

@@ -3,7 +3,8 @@ ghost use Rattle.std.specs.Prelude.{◌≡◌, ◌+◌, ◌≤◌, [], ◌∷◌
 ghost use Rattle.entry_log.specs.HolderText.{holder_text};
 ghost use Rattle.entry_log.specs.Joined.{joined};
 
-use super::line::{Line, put, put_number};
+use super::line::{Line, put};
+use super::numbers::{put_u8, put_u16, put_u32};
 use crate::Holder;
 
 /// Adds `LETTERS NUMBER`, without the space.
@@ -13,7 +14,7 @@ fn put_numbered(line: &mut Line, letters: &[u8], number: u32)
     ensures short { length line.new.items ≤ length line.old.items + length letters.now + 10 }
 {
     put(line, letters);
-    put_number(line, number);
+    put_u32(line, number);
 }
 
 /// Adds the handle at an index of a table, as `p2.0`.
@@ -24,9 +25,9 @@ fn put_handle(line: &mut Line, letter: &[u8], owner: u16, index: u8)
     ensures short { length line.new.items ≤ length line.old.items + length letter.now + 9 }
 {
     put(line, letter);
-    put_number(line, owner);
+    put_u16(line, owner);
     put(line, b".");
-    put_number(line, index);
+    put_u8(line, index);
 }
 
 /// Adds a holder, at most 13 bytes.
