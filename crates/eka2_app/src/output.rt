@@ -1,4 +1,4 @@
-//! Writing a history, or the line of a refusal.
+//! Writing a history, or the line of a refusal. Each line goes out, with its line feed, as one piece.
 ghost use Rattle.std.specs.Prelude.{◌≡◌, ◌≤◌, is_some, OnOk, OnErr};
 ghost use Rattle.std.specs.List.{flat_map};
 ghost use Rattle.edge_io.specs.Faults.{Rose};
@@ -22,8 +22,13 @@ use script_read::Reason;
 /// The bytes of a line, its line feed among them.
 pub type Line = ArrayVec<u8, 512>;
 
-/// The most bytes that the line of an entry has.
-const LONGEST: usize = 192;
+/// Puts the line of an entry into a buffer, in place of what it held.
+fn put_entry(line: &mut Line, entry: &Entry)
+    ensures { line.new.items ≡ entry_line entry.now }
+{
+    line.clear();
+    let _ = entry_text(entry, line);
+}
 
 /// Puts the line of an object that is left into a buffer, in place of what it held.
 fn put_row(line: &mut Line, row: &FinalRow)
@@ -39,7 +44,7 @@ pub fn line_of_entry(entry: &Entry) -> Line
     ensures { result.items ≡ entry_line entry.now }
 {
     let mut line = Line::new();
-    add_entry(&mut line, entry);
+    put_entry(&mut line, entry);
     line
 }
 
@@ -67,45 +72,19 @@ fn line_of_refusal(line: u32, reason: Reason) -> Line
     text
 }
 
-/// Writes the lines in a buffer out where a further one might not fit.
-fn make_room<K: Sink>(sink: &mut K, lines: &mut Line) -> Result<(), Failed>
-    ensures wrote { OnOk result (WroteBut (K.written sink.old) (K.written sink.new) lines.new.items lines.old.items) }
-    ensures room { OnOk result (length lines.new.items + 192 ≤ 512) }
-    ensures front { OnErr result (WrotePrefix (K.written sink.old) (K.written sink.new) lines.old.items) }
-    ensures tells { is_some (K.written sink.new) ≡ is_some (K.written sink.old) }
-    ensures fault { OnErr result (Rose (K.faults sink.old) (K.faults sink.new)) }
-    ensures never_falls { K.faults sink.old ≤ K.faults sink.new }
-{
-    if lines.remaining_capacity() >= LONGEST {
-        return Ok(());
-    }
-    write_whole(sink, lines.as_slice())?;
-    lines.clear();
-    Ok(())
-}
-
-/// Adds the line of an entry to those in a buffer, which has room for it.
-fn add_entry(lines: &mut Line, entry: &Entry)
-    requires { length lines.old.items + 192 ≤ 512 }
-    ensures { lines.new.items ≡ lines.old.items ++ entry_line entry.now }
-{
-    let _ = entry_text(entry, lines);
-}
-
-/// Writes the line of each entry. A buffer holds as many of them as fit, and goes out as one piece.
-fn write_entries<K: Sink>(sink: &mut K, lines: &mut Line, entries: &[Entry]) -> Result<(), Failed>
+/// Writes the line of each entry, by way of one buffer.
+fn write_entries<K: Sink>(sink: &mut K, line: &mut Line, entries: &[Entry]) -> Result<(), Failed>
     ensures whole { OnOk result (Wrote (K.written sink.old) (K.written sink.new) (flat_map entry_line entries.now)) }
     ensures front { OnErr result (WrotePrefix (K.written sink.old) (K.written sink.new) (flat_map entry_line entries.now)) }
     ensures tells { is_some (K.written sink.new) ≡ is_some (K.written sink.old) }
     ensures fault { OnErr result (Rose (K.faults sink.old) (K.faults sink.new)) }
     ensures never_falls { K.faults sink.old ≤ K.faults sink.new }
 {
-    lines.clear();
     for entry in entries {
-        make_room(sink, lines)?;
-        add_entry(lines, entry);
+        put_entry(line, entry);
+        write_whole(sink, line.as_slice())?;
     }
-    write_whole(sink, lines.as_slice())
+    Ok(())
 }
 
 /// Writes the line of each object that is left, by way of one buffer.
@@ -132,7 +111,8 @@ fn write_rows<K: Sink>(
     Ok(())
 }
 
-/// Writes the whole history of a kernel: its entries, and the objects that are left.
+/// Writes the whole history of a kernel: its entries, and the objects that are left. One buffer holds
+/// each line in turn.
 pub fn write_history<K: Sink>(sink: &mut K, kernel: &Kernel<PlainWords>) -> Result<(), Failed>
     requires valid { IsValid kernel.now.script }
     ensures whole { OnOk result (Wrote (K.written sink.old) (K.written sink.new)

@@ -1,5 +1,4 @@
 mod Bytes
-mod Digits
 mod Joins
 mod Pieces
 mod ReadActor

@@ -127,7 +127,7 @@ impl<W: RefWords + Drop> Kernel<W> {
         );
         let place = self.history.as_slice().len() as u32 + 1;
         let entry = entry_of(place, actor, outcome);
-        self.history.push(entry).unwrap();
+        self.history.push_reserved(entry);
     }
 
     /// Whether a thread may act: it is ready, and wants no fast mutex that another holds.

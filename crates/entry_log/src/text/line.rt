@@ -1,10 +1,18 @@
 //! A line that is being written.
-ghost use Rattle.std.specs.Prelude.{◌≡◌, ◌+◌, ◌≤◌, ◌++◌, length};
+ghost use Rattle.std.specs.Prelude.{◌≡◌, ◌+◌, ◌≤◌, [], ◌∷◌, ◌++◌, length};
 
 use arrayvec::ArrayVec;
 
 /// The bytes of a line, of which there are at most 512, its LF among them.
 pub type Line = ArrayVec<u8, 512>;
+
+/// Adds a byte.
+pub fn put_byte(line: &mut Line, byte: u8)
+    requires { length line.old.items + 1 ≤ 512 }
+    ensures { line.new.items ≡ line.old.items ++ byte ∷ [] }
+{
+    line.push(byte);
+}
 
 /// Adds a piece that fits.
 pub fn put(line: &mut Line, piece: &[u8])
