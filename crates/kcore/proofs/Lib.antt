@@ -10,6 +10,7 @@ mod FirstCount
 mod FreshTable
 mod Goes
 mod GoingMoves
+mod LeastFree
 mod ListSteps
 mod MovesApart
 mod Noting

@@ -10,9 +10,9 @@ ghost use Rattle.machine.specs.Transition.{carried_out, left};
 
 use crate::arrivals::{arrive_touched, still_ready, take_out};
 use crate::perform::make_move;
-use decisions::{add_effects, leave_queue, op_moves, ops_of, step_of_body, told};
+use decisions::{leave_queue, op_moves, ops_of, step_of_body, tell};
 use entry_log::{Effects, Step};
-use machine::{Body, Decision, Move, Outcome, Plan, State, touched};
+use machine::{Body, Decision, Move, Moves, Outcome, State, touched};
 use script_types::{Op, Script};
 use std::alloc::Global;
 use sym_base::{Items, NoMemory, ThreadNo};
@@ -62,8 +62,7 @@ fn make_moves(
     course: &mut Course,
 ) -> Result<(), NoMemory> {
     for change in moves {
-        let more = told(state, *change);
-        add_effects(&mut course.effects, more.as_slice());
+        tell(&mut course.effects, state, *change);
         make_move(alloc, state, thread, *change)?;
         take_out(alloc, *change, &mut course.ready)?;
         arrive_touched(script, state, touched(thread, *change), &mut course.ready)?;
@@ -80,15 +79,16 @@ fn run_operations(
     ops: &[Op],
     course: &mut Course,
 ) -> Result<(), NoMemory> {
+    let mut moves = Moves::new();
     for op in ops {
-        let moves = op_moves(script, state, op);
+        op_moves(&mut moves, script, state, op);
         make_moves(alloc, script, state, thread, moves.as_slice(), course)?;
     }
     Ok(())
 }
 
 /// A body runs, behind the leave of its call's queue.
-fn run_body(
+pub fn run_body(
     alloc: Global,
     script: &Script,
     state: &mut State,
@@ -96,7 +96,8 @@ fn run_body(
     body: Body,
 ) -> Result<Outcome, NoMemory> {
     let mut course = Course::start(alloc, state)?;
-    let leave = leave_queue(state, body);
+    let mut leave = Moves::new();
+    leave_queue(&mut leave, state, body);
     make_moves(alloc, script, state, thread, leave.as_slice(), &mut course)?;
     run_operations(
         alloc,
@@ -127,16 +128,17 @@ fn carry_out(
     course.end(alloc, script, state, step, answer)
 }
 
-/// The action of a thread that was planned.
-pub fn carry_out_plan(
+/// What was decided for a thread, or a body, where there is one.
+pub fn follow(
     alloc: Global,
     script: &Script,
     state: &mut State,
     thread: ThreadNo,
-    plan: Plan,
+    decision: Decision,
+    body: Option<Body>,
 ) -> Result<Outcome, NoMemory> {
-    match plan {
-        Plan::Decided(decision) => carry_out(alloc, script, state, thread, decision),
-        Plan::Runs(body) => run_body(alloc, script, state, thread, body),
+    match body {
+        None => carry_out(alloc, script, state, thread, decision),
+        Some(body) => run_body(alloc, script, state, thread, body),
     }
 }

@@ -10,11 +10,11 @@ ghost use Rattle.machine.specs.Steps.{decision_of};
 ghost use Rattle.sym_base.specs.declared.number.ObjNo.{ObjNo};
 ghost use Rattle.machine.specs.Transition.{idle, act, carried_out, left};
 
-use crate::action::carry_out_plan;
+use crate::action::{follow, run_body};
 use crate::tick::tick;
-use decisions::{immediate_plan, plan_of};
+use decisions::{immediate_action, next_action};
 use entry_log::{Actor, Effects, Step};
-use machine::{Body, Outcome, Plan, State};
+use machine::{Body, Decision, Outcome, State};
 use script_types::Script;
 use std::alloc::Global;
 use sym_base::{NoMemory, ObjNo, ThreadNo};
@@ -41,15 +41,17 @@ fn act(
     state: &mut State,
     thread: ThreadNo,
 ) -> Result<Outcome, NoMemory> {
-    let plan = plan_of(script, state, thread);
-    carry_out_plan(alloc, script, state, thread, plan)
+    let mut decision = Decision::new();
+    let body = next_action(&mut decision, script, state, thread);
+    follow(alloc, script, state, thread, decision, body)
 }
 
 /// The oldest item of the immediate queue.
 #[tactic(auto, unfolding(machine::specs::Interrupts::immediate))]
 fn immediate(alloc: Global, script: &Script, state: &mut State) -> Result<Outcome, NoMemory> {
-    let plan = immediate_plan(script, state);
-    carry_out_plan(alloc, script, state, SUPERVISOR, plan)
+    let mut decision = Decision::new();
+    let body = immediate_action(&mut decision, script, state);
+    follow(alloc, script, state, SUPERVISOR, decision, body)
 }
 
 /// An interrupt.
@@ -60,8 +62,7 @@ fn interrupt(
     state: &mut State,
     number: u8,
 ) -> Result<Outcome, NoMemory> {
-    let plan = Plan::Runs(Body::Interrupt(number));
-    carry_out_plan(alloc, script, state, SUPERVISOR, plan)
+    run_body(alloc, script, state, SUPERVISOR, Body::Interrupt(number))
 }
 
 /// An action of an actor.
