@@ -135,13 +135,7 @@ fn is_woken<R: Reads>(reads: &R, thread: ThreadNo, status: u8, row: Option<Threa
 }
 
 /// A device completes its request, where it has one, and the thread's wait ends, where it was for that.
-fn complete<R: Reads>(
-    moves: &mut Moves,
-    reads: &R,
-    device: u8,
-    code: i32,
-    request: Option<Request>,
-)
+fn complete<R: Reads>(moves: &mut Moves, reads: &R, device: u8, code: i32, request: Option<Request>)
     ensures moves { moves.new ≡ complete (R.state reads.now) device code request }
     ensures few { length moves.new ≤ 2 }
 {

@@ -28,7 +28,9 @@ fn move_call<R: Reads>(decision: &mut Decision, script: &Script, reads: &R, dfc:
 {
     decision.step = step_of_move(script, dfc);
     decision.moves.clear();
-    decision.moves.push(Move::Deferred(DeferredMove::TakeImmediate));
+    decision
+        .moves
+        .push(Move::Deferred(DeferredMove::TakeImmediate));
     decision.moves.push(add_call(reads, dfc));
     decision.answer = None;
 }

@@ -107,7 +107,13 @@ fn pay(decision: &mut Decision, what: Owed)
 }
 
 /// What a thread does at its list's end: it gives up what protects it, if it is protected.
-fn end<R: Reads>(decision: &mut Decision, script: &Script, reads: &R, thread: ThreadNo, row: &ThreadRow)
+fn end<R: Reads>(
+    decision: &mut Decision,
+    script: &Script,
+    reads: &R,
+    thread: ThreadNo,
+    row: &ThreadRow,
+)
     requires { R.is_readable reads.now }
     ensures { let S = R.state reads.now in decision.new ≡ decision_of_row script.now S thread (Some row.now) (end_task (is_protected S.nano thread)) }
 {
@@ -130,7 +136,7 @@ fn step_or_end<R: Reads>(
     requires shaped { IsShaped script.now }
     requires readable { R.is_readable reads.now }
     requires registers { (i : Instr) → option_copied instr ≡ Some i → HasRegisters i }
-    ensures { let S = R.state reads.now in decision.new ≡ decision_of_row script.now S thread (Some row.now) (step_or_end (is_protected S.nano thread) (option_copied instr)) }
+    ensures { let S = R.state reads.now in decision.new ≡ decision_of_row script.now S thread (Some row.now) (step_or_end (is_protected S.nano thread) (option_copied instr.entry)) }
 {
     match instr {
         Some(instr) => step_of(decision, script, reads, thread, row, instr),
@@ -150,7 +156,7 @@ fn run_or_step<R: Reads>(
     requires shaped { IsShaped script.now }
     requires readable { R.is_readable reads.now }
     requires registers { (i : Instr) → option_copied instr ≡ Some i → HasRegisters i }
-    ensures { let S = R.state reads.now in decision_by script.now thread S (planned decision.new result) ≡ decision_of_row script.now S thread (Some row.now) (run_or (next_call S.deferred row.now.role) (step_or_end (is_protected S.nano thread) (option_copied instr))) }
+    ensures { let S = R.state reads.now in decision_by script.now thread S (planned decision.new result) ≡ decision_of_row script.now S thread (Some row.now) (run_or (next_call S.deferred row.now.role) (step_or_end (is_protected S.nano thread) (option_copied instr.entry))) }
 {
     if let Some(dfc) = next_call(reads, row.role) {
         return Some(Body::Deferred(dfc));
@@ -171,7 +177,7 @@ fn pay_or_step<R: Reads>(
     requires shaped { IsShaped script.now }
     requires readable { R.is_readable reads.now }
     requires registers { (i : Instr) → option_copied instr ≡ Some i → HasRegisters i }
-    ensures { let S = R.state reads.now in decision_by script.now thread S (planned decision.new result) ≡ decision_of_row script.now S thread (Some row.now) (pay_or (first_owed S thread) (run_or (next_call S.deferred row.now.role) (step_or_end (is_protected S.nano thread) (option_copied instr)))) }
+    ensures { let S = R.state reads.now in decision_by script.now thread S (planned decision.new result) ≡ decision_of_row script.now S thread (Some row.now) (pay_or (first_owed S thread) (run_or (next_call S.deferred row.now.role) (step_or_end (is_protected S.nano thread) (option_copied instr.entry)))) }
 {
     if let Some(what) = reads.first_owed(thread) {
         pay(decision, what);

@@ -69,9 +69,25 @@ pub fn run_body<W: RefWords + Drop>(
     let mut effects = Effects::new();
     let mut made = Made::new();
     leave_queue(moves, tables, body);
-    perform(script, tables, ready, thread, moves.as_slice(), &mut effects);
+    perform(
+        script,
+        tables,
+        ready,
+        thread,
+        moves.as_slice(),
+        &mut effects,
+    );
     made.add(moves.as_slice());
-    run_ops(script, tables, ready, moves, thread, ops_of(script, body), &mut effects, &mut made);
+    run_ops(
+        script,
+        tables,
+        ready,
+        moves,
+        thread,
+        ops_of(script, body),
+        &mut effects,
+        &mut made,
+    );
     leave_along(script, tables, ready, thread, made.as_slice());
     Outcome {
         step: step_of_body(script, body),
