@@ -117,7 +117,7 @@ fn step_or_end<R: Reads>(
 )
     requires readable { R.is_readable reads.now }
     requires registers { (i : Instr) → option_copied instr ≡ Some i → HasRegisters i }
-    ensures { decision.new ≡ decision_of_row (R.state reads.now) thread (Some row.now) (step_or_end (is_protected (R.state reads.now).nano thread) (option_copied instr)) }
+    ensures { decision.new ≡ decision_of_row (R.state reads.now) thread (Some row.now) (step_or_end (is_protected (R.state reads.now).nano thread) (option_copied instr.entry)) }
 {
     match instr {
         Some(instr) => step_of(decision, reads, thread, row, instr),
@@ -135,7 +135,7 @@ fn pay_or_step<R: Reads>(
 )
     requires readable { R.is_readable reads.now }
     requires registers { (i : Instr) → option_copied instr ≡ Some i → HasRegisters i }
-    ensures { decision.new ≡ decision_of_row (R.state reads.now) thread (Some row.now) (pay_or_step (is_protected (R.state reads.now).nano thread) (first_owed (R.state reads.now) thread) (option_copied instr)) }
+    ensures { decision.new ≡ decision_of_row (R.state reads.now) thread (Some row.now) (pay_or_step (is_protected (R.state reads.now).nano thread) (first_owed (R.state reads.now) thread) (option_copied instr.entry)) }
 {
     match reads.first_owed(thread) {
         Some(what) => pay(decision, what),

@@ -87,6 +87,7 @@ pub fn next_handle(table: &[HandleSlot]) -> Option<NewHandle>
 /// The handle that a process's table gives next, whose least free index this is.
 pub fn handle_at(table: &[HandleSlot], index: usize) -> Option<NewHandle>
     requires least { index ≡ free_index table.now }
+    requires inside { index ≤ length table.now }
     requires size { length table.now ≤ 256 }
     requires instance { (slot_at table.now (free_index table.now)).instance ≤ 16383 }
     ensures handle { result ≡ next_handle table.now }

@@ -5,13 +5,13 @@ use Rattle.kcore.specs.StateOf.{state_of}
 use Rattle.kcore.proofs.Performing.{way_goes_on, way_few, next_move}
 use Rattle.kcore.proofs.perform.perform.Goals as goal
 
-pub add_effects-requires : goal.add_effects-requires
-add_effects-requires g c =
+pub tell-requires-clause-few : goal.tell-requires-clause-few
+tell-requires-clause-few g c =
     let m = c.change-item.result in
     let i = c.loop-change.change-index in
     let next = next_move c.args.moves.now i m c.loop-change-test.true c.change-item.is in
     let h = rw next at c.loop-change.invariant in
-    rw (c.as_slice.ensures.effects, c.told.ensures) (way_few c.args.script.now c.args.thread c.args.moves.now (state_of c.args.tables.now) c.args.ready.now m (drop (i + 1) c.args.moves.now) c.loop-change.tables c.loop-change.ready c.loop-change.effects c.requires.few h)
+    way_few c.args.script.now c.args.thread c.args.moves.now (state_of c.args.tables.now) c.args.ready.now m (drop (i + 1) c.args.moves.now) c.loop-change.tables c.loop-change.ready c.loop-change.effects c.requires.few h
 
 pub make_move-requires-clause-can : goal.make_move-requires-clause-can
 make_move-requires-clause-can g c =
@@ -30,4 +30,4 @@ loop-change-preserved g c =
     let h = rw next at c.loop-change.invariant in
     let T = state_of c.make_move.new.tables in
     let follow = rw c.touched.ensures at c.arrive_touched.ensures.queues in
-    rw (c.add_effects.ensures, c.as_slice.ensures.effects, c.told.ensures) (way_goes_on c.args.script.now c.args.thread c.args.moves.now (state_of c.args.tables.now) c.args.ready.now m rest c.loop-change.tables c.make_move.new.tables c.loop-change.ready c.take_out.new.ready c.arrive_touched.new.ready c.loop-change.effects h c.make_move.ensures c.take_out.ensures.queues follow c.arrive_touched.ensures.size)
+    rw c.tell.ensures (way_goes_on c.args.script.now c.args.thread c.args.moves.now (state_of c.args.tables.now) c.args.ready.now m rest c.loop-change.tables c.make_move.new.tables c.loop-change.ready c.take_out.new.ready c.arrive_touched.new.ready c.loop-change.effects h c.make_move.ensures c.take_out.ensures.queues follow c.arrive_touched.ensures.size)
