@@ -46,26 +46,23 @@ item_here : (moves : List Move) (i : ℕ) (m : Move) → i < length moves → m 
 item_here moves i m inside is = rw (add-one, drop-cons moves i m) (ap (λ (x : Move). x ∷ drop (suc i) moves) (sym is))
 
 -- the same of a move at a place, and of what is made in between
-pub goes_on_at : (script : Script) (t : ObjNo) (moves : List Move) (S T U : State) (i : ℕ) (m : Move) (effects more now : List Effect) (ready out later touches : List ObjNo)
+pub goes_on_at : (script : Script) (t : ObjNo) (moves : List Move) (S T U : State) (i : ℕ) (m : Move) (effects now : List Effect) (ready out later touches : List ObjNo)
     → i < length moves → m ≡ get_or moves i m → IsUnderWay script t moves S (drop i moves) T effects ready
-    → U ≡ moved t m T → now ≡ effects ++ more → more ≡ told m T → out ≡ taken_out m ready → later ≡ arrive script U touches out → touches ≡ touched t m
+    → U ≡ moved t m T → now ≡ effects ++ told m T → out ≡ taken_out m ready → later ≡ arrive script U touches out → touches ≡ touched t m
     → IsUnderWay script t moves S (drop (i + 1) moves) U now later
-goes_on_at script t moves S T U i m effects more now ready out later touches inside is way new added tells leaves arrived by =
+goes_on_at script t moves S T U i m effects now ready out later touches inside is way new added leaves arrived by =
     let before : IsUnderWay script t moves S (m ∷ drop (i + 1) moves) T effects ready = subst (λ (l : List Move). IsUnderWay script t moves S l T effects ready) (item_here moves i m inside is) way in
     let behind = goes_on script t moves S m (drop (i + 1) moves) T effects ready before in
-    let effects_now : now ≡ effects ++ told m T = added ∙ ap (λ (l : List Effect). effects ++ l) tells in
     let ready_now : later ≡ arrive script (moved t m T) (touched t m) (taken_out m ready) = arrived ∙ ap (λ (l : List ObjNo). arrive script U l out) by ∙ ap (λ (s : State). arrive script s (touched t m) out) new ∙ ap (arrive script (moved t m T) (touched t m)) leaves in
     subst (λ (s : State). IsUnderWay script t moves S (drop (i + 1) moves) s now later) (sym new)
-    (subst (λ (es : List Effect). IsUnderWay script t moves S (drop (i + 1) moves) (moved t m T) es later) (sym effects_now)
+    (subst (λ (es : List Effect). IsUnderWay script t moves S (drop (i + 1) moves) (moved t m T) es later) (sym added)
     (subst (λ (l : List ObjNo). IsUnderWay script t moves S (drop (i + 1) moves) (moved t m T) (effects ++ told m T) l) (sym ready_now) behind))
 
-pub tells_few_at : (script : Script) (t : ObjNo) (moves : List Move) (S T : State) (i : ℕ) (m : Move) (effects more : List Effect) (ready : List ObjNo)
-    → i < length moves → m ≡ get_or moves i m → IsUnderWay script t moves S (drop i moves) T effects ready → more ≡ told m T → length (tell t moves S) ≤ 4 → length effects + length more ≤ 4
-tells_few_at script t moves S T i m effects more ready inside is way tells few =
+pub tells_few_at : (script : Script) (t : ObjNo) (moves : List Move) (S T : State) (i : ℕ) (m : Move) (effects : List Effect) (ready : List ObjNo)
+    → i < length moves → m ≡ get_or moves i m → IsUnderWay script t moves S (drop i moves) T effects ready → length (tell t moves S) ≤ 4 → length effects + length (told m T) ≤ 4
+tells_few_at script t moves S T i m effects ready inside is way few =
     let before : IsUnderWay script t moves S (m ∷ drop (i + 1) moves) T effects ready = subst (λ (l : List Move). IsUnderWay script t moves S l T effects ready) (item_here moves i m inside is) way in
-    let all = tells_few script t moves S m (drop (i + 1) moves) T effects ready before few in
-    let same = ap (λ (es : List Effect). length es) tells in
-    omega arith
+    tells_few script t moves S m (drop (i + 1) moves) T effects ready before few
 
 -- there is room for a move where one is left
 pub room_for_one : (script : Script) (t : ObjNo) (moves : List Move) (S T : State) (i : ℕ) (m : Move) (effects : List Effect) (ready : List ObjNo)
