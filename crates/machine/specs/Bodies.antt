@@ -1,6 +1,6 @@
 -- Bodies: what interrupts and deferred function calls do, one operation after the other, each decided in the state that
 -- the earlier ones left.
-use Rattle.std.specs.Prelude.{ℕ, ℤ, ◌+◌, ◌==◌, ◌||◌, not, Bool, true, false, if◌then◌else◌, List, [], ◌∷◌, ◌++◌, Option, Some, None, option_and_then, position, slice_get}
+use Rattle.std.specs.Prelude.{ℕ, ℤ, ◌==◌, ◌||◌, not, Bool, true, false, if◌then◌else◌, List, [], ◌∷◌, ◌++◌, Option, Some, None, option_and_then, position, slice_get}
 use Rattle.std.specs.Str.{bytes_eq}
 use Rattle.sym_base.specs.declared.kind.Kind.TheVariants.{Thread}
 use Rattle.sym_base.specs.declared.number.ObjNo.{ObjNo}

@@ -1,5 +1,5 @@
 -- `fswait` and `fssignal`: fast semaphores. Only its own thread waits on one, and signals are kept by count.
-use Rattle.std.specs.Prelude.{ℕ, pos, ◌==◌, Bool, true, false, if◌then◌else◌, List, [], ◌∷◌, Option, Some, None}
+use Rattle.std.specs.Prelude.{ℕ, pos, ◌==◌, if◌then◌else◌, List, [], ◌∷◌, Option, Some, None}
 use Rattle.sym_base.specs.declared.error.Error.TheVariants.{Died}
 use Rattle.sym_base.specs.declared.kind.Kind.TheVariants.{Thread}
 use Rattle.sym_base.specs.declared.number.ObjNo.{ObjNo}

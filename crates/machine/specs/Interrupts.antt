@@ -1,5 +1,5 @@
 -- Actions of which no thread is the actor: an interrupt's body runs, and the oldest item of the immediate queue runs or moves.
-use Rattle.std.specs.Prelude.{ℕ, List, [], ◌∷◌, Option, Some, None, slice_get}
+use Rattle.std.specs.Prelude.{ℕ, [], ◌∷◌, Option, Some, None, slice_get}
 use Rattle.sym_base.specs.declared.number.ObjNo.{ObjNo}
 use Rattle.script_types.specs.declared.declaration.DfcDecl.{DfcDecl}
 use Rattle.script_types.specs.declared.script.Script.{Script}

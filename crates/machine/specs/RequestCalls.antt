@@ -1,5 +1,5 @@
 -- `request`, `cancel`, `waitany`, `waitfor` and `status`: asynchronous requests of devices.
-use Rattle.std.specs.Prelude.{ℕ, ℤ, pos, ◌==◌, ◌||◌, is_some, if◌then◌else◌, List, [], ◌∷◌, Option, Some, None}
+use Rattle.std.specs.Prelude.{ℕ, pos, ◌==◌, ◌||◌, is_some, if◌then◌else◌, [], ◌∷◌, Option, Some, None}
 use Rattle.sym_base.specs.ErrorCode.{error_code}
 use Rattle.sym_base.specs.declared.error.Error.TheVariants as error
 use Rattle.sym_base.specs.declared.number.ObjNo.{ObjNo}

@@ -1,5 +1,5 @@
 -- `suspend`, `resume` and `priority`: calls on a thread, by a handle of it.
-use Rattle.std.specs.Prelude.{ℕ, pos, ◌==◌, if◌then◌else◌, List, [], ◌∷◌, Option, Some, None}
+use Rattle.std.specs.Prelude.{ℕ, pos, ◌==◌, if◌then◌else◌, [], ◌∷◌, Option, Some, None}
 use Rattle.sym_base.specs.declared.error.Error.{Error}
 use Rattle.sym_base.specs.declared.error.Error.TheVariants.{General, Overflow, Died, PermissionDenied}
 use Rattle.sym_base.specs.declared.kind.Kind.TheVariants.{Thread}
