@@ -1,14 +1,10 @@
-//! Actions on the plain machine's lists.
-ghost use Rattle.std.specs.Prelude.{◌≡◌, ◌≤◌, length, IfOk, List};
+//! Actions of actors on the plain machine's lists.
+ghost use Rattle.std.specs.Prelude.{◌≡◌, IfOk};
 ghost use Rattle.script_types.specs.Shape.{IsShaped};
-ghost use Rattle.readings.specs.Readable.{AreSmallRows};
 ghost use Rattle.machine.specs.History.{transition};
-ghost use Rattle.machine.specs.Moves.{perform, tell};
-ghost use Rattle.machine.specs.Arrivals.{ready_after};
-ghost use Rattle.machine.specs.Room.{HasRoom};
-ghost use Rattle.machine.specs.Steps.{decision_of};
-ghost use Rattle.sym_base.specs.declared.number.ObjNo.{ObjNo};
-ghost use Rattle.machine.specs.Transition.{idle, act, carried_out, left};
+ghost use Rattle.machine.specs.Interrupts.{immediate, interrupt};
+ghost use Rattle.machine.specs.Transition.{idle, act, left};
+ghost use Rattle.plain_machine.specs.Allowed.{AllowsAction};
 
 use crate::action::{follow, run_body};
 use crate::tick::tick;
@@ -40,7 +36,11 @@ fn act(
     script: &Script,
     state: &mut State,
     thread: ThreadNo,
-) -> Result<Outcome, NoMemory> {
+) -> Result<Outcome, NoMemory>
+    requires shaped { IsShaped script.now }
+    requires allowed { AllowsAction script.now state.old }
+    ensures { IfOk result (λ outcome. left state.new outcome ≡ act script.now state.old thread) }
+{
     let mut decision = Decision::new();
     let body = next_action(&mut decision, script, state, thread);
     follow(alloc, script, state, thread, decision, body)
@@ -48,7 +48,11 @@ fn act(
 
 /// The oldest item of the immediate queue.
 #[tactic(auto, unfolding(machine::specs::Interrupts::immediate))]
-fn immediate(alloc: Global, script: &Script, state: &mut State) -> Result<Outcome, NoMemory> {
+fn immediate(alloc: Global, script: &Script, state: &mut State) -> Result<Outcome, NoMemory>
+    requires shaped { IsShaped script.now }
+    requires allowed { AllowsAction script.now state.old }
+    ensures { IfOk result (λ outcome. left state.new outcome ≡ immediate script.now state.old) }
+{
     let mut decision = Decision::new();
     let body = immediate_action(&mut decision, script, state);
     follow(alloc, script, state, SUPERVISOR, decision, body)
@@ -61,7 +65,11 @@ fn interrupt(
     script: &Script,
     state: &mut State,
     number: u8,
-) -> Result<Outcome, NoMemory> {
+) -> Result<Outcome, NoMemory>
+    requires shaped { IsShaped script.now }
+    requires allowed { AllowsAction script.now state.old }
+    ensures { IfOk result (λ outcome. left state.new outcome ≡ interrupt script.now state.old number) }
+{
     run_body(alloc, script, state, SUPERVISOR, Body::Interrupt(number))
 }
 
@@ -71,7 +79,11 @@ pub fn transition(
     script: &Script,
     state: &mut State,
     actor: Actor,
-) -> Result<Outcome, NoMemory> {
+) -> Result<Outcome, NoMemory>
+    requires shaped { IsShaped script.now }
+    requires allowed { AllowsAction script.now state.old }
+    ensures { IfOk result (λ outcome. left state.new outcome ≡ transition script.now state.old actor) }
+{
     match actor {
         Actor::Thread(thread) => act(alloc, script, state, thread),
         Actor::Irq(number) => interrupt(alloc, script, state, number),
