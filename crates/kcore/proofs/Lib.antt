@@ -9,6 +9,7 @@ mod Finds
 mod FirstCount
 mod FreshTable
 mod Goes
+mod GoingActions
 mod GoingMoves
 mod ListSteps
 mod MovesApart
@@ -18,3 +19,4 @@ mod ReadyChanges
 mod ReadyLists
 mod ReadyQueues
 mod ReadyRows
+mod RunningOps
