@@ -1,2 +1,0 @@
-pub mod BestSoFar
-pub mod Readable

@@ -1,31 +1,46 @@
 //! Bodies: what interrupts and deferred function calls do, one operation after the other, each decided in the state
 //! that the earlier ones left (Symbian OS Internals, the chapter on interrupts).
-ghost use Rattle.std.specs.Prelude.{◌≡◌, ◌≤◌, [], ◌∷◌, if◌then◌else◌, length, option_copied};
+ghost use Rattle.std.specs.Prelude.{◌≡◌, ◌==◌, ◌<◌, ◌≤◌, [], ◌∷◌, if◌then◌else◌, length, option_copied, position, IfSome};
 ghost use Rattle.machine.specs.Bodies.{idfc_named, dfc_named, add_call, queue_immediate, queue_to_move, queue_call, signal_object, ends_wait, end_wait, complete, op_moves, irq_of, ops_of_irq, ops_of, step_of_body, leave_queue};
 ghost use Rattle.machine.specs.declared.moves.Move.TheVariants.{Wake};
 ghost use Rattle.script_types.specs.Shape.{IsShaped};
+ghost use Rattle.script_types.specs.declared.declaration.IrqBody.{IrqBody};
 
-use crate::Reads;
 use crate::decide::one_move;
 use crate::fast_semaphore::signal_move;
 use crate::request_calls::is_pending;
 use entry_log::Step;
 use machine::{Body, DeferredMove, Move, Moves, RequestMove, ThreadRow, Waiting};
+use readings::Reads;
 use script_types::{IrqBody, Op, Script};
 use state_rows::Request;
 use sym_base::{Kind, Name, ObjNo, ThreadNo};
+
+/// The place of the immediate deferred function call of a name.
+fn idfc_place(script: &Script, name: &Name) -> Option<usize>
+    ensures place { result ≡ idfc_named script.now name.now }
+    ensures within { IfSome result (λ k. k < length script.now.idfcs) }
+{
+    let idfcs = script.idfcs.as_slice();
+    idfcs.iter().position(|declared| name.is(&declared.name))
+}
 
 /// The number of the immediate deferred function call of a name.
 fn idfc_named(script: &Script, name: &Name) -> Option<u8>
     requires { IsShaped script.now }
     ensures { result ≡ idfc_named script.now name.now }
 {
-    let place = script
-        .idfcs
-        .as_slice()
-        .iter()
-        .position(|declared| name.is(&declared.name))?;
+    let place = idfc_place(script, name)?;
     Some(place as u8)
+}
+
+/// The place of the deferred function call of a name.
+fn dfc_place(script: &Script, name: &Name) -> Option<usize>
+    ensures place { result ≡ dfc_named script.now name.now }
+    ensures within { IfSome result (λ k. k < length script.now.dfcs) }
+{
+    let dfcs = script.dfcs.as_slice();
+    dfcs.iter().position(|declared| name.is(&declared.name))
 }
 
 /// The number of the deferred function call of a name.
@@ -33,11 +48,7 @@ pub fn dfc_named(script: &Script, name: &Name) -> Option<u8>
     requires { IsShaped script.now }
     ensures { result ≡ dfc_named script.now name.now }
 {
-    let place = script
-        .dfcs
-        .as_slice()
-        .iter()
-        .position(|declared| name.is(&declared.name))?;
+    let place = dfc_place(script, name)?;
     Some(place as u8)
 }
 
@@ -148,13 +159,20 @@ pub fn op_moves<R: Reads>(script: &Script, reads: &R, op: &Op) -> Moves
     }
 }
 
+/// The place of the interrupt of a number among the declared ones.
+fn irq_place(script: &Script, number: u8) -> Option<usize>
+    ensures { result ≡ position (λ (irq : IrqBody). irq.number == number) script.now.irqs }
+{
+    let irqs = script.irqs.as_slice();
+    irqs.iter().position(|irq| irq.number == number)
+}
+
 /// What is declared of the interrupt of a number.
 fn irq_of(script: &Script, number: u8) -> Option<&IrqBody>
     ensures { option_copied result ≡ irq_of script.now number }
 {
-    let irqs = script.irqs.as_slice();
-    let place = irqs.iter().position(|irq| irq.number == number)?;
-    irqs.get(place)
+    let place = irq_place(script, number)?;
+    script.irqs.as_slice().get(place)
 }
 
 /// The operations of a body, in their order.

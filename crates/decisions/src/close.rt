@@ -3,11 +3,11 @@ ghost use Rattle.std.specs.Prelude.{◌≡◌, ◌<◌, IfSome};
 ghost use Rattle.machine.specs.Close.{close_handle, close_do};
 ghost use Rattle.machine.specs.Handles.{index_of};
 
-use crate::Reads;
 use crate::decide::{answer, one_move, refuse};
 use crate::look::object_at;
 use entry_log::{Part, Step, Word};
 use machine::{Decision, Move, ThreadRow, holder_of};
+use readings::Reads;
 use sym_base::{Error, ObjNo, ThreadNo};
 
 const STEP: Step = Step::Of(Word::Close, Part::Do);

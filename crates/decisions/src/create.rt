@@ -2,10 +2,10 @@
 ghost use Rattle.std.specs.Prelude.{◌≡◌, ◌<◌, IfSome};
 ghost use Rattle.machine.specs.Create.{make_with_handle, create_do};
 
-use crate::Reads;
 use crate::decide::{answer_handle, refuse};
 use entry_log::{Holder, Part, Step, Word};
 use machine::{Decision, Move, NewHandle, ThreadRow};
+use readings::Reads;
 use sym_base::{Error, Kind, Limits, Name, ThreadNo};
 
 const STEP: Step = Step::Of(Word::Create, Part::Do);

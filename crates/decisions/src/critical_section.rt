@@ -3,10 +3,10 @@
 ghost use Rattle.std.specs.Prelude.{◌≡◌, ◌≤◌, length};
 ghost use Rattle.machine.specs.CriticalSection.{enter_do, leave_do, give_held, flush};
 
-use crate::Reads;
 use crate::decide::{answer, one_move, refuse};
 use entry_log::{Part, Step, Word};
 use machine::{Decision, Move, Moves, NanoMove};
+use readings::Reads;
 use sym_base::{Error, ThreadNo};
 
 /// The thread enters a critical section.

@@ -2,11 +2,11 @@
 ghost use Rattle.std.specs.Prelude.{◌≡◌, ◌<◌};
 ghost use Rattle.machine.specs.Dup.{kind_stays, stays_with_thread, dup_do, dup_step};
 
-use crate::Reads;
 use crate::decide::{give_handle, nothing, refuse};
 use crate::look::look;
 use entry_log::{Part, Step, Word};
 use machine::{Decision, ThreadRow};
+use readings::Reads;
 use state_rows::ObjectRow;
 use sym_base::{Error, Kind, ObjNo, ThreadNo};
 

@@ -4,10 +4,10 @@ ghost use Rattle.std.specs.Prelude.{◌≡◌};
 ghost use Rattle.machine.specs.FastMutex.{flock_do, flock_done, flock_step, funlock_do};
 ghost use Rattle.state_rows.specs.Nano.{is_holder};
 
-use crate::Reads;
 use crate::decide::{answer, go_on, nothing, one_move, refuse};
 use entry_log::{Part, Step, Word};
 use machine::{Decision, Move, NanoMove};
+use readings::Reads;
 use sym_base::{Error, ThreadNo};
 
 /// The fast mutex is taken where it is free. Else the thread wants it from now on.

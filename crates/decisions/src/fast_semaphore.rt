@@ -3,10 +3,10 @@
 ghost use Rattle.std.specs.Prelude.{◌≡◌};
 ghost use Rattle.machine.specs.FastSemaphore.{fswait_do, fswait_step, signal_move, signal_thread, signal_found, fssignal_do};
 
-use crate::Reads;
 use crate::decide::{answer, one_move, refuse, wait_for};
 use entry_log::{Part, Step, Word};
 use machine::{Decision, Move, Moves, NanoMove, ThreadRow, Waiting};
+use readings::Reads;
 use sym_base::{Error, Kind, Name, ObjNo, ThreadNo};
 
 /// The step of `fssignal`.

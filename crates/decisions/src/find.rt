@@ -3,10 +3,10 @@
 ghost use Rattle.std.specs.Prelude.{◌≡◌};
 ghost use Rattle.machine.specs.Find.{seek_object, seek, is_open, return_to};
 
-use crate::Reads;
 use crate::decide::{answer, go_on, nothing, one_move, refuse};
 use entry_log::{Holder, Part, Step, Word};
 use machine::{Decision, Found, Move};
+use readings::Reads;
 use state_rows::ObjectRow;
 use sym_base::{Error, Kind, Name, ObjNo, ThreadNo};
 

@@ -3,11 +3,11 @@ ghost use Rattle.std.specs.Prelude.{◌≡◌};
 ghost use Rattle.machine.specs.Interrupts.{step_of_move, move_call, item_plan, immediate_plan};
 ghost use Rattle.state_rows.specs.Deferred.{next_immediate};
 
-use crate::Reads;
 use crate::bodies::add_call;
 use crate::decide::{nothing, one_move};
 use entry_log::Step;
 use machine::{Body, Decision, DeferredMove, Move, Plan};
+use readings::Reads;
 use script_types::Script;
 use state_rows::Item;
 

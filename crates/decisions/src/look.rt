@@ -3,10 +3,10 @@ ghost use Rattle.std.specs.Prelude.{◌≡◌, ◌<◌, IfSome};
 ghost use Rattle.machine.specs.Handles.{object_at, index_of};
 ghost use Rattle.machine.specs.Look.{look_at, look, is_of_kind, of_kind, look_kind};
 
-use crate::Reads;
 use crate::decide::{go_on, refuse};
 use entry_log::{Holder, Part, Step, Word};
 use machine::{Decision, Move, ThreadRow, index_of, instance_of, object_in, owner_of};
+use readings::Reads;
 use state_rows::ObjectRow;
 use sym_base::{Error, Kind, ObjNo, ThreadNo};
 

@@ -4,9 +4,9 @@ ghost use Rattle.machine.specs.Moves.{closed_effects, told};
 ghost use Rattle.machine.specs.NanoMoves.{nano_told};
 ghost use Rattle.machine.specs.RequestMoves.{request_told};
 
-use crate::Reads;
 use entry_log::{Effect, Effects, Holder, LockNo, StatusNo};
 use machine::{Move, NanoMove, Owed, RequestMove};
+use readings::Reads;
 use sym_base::ObjNo;
 
 /// One effect.

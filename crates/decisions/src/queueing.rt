@@ -3,11 +3,11 @@ ghost use Rattle.std.specs.Prelude.{◌≡◌};
 ghost use Rattle.script_types.specs.Shape.{IsShaped};
 ghost use Rattle.machine.specs.Queueing.{queue_named, queue_do};
 
-use crate::Reads;
 use crate::bodies::{add_call, dfc_named};
 use crate::decide::{answer, nothing, one_move};
 use entry_log::{Part, Step, Word};
 use machine::{Decision, Moves};
+use readings::Reads;
 use script_types::Script;
 use sym_base::{Name, ThreadNo};
 

@@ -4,10 +4,10 @@ ghost use Rattle.std.specs.Prelude.{◌≡◌};
 ghost use Rattle.machine.specs.RequestCalls.{request_do, cancel_status, cancel_do, waitany_do, waitany_step, waitfor_do, waitfor_step, status_do};
 ghost use Rattle.state_rows.specs.Requests.{is_pending, status_of};
 
-use crate::Reads;
 use crate::decide::{answer, one_move, refuse, wait_for};
 use entry_log::{Part, Step, Word};
 use machine::{Decision, Move, Moves, RequestMove, Waiting};
+use readings::Reads;
 use state_rows::{PENDING, Request};
 use sym_base::{Error, ThreadNo};
 

@@ -1,12 +1,10 @@
 //! The decision of each task of a thread.
 ghost use Rattle.std.specs.Prelude.{◌≡◌};
-ghost use Rattle.machine.specs.declared.task.Task.TheVariants.{Step};
 ghost use Rattle.script_types.specs.declared.instruction.Instr.{Instr};
 ghost use Rattle.script_types.specs.Shape.{HasRegisters, IsShaped};
 ghost use Rattle.machine.specs.Bodies.{decision_by};
 ghost use Rattle.machine.specs.Steps.{step_of, return_of, pay_step, pay, decision_of_task, decision_of};
 
-use crate::Reads;
 use crate::close::close_do;
 use crate::create::create_do;
 use crate::critical_section::{enter_do, flush, leave_do};
@@ -17,10 +15,10 @@ use crate::fast_semaphore::{fssignal_do, fswait_step};
 use crate::open::{open_return, open_step};
 use crate::queueing::queue_do;
 use crate::request_calls::{cancel_do, request_do, status_do, waitany_step, waitfor_step};
-use crate::task::{is_able, task_of};
 use crate::thread_calls::{priority_step, resume_step, suspend_step};
 use entry_log::Step;
 use machine::{Body, Decision, Move, Owed, Plan, Task, ThreadRow};
+use readings::{Reads, is_able, task_of};
 use script_types::{Instr, Script};
 use sym_base::{Kind, ThreadNo};
 
@@ -100,7 +98,7 @@ fn plan_of_task<R: Reads>(
 ) -> Plan
     requires shaped { IsShaped script.now }
     requires readable { R.is_readable reads.now }
-    requires registers { (instr : Instr) → task ≡ Step instr → HasRegisters instr }
+    requires registers { (instr : Instr) → task ≡ Task.Step instr → HasRegisters instr }
     ensures { let S = R.state reads.now in decision_by script.now thread S result ≡ decision_of_task script.now S thread row.now task }
 {
     match task {

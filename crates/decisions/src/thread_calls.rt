@@ -6,11 +6,11 @@ ghost use Rattle.machine.specs.declared.moves.Move.TheVariants.{SetPriority};
 ghost use Rattle.sym_base.specs.declared.error.Error.TheVariants as error;
 ghost use Rattle.sym_base.specs.declared.word.Word.TheVariants as word;
 
-use crate::Reads;
 use crate::decide::{answer, nothing, one_move, refuse};
 use crate::look::look_kind;
 use entry_log::{Part, Step, Word};
 use machine::{Decision, Move, NanoMove, Role, ThreadRow};
+use readings::Reads;
 use sym_base::{Error, Kind, ObjNo, ThreadNo};
 
 /// The greatest suspend count.

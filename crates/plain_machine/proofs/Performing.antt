@@ -5,7 +5,7 @@ use Rattle.entry_log.specs.declared.effect.Effect.{Effect}
 use Rattle.script_types.specs.declared.script.Script.{Script}
 use Rattle.machine.specs.declared.moves.Move.{Move}
 use Rattle.machine.specs.declared.state.State.{State}
-use Rattle.decisions.specs.Readable.{AreSmallRows, IsReadable}
+use Rattle.readings.specs.Readable.{AreSmallRows, IsReadable}
 use Rattle.machine.specs.Arrivals.{arrive, arrivals, touched, taken_out}
 use Rattle.machine.specs.Moves.{moved, told, perform, tell}
 use Rattle.machine.specs.Room.{HasRoom}

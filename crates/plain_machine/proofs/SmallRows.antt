@@ -7,7 +7,7 @@ use Rattle.sym_base.specs.declared.number.ObjNo.{ObjNo}
 use Rattle.state_rows.specs.declared.duty.Owed.TheVariants.{Close, Sweep}
 use Rattle.state_rows.specs.declared.nano.NanoRows.{NanoRows}
 use Rattle.state_rows.specs.Nano.{suspend_count, is_free, is_holder}
-use Rattle.decisions.specs.Readable.{AreSmallRows}
+use Rattle.readings.specs.Readable.{AreSmallRows}
 use Rattle.machine.specs.declared.moves.Move.{Move}
 use Rattle.machine.specs.declared.moves.Move.TheVariants.{Make, Gain, Lose, Find, Miss, GoOn, Write, Advance, Wait, Wake, SetPriority, Nano, Pay}
 use Rattle.machine.specs.declared.nano_move.NanoMove.{NanoMove}

@@ -1,7 +1,7 @@
 //! Actions, made on the plain machine's lists move by move.
 ghost use Rattle.std.specs.Prelude.{◌≡◌, ◌+◌, ◌*◌, ◌≤◌, ◌++◌, length, IfOk, OnOk};
 ghost use Rattle.script_types.specs.Shape.{IsShaped};
-ghost use Rattle.decisions.specs.Readable.{AreSmallRows};
+ghost use Rattle.readings.specs.Readable.{AreSmallRows};
 ghost use Rattle.machine.specs.Arrivals.{arrivals, ready_after};
 ghost use Rattle.machine.specs.Bodies.{ops_moves, ops_of, run_body, decision_by};
 ghost use Rattle.machine.specs.Moves.{perform, tell};

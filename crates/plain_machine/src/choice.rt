@@ -2,7 +2,7 @@
 ghost use Rattle.state_rows.specs.Nano.{in_place_of};
 ghost use Rattle.std.specs.Prelude.{◌≡◌};
 ghost use Rattle.machine.specs.Choice.{priority_of, first_ready, chosen_thread, chosen};
-ghost use Rattle.decisions.specs.BestSoFar.{better};
+ghost use Rattle.readings.specs.BestSoFar.{better};
 
 use decisions::{Reads, wanted_holder};
 use entry_log::Actor;
@@ -30,7 +30,7 @@ fn better(state: &State, best: Option<ThreadNo>, next: ThreadNo) -> Option<Threa
 }
 
 /// The ready thread of greatest priority that has been ready longest.
-#[tactic(auto, using(decisions::proofs::Best::best_step, decisions::proofs::Best::best_alone))]
+#[tactic(auto, using(readings::proofs::Best::best_step, readings::proofs::Best::best_alone))]
 pub fn first_ready(state: &State) -> Option<ThreadNo>
     ensures { result ≡ first_ready state.now }
 {

@@ -1,6 +1,6 @@
 //! Moves in the rows of threads that synchronize, made on the plain machine's lists.
 ghost use Rattle.std.specs.Prelude.{◌≡◌, None, slice_set};
-ghost use Rattle.decisions.specs.Readable.{AreSmallRows};
+ghost use Rattle.readings.specs.Readable.{AreSmallRows};
 ghost use Rattle.machine.specs.NanoMoves.{nano_moved};
 ghost use Rattle.state_rows.specs.NanoChanges.{one_more, after_take, after_give, after_want, after_enter, after_leave, after_leave_all, after_suspend, after_resume, after_signal, after_wait};
 

@@ -1,6 +1,6 @@
 //! The moves of an action, made on the plain machine's lists.
 ghost use Rattle.std.specs.Prelude.{◌≡◌, ◌+◌, ◌≤◌, length, OnOk};
-ghost use Rattle.decisions.specs.Readable.{AreSmallRows};
+ghost use Rattle.readings.specs.Readable.{AreSmallRows};
 ghost use Rattle.machine.specs.Handles.{taken_slot, freed_slot, with_slot};
 ghost use Rattle.machine.specs.Moves.{tables_gain, threads_gain, tables_lose, threads_lose, link_of, use_of, objects_closed, moved};
 ghost use Rattle.machine.specs.Room.{HasRoom, AreSmallTables};

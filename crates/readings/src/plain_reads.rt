@@ -59,7 +59,7 @@ fn findable(state: &State, found: Option<ObjNo>) -> Option<ObjNo>
 }
 
 impl Reads for State {
-    ghost use Rattle.decisions.specs.Readable.{IsReadable};
+    ghost use Rattle.readings.specs.Readable.{IsReadable};
 
     ghost state = { λ S. S };
 

@@ -2,7 +2,7 @@
 //! queue that isn't there as empty.
 ghost use Rattle.std.specs.Prelude.{◌≡◌};
 ghost use Rattle.std.specs.List.{list_any};
-ghost use Rattle.decisions.specs.BestSoFar.{better};
+ghost use Rattle.readings.specs.BestSoFar.{better};
 ghost use Rattle.state_rows.specs.Deferred.{queue_at, queue_of, priority_of, next_of, next_immediate, holds, is_same, is_queued};
 
 use machine::DeferredRows;

@@ -2,7 +2,7 @@
 use Rattle.std.proofs.Common.{◌≡◌, ℕ, Option, Some, None, refl, arith, Bool, true, false}
 use Rattle.std.specs.Prelude.{nat_lt, if◌then◌else◌}
 use Rattle.sym_base.specs.Greatest.{unless_greater}
-use Rattle.decisions.specs.BestSoFar.{best_of, better}
+use Rattle.readings.specs.BestSoFar.{best_of, better}
 
 -- nothing to come leaves the best so far
 pub best_alone : {A : Type 0} (weight : A → ℕ) (best : Option A) → best_of weight best None ≡ best
