@@ -33,25 +33,14 @@ use Rattle.machine.specs.Fits.{FitsNano, FitsRequests, IsFree, FitsMove, EachFit
 use Rattle.machine.specs.Moves.{moved, told, tell, closed_effects, threads_gain, threads_lose, threads_closed, with_use, unlinked, with_found, with_part, with_register, with_waiting, with_priority, advanced, next_object}
 use Rattle.machine.specs.References.{total, same, count_of, kernel_names, pluses, minuses, RefsMove}
 use Rattle.machine.specs.Rows.{object_of, thread_of, owed_of, with_row}
-use Rattle.machine.specs.Steps.{decision_of}
-use Rattle.machine.specs.Bodies.{decision_by}
-use Rattle.machine.specs.Interrupts.{immediate_plan, supervisor}
-use Rattle.machine.specs.declared.plan.Body.TheVariants.{Interrupt}
-use Rattle.machine.specs.declared.plan.Plan.TheVariants.{Runs}
-use Rattle.state_rows.specs.Deferred.{next_immediate}
 use Rattle.machine.specs.WellFormed.{IsAlive, AreRows, AreRequests, is_dead, dead_bit, owed_sweeps, weight}
-use Rattle.machine.proofs.Fitting.Actions.{of_action}
-use Rattle.machine.proofs.Fitting.Bodies.{Goes}
-use Rattle.machine.proofs.Fitting.Interrupts.{goes-immediate, goes-interrupt, sane-supervisor}
 use Rattle.machine.proofs.Holders.ThreadRows.{row-here, row-other}
 use Rattle.machine.proofs.Lists.Totals.{inside, total_at_least}
 use Rattle.machine.proofs.MoveLaws.Run.{sound-move, sound-pay, sane-after, refs-of, weight-move}
 use Rattle.machine.proofs.Numbers.CountSmall.{count_small}
-use Rattle.machine.proofs.Numbers.FewEffects.{tell_few}
 use Rattle.machine.proofs.Readiness.ReadyActions.{joins_own}
 use Rattle.machine.proofs.Readiness.Touched.{untouched}
 use Rattle.machine.proofs.References.Same.{same_self}
-use Rattle.kcore.specs.Performed.{ActionGoes}
 use Rattle.kcore.specs.Moved.{CanMove, IsReferred, HasPlaces, MayGain, AreKnown, MoveGoes, MovesGo, is_set}
 use Rattle.kcore.specs.NanoMoved.{CanNano}
 use Rattle.kcore.specs.ObjectsView.{IsThere}
@@ -270,7 +259,7 @@ known script S rows u row is =
     (omega arith, omega arith)
 
 -- each of the moves that fit goes through
-each_goes : (script : Script) (S : State) (t : ObjNo) (ms : List Move) → IsShaped script → EachFits script t ms S → total weight (owed_of S t) + total most_owed ms ≤ 12 → Sane script t S → MovesGo script t ms S
+pub each_goes : (script : Script) (S : State) (t : ObjNo) (ms : List Move) → IsShaped script → EachFits script t ms S → total weight (owed_of S t) + total most_owed ms ≤ 12 → Sane script t S → MovesGo script t ms S
 each_goes script S t [] shaped fits few s = tt
 each_goes script S t (m ∷ ms) shaped fits few s =
     let T = moved t m S in
@@ -297,7 +286,7 @@ ranks_pay : (script : Script) (S : State) (t : ObjNo) (what : Owed) (u : ObjNo) 
 ranks_pay script S t (Close h o) u can = rank-closed S.threads _ o u
 ranks_pay script S t (Sweep o) u can = rank-none S.threads o u can.1
 
-pay_goes : (script : Script) (S : State) (t : ObjNo) (what : Owed) (rest : List Owed) → owed_of S t ≡ what ∷ rest → Sane script t S → MoveGoes script t (Pay what) S
+pub pay_goes : (script : Script) (S : State) (t : ObjNo) (what : Owed) (rest : List Owed) → owed_of S t ≡ what ∷ rest → Sane script t S → MoveGoes script t (Pay what) S
 pay_goes script S t what rest owes s =
     let T = moved t (Pay what) S in
     let sound = sound-pay script S t what rest owes s in
@@ -310,24 +299,3 @@ pay_goes script S t what rest owes s =
       ranks = λ u _. ranks_pay script S t what u can;
       apart = λ u none. untouched script S t (Pay what) u s.rows.threads tt none;
     }
-
--- moves that fit go through, and tell what an entry has room for
-pub fitting_goes : (script : Script) (S : State) (t : ObjNo) (ms : List Move) → IsShaped script → Sane script t S → Goes script t S ms → ActionGoes script t ms S
-fitting_goes script S t ms shaped s goes = record {
-  each = each_goes script S t ms shaped goes.each goes.few s;
-  few = let told = goes.told in let few = tell_few t ms S in omega arith;
-}
-
--- those of each action of a thread
-pub action_goes : (script : Script) (S : State) (t : ObjNo) → IsShaped script → AreRows script S → ActionGoes script t (decision_of script S t).moves S
-action_goes script S t shaped rows = of_action script S t (λ (ms : List Move). ActionGoes script t ms S) shaped rows (λ ms s goes. fitting_goes script S t ms shaped s goes)
-    (λ what rest s owes. record { each = (pay_goes script S t what rest owes s, tt); few = let few = tell_few t (Pay what ∷ []) S in omega arith })
-    (record { each = tt; few = omega arith })
-
--- of the body of an interrupt
-pub interrupt_goes : (script : Script) (S : State) (k : ℕ) → IsShaped script → AreRows script S → ActionGoes script supervisor (decision_by script supervisor S (Runs (Interrupt k))).moves S
-interrupt_goes script S k shaped rows = fitting_goes script S supervisor _ shaped (sane-supervisor script S rows) (goes-interrupt script S k shaped rows)
-
--- and of the oldest item of the immediate queue
-pub immediate_goes : (script : Script) (S : State) → IsShaped script → AreRows script S → ActionGoes script supervisor (decision_by script supervisor S (immediate_plan script S (next_immediate S.deferred))).moves S
-immediate_goes script S shaped rows = fitting_goes script S supervisor _ shaped (sane-supervisor script S rows) (goes-immediate script S (next_immediate S.deferred) shaped rows refl)

@@ -9,6 +9,7 @@ mod Finds
 mod FirstCount
 mod FreshTable
 mod Goes
+mod GoingActions
 mod GoingMoves
 mod LeastFree
 mod ListSteps
@@ -19,3 +20,4 @@ mod ReadyChanges
 mod ReadyLists
 mod ReadyQueues
 mod ReadyRows
+mod RunningOps

@@ -159,10 +159,10 @@ left_goes_on rank script S t m rest r after all h follow = record {
 pub left_ends : (rank : ObjNo → ℕ) (script : Script) (S : State) (t : ObjNo) (r : Ready) (all : List ObjNo) → Left rank script S t [] r all → AreReady rank all r
 left_ends rank script S t r all h = subst (λ (l : List ObjNo). AreReady rank l r) h.others h.ready
 
--- the move whose turn it is, and the rest
-pub next_move : (ms : List Move) (i : ℕ) (m : Move) → i < length ms → m ≡ get_or ms i m → drop i ms ≡ m ∷ drop (i + 1) ms
-next_move ms i m inside is = rw (add-one, drop-cons ms i m) (ap (λ x. x ∷ drop (suc i) ms) (sym is))
+-- the item whose turn it is, and the rest
+pub next_item : {A : Type 0} (xs : List A) (i : ℕ) (x : A) → i < length xs → x ≡ get_or xs i x → drop i xs ≡ x ∷ drop (i + 1) xs
+next_item xs i x inside is = rw (add-one, drop-cons xs i x) (ap (λ y. y ∷ drop (suc i) xs) (sym is))
 
--- after the last move there is no rest
-pub none_left : (ms : List Move) (i : ℕ) → length ms ≤ i → drop i ms ≡ []
-none_left ms i past = drop_of_length-le ms past
+-- after the last item there is no rest
+pub none_left : {A : Type 0} (xs : List A) (i : ℕ) → length xs ≤ i → drop i xs ≡ []
+none_left xs i past = drop_of_length-le xs past

@@ -11,7 +11,7 @@ ghost use Rattle.kcore.specs.Noted.{AreKept};
 ghost use Rattle.kcore.specs.Performed.{ActionGoes, Does, IsPerformed};
 ghost use Rattle.kcore.specs.StateOf.{state_of};
 
-use crate::made::Made;
+use crate::made::{Made, add_moves};
 use crate::perform::perform;
 use crate::ready::leave_along;
 use crate::tables::Tables;
@@ -47,7 +47,7 @@ fn run_ops<W: RefWords + Drop>(
     for op in ops {
         op_moves(moves, script, tables, op);
         perform(script, tables, ready, thread, moves.as_slice(), effects);
-        made.add(moves.as_slice());
+        add_moves(made, moves.as_slice());
     }
 }
 
@@ -77,7 +77,7 @@ pub fn run_body<W: RefWords + Drop>(
         moves.as_slice(),
         &mut effects,
     );
-    made.add(moves.as_slice());
+    add_moves(&mut made, moves.as_slice());
     run_ops(
         script,
         tables,

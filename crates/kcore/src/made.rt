@@ -1,5 +1,5 @@
 //! The moves that a body made.
-ghost use Rattle.std.specs.Prelude.{◌≡◌, ◌+◌, ◌≤◌, [], ◌++◌, length};
+ghost use Rattle.std.specs.Prelude.{◌≡◌, ◌+◌, ◌<◌, ◌≤◌, [], ◌∷◌, ◌++◌, length};
 
 use arrayvec::ArrayVec;
 use machine::Move;
@@ -38,13 +38,21 @@ impl Made {
         self.moves.as_slice()
     }
 
-    /// Adds moves behind those so far.
-    pub fn add(&mut self, moves: &[Move])
-        requires { length self.old + length moves.now ≤ 9 }
-        ensures { self.new ≡ self.old ++ moves.now }
+    /// Adds a move at the end.
+    pub fn push(&mut self, change: Move)
+        requires { length self.old < 9 }
+        ensures { self.new ≡ self.old ++ change ∷ [] }
     {
-        for change in moves {
-            self.moves.push(*change);
-        }
+        self.moves.push(change);
+    }
+}
+
+/// Adds moves behind those so far.
+pub fn add_moves(made: &mut Made, moves: &[Move])
+    requires { length made.old + length moves.now ≤ 9 }
+    ensures { made.new ≡ made.old ++ moves.now }
+{
+    for change in moves {
+        made.push(*change);
     }
 }
