@@ -2,6 +2,7 @@
 //! kernel.
 #![tactic(auto)]
 
+mod bodies;
 mod close;
 mod create;
 mod critical_section;
@@ -10,16 +11,17 @@ mod dup;
 mod fast_mutex;
 mod fast_semaphore;
 mod find;
+mod immediate;
 mod look;
 mod move_effects;
 mod open;
-mod plain_reads;
-mod reads;
+mod queueing;
+mod request_calls;
 mod steps;
-mod task;
 mod thread_calls;
 
-pub use move_effects::{add_effects, told};
-pub use reads::Reads;
-pub use steps::decision_of;
-pub use task::{is_able, is_ready, task_of, wanted_holder};
+pub use bodies::{leave_queue, op_moves, ops_of, step_of_body};
+pub use immediate::immediate_action;
+pub use move_effects::tell;
+pub use readings::{Reads, is_able, is_ready, wanted_holder};
+pub use steps::next_action;

@@ -17,7 +17,7 @@ use Rattle.state_rows.specs.declared.deferred.Item.TheVariants.{Idfc, Move}
 use Rattle.state_rows.specs.Deferred.{is_queued, next_of, priority_of, queue_at, queue_of}
 use Rattle.state_rows.specs.DeferredChanges.{after_next_dfc}
 use Rattle.deferred.specs.Kept.{AreKept, item_of, calls_of}
-use Rattle.deferred.proofs.Nodes.{drop_set, drop_first, read_behind, first_stays, any_behind, item_move, item_idfc, any_move, any_idfc}
+use Rattle.deferred.proofs.Nodes.{drop_set, drop_first, read_behind, first_stays, any_behind, item_move, item_idfc, any_move, any_idfc, no_move_past, no_list_past}
 use Rattle.deferred.proofs.Order.{padded, greatest_same}
 
 -- the lists after a node was put behind the others of one, unless it stands on some list
@@ -149,6 +149,11 @@ module _ (idfcs : ℕ) (places : List DfcPlace) (priorities : List ℕ) (links :
   pub own_taken : (q dfc : ℕ) → Some dfc ≡ next_of (calls_of idfcs places links) q → calls_of idfcs places (with_list links (suc q) (without dfc (list_at links (suc q)))) ≡ after_next_dfc (calls_of idfcs places links) q
   own_taken q dfc is =
       rw (← is, drop_set links.lists q (without dfc (list_at links (suc q))), first_stays links.lists q (without dfc (list_at links (suc q))), read_behind links.lists q) refl
+
+  -- a call past the numbers stands in no queue
+  pub past_unqueued : (dfc : ℕ) → length places ≤ dfc → is_queued (calls_of idfcs places links) (Move dfc) ≡ false
+  past_unqueued dfc past =
+      rw (no_move_past (length places) dfc past (list_at links 0), no_list_past (length places) dfc past (drop 1 links.lists) (λ q. rw (read_behind links.lists q) (kept.own q))) refl
 
   -- and what the oldest item leaves
   pub popped_kept : AreKept idfcs places priorities (with_list links 0 (drop 1 (list_at links 0)))

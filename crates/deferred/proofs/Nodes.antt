@@ -1,8 +1,9 @@
 -- Nodes and the items that they stand for, and the lists behind the first.
 use Rattle.std.proofs.Common.{◌≡◌, ℕ, suc, ◌+◌, ◌-◌, ◌<◌, ◌≤◌, Bool, false, eqb, ltb, List, [], ◌∷◌, map, set, get_or, drop, refl, ap, arith, inl, inr, eq-eqb}
-use Rattle.std.specs.Prelude.{◌||◌}
+use Rattle.std.specs.Prelude.{◌||◌, All}
 use Rattle.std.specs.List.{list_any}
 use Rattle.std.proofs.lemmas.Bool.{cases_Bool, cases_eq, lt-ltb, ltb-false, ltb-true, ne_eqb}
+use Rattle.std.proofs.lemmas.List.Elements.{All-head, All-tail}
 use Rattle.links.specs.Linked.{holds}
 use Rattle.state_rows.specs.declared.deferred.Item.{Item}
 use Rattle.state_rows.specs.declared.deferred.Item.TheVariants.{Idfc, Move}
@@ -35,7 +36,7 @@ any_behind (first ∷ lists) node = refl
 pub item_move : (calls node : ℕ) → node < calls → item_of calls node ≡ Move node
 item_move calls node low = rw (lt-ltb node calls low) refl
 
-ge-ltb : (m n : ℕ) → n ≤ m → ltb m n ≡ false
+pub ge-ltb : (m n : ℕ) → n ≤ m → ltb m n ≡ false
 ge-ltb m n high = elim (cases_Bool (ltb m n)) [ inl low ↦ absurd (omega (arith, ltb-true m n low)) | inr not ↦ not ]
 
 pub item_idfc : (calls item node : ℕ) → node ≡ calls + item → item_of calls node ≡ Idfc item
@@ -68,3 +69,23 @@ any_move calls d low xs = any_same (is_same (Move d)) calls (λ x. eqb x d) (λ 
 
 pub any_idfc : (calls item node : ℕ) → node ≡ calls + item → (xs : List ℕ) → list_any (is_same (Idfc item)) (map (item_of calls) xs) ≡ holds node xs
 any_idfc calls item node at xs = any_same (is_same (Idfc item)) calls (λ x. eqb x node) (λ x. same_idfc calls item node x at) xs
+
+-- no item is the move of a call past the numbers, and no list of calls below them holds it
+pub no_move_past : (calls d : ℕ) → calls ≤ d → (xs : List ℕ) → list_any (is_same (Move d)) (map (item_of calls) xs) ≡ false
+no_move_past calls d past [] = refl
+no_move_past calls d past (x ∷ xs) =
+    rw (no_move_past calls d past xs) (elim (cases_Bool (ltb x calls)) [
+      | inl below ↦ rw (below, ne_eqb x d (λ e. omega (arith, ltb-true x calls below))) refl
+      | inr above ↦ rw above refl
+    ])
+
+none_holds : (calls d : ℕ) → calls ≤ d → (list : List ℕ) → All (λ node. node < calls) list → holds d list ≡ false
+none_holds calls d past [] low = refl
+none_holds calls d past (x ∷ xs) low =
+    let P : ℕ → Type 0 = λ node. node < calls in
+    let first = All-head P x xs low in
+    rw (ne_eqb x d (λ e. omega (arith, first)), none_holds calls d past xs (All-tail P x xs low)) refl
+
+pub no_list_past : (calls d : ℕ) → calls ≤ d → (lists : List (List ℕ)) → ((q : ℕ) → All (λ node. node < calls) (get_or lists q [])) → list_any (holds d) lists ≡ false
+no_list_past calls d past [] low = refl
+no_list_past calls d past (list ∷ lists) low = rw (none_holds calls d past list (low 0), no_list_past calls d past lists (λ q. low (suc q))) refl

@@ -3,7 +3,7 @@ ghost use Rattle.std.specs.Prelude.{◌≡◌, false, [], ℕ, ◌+◌, ◌<◌,
 ghost use Rattle.std.specs.List.{list_any};
 ghost use Rattle.links.specs.Linked.{holds, list_at};
 ghost use Rattle.state_rows.specs.declared.deferred.Item.TheVariants.{Idfc, Move};
-ghost use Rattle.state_rows.specs.Deferred.{IsKnown, is_queued, queue_at, next_of};
+ghost use Rattle.state_rows.specs.Deferred.{IsKnown, is_queued, queue_at, queue_of, next_of};
 ghost use Rattle.state_rows.specs.DeferredChanges.{places_of, new_calls, after_add_idfc, after_add_from_irq, after_add, after_next_idfc, after_next_dfc};
 
 use crate::item::item_of;
@@ -166,6 +166,23 @@ impl Deferred {
             .links
             .first_of_greatest(list_of(queue), &self.priorities)?;
         Some(node as u8)
+    }
+
+    /// The queue of a deferred function call, 0 past the calls' numbers.
+    pub fn queue_of(&self, dfc: u8) -> u8
+        ensures { result ≡ queue_of self.now dfc }
+    {
+        match self.places.get(dfc as usize) {
+            Some(place) => place.queue,
+            None => 0,
+        }
+    }
+
+    /// Whether a deferred function call stands in the immediate queue or in its own. False past the calls' numbers.
+    pub fn is_queued(&self, dfc: u8) -> bool
+        ensures { result ≡ is_queued self.now (Move dfc) }
+    {
+        (dfc as usize) < self.places.len() && self.links.is_linked(dfc as u32)
     }
 }
 

@@ -1,5 +1,5 @@
--- What a thread decides doesn't look at the list of ready threads.
-use Rattle.std.proofs.Common.{◌≡◌, Bool, true, false, List, refl}
+-- What is decided doesn't look at the list of ready threads.
+use Rattle.std.proofs.Common.{◌≡◌, ℕ, Bool, true, false, List, refl}
 use Rattle.std.specs.Prelude.{Option, Some, None}
 use Rattle.sym_base.specs.declared.number.ObjNo.{ObjNo}
 use Rattle.entry_log.specs.declared.step.Part.{Part}
@@ -13,45 +13,77 @@ use Rattle.machine.specs.declared.task.Task.TheVariants as task
 use Rattle.machine.specs.Rows.{thread_of}
 use Rattle.machine.specs.Steps.{step_of, decision_of_task, decision_of_row, decision_where, decision_of}
 use Rattle.machine.specs.Task.{is_able, task_of}
+use Rattle.state_rows.specs.declared.deferred.Item.{Item}
+use Rattle.state_rows.specs.declared.deferred.Item.TheVariants.{Idfc, Move}
+use Rattle.state_rows.specs.Deferred.{next_immediate}
+use Rattle.machine.specs.declared.decision.Decision.{Decision}
+use Rattle.machine.specs.declared.plan.Body.TheVariants.{Immediate, Deferred}
+use Rattle.state_rows.specs.DeclaredCalls.{dfc_named}
+use Rattle.machine.specs.Bodies.{decision_by}
+use Rattle.machine.specs.Interrupts.{immediate_plan, supervisor}
+use Rattle.machine.specs.Queueing.{queue_named}
 use Rattle.kcore.specs.StateOf.{with_ready}
+use Rattle.kcore.proofs.BodiesApart.{body_apart}
 
-step_apart : (S : State) (qs : List ObjNo) (t : ObjNo) (row : ThreadRow) (i : Instr) (p : Option Part) → step_of (with_ready S qs) t row i p ≡ step_of S t row i p
-step_apart S qs t row (instr.CreateMutex name x) p = refl
-step_apart S qs t row (instr.Open kind name x) None = refl
-step_apart S qs t row (instr.Open kind name x) (Some part) = refl
-step_apart S qs t row (instr.Dup x y) None = refl
-step_apart S qs t row (instr.Dup x y) (Some part) = refl
-step_apart S qs t row (instr.Close x) p = refl
-step_apart S qs t row (instr.Flock f) None = refl
-step_apart S qs t row (instr.Flock f) (Some part) = refl
-step_apart S qs t row (instr.Funlock f) p = refl
-step_apart S qs t row instr.Fswait None = refl
-step_apart S qs t row instr.Fswait (Some part) = refl
-step_apart S qs t row (instr.Fssignal name) p = refl
-step_apart S qs t row instr.Enter p = refl
-step_apart S qs t row instr.Leave p = refl
-step_apart S qs t row (instr.Suspend x) None = refl
-step_apart S qs t row (instr.Suspend x) (Some part) = refl
-step_apart S qs t row (instr.Resume x) None = refl
-step_apart S qs t row (instr.Resume x) (Some part) = refl
-step_apart S qs t row (instr.Priority x priority) None = refl
-step_apart S qs t row (instr.Priority x priority) (Some part) = refl
-step_apart S qs t row _ p = refl
+queue_apart : (S : State) (qs : List ObjNo) (t : ObjNo) (dfc : Option ℕ) → queue_named (with_ready S qs) t dfc ≡ queue_named S t dfc
+queue_apart S qs t None = refl
+queue_apart S qs t (Some dfc) = refl
 
-task_apart : (S : State) (qs : List ObjNo) (t : ObjNo) (row : ThreadRow) (what : Task) → decision_of_task (with_ready S qs) t row what ≡ decision_of_task S t row what
-task_apart S qs t row (task.Return i) = refl
-task_apart S qs t row (task.Pay what) = refl
-task_apart S qs t row (task.Step i) = step_apart S qs t row i row.part
-task_apart S qs t row task.Flush = refl
+step_apart : (script : Script) (S : State) (qs : List ObjNo) (t : ObjNo) (row : ThreadRow) (i : Instr) (p : Option Part) → step_of script (with_ready S qs) t row i p ≡ step_of script S t row i p
+step_apart script S qs t row (instr.CreateMutex name x) p = refl
+step_apart script S qs t row (instr.Open kind name x) None = refl
+step_apart script S qs t row (instr.Open kind name x) (Some part) = refl
+step_apart script S qs t row (instr.Dup x y) None = refl
+step_apart script S qs t row (instr.Dup x y) (Some part) = refl
+step_apart script S qs t row (instr.Close x) p = refl
+step_apart script S qs t row (instr.Flock f) None = refl
+step_apart script S qs t row (instr.Flock f) (Some part) = refl
+step_apart script S qs t row (instr.Funlock f) p = refl
+step_apart script S qs t row instr.Fswait None = refl
+step_apart script S qs t row instr.Fswait (Some part) = refl
+step_apart script S qs t row (instr.Fssignal name) p = refl
+step_apart script S qs t row instr.Enter p = refl
+step_apart script S qs t row instr.Leave p = refl
+step_apart script S qs t row (instr.Suspend x) None = refl
+step_apart script S qs t row (instr.Suspend x) (Some part) = refl
+step_apart script S qs t row (instr.Resume x) None = refl
+step_apart script S qs t row (instr.Resume x) (Some part) = refl
+step_apart script S qs t row (instr.Priority x priority) None = refl
+step_apart script S qs t row (instr.Priority x priority) (Some part) = refl
+step_apart script S qs t row (instr.Queue name) p = queue_apart S qs t (dfc_named script name)
+step_apart script S qs t row (instr.Request d s) p = refl
+step_apart script S qs t row (instr.Cancel d) p = refl
+step_apart script S qs t row instr.WaitAny None = refl
+step_apart script S qs t row instr.WaitAny (Some part) = refl
+step_apart script S qs t row (instr.WaitFor s) None = refl
+step_apart script S qs t row (instr.WaitFor s) (Some part) = refl
+step_apart script S qs t row (instr.Status s) p = refl
+step_apart script S qs t row _ p = refl
 
-row_apart : (S : State) (qs : List ObjNo) (t : ObjNo) (row : Option ThreadRow) (what : Option Task) → decision_of_row (with_ready S qs) t row what ≡ decision_of_row S t row what
-row_apart S qs t None what = refl
-row_apart S qs t (Some row) None = refl
-row_apart S qs t (Some row) (Some what) = task_apart S qs t row what
+task_apart : (script : Script) (S : State) (qs : List ObjNo) (t : ObjNo) (row : ThreadRow) (what : Task) → decision_of_task script (with_ready S qs) t row what ≡ decision_of_task script S t row what
+task_apart script S qs t row (task.Return i) = refl
+task_apart script S qs t row (task.Pay what) = refl
+task_apart script S qs t row (task.RunDfc dfc) = body_apart script t S qs (Deferred dfc)
+task_apart script S qs t row (task.Step i) = step_apart script S qs t row i row.part
+task_apart script S qs t row task.Flush = refl
 
-where_apart : (S : State) (qs : List ObjNo) (t : ObjNo) (able : Bool) (what : Option Task) → decision_where able (with_ready S qs) t what ≡ decision_where able S t what
-where_apart S qs t false what = refl
-where_apart S qs t true what = row_apart S qs t (thread_of S t) what
+row_apart : (script : Script) (S : State) (qs : List ObjNo) (t : ObjNo) (row : Option ThreadRow) (what : Option Task) → decision_of_row script (with_ready S qs) t row what ≡ decision_of_row script S t row what
+row_apart script S qs t None what = refl
+row_apart script S qs t (Some row) None = refl
+row_apart script S qs t (Some row) (Some what) = task_apart script S qs t row what
+
+where_apart : (script : Script) (S : State) (qs : List ObjNo) (t : ObjNo) (able : Bool) (what : Option Task) → decision_where script able (with_ready S qs) t what ≡ decision_where script able S t what
+where_apart script S qs t false what = refl
+where_apart script S qs t true what = row_apart script S qs t (thread_of S t) what
 
 pub decision_apart : (script : Script) (S : State) (qs : List ObjNo) (t : ObjNo) → decision_of script (with_ready S qs) t ≡ decision_of script S t
-decision_apart script S qs t = where_apart S qs t (is_able script S t) (task_of script S t)
+decision_apart script S qs t = where_apart script S qs t (is_able script S t) (task_of script S t)
+
+item_apart : (script : Script) (S : State) (qs : List ObjNo) (item : Option Item) → decision_by script supervisor (with_ready S qs) (immediate_plan script (with_ready S qs) item) ≡ decision_by script supervisor S (immediate_plan script S item)
+item_apart script S qs None = refl
+item_apart script S qs (Some (Move dfc)) = refl
+item_apart script S qs (Some (Idfc item)) = body_apart script supervisor S qs (Immediate item)
+
+-- what the oldest item of the immediate queue does
+pub immediate_apart : (script : Script) (S : State) (qs : List ObjNo) → let decide : State → Decision = λ T. decision_by script supervisor T (immediate_plan script T (next_immediate T.deferred)) in decide (with_ready S qs) ≡ decide S
+immediate_apart script S qs = item_apart script S qs (next_immediate S.deferred)

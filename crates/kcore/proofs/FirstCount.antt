@@ -8,8 +8,11 @@ use Rattle.entry_log.specs.declared.effect.Holder.{Holder}
 use Rattle.entry_log.specs.declared.effect.Effect.TheVariants.{Plus}
 use Rattle.machine.specs.declared.nano_move.NanoMove.{NanoMove}
 use Rattle.machine.specs.declared.nano_move.NanoMove.TheVariants as nano
+use Rattle.machine.specs.declared.request_move.RequestMove.{RequestMove}
+use Rattle.machine.specs.declared.request_move.RequestMove.TheVariants as request
 use Rattle.machine.specs.Moves.{closed_effects}
 use Rattle.machine.specs.NanoMoves.{nano_told}
+use Rattle.machine.specs.RequestMoves.{request_told}
 use Rattle.machine.specs.References.{same}
 use Rattle.machine.proofs.References.Same.{same_self, same_other, same_object}
 use Rattle.kcore.specs.Counts.{CountsMove}
@@ -57,3 +60,9 @@ nano_counts counts (nano.Suspend t) o = refl
 nano_counts counts (nano.Resume t) o = refl
 nano_counts counts (nano.Raise t) o = refl
 nano_counts counts (nano.Lower t) o = refl
+
+-- nor do moves in the table of requests
+pub request_counts : (counts : List ℕ) (m : RequestMove) → CountsMove counts counts (request_told m)
+request_counts counts (request.Begin d t s) o = refl
+request_counts counts (request.Complete d t s code) o = refl
+request_counts counts (request.TakeSignal t) o = refl

@@ -43,11 +43,13 @@ use Rattle.kcore.proofs.ReadyRows.{ready_row}
 -- rows don't look at the list of ready threads
 rows_apart : (script : Script) (S : State) (qs : List ObjNo) → AreRows script (with_ready S qs) → AreRows script S
 rows_apart script S qs h = record {
-  sized = record { tables = h.sized.tables; duties = h.sized.duties; first = h.sized.first; threads_few = h.sized.threads_few; objects_few = h.sized.objects_few };
+  sized = record { tables = h.sized.tables; duties = h.sized.duties; first = h.sized.first; supervised = h.sized.supervised; threads_few = h.sized.threads_few; objects_few = h.sized.objects_few };
   tables = h.tables;
   threads = h.threads;
   duties = h.duties;
   nano = h.nano;
+  deferred = h.deferred;
+  requests = h.requests;
   lives = record { alive = h.lives.alive; counted = h.lives.counted; sweeps = h.lives.sweeps };
 }
 
@@ -67,13 +69,6 @@ each_stands : {W N : Type 0} (script : Script) (history : List Entry) (tables : 
 each_stands script history tables ready h t listed =
     let list = (well_formed-after script history h.valid).ready in
     ap (λ (U : State). is_ready script U t) h.state ∙ (sym (list.exact t) ∙ listed)
-
--- a thread that may act has a row
-pub actor_there : {W N : Type 0} (script : Script) (history : List Entry) (tables : Tables W N) (ready : Ready) (actor : Actor) → Stands script history tables ready → CanAct script (after script history) actor → (t : ObjNo) → actor ≡ Thread t → (r : ThreadRow) × (thread_of (state_of tables) t ≡ Some r)
-actor_there script history tables ready actor h can t is =
-    let H = after script history in
-    let able : is_able script H t ≡ true = subst (CanAct script H) is can in
-    ready_row script (state_of tables) t (ap (λ (U : State). is_ready script U t) h.state ∙ (and_parts (is_ready script H t) (is_none (wanted_holder H.nano t)) able).0)
 
 -- the entry is the one of the definitions
 pub entry_told : {W N : Type 0} (script : Script) (history : List Entry) (old T : Tables W N) (before after_it : Ready) (actor : Actor) (outcome : Outcome) (place : ℕ) (e : Entry) → Stands script history old before → Does script old before T after_it outcome (λ S. transition script S actor) → place ≡ length history + 1 → e ≡ entry_of place actor outcome → e ≡ entry_by script (after script history) (length history + 1) actor

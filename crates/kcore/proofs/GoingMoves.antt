@@ -14,35 +14,37 @@ use Rattle.state_rows.specs.declared.duty.Owed.TheVariants.{Close, Sweep}
 use Rattle.state_rows.specs.declared.object.ObjectRow.{ObjectRow}
 use Rattle.state_rows.specs.ObjectRows.{is_dead_row}
 use Rattle.machine.specs.declared.moves.Move.{Move}
-use Rattle.machine.specs.declared.moves.Move.TheVariants.{Make, Gain, Lose, Find, Miss, GoOn, Write, Advance, Wait, Wake, SetPriority, Nano, Pay}
+use Rattle.machine.specs.declared.moves.Move.TheVariants.{Make, Gain, Lose, Find, Miss, GoOn, Write, Advance, Wait, Wake, SetPriority, Nano, Deferred, Requests, Pay}
 use Rattle.machine.specs.declared.nano_move.NanoMove.{NanoMove}
 use Rattle.machine.specs.declared.nano_move.NanoMove.TheVariants as nano
+use Rattle.machine.specs.declared.request_move.RequestMove.{RequestMove}
+use Rattle.machine.specs.declared.request_move.RequestMove.TheVariants as request
+use Rattle.state_rows.specs.declared.requests.RequestRows.{RequestRows}
 use Rattle.machine.specs.declared.state.State.{State}
 use Rattle.machine.specs.declared.state.Waiting.TheVariants as waiting
 use Rattle.machine.specs.declared.state.Role.{Role}
-use Rattle.machine.specs.declared.state.Role.TheVariants.{Supervisor, Declared}
+use Rattle.machine.specs.declared.state.Role.TheVariants.{Supervisor, Queue, Declared}
 use Rattle.script_types.specs.declared.declaration.ThreadDecl.{ThreadDecl}
 use Rattle.machine.specs.Task.{declared_of, instructions_in}
 use Rattle.machine.specs.declared.state.ThreadRow.{ThreadRow}
 use Rattle.machine.specs.Choice.{priority_of, priority_of_row}
 use Rattle.machine.specs.NanoMoves.{nano_thread}
-use Rattle.machine.specs.Fits.{FitsNano, IsFree, FitsMove, EachFits, Sane, most_told, most_owed}
+use Rattle.machine.specs.Fits.{FitsNano, FitsRequests, IsFree, FitsMove, EachFits, Sane, most_told, most_owed}
 use Rattle.machine.specs.Moves.{moved, told, tell, closed_effects, threads_gain, threads_lose, threads_closed, with_use, unlinked, with_found, with_part, with_register, with_waiting, with_priority, advanced, next_object}
 use Rattle.machine.specs.References.{total, same, count_of, kernel_names, pluses, minuses, RefsMove}
 use Rattle.machine.specs.Rows.{object_of, thread_of, owed_of, with_row}
-use Rattle.machine.specs.Steps.{decision_of}
-use Rattle.machine.specs.WellFormed.{IsAlive, AreRows, is_dead, dead_bit, owed_sweeps, weight}
-use Rattle.machine.proofs.Fitting.Actions.{fits-action, sane-of}
+use Rattle.machine.specs.WellFormed.{IsAlive, AreRows, AreRequests, is_dead, dead_bit, owed_sweeps, weight}
 use Rattle.machine.proofs.Holders.ThreadRows.{row-here, row-other}
 use Rattle.machine.proofs.Lists.Totals.{inside, total_at_least}
 use Rattle.machine.proofs.MoveLaws.Run.{sound-move, sound-pay, sane-after, refs-of, weight-move}
 use Rattle.machine.proofs.Numbers.CountSmall.{count_small}
-use Rattle.machine.proofs.Numbers.FewEffects.{tell_few}
+use Rattle.machine.proofs.Readiness.ReadyActions.{joins_own}
 use Rattle.machine.proofs.Readiness.Touched.{untouched}
 use Rattle.machine.proofs.References.Same.{same_self}
 use Rattle.kcore.specs.Moved.{CanMove, IsReferred, HasPlaces, MayGain, AreKnown, MoveGoes, MovesGo, is_set}
 use Rattle.kcore.specs.NanoMoved.{CanNano}
 use Rattle.kcore.specs.ObjectsView.{IsThere}
+use Rattle.kcore.specs.RequestMoved.{CanRequest}
 
 -- a change of a row that leaves its priority leaves all priorities
 rank_row : (row : Option ThreadRow) (f : ThreadRow → ThreadRow) → ((r : ThreadRow) → (f r).priority ≡ r.priority) → priority_of_row (option_map f row) ≡ priority_of_row row
@@ -140,6 +142,7 @@ kernel_holds S o (Some row) is uncounted = absurd (uncounted (counted_by S o row
 few_in : (script : Script) → IsShaped script → (role : Role) (declared : Option ThreadDecl) → declared_of script role ≡ declared → length (instructions_in declared) ≤ 16384
 few_in script shaped role None at = omega arith
 few_in script shaped Supervisor (Some declared) at = absurd (cc)
+few_in script shaped (Queue queue) (Some declared) at = absurd (cc)
 few_in script shaped (Declared k) (Some declared) at = (shaped.threads k declared at).size
 
 -- each duty weighs something, so those of a thread are few
@@ -197,6 +200,14 @@ can_nano script S m rows there fits =
     by_kind (nano.Raise t) at fits = at
     by_kind (nano.Lower t) at fits = at
 
+-- a move in the rows of requests names what is there, and completes what is pending
+can_request : (count : ℕ) (r : RequestRows) (m : RequestMove) → AreRequests count r → FitsRequests m r → CanRequest m r
+can_request count r (request.Begin d t s) rows fits = (fits.device, fits.thread, fits.status)
+can_request count r (request.Complete d t s code) rows fits =
+    let known = rows.rows.requests_known d _ fits.1 in
+    ((fits.0, known.0, known.1), rows.pending d _ fits.1)
+can_request count r (request.TakeSignal t) rows fits = fits
+
 -- when a move that fits can be made
 can_move : (script : Script) (S : State) (t : ObjNo) (m : Move) → IsShaped script → FitsMove script t m S → RefsMove S (moved t m S) (told m S) → Sane script t S → CanMove t m S
 can_move script S t (Make kind name h) shaped fits refs s = (fits.0.named, fits.0.new, record { room = fits.0.room; fresh = next_fresh script S s.rows }, may_gain S h fits.1)
@@ -214,6 +225,8 @@ can_move script S t (Wait u what) shaped fits refs s = tt
 can_move script S t (Wake u) shaped fits refs s = tt
 can_move script S t (SetPriority u priority) shaped fits refs s = tt
 can_move script S t (Nano m) shaped fits refs s = can_nano script S m s.rows fits.0 fits.1
+can_move script S t (Deferred m) shaped fits refs s = fits
+can_move script S t (Requests m) shaped fits refs s = can_request (length S.threads) S.requests m s.rows.requests fits
 can_move script S t (Pay what) shaped fits refs s = absurd fits
 
 -- priorities stay that aren't set
@@ -225,6 +238,8 @@ ranks_move script S t (Wait v what) u fits unset = rank-with_row S.threads v (wi
 ranks_move script S t (Wake v) u fits unset = rank-with_row S.threads v (with_waiting waiting.Nothing) u (λ r. refl)
 ranks_move script S t (SetPriority v priority) u fits unset = ap priority_of_row (row-other S.threads v (with_priority priority) u.0 (set_other u v unset))
 ranks_move script S t (Nano m) u fits unset = refl
+ranks_move script S t (Deferred m) u fits unset = refl
+ranks_move script S t (Requests m) u fits unset = refl
 ranks_move script S t (Make kind name h) u fits unset = rank-gain S.threads h (next_object S) u
 ranks_move script S t (Gain h o) u fits unset = rank-gain S.threads h o u
 ranks_move script S t (Lose h o) u fits unset = rank-closed (threads_lose h S.threads) _ o u ∙ rank-lose S.threads h u
@@ -244,7 +259,7 @@ known script S rows u row is =
     (omega arith, omega arith)
 
 -- each of the moves that fit goes through
-each_goes : (script : Script) (S : State) (t : ObjNo) (ms : List Move) → IsShaped script → EachFits script t ms S → total weight (owed_of S t) + total most_owed ms ≤ 12 → Sane script t S → MovesGo script t ms S
+pub each_goes : (script : Script) (S : State) (t : ObjNo) (ms : List Move) → IsShaped script → EachFits script t ms S → total weight (owed_of S t) + total most_owed ms ≤ 12 → Sane script t S → MovesGo script t ms S
 each_goes script S t [] shaped fits few s = tt
 each_goes script S t (m ∷ ms) shaped fits few s =
     let T = moved t m S in
@@ -256,7 +271,7 @@ each_goes script S t (m ∷ ms) shaped fits few s =
       refs = refs;
       known = known script T sound.rows;
       ranks = λ u unset. ranks_move script S t m u fits.0 unset;
-      apart = λ u none. untouched script S t m u none;
+      apart = λ u none. untouched script S t m u s.rows.threads (joins_own script S t m fits.0) none;
     } in
     (goes, each_goes script T t ms shaped fits.1 (omega arith) (sane-after script S T t (told m S) s sound))
 
@@ -271,7 +286,7 @@ ranks_pay : (script : Script) (S : State) (t : ObjNo) (what : Owed) (u : ObjNo) 
 ranks_pay script S t (Close h o) u can = rank-closed S.threads _ o u
 ranks_pay script S t (Sweep o) u can = rank-none S.threads o u can.1
 
-pay_goes : (script : Script) (S : State) (t : ObjNo) (what : Owed) (rest : List Owed) → owed_of S t ≡ what ∷ rest → Sane script t S → MoveGoes script t (Pay what) S
+pub pay_goes : (script : Script) (S : State) (t : ObjNo) (what : Owed) (rest : List Owed) → owed_of S t ≡ what ∷ rest → Sane script t S → MoveGoes script t (Pay what) S
 pay_goes script S t what rest owes s =
     let T = moved t (Pay what) S in
     let sound = sound-pay script S t what rest owes s in
@@ -282,23 +297,5 @@ pay_goes script S t what rest owes s =
       refs = refs;
       known = known script T sound.rows;
       ranks = λ u _. ranks_pay script S t what u can;
-      apart = λ u none. untouched script S t (Pay what) u none;
+      apart = λ u none. untouched script S t (Pay what) u s.rows.threads tt none;
     }
-
--- the moves of each action go through
-pub action_goes : (script : Script) (S : State) (t : ObjNo) (row : ThreadRow) → IsShaped script → AreRows script S → thread_of S t ≡ Some row → MovesGo script t (decision_of script S t).moves S
-action_goes script S t row shaped rows is =
-    let s = sane-of script S t row rows is in
-    elim (fits-action script S t shaped rows) as (λ _. MovesGo script t (decision_of script S t).moves S) [
-      | inl fits ↦ each_goes script S t (decision_of script S t).moves shaped fits.each fits.few s
-      | inr pays ↦ subst (λ (ms : List Move). MovesGo script t ms S) (sym pays.moves) (pay_goes script S t pays.what pays.rest pays.owes s, tt)
-    ]
-
--- and tell few effects
-pub few_told : (script : Script) (S : State) (t : ObjNo) → IsShaped script → AreRows script S → length (tell t (decision_of script S t).moves S) ≤ 4
-few_told script S t shaped rows =
-    let ms = (decision_of script S t).moves in
-    elim (fits-action script S t shaped rows) as (λ _. length (tell t ms S) ≤ 4) [
-      | inl fits ↦ fits.told
-      | inr pays ↦ let few = tell_few t ms S in let two : total most_told ms ≡ 2 = ap (total most_told) pays.moves in omega arith
-    ]

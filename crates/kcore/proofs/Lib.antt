@@ -1,4 +1,5 @@
 mod ActionsDone
+mod BodiesApart
 mod BootNano
 mod BootReady
 mod BootTables
@@ -8,11 +9,15 @@ mod Finds
 mod FirstCount
 mod FreshTable
 mod Goes
+mod GoingActions
 mod GoingMoves
+mod LeastFree
 mod ListSteps
+mod MovesApart
 mod Noting
 mod Performing
 mod ReadyChanges
 mod ReadyLists
 mod ReadyQueues
 mod ReadyRows
+mod RunningOps

@@ -4,6 +4,7 @@ pub mod Counts
 pub mod StateOf
 pub mod Noted
 pub mod NanoMoved
+pub mod RequestMoved
 pub mod Moved
 pub mod ReadyQueues
 pub mod Performed

@@ -8,12 +8,13 @@ use Rattle.entry_log.specs.declared.effect.Holder.TheVariants.{Temp}
 use Rattle.state_rows.specs.declared.duty.Owed.TheVariants.{Close, Sweep}
 use Rattle.state_rows.specs.ObjectRows.{is_session, is_taken, is_dead_row}
 use Rattle.machine.specs.declared.moves.Move.{Move}
-use Rattle.machine.specs.declared.moves.Move.TheVariants.{Make, Gain, Lose, Find, Miss, GoOn, Write, Advance, Wait, Wake, SetPriority, Nano, Pay}
+use Rattle.machine.specs.declared.moves.Move.TheVariants.{Make, Gain, Lose, Find, Miss, GoOn, Write, Advance, Wait, Wake, SetPriority, Nano, Deferred, Requests, Pay}
 use Rattle.machine.specs.declared.state.State.{State}
 use Rattle.machine.specs.declared.state.ThreadRow.{ThreadRow}
 use Rattle.script_types.specs.declared.script.Script.{Script}
 use Rattle.machine.specs.Moves.{moved, told, objects_closed, threads_closed, owed_by_close}
 use Rattle.machine.specs.Arrivals.{is_listed, touched}
+use Rattle.machine.specs.Fits.{FitsDeferred}
 use Rattle.machine.specs.Choice.{priority_of}
 use Rattle.machine.specs.References.{count_of, RefsMove}
 use Rattle.machine.specs.Room.{MayAdvance}
@@ -24,6 +25,7 @@ use Rattle.kcore.specs.Counts.{CountsMove}
 use Rattle.kcore.specs.NanoMoved.{CanNano}
 use Rattle.kcore.specs.Noted.{AreNoted}
 use Rattle.kcore.specs.ObjectsView.{IsThere}
+use Rattle.kcore.specs.RequestMoved.{CanRequest}
 use Rattle.kcore.specs.StateOf.{state_of}
 
 -- there is room for one more object, and nothing refers to it yet
@@ -77,6 +79,8 @@ CanMove t (Wait u what) S = Unit {0}
 CanMove t (Wake u) S = Unit {0}
 CanMove t (SetPriority u priority) S = Unit {0}
 CanMove t (Nano m) S = CanNano m S.nano
+CanMove t (Deferred m) S = FitsDeferred m S.deferred
+CanMove t (Requests m) S = CanRequest m S.requests
 CanMove t (Pay (Close h o)) S = IsReferred S o × HasPlaces 2 S t
 CanMove t (Pay (Sweep o)) S = IsTrue (is_dead_row (object_of S o)) × (thread_of S o ≡ None)
 

@@ -1,5 +1,5 @@
 -- What the moves of an action leave in the tables and in the queues.
-use Rattle.std.specs.Prelude.{◌≡◌, true, List}
+use Rattle.std.specs.Prelude.{◌≡◌, ◌≤◌, ◌++◌, true, length, List}
 use Rattle.sym_base.specs.declared.number.ObjNo.{ObjNo}
 use Rattle.script_types.specs.declared.script.Script.{Script}
 use Rattle.entry_log.specs.declared.effect.Effect.{Effect}
@@ -13,16 +13,22 @@ use Rattle.machine.specs.Moves.{perform, tell}
 use Rattle.machine.specs.Task.{is_ready}
 use Rattle.machine.specs.Transition.{Transition, left}
 use Rattle.kcore.specs.declared.tables.Tables.{Tables}
+use Rattle.kcore.specs.Moved.{MovesGo}
 use Rattle.kcore.specs.Noted.{AreKept}
 use Rattle.kcore.specs.ReadyQueues.{AreReady}
 use Rattle.kcore.specs.StateOf.{state_of, with_ready}
 
--- the moves were made: the tables stand for the state after them and keep what they keep beside it, and the queues have the threads that
--- arrived along them
-pub record IsPerformed {W N : Type 0} (script : Script) (t : ObjNo) (ms : List Move) (old new : Tables W N) (before after : Ready) (effects : List Effect) : Type 0 where
+-- the moves of an action of thread t go through, and tell what an entry has room for
+pub record ActionGoes (script : Script) (t : ObjNo) (ms : List Move) (S : State) : Type 0 where
+  pub each : MovesGo script t ms S
+  pub few : length (tell t ms S) ≤ 4
+
+-- the moves were made: the tables stand for the state after them and keep what they keep beside it, what they tell comes behind what was
+-- told before, and the queues have the threads that arrived along them
+pub record IsPerformed {W N : Type 0} (script : Script) (t : ObjNo) (ms : List Move) (old new : Tables W N) (before after : Ready) (was is : List Effect) : Type 0 where
   pub state : state_of new ≡ perform t ms (state_of old)
   pub kept : AreKept new
-  pub told : effects ≡ tell t ms (state_of old)
+  pub told : is ≡ was ++ tell t ms (state_of old)
   pub queues : (qs : List ObjNo) → AreReady (priority_of (state_of old)) qs before → AreReady (priority_of (state_of new)) (arrivals script t ms (state_of old) qs) after
 
 -- the tables and the queues stand for the state that an action left, of which this is told

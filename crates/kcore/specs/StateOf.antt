@@ -7,7 +7,7 @@ use Rattle.kcore.specs.declared.tables.Tables.{Tables}
 
 -- each field of the state is the value of one table, and nobody is ready
 abbrev pub state_of : {W N : Type 0} → Tables W N → State
-state_of tables = record { objects = tables.objects.rows; handles = tables.handles; threads = tables.threads; ready = []; owed = tables.cleanup.duties; nano = tables.nano }
+state_of tables = record { objects = tables.objects.rows; handles = tables.handles; threads = tables.threads; ready = []; owed = tables.cleanup.duties; nano = tables.nano; deferred = tables.deferred; requests = tables.requests }
 
 -- a state with these ready threads
 abbrev pub with_ready : State → List ObjNo → State

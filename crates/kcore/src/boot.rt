@@ -1,6 +1,6 @@
 //! The tables and the queues of ready threads at boot.
 ghost use Rattle.std.specs.Prelude.{if◌then◌else◌, ◌≡◌, ℕ, ◌<◌, ◌≤◌, ◌++◌, [], ◌∷◌, Some, None, true, false, length, map, replicate, IfOk, slice_index, slice_set};
-ghost use Rattle.sym_base.specs.declared.limits.TheConstants.Limits.{BOOT_OBJECTS, OBJECTS, HANDLES};
+ghost use Rattle.sym_base.specs.declared.limits.TheConstants.Limits.{BOOT_OBJECTS, DEVICES, OBJECTS, HANDLES};
 ghost use Rattle.sym_base.specs.declared.number.ObjNo.{ObjNo};
 ghost use Rattle.script_types.specs.Source.{IsValid};
 ghost use Rattle.ref_words.specs.Words.{NoneCreated};
@@ -12,11 +12,13 @@ ghost use Rattle.machine.specs.Handles.{fresh_slot};
 ghost use Rattle.machine.specs.References.{count_of};
 ghost use Rattle.machine.specs.WellFormed.{AreApart};
 ghost use Rattle.state_rows.specs.Nano.{suspend_count};
+ghost use Rattle.state_rows.specs.RequestChanges.{new_rows as request_rows};
 ghost use Rattle.kcore.specs.BootTable.{AreNew, FirstStand};
 ghost use Rattle.kcore.specs.Noted.{AreKept};
 ghost use Rattle.kcore.specs.ReadyQueues.{AreReady};
 ghost use Rattle.kcore.specs.StateOf.{state_of, with_ready};
 
+use crate::call_queues::CallQueues;
 use crate::handles::Handles;
 use crate::object_table::ObjectTable;
 use crate::tables::Tables;
@@ -25,8 +27,9 @@ use machine::{Born, State, all_born, boot_of, count_of, row_of};
 use nano_sync::NanoSync;
 use ready_list::ReadyList;
 use ref_words::RefWords;
+use requests::Requests;
 use script_types::Script;
-use state_rows::ObjectRow;
+use state_rows::{ObjectRow, calls_of};
 use std::alloc::Global;
 use sym_base::{Items, Limits, NoMemory, ObjNo, ThreadNo};
 
@@ -113,6 +116,14 @@ fn nano_of(alloc: Global, fast: u8, all: &[Born]) -> Result<NanoSync, NoMemory>
     Ok(nano)
 }
 
+/// No device has a request, and each status and semaphore is 0.
+fn requests_of(alloc: Global, all: &[Born]) -> Result<Requests, NoMemory>
+    requires { length all.now < 65536 }
+    ensures { IfOk result (λ requests. requests ≡ request_rows (length all.now) DEVICES) }
+{
+    Requests::new(alloc, all.len() as u16, Limits::DEVICES as u8)
+}
+
 /// The priority of a thread, 0 where there is none.
 fn priority_of(state: &State, thread: ThreadNo) -> u8
     ensures { result ≡ priority_of state.now thread }
@@ -153,17 +164,22 @@ pub fn boot<W: RefWords + Drop>(
 {
     let all = all_born(alloc, script)?;
     let handles = fresh_handles(alloc, all.as_slice())?;
-    let state = boot_of(alloc, script.fast, all.as_slice())?;
+    let calls = calls_of(alloc, script)?;
+    let state = boot_of(alloc, script.fast, calls, all.as_slice())?;
     let objects = counted(alloc, words, all.as_slice(), &state)?;
     let ready = queues_of(alloc, &state)?;
     let cleanup = empty_lists(alloc, all.as_slice())?;
     let nano = nano_of(alloc, script.fast, all.as_slice())?;
+    let deferred = CallQueues::new(alloc, script)?;
+    let requests = requests_of(alloc, all.as_slice())?;
     let tables = Tables {
         objects,
         handles,
         threads: state.threads,
         cleanup,
         nano,
+        deferred,
+        requests,
     };
     Ok((tables, ready))
 }

@@ -13,6 +13,7 @@ ghost use Rattle.kcore.specs.StateOf.{state_of};
 use crate::duties::{drop_first_owed, owe_close, owe_use};
 use crate::handles::Handles;
 use crate::nano_moves::move_nano;
+use crate::request_moves::move_request;
 use crate::tables::Tables;
 use crate::uses::{note_end, note_gain, note_lost, use_of};
 use entry_log::Holder;
@@ -190,6 +191,8 @@ pub fn make_move<W: RefWords + Drop>(tables: &mut Tables<W>, thread: ThreadNo, c
             machine::threads_set_priority(&mut tables.threads, other, priority);
         }
         Move::Nano(change) => move_nano(&mut tables.nano, change),
+        Move::Deferred(change) => tables.deferred.change(change),
+        Move::Requests(change) => move_request(&mut tables.requests, change),
         Move::Pay(what) => pay(tables, thread, what),
     }
 }

@@ -6,9 +6,9 @@ ghost use Rattle.kcore.specs.StateOf.{state_of};
 use crate::duties::first_owed;
 use crate::tables::Tables;
 use decisions::Reads;
-use machine::{FRESH_SLOT, HandleSlot, NewHandle, Owed, ThreadRow};
+use machine::{FRESH_SLOT, HandleSlot, NewHandle, Owed, ThreadRow, thread_in};
 use ref_words::RefWords;
-use state_rows::ObjectRow;
+use state_rows::{Item, ObjectRow, Request};
 use sym_base::{Kind, Name, ObjNo, ThreadNo};
 
 impl<W: RefWords + Drop> Reads for Tables<W> {
@@ -20,13 +20,8 @@ impl<W: RefWords + Drop> Reads for Tables<W> {
         self.objects.row(object)
     }
 
-    fn thread(&self, thread: ThreadNo) -> Option<ThreadRow> {
-        let at = thread.0 as usize;
-        if at < self.threads.len() {
-            self.threads.get(at)
-        } else {
-            None
-        }
+    fn thread(&self, thread: ThreadNo) -> Option<&ThreadRow> {
+        thread_in(&self.threads, thread)
     }
 
     fn first_owed(&self, thread: ThreadNo) -> Option<Owed> {
@@ -97,5 +92,33 @@ impl<W: RefWords + Drop> Reads for Tables<W> {
 
     fn is_protected(&self, thread: ThreadNo) -> bool {
         self.nano.protected(thread)
+    }
+
+    fn next_call(&self, queue: u8) -> Option<u8> {
+        self.deferred.next_call(queue)
+    }
+
+    fn next_immediate(&self) -> Option<Item> {
+        self.deferred.next_immediate()
+    }
+
+    fn is_queued(&self, dfc: u8) -> bool {
+        self.deferred.is_queued(dfc)
+    }
+
+    fn queue_of(&self, dfc: u8) -> u8 {
+        self.deferred.queue_of(dfc)
+    }
+
+    fn request_at(&self, device: u8) -> Option<Request> {
+        self.requests.request_at(device)
+    }
+
+    fn value_of(&self, thread: ThreadNo, status: u8) -> i32 {
+        self.requests.value(thread, status)
+    }
+
+    fn request_signals(&self, thread: ThreadNo) -> u64 {
+        self.requests.signal_count(thread)
     }
 }

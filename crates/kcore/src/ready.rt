@@ -8,7 +8,8 @@ ghost use Rattle.sym_base.specs.Greatest.{first_of_greatest};
 ghost use Rattle.ready_list.specs.Arrival.{AreQueuesOf};
 ghost use Rattle.machine.specs.Choice.{priority_of};
 ghost use Rattle.machine.specs.Tick.{moved_behind};
-ghost use Rattle.state_rows.specs.Nano.{in_place_of, turned, actor_of};
+ghost use Rattle.state_rows.specs.Deferred.{next_immediate};
+ghost use Rattle.state_rows.specs.Nano.{in_place_of, turned, actor_of, item_or};
 ghost use Rattle.kcore.specs.Moved.{AreKnown};
 ghost use Rattle.kcore.specs.ReadyQueues.{Follow, SomeReady, pairs, leave, leave_along};
 ghost use Rattle.kcore.specs.StateOf.{state_of};
@@ -144,12 +145,13 @@ pub fn leave_along<W: RefWords + Drop>(
     }
 }
 
-/// Whom the queues let act: the first thread of the highest queue, or who acts in its place, or nobody.
+/// Whom the queues let act: the oldest item of the immediate queue, where it has one; else the first thread of the highest
+/// queue, or who acts in its place, or nobody.
 #[tactic(auto, using(crate::proofs::ReadyChanges::chosen_follows))]
 pub fn chosen<W: RefWords + Drop>(tables: &Tables<W>, ready: &ReadyList) -> Actor
-    ensures { (rank : ObjNo → ℕ) (qs : List ObjNo) → AreQueuesOf (pairs rank qs) ready.now → result ≡ actor_of (option_map (in_place_of (state_of tables.now).nano) (first_of_greatest rank qs)) }
+    ensures { (rank : ObjNo → ℕ) (qs : List ObjNo) → AreQueuesOf (pairs rank qs) ready.now → result ≡ item_or (next_immediate (state_of tables.now).deferred) (actor_of (option_map (in_place_of (state_of tables.now).nano) (first_of_greatest rank qs))) }
 {
-    nano::chosen(ready, &tables.nano)
+    nano::chosen(ready, &tables.nano, tables.deferred.calls())
 }
 
 /// Puts the first thread of the highest queue behind its equals, unless it holds a fast mutex.

@@ -9,4 +9,4 @@ mod tests;
 
 pub use choice::{chosen, tick, wanted_holder};
 pub use interrupts::{InterruptBody, interrupt};
-pub use nano::Nano;
+pub use nano::{Nano, new_deferred};

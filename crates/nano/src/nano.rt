@@ -116,7 +116,7 @@ fn new_sync(alloc: Global, script: &Script) -> Result<NanoSync, NoMemory>
 }
 
 /// The queues of deferred function calls: the supervisor's and each declared one. Each thread has a burial.
-fn new_deferred(alloc: Global, script: &Script) -> Result<Deferred, NoMemory>
+pub fn new_deferred(alloc: Global, script: &Script) -> Result<Deferred, NoMemory>
     requires { IsShaped script.now }
     ensures { IfOk result (λ deferred. deferred ≡ calls_of script.now) }
 {

@@ -1,4 +1,3 @@
-pub mod Best
 pub mod KernelThreadRuns
 pub mod Performing
 pub mod Rooms

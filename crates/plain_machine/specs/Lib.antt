@@ -1,3 +1,4 @@
-pub mod BestSoFar
+pub mod Allowed
+pub mod Courses
 pub mod KernelThreadScripts
 pub mod PlainView

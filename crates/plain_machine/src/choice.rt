@@ -1,10 +1,10 @@
 //! The choice of the next actor.
 ghost use Rattle.state_rows.specs.Nano.{in_place_of};
 ghost use Rattle.std.specs.Prelude.{◌≡◌};
-ghost use Rattle.machine.specs.Choice.{priority_of, first_ready, chosen};
-ghost use Rattle.plain_machine.specs.BestSoFar.{better};
+ghost use Rattle.machine.specs.Choice.{priority_of, first_ready, chosen_thread, chosen};
+ghost use Rattle.readings.specs.BestSoFar.{better};
 
-use decisions::wanted_holder;
+use decisions::{Reads, wanted_holder};
 use entry_log::Actor;
 use machine::{State, thread_of};
 use sym_base::ThreadNo;
@@ -30,7 +30,7 @@ fn better(state: &State, best: Option<ThreadNo>, next: ThreadNo) -> Option<Threa
 }
 
 /// The ready thread of greatest priority that has been ready longest.
-#[tactic(auto, using(crate::proofs::Best::best_step, crate::proofs::Best::best_alone))]
+#[tactic(auto, using(readings::proofs::Best::best_step, readings::proofs::Best::best_alone))]
 pub fn first_ready(state: &State) -> Option<ThreadNo>
     ensures { result ≡ first_ready state.now }
 {
@@ -51,12 +51,22 @@ fn in_place_of(state: &State, thread: ThreadNo) -> ThreadNo
     }
 }
 
-/// Who acts next, or nobody.
-pub fn chosen(state: &State) -> Actor
-    ensures { result ≡ chosen state.now }
+/// The thread that acts next: the best ready one, or who acts in its place.
+fn chosen_thread(state: &State) -> Actor
+    ensures { result ≡ chosen_thread state.now }
 {
     match first_ready(state) {
         Some(thread) => Actor::Thread(in_place_of(state, thread)),
         None => Actor::Idle,
+    }
+}
+
+/// Who acts next: the immediate queue, where it has an item; else a thread, or nobody.
+pub fn chosen(state: &State) -> Actor
+    ensures { result ≡ chosen state.now }
+{
+    match state.next_immediate() {
+        Some(_) => Actor::Idfc,
+        None => chosen_thread(state),
     }
 }

@@ -1,12 +1,16 @@
 //! The plain machine: the definitions, run over plain lists.
 #![tactic(auto)]
 
+mod action;
 mod arrivals;
+mod calls;
 mod choice;
+mod course;
 mod final_rows;
 mod nano;
 mod perform;
 mod plain;
+mod requests;
 mod tick;
 mod transition;
 

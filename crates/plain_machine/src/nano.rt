@@ -1,6 +1,6 @@
 //! Moves in the rows of threads that synchronize, made on the plain machine's lists.
 ghost use Rattle.std.specs.Prelude.{◌≡◌, None, slice_set};
-ghost use Rattle.decisions.specs.Readable.{AreSmallRows};
+ghost use Rattle.readings.specs.Readable.{AreSmallRows};
 ghost use Rattle.machine.specs.NanoMoves.{nano_moved};
 ghost use Rattle.state_rows.specs.NanoChanges.{one_more, after_take, after_give, after_want, after_enter, after_leave, after_leave_all, after_suspend, after_resume, after_signal, after_wait};
 
@@ -14,7 +14,7 @@ use sym_base::{Items, ObjNo, ThreadNo};
 const MAX_SUSPENSIONS: u8 = 127;
 
 /// Puts another count for a thread.
-fn set_count<T: Copy>(counts: &mut Items<T>, thread: ThreadNo, count: T)
+pub fn set_count<T: Copy>(counts: &mut Items<T>, thread: ThreadNo, count: T)
     ensures { counts.new ≡ slice_set counts.old thread.0 count }
 {
     let at = thread.0 as usize;
@@ -24,7 +24,7 @@ fn set_count<T: Copy>(counts: &mut Items<T>, thread: ThreadNo, count: T)
 }
 
 /// A count that rises. At its end it stays.
-fn one_more(count: u64) -> u64
+pub fn one_more(count: u64) -> u64
     ensures { result ≡ one_more count }
 {
     count.saturating_add(1)

@@ -1,11 +1,13 @@
 //! The moves of an action, made on the plain machine's lists.
 ghost use Rattle.std.specs.Prelude.{◌≡◌, ◌+◌, ◌≤◌, length, OnOk};
-ghost use Rattle.decisions.specs.Readable.{AreSmallRows};
+ghost use Rattle.readings.specs.Readable.{AreSmallRows};
 ghost use Rattle.machine.specs.Handles.{taken_slot, freed_slot, with_slot};
 ghost use Rattle.machine.specs.Moves.{tables_gain, threads_gain, tables_lose, threads_lose, link_of, use_of, objects_closed, moved};
 ghost use Rattle.machine.specs.Room.{HasRoom, AreSmallTables};
 
+use crate::calls::make_deferred_move;
 use crate::nano::make_nano_move;
+use crate::requests::make_request_move;
 use entry_log::Holder;
 use machine::{
     HandleSlot, Move, Owed, State, Waiting, drop_first_owed, is_last, next_instance, object_of,
@@ -14,6 +16,7 @@ use machine::{
     threads_wait, threads_write,
 };
 use state_rows::{ObjectRow, dead_row};
+use std::alloc::Global;
 use sym_base::{Kind, Name, NoMemory, ObjNo, ThreadNo};
 
 /// The slot of an index takes a handle of the object.
@@ -182,7 +185,12 @@ fn gain(state: &mut State, thread: ThreadNo, holder: Holder, object: ObjNo)
 }
 
 /// One move in an action of a thread.
-pub fn make_move(state: &mut State, thread: ThreadNo, change: Move) -> Result<(), NoMemory>
+pub fn make_move(
+    alloc: Global,
+    state: &mut State,
+    thread: ThreadNo,
+    change: Move,
+) -> Result<(), NoMemory>
     requires room { HasRoom 1 state.old }
     requires small { AreSmallRows state.old.nano }
     ensures { OnOk result (state.new ≡ moved thread change state.old) }
@@ -210,6 +218,8 @@ pub fn make_move(state: &mut State, thread: ThreadNo, change: Move) -> Result<()
             priority,
         ),
         Move::Nano(change) => make_nano_move(&mut state.nano, change),
+        Move::Deferred(change) => return make_deferred_move(alloc, state, change),
+        Move::Requests(change) => make_request_move(state, change),
     }
     Ok(())
 }

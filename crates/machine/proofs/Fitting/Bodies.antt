@@ -154,7 +154,7 @@ short_irq script place None shaped is = omega arith
 short_irq script None (Some irq) shaped is = absurd (cc)
 short_irq script (Some k) (Some irq) shaped is = leb-true (length irq.body) 4 (all_at (λ (i : IrqBody). is_short i.body) script.irqs k irq shaped.irq_bodies is)
 
-short_body : (script : Script) (body : Body) → IsShaped script → length (ops_of script body) ≤ 4
+pub short_body : (script : Script) (body : Body) → IsShaped script → length (ops_of script body) ≤ 4
 short_body script (Interrupt k) shaped = short_irq script _ (irq_of script k) shaped refl
 short_body script (Immediate call) shaped = short_idfc script call (slice_get script.idfcs call) shaped refl
 short_body script (Deferred dfc) shaped = short_dfc script dfc (slice_get script.dfcs dfc) shaped refl

@@ -10,3 +10,9 @@ returns-in-Thread g c = subst (λ (a : Actor). Does c.args.script.now c.args.tab
 
 pub returns-in-Tick : goal.returns-in-Tick
 returns-in-Tick g c = subst (λ (a : Actor). Does c.args.script.now c.args.tables.now c.args.ready.now c.args.tables.now c.tick.new.ready c.tick.result (λ S. transition c.args.script.now S a)) (sym c.in-Tick.is) (tick_does c.args.script.now c.args.tables.now c.args.ready.now c.tick.new.ready c.tick.result c.requires.kept c.tick.ensures.queues c.tick.ensures.told)
+
+pub returns-in-Irq : goal.returns-in-Irq
+returns-in-Irq g c = subst (λ (a : Actor). Does c.args.script.now c.args.tables.now c.args.ready.now c.interrupt.new.tables c.interrupt.new.ready c.interrupt.result (λ S. transition c.args.script.now S a)) (sym c.in-Irq.is) c.interrupt.ensures
+
+pub returns-in-Idfc : goal.returns-in-Idfc
+returns-in-Idfc g c = subst (λ (a : Actor). Does c.args.script.now c.args.tables.now c.args.ready.now c.immediate.new.tables c.immediate.new.ready c.immediate.result (λ S. transition c.args.script.now S a)) (sym c.in-Idfc.is) c.immediate.ensures

@@ -2,7 +2,7 @@ use Rattle.std.proofs.Common.{refl}
 use Rattle.machine.specs.Moves.{with_found, with_part, with_register, with_waiting, with_priority}
 use Rattle.machine.specs.declared.state.Waiting.TheVariants as waiting
 use Rattle.kcore.proofs.Noting.{noted_row}
-use Rattle.kcore.proofs.FirstCount.{nano_counts}
+use Rattle.kcore.proofs.FirstCount.{nano_counts, request_counts}
 use Rattle.kcore.proofs.moves.make_move.Goals as goal
 
 pub returns-in-Make : goal.returns-in-Make
@@ -73,5 +73,16 @@ returns-in-Nano g c =
     rw c.in-Nano.is (record {
       state = rw c.move_nano.ensures refl;
       counts = nano_counts c.args.tables.now.objects.counts c.in-Nano.change;
+      uses = c.requires.kept.uses;
+    })
+
+pub returns-in-Deferred : goal.returns-in-Deferred
+returns-in-Deferred g c = rw c.in-Deferred.is (record { state = rw c.change.ensures refl; counts = λ o. refl; uses = c.requires.kept.uses })
+
+pub returns-in-Requests : goal.returns-in-Requests
+returns-in-Requests g c =
+    rw c.in-Requests.is (record {
+      state = rw c.move_request.ensures refl;
+      counts = request_counts c.args.tables.now.objects.counts c.in-Requests.change;
       uses = c.requires.kept.uses;
     })

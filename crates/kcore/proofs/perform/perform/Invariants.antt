@@ -1,7 +1,6 @@
 use Rattle.std.proofs.Common.{drop}
-use Rattle.kcore.specs.StateOf.{state_of}
 use Rattle.kcore.proofs.Performing.{OnTheWay}
 use Rattle.kcore.proofs.perform.perform.Given as goal
 
 abbrev pub invariant-loop-change : goal.invariant-loop-change
-invariant-loop-change g l = OnTheWay l.script l.thread l.moves (state_of l.initial.tables) l.initial.ready (drop l.change-index l.moves) l.tables l.ready l.effects
+invariant-loop-change g l = OnTheWay l.script l.thread l.moves l.initial.tables l.initial.ready l.initial.effects (drop l.change-index l.moves) l.tables l.ready l.effects

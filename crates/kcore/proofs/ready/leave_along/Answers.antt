@@ -1,13 +1,13 @@
 use Rattle.std.proofs.Common.{◌+◌, drop}
 use Rattle.kcore.specs.StateOf.{state_of}
-use Rattle.kcore.proofs.Performing.{left_goes_on, left_ends, next_move, none_left}
+use Rattle.kcore.proofs.Performing.{left_goes_on, left_ends, next_item, none_left}
 use Rattle.kcore.proofs.ready.leave_along.Goals as goal
 
 pub loop-change-preserved : goal.loop-change-preserved
 loop-change-preserved g c =
     let m = c.change-item.result in
     let i = c.loop-change.change-index in
-    let next = next_move c.args.moves.now i m c.loop-change-test.true c.change-item.is in (
+    let next = next_item c.args.moves.now i m c.loop-change-test.true c.change-item.is in (
       c.leave_touched.ensures.size,
       λ rank qs h.
           let left = rw next at (c.loop-change.invariant.1 rank qs h) in

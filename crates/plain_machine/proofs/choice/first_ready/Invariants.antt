@@ -1,6 +1,6 @@
 use Rattle.std.proofs.Common.{◌≡◌, drop}
 use Rattle.sym_base.specs.Greatest.{first_of_greatest}
-use Rattle.plain_machine.specs.BestSoFar.{best_of}
+use Rattle.readings.specs.BestSoFar.{best_of}
 use Rattle.machine.specs.Choice.{priority_of, first_ready}
 use Rattle.plain_machine.proofs.choice.first_ready.Given as goal
 

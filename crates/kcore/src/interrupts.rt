@@ -1,0 +1,57 @@
+//! Actions of which no thread is the actor: those of interrupts and of the immediate queue.
+ghost use Rattle.std.specs.Prelude.{◌≡◌};
+ghost use Rattle.sym_base.specs.declared.limits.TheConstants.Limits.{BOOT_OBJECTS};
+ghost use Rattle.script_types.specs.Shape.{IsShaped};
+ghost use Rattle.machine.specs.Interrupts.{immediate, interrupt};
+ghost use Rattle.machine.specs.WellFormed.{AreRows};
+ghost use Rattle.kcore.specs.Noted.{AreKept};
+ghost use Rattle.kcore.specs.Performed.{Does};
+ghost use Rattle.kcore.specs.StateOf.{state_of};
+
+use crate::bodies::run_body;
+use crate::plans::follow;
+use crate::tables::Tables;
+use decisions::immediate_action;
+use machine::{Body, Decision, Outcome};
+use ready_list::ReadyList;
+use ref_words::RefWords;
+use script_types::Script;
+use sym_base::{ObjNo, ThreadNo};
+
+/// The supervisor, which stands for the thread that acts where none does.
+const SUPERVISOR: ThreadNo = ObjNo(1);
+
+/// An interrupt: its body runs.
+pub fn interrupt<W: RefWords + Drop>(
+    script: &Script,
+    tables: &mut Tables<W>,
+    ready: &mut ReadyList,
+    decision: &mut Decision,
+    number: u8,
+) -> Outcome
+    requires shaped { IsShaped script.now }
+    requires rows { AreRows script.now (state_of tables.old) }
+    requires kept { AreKept tables.old }
+    requires size { ready.old.threads ≡ BOOT_OBJECTS }
+    ensures { Does script.now tables.old ready.old tables.new ready.new result (λ S. interrupt script.now S number) }
+{
+    let body = Body::Interrupt(number);
+    run_body(script, tables, ready, &mut decision.moves, SUPERVISOR, body)
+}
+
+/// The oldest item of the immediate queue runs, or moves to its own queue.
+pub fn immediate<W: RefWords + Drop>(
+    script: &Script,
+    tables: &mut Tables<W>,
+    ready: &mut ReadyList,
+    decision: &mut Decision,
+) -> Outcome
+    requires shaped { IsShaped script.now }
+    requires rows { AreRows script.now (state_of tables.old) }
+    requires kept { AreKept tables.old }
+    requires size { ready.old.threads ≡ BOOT_OBJECTS }
+    ensures { Does script.now tables.old ready.old tables.new ready.new result (λ S. immediate script.now S) }
+{
+    let body = immediate_action(decision, script, tables);
+    follow(script, tables, ready, decision, SUPERVISOR, body)
+}

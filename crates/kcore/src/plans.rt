@@ -1,0 +1,66 @@
+//! What an actor decided is carried out: moves that were decided at once, or a body.
+ghost use Rattle.std.specs.Prelude.{◌≡◌};
+ghost use Rattle.sym_base.specs.declared.limits.TheConstants.Limits.{BOOT_OBJECTS};
+ghost use Rattle.script_types.specs.Shape.{IsShaped};
+ghost use Rattle.decisions.specs.Planned.{planned};
+ghost use Rattle.machine.specs.Bodies.{decision_by};
+ghost use Rattle.machine.specs.Transition.{carried_out};
+ghost use Rattle.kcore.specs.Noted.{AreKept};
+ghost use Rattle.kcore.specs.Performed.{ActionGoes, Does};
+ghost use Rattle.kcore.specs.StateOf.{state_of};
+
+use crate::bodies::run_body;
+use crate::perform::perform;
+use crate::ready::leave_along;
+use crate::tables::Tables;
+use entry_log::Effects;
+use machine::{Body, Decision, Outcome};
+use ready_list::ReadyList;
+use ref_words::RefWords;
+use script_types::Script;
+use sym_base::ThreadNo;
+
+/// A decision of a thread.
+fn carry_out<W: RefWords + Drop>(
+    script: &Script,
+    tables: &mut Tables<W>,
+    ready: &mut ReadyList,
+    thread: ThreadNo,
+    decision: &Decision,
+) -> Outcome
+    requires goes { ActionGoes script.now thread decision.now.moves (state_of tables.old) }
+    requires kept { AreKept tables.old }
+    requires size { ready.old.threads ≡ BOOT_OBJECTS }
+    ensures { Does script.now tables.old ready.old tables.new ready.new result (λ S. carried_out script.now thread S decision.now) }
+{
+    let mut effects = Effects::new();
+    let moves = decision.moves.as_slice();
+    perform(script, tables, ready, thread, moves, &mut effects);
+    leave_along(script, tables, ready, thread, moves);
+    Outcome {
+        step: decision.step,
+        effects,
+        answer: decision.answer,
+    }
+}
+
+/// What was decided for a thread, or a body, where there is one.
+pub fn follow<W: RefWords + Drop>(
+    script: &Script,
+    tables: &mut Tables<W>,
+    ready: &mut ReadyList,
+    decision: &mut Decision,
+    thread: ThreadNo,
+    body: Option<Body>,
+) -> Outcome
+    requires shaped { IsShaped script.now }
+    requires goes { ActionGoes script.now thread (decision_by script.now thread (state_of tables.old) (planned decision.old body)).moves (state_of tables.old) }
+    requires kept { AreKept tables.old }
+    requires size { ready.old.threads ≡ BOOT_OBJECTS }
+    ensures { Does script.now tables.old ready.old tables.new ready.new result (λ S. carried_out script.now thread S (decision_by script.now thread (state_of tables.old) (planned decision.old body))) }
+{
+    match body {
+        None => carry_out(script, tables, ready, thread, decision),
+        Some(body) => run_body(script, tables, ready, &mut decision.moves, thread, body),
+    }
+}

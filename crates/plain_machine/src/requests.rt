@@ -1,0 +1,82 @@
+//! Moves in the rows of requests, made on the plain machine's lists.
+ghost use Rattle.std.specs.Prelude.{◌≡◌, slice_set};
+ghost use Rattle.machine.specs.RequestMoves.{request_moved};
+ghost use Rattle.state_rows.specs.RequestChanges.{after_begin, after_finish, after_set_pending, after_signal, after_take, with_status};
+
+use crate::nano::{one_more, set_count};
+use decisions::Reads;
+use machine::{RequestMove, State, set_row};
+use state_rows::{PENDING, Request, STATUSES};
+use sym_base::{Items, ObjNo, ThreadNo};
+
+/// The values of a thread's statuses, of which one is another.
+fn with_value(values: [i32; STATUSES], status: u8, value: i32) -> [i32; STATUSES]
+    ensures { result ≡ slice_set values status value }
+{
+    let mut values = values;
+    let at = status as usize;
+    if at < values.len() {
+        values[at] = value;
+    }
+    values
+}
+
+/// A thread's status gets a value.
+fn set_status(statuses: &mut Items<[i32; STATUSES]>, thread: ThreadNo, status: u8, value: i32)
+    ensures { statuses.new ≡ with_status statuses.old thread status value }
+{
+    let at = thread.0 as usize;
+    if at < statuses.len() {
+        let values = with_value(statuses.get(at), status, value);
+        statuses.set(at, values);
+    }
+}
+
+/// The status is pending, and the device has the request, where it had none.
+fn begin(state: &mut State, device: u8, thread: ThreadNo, status: u8)
+    ensures { state.new ≡ record state.old { requests = after_begin (after_set_pending state.old.requests thread status) device thread status } }
+{
+    set_status(&mut state.requests.statuses, thread, status, PENDING);
+    if state.request_at(device).is_none() {
+        let request = Some(Request { thread, status });
+        set_row(&mut state.requests.devices, ObjNo(device as u16), request);
+    }
+}
+
+/// The status has the code, and its thread one signal more.
+fn signal(state: &mut State, thread: ThreadNo, status: u8, code: i32)
+    ensures { state.new ≡ record state.old { requests = after_signal state.old.requests thread status code } }
+{
+    let count = one_more(state.request_signals(thread));
+    set_status(&mut state.requests.statuses, thread, status, code);
+    set_count(&mut state.requests.signals, thread, count);
+}
+
+/// The device has no request.
+fn finish(state: &mut State, device: u8)
+    ensures { state.new ≡ record state.old { requests = after_finish state.old.requests device } }
+{
+    set_row(&mut state.requests.devices, ObjNo(device as u16), None);
+}
+
+/// The thread has one signal less.
+fn take_signal(state: &mut State, thread: ThreadNo)
+    ensures { state.new ≡ record state.old { requests = after_take state.old.requests thread } }
+{
+    let count = state.request_signals(thread).saturating_sub(1);
+    set_count(&mut state.requests.signals, thread, count);
+}
+
+/// One move in the rows of requests.
+pub fn make_request_move(state: &mut State, change: RequestMove)
+    ensures { state.new ≡ record state.old { requests = request_moved change state.old.requests } }
+{
+    match change {
+        RequestMove::Begin(device, thread, status) => begin(state, device, thread, status),
+        RequestMove::Complete(device, thread, status, code) => {
+            finish(state, device);
+            signal(state, thread, status, code);
+        }
+        RequestMove::TakeSignal(thread) => take_signal(state, thread),
+    }
+}

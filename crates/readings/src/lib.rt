@@ -1,0 +1,12 @@
+//! What decisions read of a state, and who is ready and able to act: for the plain machine and for the kernel.
+#![tactic(auto)]
+
+mod plain_calls;
+mod plain_reads;
+mod plain_requests;
+mod reads;
+mod task;
+
+pub use plain_calls::is_queued;
+pub use reads::Reads;
+pub use task::{instruction, is_able, is_ready, is_returning, next_call, wanted_holder};

@@ -1,0 +1,133 @@
+//! What decisions read of a state. The plain machine keeps it as lists and the kernel as tables of its own,
+//! and both decide by the same functions.
+ghost use Rattle.std.specs.Prelude.{◌≡◌, ◌<◌, ◌≤◌, length, IfSome, is_some, option_copied};
+ghost use Rattle.machine.specs.Find.{find_object};
+ghost use Rattle.machine.specs.Handles.{slot_at, next_handle};
+ghost use Rattle.machine.specs.References.{is_last};
+ghost use Rattle.machine.specs.Rows.{object_of, thread_of, table_of, first_owed};
+ghost use Rattle.state_rows.specs.declared.deferred.Item.TheVariants.{Move};
+ghost use Rattle.state_rows.specs.Deferred.{next_of, next_immediate, is_queued, queue_of};
+ghost use Rattle.state_rows.specs.Nano.{signal_count, suspend_count, critical_count, want_of, holder_of, held_by, is_protected};
+ghost use Rattle.state_rows.specs.ObjectRows.{is_taken};
+ghost use Rattle.state_rows.specs.Requests.{request_at, value_of, signal_count as request_signals};
+
+use machine::{HandleSlot, NewHandle, Owed, ThreadRow};
+use state_rows::{Item, ObjectRow, Request};
+use sym_base::{Kind, Name, ObjNo, ThreadNo};
+
+/// A state that can be read. A number without a row reads as none, and a count without one as 0.
+pub trait Reads {
+    ghost use Rattle.machine.specs.declared.state.State.{State};
+
+    /// The state that it stands for.
+    ghost state: { Self → State };
+
+    /// What has to hold of it so that its handles and counts can be read, and the number of the fast mutex
+    /// that a thread holds.
+    ghost is_readable: { Self → Type 0 };
+
+    /// The object of this number, where it was made and isn't swept.
+    fn object(&self, object: ObjNo) -> Option<ObjectRow>
+        ensures { result ≡ object_of (state self.now) object };
+
+    /// The thread of this number.
+    fn thread(&self, thread: ThreadNo) -> Option<&ThreadRow>
+        ensures { option_copied result ≡ thread_of (state self.now) thread };
+
+    /// The oldest of what a thread owes.
+    fn first_owed(&self, thread: ThreadNo) -> Option<Owed>
+        ensures { result ≡ first_owed (state self.now) thread };
+
+    /// The slot of an index in the handle table of a process or a thread, a fresh one past its end.
+    fn slot(&self, owner: ObjNo, index: usize) -> HandleSlot
+        requires { is_readable self.now }
+        ensures slot { result ≡ slot_at (table_of (state self.now) owner) index }
+        ensures past { 256 ≤ index → result.object ≡ None };
+
+    /// The handle that a process's table gives next, None where no slot is free.
+    fn next_handle(&self, owner: ObjNo) -> Option<NewHandle>
+        requires { is_readable self.now }
+        ensures handle { result ≡ next_handle (table_of (state self.now) owner) }
+        ensures positive { IfSome result (λ handle. handle.number < 2147483648) };
+
+    /// Whether an unswept object has this kind and name.
+    fn is_taken(&self, kind: Kind, name: &Name) -> bool
+        ensures { result ≡ is_taken kind name.now (state self.now).objects };
+
+    /// The object that a find by kind and name finds.
+    fn find(&self, kind: Kind, name: &Name) -> Option<ObjNo>
+        requires { is_readable self.now }
+        ensures { result ≡ find_object (state self.now) kind name.now };
+
+    /// Whether an object has one reference.
+    fn is_last(&self, object: ObjNo) -> bool
+        requires { is_readable self.now }
+        ensures { result ≡ is_last (state self.now) object };
+
+    /// The number of objects that were made.
+    fn objects_made(&self) -> usize
+        requires { is_readable self.now }
+        ensures number { result ≡ length (state self.now).objects }
+        ensures few { result ≤ 65535 };
+
+    /// How many signals are at a thread's fast semaphore.
+    fn signal_count(&self, thread: ThreadNo) -> u64
+        ensures { result ≡ signal_count (state self.now).nano thread };
+
+    /// How many suspensions of a thread aren't resumed.
+    fn suspend_count(&self, thread: ThreadNo) -> u8
+        ensures { result ≡ suspend_count (state self.now).nano thread };
+
+    /// How many critical sections a thread is in.
+    fn critical_count(&self, thread: ThreadNo) -> u64
+        ensures { result ≡ critical_count (state self.now).nano thread };
+
+    /// The fast mutex that a thread wants.
+    fn want(&self, thread: ThreadNo) -> Option<u8>
+        ensures { result ≡ want_of (state self.now).nano thread };
+
+    /// The thread that holds a fast mutex.
+    fn holder(&self, fast: u8) -> Option<ThreadNo>
+        ensures { result ≡ holder_of (state self.now).nano fast };
+
+    /// The fast mutex that a thread holds.
+    fn held(&self, thread: ThreadNo) -> Option<u8>
+        requires { is_readable self.now }
+        ensures { result ≡ held_by (state self.now).nano thread };
+
+    /// Whether a thread holds a fast mutex.
+    fn is_holding(&self, thread: ThreadNo) -> bool
+        ensures { result ≡ is_some (held_by (state self.now).nano thread) };
+
+    /// Whether a thread holds a fast mutex or is in a critical section.
+    fn is_protected(&self, thread: ThreadNo) -> bool
+        ensures { result ≡ is_protected (state self.now).nano thread };
+
+    /// The call of a queue of deferred function calls that runs next.
+    fn next_call(&self, queue: u8) -> Option<u8>
+        ensures { result ≡ next_of (state self.now).deferred queue };
+
+    /// The item of the immediate queue that comes next.
+    fn next_immediate(&self) -> Option<Item>
+        ensures { result ≡ next_immediate (state self.now).deferred };
+
+    /// Whether a deferred function call stands in the immediate queue or in its own.
+    fn is_queued(&self, dfc: u8) -> bool
+        ensures { result ≡ is_queued (state self.now).deferred (Move dfc) };
+
+    /// The queue of a deferred function call.
+    fn queue_of(&self, dfc: u8) -> u8
+        ensures { result ≡ queue_of (state self.now).deferred dfc };
+
+    /// The request that a device has to complete.
+    fn request_at(&self, device: u8) -> Option<Request>
+        ensures { result ≡ request_at (state self.now).requests device };
+
+    /// The value of a thread's status.
+    fn value_of(&self, thread: ThreadNo, status: u8) -> i32
+        ensures { result ≡ value_of (state self.now).requests thread status };
+
+    /// How many signals are at a thread's request semaphore.
+    fn request_signals(&self, thread: ThreadNo) -> u64
+        ensures { result ≡ request_signals (state self.now).requests thread };
+}

@@ -1,0 +1,112 @@
+//! What a thread does next.
+ghost use Rattle.std.specs.Prelude.{◌≡◌, Some, is_some, option_copied};
+ghost use Rattle.machine.specs.Rows.{first_owed};
+ghost use Rattle.machine.specs.Task.{instruction, is_returning, served_queue, next_call, task_of_row, is_wait, is_stopped, is_ready, is_able, declared_of};
+ghost use Rattle.state_rows.specs.Nano.{is_protected, wanted_holder};
+
+use crate::Reads;
+use entry_log::Part;
+use machine::{Role, ThreadRow, Waiting};
+use script_types::{Instr, Script, ThreadDecl};
+use sym_base::ThreadNo;
+
+/// The declaration of a thread: the supervisor and the thread of a queue have none.
+fn declared_of(script: &Script, role: Role) -> Option<&ThreadDecl>
+    ensures { option_copied result ≡ declared_of script.now role }
+{
+    match role {
+        Role::Declared(number) => script.threads.as_slice().get(number as usize),
+        Role::Supervisor | Role::Queue(_) => None,
+    }
+}
+
+/// The instruction that a thread is at, None at its list's end.
+pub fn instruction<'a>(script: &'a Script, row: &ThreadRow) -> Option<&'a Instr>
+    ensures { option_copied result ≡ instruction script.now row.now }
+{
+    let declared = declared_of(script, row.role)?;
+    let at = row.next_instruction as usize;
+    declared.instrs.as_slice().get(at)
+}
+
+/// Whether a thread is between a find and its return.
+pub fn is_returning(part: Option<Part>) -> bool
+    ensures { result ≡ is_returning part }
+{
+    matches!(part, Some(Part::Return))
+}
+
+/// The queue of deferred function calls that a thread of this role serves.
+fn served_queue(role: Role) -> Option<u8>
+    ensures { result ≡ served_queue role }
+{
+    match role {
+        Role::Supervisor => Some(0),
+        Role::Queue(queue) => Some(queue),
+        Role::Declared(_) => None,
+    }
+}
+
+/// The call that comes next of the queue that a thread of this role serves.
+pub fn next_call<R: Reads>(reads: &R, role: Role) -> Option<u8>
+    ensures { result ≡ next_call (R.state reads.now).deferred role }
+{
+    let queue = served_queue(role)?;
+    reads.next_call(queue)
+}
+
+/// Whether the thread of this row has something to do: an instruction, something that it owes, a call of its queue, or what
+/// protects it.
+fn has_task<R: Reads>(script: &Script, reads: &R, thread: ThreadNo, row: &ThreadRow) -> bool
+    ensures { let S = R.state reads.now in result ≡ is_some (task_of_row script.now S.deferred (is_protected S.nano thread) (first_owed S thread) (Some row.now)) }
+{
+    instruction(script, row).is_some()
+        || reads.first_owed(thread).is_some()
+        || next_call(reads, row.role).is_some()
+        || reads.is_protected(thread)
+}
+
+/// Whether a thread waits for something.
+fn is_wait(waiting: Waiting) -> bool
+    ensures { result ≡ is_wait waiting }
+{
+    match waiting {
+        Waiting::Nothing => false,
+        Waiting::Fast | Waiting::Any | Waiting::Status(_) => true,
+    }
+}
+
+/// Whether a thread is stopped: it is suspended, and nothing protects it from that.
+fn is_stopped<R: Reads>(reads: &R, thread: ThreadNo) -> bool
+    ensures { result ≡ is_stopped (R.state reads.now) thread }
+{
+    reads.suspend_count(thread) != 0 && !reads.is_protected(thread)
+}
+
+/// A thread is ready where it has something to do, doesn't wait and isn't stopped.
+pub fn is_ready<R: Reads>(script: &Script, reads: &R, thread: ThreadNo) -> bool
+    ensures { result ≡ is_ready script.now (R.state reads.now) thread }
+{
+    let Some(row) = reads.thread(thread) else {
+        return false;
+    };
+    if is_wait(row.waiting) || is_stopped(reads, thread) {
+        return false;
+    }
+    has_task(script, reads, thread, row)
+}
+
+/// The thread that holds the fast mutex that a thread wants, if there is one.
+pub fn wanted_holder<R: Reads>(reads: &R, thread: ThreadNo) -> Option<ThreadNo>
+    ensures { result ≡ wanted_holder (R.state reads.now).nano thread }
+{
+    let fast = reads.want(thread)?;
+    reads.holder(fast)
+}
+
+/// A thread is able to act where it is ready and doesn't want a fast mutex that is held.
+pub fn is_able<R: Reads>(script: &Script, reads: &R, thread: ThreadNo) -> bool
+    ensures { result ≡ is_able script.now (R.state reads.now) thread }
+{
+    is_ready(script, reads, thread) && wanted_holder(reads, thread).is_none()
+}
