@@ -13,7 +13,7 @@ use machine::{Body, DeferredMove, Move, Moves, RequestMove, ThreadRow, Waiting};
 use readings::Reads;
 use script_types::{IrqBody, Op, Script};
 use state_rows::{Request, dfc_named, idfc_named};
-use sym_base::{Kind, Name, ObjNo, ThreadNo};
+use sym_base::{Kind, ObjNo, ThreadNo};
 
 /// A deferred function call joins its own queue.
 pub fn add_call<R: Reads>(reads: &R, dfc: u8) -> Move
