@@ -110,3 +110,33 @@ ops_go_on script t end whole rest moves S T now later way new told =
 -- there is room for a body behind the leave of its queue
 pub room_for_body : (t : ObjNo) (leave : List Move) (S T : State) (ops : List Op) → length leave ≤ 1 → length ops ≤ 4 → HasRoom 9 S → T ≡ perform t leave S → HasRoom (2 * length ops) T
 room_for_body t leave S T ops few short room is = subst (HasRoom (2 * length ops)) (sym is) (room_performed t leave (2 * length ops) S (room_less (length leave + 2 * length ops) 9 S (omega arith) room))
+
+-- the moves that are left begin with this one
+pub move_here : (script : Script) (t : ObjNo) (end : State) (whole : Course) (moves : List Move) (i : ℕ) (m : Move) (S : State) (now : Course)
+    → i < length moves → m ≡ get_or moves i m → IsUnderWay script t end whole (drop i moves) (length (drop i moves)) S now
+    → IsUnderWay script t end whole ((m ∷ []) ++ drop (i + 1) moves) (length (m ∷ []) + length (drop (i + 1) moves)) S now
+move_here script t end whole moves i m S now inside is way =
+    let all : IsUnderWay script t end whole (m ∷ drop (i + 1) moves) (length (m ∷ drop (i + 1) moves)) S now = subst (λ (l : List Move). IsUnderWay script t end whole l (length l) S now) (item_here moves i m inside is) way in
+    record { rows = all.rows; course = all.course; room = subst (λ (n : ℕ). HasRoom n S) (omega arith) all.room; small = all.small }
+
+-- what it tells has room
+pub move_tells : (script : Script) (t : ObjNo) (end : State) (whole : Course) (m : Move) (later : List Move) (n : ℕ) (S : State) (now : Course) (more : List Effect)
+    → IsUnderWay script t end whole ((m ∷ []) ++ later) (length (m ∷ []) + n) S now → length whole.effects ≤ 4 → more ≡ told m S → length now.effects + length more ≤ 4
+move_tells script t end whole m later n S now more way few tells =
+    let all = tells_few script t end whole (m ∷ []) later n S now way few in
+    let same = ap (λ (es : List Effect). length es) tells in
+    let alone = length-append (told m S) [] in
+    omega arith
+
+-- the state and the course behind it, of what is made in between
+pub move_goes_on : (script : Script) (t : ObjNo) (end : State) (whole : Course) (m : Move) (later : List Move) (n : ℕ) (S T : State) (now : Course) (effects more : List Effect) (out ready touches : List ObjNo)
+    → IsUnderWay script t end whole ((m ∷ []) ++ later) (length (m ∷ []) + n) S now
+    → T ≡ moved t m S → effects ≡ now.effects ++ more → more ≡ told m S → out ≡ taken_out m now.ready → ready ≡ arrive script T touches out → touches ≡ touched t m
+    → IsUnderWay script t end whole later n T (record { effects = effects; ready = ready })
+move_goes_on script t end whole m later n S T now effects more out ready touches way new added tells leaves arrived by =
+    let behind = goes_on script t end whole (m ∷ []) later n S now way in
+    let effects_now : effects ≡ now.effects ++ (told m S ++ []) = added ∙ ap (λ (es : List Effect). now.effects ++ es) (tells ∙ sym (append-nil (told m S))) in
+    let ready_now : ready ≡ arrive script (moved t m S) (touched t m) (taken_out m now.ready) = arrived ∙ ap (λ (ts : List ObjNo). arrive script T ts out) by ∙ ap (λ (s : State). arrive script s (touched t m) out) new ∙ ap (arrive script (moved t m S) (touched t m)) leaves in
+    subst (λ (s : State). IsUnderWay script t end whole later n s (record { effects = effects; ready = ready })) (sym new)
+    (subst (λ (es : List Effect). IsUnderWay script t end whole later n (moved t m S) (record { effects = es; ready = ready })) (sym effects_now)
+    (subst (λ (ts : List ObjNo). IsUnderWay script t end whole later n (moved t m S) (record { effects = now.effects ++ (told m S ++ []); ready = ts })) (sym ready_now) behind))
