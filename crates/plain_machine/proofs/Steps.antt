@@ -22,7 +22,10 @@ use Rattle.machine.specs.History.{transition, entry_of, IsNext, CanAct, after}
 use Rattle.plain_machine.specs.PlainView.{IsPlain}
 use Rattle.plain_machine.specs.Allowed.{TellsFew, AllowsAction}
 use Rattle.state_rows.specs.Deferred.{next_immediate}
-use Rattle.machine.specs.Interrupts.{supervisor}
+use Rattle.machine.specs.declared.plan.Body.TheVariants.{Interrupt}
+use Rattle.machine.specs.declared.plan.Plan.TheVariants.{Runs}
+use Rattle.machine.specs.Bodies.{decision_by}
+use Rattle.machine.specs.Interrupts.{immediate_plan, supervisor}
 use Rattle.machine.specs.Moves.{tell}
 use Rattle.machine.specs.Room.{HasRoom, IsSmallTable}
 use Rattle.machine.specs.Run.{slot_actor}
@@ -82,8 +85,8 @@ allows_action script S shaped rows = record {
   room = room_of_rows script S shaped rows;
   small = small_of_rows script S rows;
   threads = λ t. few_effects script S t shaped rows;
-  immediate = few_told script S _ (goes-immediate script S (next_immediate S.deferred) shaped rows refl);
-  interrupts = λ k. few_told script S _ (goes-interrupt script S k shaped rows);
+  immediate = let found = next_immediate S.deferred in few_told script S (decision_by script supervisor S (immediate_plan script S found)) (goes-immediate script S found shaped rows refl);
+  interrupts = λ k. few_told script S (decision_by script supervisor S (Runs (Interrupt k))) (goes-interrupt script S k shaped rows);
 }
 
 -- the machine goes on by what an actor does that may act
