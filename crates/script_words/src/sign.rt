@@ -18,8 +18,7 @@ fn is_kind(word: &[u8]) -> bool
         || is_word(word, "semaphore")
 }
 
-/// Whether a word has the form of an operand. Each caller asks it of few kinds.
-#[inline(always)]
+/// Whether a word has the form of an operand.
 pub fn has_form(operand: Operand, word: &[u8]) -> bool
     ensures { result ≡ has_form operand word.now }
 {
