@@ -13,7 +13,9 @@ use Rattle.ready_list.specs.Queue.{holds}
 use Rattle.ready_list.specs.Ready.{Ready, added, removed, rotated, first_of_highest, priority_of}
 use Rattle.ready_list.specs.Arrival.{AreQueuesOf}
 use Rattle.state_rows.specs.declared.nano.NanoRows.{NanoRows}
-use Rattle.state_rows.specs.Nano.{held_by, in_place_of, turned, actor_of}
+use Rattle.state_rows.specs.declared.deferred.DeferredRows.{DeferredRows}
+use Rattle.state_rows.specs.Deferred.{next_immediate}
+use Rattle.state_rows.specs.Nano.{held_by, in_place_of, turned, actor_of, item_or}
 use Rattle.machine.specs.declared.state.State.{State}
 use Rattle.machine.specs.declared.state.ThreadRow.{ThreadRow}
 use Rattle.machine.specs.Arrivals.{is_listed, unlisted, arrive}
@@ -106,8 +108,8 @@ leaves_ready script S rank r t ready qs h = rw ready h
 chosen_by : (rank : ObjNo → ℕ) (qs : List ObjNo) (r : Ready) (t : ObjNo) → AreReady rank qs r → Some t ≡ first_of_highest r.queues → first_of_greatest rank qs ≡ Some t
 chosen_by rank qs r t h is = sym (is ∙ picked_queued rank qs r h.queues)
 
-pub chosen_follows : (sync : NanoRows) (rank : ObjNo → ℕ) (r : Ready) (qs : List ObjNo) → AreQueuesOf (pairs rank qs) r → chosen r sync ≡ actor_of (option_map (in_place_of sync) (first_of_greatest rank qs))
-chosen_follows sync rank r qs are = ap (λ (found : Option ObjNo). actor_of (option_map (in_place_of sync) found)) (picked_queued rank qs r are)
+pub chosen_follows : (sync : NanoRows) (calls : DeferredRows) (rank : ObjNo → ℕ) (r : Ready) (qs : List ObjNo) → AreQueuesOf (pairs rank qs) r → chosen r sync calls ≡ item_or (next_immediate calls) (actor_of (option_map (in_place_of sync) (first_of_greatest rank qs)))
+chosen_follows sync calls rank r qs are = ap (λ (found : Option ObjNo). item_or (next_immediate calls) (actor_of (option_map (in_place_of sync) found))) (picked_queued rank qs r are)
 
 -- a time slice ends, and nobody is ready
 pub nobody_turns : (nano : NanoRows) (rank : ObjNo → ℕ) (r : Ready) → None ≡ first_of_highest r.queues → Follow rank (λ qs. moved_behind qs (turned nano (first_of_greatest rank qs))) r r
