@@ -1,56 +1,19 @@
 //! Bodies: what interrupts and deferred function calls do, one operation after the other, each decided in the state
 //! that the earlier ones left (Symbian OS Internals, the chapter on interrupts).
 ghost use Rattle.std.specs.Prelude.{◌≡◌, ◌==◌, ◌<◌, ◌≤◌, [], ◌∷◌, if◌then◌else◌, length, option_copied, position, IfSome};
-ghost use Rattle.machine.specs.Bodies.{idfc_named, dfc_named, add_call, queue_immediate, queue_to_move, queue_call, signal_object, ends_wait, end_wait, complete, op_moves, irq_of, ops_of_irq, ops_of, step_of_body, leave_queue};
+ghost use Rattle.machine.specs.Bodies.{add_call, queue_immediate, queue_to_move, queue_call, signal_row, signal_object, ends_wait, end_wait, complete, op_moves, irq_of, ops_of_irq, ops_of, step_of_body, leave_queue};
 ghost use Rattle.machine.specs.declared.moves.Move.TheVariants.{Wake};
 ghost use Rattle.script_types.specs.Shape.{IsShaped};
 ghost use Rattle.script_types.specs.declared.declaration.IrqBody.{IrqBody};
 
-use crate::decide::one_move;
 use crate::fast_semaphore::signal_move;
 use crate::request_calls::is_pending;
 use entry_log::Step;
 use machine::{Body, DeferredMove, Move, Moves, RequestMove, ThreadRow, Waiting};
 use readings::Reads;
 use script_types::{IrqBody, Op, Script};
-use state_rows::Request;
-use sym_base::{Kind, Name, ObjNo, ThreadNo};
-
-/// The place of the immediate deferred function call of a name.
-fn idfc_place(script: &Script, name: &Name) -> Option<usize>
-    ensures place { result ≡ idfc_named script.now name.now }
-    ensures within { IfSome result (λ k. k < length script.now.idfcs) }
-{
-    let idfcs = script.idfcs.as_slice();
-    idfcs.iter().position(|declared| name.is(&declared.name))
-}
-
-/// The number of the immediate deferred function call of a name.
-fn idfc_named(script: &Script, name: &Name) -> Option<u8>
-    requires { IsShaped script.now }
-    ensures { result ≡ idfc_named script.now name.now }
-{
-    let place = idfc_place(script, name)?;
-    Some(place as u8)
-}
-
-/// The place of the deferred function call of a name.
-fn dfc_place(script: &Script, name: &Name) -> Option<usize>
-    ensures place { result ≡ dfc_named script.now name.now }
-    ensures within { IfSome result (λ k. k < length script.now.dfcs) }
-{
-    let dfcs = script.dfcs.as_slice();
-    dfcs.iter().position(|declared| name.is(&declared.name))
-}
-
-/// The number of the deferred function call of a name.
-pub fn dfc_named(script: &Script, name: &Name) -> Option<u8>
-    requires { IsShaped script.now }
-    ensures { result ≡ dfc_named script.now name.now }
-{
-    let place = dfc_place(script, name)?;
-    Some(place as u8)
-}
+use state_rows::{Request, dfc_named, idfc_named};
+use sym_base::{Kind, ObjNo, ThreadNo};
 
 /// A deferred function call joins its own queue.
 pub fn add_call<R: Reads>(reads: &R, dfc: u8) -> Move
@@ -60,49 +23,57 @@ pub fn add_call<R: Reads>(reads: &R, dfc: u8) -> Move
 }
 
 /// An immediate deferred function call joins the immediate queue.
-fn queue_immediate(item: Option<u8>) -> Moves
-    ensures moves { result ≡ queue_immediate item }
-    ensures few { length result ≤ 1 }
+fn queue_immediate(moves: &mut Moves, item: Option<u8>)
+    ensures moves { moves.new ≡ queue_immediate item }
+    ensures few { length moves.new ≤ 1 }
 {
-    match item {
-        Some(item) => one_move(Move::Deferred(DeferredMove::AddImmediate(item))),
-        None => Moves::new(),
+    moves.clear();
+    if let Some(item) = item {
+        moves.push(Move::Deferred(DeferredMove::AddImmediate(item)));
     }
 }
 
 /// A deferred function call joins the immediate queue, to be moved.
-fn queue_to_move(dfc: Option<u8>) -> Moves
-    ensures moves { result ≡ queue_to_move dfc }
-    ensures few { length result ≤ 1 }
+fn queue_to_move(moves: &mut Moves, dfc: Option<u8>)
+    ensures moves { moves.new ≡ queue_to_move dfc }
+    ensures few { length moves.new ≤ 1 }
 {
-    match dfc {
-        Some(dfc) => one_move(Move::Deferred(DeferredMove::AddFromInterrupt(dfc))),
-        None => Moves::new(),
+    moves.clear();
+    if let Some(dfc) = dfc {
+        moves.push(Move::Deferred(DeferredMove::AddFromInterrupt(dfc)));
     }
 }
 
 /// A deferred function call joins its own queue.
-fn queue_call<R: Reads>(reads: &R, dfc: Option<u8>) -> Moves
-    ensures moves { result ≡ queue_call (R.state reads.now) dfc }
-    ensures few { length result ≤ 1 }
+fn queue_call<R: Reads>(moves: &mut Moves, reads: &R, dfc: Option<u8>)
+    ensures moves { moves.new ≡ queue_call (R.state reads.now) dfc }
+    ensures few { length moves.new ≤ 1 }
 {
-    match dfc {
-        Some(dfc) => one_move(add_call(reads, dfc)),
-        None => Moves::new(),
+    moves.clear();
+    if let Some(dfc) = dfc {
+        moves.push(add_call(reads, dfc));
+    }
+}
+
+/// A signal of the fast semaphore of the thread of a row. Nothing, where it has none.
+fn signal_row(moves: &mut Moves, other: ThreadNo, row: Option<ThreadRow>)
+    ensures moves { moves.new ≡ signal_row other row }
+    ensures few { length moves.new ≤ 1 }
+{
+    moves.clear();
+    if let Some(row) = row {
+        moves.push(signal_move(other, row.waiting));
     }
 }
 
 /// A signal of the fast semaphore of a thread. Nothing, where there is no such thread.
-fn signal_object<R: Reads>(reads: &R, found: Option<ObjNo>) -> Moves
-    ensures moves { result ≡ signal_object (R.state reads.now) found }
-    ensures few { length result ≤ 1 }
+fn signal_object<R: Reads>(moves: &mut Moves, reads: &R, found: Option<ObjNo>)
+    ensures moves { moves.new ≡ signal_object (R.state reads.now) found }
+    ensures few { length moves.new ≤ 1 }
 {
-    let Some(other) = found else {
-        return Moves::new();
-    };
-    match reads.thread(other) {
-        Some(row) => one_move(signal_move(other, row.waiting)),
-        None => Moves::new(),
+    match found {
+        Some(other) => signal_row(moves, other, reads.thread(other).copied()),
+        None => moves.clear(),
     }
 }
 
@@ -128,34 +99,36 @@ fn is_woken<R: Reads>(reads: &R, thread: ThreadNo, status: u8, row: Option<Threa
 }
 
 /// A device completes its request, where it has one, and the thread's wait ends, where it was for that.
-fn complete<R: Reads>(reads: &R, device: u8, code: i32, request: Option<Request>) -> Moves
-    ensures moves { result ≡ complete (R.state reads.now) device code request }
-    ensures few { length result ≤ 2 }
+fn complete<R: Reads>(moves: &mut Moves, reads: &R, device: u8, code: i32, request: Option<Request>)
+    ensures moves { moves.new ≡ complete (R.state reads.now) device code request }
+    ensures few { length moves.new ≤ 2 }
 {
+    moves.clear();
     let Some(Request { thread, status }) = request else {
-        return Moves::new();
+        return;
     };
     let completed = RequestMove::Complete(device, thread, status, code);
-    let mut moves = one_move(Move::Requests(completed));
-    if is_woken(reads, thread, status, reads.thread(thread)) {
+    moves.push(Move::Requests(completed));
+    if is_woken(reads, thread, status, reads.thread(thread).copied()) {
         moves.push(Move::Wake(thread));
     }
-    moves
 }
 
-/// What an operation does: at most two moves.
-pub fn op_moves<R: Reads>(script: &Script, reads: &R, op: &Op) -> Moves
+/// What an operation does, in place of the moves before: at most two moves.
+pub fn op_moves<R: Reads>(moves: &mut Moves, script: &Script, reads: &R, op: &Op)
     requires shaped { IsShaped script.now }
     requires readable { R.is_readable reads.now }
-    ensures moves { result ≡ op_moves script.now (R.state reads.now) op.now }
-    ensures few { length result ≤ 2 }
+    ensures moves { moves.new ≡ op_moves script.now (R.state reads.now) op.now }
+    ensures few { length moves.new ≤ 2 }
 {
     match op {
-        Op::Idfc(name) => queue_immediate(idfc_named(script, name)),
-        Op::Dfc(name) => queue_to_move(dfc_named(script, name)),
-        Op::Fssignal(name) => signal_object(reads, reads.find(Kind::Thread, name)),
-        Op::Device(device, code) => complete(reads, *device, *code, reads.request_at(*device)),
-        Op::Queue(name) => queue_call(reads, dfc_named(script, name)),
+        Op::Idfc(name) => queue_immediate(moves, idfc_named(script, name)),
+        Op::Dfc(name) => queue_to_move(moves, dfc_named(script, name)),
+        Op::Fssignal(name) => signal_object(moves, reads, reads.find(Kind::Thread, name)),
+        Op::Device(device, code) => {
+            complete(moves, reads, *device, *code, reads.request_at(*device))
+        }
+        Op::Queue(name) => queue_call(moves, reads, dfc_named(script, name)),
     }
 }
 
@@ -212,17 +185,18 @@ pub fn step_of_body(script: &Script, body: Body) -> Step
     }
 }
 
-/// A call leaves its queue before its body runs: at most one move.
-pub fn leave_queue<R: Reads>(reads: &R, body: Body) -> Moves
-    ensures moves { result ≡ leave_queue (R.state reads.now) body }
-    ensures few { length result ≤ 1 }
+/// A call leaves its queue before its body runs, in place of the moves before: at most one move.
+pub fn leave_queue<R: Reads>(moves: &mut Moves, reads: &R, body: Body)
+    ensures moves { moves.new ≡ leave_queue (R.state reads.now) body }
+    ensures few { length moves.new ≤ 1 }
 {
+    moves.clear();
     match body {
-        Body::Interrupt(_) => Moves::new(),
-        Body::Immediate(_) => one_move(Move::Deferred(DeferredMove::TakeImmediate)),
+        Body::Interrupt(_) => {}
+        Body::Immediate(_) => moves.push(Move::Deferred(DeferredMove::TakeImmediate)),
         Body::Deferred(dfc) => {
             let take = DeferredMove::Take(reads.queue_of(dfc));
-            one_move(Move::Deferred(take))
+            moves.push(Move::Deferred(take));
         }
     }
 }

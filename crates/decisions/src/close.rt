@@ -3,7 +3,7 @@ ghost use Rattle.std.specs.Prelude.{◌≡◌, ◌<◌, IfSome};
 ghost use Rattle.machine.specs.Close.{close_handle, close_do};
 ghost use Rattle.machine.specs.Handles.{index_of};
 
-use crate::decide::{answer, one_move, refuse};
+use crate::decide::{answer_after, refuse};
 use crate::look::object_at;
 use entry_log::{Part, Step, Word};
 use machine::{Decision, Move, ThreadRow, holder_of};
@@ -13,26 +13,38 @@ use sym_base::{Error, ObjNo, ThreadNo};
 const STEP: Step = Step::Of(Word::Close, Part::Do);
 
 /// The handle's reference goes, where there is such a handle.
-fn close_handle(thread: ThreadNo, row: &ThreadRow, handle: u32, found: Option<ObjNo>) -> Decision
+fn close_handle(
+    decision: &mut Decision,
+    thread: ThreadNo,
+    row: &ThreadRow,
+    handle: u32,
+    found: Option<ObjNo>,
+)
     requires { IfSome found (λ o. index_of handle < 256) }
-    ensures { result ≡ close_handle thread row.now handle found }
+    ensures { decision.new ≡ close_handle thread row.now handle found }
 {
     match found {
         Some(object) => {
             let lose = Move::Lose(holder_of(thread, row, handle), object);
-            answer(thread, STEP, one_move(lose), 0)
+            answer_after(decision, thread, STEP, lose, 0)
         }
-        None => refuse(thread, STEP, Error::BadHandle),
+        None => refuse(decision, thread, STEP, Error::BadHandle),
     }
 }
 
 /// The close of the handle in a register.
-pub fn close_do<R: Reads>(reads: &R, thread: ThreadNo, row: &ThreadRow, register: u8) -> Decision
+pub fn close_do<R: Reads>(
+    decision: &mut Decision,
+    reads: &R,
+    thread: ThreadNo,
+    row: &ThreadRow,
+    register: u8,
+)
     requires readable { R.is_readable reads.now }
     requires register { register < 8 }
-    ensures { result ≡ close_do (R.state reads.now) thread row.now register }
+    ensures { decision.new ≡ close_do (R.state reads.now) thread row.now register }
 {
     let handle = row.registers[register as usize];
     let found = object_at(reads, thread, row, handle);
-    close_handle(thread, row, handle, found)
+    close_handle(decision, thread, row, handle, found)
 }

@@ -12,24 +12,26 @@ const STEP: Step = Step::Of(Word::Create, Part::Do);
 
 /// The object is made with its handle, where a slot is free.
 fn make_with_handle(
+    decision: &mut Decision,
     thread: ThreadNo,
     row: &ThreadRow,
     kind: Kind,
-    name: Name,
+    name: &Name,
     register: u8,
     next: Option<NewHandle>,
-) -> Decision
+)
     requires { IfSome next (λ handle. handle.number < 2147483648) }
-    ensures { result ≡ make_with_handle thread row.now kind name register next }
+    ensures { decision.new ≡ make_with_handle thread row.now kind name.now register next }
 {
     let Some(handle) = next else {
-        return refuse(thread, STEP, Error::Overflow);
+        return refuse(decision, thread, STEP, Error::Overflow);
     };
     let holder = Holder::InProcess(row.process, handle.index);
     answer_handle(
+        decision,
         thread,
         STEP,
-        Move::Make(kind, name, holder),
+        Move::Make(kind, *name, holder),
         register,
         handle.number,
     )
@@ -37,23 +39,25 @@ fn make_with_handle(
 
 /// A new object and a handle of it, where the name is free and there is room for both.
 pub fn create_do<R: Reads>(
+    decision: &mut Decision,
     reads: &R,
     thread: ThreadNo,
     row: &ThreadRow,
     kind: Kind,
-    name: Name,
+    name: &Name,
     register: u8,
-) -> Decision
+)
     requires { R.is_readable reads.now }
-    ensures { result ≡ create_do (R.state reads.now) thread row.now kind name register }
+    ensures { decision.new ≡ create_do (R.state reads.now) thread row.now kind name.now register }
 {
-    if reads.is_taken(kind, &name) {
-        return refuse(thread, STEP, Error::AlreadyExists);
+    if reads.is_taken(kind, name) {
+        return refuse(decision, thread, STEP, Error::AlreadyExists);
     }
     if reads.objects_made() == Limits::OBJECTS {
-        return refuse(thread, STEP, Error::Overflow);
+        return refuse(decision, thread, STEP, Error::Overflow);
     }
     make_with_handle(
+        decision,
         thread,
         row,
         kind,

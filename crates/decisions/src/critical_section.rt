@@ -3,53 +3,50 @@
 ghost use Rattle.std.specs.Prelude.{◌≡◌, ◌≤◌, length};
 ghost use Rattle.machine.specs.CriticalSection.{enter_do, leave_do, give_held, flush};
 
-use crate::decide::{answer, one_move, refuse};
+use crate::decide::{answer_after, refuse};
 use entry_log::{Part, Step, Word};
 use machine::{Decision, Move, Moves, NanoMove};
 use readings::Reads;
 use sym_base::{Error, ThreadNo};
 
 /// The thread enters a critical section.
-pub fn enter_do(thread: ThreadNo) -> Decision
-    ensures { result ≡ enter_do thread }
+pub fn enter_do(decision: &mut Decision, thread: ThreadNo)
+    ensures { decision.new ≡ enter_do thread }
 {
     let enter = Move::Nano(NanoMove::Enter(thread));
-    answer(thread, Step::Of(Word::Enter, Part::Do), one_move(enter), 0)
+    answer_after(decision, thread, Step::Of(Word::Enter, Part::Do), enter, 0)
 }
 
 /// The thread leaves a critical section, where it is in one.
-pub fn leave_do<R: Reads>(reads: &R, thread: ThreadNo) -> Decision
-    ensures { result ≡ leave_do (R.state reads.now) thread }
+pub fn leave_do<R: Reads>(decision: &mut Decision, reads: &R, thread: ThreadNo)
+    ensures { decision.new ≡ leave_do (R.state reads.now) thread }
 {
     let step = Step::Of(Word::Leave, Part::Do);
     if reads.critical_count(thread) == 0 {
-        return refuse(thread, step, Error::General);
+        return refuse(decision, thread, step, Error::General);
     }
     let leave = Move::Nano(NanoMove::Leave(thread));
-    answer(thread, step, one_move(leave), 0)
+    answer_after(decision, thread, step, leave, 0)
 }
 
 /// The thread gives up the fast mutex that it holds, if there is one.
-fn give_held(thread: ThreadNo, held: Option<u8>) -> Moves
-    ensures moves { result ≡ give_held thread held }
-    ensures few { length result ≤ 1 }
+fn give_held(moves: &mut Moves, thread: ThreadNo, held: Option<u8>)
+    ensures moves { moves.new ≡ give_held thread held }
+    ensures few { length moves.new ≤ 1 }
 {
-    match held {
-        Some(fast) => one_move(Move::Nano(NanoMove::Give(thread, fast))),
-        None => Moves::new(),
+    moves.clear();
+    if let Some(fast) = held {
+        moves.push(Move::Nano(NanoMove::Give(thread, fast)));
     }
 }
 
 /// At its list's end the thread gives up what protects it.
-pub fn flush<R: Reads>(reads: &R, thread: ThreadNo) -> Decision
+pub fn flush<R: Reads>(decision: &mut Decision, reads: &R, thread: ThreadNo)
     requires { R.is_readable reads.now }
-    ensures { result ≡ flush (R.state reads.now) thread }
+    ensures { decision.new ≡ flush (R.state reads.now) thread }
 {
-    let mut moves = give_held(thread, reads.held(thread));
-    moves.push(Move::Nano(NanoMove::LeaveAll(thread)));
-    Decision {
-        step: Step::Flush,
-        moves,
-        answer: None,
-    }
+    decision.step = Step::Flush;
+    give_held(&mut decision.moves, thread, reads.held(thread));
+    decision.moves.push(Move::Nano(NanoMove::LeaveAll(thread)));
+    decision.answer = None;
 }

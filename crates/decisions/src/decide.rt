@@ -1,109 +1,114 @@
-//! How a step answers, refuses, or goes on to the next step of its instruction.
+//! How a step answers, refuses, or goes on to the next step of its instruction. Each writes the decision in place of
+//! the one before.
 ghost use Rattle.std.specs.Prelude.{◌≡◌, ◌<◌, [], ◌∷◌, length, IfSome};
 ghost use Rattle.machine.specs.Decide.{nothing, answer, refuse, go_on, wait_for, answer_handle, give_handle};
 
 use entry_log::{Holder, Part, Step};
-use machine::{Decision, Move, Moves, NewHandle, ThreadRow, Waiting};
+use machine::{Decision, Move, NewHandle, ThreadRow, Waiting};
 use sym_base::{Error, ObjNo, ThreadNo};
 
-/// One move.
-pub fn one_move(change: Move) -> Moves
-    ensures { result ≡ change ∷ [] }
-{
-    let mut moves = Moves::new();
-    moves.push(change);
-    moves
-}
-
 /// Nobody acts.
-pub fn nothing() -> Decision
-    ensures { result ≡ nothing }
+pub fn nothing(decision: &mut Decision)
+    ensures { decision.new ≡ nothing }
 {
-    Decision {
-        step: Step::Wait,
-        moves: Moves::new(),
-        answer: None,
-    }
+    decision.step = Step::Wait;
+    decision.moves.clear();
+    decision.answer = None;
 }
 
-/// The instruction is over: after these moves it answers a number.
-pub fn answer(thread: ThreadNo, step: Step, moves: Moves, code: i32) -> Decision
-    requires { length moves < 8 }
-    ensures { result ≡ answer thread step moves code }
+/// The instruction is over: after the moves so far it answers a number.
+pub fn answer(decision: &mut Decision, thread: ThreadNo, step: Step, code: i32)
+    requires { length decision.old.moves < 8 }
+    ensures { decision.new ≡ answer thread step decision.old.moves code }
 {
-    let mut moves = moves;
-    moves.push(Move::Advance(thread));
-    Decision {
-        step,
-        moves,
-        answer: Some(code),
-    }
+    decision.step = step;
+    decision.moves.push(Move::Advance(thread));
+    decision.answer = Some(code);
+}
+
+/// The instruction is over: after this move it answers a number.
+pub fn answer_after(decision: &mut Decision, thread: ThreadNo, step: Step, change: Move, code: i32)
+    ensures { decision.new ≡ answer thread step (change ∷ []) code }
+{
+    decision.moves.clear();
+    decision.moves.push(change);
+    answer(decision, thread, step, code);
+}
+
+/// The instruction is over without a move, and answers a number.
+pub fn answer_at_once(decision: &mut Decision, thread: ThreadNo, step: Step, code: i32)
+    ensures { decision.new ≡ answer thread step [] code }
+{
+    decision.moves.clear();
+    answer(decision, thread, step, code);
 }
 
 /// The instruction is over, and answers an error.
-pub fn refuse(thread: ThreadNo, step: Step, error: Error) -> Decision
-    ensures { result ≡ refuse thread step error }
+pub fn refuse(decision: &mut Decision, thread: ThreadNo, step: Step, error: Error)
+    ensures { decision.new ≡ refuse thread step error }
 {
-    answer(thread, step, Moves::new(), error.code())
+    answer_at_once(decision, thread, step, error.code());
 }
 
 /// The instruction goes on to another step, with this move.
-pub fn go_on(thread: ThreadNo, step: Step, change: Move, part: Part) -> Decision
-    ensures { result ≡ go_on thread step change part }
+pub fn go_on(decision: &mut Decision, thread: ThreadNo, step: Step, change: Move, part: Part)
+    ensures { decision.new ≡ go_on thread step change part }
 {
-    let mut moves = one_move(Move::GoOn(thread, part));
-    moves.push(change);
-    Decision {
-        step,
-        moves,
-        answer: None,
-    }
+    decision.step = step;
+    decision.moves.clear();
+    decision.moves.push(Move::GoOn(thread, part));
+    decision.moves.push(change);
+    decision.answer = None;
 }
 
 /// The thread waits for this, and its instruction goes on to its last step once the wait is over.
-pub fn wait_for(thread: ThreadNo, step: Step, what: Waiting) -> Decision
-    ensures { result ≡ wait_for thread step what }
+pub fn wait_for(decision: &mut Decision, thread: ThreadNo, step: Step, what: Waiting)
+    ensures { decision.new ≡ wait_for thread step what }
 {
-    go_on(thread, step, Move::Wait(thread, what), Part::Done)
+    go_on(decision, thread, step, Move::Wait(thread, what), Part::Done);
 }
 
 /// The instruction is over: after this move a new handle's number goes to a register and is answered.
 pub fn answer_handle(
+    decision: &mut Decision,
     thread: ThreadNo,
     step: Step,
     change: Move,
     register: u8,
     handle: u32,
-) -> Decision
+)
     requires { handle < 2147483648 }
-    ensures { result ≡ answer_handle thread step change register handle }
+    ensures { decision.new ≡ answer_handle thread step change register handle }
 {
-    let mut moves = one_move(change);
-    moves.push(Move::Write(thread, register, handle));
-    answer(thread, step, moves, handle as i32)
+    decision.moves.clear();
+    decision.moves.push(change);
+    decision.moves.push(Move::Write(thread, register, handle));
+    answer(decision, thread, step, handle as i32);
 }
 
 /// A handle of the object, in the process's table, where a slot is free.
 pub fn give_handle(
+    decision: &mut Decision,
     thread: ThreadNo,
     row: &ThreadRow,
     step: Step,
     object: ObjNo,
     register: u8,
     next: Option<NewHandle>,
-) -> Decision
+)
     requires { IfSome next (λ handle. handle.number < 2147483648) }
-    ensures { result ≡ give_handle thread row.now step object register next }
+    ensures { decision.new ≡ give_handle thread row.now step object register next }
 {
     let Some(handle) = next else {
-        return refuse(thread, step, Error::Overflow);
+        return refuse(decision, thread, step, Error::Overflow);
     };
     let holder = Holder::InProcess(row.process, handle.index);
     answer_handle(
+        decision,
         thread,
         step,
         Move::Gain(holder, object),
         register,
         handle.number,
-    )
+    );
 }

@@ -34,22 +34,24 @@ pub fn stays_with_thread(row: Option<ObjectRow>) -> bool
 
 /// The second step: one handle more of what the thread uses.
 fn dup_do<R: Reads>(
+    decision: &mut Decision,
     reads: &R,
     thread: ThreadNo,
     row: &ThreadRow,
     to: u8,
     uses: Option<ObjNo>,
-) -> Decision
+)
     requires { R.is_readable reads.now }
-    ensures { result ≡ dup_do (R.state reads.now) thread row.now to uses }
+    ensures { decision.new ≡ dup_do (R.state reads.now) thread row.now to uses }
 {
     let Some(object) = uses else {
-        return nothing();
+        return nothing(decision);
     };
     if stays_with_thread(reads.object(object)) {
-        return refuse(thread, STEP, Error::PermissionDenied);
+        return refuse(decision, thread, STEP, Error::PermissionDenied);
     }
     give_handle(
+        decision,
         thread,
         row,
         STEP,
@@ -61,18 +63,19 @@ fn dup_do<R: Reads>(
 
 /// First the look, and then the second handle.
 pub fn dup_step<R: Reads>(
+    decision: &mut Decision,
     reads: &R,
     thread: ThreadNo,
     row: &ThreadRow,
     from: u8,
     to: u8,
-) -> Decision
+)
     requires readable { R.is_readable reads.now }
     requires from { from < 8 }
-    ensures { result ≡ dup_step (R.state reads.now) thread row.now from to row.now.part }
+    ensures { decision.new ≡ dup_step (R.state reads.now) thread row.now from to row.now.part }
 {
     match row.part {
-        None => look(reads, thread, row, Word::Dup, from),
-        Some(_) => dup_do(reads, thread, row, to, row.uses),
+        None => look(decision, reads, thread, row, Word::Dup, from),
+        Some(_) => dup_do(decision, reads, thread, row, to, row.uses),
     }
 }

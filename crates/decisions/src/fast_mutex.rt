@@ -4,48 +4,59 @@ ghost use Rattle.std.specs.Prelude.{◌≡◌};
 ghost use Rattle.machine.specs.FastMutex.{flock_do, flock_done, flock_step, funlock_do};
 ghost use Rattle.state_rows.specs.Nano.{is_holder};
 
-use crate::decide::{answer, go_on, nothing, one_move, refuse};
+use crate::decide::{answer_after, go_on, nothing, refuse};
 use entry_log::{Part, Step, Word};
 use machine::{Decision, Move, NanoMove};
 use readings::Reads;
 use sym_base::{Error, ThreadNo};
 
 /// The fast mutex is taken where it is free. Else the thread wants it from now on.
-fn flock_do<R: Reads>(reads: &R, thread: ThreadNo, fast: u8) -> Decision
-    ensures { result ≡ flock_do (R.state reads.now) thread fast }
+fn flock_do<R: Reads>(decision: &mut Decision, reads: &R, thread: ThreadNo, fast: u8)
+    ensures { decision.new ≡ flock_do (R.state reads.now) thread fast }
 {
     let step = Step::Of(Word::Flock, Part::Do);
     if reads.holder(fast).is_none() {
         let take = Move::Nano(NanoMove::Take(thread, fast));
-        return answer(thread, step, one_move(take), 0);
+        return answer_after(decision, thread, step, take, 0);
     }
     let want = Move::Nano(NanoMove::Want(thread, Some(fast)));
-    go_on(thread, step, want, Part::Done)
+    go_on(decision, thread, step, want, Part::Done)
 }
 
 /// The thread takes what it wants, which is free by now.
-fn flock_done(thread: ThreadNo, want: Option<u8>) -> Decision
-    ensures { result ≡ flock_done thread want }
+fn flock_done(decision: &mut Decision, thread: ThreadNo, want: Option<u8>)
+    ensures { decision.new ≡ flock_done thread want }
 {
     let Some(fast) = want else {
-        return nothing();
+        return nothing(decision);
     };
     let take = Move::Nano(NanoMove::Take(thread, fast));
-    answer(thread, Step::Of(Word::Flock, Part::Done), one_move(take), 0)
+    answer_after(decision, thread, Step::Of(Word::Flock, Part::Done), take, 0)
 }
 
 /// First the fast mutex is taken or wanted, and what is wanted is taken later. A thread that holds a fast
 /// mutex is refused.
-pub fn flock_step<R: Reads>(reads: &R, thread: ThreadNo, fast: u8, part: Option<Part>) -> Decision
-    ensures { result ≡ flock_step (R.state reads.now) thread fast part }
+pub fn flock_step<R: Reads>(
+    decision: &mut Decision,
+    reads: &R,
+    thread: ThreadNo,
+    fast: u8,
+    part: Option<Part>,
+)
+    ensures { decision.new ≡ flock_step (R.state reads.now) thread fast part }
 {
     if part.is_some() {
-        return flock_done(thread, reads.want(thread));
+        return flock_done(decision, thread, reads.want(thread));
     }
     if reads.is_holding(thread) {
-        return refuse(thread, Step::Of(Word::Flock, Part::Do), Error::InUse);
+        return refuse(
+            decision,
+            thread,
+            Step::Of(Word::Flock, Part::Do),
+            Error::InUse,
+        );
     }
-    flock_do(reads, thread, fast)
+    flock_do(decision, reads, thread, fast)
 }
 
 /// Whether a thread holds a fast mutex.
@@ -59,13 +70,13 @@ fn is_holder<R: Reads>(reads: &R, thread: ThreadNo, fast: u8) -> bool
 }
 
 /// The thread gives up a fast mutex that it holds.
-pub fn funlock_do<R: Reads>(reads: &R, thread: ThreadNo, fast: u8) -> Decision
-    ensures { result ≡ funlock_do (R.state reads.now) thread fast }
+pub fn funlock_do<R: Reads>(decision: &mut Decision, reads: &R, thread: ThreadNo, fast: u8)
+    ensures { decision.new ≡ funlock_do (R.state reads.now) thread fast }
 {
     let step = Step::Of(Word::Funlock, Part::Do);
     if !is_holder(reads, thread, fast) {
-        return refuse(thread, step, Error::General);
+        return refuse(decision, thread, step, Error::General);
     }
     let give = Move::Nano(NanoMove::Give(thread, fast));
-    answer(thread, step, one_move(give), 0)
+    answer_after(decision, thread, step, give, 0)
 }

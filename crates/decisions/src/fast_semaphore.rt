@@ -3,9 +3,9 @@
 ghost use Rattle.std.specs.Prelude.{◌≡◌};
 ghost use Rattle.machine.specs.FastSemaphore.{fswait_do, fswait_step, signal_move, signal_thread, signal_found, fssignal_do};
 
-use crate::decide::{answer, one_move, refuse, wait_for};
+use crate::decide::{answer_after, answer_at_once, refuse, wait_for};
 use entry_log::{Part, Step, Word};
-use machine::{Decision, Move, Moves, NanoMove, ThreadRow, Waiting};
+use machine::{Decision, Move, NanoMove, ThreadRow, Waiting};
 use readings::Reads;
 use sym_base::{Error, Kind, Name, ObjNo, ThreadNo};
 
@@ -13,30 +13,40 @@ use sym_base::{Error, Kind, Name, ObjNo, ThreadNo};
 const SIGNAL: Step = Step::Of(Word::Fssignal, Part::Do);
 
 /// The thread takes a signal where one is there. Else it waits for one.
-fn fswait_do<R: Reads>(reads: &R, thread: ThreadNo) -> Decision
-    ensures { result ≡ fswait_do (R.state reads.now) thread }
+fn fswait_do<R: Reads>(decision: &mut Decision, reads: &R, thread: ThreadNo)
+    ensures { decision.new ≡ fswait_do (R.state reads.now) thread }
 {
     let step = Step::Of(Word::Fswait, Part::Do);
     if reads.signal_count(thread) == 0 {
-        return wait_for(thread, step, Waiting::Fast);
+        return wait_for(decision, thread, step, Waiting::Fast);
     }
     let lower = Move::Nano(NanoMove::Lower(thread));
-    answer(thread, step, one_move(lower), 0)
+    answer_after(decision, thread, step, lower, 0)
 }
 
 /// First the signal is taken or waited for, and when the wait is over the instruction is too. A thread that
 /// holds a fast mutex is refused.
-pub fn fswait_step<R: Reads>(reads: &R, thread: ThreadNo, part: Option<Part>) -> Decision
-    ensures { result ≡ fswait_step (R.state reads.now) thread part }
+pub fn fswait_step<R: Reads>(
+    decision: &mut Decision,
+    reads: &R,
+    thread: ThreadNo,
+    part: Option<Part>,
+)
+    ensures { decision.new ≡ fswait_step (R.state reads.now) thread part }
 {
     if part.is_some() {
         let step = Step::Of(Word::Fswait, Part::Done);
-        return answer(thread, step, Moves::new(), 0);
+        return answer_at_once(decision, thread, step, 0);
     }
     if reads.is_holding(thread) {
-        return refuse(thread, Step::Of(Word::Fswait, Part::Do), Error::InUse);
+        return refuse(
+            decision,
+            thread,
+            Step::Of(Word::Fswait, Part::Do),
+            Error::InUse,
+        );
     }
-    fswait_do(reads, thread)
+    fswait_do(decision, reads, thread)
 }
 
 /// What a signal does to a thread: its wait for one ends, or its count rises.
@@ -50,30 +60,35 @@ pub fn signal_move(other: ThreadNo, waiting: Waiting) -> Move
 }
 
 /// The signal of a thread, which died where it has no row any more.
-fn signal_thread(thread: ThreadNo, other: ThreadNo, row: Option<ThreadRow>) -> Decision
-    ensures { result ≡ signal_thread thread other row }
+fn signal_thread(decision: &mut Decision, thread: ThreadNo, other: ThreadNo, row: Option<ThreadRow>)
+    ensures { decision.new ≡ signal_thread thread other row }
 {
     let Some(row) = row else {
-        return refuse(thread, SIGNAL, Error::Died);
+        return refuse(decision, thread, SIGNAL, Error::Died);
     };
     let signal = signal_move(other, row.waiting);
-    answer(thread, SIGNAL, one_move(signal), 0)
+    answer_after(decision, thread, SIGNAL, signal, 0)
 }
 
 /// The signal of the thread that was found.
-fn signal_found<R: Reads>(reads: &R, thread: ThreadNo, found: Option<ObjNo>) -> Decision
-    ensures { result ≡ signal_found (R.state reads.now) thread found }
+fn signal_found<R: Reads>(
+    decision: &mut Decision,
+    reads: &R,
+    thread: ThreadNo,
+    found: Option<ObjNo>,
+)
+    ensures { decision.new ≡ signal_found (R.state reads.now) thread found }
 {
     let Some(other) = found else {
-        return refuse(thread, SIGNAL, Error::Died);
+        return refuse(decision, thread, SIGNAL, Error::Died);
     };
-    signal_thread(thread, other, reads.thread(other))
+    signal_thread(decision, thread, other, reads.thread(other).copied())
 }
 
 /// The signal of the thread of a name.
-pub fn fssignal_do<R: Reads>(reads: &R, thread: ThreadNo, name: Name) -> Decision
+pub fn fssignal_do<R: Reads>(decision: &mut Decision, reads: &R, thread: ThreadNo, name: &Name)
     requires { R.is_readable reads.now }
-    ensures { result ≡ fssignal_do (R.state reads.now) thread name }
+    ensures { decision.new ≡ fssignal_do (R.state reads.now) thread name.now }
 {
-    signal_found(reads, thread, reads.find(Kind::Thread, &name))
+    signal_found(decision, reads, thread, reads.find(Kind::Thread, name))
 }

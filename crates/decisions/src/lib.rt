@@ -21,7 +21,7 @@ mod steps;
 mod thread_calls;
 
 pub use bodies::{leave_queue, op_moves, ops_of, step_of_body};
-pub use immediate::immediate_plan;
-pub use move_effects::{add_effects, told};
-pub use readings::{Reads, is_able, is_ready, task_of, wanted_holder};
-pub use steps::plan_of;
+pub use immediate::immediate_action;
+pub use move_effects::tell;
+pub use readings::{Reads, is_able, is_ready, wanted_holder};
+pub use steps::next_action;

@@ -26,33 +26,39 @@ pub fn object_at<R: Reads>(
 }
 
 /// The thread uses the object from now on, where there is one.
-fn look_at(thread: ThreadNo, word: Word, found: Option<ObjNo>) -> Decision
-    ensures { result ≡ look_at thread word found }
+fn look_at(decision: &mut Decision, thread: ThreadNo, word: Word, found: Option<ObjNo>)
+    ensures { decision.new ≡ look_at thread word found }
 {
     let step = Step::Of(word, Part::Look);
     match found {
         Some(object) => {
             let gain = Move::Gain(Holder::Temp(thread), object);
-            go_on(thread, step, gain, Part::Do)
+            go_on(decision, thread, step, gain, Part::Do)
         }
-        None => refuse(thread, step, Error::BadHandle),
+        None => refuse(decision, thread, step, Error::BadHandle),
     }
 }
 
 /// The look at the handle in a register.
 pub fn look<R: Reads>(
+    decision: &mut Decision,
     reads: &R,
     thread: ThreadNo,
     row: &ThreadRow,
     word: Word,
     register: u8,
-) -> Decision
+)
     requires readable { R.is_readable reads.now }
     requires register { register < 8 }
-    ensures { result ≡ look (R.state reads.now) thread row.now word register }
+    ensures { decision.new ≡ look (R.state reads.now) thread row.now word register }
 {
     let handle = row.registers[register as usize];
-    look_at(thread, word, object_at(reads, thread, row, handle))
+    look_at(
+        decision,
+        thread,
+        word,
+        object_at(reads, thread, row, handle),
+    )
 }
 
 /// Whether an object is of a kind.
@@ -79,18 +85,19 @@ fn of_kind<R: Reads>(reads: &R, kind: Kind, found: Option<ObjNo>) -> Option<ObjN
 
 /// The look at the handle in a register, which has to be of an object of a kind.
 pub fn look_kind<R: Reads>(
+    decision: &mut Decision,
     reads: &R,
     thread: ThreadNo,
     row: &ThreadRow,
     kind: Kind,
     word: Word,
     register: u8,
-) -> Decision
+)
     requires readable { R.is_readable reads.now }
     requires register { register < 8 }
-    ensures { result ≡ look_kind (R.state reads.now) thread row.now kind word register }
+    ensures { decision.new ≡ look_kind (R.state reads.now) thread row.now kind word register }
 {
     let handle = row.registers[register as usize];
     let found = object_at(reads, thread, row, handle);
-    look_at(thread, word, of_kind(reads, kind, found))
+    look_at(decision, thread, word, of_kind(reads, kind, found))
 }

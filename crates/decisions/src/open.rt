@@ -13,19 +13,21 @@ const STEP: Step = Step::Of(Word::Open, Part::Do);
 
 /// The third step: a handle of what the thread uses.
 fn open_do<R: Reads>(
+    decision: &mut Decision,
     reads: &R,
     thread: ThreadNo,
     row: &ThreadRow,
     register: u8,
     uses: Option<ObjNo>,
-) -> Decision
+)
     requires { R.is_readable reads.now }
-    ensures { result ≡ open_do (R.state reads.now) thread row.now register uses }
+    ensures { decision.new ≡ open_do (R.state reads.now) thread row.now register uses }
 {
     let Some(object) = uses else {
-        return nothing();
+        return nothing(decision);
     };
     give_handle(
+        decision,
         thread,
         row,
         STEP,
@@ -37,28 +39,34 @@ fn open_do<R: Reads>(
 
 /// First the find, and after the return a handle. A thread that holds a fast mutex is refused.
 pub fn open_step<R: Reads>(
+    decision: &mut Decision,
     reads: &R,
     thread: ThreadNo,
     row: &ThreadRow,
     kind: Kind,
-    name: Name,
+    name: &Name,
     register: u8,
-) -> Decision
+)
     requires { R.is_readable reads.now }
-    ensures { result ≡ open_step (R.state reads.now) thread row.now kind name register row.now.part }
+    ensures { decision.new ≡ open_step (R.state reads.now) thread row.now kind name.now register row.now.part }
 {
     if row.part.is_some() {
-        return open_do(reads, thread, row, register, row.uses);
+        return open_do(decision, reads, thread, row, register, row.uses);
     }
     if reads.is_holding(thread) {
-        return refuse(thread, Step::Of(Word::Open, Part::Seek), Error::InUse);
+        return refuse(
+            decision,
+            thread,
+            Step::Of(Word::Open, Part::Seek),
+            Error::InUse,
+        );
     }
-    seek(reads, thread, Word::Open, kind, name)
+    seek(decision, reads, thread, Word::Open, kind, name)
 }
 
 /// The return.
-pub fn open_return<R: Reads>(reads: &R, thread: ThreadNo, row: &ThreadRow) -> Decision
-    ensures { result ≡ open_return (R.state reads.now) thread row.now }
+pub fn open_return<R: Reads>(decision: &mut Decision, reads: &R, thread: ThreadNo, row: &ThreadRow)
+    ensures { decision.new ≡ open_return (R.state reads.now) thread row.now }
 {
-    return_to(reads, thread, Word::Open, Part::Do, row.found)
+    return_to(decision, reads, thread, Word::Open, Part::Do, row.found)
 }

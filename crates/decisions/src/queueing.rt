@@ -3,33 +3,40 @@ ghost use Rattle.std.specs.Prelude.{◌≡◌};
 ghost use Rattle.script_types.specs.Shape.{IsShaped};
 ghost use Rattle.machine.specs.Queueing.{queue_named, queue_do};
 
-use crate::bodies::{add_call, dfc_named};
-use crate::decide::{answer, nothing, one_move};
+use crate::bodies::add_call;
+use crate::decide::{answer_after, answer_at_once, nothing};
 use entry_log::{Part, Step, Word};
-use machine::{Decision, Moves};
+use machine::Decision;
 use readings::Reads;
 use script_types::Script;
+use state_rows::dfc_named;
 use sym_base::{Name, ThreadNo};
 
 const STEP: Step = Step::Of(Word::Queue, Part::Do);
 
 /// The call joins its queue, unless it is queued already.
-fn queue_named<R: Reads>(reads: &R, thread: ThreadNo, dfc: Option<u8>) -> Decision
-    ensures { result ≡ queue_named (R.state reads.now) thread dfc }
+fn queue_named<R: Reads>(decision: &mut Decision, reads: &R, thread: ThreadNo, dfc: Option<u8>)
+    ensures { decision.new ≡ queue_named (R.state reads.now) thread dfc }
 {
     let Some(dfc) = dfc else {
-        return nothing();
+        return nothing(decision);
     };
     if reads.is_queued(dfc) {
-        return answer(thread, STEP, Moves::new(), 0);
+        return answer_at_once(decision, thread, STEP, 0);
     }
-    answer(thread, STEP, one_move(add_call(reads, dfc)), 1)
+    answer_after(decision, thread, STEP, add_call(reads, dfc), 1)
 }
 
 /// The deferred function call of a name joins its queue.
-pub fn queue_do<R: Reads>(script: &Script, reads: &R, thread: ThreadNo, name: Name) -> Decision
+pub fn queue_do<R: Reads>(
+    decision: &mut Decision,
+    script: &Script,
+    reads: &R,
+    thread: ThreadNo,
+    name: &Name,
+)
     requires { IsShaped script.now }
-    ensures { result ≡ queue_do script.now (R.state reads.now) thread name }
+    ensures { decision.new ≡ queue_do script.now (R.state reads.now) thread name.now }
 {
-    queue_named(reads, thread, dfc_named(script, &name))
+    queue_named(decision, reads, thread, dfc_named(script, name))
 }

@@ -1,12 +1,15 @@
 //! `request`, `cancel`, `waitany`, `waitfor` and `status`: asynchronous requests of devices (the chapter on
 //! inter-thread communication).
-ghost use Rattle.std.specs.Prelude.{◌≡◌};
+ghost use Rattle.std.specs.Prelude.{◌≡◌, [], ◌∷◌};
+ghost use Rattle.machine.specs.Decide.{answer};
 ghost use Rattle.machine.specs.RequestCalls.{request_do, cancel_status, cancel_do, waitany_do, waitany_step, waitfor_do, waitfor_step, status_do};
+ghost use Rattle.machine.specs.declared.moves.Move.TheVariants.{Requests};
+ghost use Rattle.machine.specs.declared.request_move.RequestMove.TheVariants.{TakeSignal};
 ghost use Rattle.state_rows.specs.Requests.{is_pending, status_of};
 
-use crate::decide::{answer, one_move, refuse, wait_for};
+use crate::decide::{answer_after, answer_at_once, refuse, wait_for};
 use entry_log::{Part, Step, Word};
-use machine::{Decision, Move, Moves, RequestMove, Waiting};
+use machine::{Decision, Move, RequestMove, Waiting};
 use readings::Reads;
 use state_rows::{PENDING, Request};
 use sym_base::{Error, ThreadNo};
@@ -19,15 +22,21 @@ pub fn is_pending<R: Reads>(reads: &R, thread: ThreadNo, status: u8) -> bool
 }
 
 /// The device gets the request, unless it has one or the status is pending.
-pub fn request_do<R: Reads>(reads: &R, thread: ThreadNo, device: u8, status: u8) -> Decision
-    ensures { result ≡ request_do (R.state reads.now) thread device status }
+pub fn request_do<R: Reads>(
+    decision: &mut Decision,
+    reads: &R,
+    thread: ThreadNo,
+    device: u8,
+    status: u8,
+)
+    ensures { decision.new ≡ request_do (R.state reads.now) thread device status }
 {
     let step = Step::Of(Word::Request, Part::Do);
     if is_pending(reads, thread, status) || reads.request_at(device).is_some() {
-        return refuse(thread, step, Error::InUse);
+        return refuse(decision, thread, step, Error::InUse);
     }
     let begin = Move::Requests(RequestMove::Begin(device, thread, status));
-    answer(thread, step, one_move(begin), 0)
+    answer_after(decision, thread, step, begin, 0)
 }
 
 /// The status of a request, where the request is the thread's.
@@ -41,100 +50,114 @@ fn status_of(thread: ThreadNo, request: Option<Request>) -> Option<u8>
 }
 
 /// The request of this status is completed as cancelled, where there is one.
-fn cancel_status(thread: ThreadNo, device: u8, status: Option<u8>) -> Decision
-    ensures { result ≡ cancel_status thread device status }
+fn cancel_status(decision: &mut Decision, thread: ThreadNo, device: u8, status: Option<u8>)
+    ensures { decision.new ≡ cancel_status thread device status }
 {
     let step = Step::Of(Word::Cancel, Part::Do);
     let Some(status) = status else {
-        return refuse(thread, step, Error::NotFound);
+        return refuse(decision, thread, step, Error::NotFound);
     };
     let code = Error::Cancel.code();
     let complete = Move::Requests(RequestMove::Complete(device, thread, status, code));
-    answer(thread, step, one_move(complete), 0)
+    answer_after(decision, thread, step, complete, 0)
 }
 
 /// The thread's request of the device is completed as cancelled, where there is one.
-pub fn cancel_do<R: Reads>(reads: &R, thread: ThreadNo, device: u8) -> Decision
-    ensures { result ≡ cancel_do (R.state reads.now) thread device }
+pub fn cancel_do<R: Reads>(decision: &mut Decision, reads: &R, thread: ThreadNo, device: u8)
+    ensures { decision.new ≡ cancel_do (R.state reads.now) thread device }
 {
-    cancel_status(thread, device, status_of(thread, reads.request_at(device)))
+    cancel_status(
+        decision,
+        thread,
+        device,
+        status_of(thread, reads.request_at(device)),
+    )
+}
+
+/// The thread takes a signal, and the instruction answers this number.
+fn take_signal(decision: &mut Decision, thread: ThreadNo, step: Step, code: i32)
+    ensures { decision.new ≡ answer thread step (Requests (TakeSignal thread) ∷ []) code }
+{
+    let take = Move::Requests(RequestMove::TakeSignal(thread));
+    answer_after(decision, thread, step, take, code)
 }
 
 /// The thread takes a signal where one is there. Else it waits for one.
-fn waitany_do<R: Reads>(reads: &R, thread: ThreadNo) -> Decision
-    ensures { result ≡ waitany_do (R.state reads.now) thread }
+fn waitany_do<R: Reads>(decision: &mut Decision, reads: &R, thread: ThreadNo)
+    ensures { decision.new ≡ waitany_do (R.state reads.now) thread }
 {
     let step = Step::Of(Word::Waitany, Part::Do);
     if reads.request_signals(thread) == 0 {
-        return wait_for(thread, step, Waiting::Any);
+        return wait_for(decision, thread, step, Waiting::Any);
     }
-    let take = Move::Requests(RequestMove::TakeSignal(thread));
-    answer(thread, step, one_move(take), 0)
+    take_signal(decision, thread, step, 0)
 }
 
 /// First the signal is taken or waited for, and when the wait is over it is taken. A thread that holds a fast
 /// mutex is refused.
-pub fn waitany_step<R: Reads>(reads: &R, thread: ThreadNo, part: Option<Part>) -> Decision
-    ensures { result ≡ waitany_step (R.state reads.now) thread part }
+pub fn waitany_step<R: Reads>(
+    decision: &mut Decision,
+    reads: &R,
+    thread: ThreadNo,
+    part: Option<Part>,
+)
+    ensures { decision.new ≡ waitany_step (R.state reads.now) thread part }
 {
     if part.is_some() {
-        let take = Move::Requests(RequestMove::TakeSignal(thread));
-        return answer(
-            thread,
-            Step::Of(Word::Waitany, Part::Done),
-            one_move(take),
-            0,
-        );
+        return take_signal(decision, thread, Step::Of(Word::Waitany, Part::Done), 0);
     }
     if reads.is_holding(thread) {
-        return refuse(thread, Step::Of(Word::Waitany, Part::Do), Error::InUse);
+        return refuse(
+            decision,
+            thread,
+            Step::Of(Word::Waitany, Part::Do),
+            Error::InUse,
+        );
     }
-    waitany_do(reads, thread)
+    waitany_do(decision, reads, thread)
 }
 
 /// The thread takes a signal where the status is completed and a signal is there. Else it waits for both.
-fn waitfor_do<R: Reads>(reads: &R, thread: ThreadNo, status: u8) -> Decision
-    ensures { result ≡ waitfor_do (R.state reads.now) thread status }
+fn waitfor_do<R: Reads>(decision: &mut Decision, reads: &R, thread: ThreadNo, status: u8)
+    ensures { decision.new ≡ waitfor_do (R.state reads.now) thread status }
 {
     let step = Step::Of(Word::Waitfor, Part::Do);
     if is_pending(reads, thread, status) || reads.request_signals(thread) == 0 {
-        return wait_for(thread, step, Waiting::Status(status));
+        return wait_for(decision, thread, step, Waiting::Status(status));
     }
-    let take = Move::Requests(RequestMove::TakeSignal(thread));
-    let value = reads.value_of(thread, status);
-    answer(thread, step, one_move(take), value)
+    take_signal(decision, thread, step, reads.value_of(thread, status))
 }
 
 /// First the signal is taken or waited for, and when the wait is over it is taken; the status is answered. A
 /// thread that holds a fast mutex is refused.
 pub fn waitfor_step<R: Reads>(
+    decision: &mut Decision,
     reads: &R,
     thread: ThreadNo,
     status: u8,
     part: Option<Part>,
-) -> Decision
-    ensures { result ≡ waitfor_step (R.state reads.now) thread status part }
+)
+    ensures { decision.new ≡ waitfor_step (R.state reads.now) thread status part }
 {
     if part.is_some() {
-        let take = Move::Requests(RequestMove::TakeSignal(thread));
-        let value = reads.value_of(thread, status);
-        return answer(
-            thread,
-            Step::Of(Word::Waitfor, Part::Done),
-            one_move(take),
-            value,
-        );
+        let step = Step::Of(Word::Waitfor, Part::Done);
+        return take_signal(decision, thread, step, reads.value_of(thread, status));
     }
     if reads.is_holding(thread) {
-        return refuse(thread, Step::Of(Word::Waitfor, Part::Do), Error::InUse);
+        return refuse(
+            decision,
+            thread,
+            Step::Of(Word::Waitfor, Part::Do),
+            Error::InUse,
+        );
     }
-    waitfor_do(reads, thread, status)
+    waitfor_do(decision, reads, thread, status)
 }
 
 /// The value of a status is answered.
-pub fn status_do<R: Reads>(reads: &R, thread: ThreadNo, status: u8) -> Decision
-    ensures { result ≡ status_do (R.state reads.now) thread status }
+pub fn status_do<R: Reads>(decision: &mut Decision, reads: &R, thread: ThreadNo, status: u8)
+    ensures { decision.new ≡ status_do (R.state reads.now) thread status }
 {
     let step = Step::Of(Word::Status, Part::Do);
-    answer(thread, step, Moves::new(), reads.value_of(thread, status))
+    answer_at_once(decision, thread, step, reads.value_of(thread, status))
 }

@@ -6,7 +6,7 @@ ghost use Rattle.machine.specs.declared.moves.Move.TheVariants.{SetPriority};
 ghost use Rattle.sym_base.specs.declared.error.Error.TheVariants as error;
 ghost use Rattle.sym_base.specs.declared.word.Word.TheVariants as word;
 
-use crate::decide::{answer, nothing, one_move, refuse};
+use crate::decide::{answer_after, nothing, refuse};
 use crate::look::look_kind;
 use entry_log::{Part, Step, Word};
 use machine::{Decision, Move, NanoMove, Role, ThreadRow};
@@ -57,111 +57,177 @@ fn resume_move<R: Reads>(reads: &R, other: ThreadNo) -> Option<Move>
 }
 
 /// The call's move, or an error where there is none.
-fn move_or_refuse(thread: ThreadNo, word: Word, error: Error, change: Option<Move>) -> Decision
-    ensures { result ≡ move_or_refuse thread word error change }
+fn move_or_refuse(
+    decision: &mut Decision,
+    thread: ThreadNo,
+    word: Word,
+    error: Error,
+    change: Option<Move>,
+)
+    ensures { decision.new ≡ move_or_refuse thread word error change }
 {
     let step = Step::Of(word, Part::Do);
     match change {
-        Some(change) => answer(thread, step, one_move(change), 0),
-        None => refuse(thread, step, error),
+        Some(change) => answer_after(decision, thread, step, change, 0),
+        None => refuse(decision, thread, step, error),
     }
 }
 
 /// A call on a thread: a refusal comes before the call's own error.
 fn unless_refused(
+    decision: &mut Decision,
     thread: ThreadNo,
     word: Word,
     refusal: Option<Error>,
     error: Error,
     change: Option<Move>,
-) -> Decision
-    ensures { result ≡ unless_refused thread word refusal error change }
+)
+    ensures { decision.new ≡ unless_refused thread word refusal error change }
 {
     match refusal {
-        Some(refusal) => refuse(thread, Step::Of(word, Part::Do), refusal),
-        None => move_or_refuse(thread, word, error, change),
+        Some(refusal) => refuse(decision, thread, Step::Of(word, Part::Do), refusal),
+        None => move_or_refuse(decision, thread, word, error, change),
     }
 }
 
 /// The second step of `suspend`, on the thread that is used.
-fn suspend_do<R: Reads>(reads: &R, thread: ThreadNo, uses: Option<ObjNo>) -> Decision
-    ensures { result ≡ call_on (R.state reads.now) thread word.Suspend error.Overflow (suspend_move (R.state reads.now)) uses }
+fn suspend_do<R: Reads>(decision: &mut Decision, reads: &R, thread: ThreadNo, uses: Option<ObjNo>)
+    ensures { decision.new ≡ call_on (R.state reads.now) thread word.Suspend error.Overflow (suspend_move (R.state reads.now)) uses }
 {
     let Some(other) = uses else {
-        return nothing();
+        return nothing(decision);
     };
-    let refusal = refusal_of(reads.thread(other));
+    let refusal = refusal_of(reads.thread(other).copied());
     let change = suspend_move(reads, other);
-    unless_refused(thread, Word::Suspend, refusal, Error::Overflow, change)
+    unless_refused(
+        decision,
+        thread,
+        Word::Suspend,
+        refusal,
+        Error::Overflow,
+        change,
+    )
 }
 
 /// The second step of `resume`.
-fn resume_do<R: Reads>(reads: &R, thread: ThreadNo, uses: Option<ObjNo>) -> Decision
-    ensures { result ≡ call_on (R.state reads.now) thread word.Resume error.General (resume_move (R.state reads.now)) uses }
+fn resume_do<R: Reads>(decision: &mut Decision, reads: &R, thread: ThreadNo, uses: Option<ObjNo>)
+    ensures { decision.new ≡ call_on (R.state reads.now) thread word.Resume error.General (resume_move (R.state reads.now)) uses }
 {
     let Some(other) = uses else {
-        return nothing();
+        return nothing(decision);
     };
-    let refusal = refusal_of(reads.thread(other));
+    let refusal = refusal_of(reads.thread(other).copied());
     let change = resume_move(reads, other);
-    unless_refused(thread, Word::Resume, refusal, Error::General, change)
+    unless_refused(
+        decision,
+        thread,
+        Word::Resume,
+        refusal,
+        Error::General,
+        change,
+    )
 }
 
 /// The second step of `priority`.
-fn priority_do<R: Reads>(reads: &R, thread: ThreadNo, priority: u8, uses: Option<ObjNo>) -> Decision
-    ensures { result ≡ call_on (R.state reads.now) thread word.Priority error.General (λ u. Some (SetPriority u priority)) uses }
+fn priority_do<R: Reads>(
+    decision: &mut Decision,
+    reads: &R,
+    thread: ThreadNo,
+    priority: u8,
+    uses: Option<ObjNo>,
+)
+    ensures { decision.new ≡ call_on (R.state reads.now) thread word.Priority error.General (λ u. Some (SetPriority u priority)) uses }
 {
     let Some(other) = uses else {
-        return nothing();
+        return nothing(decision);
     };
-    let refusal = refusal_of(reads.thread(other));
+    let refusal = refusal_of(reads.thread(other).copied());
     let change = Some(Move::SetPriority(other, priority));
-    unless_refused(thread, Word::Priority, refusal, Error::General, change)
+    unless_refused(
+        decision,
+        thread,
+        Word::Priority,
+        refusal,
+        Error::General,
+        change,
+    )
 }
 
 /// A look at a handle of a thread, and one suspension more of it.
 pub fn suspend_step<R: Reads>(
+    decision: &mut Decision,
     reads: &R,
     thread: ThreadNo,
     row: &ThreadRow,
     register: u8,
-) -> Decision
+)
     requires readable { R.is_readable reads.now }
     requires register { register < 8 }
-    ensures { result ≡ suspend_step (R.state reads.now) thread row.now register row.now.part }
+    ensures { decision.new ≡ suspend_step (R.state reads.now) thread row.now register row.now.part }
 {
     match row.part {
-        None => look_kind(reads, thread, row, Kind::Thread, Word::Suspend, register),
-        Some(_) => suspend_do(reads, thread, row.uses),
+        None => look_kind(
+            decision,
+            reads,
+            thread,
+            row,
+            Kind::Thread,
+            Word::Suspend,
+            register,
+        ),
+        Some(_) => suspend_do(decision, reads, thread, row.uses),
     }
 }
 
 /// A look at a handle of a thread, and one suspension less of it.
-pub fn resume_step<R: Reads>(reads: &R, thread: ThreadNo, row: &ThreadRow, register: u8) -> Decision
+pub fn resume_step<R: Reads>(
+    decision: &mut Decision,
+    reads: &R,
+    thread: ThreadNo,
+    row: &ThreadRow,
+    register: u8,
+)
     requires readable { R.is_readable reads.now }
     requires register { register < 8 }
-    ensures { result ≡ resume_step (R.state reads.now) thread row.now register row.now.part }
+    ensures { decision.new ≡ resume_step (R.state reads.now) thread row.now register row.now.part }
 {
     match row.part {
-        None => look_kind(reads, thread, row, Kind::Thread, Word::Resume, register),
-        Some(_) => resume_do(reads, thread, row.uses),
+        None => look_kind(
+            decision,
+            reads,
+            thread,
+            row,
+            Kind::Thread,
+            Word::Resume,
+            register,
+        ),
+        Some(_) => resume_do(decision, reads, thread, row.uses),
     }
 }
 
 /// A look at a handle of a thread, and another priority of it.
 pub fn priority_step<R: Reads>(
+    decision: &mut Decision,
     reads: &R,
     thread: ThreadNo,
     row: &ThreadRow,
     register: u8,
     priority: u8,
-) -> Decision
+)
     requires readable { R.is_readable reads.now }
     requires register { register < 8 }
-    ensures { result ≡ priority_step (R.state reads.now) thread row.now register priority row.now.part }
+    ensures { decision.new ≡ priority_step (R.state reads.now) thread row.now register priority row.now.part }
 {
     match row.part {
-        None => look_kind(reads, thread, row, Kind::Thread, Word::Priority, register),
-        Some(_) => priority_do(reads, thread, priority, row.uses),
+        None => look_kind(
+            decision,
+            reads,
+            thread,
+            row,
+            Kind::Thread,
+            Word::Priority,
+            register,
+        ),
+        Some(_) => priority_do(decision, reads, thread, priority, row.uses),
     }
 }

@@ -3,6 +3,7 @@ mod effects;
 mod entries;
 mod holders;
 mod line;
+mod numbers;
 mod rows;
 mod steps;
 

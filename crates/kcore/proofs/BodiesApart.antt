@@ -18,7 +18,8 @@ use Rattle.machine.specs.declared.state.State.{State}
 use Rattle.machine.specs.declared.state.ThreadRow.{ThreadRow}
 use Rattle.machine.specs.declared.state.Waiting.{Waiting}
 use Rattle.machine.specs.declared.state.Waiting.TheVariants as waiting
-use Rattle.machine.specs.Bodies.{queue_call, signal_object, ends_wait, end_wait, complete, op_moves, ops_moves, ops_of, dfc_named, leave_queue, run_body, step_of_body}
+use Rattle.state_rows.specs.DeclaredCalls.{dfc_named}
+use Rattle.machine.specs.Bodies.{queue_call, signal_object, ends_wait, end_wait, complete, op_moves, ops_moves, ops_of, leave_queue, run_body, step_of_body}
 use Rattle.machine.specs.Find.{find_object}
 use Rattle.machine.specs.Moves.{perform}
 use Rattle.machine.specs.Rows.{thread_of}

@@ -18,7 +18,8 @@ use Rattle.state_rows.specs.declared.deferred.Item.TheVariants.{Idfc, Move}
 use Rattle.state_rows.specs.Deferred.{next_immediate}
 use Rattle.machine.specs.declared.decision.Decision.{Decision}
 use Rattle.machine.specs.declared.plan.Body.TheVariants.{Immediate, Deferred}
-use Rattle.machine.specs.Bodies.{decision_by, dfc_named}
+use Rattle.state_rows.specs.DeclaredCalls.{dfc_named}
+use Rattle.machine.specs.Bodies.{decision_by}
 use Rattle.machine.specs.Interrupts.{immediate_plan, supervisor}
 use Rattle.machine.specs.Queueing.{queue_named}
 use Rattle.kcore.specs.StateOf.{with_ready}

@@ -11,6 +11,7 @@ mod FreshTable
 mod Goes
 mod GoingActions
 mod GoingMoves
+mod LeastFree
 mod ListSteps
 mod MovesApart
 mod Noting

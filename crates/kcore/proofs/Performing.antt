@@ -70,7 +70,7 @@ performed_then script t ms ns old mid new before between after was es is first s
       state = second.state ∙ (ap (perform t ns) first.state ∙ sym (perform_append t ms ns S));
       kept = second.kept;
       told = second.told ∙ (ap (λ (T : State). es ++ tell t ns T) first.state ∙ (ap (λ (l : List Effect). l ++ tell t ns (perform t ms S)) first.told
-      ∙ (append_assoc was (tell t ms S) (tell t ns (perform t ms S)) ∙ ap (λ (l : List Effect). was ++ l) (sym (tell_append t ms ns S)))));
+          ∙ (append_assoc was (tell t ms S) (tell t ns (perform t ms S)) ∙ ap (λ (l : List Effect). was ++ l) (sym (tell_append t ms ns S)))));
       queues = λ qs ready.
           subst (λ (l : List ObjNo). AreReady (priority_of (state_of new)) l after) (ap (λ (T : State). arrivals script t ns T (arrivals script t ms S qs)) first.state ∙ sym (arrivals_append script t ms ns S qs))
           (second.queues (arrivals script t ms S qs) (first.queues qs ready));

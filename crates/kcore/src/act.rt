@@ -18,20 +18,21 @@ use crate::interrupts::{immediate, interrupt};
 use crate::plans::follow;
 use crate::ready::turn;
 use crate::tables::Tables;
-use decisions::plan_of;
+use decisions::next_action;
 use entry_log::{Actor, Effects, Step};
-use machine::Outcome;
+use machine::{Decision, Outcome};
 use nano_sync::NanoSync;
 use ready_list::ReadyList;
 use ref_words::RefWords;
 use script_types::Script;
 use sym_base::ThreadNo;
 
-/// The next action of a thread.
+/// The next action of a thread, decided in the place of the decision before it.
 fn act<W: RefWords + Drop>(
     script: &Script,
     tables: &mut Tables<W>,
     ready: &mut ReadyList,
+    decision: &mut Decision,
     thread: ThreadNo,
 ) -> Outcome
     requires shaped { IsShaped script.now }
@@ -40,8 +41,8 @@ fn act<W: RefWords + Drop>(
     requires size { ready.old.threads ≡ BOOT_OBJECTS }
     ensures { Does script.now tables.old ready.old tables.new ready.new result (λ S. act script.now S thread) }
 {
-    let plan = plan_of(script, tables, thread);
-    follow(script, tables, ready, thread, plan)
+    let body = next_action(decision, script, tables, thread);
+    follow(script, tables, ready, decision, thread, body)
 }
 
 /// The end of a time slice.
@@ -73,6 +74,7 @@ pub fn transition<W: RefWords + Drop>(
     script: &Script,
     tables: &mut Tables<W>,
     ready: &mut ReadyList,
+    decision: &mut Decision,
     actor: Actor,
 ) -> Outcome
     requires shaped { IsShaped script.now }
@@ -82,10 +84,10 @@ pub fn transition<W: RefWords + Drop>(
     ensures { Does script.now tables.old ready.old tables.new ready.new result (λ S. transition script.now S actor) }
 {
     match actor {
-        Actor::Thread(thread) => act(script, tables, ready, thread),
+        Actor::Thread(thread) => act(script, tables, ready, decision, thread),
         Actor::Tick => tick(&tables.nano, ready),
-        Actor::Irq(number) => interrupt(script, tables, ready, number),
-        Actor::Idfc => immediate(script, tables, ready),
+        Actor::Irq(number) => interrupt(script, tables, ready, decision, number),
+        Actor::Idfc => immediate(script, tables, ready, decision),
         Actor::Idle => idle(),
     }
 }

@@ -17,7 +17,7 @@ use crate::ready::leave_along;
 use crate::tables::Tables;
 use decisions::{leave_queue, op_moves, ops_of, step_of_body};
 use entry_log::Effects;
-use machine::{Body, Outcome};
+use machine::{Body, Moves, Outcome};
 use ready_list::ReadyList;
 use ref_words::RefWords;
 use script_types::{Op, Script};
@@ -28,6 +28,7 @@ fn run_ops<W: RefWords + Drop>(
     script: &Script,
     tables: &mut Tables<W>,
     ready: &mut ReadyList,
+    moves: &mut Moves,
     thread: ThreadNo,
     ops: &[Op],
     effects: &mut Effects,
@@ -44,17 +45,18 @@ fn run_ops<W: RefWords + Drop>(
     ensures made { made.new ≡ made.old ++ ops_moves script.now thread (state_of tables.old) ops.now }
 {
     for op in ops {
-        let moves = op_moves(script, tables, op);
+        op_moves(moves, script, tables, op);
         perform(script, tables, ready, thread, moves.as_slice(), effects);
         add_moves(made, moves.as_slice());
     }
 }
 
-/// A body, run in an action of a thread.
+/// A body, run in an action of a thread. Each operation is decided in the place of the moves before it.
 pub fn run_body<W: RefWords + Drop>(
     script: &Script,
     tables: &mut Tables<W>,
     ready: &mut ReadyList,
+    moves: &mut Moves,
     thread: ThreadNo,
     body: Body,
 ) -> Outcome
@@ -66,10 +68,26 @@ pub fn run_body<W: RefWords + Drop>(
 {
     let mut effects = Effects::new();
     let mut made = Made::new();
-    let moves = leave_queue(tables, body);
-    perform(script, tables, ready, thread, moves.as_slice(), &mut effects);
+    leave_queue(moves, tables, body);
+    perform(
+        script,
+        tables,
+        ready,
+        thread,
+        moves.as_slice(),
+        &mut effects,
+    );
     add_moves(&mut made, moves.as_slice());
-    run_ops(script, tables, ready, thread, ops_of(script, body), &mut effects, &mut made);
+    run_ops(
+        script,
+        tables,
+        ready,
+        moves,
+        thread,
+        ops_of(script, body),
+        &mut effects,
+        &mut made,
+    );
     leave_along(script, tables, ready, thread, made.as_slice());
     Outcome {
         step: step_of_body(script, body),

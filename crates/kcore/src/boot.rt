@@ -23,13 +23,13 @@ use crate::handles::Handles;
 use crate::object_table::ObjectTable;
 use crate::tables::Tables;
 use cleanup::Cleanup;
-use machine::{Born, State, all_born, boot_of, calls_of, count_of, row_of};
+use machine::{Born, State, all_born, boot_of, count_of, row_of};
 use nano_sync::NanoSync;
 use ready_list::ReadyList;
 use ref_words::RefWords;
 use requests::Requests;
 use script_types::Script;
-use state_rows::ObjectRow;
+use state_rows::{ObjectRow, calls_of};
 use std::alloc::Global;
 use sym_base::{Items, Limits, NoMemory, ObjNo, ThreadNo};
 

@@ -3,7 +3,7 @@ ghost use Rattle.std.specs.Prelude.{◌≡◌, IfOk, slice_get};
 ghost use Rattle.script_types.specs.Shape.{IsShaped};
 ghost use Rattle.state_rows.specs.declared.deferred.Item.TheVariants.{Move};
 ghost use Rattle.state_rows.specs.Deferred.{is_queued, next_immediate, next_of, queue_of};
-ghost use Rattle.machine.specs.Boot.{calls_of};
+ghost use Rattle.state_rows.specs.DeclaredCalls.{calls_of};
 ghost use Rattle.machine.specs.DeferredMoves.{deferred_moved};
 ghost use Rattle.machine.specs.Fits.{FitsDeferred};
 

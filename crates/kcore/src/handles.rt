@@ -1,5 +1,5 @@
 //! One handle table: 256 slots, the least free one taken first.
-ghost use Rattle.std.specs.Prelude.{◌≡◌, ◌<◌, ◌≤◌, None, IfOk, IfSome, replicate, slice_set};
+ghost use Rattle.std.specs.Prelude.{◌≡◌, ◌≢◌, ◌+◌, ◌<◌, ◌≤◌, None, IfOk, IfSome, replicate, slice_set};
 ghost use Rattle.sym_base.specs.declared.limits.TheConstants.Limits.{HANDLES};
 ghost use Rattle.machine.specs.Handles.{fresh_slot, slot_at, next_handle, taken_slot, freed_slot};
 
@@ -13,18 +13,34 @@ use sym_base::{Limits, NoMemory, ObjNo};
 #[derive(Drop)]
 pub struct Handles {
     slots: Vec<HandleSlot>,
+    /// No slot before this place is free, so that the least free one is looked for from here on.
+    low: usize,
 }
 
 impl Model for Handles {
-    ghost use Rattle.std.specs.Prelude.{List};
+    ghost use Rattle.std.specs.Prelude.{◌≤◌, List};
     ghost use Rattle.machine.specs.declared.state.HandleSlot.{HandleSlot};
+    ghost use Rattle.machine.specs.Handles.{free_index};
     ghost use Rattle.machine.specs.WellFormed.{IsTable};
 
     ghost Value = { List HandleSlot };
 
     ghost view = { λ h. h.slots.items };
 
-    ghost invariant = { λ h. IsTable h.slots.items };
+    ghost invariant = { λ h. IsTable h.slots.items × (h.low ≤ free_index h.slots.items) };
+}
+
+/// Where the least free slot is looked for once this one is taken, and no slot before `low` was free.
+fn low_after(low: usize, taken: usize) -> usize
+    requires { taken < 256 }
+    ensures here { low ≡ taken → result ≡ taken + 1 }
+    ensures apart { low ≢ taken → (result ≤ low) × (result ≤ taken) }
+{
+    if low == taken {
+        taken + 1
+    } else {
+        low.min(taken)
+    }
 }
 
 impl Handles {
@@ -34,6 +50,7 @@ impl Handles {
     {
         Ok(Handles {
             slots: vec![in alloc; FRESH_SLOT; Limits::HANDLES]?,
+            low: 0,
         })
     }
 
@@ -50,7 +67,9 @@ impl Handles {
         ensures handle { result ≡ next_handle self.now }
         ensures positive { IfSome result (λ handle. handle.number < 2147483648) }
     {
-        machine::next_handle(&self.slots)
+        let low = self.low;
+        let free = low + machine::free_index(&self.slots[low..]);
+        machine::handle_at(&self.slots, free)
     }
 
     /// A handle of the object stands at an index, with the next instance.
@@ -63,12 +82,15 @@ impl Handles {
             instance,
             object: Some(object),
         };
+        self.low = low_after(self.low, at);
     }
 
     /// The slot of an index is free, and keeps its instance.
     pub fn free(&mut self, index: u8)
         ensures { self.new ≡ slice_set self.old index (freed_slot (slot_at self.old index)) }
     {
-        self.slots[index as usize].object = None;
+        let at = index as usize;
+        self.slots[at].object = None;
+        self.low = self.low.min(at);
     }
 }

@@ -8,10 +8,11 @@ ghost use Rattle.kcore.specs.Noted.{AreKept};
 ghost use Rattle.kcore.specs.Performed.{Does};
 ghost use Rattle.kcore.specs.StateOf.{state_of};
 
+use crate::bodies::run_body;
 use crate::plans::follow;
 use crate::tables::Tables;
-use decisions::immediate_plan;
-use machine::{Body, Outcome, Plan};
+use decisions::immediate_action;
+use machine::{Body, Decision, Outcome};
 use ready_list::ReadyList;
 use ref_words::RefWords;
 use script_types::Script;
@@ -25,6 +26,7 @@ pub fn interrupt<W: RefWords + Drop>(
     script: &Script,
     tables: &mut Tables<W>,
     ready: &mut ReadyList,
+    decision: &mut Decision,
     number: u8,
 ) -> Outcome
     requires shaped { IsShaped script.now }
@@ -33,7 +35,8 @@ pub fn interrupt<W: RefWords + Drop>(
     requires size { ready.old.threads ≡ BOOT_OBJECTS }
     ensures { Does script.now tables.old ready.old tables.new ready.new result (λ S. interrupt script.now S number) }
 {
-    follow(script, tables, ready, SUPERVISOR, Plan::Runs(Body::Interrupt(number)))
+    let body = Body::Interrupt(number);
+    run_body(script, tables, ready, &mut decision.moves, SUPERVISOR, body)
 }
 
 /// The oldest item of the immediate queue runs, or moves to its own queue.
@@ -41,6 +44,7 @@ pub fn immediate<W: RefWords + Drop>(
     script: &Script,
     tables: &mut Tables<W>,
     ready: &mut ReadyList,
+    decision: &mut Decision,
 ) -> Outcome
     requires shaped { IsShaped script.now }
     requires rows { AreRows script.now (state_of tables.old) }
@@ -48,6 +52,6 @@ pub fn immediate<W: RefWords + Drop>(
     requires size { ready.old.threads ≡ BOOT_OBJECTS }
     ensures { Does script.now tables.old ready.old tables.new ready.new result (λ S. immediate script.now S) }
 {
-    let plan = immediate_plan(script, tables);
-    follow(script, tables, ready, SUPERVISOR, plan)
+    let body = immediate_action(decision, script, tables);
+    follow(script, tables, ready, decision, SUPERVISOR, body)
 }

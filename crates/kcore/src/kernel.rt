@@ -24,7 +24,7 @@ use crate::ready::chosen;
 use crate::tables::Tables;
 use decisions::is_able;
 use entry_log::{Actor, Entry, FinalRow};
-use machine::entry_of;
+use machine::{Decision, entry_of};
 use ready_list::ReadyList;
 use ref_words::{PlainWords, RefWords};
 use script_types::{Script, Slot};
@@ -39,6 +39,8 @@ pub struct Kernel<W: RefWords> {
     script: Script,
     tables: Tables<W>,
     ready: ReadyList,
+    /// What the last action did: its place is used again.
+    decision: Decision,
     history: Vec<Entry>,
     room: u32,
 }
@@ -100,6 +102,7 @@ impl<W: RefWords + Drop> Kernel<W> {
             script,
             tables,
             ready,
+            decision: Decision::new(),
             history,
             room,
         })
@@ -115,10 +118,16 @@ impl<W: RefWords + Drop> Kernel<W> {
         ensures safe { IsSafeReferences self.new.script self.new.history }
         ensures holders { AreHoldersReady self.new.script self.new.history }
     {
-        let outcome = transition(&self.script, &mut self.tables, &mut self.ready, actor);
+        let outcome = transition(
+            &self.script,
+            &mut self.tables,
+            &mut self.ready,
+            &mut self.decision,
+            actor,
+        );
         let place = self.history.as_slice().len() as u32 + 1;
         let entry = entry_of(place, actor, outcome);
-        self.history.push(entry).unwrap();
+        self.history.push_reserved(entry);
     }
 
     /// Whether a thread may act: it is ready, and wants no fast mutex that another holds.

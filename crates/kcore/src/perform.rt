@@ -10,7 +10,7 @@ ghost use Rattle.kcore.specs.StateOf.{state_of};
 use crate::moves::make_move;
 use crate::ready::{arrive_touched, take_out};
 use crate::tables::Tables;
-use decisions::{add_effects, told};
+use decisions::tell;
 use entry_log::Effects;
 use machine::{Move, touched};
 use ready_list::ReadyList;
@@ -35,7 +35,7 @@ pub fn perform<W: RefWords + Drop>(
     ensures performed { IsPerformed script.now thread moves.now tables.old tables.new ready.old ready.new effects.old effects.new }
 {
     for change in moves {
-        add_effects(effects, told(tables, *change).as_slice());
+        tell(effects, tables, *change);
         make_move(tables, thread, *change);
         take_out(ready, *change);
         arrive_touched(script, tables, ready, touched(thread, *change));

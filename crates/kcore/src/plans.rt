@@ -2,6 +2,7 @@
 ghost use Rattle.std.specs.Prelude.{◌≡◌};
 ghost use Rattle.sym_base.specs.declared.limits.TheConstants.Limits.{BOOT_OBJECTS};
 ghost use Rattle.script_types.specs.Shape.{IsShaped};
+ghost use Rattle.decisions.specs.Planned.{planned};
 ghost use Rattle.machine.specs.Bodies.{decision_by};
 ghost use Rattle.machine.specs.Transition.{carried_out};
 ghost use Rattle.kcore.specs.Noted.{AreKept};
@@ -13,7 +14,7 @@ use crate::perform::perform;
 use crate::ready::leave_along;
 use crate::tables::Tables;
 use entry_log::Effects;
-use machine::{Decision, Outcome, Plan};
+use machine::{Body, Decision, Outcome};
 use ready_list::ReadyList;
 use ref_words::RefWords;
 use script_types::Script;
@@ -25,12 +26,12 @@ fn carry_out<W: RefWords + Drop>(
     tables: &mut Tables<W>,
     ready: &mut ReadyList,
     thread: ThreadNo,
-    decision: Decision,
+    decision: &Decision,
 ) -> Outcome
-    requires goes { ActionGoes script.now thread decision.moves (state_of tables.old) }
+    requires goes { ActionGoes script.now thread decision.now.moves (state_of tables.old) }
     requires kept { AreKept tables.old }
     requires size { ready.old.threads ≡ BOOT_OBJECTS }
-    ensures { Does script.now tables.old ready.old tables.new ready.new result (λ S. carried_out script.now thread S decision) }
+    ensures { Does script.now tables.old ready.old tables.new ready.new result (λ S. carried_out script.now thread S decision.now) }
 {
     let mut effects = Effects::new();
     let moves = decision.moves.as_slice();
@@ -43,22 +44,23 @@ fn carry_out<W: RefWords + Drop>(
     }
 }
 
-/// A plan of a thread.
+/// What was decided for a thread, or a body, where there is one.
 pub fn follow<W: RefWords + Drop>(
     script: &Script,
     tables: &mut Tables<W>,
     ready: &mut ReadyList,
+    decision: &mut Decision,
     thread: ThreadNo,
-    plan: Plan,
+    body: Option<Body>,
 ) -> Outcome
     requires shaped { IsShaped script.now }
-    requires goes { ActionGoes script.now thread (decision_by script.now thread (state_of tables.old) plan).moves (state_of tables.old) }
+    requires goes { ActionGoes script.now thread (decision_by script.now thread (state_of tables.old) (planned decision.old body)).moves (state_of tables.old) }
     requires kept { AreKept tables.old }
     requires size { ready.old.threads ≡ BOOT_OBJECTS }
-    ensures { Does script.now tables.old ready.old tables.new ready.new result (λ S. carried_out script.now thread S (decision_by script.now thread (state_of tables.old) plan)) }
+    ensures { Does script.now tables.old ready.old tables.new ready.new result (λ S. carried_out script.now thread S (decision_by script.now thread (state_of tables.old) (planned decision.old body))) }
 {
-    match plan {
-        Plan::Decided(decision) => carry_out(script, tables, ready, thread, decision),
-        Plan::Runs(body) => run_body(script, tables, ready, thread, body),
+    match body {
+        None => carry_out(script, tables, ready, thread, decision),
+        Some(body) => run_body(script, tables, ready, &mut decision.moves, thread, body),
     }
 }

@@ -6,7 +6,7 @@ ghost use Rattle.kcore.specs.StateOf.{state_of};
 use crate::duties::first_owed;
 use crate::tables::Tables;
 use decisions::Reads;
-use machine::{FRESH_SLOT, HandleSlot, NewHandle, Owed, ThreadRow};
+use machine::{FRESH_SLOT, HandleSlot, NewHandle, Owed, ThreadRow, thread_in};
 use ref_words::RefWords;
 use state_rows::{Item, ObjectRow, Request};
 use sym_base::{Kind, Name, ObjNo, ThreadNo};
@@ -20,13 +20,8 @@ impl<W: RefWords + Drop> Reads for Tables<W> {
         self.objects.row(object)
     }
 
-    fn thread(&self, thread: ThreadNo) -> Option<ThreadRow> {
-        let at = thread.0 as usize;
-        if at < self.threads.len() {
-            self.threads.get(at)
-        } else {
-            None
-        }
+    fn thread(&self, thread: ThreadNo) -> Option<&ThreadRow> {
+        thread_in(&self.threads, thread)
     }
 
     fn first_owed(&self, thread: ThreadNo) -> Option<Owed> {

@@ -1,7 +1,6 @@
 -- Bodies: what interrupts and deferred function calls do, one operation after the other, each decided in the state that
 -- the earlier ones left.
 use Rattle.std.specs.Prelude.{ℕ, ℤ, ◌==◌, ◌||◌, not, Bool, true, false, if◌then◌else◌, List, [], ◌∷◌, ◌++◌, Option, Some, None, option_and_then, position, slice_get}
-use Rattle.std.specs.Str.{bytes_eq}
 use Rattle.sym_base.specs.declared.kind.Kind.TheVariants.{Thread}
 use Rattle.sym_base.specs.declared.number.ObjNo.{ObjNo}
 use Rattle.script_types.specs.declared.declaration.DfcDecl.{DfcDecl}
@@ -12,6 +11,7 @@ use Rattle.script_types.specs.declared.declaration.Op.TheVariants as op
 use Rattle.script_types.specs.declared.script.Script.{Script}
 use Rattle.entry_log.specs.declared.step.Step.{Step}
 use Rattle.entry_log.specs.declared.step.Step.TheVariants.{Run, RunOf, Wait}
+use Rattle.state_rows.specs.DeclaredCalls.{idfc_named, dfc_named}
 use Rattle.state_rows.specs.Deferred.{queue_of}
 use Rattle.state_rows.specs.Requests.{is_pending, request_at}
 use Rattle.state_rows.specs.declared.requests.Request.{Request}
@@ -32,13 +32,6 @@ use Rattle.machine.specs.Rows.{thread_of}
 use Rattle.machine.specs.Find.{find_object}
 use Rattle.machine.specs.FastSemaphore.{signal_move}
 use Rattle.machine.specs.Moves.{perform}
-
--- the number of the immediate call that is declared with this name, and of the deferred one
-abbrev pub idfc_named : Script → List ℕ → Option ℕ
-idfc_named script name = position (λ (d : IdfcDecl). bytes_eq name d.name) script.idfcs
-
-abbrev pub dfc_named : Script → List ℕ → Option ℕ
-dfc_named script name = position (λ (d : DfcDecl). bytes_eq name d.name) script.dfcs
 
 -- a deferred function call joins its own queue
 abbrev pub add_call : State → ℕ → Move

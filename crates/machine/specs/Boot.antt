@@ -1,14 +1,12 @@
 -- The state at boot. Object 0 is process `kernel`, object 1 thread `supervisor`, and then each process
 -- comes with its threads behind it, in the script's order; the kernel threads, which belong to process `kernel`, stand
 -- before the first of these, and before them the threads of queues, which belong to it too.
-use Rattle.std.specs.Prelude.{ℕ, ◌+◌, ◌==◌, not, ◌&&◌, Bool, true, false, if◌then◌else◌, codes, map, List, [], ◌∷◌, ◌++◌, length, Option, Some, None, position, replicate}
-use Rattle.std.specs.Str.{bytes_eq}
+use Rattle.std.specs.Prelude.{ℕ, ◌+◌, ◌==◌, not, ◌&&◌, Bool, true, false, if◌then◌else◌, codes, map, List, [], ◌∷◌, ◌++◌, length, Option, Some, None, replicate}
 use Rattle.sym_base.specs.declared.kind.Kind.{Kind}
 use Rattle.sym_base.specs.declared.kind.Kind.TheVariants.{Process, Thread}
 use Rattle.script_types.specs.declared.script.Script.{Script}
 use Rattle.script_types.specs.declared.declaration.ThreadDecl.{ThreadDecl}
 use Rattle.script_types.specs.declared.declaration.QueueDecl.{QueueDecl}
-use Rattle.script_types.specs.declared.declaration.DfcDecl.{DfcDecl}
 use Rattle.script_types.specs.declared.declaration.ProcessDecl.{ProcessDecl}
 use Rattle.script_types.specs.declared.instruction.Instr.{Instr}
 use Rattle.state_rows.specs.declared.object.ObjectRow.{ObjectRow}
@@ -16,10 +14,9 @@ use Rattle.sym_base.specs.declared.number.ObjNo.{ObjNo}
 use Rattle.sym_base.specs.declared.limits.TheConstants.Limits.{HANDLES, DEVICES}
 use Rattle.state_rows.specs.declared.nano.NanoRows.{NanoRows}
 use Rattle.state_rows.specs.NanoChanges.{new_rows}
-use Rattle.state_rows.specs.DeferredChanges.{new_calls}
+use Rattle.state_rows.specs.DeclaredCalls.{calls_of}
 use Rattle.state_rows.specs.RequestChanges.{new_rows as request_rows}
 use Rattle.state_rows.specs.declared.deferred.DeferredRows.{DeferredRows}
-use Rattle.state_rows.specs.declared.deferred.DfcPlace.{DfcPlace}
 use Rattle.machine.specs.declared.state.Found.TheVariants.{Nothing}
 use Rattle.machine.specs.declared.state.Waiting.TheVariants as waiting
 use Rattle.machine.specs.declared.state.Role.{Role}
@@ -86,12 +83,16 @@ born_processes threads j p [] = []
 born_processes threads j p (d ∷ ds) =
     born_process d.name ∷ born_threads (Some j) p 0 threads ++ born_processes threads (j + 1) (p + 1 + length (born_threads (Some j) p 0 threads)) ds
 
--- all that stands at boot, in order of number
-abbrev pub born : Script → List Born
-born script =
+-- process `kernel` with its threads: the supervisor, the threads of queues, and the kernel threads
+abbrev pub born_kernel : Script → List Born
+born_kernel script =
     born_process (codes "kernel")
     ∷ record { object = boot_object Thread (codes "supervisor"); thread = Some (new_thread 0 Supervisor 48); works = false; held = false }
-    ∷ born_queues 1 script.queues ++ born_threads None 0 0 script.threads ++ born_processes script.threads 0 (2 + length script.queues + length (born_threads None 0 0 script.threads)) script.processes
+    ∷ born_queues 1 script.queues ++ born_threads None 0 0 script.threads
+
+-- all that stands at boot, in order of number
+abbrev pub born : Script → List Born
+born script = born_kernel script ++ born_processes script.threads 0 (length (born_kernel script)) script.processes
 
 -- the threads that have an instruction and aren't held are ready, in order of number
 abbrev pub ready_from : ℕ → List Born → List ObjNo
@@ -105,22 +106,6 @@ held_count b = if b.held then 1 else 0
 -- nobody has a signal, is in a critical section, or wants or holds a fast mutex
 abbrev pub nano_of : ℕ → List Born → NanoRows
 nano_of fast bs = record (new_rows (length bs) fast) { suspensions = map held_count bs }
-
--- the queue of a name: the supervisor's is queue 0
-abbrev pub queue_number : Option ℕ → ℕ
-queue_number None = 0
-queue_number (Some k) = k + 1
-
-abbrev pub queue_named : Script → List ℕ → ℕ
-queue_named script name = queue_number (position (λ (q : QueueDecl). bytes_eq name q.name) script.queues)
-
--- where a deferred function call waits
-abbrev pub place_of : Script → DfcDecl → DfcPlace
-place_of script d = record { queue = queue_named script d.queue; priority = d.priority }
-
--- nothing is queued, in the supervisor's queue and in each declared one; each thread has a burial
-abbrev pub calls_of : Script → DeferredRows
-calls_of script = new_calls (1 + length script.queues) (length script.idfcs) (map (place_of script) script.dfcs) (1 + length script.queues + length script.threads)
 
 -- each has an empty table and owes nothing, and no device has a request
 unfoldable pub boot_of : ℕ → DeferredRows → List Born → State

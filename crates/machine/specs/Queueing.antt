@@ -10,7 +10,8 @@ use Rattle.state_rows.specs.declared.deferred.Item.TheVariants.{Move}
 use Rattle.machine.specs.declared.decision.Decision.{Decision}
 use Rattle.machine.specs.declared.state.State.{State}
 use Rattle.machine.specs.Decide.{nothing, answer}
-use Rattle.machine.specs.Bodies.{dfc_named, add_call}
+use Rattle.state_rows.specs.DeclaredCalls.{dfc_named}
+use Rattle.machine.specs.Bodies.{add_call}
 
 -- queued already: 0; else it joins its queue, and the answer is 1
 abbrev pub queue_named : State → ObjNo → Option ℕ → Decision

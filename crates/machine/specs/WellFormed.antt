@@ -29,7 +29,7 @@ use Rattle.machine.specs.Handles.{slot_at}
 use Rattle.machine.specs.References.{total, same, count_of}
 use Rattle.machine.specs.Task.{instructions_of, served_queue, is_ready, is_returning}
 use Rattle.machine.specs.Arrivals.{is_listed}
-use Rattle.machine.specs.Boot.{calls_of}
+use Rattle.state_rows.specs.DeclaredCalls.{calls_of}
 
 -- processes and threads, the supervisor among them, have the least numbers, and a handle table and a list of duties each
 pub record AreSized (S : State) : Type 0 where

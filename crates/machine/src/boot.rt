@@ -3,17 +3,16 @@ ghost use Rattle.std.specs.Prelude.{◌≡◌, ℕ, ◌+◌, ◌<◌, ◌≤◌,
 ghost use Rattle.script_types.specs.Shape.{IsShaped};
 ghost use Rattle.sym_base.specs.declared.limits.TheConstants.Limits.{DEVICES};
 ghost use Rattle.state_rows.specs.RequestChanges.{new_rows as request_rows};
-ghost use Rattle.machine.specs.Boot.{boot_object, born_process, new_thread, born_thread, born_queue, born_queues, is_of, has_any, born_threads, born, ready_from, held_count, nano_of, boot_of, boot};
+ghost use Rattle.machine.specs.Boot.{boot_object, born_process, new_thread, born_thread, born_queue, born_queues, is_of, has_any, born_threads, born_kernel, born, ready_from, held_count, nano_of, boot_of, boot};
 ghost use Rattle.machine.specs.Handles.{fresh_slot};
 ghost use Rattle.machine.specs.declared.state.Role.TheVariants as role;
 
-use crate::calls::calls_of;
 use crate::handles::FRESH_SLOT;
 use crate::{
     DeferredRows, Found, HandleSlot, NanoRows, Owed, RequestRows, Role, State, ThreadRow, Waiting,
 };
 use script_types::{QueueDecl, Script, ThreadDecl};
-use state_rows::{ObjectRow, STATUSES};
+use state_rows::{ObjectRow, STATUSES, calls_of};
 use std::alloc::Global;
 use sym_base::{Items, Kind, Limits, Name, NoMemory, ObjNo, ThreadNo, read_name};
 
@@ -109,21 +108,6 @@ fn push_queues(all: &mut Vec<Born>, queues: &[QueueDecl]) -> Result<(), NoMemory
     Ok(())
 }
 
-/// The kernel's own process, and the supervisor, its one thread.
-fn born_kernel(alloc: Global) -> Result<Vec<Born>, NoMemory>
-    ensures { IfOk result (λ all. all.items ≡ born_process (codes "kernel") ∷ record { object = boot_object Kind.Thread (codes "supervisor"); thread = Some (new_thread 0 role.Supervisor 48); works = false; held = false } ∷ []) }
-{
-    let mut all = Vec::new(alloc);
-    all.push(born_process(read_name(b"kernel").unwrap()))?;
-    all.push(Born {
-        object: boot_object(Kind::Thread, read_name(b"supervisor").unwrap()),
-        thread: Some(new_thread(KERNEL, Role::Supervisor, SUPERVISOR_PRIORITY)),
-        works: false,
-        held: false,
-    })?;
-    Ok(all)
-}
-
 /// Whether a declared thread is of the process at a place among the declared ones, or, with none, a kernel thread.
 fn is_of(process: Option<u8>, of: Option<u8>) -> bool
     ensures { result ≡ is_of process of }
@@ -155,15 +139,32 @@ fn push_threads(
     Ok(())
 }
 
-/// All that stands at boot, in order of object number: the kernel's process, its supervisor, the threads of queues and
-/// the kernel threads, and then each process with its threads behind it.
+/// The kernel's own process with its threads: the supervisor, the threads of queues, and the kernel threads.
+fn born_kernel(alloc: Global, script: &Script) -> Result<Vec<Born>, NoMemory>
+    requires { IsShaped script.now }
+    ensures ok { IfOk result (λ all. all.items ≡ born_kernel script.now) }
+    ensures few { IfOk result (λ all. vec_len all ≤ 128) }
+{
+    let mut all = Vec::new(alloc);
+    all.push(born_process(read_name(b"kernel").unwrap()))?;
+    all.push(Born {
+        object: boot_object(Kind::Thread, read_name(b"supervisor").unwrap()),
+        thread: Some(new_thread(KERNEL, Role::Supervisor, SUPERVISOR_PRIORITY)),
+        works: false,
+        held: false,
+    })?;
+    push_queues(&mut all, script.queues.as_slice())?;
+    push_threads(&mut all, None, KERNEL, script.threads.as_slice())?;
+    Ok(all)
+}
+
+/// All that stands at boot, in order of object number: the kernel's process with its threads, and then each process with
+/// its threads behind it.
 pub fn all_born(alloc: Global, script: &Script) -> Result<Items<Born>, NoMemory>
     requires { IsShaped script.now }
     ensures { IfOk result (λ all. all ≡ born script.now) }
 {
-    let mut all = born_kernel(alloc)?;
-    push_queues(&mut all, script.queues.as_slice())?;
-    push_threads(&mut all, None, KERNEL, script.threads.as_slice())?;
+    let mut all = born_kernel(alloc, script)?;
     for (j, process) in script.processes.as_slice().iter().enumerate() {
         let number = ObjNo(all.len() as u16);
         all.push(born_process(process.name))?;

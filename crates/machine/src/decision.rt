@@ -1,5 +1,6 @@
 //! What an action is going to do, and what it leaves beside the state.
 ghost use Rattle.std.specs.Prelude.{◌≡◌};
+ghost use Rattle.machine.specs.Decide.{nothing};
 ghost use Rattle.machine.specs.History.{entry_of};
 
 use crate::Moves;
@@ -12,6 +13,19 @@ pub struct Decision {
     pub step: Step,
     pub moves: Moves,
     pub answer: Option<i32>,
+}
+
+impl Decision {
+    /// The decision that nobody acts.
+    pub fn new() -> Self
+        ensures { result ≡ nothing }
+    {
+        Decision {
+            step: Step::Wait,
+            moves: Moves::new(),
+            answer: None,
+        }
+    }
 }
 
 /// What an action leaves beside the state: its step, its effects, and its answer.

@@ -81,7 +81,18 @@ pub fn next_handle(table: &[HandleSlot]) -> Option<NewHandle>
     ensures handle { result ≡ next_handle table.now }
     ensures positive { IfSome result (λ handle. handle.number < 2147483648) }
 {
-    let index = free_index(table);
+    handle_at(table, free_index(table))
+}
+
+/// The handle that a process's table gives next, whose least free index this is.
+pub fn handle_at(table: &[HandleSlot], index: usize) -> Option<NewHandle>
+    requires least { index ≡ free_index table.now }
+    requires inside { index ≤ length table.now }
+    requires size { length table.now ≤ 256 }
+    requires instance { (slot_at table.now (free_index table.now)).instance ≤ 16383 }
+    ensures handle { result ≡ next_handle table.now }
+    ensures positive { IfSome result (λ handle. handle.number < 2147483648) }
+{
     if index == table.len() {
         return None;
     }

@@ -3,7 +3,6 @@
 #![tactic(auto)]
 
 mod boot;
-mod calls;
 mod count;
 mod decision;
 mod deferred_move;
@@ -21,13 +20,12 @@ mod thread_rows;
 mod touches;
 
 pub use boot::{Born, all_born, boot_of, state_at_boot};
-pub use calls::{calls_of, declared_places};
 pub use count::{count_of, is_counted, is_last};
 pub use decision::{Decision, Outcome, entry_of};
 pub use deferred_move::DeferredMove;
 pub use duties::{drop_first_owed, owe_close, owe_use};
 pub use handles::{
-    FRESH_SLOT, NewHandle, free_index, holder_of, index_of, instance_of, next_handle,
+    FRESH_SLOT, NewHandle, free_index, handle_at, holder_of, index_of, instance_of, next_handle,
     next_instance, object_in, owner_of, slot_at,
 };
 pub use moves::{MAX_MOVES, Move, Moves};
@@ -38,7 +36,7 @@ pub use nano_rows::{
 };
 pub use plan::{Body, Plan};
 pub use request_move::RequestMove;
-pub use rows::{first_owed, object_of, row_of, set_row, set_slot, table_of, thread_of};
+pub use rows::{first_owed, object_of, row_of, set_row, set_slot, table_of, thread_in, thread_of};
 pub use state::{Found, HandleSlot, Role, State, ThreadRow, Waiting};
 pub use state_rows::{DeferredRows, NanoRows, Owed, RequestRows};
 pub use task::Task;

@@ -89,6 +89,13 @@ impl Moves {
         self.moves.as_slice()
     }
 
+    /// There is no move any more.
+    pub fn clear(&mut self)
+        ensures { self.new ≡ [] }
+    {
+        self.moves.clear();
+    }
+
     /// Adds a move at the end.
     pub fn push(&mut self, step: Move)
         requires { length self.old < 8 }

@@ -1,6 +1,6 @@
 //! Reading and changing lists of rows by number. A number without a row reads as none, and changing it
 //! changes nothing.
-ghost use Rattle.std.specs.Prelude.{◌≡◌, [], None, slice_set};
+ghost use Rattle.std.specs.Prelude.{◌≡◌, [], None, option_copied, slice_set};
 ghost use Rattle.std.specs.List.{slice_index_or};
 ghost use Rattle.machine.specs.Rows.{object_of, thread_of, table_of, owed_of, first_owed};
 
@@ -38,6 +38,18 @@ pub fn thread_of(state: &State, thread: ThreadNo) -> Option<ThreadRow>
     ensures { result ≡ thread_of state.now thread }
 {
     row_of(&state.threads, thread)
+}
+
+/// The thread of this number, where its row stands.
+pub fn thread_in(threads: &Items<Option<ThreadRow>>, thread: ThreadNo) -> Option<&ThreadRow>
+    ensures { option_copied result ≡ slice_index_or threads.now thread.0 None }
+{
+    let at = thread.0 as usize;
+    if at < threads.len() {
+        threads.as_slice()[at].as_ref()
+    } else {
+        None
+    }
 }
 
 /// The handle table of a process or a thread.

@@ -6,93 +6,94 @@ ghost use Rattle.machine.specs.Room.{MayAdvance};
 ghost use Rattle.machine.specs.Rows.{with_row};
 ghost use Rattle.machine.specs.declared.state.ThreadRow.{ThreadRow};
 
-use crate::rows::{row_of, set_row};
 use crate::{Found, ThreadRow, Waiting};
 use entry_log::{Holder, Part};
 use sym_base::{Items, ObjNo, ThreadNo};
 
-/// The row with another use.
-fn with_use(row: Option<ThreadRow>, uses: Option<ObjNo>) -> Option<ThreadRow>
-    ensures { result ≡ option_map (with_use uses) row }
+/// The row has another use.
+fn with_use(row: &mut Option<ThreadRow>, uses: Option<ObjNo>)
+    ensures { row.new ≡ option_map (with_use uses) row.old }
 {
-    let row = row?;
-    Some(ThreadRow { uses, ..row })
-}
-
-/// The row without its link.
-fn unlinked(row: Option<ThreadRow>) -> Option<ThreadRow>
-    ensures { result ≡ option_map unlinked row }
-{
-    let row = row?;
-    Some(ThreadRow { link: None, ..row })
-}
-
-/// The row with what it found.
-fn with_found(row: Option<ThreadRow>, object: ObjNo) -> Option<ThreadRow>
-    ensures { result ≡ option_map (with_found object) row }
-{
-    let row = row?;
-    Some(ThreadRow {
-        found: Found::Object(object),
-        ..row
-    })
-}
-
-/// The row with another next step.
-fn with_part(row: Option<ThreadRow>, part: Part) -> Option<ThreadRow>
-    ensures { result ≡ option_map (with_part part) row }
-{
-    let row = row?;
-    Some(ThreadRow {
-        part: Some(part),
-        ..row
-    })
-}
-
-/// The row with a value in a register.
-fn with_register(row: Option<ThreadRow>, register: u8, value: u32) -> Option<ThreadRow>
-    ensures { result ≡ option_map (with_register register value) row }
-{
-    let mut row = row?;
-    let at = register as usize;
-    if at < row.registers.len() {
-        row.registers[at] = value;
+    if let Some(row) = row {
+        row.uses = uses;
     }
-    Some(row)
 }
 
-/// The row at its next instruction.
-fn advanced(row: Option<ThreadRow>) -> Option<ThreadRow>
-    requires { (r : ThreadRow) → row ≡ Some r → r.next_instruction < 4294967295 }
-    ensures { result ≡ option_map advanced row }
+/// The row has no link any more.
+fn unlinked(row: &mut Option<ThreadRow>)
+    ensures { row.new ≡ option_map unlinked row.old }
 {
-    let row = row?;
-    Some(ThreadRow {
-        next_instruction: row.next_instruction + 1,
-        part: None,
-        found: Found::Nothing,
-        uses: None,
-        ..row
-    })
+    if let Some(row) = row {
+        row.link = None;
+    }
 }
 
-/// The row with what it waits for.
-fn with_waiting(row: Option<ThreadRow>, what: Waiting) -> Option<ThreadRow>
-    ensures { result ≡ option_map (with_waiting what) row }
+/// The row has what was found.
+fn with_found(row: &mut Option<ThreadRow>, object: ObjNo)
+    ensures { row.new ≡ option_map (with_found object) row.old }
 {
-    let row = row?;
-    Some(ThreadRow {
-        waiting: what,
-        ..row
-    })
+    if let Some(row) = row {
+        row.found = Found::Object(object);
+    }
 }
 
-/// The row with another priority.
-fn with_priority(row: Option<ThreadRow>, priority: u8) -> Option<ThreadRow>
-    ensures { result ≡ option_map (with_priority priority) row }
+/// The row has another next step.
+fn with_part(row: &mut Option<ThreadRow>, part: Part)
+    ensures { row.new ≡ option_map (with_part part) row.old }
 {
-    let row = row?;
-    Some(ThreadRow { priority, ..row })
+    if let Some(row) = row {
+        row.part = Some(part);
+    }
+}
+
+/// A register gets a value.
+fn set_register(registers: &mut [u32; 8], register: u8, value: u32)
+    ensures { registers.new ≡ slice_set registers.old register value }
+{
+    let at = register as usize;
+    if at < registers.len() {
+        registers[at] = value;
+    }
+}
+
+/// The row has a value in a register.
+fn with_register(row: &mut Option<ThreadRow>, register: u8, value: u32)
+    ensures { row.new ≡ option_map (with_register register value) row.old }
+{
+    if let Some(row) = row {
+        set_register(&mut row.registers, register, value);
+    }
+}
+
+/// The row is at its next instruction.
+fn advanced(row: &mut Option<ThreadRow>)
+    requires { (r : ThreadRow) → row.old ≡ Some r → r.next_instruction < 4294967295 }
+    ensures { row.new ≡ option_map advanced row.old }
+{
+    if let Some(row) = row {
+        row.next_instruction += 1;
+        row.part = None;
+        row.found = Found::Nothing;
+        row.uses = None;
+    }
+}
+
+/// The row has what the thread waits for.
+fn with_waiting(row: &mut Option<ThreadRow>, what: Waiting)
+    ensures { row.new ≡ option_map (with_waiting what) row.old }
+{
+    if let Some(row) = row {
+        row.waiting = what;
+    }
+}
+
+/// The row has another priority.
+fn with_priority(row: &mut Option<ThreadRow>, priority: u8)
+    ensures { row.new ≡ option_map (with_priority priority) row.old }
+{
+    if let Some(row) = row {
+        row.priority = priority;
+    }
 }
 
 /// A holder gets a reference: only a thread's temporary one stands in its row.
@@ -100,8 +101,10 @@ pub fn threads_gain(threads: &mut Items<Option<ThreadRow>>, holder: Holder, obje
     ensures { threads.new ≡ threads_gain holder object threads.old }
 {
     if let Holder::Temp(thread) = holder {
-        let row = with_use(row_of(threads, thread), Some(object));
-        set_row(threads, thread, row);
+        let at = thread.0 as usize;
+        if at < threads.len() {
+            with_use(threads.get_mut(at), Some(object));
+        }
     }
 }
 
@@ -110,8 +113,10 @@ pub fn threads_lose(threads: &mut Items<Option<ThreadRow>>, holder: Holder)
     ensures { threads.new ≡ threads_lose holder threads.old }
 {
     if let Holder::Temp(thread) = holder {
-        let row = with_use(row_of(threads, thread), None);
-        set_row(threads, thread, row);
+        let at = thread.0 as usize;
+        if at < threads.len() {
+            with_use(threads.get_mut(at), None);
+        }
     }
 }
 
@@ -120,8 +125,10 @@ pub fn threads_closed(threads: &mut Items<Option<ThreadRow>>, last: bool, object
     ensures { threads.new ≡ threads_closed last object threads.old }
 {
     if last {
-        let row = unlinked(row_of(threads, object));
-        set_row(threads, object, row);
+        let at = object.0 as usize;
+        if at < threads.len() {
+            unlinked(threads.get_mut(at));
+        }
     }
 }
 
@@ -129,16 +136,20 @@ pub fn threads_closed(threads: &mut Items<Option<ThreadRow>>, last: bool, object
 pub fn threads_find(threads: &mut Items<Option<ThreadRow>>, thread: ThreadNo, object: ObjNo)
     ensures { threads.new ≡ with_row threads.old thread (with_found object) }
 {
-    let row = with_found(row_of(threads, thread), object);
-    set_row(threads, thread, row);
+    let at = thread.0 as usize;
+    if at < threads.len() {
+        with_found(threads.get_mut(at), object);
+    }
 }
 
 /// The thread goes on to this step.
 pub fn threads_go_on(threads: &mut Items<Option<ThreadRow>>, thread: ThreadNo, part: Part)
     ensures { threads.new ≡ with_row threads.old thread (with_part part) }
 {
-    let row = with_part(row_of(threads, thread), part);
-    set_row(threads, thread, row);
+    let at = thread.0 as usize;
+    if at < threads.len() {
+        with_part(threads.get_mut(at), part);
+    }
 }
 
 /// The thread's register gets a value.
@@ -150,8 +161,10 @@ pub fn threads_write(
 )
     ensures { threads.new ≡ with_row threads.old thread (with_register register value) }
 {
-    let row = with_register(row_of(threads, thread), register, value);
-    set_row(threads, thread, row);
+    let at = thread.0 as usize;
+    if at < threads.len() {
+        with_register(threads.get_mut(at), register, value);
+    }
 }
 
 /// The thread goes on to its next instruction.
@@ -159,22 +172,28 @@ pub fn threads_advance(threads: &mut Items<Option<ThreadRow>>, thread: ThreadNo)
     requires { MayAdvance 1 threads.old }
     ensures { threads.new ≡ with_row threads.old thread advanced }
 {
-    let row = advanced(row_of(threads, thread));
-    set_row(threads, thread, row);
+    let at = thread.0 as usize;
+    if at < threads.len() {
+        advanced(threads.get_mut(at));
+    }
 }
 
 /// The thread waits for this.
 pub fn threads_wait(threads: &mut Items<Option<ThreadRow>>, thread: ThreadNo, what: Waiting)
     ensures { threads.new ≡ with_row threads.old thread (with_waiting what) }
 {
-    let row = with_waiting(row_of(threads, thread), what);
-    set_row(threads, thread, row);
+    let at = thread.0 as usize;
+    if at < threads.len() {
+        with_waiting(threads.get_mut(at), what);
+    }
 }
 
 /// The thread gets a priority.
 pub fn threads_set_priority(threads: &mut Items<Option<ThreadRow>>, thread: ThreadNo, priority: u8)
     ensures { threads.new ≡ with_row threads.old thread (with_priority priority) }
 {
-    let row = with_priority(row_of(threads, thread), priority);
-    set_row(threads, thread, row);
+    let at = thread.0 as usize;
+    if at < threads.len() {
+        with_priority(threads.get_mut(at), priority);
+    }
 }

@@ -9,7 +9,7 @@ use Rattle.state_rows.specs.declared.duty.Owed.TheVariants.{Close, Sweep}
 use Rattle.state_rows.specs.declared.object.ObjectRow.{ObjectRow}
 use Rattle.state_rows.specs.ObjectRows.{dead_row}
 use Rattle.machine.specs.declared.moves.Move.{Move}
-use Rattle.machine.specs.declared.moves.Move.TheVariants.{Make, Gain, Lose, Find, Miss, GoOn, Write, Advance, Wait, Wake, SetPriority, Nano, Pay}
+use Rattle.machine.specs.declared.moves.Move.TheVariants.{Make, Gain, Lose, Find, Miss, GoOn, Write, Advance, Wait, Wake, SetPriority, Nano, Deferred, Requests, Pay}
 use Rattle.machine.specs.declared.state.HandleSlot.{HandleSlot}
 use Rattle.machine.specs.declared.state.Waiting.TheVariants.{Nothing}
 use Rattle.machine.specs.declared.state.ThreadRow.{ThreadRow}
@@ -142,6 +142,8 @@ room_moved t (Wait u what) n S room = with_threads n S (moved t (Wait u what) S)
 room_moved t (Wake u) n S room = with_threads n S (moved t (Wake u) S) refl refl (row_goes (with_waiting Nothing) (λ row. omega arith) n S.threads u room.instructions) room
 room_moved t (SetPriority u priority) n S room = with_threads n S (moved t (SetPriority u priority) S) refl refl (row_goes (with_priority priority) (λ row. omega arith) n S.threads u room.instructions) room
 room_moved t (Nano m) n S room = with_threads n S (moved t (Nano m) S) refl refl (threads_less n (n + 1) (omega arith) S.threads room.instructions) room
+room_moved t (Deferred m) n S room = with_threads n S (moved t (Deferred m) S) refl refl (threads_less n (n + 1) (omega arith) S.threads room.instructions) room
+room_moved t (Requests m) n S room = with_threads n S (moved t (Requests m) S) refl refl (threads_less n (n + 1) (omega arith) S.threads room.instructions) room
 room_moved t (Pay (Close h o)) n S room = record {
   objects = let few = room.objects in let long = length_closed (is_last S o) o S.objects in omega arith;
   instructions = threads_unlinked (is_last S o) o n S.threads (threads_less n (n + 1) (omega arith) S.threads room.instructions);

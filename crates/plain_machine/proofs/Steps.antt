@@ -10,15 +10,22 @@ use Rattle.script_types.specs.Shape.{IsShaped}
 use Rattle.entry_log.specs.declared.entry.Actor.{Actor}
 use Rattle.entry_log.specs.declared.entry.Entry.{Entry}
 use Rattle.readings.specs.Readable.{AreSmallRows}
+use Rattle.machine.specs.declared.decision.Decision.{Decision}
 use Rattle.machine.specs.declared.decision.Outcome.{Outcome}
 use Rattle.machine.specs.declared.moves.Move.{Move}
 use Rattle.machine.specs.declared.moves.Move.TheVariants.{Pay}
 use Rattle.machine.specs.declared.state.HandleSlot.{HandleSlot}
 use Rattle.machine.specs.declared.state.Role.{Role}
-use Rattle.machine.specs.declared.state.Role.TheVariants.{Supervisor, Declared}
+use Rattle.machine.specs.declared.state.Role.TheVariants.{Supervisor, Queue, Declared}
 use Rattle.machine.specs.declared.state.State.{State}
 use Rattle.machine.specs.History.{transition, entry_of, IsNext, CanAct, after}
 use Rattle.plain_machine.specs.PlainView.{IsPlain}
+use Rattle.plain_machine.specs.Allowed.{TellsFew, AllowsAction}
+use Rattle.state_rows.specs.Deferred.{next_immediate}
+use Rattle.machine.specs.declared.plan.Body.TheVariants.{Interrupt}
+use Rattle.machine.specs.declared.plan.Plan.TheVariants.{Runs}
+use Rattle.machine.specs.Bodies.{decision_by}
+use Rattle.machine.specs.Interrupts.{immediate_plan, supervisor}
 use Rattle.machine.specs.Moves.{tell}
 use Rattle.machine.specs.Room.{HasRoom, IsSmallTable}
 use Rattle.machine.specs.Run.{slot_actor}
@@ -28,6 +35,8 @@ use Rattle.machine.specs.Task.{declared_of, instructions_in}
 use Rattle.machine.specs.Transition.{Transition, left}
 use Rattle.machine.specs.WellFormed.{AreRows, AreTables, IsWellFormed}
 use Rattle.machine.proofs.Fitting.Actions.{fits-action}
+use Rattle.machine.proofs.Fitting.Bodies.{Goes}
+use Rattle.machine.proofs.Fitting.Interrupts.{goes-immediate, goes-interrupt}
 use Rattle.machine.proofs.Numbers.FewEffects.{tell_few}
 use Rattle.machine.proofs.Reached.AfterHistory.{well_formed-after}
 use Rattle.machine.proofs.Reached.Histories.{after-push, legal-push, slot_can}
@@ -43,10 +52,11 @@ small_table tables are k = elim (cases_lt k (length tables)) [
 few_in : (script : Script) → IsShaped script → (role : Role) (declared : Option ThreadDecl) → declared_of script role ≡ declared → length (instructions_in declared) ≤ 16384
 few_in script shaped role None at = omega arith
 few_in script shaped Supervisor (Some declared) at = absurd (cc)
+few_in script shaped (Queue queue) (Some declared) at = absurd (cc)
 few_in script shaped (Declared k) (Some declared) at = (shaped.threads k declared at).size
 
 -- a well-formed state has room for an action
-room_of_rows : (script : Script) (S : State) → IsShaped script → AreRows script S → HasRoom 8 S
+room_of_rows : (script : Script) (S : State) → IsShaped script → AreRows script S → HasRoom 9 S
 room_of_rows script S shaped rows = record {
   objects = let few = rows.sized.objects_few in omega arith;
   instructions = λ k row is. let next = (rows.threads.rows k row is).next_instruction in let few = few_in script shaped row.role _ refl in omega arith;
@@ -60,24 +70,23 @@ small_of_rows script S rows = record {
   suspensions = rows.nano.rows.limited;
 }
 
--- an action of a thread tells four effects at most
-few_effects : (script : Script) (S : State) (t : ObjNo) → IsShaped script → AreRows script S → length (tell t (decision_of script S t).moves S) ≤ 4
-few_effects script S t shaped rows = elim (fits-action script S t shaped rows) as (λ _. length (tell t (decision_of script S t).moves S) ≤ 4) [
+-- an action of a thread tells four effects at most, and so does what is done without one
+few_effects : (script : Script) (S : State) (t : ObjNo) → IsShaped script → AreRows script S → TellsFew t S (decision_of script S t)
+few_effects script S t shaped rows = elim (fits-action script S t shaped rows) as (λ _. TellsFew t S (decision_of script S t)) [
   | inl fits ↦ fits.told
   | inr pays ↦ subst (λ (ms : List Move). length (tell t ms S) ≤ 4) (sym pays.moves) (let few = tell_few t (Pay pays.what ∷ []) S in omega arith)
 ]
 
--- what an action needs of a well-formed state
-pub record AllowsAction (script : Script) (S : State) : Type 0 where
-  pub room : HasRoom 8 S
-  pub small : AreSmallRows S.nano
-  pub few : (t : ObjNo) → length (tell t (decision_of script S t).moves S) ≤ 4
+few_told : (script : Script) (S : State) (d : Decision) → Goes script supervisor S d.moves → TellsFew supervisor S d
+few_told script S d goes = let few = tell_few supervisor d.moves S in let most = goes.told in omega arith
 
 pub allows_action : (script : Script) (S : State) → IsShaped script → AreRows script S → AllowsAction script S
 allows_action script S shaped rows = record {
   room = room_of_rows script S shaped rows;
   small = small_of_rows script S rows;
-  few = λ t. few_effects script S t shaped rows;
+  threads = λ t. few_effects script S t shaped rows;
+  immediate = let found = next_immediate S.deferred in few_told script S (decision_by script supervisor S (immediate_plan script S found)) (goes-immediate script S found shaped rows refl);
+  interrupts = λ k. few_told script S (decision_by script supervisor S (Runs (Interrupt k))) (goes-interrupt script S k shaped rows);
 }
 
 -- the machine goes on by what an actor does that may act

@@ -1,2 +1,4 @@
+pub mod Allowed
+pub mod Courses
 pub mod KernelThreadScripts
 pub mod PlainView

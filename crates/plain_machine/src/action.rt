@@ -1,56 +1,23 @@
 //! Actions, made on the plain machine's lists move by move.
-ghost use Rattle.std.specs.Prelude.{◌≡◌, ◌+◌, ◌*◌, ◌≤◌, ◌++◌, length, IfOk, OnOk};
+ghost use Rattle.std.specs.Prelude.{◌≡◌, ◌+◌, ◌*◌, ◌≤◌, length, IfOk, OnOk};
 ghost use Rattle.script_types.specs.Shape.{IsShaped};
 ghost use Rattle.readings.specs.Readable.{AreSmallRows};
-ghost use Rattle.machine.specs.Arrivals.{arrivals, ready_after};
-ghost use Rattle.machine.specs.Bodies.{ops_moves, ops_of, run_body, decision_by};
+ghost use Rattle.decisions.specs.Planned.{planned};
+ghost use Rattle.machine.specs.Bodies.{ops_moves, run_body, decision_by};
 ghost use Rattle.machine.specs.Moves.{perform, tell};
 ghost use Rattle.machine.specs.Room.{HasRoom};
 ghost use Rattle.machine.specs.Transition.{carried_out, left};
+ghost use Rattle.plain_machine.specs.Allowed.{TellsFew};
+ghost use Rattle.plain_machine.specs.Courses.{course_after};
 
-use crate::arrivals::{arrive_touched, still_ready, take_out};
+use crate::arrivals::{arrive_touched, take_out};
+use crate::course::Course;
 use crate::perform::make_move;
-use decisions::{add_effects, leave_queue, op_moves, ops_of, step_of_body, told};
-use entry_log::{Effects, Step};
-use machine::{Body, Decision, Move, Outcome, Plan, State, touched};
+use decisions::{leave_queue, op_moves, ops_of, step_of_body, tell};
+use machine::{Body, Decision, Move, Moves, Outcome, State, touched};
 use script_types::{Op, Script};
 use std::alloc::Global;
-use sym_base::{Items, NoMemory, ThreadNo};
-
-/// An action under way: what was told so far, and the ready list so far.
-#[derive(Drop)]
-struct Course {
-    effects: Effects,
-    ready: Items<ThreadNo>,
-}
-
-impl Course {
-    /// Nothing is told yet.
-    fn start(alloc: Global, state: &State) -> Result<Course, NoMemory> {
-        Ok(Course {
-            effects: Effects::new(),
-            ready: state.ready.copied(alloc)?,
-        })
-    }
-
-    /// The action is over: those that aren't ready leave the ready list, which is the state's from now on.
-    fn end(
-        self,
-        alloc: Global,
-        script: &Script,
-        state: &mut State,
-        step: Step,
-        answer: Option<i32>,
-    ) -> Result<Outcome, NoMemory> {
-        let Course { effects, ready } = self;
-        state.ready = still_ready(alloc, script, state, ready.as_slice())?;
-        Ok(Outcome {
-            step,
-            effects,
-            answer,
-        })
-    }
-}
+use sym_base::{NoMemory, ThreadNo};
 
 /// Moves in an action of a thread, one after the other.
 fn make_moves(
@@ -60,10 +27,15 @@ fn make_moves(
     thread: ThreadNo,
     moves: &[Move],
     course: &mut Course,
-) -> Result<(), NoMemory> {
+) -> Result<(), NoMemory>
+    requires room { HasRoom (length moves.now) state.old }
+    requires small { AreSmallRows state.old.nano }
+    requires few { length course.old.effects + length (tell thread moves.now state.old) ≤ 4 }
+    ensures state { OnOk result (state.new ≡ perform thread moves.now state.old) }
+    ensures course { OnOk result (course.new ≡ course_after script.now thread moves.now state.old course.old) }
+{
     for change in moves {
-        let more = told(state, *change);
-        add_effects(&mut course.effects, more.as_slice());
+        tell(&mut course.effects, state, *change);
         make_move(alloc, state, thread, *change)?;
         take_out(alloc, *change, &mut course.ready)?;
         arrive_touched(script, state, touched(thread, *change), &mut course.ready)?;
@@ -79,24 +51,39 @@ fn run_operations(
     thread: ThreadNo,
     ops: &[Op],
     course: &mut Course,
-) -> Result<(), NoMemory> {
+) -> Result<(), NoMemory>
+    requires shaped { IsShaped script.now }
+    requires room { HasRoom (2 * length ops.now) state.old }
+    requires small { AreSmallRows state.old.nano }
+    requires few { length course.old.effects + length (tell thread (ops_moves script.now thread state.old ops.now) state.old) ≤ 4 }
+    ensures state { OnOk result (state.new ≡ perform thread (ops_moves script.now thread state.old ops.now) state.old) }
+    ensures course { OnOk result (course.new ≡ course_after script.now thread (ops_moves script.now thread state.old ops.now) state.old course.old) }
+{
+    let mut moves = Moves::new();
     for op in ops {
-        let moves = op_moves(script, state, op);
+        op_moves(&mut moves, script, state, op);
         make_moves(alloc, script, state, thread, moves.as_slice(), course)?;
     }
     Ok(())
 }
 
 /// A body runs, behind the leave of its call's queue.
-fn run_body(
+pub fn run_body(
     alloc: Global,
     script: &Script,
     state: &mut State,
     thread: ThreadNo,
     body: Body,
-) -> Result<Outcome, NoMemory> {
+) -> Result<Outcome, NoMemory>
+    requires shaped { IsShaped script.now }
+    requires room { HasRoom 9 state.old }
+    requires small { AreSmallRows state.old.nano }
+    requires few { TellsFew thread state.old (run_body script.now thread state.old body) }
+    ensures { IfOk result (λ outcome. left state.new outcome ≡ carried_out script.now thread state.old (run_body script.now thread state.old body)) }
+{
     let mut course = Course::start(alloc, state)?;
-    let leave = leave_queue(state, body);
+    let mut leave = Moves::new();
+    leave_queue(&mut leave, state, body);
     make_moves(alloc, script, state, thread, leave.as_slice(), &mut course)?;
     run_operations(
         alloc,
@@ -116,7 +103,12 @@ fn carry_out(
     state: &mut State,
     thread: ThreadNo,
     decision: Decision,
-) -> Result<Outcome, NoMemory> {
+) -> Result<Outcome, NoMemory>
+    requires room { HasRoom 9 state.old }
+    requires small { AreSmallRows state.old.nano }
+    requires few { TellsFew thread state.old decision }
+    ensures { IfOk result (λ outcome. left state.new outcome ≡ carried_out script.now thread state.old decision) }
+{
     let Decision {
         step,
         moves,
@@ -127,16 +119,23 @@ fn carry_out(
     course.end(alloc, script, state, step, answer)
 }
 
-/// The action of a thread that was planned.
-pub fn carry_out_plan(
+/// What was decided for a thread, or a body, where there is one.
+pub fn follow(
     alloc: Global,
     script: &Script,
     state: &mut State,
     thread: ThreadNo,
-    plan: Plan,
-) -> Result<Outcome, NoMemory> {
-    match plan {
-        Plan::Decided(decision) => carry_out(alloc, script, state, thread, decision),
-        Plan::Runs(body) => run_body(alloc, script, state, thread, body),
+    decision: Decision,
+    body: Option<Body>,
+) -> Result<Outcome, NoMemory>
+    requires shaped { IsShaped script.now }
+    requires room { HasRoom 9 state.old }
+    requires small { AreSmallRows state.old.nano }
+    requires few { TellsFew thread state.old (decision_by script.now thread state.old (planned decision body)) }
+    ensures { IfOk result (λ outcome. left state.new outcome ≡ carried_out script.now thread state.old (decision_by script.now thread state.old (planned decision body))) }
+{
+    match body {
+        None => carry_out(alloc, script, state, thread, decision),
+        Some(body) => run_body(alloc, script, state, thread, body),
     }
 }

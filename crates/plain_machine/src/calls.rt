@@ -6,6 +6,7 @@ ghost use Rattle.state_rows.specs.DeferredChanges.{after_add_idfc, after_add_fro
 
 use decisions::Reads;
 use machine::{DeferredMove, State};
+use readings::is_queued;
 use state_rows::Item;
 use std::alloc::Global;
 use sym_base::{Items, NoMemory};
@@ -14,7 +15,7 @@ use sym_base::{Items, NoMemory};
 fn add_immediate(state: &mut State, item: u8) -> Result<(), NoMemory>
     ensures { OnOk result (state.new ≡ record state.old { deferred = after_add_idfc state.old.deferred item }) }
 {
-    if !state.is_queued(Item::Idfc(item)) {
+    if !is_queued(&state.deferred, Item::Idfc(item)) {
         state.deferred.immediate.push(Item::Idfc(item))?;
     }
     Ok(())
@@ -24,7 +25,7 @@ fn add_immediate(state: &mut State, item: u8) -> Result<(), NoMemory>
 fn add_to_move(state: &mut State, dfc: u8) -> Result<(), NoMemory>
     ensures { OnOk result (state.new ≡ record state.old { deferred = after_add_from_irq state.old.deferred dfc }) }
 {
-    if !state.is_queued(Item::Move(dfc)) {
+    if !is_queued(&state.deferred, Item::Move(dfc)) {
         state.deferred.immediate.push(Item::Move(dfc))?;
     }
     Ok(())
@@ -46,7 +47,7 @@ fn push_call(queues: &mut Items<Items<u8>>, queue: u8, dfc: u8) -> Result<(), No
 fn add(state: &mut State, dfc: u8) -> Result<(), NoMemory>
     ensures { OnOk result (state.new ≡ record state.old { deferred = after_add state.old.deferred dfc }) }
 {
-    if !state.is_queued(Item::Move(dfc)) {
+    if !is_queued(&state.deferred, Item::Move(dfc)) {
         let queue = state.queue_of(dfc);
         push_call(&mut state.deferred.queues, queue, dfc)?;
     }

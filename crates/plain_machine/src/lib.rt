@@ -5,6 +5,7 @@ mod action;
 mod arrivals;
 mod calls;
 mod choice;
+mod course;
 mod final_rows;
 mod nano;
 mod perform;

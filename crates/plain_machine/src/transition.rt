@@ -1,20 +1,16 @@
-//! Actions on the plain machine's lists.
-ghost use Rattle.std.specs.Prelude.{◌≡◌, ◌≤◌, length, IfOk, List};
+//! Actions of actors on the plain machine's lists.
+ghost use Rattle.std.specs.Prelude.{◌≡◌, IfOk};
 ghost use Rattle.script_types.specs.Shape.{IsShaped};
-ghost use Rattle.readings.specs.Readable.{AreSmallRows};
 ghost use Rattle.machine.specs.History.{transition};
-ghost use Rattle.machine.specs.Moves.{perform, tell};
-ghost use Rattle.machine.specs.Arrivals.{ready_after};
-ghost use Rattle.machine.specs.Room.{HasRoom};
-ghost use Rattle.machine.specs.Steps.{decision_of};
-ghost use Rattle.sym_base.specs.declared.number.ObjNo.{ObjNo};
-ghost use Rattle.machine.specs.Transition.{idle, act, carried_out, left};
+ghost use Rattle.machine.specs.Interrupts.{immediate, interrupt};
+ghost use Rattle.machine.specs.Transition.{idle, act, left};
+ghost use Rattle.plain_machine.specs.Allowed.{AllowsAction};
 
-use crate::action::carry_out_plan;
+use crate::action::{follow, run_body};
 use crate::tick::tick;
-use decisions::{immediate_plan, plan_of};
+use decisions::{immediate_action, next_action};
 use entry_log::{Actor, Effects, Step};
-use machine::{Body, Outcome, Plan, State};
+use machine::{Body, Decision, Outcome, State};
 use script_types::Script;
 use std::alloc::Global;
 use sym_base::{NoMemory, ObjNo, ThreadNo};
@@ -40,16 +36,26 @@ fn act(
     script: &Script,
     state: &mut State,
     thread: ThreadNo,
-) -> Result<Outcome, NoMemory> {
-    let plan = plan_of(script, state, thread);
-    carry_out_plan(alloc, script, state, thread, plan)
+) -> Result<Outcome, NoMemory>
+    requires shaped { IsShaped script.now }
+    requires allowed { AllowsAction script.now state.old }
+    ensures { IfOk result (λ outcome. left state.new outcome ≡ act script.now state.old thread) }
+{
+    let mut decision = Decision::new();
+    let body = next_action(&mut decision, script, state, thread);
+    follow(alloc, script, state, thread, decision, body)
 }
 
 /// The oldest item of the immediate queue.
 #[tactic(auto, unfolding(machine::specs::Interrupts::immediate))]
-fn immediate(alloc: Global, script: &Script, state: &mut State) -> Result<Outcome, NoMemory> {
-    let plan = immediate_plan(script, state);
-    carry_out_plan(alloc, script, state, SUPERVISOR, plan)
+fn immediate(alloc: Global, script: &Script, state: &mut State) -> Result<Outcome, NoMemory>
+    requires shaped { IsShaped script.now }
+    requires allowed { AllowsAction script.now state.old }
+    ensures { IfOk result (λ outcome. left state.new outcome ≡ immediate script.now state.old) }
+{
+    let mut decision = Decision::new();
+    let body = immediate_action(&mut decision, script, state);
+    follow(alloc, script, state, SUPERVISOR, decision, body)
 }
 
 /// An interrupt.
@@ -59,9 +65,12 @@ fn interrupt(
     script: &Script,
     state: &mut State,
     number: u8,
-) -> Result<Outcome, NoMemory> {
-    let plan = Plan::Runs(Body::Interrupt(number));
-    carry_out_plan(alloc, script, state, SUPERVISOR, plan)
+) -> Result<Outcome, NoMemory>
+    requires shaped { IsShaped script.now }
+    requires allowed { AllowsAction script.now state.old }
+    ensures { IfOk result (λ outcome. left state.new outcome ≡ interrupt script.now state.old number) }
+{
+    run_body(alloc, script, state, SUPERVISOR, Body::Interrupt(number))
 }
 
 /// An action of an actor.
@@ -70,7 +79,11 @@ pub fn transition(
     script: &Script,
     state: &mut State,
     actor: Actor,
-) -> Result<Outcome, NoMemory> {
+) -> Result<Outcome, NoMemory>
+    requires shaped { IsShaped script.now }
+    requires allowed { AllowsAction script.now state.old }
+    ensures { IfOk result (λ outcome. left state.new outcome ≡ transition script.now state.old actor) }
+{
     match actor {
         Actor::Thread(thread) => act(alloc, script, state, thread),
         Actor::Irq(number) => interrupt(alloc, script, state, number),

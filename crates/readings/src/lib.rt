@@ -1,4 +1,4 @@
-//! What decisions read of a state, and what a thread does next: for the plain machine and for the kernel.
+//! What decisions read of a state, and who is ready and able to act: for the plain machine and for the kernel.
 #![tactic(auto)]
 
 mod plain_calls;
@@ -7,5 +7,6 @@ mod plain_requests;
 mod reads;
 mod task;
 
+pub use plain_calls::is_queued;
 pub use reads::Reads;
-pub use task::{is_able, is_ready, task_of, wanted_holder};
+pub use task::{instruction, is_able, is_ready, is_returning, next_call, wanted_holder};

@@ -10,7 +10,7 @@ use crate::plain_requests::{request_at, request_signals, value_of};
 use machine::{
     HandleSlot, NewHandle, Owed, State, ThreadRow, critical_count, first_owed, held_place,
     is_counted, is_last, is_protected, mutex_holder, next_handle, object_of, signal_count, slot_at,
-    suspend_count, table_of, thread_of, wanted_mutex,
+    suspend_count, table_of, thread_in, wanted_mutex,
 };
 use state_rows::{Item, ObjectRow, Request, has_name, is_dead_row, is_session};
 use sym_base::{Kind, Name, ObjNo, ThreadNo};
@@ -69,8 +69,8 @@ impl Reads for State {
         object_of(self, object)
     }
 
-    fn thread(&self, thread: ThreadNo) -> Option<ThreadRow> {
-        thread_of(self, thread)
+    fn thread(&self, thread: ThreadNo) -> Option<&ThreadRow> {
+        thread_in(&self.threads, thread)
     }
 
     fn first_owed(&self, thread: ThreadNo) -> Option<Owed> {

@@ -1,6 +1,6 @@
 //! What decisions read of a state. The plain machine keeps it as lists and the kernel as tables of its own,
 //! and both decide by the same functions.
-ghost use Rattle.std.specs.Prelude.{◌≡◌, ◌<◌, ◌≤◌, length, IfSome, is_some};
+ghost use Rattle.std.specs.Prelude.{◌≡◌, ◌<◌, ◌≤◌, length, IfSome, is_some, option_copied};
 ghost use Rattle.machine.specs.Find.{find_object};
 ghost use Rattle.machine.specs.Handles.{slot_at, next_handle};
 ghost use Rattle.machine.specs.References.{is_last};
@@ -31,8 +31,8 @@ pub trait Reads {
         ensures { result ≡ object_of (state self.now) object };
 
     /// The thread of this number.
-    fn thread(&self, thread: ThreadNo) -> Option<ThreadRow>
-        ensures { result ≡ thread_of (state self.now) thread };
+    fn thread(&self, thread: ThreadNo) -> Option<&ThreadRow>
+        ensures { option_copied result ≡ thread_of (state self.now) thread };
 
     /// The oldest of what a thread owes.
     fn first_owed(&self, thread: ThreadNo) -> Option<Owed>

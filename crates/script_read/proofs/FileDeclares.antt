@@ -26,7 +26,7 @@ and_over true true false = refl
 and_over true false false = refl
 and_over false b c = refl
 
-and_false : (a : Bool) → (a && false) ≡ false
+pub and_false : (a : Bool) → (a && false) ≡ false
 and_false true = refl
 and_false false = refl
 

@@ -1,8 +1,13 @@
 -- What the lines of a text declare, line by line.
 use Rattle.std.proofs.Common.{◌≡◌, ℕ, Bool, true, false, List, [], ◌∷◌, ◌++◌, append_assoc, length, refl, sym, subst, ap, ◌∙◌, arith, Option, Some, None}
 use Rattle.std.proofs.lemmas.List.{append-nil}
-use Rattle.std.specs.Prelude.{if◌then◌else◌}
-use Rattle.script_read.specs.Knows.{Knows, declared_by}
+use Rattle.std.specs.BTreeSet.{contains}
+use Rattle.std.specs.Ordering.{nat_cmp}
+use Rattle.std.specs.Prelude.{if◌then◌else◌, ◌||◌, ◌&&◌, not, codes}
+use Rattle.std.specs.Str.{bytes_eq}
+use Rattle.script_read.specs.Knows.{Knows, declared_by, has_name}
+use Rattle.script_read.proofs.FileDeclares.{and_false, knows_more}
+use Rattle.script_read.proofs.NameSets.{or_none}
 use Rattle.script_read.specs.declared.declarations.Declarations.{Declarations}
 use Rattle.script_words.proofs.Steps.{some_is}
 use Rattle.script_types.specs.Names.{Declared, first_two, file_declares}
@@ -15,11 +20,45 @@ line_by line true found e h = (λ none. rw e refl, λ two some. absurd (cc))
 line_by line false found e h =
     (λ none. absurd (cc), λ two some. let same : first_two (words_of line) ≡ two = some_is (first_two (words_of line)) two (sym h ∙ some) in rw (e, same) refl)
 
-pub line_none : (line : List ℕ) → None ≡ declared_by (words_of line) → file_declares (line ∷ []) ≡ []
-line_none line h = (line_by line (is_skipped (words_of line)) None refl h).0 refl
+line_none : (line : List ℕ) → declared_by (words_of line) ≡ None → file_declares (line ∷ []) ≡ []
+line_none line h = (line_by line (is_skipped (words_of line)) None refl (sym h)).0 refl
 
-pub line_some : (line : List ℕ) (two : Declared) → Some two ≡ declared_by (words_of line) → file_declares (line ∷ []) ≡ two ∷ []
-line_some line two h = (line_by line (is_skipped (words_of line)) (Some two) refl h).1 two refl
+line_some : (line : List ℕ) (two : Declared) → declared_by (words_of line) ≡ Some two → file_declares (line ∷ []) ≡ two ∷ []
+line_some line two h = (line_by line (is_skipped (words_of line)) (Some two) refl (sym h)).1 two refl
+
+-- a skipped line
+pub added_none : (d : Declarations) (line : List ℕ) → declared_by (words_of line) ≡ None → (file : List Declared) → Knows d file → Knows d (file ++ file_declares (line ∷ []))
+added_none d line h file knows = subst (λ (f : List Declared). Knows d f) (sym (ap (λ (more : List Declared). file ++ more) (line_none line h) ∙ append-nil file)) knows
+
+-- a line whose first word declares nothing
+none_of_all : (t k q d i r s : Bool) → (t || k || q || d || i || r || s) ≡ false → ((t || k || q) ≡ false) × (q ≡ false) × (d ≡ false) × (i ≡ false) × (r ≡ false) × (s ≡ false)
+none_of_all false false false false false false false h = (refl, refl, refl, refl, refl, refl)
+none_of_all _ _ _ _ _ _ _ h = absurd (cc)
+
+two_begin : (first : List ℕ) (words : List (List ℕ)) → (first_two (first ∷ words)).0 ≡ first
+two_begin first [] = refl
+two_begin first (second ∷ words) = refl
+
+pub added_nothing : (d : Declarations) (line first rest : List ℕ) → declared_by (words_of line) ≡ Some (first_two (first ∷ words_of rest))
+    → (bytes_eq first (codes "thread") || bytes_eq first (codes "kthread") || bytes_eq first (codes "dfcq") || bytes_eq first (codes "dfc") || bytes_eq first (codes "idfc") || bytes_eq first (codes "irq") || bytes_eq first (codes "schedule")) ≡ false
+    → (file : List Declared) → Knows d file → Knows d (file ++ file_declares (line ∷ []))
+added_nothing d line first rest told none file knows =
+    let two : Declared = first_two (first ∷ words_of rest) in
+    let n = none_of_all (bytes_eq first (codes "thread")) (bytes_eq first (codes "kthread")) (bytes_eq first (codes "dfcq")) (bytes_eq first (codes "dfc")) (bytes_eq first (codes "idfc")) (bytes_eq first (codes "irq")) (bytes_eq first (codes "schedule")) none in
+    let irq : false ≡ (not d.scheduled && bytes_eq first (codes "irq")) = rw n.4 (sym (and_false (not d.scheduled))) in
+    let schedule : d.scheduled ≡ (d.scheduled || bytes_eq first (codes "schedule")) = rw n.5 (or_none d.scheduled) in
+    let more : Knows d (file ++ (first, two.1) ∷ []) =
+    knows_more d d first two.1 false false false false false
+    (sym n.0) (λ name. or_none (has_name d.threads name)) (sym n.1) (λ name. or_none (has_name d.queues name)) (sym n.2) (λ name. or_none (has_name d.dfcs name)) (sym n.3) (λ name. or_none (has_name d.idfcs name))
+    irq (λ k small. or_none (contains nat_cmp d.irqs k)) schedule file knows in
+    let same : file_declares (line ∷ []) ≡ (first, two.1) ∷ [] = line_some line two told ∙ ap (λ (f : List ℕ). (f, two.1) ∷ []) (two_begin first (words_of rest)) in
+    subst (λ (more : List Declared). Knows d (file ++ more)) (sym same) more
+
+-- a line whose first two words are told
+pub added_two : (old new : Declarations) (line first rest second : List ℕ) → declared_by (words_of line) ≡ Some (first_two (first ∷ words_of rest)) → ((f : List ℕ) → first_two (f ∷ words_of rest) ≡ (f, second))
+    → ((file : List Declared) → Knows old file → Knows new (file ++ (first, second) ∷ [])) → (file : List Declared) → Knows old file → Knows new (file ++ file_declares (line ∷ []))
+added_two old new line first rest second told is added file knows =
+    subst (λ (more : List Declared). Knows new (file ++ more)) (sym (line_some line (first_two (first ∷ words_of rest)) told ∙ ap (λ (two : Declared). two ∷ []) (is first))) (added file knows)
 
 -- the first line, and the lines behind it
 front_by : (line : List ℕ) (lines : List (List ℕ)) (test : Bool) → is_skipped (words_of line) ≡ test → file_declares (line ∷ lines) ≡ file_declares (line ∷ []) ++ file_declares lines

@@ -36,22 +36,27 @@ keyword_takes : (word : List ℕ) (k : Keyword) → keyword_of word ≡ Some k �
 unfolding keyword_of
 keyword_takes word k h = let f = find_is (λ (k : Keyword). bytes_eq word (keyword_text k)) keywords k h in same_bytes word (keyword_text k) f.passes
 
--- a line without reasons has none of them, and a line that has none of them has no reason
-none_of : (file : List Declared) (c : Context) (text : List ℕ) → HasNone reasons file c text → (why : Reason) → has why file c text ≡ false
-none_of file c text none reason.Byte = none.0
-none_of file c text none reason.Long = none.1.0
-none_of file c text none reason.Word = none.1.1.0
-none_of file c text none reason.Order = none.1.1.1.0
-none_of file c text none reason.Count = none.1.1.1.1.0
-none_of file c text none reason.Form = none.1.1.1.1.1.0
-none_of file c text none reason.Range = none.1.1.1.1.1.1.0
-none_of file c text none reason.Kind = none.1.1.1.1.1.1.1.0
-none_of file c text none reason.Twice = none.1.1.1.1.1.1.1.1.0
-none_of file c text none reason.Unknown = none.1.1.1.1.1.1.1.1.1.0
-none_of file c text none reason.Limit = none.1.1.1.1.1.1.1.1.1.1.0
-none_of file c text none reason.End = none.1.1.1.1.1.1.1.1.1.1.1.0
-none_of file c text none reason.Unbuilt = none.1.1.1.1.1.1.1.1.1.1.1.1.0
+-- a line has none of the reasons, each by its name
+record HasNoReason (file : List Declared) (c : Context) (text : List ℕ) : Type 0 where
+  byte : has reason.Byte file c text ≡ false
+  long : has reason.Long file c text ≡ false
+  word : has reason.Word file c text ≡ false
+  order : has reason.Order file c text ≡ false
+  count : has reason.Count file c text ≡ false
+  form : has reason.Form file c text ≡ false
+  range : has reason.Range file c text ≡ false
+  kind : has reason.Kind file c text ≡ false
+  twice : has reason.Twice file c text ≡ false
+  unknown : has reason.Unknown file c text ≡ false
+  limit : has reason.Limit file c text ≡ false
+  end : has reason.End file c text ≡ false
+  unbuilt : has reason.Unbuilt file c text ≡ false
 
+named : (file : List Declared) (c : Context) (text : List ℕ) → HasNone reasons file c text → HasNoReason file c text
+named file c text (byte, (long, (word, (order, (count, (form, (range, (kind, (twice, (unknown, (limit, (end, (unbuilt, others))))))))))))) =
+    record { byte = byte; long = long; word = word; order = order; count = count; form = form; range = range; kind = kind; twice = twice; unknown = unknown; limit = limit; end = end; unbuilt = unbuilt }
+
+-- a line of which no reason holds has none of them
 none_by : (others : List Reason) (file : List Declared) (c : Context) (text : List ℕ) → ((why : Reason) → has why file c text ≡ false) → HasNone others file c text
 none_by [] file c text none = tt
 none_by (why ∷ others) file c text none = (none why, none_by others file c text none)
@@ -74,15 +79,16 @@ line_by file c text k told e none =
     let s : Bool = is_scheduled c in
     let words : List (List ℕ) = words_of text in
     let l : SourceLine = line_at s k words in
-    let order : is_in_order c (keyword_kind s k) ≡ true = not_not (is_in_order c (keyword_kind s k)) (rw (told, e) at (none_of file c text none reason.Order)) in
-    let count : is_counted s k words ≡ true = not_not (is_counted s k words) (rw (told, e) at (none_of file c text none reason.Count)) in
-    let forms : have_forms s k words ≡ true = not_not (have_forms s k words) (rw (told, e) at (none_of file c text none reason.Form)) in
-    let ranges : are_in_range s k words ≡ true = not_not (are_in_range s k words) (rw (told, e) at (none_of file c text none reason.Range)) in
-    let right : is_right_kind c l ≡ true = not_not (is_right_kind c l) (rw (told, e) at (none_of file c text none reason.Kind)) in
-    let new : is_new c l ≡ true = not_not (is_new c l) (rw (told, e) at (none_of file c text none reason.Twice)) in
-    let known : is_known file c l ≡ true = not_not (is_known file c l) (rw (told, e) at (none_of file c text none reason.Unknown)) in
-    let within : is_within c l ≡ true = not_not (is_within c l) (rw (told, e) at (none_of file c text none reason.Limit)) in
-    let built : is_built_line l ≡ true = not_not (is_built_line l) (rw (told, e) at (none_of file c text none reason.Unbuilt)) in
+    let no = named file c text none in
+    let order : is_in_order c (keyword_kind s k) ≡ true = not_not (is_in_order c (keyword_kind s k)) (rw (told, e) at no.order) in
+    let count : is_counted s k words ≡ true = not_not (is_counted s k words) (rw (told, e) at no.count) in
+    let forms : have_forms s k words ≡ true = not_not (have_forms s k words) (rw (told, e) at no.form) in
+    let ranges : are_in_range s k words ≡ true = not_not (are_in_range s k words) (rw (told, e) at no.range) in
+    let right : is_right_kind c l ≡ true = not_not (is_right_kind c l) (rw (told, e) at no.kind) in
+    let new : is_new c l ≡ true = not_not (is_new c l) (rw (told, e) at no.twice) in
+    let known : is_known file c l ≡ true = not_not (is_known file c l) (rw (told, e) at no.unknown) in
+    let within : is_within c l ≡ true = not_not (is_within c l) (rw (told, e) at no.limit) in
+    let built : is_built_line l ≡ true = not_not (is_built_line l) (rw (told, e) at no.unbuilt) in
     let t = takes s k words count (keyword_takes (word_at words 0) k e) forms ranges in
     record {
       line = l;
@@ -94,12 +100,12 @@ line_by file c text k told e none =
 
 line_of_text : (file : List Declared) (c : Context) (text : List ℕ) (found : Option Keyword) → keyword_in (words_of text) ≡ found → is_skipped (words_of text) ≡ false → HasNone reasons file c text → IsLine file c text
 line_of_text file c text None e told none =
-    let bad : true ≡ false = rw (told, e) at (none_of file c text none reason.Word) in
+    let bad : true ≡ false = rw (told, e) at (named file c text none).word in
     absurd (cc)
 line_of_text file c text (Some k) e told none = line_by file c text k told e none
 
 clean_text : (file : List Declared) (c : Context) (text : List ℕ) → HasNone reasons file c text → IsClean text
-clean_text file c text none = record { printed = not_not (is_printed text) (none_of file c text none reason.Byte); short = not_not (is_short text) (none_of file c text none reason.Long) }
+clean_text file c text none = record { printed = not_not (is_printed text) (named file c text none).byte; short = not_not (is_short text) (named file c text none).long }
 
 -- the lines of texts
 record HasLines (file : List Declared) (c : Context) (texts : List (List ℕ)) (made : Context) : Type 0 where
@@ -195,23 +201,32 @@ record IsGood (file : List Declared) (c : Context) (text : List ℕ) (l : Source
   none : HasNone reasons file c text
   makes : after_text c text ≡ after c l
 
-good_has : (file : List Declared) (c : Context) (text : List ℕ) (k : Keyword) → IsClean text → is_skipped (words_of text) ≡ false → keyword_in (words_of text) ≡ Some k
-    → is_in_order c (keyword_kind (is_scheduled c) k) ≡ true → is_counted (is_scheduled c) k (words_of text) ≡ true → have_forms (is_scheduled c) k (words_of text) ≡ true → are_in_range (is_scheduled c) k (words_of text) ≡ true
-    → is_right_kind c (line_at (is_scheduled c) k (words_of text)) ≡ true → is_new c (line_at (is_scheduled c) k (words_of text)) ≡ true → is_known file c (line_at (is_scheduled c) k (words_of text)) ≡ true
-    → is_within c (line_at (is_scheduled c) k (words_of text)) ≡ true → is_built_line (line_at (is_scheduled c) k (words_of text)) ≡ true → (why : Reason) → has why file c text ≡ false
-good_has file c text k clean told e order count forms ranges right new known within runs reason.Byte = off (is_printed text) clean.printed
-good_has file c text k clean told e order count forms ranges right new known within runs reason.Long = off (is_short text) clean.short
-good_has file c text k clean told e order count forms ranges right new known within runs reason.Word = rw (told, e) refl
-good_has file c text k clean told e order count forms ranges right new known within runs reason.Order = rw (told, e) (off (is_in_order c (keyword_kind (is_scheduled c) k)) order)
-good_has file c text k clean told e order count forms ranges right new known within runs reason.Count = rw (told, e) (off (is_counted (is_scheduled c) k (words_of text)) count)
-good_has file c text k clean told e order count forms ranges right new known within runs reason.Form = rw (told, e) (off (have_forms (is_scheduled c) k (words_of text)) forms)
-good_has file c text k clean told e order count forms ranges right new known within runs reason.Range = rw (told, e) (off (are_in_range (is_scheduled c) k (words_of text)) ranges)
-good_has file c text k clean told e order count forms ranges right new known within runs reason.Kind = rw (told, e) (off (is_right_kind c (line_at (is_scheduled c) k (words_of text))) right)
-good_has file c text k clean told e order count forms ranges right new known within runs reason.Twice = rw (told, e) (off (is_new c (line_at (is_scheduled c) k (words_of text))) new)
-good_has file c text k clean told e order count forms ranges right new known within runs reason.Unknown = rw (told, e) (off (is_known file c (line_at (is_scheduled c) k (words_of text))) known)
-good_has file c text k clean told e order count forms ranges right new known within runs reason.Limit = rw (told, e) (off (is_within c (line_at (is_scheduled c) k (words_of text))) within)
-good_has file c text k clean told e order count forms ranges right new known within runs reason.End = refl
-good_has file c text k clean told e order count forms ranges right new known within runs reason.Unbuilt = rw (told, e) (off (is_built_line (line_at (is_scheduled c) k (words_of text))) runs)
+-- words pass each test, by the name of its reason
+record PassEach (file : List Declared) (c : Context) (k : Keyword) (words : List (List ℕ)) : Type 0 where
+  order : is_in_order c (keyword_kind (is_scheduled c) k) ≡ true
+  count : is_counted (is_scheduled c) k words ≡ true
+  form : have_forms (is_scheduled c) k words ≡ true
+  range : are_in_range (is_scheduled c) k words ≡ true
+  kind : is_right_kind c (line_at (is_scheduled c) k words) ≡ true
+  twice : is_new c (line_at (is_scheduled c) k words) ≡ true
+  unknown : is_known file c (line_at (is_scheduled c) k words) ≡ true
+  limit : is_within c (line_at (is_scheduled c) k words) ≡ true
+  unbuilt : is_built_line (line_at (is_scheduled c) k words) ≡ true
+
+good_has : (file : List Declared) (c : Context) (text : List ℕ) (k : Keyword) → IsClean text → is_skipped (words_of text) ≡ false → keyword_in (words_of text) ≡ Some k → PassEach file c k (words_of text) → (why : Reason) → has why file c text ≡ false
+good_has file c text k clean told e pass reason.Byte = off (is_printed text) clean.printed
+good_has file c text k clean told e pass reason.Long = off (is_short text) clean.short
+good_has file c text k clean told e pass reason.Word = rw (told, e) refl
+good_has file c text k clean told e pass reason.Order = rw (told, e) (off _ pass.order)
+good_has file c text k clean told e pass reason.Count = rw (told, e) (off _ pass.count)
+good_has file c text k clean told e pass reason.Form = rw (told, e) (off _ pass.form)
+good_has file c text k clean told e pass reason.Range = rw (told, e) (off _ pass.range)
+good_has file c text k clean told e pass reason.Kind = rw (told, e) (off _ pass.kind)
+good_has file c text k clean told e pass reason.Twice = rw (told, e) (off _ pass.twice)
+good_has file c text k clean told e pass reason.Unknown = rw (told, e) (off _ pass.unknown)
+good_has file c text k clean told e pass reason.Limit = rw (told, e) (off _ pass.limit)
+good_has file c text k clean told e pass reason.Unbuilt = rw (told, e) (off _ pass.unbuilt)
+good_has file c text k clean told e pass reason.End = refl
 
 line_good : (file : List Declared) (c : Context) (text : List ℕ) (l : SourceLine) → IsClean text → is_skipped (words_of text) ≡ false → words_of text ≡ source_words l → Stands file c l → is_built_line l ≡ true → IsGood file c text l
 unfolding after_text
@@ -223,17 +238,19 @@ line_good file c text l clean told spelled stands built =
     let e : keyword_in (words_of text) ≡ Some k = ap keyword_of (ap (λ (ws : List (List ℕ)). word_at ws 0) spelled ∙ a.first) ∙ keyword_again k in
     let here : line_at s k words ≡ l = ap (line_at s k) spelled ∙ a.same in
     let kind : keyword_kind s k ≡ kind_of l = sym (kind_at s k words) ∙ ap kind_of here in
-    let order : is_in_order c (keyword_kind s k) ≡ true = ap (is_in_order c) kind ∙ stands.order in
-    let count : is_counted s k words ≡ true = ap (is_counted s k) spelled ∙ a.counted in
-    let forms : have_forms s k words ≡ true = ap (have_forms s k) spelled ∙ a.forms in
-    let ranges : are_in_range s k words ≡ true = ap (are_in_range s k) spelled ∙ a.ranges in
-    let right : is_right_kind c (line_at s k words) ≡ true = ap (is_right_kind c) here ∙ stands.kind in
-    let new : is_new c (line_at s k words) ≡ true = ap (is_new c) here ∙ stands.new in
-    let known : is_known file c (line_at s k words) ≡ true = ap (is_known file c) here ∙ stands.known in
-    let within : is_within c (line_at s k words) ≡ true = ap (is_within c) here ∙ stands.within in
-    let runs : is_built_line (line_at s k words) ≡ true = ap is_built_line here ∙ built in
+    let pass : PassEach file c k words = record {
+      order = ap (is_in_order c) kind ∙ stands.order;
+      count = ap (is_counted s k) spelled ∙ a.counted;
+      form = ap (have_forms s k) spelled ∙ a.forms;
+      range = ap (are_in_range s k) spelled ∙ a.ranges;
+      kind = ap (is_right_kind c) here ∙ stands.kind;
+      twice = ap (is_new c) here ∙ stands.new;
+      unknown = ap (is_known file c) here ∙ stands.known;
+      limit = ap (is_within c) here ∙ stands.within;
+      unbuilt = ap is_built_line here ∙ built;
+    } in
     record {
-      none = none_by reasons file c text (good_has file c text k clean told e order count forms ranges right new known within runs);
+      none = none_by reasons file c text (good_has file c text k clean told e pass);
       makes = let same : after_text c text ≡ after c (line_at s k words) = rw (told, e) refl in same ∙ ap (after c) here;
     }
 

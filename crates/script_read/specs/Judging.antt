@@ -1,5 +1,5 @@
 -- Judging one line: its tests, in the order of their reasons.
-use Rattle.std.specs.Prelude.{◌≡◌, ℕ, Bool, if◌then◌else◌, IsTrue, List, [], ◌∷◌, Option, Some, None, ⊤}
+use Rattle.std.specs.Prelude.{◌≡◌, ℕ, Bool, true, if◌then◌else◌, IsTrue, List, [], ◌∷◌, Option, Some, None, ⊤}
 use Rattle.script_types.specs.Keywords.{keyword_kind}
 use Rattle.script_words.specs.LineAt.{line_at}
 use Rattle.script_words.specs.declared.fault.Fault.{Fault}
@@ -33,9 +33,9 @@ reason_of_fault None = None
 abbrev pub word_tests : Context → Keyword → List (List ℕ) → List (Bool × Reason)
 word_tests c k words = (is_in_order c (keyword_kind (is_scheduled c) k), reason.Order) ∷ (is_counted (is_scheduled c) k words, reason.Count) ∷ (have_forms (is_scheduled c) k words, reason.Form) ∷ (are_in_range (is_scheduled c) k words, reason.Range) ∷ []
 
--- the tests of the line that such words are
+-- the tests of the line that such words are. A whole file has the reason `end`, and no line
 abbrev pub line_tests : List Declared → Context → SourceLine → List (Bool × Reason)
-line_tests file c l = (is_right_kind c l, reason.Kind) ∷ (is_new c l, reason.Twice) ∷ (is_known file c l, reason.Unknown) ∷ (is_within c l, reason.Limit) ∷ (is_built_line l, reason.Unbuilt) ∷ []
+line_tests file c l = (is_right_kind c l, reason.Kind) ∷ (is_new c l, reason.Twice) ∷ (is_known file c l, reason.Unknown) ∷ (is_within c l, reason.Limit) ∷ (true, reason.End) ∷ (is_built_line l, reason.Unbuilt) ∷ []
 
 -- a line, unless a test of it fails
 abbrev pub judged_line : SourceLine → Option Reason → Judged

@@ -24,6 +24,12 @@ fn is_built_instr(what: &Instr) -> bool
             | Instr::Fssignal(_)
             | Instr::Enter
             | Instr::Leave
+            | Instr::Queue(_)
+            | Instr::Request(..)
+            | Instr::Cancel(_)
+            | Instr::WaitAny
+            | Instr::WaitFor(_)
+            | Instr::Status(_)
     )
 }
 
@@ -34,11 +40,16 @@ pub fn is_built_line(line: &SourceLine) -> bool
     match line {
         SourceLine::Header
         | SourceLine::Fast(_)
+        | SourceLine::Queue(..)
+        | SourceLine::Dfc(..)
+        | SourceLine::Idfc(..)
+        | SourceLine::IrqBody(..)
         | SourceLine::KernelThread(..)
         | SourceLine::Process(_)
         | SourceLine::Thread(..)
         | SourceLine::Schedule
         | SourceLine::Go(_)
+        | SourceLine::IrqSlot(_)
         | SourceLine::Tick
         | SourceLine::End => true,
         SourceLine::Instr(what) => is_built_instr(what),

@@ -7,7 +7,7 @@ ghost use Rattle.script_read.specs.Knows.{has_name, Knows, AreKnown};
 ghost use Rattle.script_types.specs.Names.{Declared, file_declares};
 ghost use Rattle.script_types.specs.SourceText.{text_lines};
 
-use crate::first_words::first_two;
+use crate::first_words::{second_word, told_word};
 use script_words::{first_line, is_word, read_natural};
 use std::alloc::Global;
 use std::collections::BTreeSet;
@@ -94,6 +94,18 @@ fn has_schedule(scheduled: bool, first: &[u8]) -> bool
     scheduled || is_word(first, "schedule")
 }
 
+/// Whether a line that begins with this word declares something, or is `schedule`.
+fn declares_something(first: &[u8]) -> bool
+    ensures { result ≡ (bytes_eq first.now (codes "thread") || bytes_eq first.now (codes "kthread") || bytes_eq first.now (codes "dfcq")
+        || bytes_eq first.now (codes "dfc") || bytes_eq first.now (codes "idfc") || bytes_eq first.now (codes "irq") || bytes_eq first.now (codes "schedule")) }
+{
+    declares_thread(first)
+        || is_word(first, "dfc")
+        || is_word(first, "idfc")
+        || is_word(first, "irq")
+        || is_word(first, "schedule")
+}
+
 impl<'a> Declarations<'a> {
     /// What no line declares: nothing.
     fn new(alloc: Global) -> Self
@@ -123,16 +135,19 @@ impl<'a> Declarations<'a> {
         Ok(())
     }
 
-    /// Adds what a line declares.
-    #[tactic(auto, using(crate::proofs::FileLines::line_none, crate::proofs::FileLines::line_some))]
+    /// Adds what a line declares. Its second word is looked for where the first declares something.
+    #[tactic(auto, using(crate::proofs::FileLines::added_none, crate::proofs::FileLines::added_two))]
     fn add_line(&mut self, line: &'a [u8]) -> Result<(), NoMemory>
         ensures { OnOk result ((file : List Declared) →
             Knows self.old file → Knows self.new (file ++ file_declares (line.now ∷ []))) }
     {
-        let Some((first, second)) = first_two(line) else {
+        let Some((first, rest)) = told_word(line) else {
             return Ok(());
         };
-        self.add(first, second)
+        if !declares_something(first) {
+            return Ok(());
+        }
+        self.add(first, second_word(rest))
     }
 }
 

@@ -1,10 +1,10 @@
 //! The first words of a line.
-ghost use Rattle.std.specs.Prelude.{◌≡◌, List, ℕ, ◌∷◌, [], option_map, MatchOption};
-ghost use Rattle.script_types.specs.SourceText.{words_of, is_skipped};
+ghost use Rattle.std.specs.Prelude.{◌≡◌, List, ℕ, ◌∷◌, [], Some, None, MatchOption};
+ghost use Rattle.script_types.specs.SourceText.{words_of};
 ghost use Rattle.script_types.specs.Names.{first_two};
 ghost use Rattle.script_read.specs.Knows.{declared_by};
 
-use script_words::cut;
+use script_words::{begins_comment, cut};
 
 /// The byte between two words.
 const SPACE: u8 = b' ';
@@ -28,34 +28,24 @@ fn first_word(line: &[u8]) -> Option<(&[u8], &[u8])>
     }
 }
 
-/// Whether a line that begins with this word is a comment.
-fn begins_comment(word: &[u8]) -> bool
-    ensures { (words : List (List ℕ)) → result ≡ is_skipped (word.now ∷ words) }
+/// The first word of a line that isn't skipped, and what stands behind it. None where the line is skipped.
+pub fn told_word(line: &[u8]) -> Option<(&[u8], &[u8])>
+    ensures { MatchOption result (declared_by (words_of line.now) ≡ None)
+        (λ found. declared_by (words_of line.now) ≡ Some (first_two (found.0.now ∷ words_of found.1.now))) }
 {
-    match word {
-        [] => false,
-        [first, ..] => *first == b'#',
+    let (first, rest) = first_word(line)?;
+    if begins_comment(first) {
+        return None;
     }
+    Some((first, rest))
 }
 
-/// The second word, which is empty where there is none behind the first.
-fn second_word(rest: &[u8]) -> &[u8]
+/// The second word of a line, behind its first. It is empty where there is none.
+pub fn second_word(rest: &[u8]) -> &[u8]
     ensures { (first : List ℕ) → first_two (first ∷ words_of rest.now) ≡ (first, result.now) }
 {
     match first_word(rest) {
         Some((word, _)) => word,
         None => &rest[..0],
     }
-}
-
-/// The first two words of a line, the second one empty where there is none. None where the line is
-/// skipped.
-pub fn first_two(line: &[u8]) -> Option<(&[u8], &[u8])>
-    ensures { option_map (λ two. (two.0.now, two.1.now)) result ≡ declared_by (words_of line.now) }
-{
-    let (first, rest) = first_word(line)?;
-    if begins_comment(first) {
-        return None;
-    }
-    Some((first, second_word(rest)))
 }

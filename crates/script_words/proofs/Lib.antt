@@ -5,6 +5,7 @@ pub mod Cuts
 pub mod Fields
 pub mod FormPlaces
 pub mod FormsAgain
+pub mod Keywords
 pub mod Numbers
 pub mod ObjectNames
 pub mod Operands

@@ -1,7 +1,6 @@
 //! The parts of a line: words, numbers and names.
-ghost use Rattle.std.specs.Prelude.{◌≡◌, [], ◌∷◌, ◌^◌, IsTrue, ◌≢◌, ◌==◌, All, IfNone, ◌<◌, ◌≤◌, length, position, option_map, IfSome};
+ghost use Rattle.std.specs.Prelude.{◌≡◌, ◌≢◌, ◌==◌, ◌&&◌, ◌||◌, ◌*◌, ◌-◌, not, nat_le, if◌then◌else◌, slice_index, ◌+◌, All, IfNone, ◌<◌, ◌≤◌, length, position, option_map, IfSome, Some, None};
 ghost use Rattle.std.specs.List.{list_all};
-ghost use Rattle.std.specs.Option.{SomeIff};
 ghost use Rattle.std.specs.Str.{bytes_eq};
 ghost use Rattle.std.specs.Str.Parse.{digits_value};
 ghost use Rattle.std.specs.Char.{is_ascii_digit};
@@ -69,67 +68,62 @@ fn are_digits(word: &[u8]) -> bool
     word.iter().all(|digit| digit.is_ascii_digit())
 }
 
+/// Whether digits are no zero before another digit.
+fn has_no_zero_before(digits: &[u8]) -> bool
+    requires { 0 < length digits.now }
+    ensures { result ≡ (length digits.now == 1 || not (slice_index digits.now 0 == 48)) }
+{
+    digits.len() == 1 || digits[0] != b'0'
+}
+
 /// Whether a word is a number without a sign: digits, and no zero before another.
 pub fn is_number(word: &[u8]) -> bool
     ensures { result ≡ is_number word.now }
 {
-    !word.is_empty() && are_digits(word) && (word.len() == 1 || word[0] != b'0')
+    !word.is_empty() && are_digits(word) && has_no_zero_before(word)
 }
 
-/// Digits as a text.
-#[tactic(auto, using(crate::proofs::Numbers::digits_are_text))]
-fn digits_text(digits: &[u8]) -> &str
-    requires { IsTrue (list_all is_ascii_digit digits.now) }
-    ensures { result.now ≡ digits.now }
-{
-    str::from_utf8(digits).unwrap()
-}
-
-/// The number that digits spell. None where 32 bits don't hold it.
-fn parsed_number(digits: &[u8]) -> Option<u32>
-    requires digits { IsTrue (list_all is_ascii_digit digits.now) }
-    requires some { 0 < length digits.now }
-    ensures { SomeIff result (digits_value 10 digits.now < 2 ^ 32) (digits_value 10 digits.now) }
-{
-    digits_text(digits).parse().ok()
-}
-
-/// The number that one digit spells. None where it is none, or greater than `max`.
-#[tactic(auto, using(crate::proofs::Numbers::digit_right, crate::proofs::Numbers::digit_wrong))]
-fn read_digit(digit: u8, max: u32) -> Option<u32>
-    ensures value { result ≡ number_of max (digit ∷ []) }
-    ensures small { IfSome result (λ number. number ≤ max) }
+/// A number with one more digit. None where that is no digit, or the number greater than `max`.
+fn with_digit(number: u32, digit: u8, max: u32) -> Option<u32>
+    ensures { result ≡ (if is_ascii_digit digit && nat_le (number * 10 + (digit - 48)) max then Some (number * 10 + (digit - 48)) else None) }
 {
     if !digit.is_ascii_digit() {
         return None;
     }
-    let number = u32::from(digit - b'0');
-    (number <= max).then_some(number)
-}
-
-/// The number that some digits spell. None where they spell none, or one greater than `max`.
-#[tactic(auto, unfolding(crate::specs::Fields::number_of))]
-fn read_digits(word: &[u8], max: u32) -> Option<u32>
-    ensures value { result ≡ number_of max word.now }
-    ensures small { IfSome result (λ number. number ≤ max) }
-{
-    if !is_number(word) {
-        return None;
+    let number = u64::from(number) * 10 + u64::from(digit - b'0');
+    if number <= u64::from(max) {
+        Some(number as u32)
+    } else {
+        None
     }
-    let number = parsed_number(word)?;
-    (number <= max).then_some(number)
 }
 
-/// The number that a word spells. None where it spells none, or one greater than `max`. Most numbers of a script
-/// have one digit.
+/// The number that digits spell. None where a byte is none, or the number greater than `max`. Each digit is looked at
+/// once.
+#[tactic(auto, using(crate::proofs::Numbers::digits_start, crate::proofs::Numbers::digits_none, crate::proofs::Numbers::digits_more, crate::proofs::Numbers::digits_end))]
+fn read_digits(digits: &[u8], max: u32) -> Option<u32>
+    ensures { result ≡ (if list_all is_ascii_digit digits.now && nat_le (digits_value 10 digits.now) max then Some (digits_value 10 digits.now) else None) }
+{
+    let mut number = 0;
+    for i in 0..digits.len() {
+        let Some(more) = with_digit(number, digits[i], max) else {
+            return None;
+        };
+        number = more;
+    }
+    Some(number)
+}
+
+/// The number that a word spells. None where it spells none, or one greater than `max`.
+#[tactic(auto, unfolding(crate::specs::Fields::number_of))]
 pub fn read_natural(word: &[u8], max: u32) -> Option<u32>
     ensures value { result ≡ number_of max word.now }
     ensures small { IfSome result (λ number. number ≤ max) }
 {
-    match word {
-        [digit] => read_digit(*digit, max),
-        _ => read_digits(word, max),
+    if word.is_empty() || !has_no_zero_before(word) {
+        return None;
     }
+    read_digits(word, max)
 }
 
 /// Whether a byte is a lower-case letter.

@@ -1,5 +1,5 @@
 //! The first words of lines.
-ghost use Rattle.std.specs.Prelude.{◌≡◌};
+ghost use Rattle.std.specs.Prelude.{◌≡◌, ℕ, List, ◌∷◌};
 ghost use Rattle.std.specs.List.{find};
 ghost use Rattle.std.specs.Str.{bytes_eq};
 ghost use Rattle.script_types.specs.Keywords.{keyword_text, keywords, keyword_of, keyword_kind};
@@ -8,64 +8,87 @@ use crate::field::are_same;
 use script_types::{Keyword, LineKind};
 use sym_base::Word;
 
-/// Every word that begins a line: instructions first, of which a script has most.
-const KEYWORDS: [Keyword; 55] = [
-    Keyword::Instr(Word::Create),
-    Keyword::Instr(Word::Open),
-    Keyword::Instr(Word::Dup),
-    Keyword::Instr(Word::Duplocal),
-    Keyword::Instr(Word::Close),
-    Keyword::Instr(Word::Lock),
-    Keyword::Instr(Word::Unlock),
-    Keyword::Instr(Word::Wait),
-    Keyword::Instr(Word::Signal),
-    Keyword::Instr(Word::Suspend),
-    Keyword::Instr(Word::Resume),
-    Keyword::Instr(Word::Priority),
-    Keyword::Instr(Word::Kill),
-    Keyword::Instr(Word::Terminate),
-    Keyword::Instr(Word::Panic),
-    Keyword::Instr(Word::Exittype),
-    Keyword::Instr(Word::Logon),
-    Keyword::Instr(Word::Exit),
-    Keyword::Instr(Word::Flock),
-    Keyword::Instr(Word::Funlock),
-    Keyword::Instr(Word::Fswait),
-    Keyword::Instr(Word::Fssignal),
-    Keyword::Instr(Word::Enter),
-    Keyword::Instr(Word::Leave),
-    Keyword::Instr(Word::Queue),
-    Keyword::Instr(Word::Request),
-    Keyword::Instr(Word::Cancel),
-    Keyword::Instr(Word::Waitany),
-    Keyword::Instr(Word::Waitfor),
-    Keyword::Instr(Word::Status),
-    Keyword::Instr(Word::Server),
-    Keyword::Instr(Word::Connect),
-    Keyword::Instr(Word::Send),
-    Keyword::Instr(Word::Call),
-    Keyword::Instr(Word::Receive),
-    Keyword::Instr(Word::Complete),
-    Keyword::Instr(Word::Function),
-    Keyword::Instr(Word::Read),
-    Keyword::Instr(Word::Write),
-    Keyword::Instr(Word::Fill),
-    Keyword::Instr(Word::Peek),
-    Keyword::Eka2,
-    Keyword::Pool,
-    Keyword::Fast,
-    Keyword::Dfcq,
-    Keyword::Dfc,
-    Keyword::Idfc,
-    Keyword::Irq,
-    Keyword::Kthread,
-    Keyword::Process,
-    Keyword::Thread,
-    Keyword::Schedule,
-    Keyword::Go,
-    Keyword::Tick,
-    Keyword::End,
-];
+/// The words that begin with a byte, in their order.
+fn keywords_with(first: u8) -> &'static [Keyword]
+    ensures { (rest : List ℕ) → find (λ k. bytes_eq (first ∷ rest) (keyword_text k)) result.now ≡ find (λ k. bytes_eq (first ∷ rest) (keyword_text k)) keywords }
+{
+    match first {
+        b'c' => &[
+            Keyword::Instr(Word::Create),
+            Keyword::Instr(Word::Close),
+            Keyword::Instr(Word::Cancel),
+            Keyword::Instr(Word::Connect),
+            Keyword::Instr(Word::Call),
+            Keyword::Instr(Word::Complete),
+        ],
+        b'd' => &[
+            Keyword::Instr(Word::Dup),
+            Keyword::Instr(Word::Duplocal),
+            Keyword::Dfcq,
+            Keyword::Dfc,
+        ],
+        b'e' => &[
+            Keyword::Instr(Word::Exittype),
+            Keyword::Instr(Word::Exit),
+            Keyword::Instr(Word::Enter),
+            Keyword::Eka2,
+            Keyword::End,
+        ],
+        b'f' => &[
+            Keyword::Instr(Word::Flock),
+            Keyword::Instr(Word::Funlock),
+            Keyword::Instr(Word::Fswait),
+            Keyword::Instr(Word::Fssignal),
+            Keyword::Instr(Word::Function),
+            Keyword::Instr(Word::Fill),
+            Keyword::Fast,
+        ],
+        b'g' => &[Keyword::Go],
+        b'i' => &[Keyword::Idfc, Keyword::Irq],
+        b'k' => &[Keyword::Instr(Word::Kill), Keyword::Kthread],
+        b'l' => &[
+            Keyword::Instr(Word::Lock),
+            Keyword::Instr(Word::Logon),
+            Keyword::Instr(Word::Leave),
+        ],
+        b'o' => &[Keyword::Instr(Word::Open)],
+        b'p' => &[
+            Keyword::Instr(Word::Priority),
+            Keyword::Instr(Word::Panic),
+            Keyword::Instr(Word::Peek),
+            Keyword::Pool,
+            Keyword::Process,
+        ],
+        b'q' => &[Keyword::Instr(Word::Queue)],
+        b'r' => &[
+            Keyword::Instr(Word::Resume),
+            Keyword::Instr(Word::Request),
+            Keyword::Instr(Word::Receive),
+            Keyword::Instr(Word::Read),
+        ],
+        b's' => &[
+            Keyword::Instr(Word::Signal),
+            Keyword::Instr(Word::Suspend),
+            Keyword::Instr(Word::Status),
+            Keyword::Instr(Word::Server),
+            Keyword::Instr(Word::Send),
+            Keyword::Schedule,
+        ],
+        b't' => &[
+            Keyword::Instr(Word::Terminate),
+            Keyword::Thread,
+            Keyword::Tick,
+        ],
+        b'u' => &[Keyword::Instr(Word::Unlock)],
+        b'w' => &[
+            Keyword::Instr(Word::Wait),
+            Keyword::Instr(Word::Waitany),
+            Keyword::Instr(Word::Waitfor),
+            Keyword::Instr(Word::Write),
+        ],
+        _ => &[],
+    }
+}
 
 /// The first of these that a word is.
 fn keyword_among(word: &[u8], among: &[Keyword]) -> Option<Keyword>
@@ -80,12 +103,15 @@ fn keyword_among(word: &[u8], among: &[Keyword]) -> Option<Keyword>
     None
 }
 
-/// What a word begins.
+/// What a word begins. Only the words that begin with its first byte are looked at.
 #[tactic(auto, unfolding(script_types::specs::Keywords::keyword_of))]
 pub fn keyword_of(word: &[u8]) -> Option<Keyword>
     ensures { result ≡ keyword_of word.now }
 {
-    keyword_among(word, &KEYWORDS)
+    match word {
+        [] => None,
+        [first, ..] => keyword_among(word, keywords_with(*first)),
+    }
 }
 
 /// The kind of line that a word begins. An `irq` behind `schedule` is a slot.

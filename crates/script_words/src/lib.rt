@@ -21,5 +21,5 @@ pub use keyword::{keyword_kind, keyword_of};
 pub use line_form::line_fault;
 pub use line_signs::{is_counted, second_of, word_at};
 pub use script_types::Keyword;
-pub use source::{first_line, is_printed, is_short, is_skipped, take_words};
+pub use source::{begins_comment, first_line, is_printed, is_short, is_skipped, take_words};
 pub use source_line::line_as;

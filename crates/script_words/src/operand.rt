@@ -119,20 +119,12 @@ pub fn size_at(words: &[&[u8]], at: usize) -> u16
     number_at(words, at, 1024) as u16
 }
 
-/// The number behind the letter of the word at a place, at most `last`.
-fn lettered_at(words: &[&[u8]], at: usize, last: u8) -> u8
-    requires { IsNumber last (drop 1 (word_at (pieces words.now) at)) }
-    ensures { result ≡ lettered_value (word_at (pieces words.now) at) }
-{
-    lettered(word_at(words, at), last)
-}
-
 /// The register at a place, of a handle or of a message: 0 to 7.
 pub fn register_at(words: &[&[u8]], at: usize) -> u8
     requires { IsNumber 7 (drop 1 (word_at (pieces words.now) at)) }
     ensures { result ≡ lettered_value (word_at (pieces words.now) at) }
 {
-    lettered_at(words, at, 7)
+    lettered(word_at(words, at), 7)
 }
 
 /// The status, device or fast mutex at a place: 0 to 15.
@@ -140,7 +132,7 @@ pub fn item_at(words: &[&[u8]], at: usize) -> u8
     requires { IsNumber 15 (drop 1 (word_at (pieces words.now) at)) }
     ensures { result ≡ lettered_value (word_at (pieces words.now) at) }
 {
-    lettered_at(words, at, 15)
+    lettered(word_at(words, at), 15)
 }
 
 /// The code at a place.

@@ -1,5 +1,5 @@
 //! A text as lines, and a line as words.
-ghost use Rattle.std.specs.Prelude.{◌≡◌, ◌<◌, ◌++◌, ◌∷◌, ◌&&◌, nat_le, length, OnOk};
+ghost use Rattle.std.specs.Prelude.{◌≡◌, List, ℕ, ◌<◌, ◌++◌, ◌∷◌, ◌&&◌, nat_le, length, OnOk};
 ghost use Rattle.script_words.specs.Pieces.{pieces, one_word};
 ghost use Rattle.script_types.specs.SourceText.{text_lines, words_of, is_skipped, is_printed, is_short};
 
@@ -48,17 +48,21 @@ pub fn take_words<'a>(words: &mut Vec<&'a [u8]>, line: &'a [u8]) -> Result<(), N
     Ok(())
 }
 
-/// Whether a line of these words is skipped: it has none, or the first begins with `#`.
-pub fn is_skipped(words: &[&[u8]]) -> bool
-    ensures { result ≡ is_skipped (pieces words.now) }
+/// Whether a line that begins with this word is a comment.
+pub fn begins_comment(word: &[u8]) -> bool
+    ensures { (words : List (List ℕ)) → result ≡ is_skipped (word.now ∷ words) }
 {
-    if words.is_empty() {
-        return true;
-    }
-    match words[0] {
+    match word {
         [] => false,
         [first, ..] => *first == b'#',
     }
+}
+
+/// Whether a line of these words is skipped: it has none, or is a comment.
+pub fn is_skipped(words: &[&[u8]]) -> bool
+    ensures { result ≡ is_skipped (pieces words.now) }
+{
+    words.is_empty() || begins_comment(words[0])
 }
 
 /// Whether a byte may stand in a line.

@@ -98,7 +98,9 @@ fn tested_line(
     }
 }
 
-/// The line of a first word's form that words are, where nothing is wrong with them.
+/// The line of a first word's form that words are, where nothing is wrong with them. It stays a function of its own in
+/// the program, so that a line is written to its place once, and not put together from pieces where it is used.
+#[inline(never)]
 pub fn line_as(
     alloc: Global,
     keyword: Keyword,

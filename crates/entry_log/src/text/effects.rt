@@ -6,7 +6,8 @@ ghost use Rattle.entry_log.specs.HolderText.{holder_text};
 ghost use Rattle.entry_log.specs.Joined.{joined, preceded};
 
 use super::holders::put_holder;
-use super::line::{Line, put, put_code, put_number};
+use super::line::{Line, put, put_byte};
+use super::numbers::{put_code, put_u8, put_u16, put_u32};
 use crate::{Effect, Holder, LockNo, StatusNo};
 
 /// Adds a status, at most 3 bytes.
@@ -17,7 +18,7 @@ fn put_status(line: &mut Line, status: StatusNo)
     ensures short { length line.new.items ≤ length line.old.items + 3 }
 {
     match status {
-        StatusNo::Async(number) => put_number(line, number),
+        StatusNo::Async(number) => put_u8(line, number),
         StatusNo::Sync => put(line, b"w"),
     }
 }
@@ -29,7 +30,7 @@ fn put_fast(line: &mut Line, number: u8)
     ensures short { length line.new.items ≤ length line.old.items + 4 }
 {
     put(line, b"f");
-    put_number(line, number);
+    put_u8(line, number);
 }
 
 /// Adds a lock, at most 5 bytes.
@@ -40,7 +41,7 @@ fn put_lock(line: &mut Line, lock: LockNo)
     ensures short { length line.new.items ≤ length line.old.items + 5 }
 {
     match lock {
-        LockNo::Object(object) => put_number(line, object.0),
+        LockNo::Object(object) => put_u16(line, object.0),
         LockNo::Fast(number) => put_fast(line, number),
     }
 }
@@ -53,20 +54,20 @@ fn put_numbered(line: &mut Line, name: &[u8], number: u32)
 {
     put(line, name);
     put(line, b":");
-    put_number(line, number);
+    put_u32(line, number);
 }
 
 /// Adds `SIGN HOLDER:OBJECT`, without the space.
-fn put_reference(line: &mut Line, sign: &[u8], holder: Holder, object: u16)
-    requires { length line.old.items + length sign.now + 19 ≤ 512 }
+fn put_reference(line: &mut Line, sign: u8, holder: Holder, object: u16)
+    requires { length line.old.items + 20 ≤ 512 }
     ensures text { line.new.items
-        ≡ line.old.items ++ joined 58 ((sign.now ++ holder_text holder) ∷ decimal object ∷ []) }
-    ensures short { length line.new.items ≤ length line.old.items + length sign.now + 19 }
+        ≡ line.old.items ++ joined 58 ((sign ∷ holder_text holder) ∷ decimal object ∷ []) }
+    ensures short { length line.new.items ≤ length line.old.items + 20 }
 {
-    put(line, sign);
+    put_byte(line, sign);
     put_holder(line, holder);
     put(line, b":");
-    put_number(line, object);
+    put_u16(line, object);
 }
 
 /// Adds `NAME:THREAD:LOCK`.
@@ -115,8 +116,8 @@ fn put_effect(line: &mut Line, effect: Effect)
     ensures short { length line.new.items ≤ length line.old.items + 33 }
 {
     match effect {
-        Effect::Plus(holder, object) => put_reference(line, b"+", holder, object.0),
-        Effect::Minus(holder, object) => put_reference(line, b"-", holder, object.0),
+        Effect::Plus(holder, object) => put_reference(line, b'+', holder, object.0),
+        Effect::Minus(holder, object) => put_reference(line, b'-', holder, object.0),
         Effect::Dead(object) => put_numbered(line, b"dead", object.0 as u32),
         Effect::Swept(object) => put_numbered(line, b"swept", object.0 as u32),
         Effect::Seek(object) => put_numbered(line, b"seek", object.0 as u32),

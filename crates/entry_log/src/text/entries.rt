@@ -7,7 +7,8 @@ ghost use Rattle.entry_log.specs.Joined.{preceded};
 ghost use Rattle.entry_log.specs.StepText.{step_text};
 
 use super::effects::put_effects;
-use super::line::{Line, put, put_code, put_number};
+use super::line::{Line, put};
+use super::numbers::{put_code, put_u16, put_u32};
 use super::steps::put_step;
 use crate::{Actor, Entry};
 use arrayvec::ArrayVec;
@@ -22,7 +23,7 @@ fn put_numbered(line: &mut Line, letters: &[u8], number: u16)
     ensures short { length line.new.items ≤ length line.old.items + length letters.now + 5 }
 {
     put(line, letters);
-    put_number(line, number);
+    put_u16(line, number);
 }
 
 /// Adds an actor, at most 8 bytes.
@@ -70,7 +71,7 @@ fn put_head(line: &mut Line, entry: &Entry)
         ++ (decimal entry.now.place ++ 32 ∷ actor_text entry.now.actor ++ 32 ∷ step_text entry.now.step) }
     ensures short { length line.new.items ≤ length line.old.items + 41 }
 {
-    put_number(line, entry.place);
+    put_u32(line, entry.place);
     put(line, b" ");
     put_actor(line, entry.actor);
     put(line, b" ");

@@ -3,7 +3,8 @@ ghost use Rattle.std.specs.Prelude.{◌≡◌, ◌+◌, ◌≤◌, [], ◌∷◌
 ghost use Rattle.entry_log.specs.HolderText.{holder_text};
 ghost use Rattle.entry_log.specs.Joined.{joined};
 
-use super::line::{Line, put, put_number};
+use super::line::{Line, put, put_byte};
+use super::numbers::{put_u8, put_u16, put_u32};
 use crate::Holder;
 
 /// Adds `LETTERS NUMBER`, without the space.
@@ -13,20 +14,20 @@ fn put_numbered(line: &mut Line, letters: &[u8], number: u32)
     ensures short { length line.new.items ≤ length line.old.items + length letters.now + 10 }
 {
     put(line, letters);
-    put_number(line, number);
+    put_u32(line, number);
 }
 
 /// Adds the handle at an index of a table, as `p2.0`.
-fn put_handle(line: &mut Line, letter: &[u8], owner: u16, index: u8)
-    requires { length line.old.items + length letter.now + 9 ≤ 512 }
+fn put_handle(line: &mut Line, letter: u8, owner: u16, index: u8)
+    requires { length line.old.items + 10 ≤ 512 }
     ensures text { line.new.items
-        ≡ line.old.items ++ joined 46 ((letter.now ++ decimal owner) ∷ decimal index ∷ []) }
-    ensures short { length line.new.items ≤ length line.old.items + length letter.now + 9 }
+        ≡ line.old.items ++ joined 46 ((letter ∷ decimal owner) ∷ decimal index ∷ []) }
+    ensures short { length line.new.items ≤ length line.old.items + 10 }
 {
-    put(line, letter);
-    put_number(line, owner);
+    put_byte(line, letter);
+    put_u16(line, owner);
     put(line, b".");
-    put_number(line, index);
+    put_u8(line, index);
 }
 
 /// Adds a holder, at most 13 bytes.
@@ -37,8 +38,8 @@ pub fn put_holder(line: &mut Line, holder: Holder)
     ensures short { length line.new.items ≤ length line.old.items + 13 }
 {
     match holder {
-        Holder::InProcess(process, index) => put_handle(line, b"p", process.0, index),
-        Holder::InThread(thread, index) => put_handle(line, b"t", thread.0, index),
+        Holder::InProcess(process, index) => put_handle(line, b'p', process.0, index),
+        Holder::InThread(thread, index) => put_handle(line, b't', thread.0, index),
         Holder::Temp(thread) => put_numbered(line, b"tmp", thread.0 as u32),
         Holder::Own(thread) => put_numbered(line, b"own", thread.0 as u32),
         Holder::Link(object) => put_numbered(line, b"lnk", object.0 as u32),

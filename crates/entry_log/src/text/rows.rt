@@ -5,7 +5,8 @@ ghost use Rattle.sym_base.specs.Appends.{Appends};
 ghost use Rattle.entry_log.specs.FinalLine.{exit_words, final_line, kind_text, life_words, shown_name};
 ghost use Rattle.entry_log.specs.Joined.{preceded};
 
-use super::line::{Line, put, put_code, put_number};
+use super::line::{Line, put};
+use super::numbers::{put_code, put_u16, put_u32};
 use crate::FinalRow;
 use arrayvec::ArrayVec;
 use sym_base::{Exit, ExitKind, Kind, Name};
@@ -112,13 +113,13 @@ fn put_head(line: &mut Line, row: &FinalRow)
         ++ 32 ∷ shown_name row.now.name ++ 32 ∷ decimal row.now.count) }
     ensures short { length line.new.items ≤ length line.old.items + 43 }
 {
-    put_number(line, row.object.0);
+    put_u16(line, row.object.0);
     put(line, b" ");
     put(line, kind_bytes(row.kind));
     put(line, b" ");
     put_name(line, &row.name);
     put(line, b" ");
-    put_number(line, row.count);
+    put_u32(line, row.count);
 }
 
 /// Adds the line of an object that is left, at most 79 bytes.

@@ -8,22 +8,33 @@ use super::line::{Line, put};
 use crate::{Part, Step};
 use sym_base::Name;
 
-/// The word of a part.
+/// Adds a part after a dot, at most 7 bytes.
 #[tactic(auto, unfolding(crate::specs::PartText::part_text))]
-fn part_bytes(part: Part) -> &'static [u8]
-    ensures text { result.now ≡ part_text part }
-    ensures short { length result.now ≤ 6 }
+fn put_part(line: &mut Line, part: Part)
+    requires { length line.old.items + 7 ≤ 512 }
+    ensures text { line.new.items ≡ line.old.items ++ 46 ∷ part_text part }
+    ensures short { length line.new.items ≤ length line.old.items + 7 }
 {
     match part {
-        Part::Seek => b"seek",
-        Part::Return => b"return",
-        Part::Look => b"look",
-        Part::Make => b"make",
-        Part::Send => b"send",
-        Part::Do => b"do",
-        Part::Done => b"done",
-        Part::Piece => b"piece",
+        Part::Seek => put(line, b".seek"),
+        Part::Return => put(line, b".return"),
+        Part::Look => put(line, b".look"),
+        Part::Make => put(line, b".make"),
+        Part::Send => put(line, b".send"),
+        Part::Do => put(line, b".do"),
+        Part::Done => put(line, b".done"),
+        Part::Piece => put(line, b".piece"),
     }
+}
+
+/// Adds `WORD.PART`.
+fn put_of(line: &mut Line, word: &[u8], part: Part)
+    requires { length line.old.items + length word.now + 7 ≤ 512 }
+    ensures text { line.new.items ≡ line.old.items ++ joined 46 (word.now ∷ part_text part ∷ []) }
+    ensures short { length line.new.items ≤ length line.old.items + length word.now + 7 }
+{
+    put(line, word);
+    put_part(line, part);
 }
 
 /// Adds `FIRST.SECOND`.
@@ -45,7 +56,7 @@ pub fn put_step(line: &mut Line, step: &Step)
     ensures short { length line.new.items ≤ length line.old.items + 21 }
 {
     match step {
-        Step::Of(word, part) => put_two(line, word.text(), part_bytes(*part)),
+        Step::Of(word, part) => put_of(line, word.text(), *part),
         Step::RunOf(name) => put_two(line, name.as_slice(), b"run"),
         Step::MoveOf(name) => put_two(line, name.as_slice(), b"move"),
         Step::Drop => put(line, b"drop"),

@@ -3,7 +3,7 @@ use Rattle.std.proofs.Common.{◌≡◌, inl, inr, ℕ, suc, zero, ◌+◌, ◌<
 use Rattle.std.specs.Prelude.{is_some, if◌then◌else◌, ◌||◌}
 use Rattle.std.specs.List.{list_any}
 use Rattle.std.proofs.lemmas.Bool.{eq-eqb, or_left, or_right}
-use Rattle.std.proofs.lemmas.List.{length-append, length-map}
+use Rattle.std.proofs.lemmas.List.{length-map}
 use Rattle.sym_base.specs.declared.number.ObjNo.{ObjNo}
 use Rattle.script_types.specs.declared.declaration.ProcessDecl.{ProcessDecl}
 use Rattle.script_types.specs.declared.declaration.QueueDecl.{QueueDecl}
@@ -14,11 +14,10 @@ use Rattle.script_types.proofs.ProcessThreads.{HasThread, valid_has_thread}
 use Rattle.state_rows.specs.declared.object.ObjectRow.{ObjectRow}
 use Rattle.machine.specs.declared.boot.Born.{Born}
 use Rattle.machine.specs.declared.state.ThreadRow.{ThreadRow}
-use Rattle.machine.specs.Boot.{boot, boot_of, born, born_queues, born_thread, born_threads, born_processes, is_of}
+use Rattle.machine.specs.Boot.{boot, boot_of, born, born_kernel, born_queues, born_thread, born_threads, born_processes, is_of}
 use Rattle.machine.specs.Rows.{object_of}
 use Rattle.machine.specs.WellFormed.{IsAlive}
 use Rattle.machine.specs.References.{total, thread_names, count_of}
-use Rattle.machine.proofs.AtBoot.Born.{length_queues}
 use Rattle.machine.proofs.References.Same.{same_object, same_self}
 
 alive_is_some : (objects : List (Option ObjectRow)) (i : ℕ) → IsAlive (get_or objects i None) → i < length objects
@@ -99,19 +98,12 @@ born_held script valid =
     let all = born script in
     let queues = born_queues 1 script.queues in
     let own = born_threads None 0 0 script.threads in
-    let behind = 2 + length script.queues in
-    let first = behind + length own in
+    let behind = 2 + length queues in
+    let first = length (born_kernel script) in
     let rest = born_processes script.threads 0 first script.processes in
-    let many = length_queues 1 script.queues in
-    let long = length-append queues own in (
-      omega arith,
-      (
-        omega arith,
-        each_held-append all 2 first (queues ++ own) rest (omega arith)
-            (each_held-append all 2 behind queues own (omega arith) (each_held_queues all 1 script.queues 2) (each_held_threads all None 0 0 script.threads behind))
-            (each_held_processes all script.threads 0 first script.processes (λ i above below. valid_has script valid i (omega arith)) (λ o. let a = links-append o (queues ++ own) rest in omega arith)),
-      ),
-    )
+    each_held-append all 0 first (born_kernel script) rest (omega arith)
+    (omega arith, (omega arith, each_held-append all 2 behind queues own refl (each_held_queues all 1 script.queues 2) (each_held_threads all None 0 0 script.threads behind)))
+    (each_held_processes all script.threads 0 first script.processes (λ i above below. valid_has script valid i (omega arith)) (λ o. let a = links-append o (born_kernel script) rest in omega arith))
 
 held_at : (all : List Born) (n : ℕ) (bs : List Born) (i : ℕ) (o : ObjNo) → o.0 ≡ n + i → EachHeld all n bs → i < length bs → 0 < links o all + (if is_some (get_or (map (λ b. b.thread) bs) i None) then 1 else 0)
 held_at all n [] i o at h inside = absurd (omega arith)

@@ -1,8 +1,7 @@
 -- At boot no process is a thread.
 use Rattle.std.proofs.Common.{◌≡◌, ℕ, suc, zero, ◌+◌, List, [], ◌∷◌, ◌++◌, length, get_or, arith, refl, sym, subst, ap, ◌∙◌, Option, Some, None, Bool, true, false, map}
-use Rattle.std.specs.Prelude.{codes, if◌then◌else◌}
+use Rattle.std.specs.Prelude.{if◌then◌else◌}
 use Rattle.std.proofs.lemmas.List.{length-append, append_assoc}
-use Rattle.sym_base.specs.declared.kind.Kind.TheVariants.{Thread}
 use Rattle.script_types.specs.declared.script.Script.{Script}
 use Rattle.script_types.specs.declared.declaration.ProcessDecl.{ProcessDecl}
 use Rattle.script_types.specs.declared.declaration.QueueDecl.{QueueDecl}
@@ -11,8 +10,7 @@ use Rattle.machine.specs.declared.boot.Born.{Born}
 use Rattle.machine.specs.declared.state.Role.{Role}
 use Rattle.machine.specs.declared.state.Role.TheVariants.{Supervisor, Queue, Declared}
 use Rattle.machine.specs.declared.state.ThreadRow.{ThreadRow}
-use Rattle.machine.specs.Boot.{boot_object, born, born_process, born_queues, born_thread, born_threads, born_processes, new_thread, is_of}
-use Rattle.machine.proofs.AtBoot.Born.{length_queues}
+use Rattle.machine.specs.Boot.{born, born_kernel, born_process, born_queues, born_thread, born_threads, born_processes, new_thread, is_of}
 
 at_seam : (pre : List Born) (b : Born) (bs : List Born) → get_or (map (λ x. x.thread) (pre ++ b ∷ bs)) (length pre) None ≡ b.thread
 at_seam [] b bs = refl
@@ -60,27 +58,17 @@ linked_processes all pre threads j p (d ∷ ds) at e =
       each_linked-append all own rest (linked_threads all (Some j) p 0 threads none) (linked_processes all more threads (j + 1) (p + 1 + length own) ds long again),
     )
 
--- the kernel's process and the supervisor
-abbrev pub first_two : List Born
-first_two = born_process (codes "kernel") ∷ record { object = boot_object Thread (codes "supervisor"); thread = Some (new_thread 0 Supervisor 48); works = false; held = false } ∷ []
-
 pub each_linked : (script : Script) → EachLinked (born script) (born script)
 each_linked script =
     let all = born script in
     let queues = born_queues 1 script.queues in
     let own = born_threads None 0 0 script.threads in
-    let first = 2 + length script.queues + length own in
-    let rest = born_processes script.threads 0 first script.processes in
-    let long = length-append queues own in
-    let many = length_queues 1 script.queues in (
+    let first = length (born_kernel script) in
+    each_linked-append all (born_kernel script) (born_processes script.threads 0 first script.processes) (
       λ row is. absurd (none_some None row refl is),
-      (
-        linked_thread all 0 Supervisor 48 refl,
-        each_linked-append all (queues ++ own) rest
-            (each_linked-append all queues own (linked_queues all 1 script.queues refl) (linked_threads all None 0 0 script.threads refl))
-            (linked_processes all (first_two ++ queues ++ own) script.threads 0 first script.processes (omega arith) refl),
-      ),
+      (linked_thread all 0 Supervisor 48 refl, each_linked-append all queues own (linked_queues all 1 script.queues refl) (linked_threads all None 0 0 script.threads refl)),
     )
+    (linked_processes all (born_kernel script) script.threads 0 first script.processes refl refl)
 
 pub linked_at : (all bs : List Born) (i : ℕ) (row : ThreadRow) → EachLinked all bs → get_or (map (λ x. x.thread) bs) i None ≡ Some row → get_or (map (λ x. x.thread) all) row.process.0 None ≡ None
 linked_at all [] i row h is = cc

@@ -17,7 +17,7 @@ use Rattle.script_types.proofs.NewNames.{process_names, queue_names, thread_name
 use Rattle.machine.specs.declared.boot.Born.{Born}
 use Rattle.state_rows.specs.declared.object.ObjectRow.{ObjectRow}
 use Rattle.machine.proofs.AtBoot.Declared.{all-append, all_threads, all_processes}
-use Rattle.machine.specs.Boot.{boot, boot_of, born, born_queues, born_thread, born_threads, born_processes, is_of}
+use Rattle.machine.specs.Boot.{boot, boot_of, born, born_kernel, born_queues, born_thread, born_threads, born_processes, is_of}
 use Rattle.state_rows.specs.ObjectRows.{has_name}
 
 -- the rows of the objects of a list
@@ -39,15 +39,10 @@ plain_born : (script : Script) → AllByRecursion IsPlain (born script)
 plain_born script =
     let queues = born_queues 1 script.queues in
     let own = born_threads None 0 0 script.threads in
-    let first = 2 + length script.queues + length own in
-    let rest = born_processes script.threads 0 first script.processes in (
-      (refl, inl refl),
-      (
-        (refl, inr refl),
-        all-append IsPlain (queues ++ own) rest (all-append IsPlain queues own (plain_queues 1 script.queues) (all_threads IsPlain plain_thread None 0 0 script.threads))
-            (all_processes IsPlain plain_thread (λ name. (refl, inl refl)) script.threads 0 first script.processes),
-      ),
-    )
+    let first = length (born_kernel script) in
+    all-append IsPlain (born_kernel script) (born_processes script.threads 0 first script.processes)
+    ((refl, inl refl), ((refl, inr refl), all-append IsPlain queues own (plain_queues 1 script.queues) (all_threads IsPlain plain_thread None 0 0 script.threads)))
+    (all_processes IsPlain plain_thread (λ name. (refl, inl refl)) script.threads 0 first script.processes)
 
 -- what holds of a row at boot
 abbrev IsPlainRow : ObjectRow → Type 0
@@ -233,28 +228,33 @@ apart_behind : (front : List (List ℕ)) (ds : List ProcessDecl) (ts : List Thre
 apart_behind [] ds ts apart = apart_grouped ds ts apart
 apart_behind (x ∷ xs) ds ts apart = (none_behind x xs ds ts apart.0, apart_behind xs ds ts apart.1)
 
--- the names of what stands behind the first two, of those of a kind
-names_behind : (c : ℕ) (script : Script) → let own = born_threads None 0 0 script.threads in let rest = born_processes script.threads 0 (2 + length script.queues + length own) script.processes in names_of c (born_queues 1 script.queues ++ own ++ rest) ≡ names_of c (born_queues 1 script.queues) ++ (names_of c own ++ names_of c rest)
-names_behind c script =
-    let own = born_threads None 0 0 script.threads in
-    let rest = born_processes script.threads 0 (2 + length script.queues + length own) script.processes in
-    ap (names_of c) (append_assoc (born_queues 1 script.queues) own rest)
-    ∙ (names_of-append c (born_queues 1 script.queues) (own ++ rest) ∙ ap (λ (l : List (List ℕ)). names_of c (born_queues 1 script.queues) ++ l) (names_of-append c own rest))
-
 processes_apart : (script : Script) → IsValid script → AreNamesApart (names_of 0 (born script))
 processes_apart script valid =
-    let first = 2 + length script.queues + length (born_threads None 0 0 script.threads) in
-    let names = names_behind 0 script
-    ∙ rw (no_process_queue 1 script.queues, no_process None 0 0 script.threads) (born_processes-names script.threads 0 first script.processes) in
-    subst (λ (l : List (List ℕ)). AreNamesApart (codes "kernel" ∷ l)) (sym names) (valid_names_new script valid).processes
+    let queues = born_queues 1 script.queues in
+    let own = born_threads None 0 0 script.threads in
+    let first = length (born_kernel script) in
+    let rest = born_processes script.threads 0 first script.processes in
+    let kernel : names_of 0 (born_kernel script) ≡ codes "kernel" ∷ [] =
+    ap (λ (l : List (List ℕ)). codes "kernel" ∷ l) (names_of-append 0 queues own ∙ rw (no_process_queue 1 script.queues, no_process None 0 0 script.threads) refl) in
+    let names : names_of 0 (born script) ≡ codes "kernel" ∷ process_names script.processes =
+    names_of-append 0 (born_kernel script) rest
+    ∙ (ap (λ (l : List (List ℕ)). l ++ names_of 0 rest) kernel ∙ ap (λ (l : List (List ℕ)). codes "kernel" ∷ l) (born_processes-names script.threads 0 first script.processes)) in
+    subst AreNamesApart (sym names) (valid_names_new script valid).processes
 
 threads_apart : (script : Script) → IsValid script → AreNamesApart (names_of 1 (born script))
 threads_apart script valid =
-    let first = 2 + length script.queues + length (born_threads None 0 0 script.threads) in
-    let names = names_behind 1 script
-    ∙ rw (born_queue-names 1 script.queues, born_names None 0 0 script.threads, born_threads-names script.threads 0 first script.processes) refl in
-    subst (λ (l : List (List ℕ)). AreNamesApart (codes "supervisor" ∷ l)) (sym names)
-    (apart_behind (codes "supervisor" ∷ queue_names script.queues) script.processes script.threads (valid_names_new script valid).threads)
+    let own = born_threads None 0 0 script.threads in
+    let first = length (born_kernel script) in
+    let rest = born_processes script.threads 0 first script.processes in
+    let front = codes "supervisor" ∷ queue_names script.queues in
+    let kernel : names_of 1 (born_kernel script) ≡ front ++ own_names None script.threads =
+    ap (λ (l : List (List ℕ)). codes "supervisor" ∷ l) (names_of-append 1 (born_queues 1 script.queues) own ∙ rw (born_queue-names 1 script.queues, born_names None 0 0 script.threads) refl) in
+    let names : names_of 1 (born script) ≡ front ++ grouped script.processes script.threads =
+    names_of-append 1 (born_kernel script) rest
+    ∙ (ap (λ (l : List (List ℕ)). l ++ names_of 1 rest) kernel
+    ∙ (ap (λ (l : List (List ℕ)). front ++ own_names None script.threads ++ l) (born_threads-names script.threads 0 first script.processes)
+    ∙ append_assoc front (own_names None script.threads) (names_from 0 script.processes script.threads))) in
+    subst AreNamesApart (sym names) (apart_behind front script.processes script.threads (valid_names_new script valid).threads)
 
 -- no two objects at boot have one kind and one name
 pub boot_names_new : (script : Script) → IsValid script → (k : ℕ) (row : ObjectRow) → slice_get (boot script).objects k ≡ Some (Some row) → list_any (has_name row.kind row.name) (take k (boot script).objects) ≡ false

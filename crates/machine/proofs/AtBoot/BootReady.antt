@@ -9,7 +9,8 @@ use Rattle.state_rows.specs.declared.duty.Owed.{Owed}
 use Rattle.machine.specs.declared.boot.Born.{Born}
 use Rattle.machine.specs.declared.state.ThreadRow.{ThreadRow}
 use Rattle.machine.specs.Arrivals.{is_listed}
-use Rattle.machine.specs.Boot.{boot, boot_of, born, calls_of, ready_from}
+use Rattle.state_rows.specs.DeclaredCalls.{calls_of}
+use Rattle.machine.specs.Boot.{boot, boot_of, born, ready_from}
 use Rattle.machine.specs.Rows.{first_of}
 use Rattle.machine.specs.Task.{task_of, task_of_row, is_wait, is_waiting, is_waiting_row, is_stopped}
 use Rattle.machine.specs.WellFormed.{AreApart, IsReadyList}

@@ -7,7 +7,7 @@ use Rattle.script_types.specs.declared.declaration.ThreadDecl.{ThreadDecl}
 use Rattle.script_types.specs.declared.script.Script.{Script}
 use Rattle.machine.specs.declared.boot.Born.{Born}
 use Rattle.machine.specs.declared.state.ThreadRow.{ThreadRow}
-use Rattle.machine.specs.Boot.{born, born_queues, born_thread, born_threads, born_processes}
+use Rattle.machine.specs.Boot.{born, born_kernel, born_queues, born_thread, born_threads, born_processes}
 use Rattle.machine.specs.Task.{served_queue}
 use Rattle.machine.proofs.AtBoot.Declared.{all-append, all_threads, all_processes}
 
@@ -40,7 +40,7 @@ serve_queues n q (d ∷ ds) bs at h = (λ queue is. let e : q ≡ queue = cc in 
 each_serves : (script : Script) → EachServes 0 (born script)
 each_serves script =
     let own = born_threads None 0 0 script.threads in
-    let first = 2 + length script.queues + length own in
+    let first = length (born_kernel script) in
     let rest = born_processes script.threads 0 first script.processes in
     let others = all-append ServesNone own rest (all_threads ServesNone no_server None 0 0 script.threads) (all_processes ServesNone no_server (λ name. refl) script.threads 0 first script.processes) in (
       λ queue is. absurd (cc),

@@ -17,7 +17,8 @@ use Rattle.machine.specs.declared.state.Role.{Role}
 use Rattle.machine.specs.declared.state.Role.TheVariants.{Supervisor, Queue, Declared}
 use Rattle.machine.specs.declared.state.ThreadRow.{ThreadRow}
 use Rattle.machine.specs.declared.state.Waiting.TheVariants as waiting
-use Rattle.machine.specs.Boot.{born, born_process, born_queues, born_thread, born_threads, born_processes, calls_of, new_thread, has_any, is_of}
+use Rattle.state_rows.specs.DeclaredCalls.{calls_of}
+use Rattle.machine.specs.Boot.{born, born_kernel, born_process, born_queues, born_thread, born_threads, born_processes, new_thread, has_any, is_of}
 use Rattle.machine.specs.Task.{instructions_in, run_or, step_or_end, task_of_row}
 use Rattle.machine.proofs.Lists.Copies.{copy_at}
 
@@ -119,30 +120,28 @@ each_born_queues script n q (d ∷ ds) lt few =
       each_born_queues script n (q + 1) ds lt parts.1,
     )
 
-pub length_queues : (q : ℕ) (ds : List QueueDecl) → length (born_queues q ds) ≡ length ds
+each_born_kernel : (script : Script) → IsShaped script → (n : ℕ) → 0 < n → EachBorn script n (born_kernel script)
+each_born_kernel script shaped n some = (
+  is_born_process script n (codes "kernel"),
+  (
+    record { alive = refl; row = λ row is. is_new_thread n 0 Supervisor 48 some (omega arith) row is; works = no_work script 0 },
+    each_born-append script n (born_queues 1 script.queues) (born_threads None 0 0 script.threads)
+        (each_born_queues script n 1 script.queues some shaped.numbers.queues)
+        (each_born_threads script shaped n None 0 [] script.threads some refl),
+  ),
+)
+
+length_queues : (q : ℕ) (ds : List QueueDecl) → length (born_queues q ds) ≡ length ds
 length_queues q [] = refl
 length_queues q (d ∷ ds) = let r = length_queues (q + 1) ds in omega arith
 
 pub each_born : (script : Script) → IsShaped script → EachBorn script (length (born script)) (born script)
 each_born script shaped =
     let n = length (born script) in
-    let queues = born_queues 1 script.queues in
-    let kernel = born_threads None 0 0 script.threads in
-    let first = 2 + length script.queues + length kernel in
+    let first = length (born_kernel script) in
     let rest = born_processes script.threads 0 first script.processes in
-    let long = length-append (queues ++ kernel) rest in
-    let more = length-append queues kernel in
-    let many = length_queues 1 script.queues in (
-      is_born_process script n (codes "kernel"),
-      (
-        record { alive = refl; row = λ row is. is_new_thread n 0 Supervisor 48 (omega arith) (omega arith) row is; works = no_work script 0 },
-        each_born-append script n (queues ++ kernel) rest
-            (each_born-append script n queues kernel
-            (each_born_queues script n 1 script.queues (omega arith) shaped.numbers.queues)
-            (each_born_threads script shaped n None 0 [] script.threads (omega arith) refl))
-            (each_born_processes script shaped n 0 first script.processes (omega arith)),
-      ),
-    )
+    let long = length-append (born_kernel script) rest in
+    each_born-append script n (born_kernel script) rest (each_born_kernel script shaped n (omega arith)) (each_born_processes script shaped n 0 first script.processes (omega arith))
 
 -- Threads stand in groups: the kernel threads, and then those of each process. This is the number of the process
 -- whose threads are the group behind one
@@ -204,15 +203,12 @@ count_from_all (d ∷ ds) = let r = count_from_all ds in omega arith
 -- at most 81 stand at boot
 pub born_few : (script : Script) → IsShaped script → length (born script) ≤ 81
 born_few script h =
-    let queues = born_queues 1 script.queues in
-    let kernel = born_threads None 0 0 script.threads in
-    let first = 2 + length script.queues + length kernel in
-    let rest = born_processes script.threads 0 first script.processes in
+    let first = length (born_kernel script) in
     let a = processes_length script.threads 0 first script.processes in
     let b = kernel_threads script.threads in
     let c = h.processes in
     let d = h.count in
     let e = count_from_all script.threads in
-    let f = length-append (queues ++ kernel) rest in
-    let g = length-append queues kernel in
+    let f = length-append (born_kernel script) (born_processes script.threads 0 first script.processes) in
+    let g = length-append (born_queues 1 script.queues) (born_threads None 0 0 script.threads) in
     let i = length_queues 1 script.queues in omega arith

@@ -22,7 +22,8 @@ use Rattle.machine.specs.declared.state.Waiting.{Waiting}
 use Rattle.machine.specs.declared.state.Waiting.TheVariants as waiting
 use Rattle.machine.specs.declared.state.ThreadRow.{ThreadRow}
 use Rattle.machine.specs.declared.state.State.{State}
-use Rattle.machine.specs.Bodies.{complete, dfc_named, end_wait, ends_wait, idfc_named, irq_of, leave_queue, op_moves, ops_moves, ops_of, ops_of_dfc, ops_of_idfc, ops_of_irq, queue_call, queue_immediate, queue_to_move, run_body, signal_object, signal_row}
+use Rattle.state_rows.specs.DeclaredCalls.{dfc_named, idfc_named}
+use Rattle.machine.specs.Bodies.{complete, end_wait, ends_wait, irq_of, leave_queue, op_moves, ops_moves, ops_of, ops_of_dfc, ops_of_idfc, ops_of_irq, queue_call, queue_immediate, queue_to_move, run_body, signal_object, signal_row}
 use Rattle.machine.specs.FastSemaphore.{signal_move}
 use Rattle.machine.specs.Find.{find_object}
 use Rattle.machine.specs.Fits.{EachFits, Sane, most_owed, most_told}

@@ -24,7 +24,8 @@ use Rattle.machine.specs.declared.state.Waiting.{Waiting}
 use Rattle.machine.specs.declared.state.Waiting.TheVariants as waiting
 use Rattle.machine.specs.declared.state.ThreadRow.{ThreadRow}
 use Rattle.machine.specs.declared.state.State.{State}
-use Rattle.machine.specs.Bodies.{add_call, dfc_named}
+use Rattle.state_rows.specs.DeclaredCalls.{dfc_named}
+use Rattle.machine.specs.Bodies.{add_call}
 use Rattle.machine.specs.Decide.{answer, unless_holding, wait_for}
 use Rattle.machine.specs.Fits.{FitsRequests}
 use Rattle.machine.specs.Queueing.{queue_do, queue_named}

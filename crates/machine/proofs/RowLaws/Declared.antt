@@ -12,8 +12,7 @@ use Rattle.state_rows.specs.Deferred.{queue_of}
 use Rattle.state_rows.specs.DeferredChanges.{burial, places_of}
 use Rattle.state_rows.specs.declared.deferred.DeferredRows.{DeferredRows}
 use Rattle.state_rows.specs.declared.deferred.DfcPlace.{DfcPlace}
-use Rattle.machine.specs.Bodies.{dfc_named, idfc_named}
-use Rattle.machine.specs.Boot.{place_of, queue_number}
+use Rattle.state_rows.specs.DeclaredCalls.{dfc_named, idfc_named, place_of, queue_number}
 use Rattle.machine.specs.WellFormed.{AreCalls}
 
 -- the place of what passes a test is inside the list

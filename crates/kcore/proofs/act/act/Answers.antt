@@ -1,4 +1,5 @@
 use Rattle.std.proofs.Common.{◌∙◌, sym}
+use Rattle.decisions.specs.Planned.{planned}
 use Rattle.machine.specs.declared.state.State.{State}
 use Rattle.machine.specs.Bodies.{decision_by}
 use Rattle.machine.specs.Steps.{decision_of}
@@ -10,7 +11,7 @@ use Rattle.kcore.proofs.GoingActions.{action_goes}
 use Rattle.kcore.proofs.act.act.Goals as goal
 
 pub follow-requires-clause-goes : goal.follow-requires-clause-goes
-follow-requires-clause-goes g c = rw c.plan_of-plan.ensures (action_goes c.args.script.now (state_of c.args.tables.now) c.args.thread c.requires.shaped c.requires.rows)
+follow-requires-clause-goes g c = rw c.next_action-body.ensures (action_goes c.args.script.now (state_of c.args.tables.now) c.args.thread c.requires.shaped c.requires.rows)
 
 -- what was planned is what the thread decides
 pub returns : goal.returns
@@ -20,4 +21,4 @@ returns g c =
     let t = c.args.thread in
     let X = state_of c.args.tables.now in
     let decide = λ (S : State). decision_of script S t in
-    does_same script t (decision_by script t X c.plan_of-plan.result) decide c.args.tables.now c.follow.new.tables c.args.ready.now c.follow.new.ready c.follow.result (λ qs. c.plan_of-plan.ensures ∙ sym (decision_apart script X qs t)) c.follow.ensures
+    does_same script t (decision_by script t X (planned c.next_action-body.new.decision c.next_action-body.result)) decide c.args.tables.now c.follow.new.tables c.args.ready.now c.follow.new.ready c.follow.result (λ qs. c.next_action-body.ensures ∙ sym (decision_apart script X qs t)) c.follow.ensures

@@ -21,7 +21,7 @@ perform-requires-clause-go g c =
     let t = c.args.thread in
     let S = state_of c.args.tables.now in
     let ms = leave_queue S c.args.body in
-    rw (c.as_slice.ensures.moves, c.leave_queue-moves.ensures.moves) (moves_part script t ms (ops_moves script t (perform t ms S) (ops_of script c.args.body)) S c.requires.goes.each).0
+    rw (c.as_slice.ensures.moves, c.leave_queue.ensures.moves) (moves_part script t ms (ops_moves script t (perform t ms S) (ops_of script c.args.body)) S c.requires.goes.each).0
 
 pub perform-requires-clause-few : goal.perform-requires-clause-few
 perform-requires-clause-few g c =
@@ -33,7 +33,7 @@ perform-requires-clause-few g c =
     let all : length (tell t (ms ++ ns) S) ≡ length (tell t ms S ++ tell t ns (perform t ms S)) = ap length (tell_append t ms ns S) in
     let long = length-append (tell t ms S) (tell t ns (perform t ms S)) in
     let few = c.requires.goes.few in
-    rw (c.as_slice.ensures.moves, c.leave_queue-moves.ensures.moves, c.new-effects.ensures) (omega arith)
+    rw (c.as_slice.ensures.moves, c.leave_queue.ensures.moves, c.new-effects.ensures) (omega arith)
 
 pub run_ops-requires-clause-go : goal.run_ops-requires-clause-go
 run_ops-requires-clause-go g c =
@@ -42,7 +42,7 @@ run_ops-requires-clause-go g c =
     let S = state_of c.args.tables.now in
     let ms = leave_queue S c.args.body in
     let ops = ops_of script c.args.body in
-    let did = rw (c.as_slice.ensures.moves, c.leave_queue-moves.ensures.moves) at c.perform.ensures.performed in
+    let did = rw (c.as_slice.ensures.moves, c.leave_queue.ensures.moves) at c.perform.ensures.performed in
     let go = (moves_part script t ms (ops_moves script t (perform t ms S) ops) S c.requires.goes.each).1 in
     rw c.ops_of.ensures (subst (λ (U : State). MovesGo script t (ops_moves script t U ops) U) (sym did.state) go)
 
@@ -55,7 +55,7 @@ run_ops-requires-clause-few g c =
     let ops = ops_of script c.args.body in
     let T = perform t ms S in
     let ns = ops_moves script t T ops in
-    let did = rw (c.as_slice.ensures.moves, c.leave_queue-moves.ensures.moves, c.new-effects.ensures) at c.perform.ensures.performed in
+    let did = rw (c.as_slice.ensures.moves, c.leave_queue.ensures.moves, c.new-effects.ensures) at c.perform.ensures.performed in
     let all : length (tell t (ms ++ ns) S) ≡ length (tell t ms S ++ tell t ns T) = ap length (tell_append t ms ns S) in
     let long = length-append (tell t ms S) (tell t ns T) in
     let few = c.requires.goes.few in
@@ -66,8 +66,8 @@ run_ops-requires-clause-few g c =
 pub run_ops-requires-clause-short : goal.run_ops-requires-clause-short
 run_ops-requires-clause-short g c =
     let short = short_body c.args.script.now c.args.body c.requires.shaped in
-    let first = c.leave_queue-moves.ensures.few in
-    let made : length c.add_moves.new.made ≡ length c.leave_queue-moves.result = ap length (rw (c.new-made.ensures, c.as_slice-2.ensures.moves) at c.add_moves.ensures) in
+    let first = c.leave_queue.ensures.few in
+    let made : length c.add_moves.new.made ≡ length c.leave_queue.new.moves = ap length (rw (c.new-made.ensures, c.as_slice-2.ensures.moves) at c.add_moves.ensures) in
     rw c.ops_of.ensures (omega arith)
 
 -- the moves that were made are those of the body
@@ -82,10 +82,10 @@ returns g c =
     let d = run_body script t S c.args.body in
     let ms = leave_queue S c.args.body in
     let ops = ops_of script c.args.body in
-    let first = rw (c.as_slice.ensures.moves, c.leave_queue-moves.ensures.moves, c.new-effects.ensures) at c.perform.ensures.performed in
+    let first = rw (c.as_slice.ensures.moves, c.leave_queue.ensures.moves, c.new-effects.ensures) at c.perform.ensures.performed in
     let second = rw c.ops_of.ensures at c.run_ops.ensures.performed in
     let did = body_performed script t ms ops old mid new c.args.ready.now c.perform.new.ready c.run_ops.new.ready [] c.perform.new.effects c.run_ops.new.effects first second in
-    let noted : c.as_slice-3.result.now ≡ ms ++ ops_moves script t (state_of mid) ops = rw (c.add_moves.ensures, c.new-made.ensures, c.as_slice-2.ensures.moves, c.leave_queue-moves.ensures.moves, c.ops_of.ensures) at (c.as_slice-3.ensures ∙ c.run_ops.ensures.made) in
+    let noted : c.as_slice-3.result.now ≡ ms ++ ops_moves script t (state_of mid) ops = rw (c.add_moves.ensures, c.new-made.ensures, c.as_slice-2.ensures.moves, c.leave_queue.ensures.moves, c.ops_of.ensures) at (c.as_slice-3.ensures ∙ c.run_ops.ensures.made) in
     let moves : c.as_slice-3.result.now ≡ d.moves = noted ∙ ap (λ (U : State). ms ++ ops_moves script t U ops) first.state in
     let follow = rw moves at c.leave_along.ensures.queues in
     carried_does script t d old new c.args.ready.now c.run_ops.new.ready c.leave_along.new.ready _ c.run_ops.new.effects c.requires.goes.each did follow (rw c.step_of_body.ensures refl)

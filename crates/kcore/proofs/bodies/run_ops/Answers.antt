@@ -21,7 +21,7 @@ perform-requires-clause-go g c =
     let o = c.op-item.result in
     let i = c.loop-op.op-index in
     let h = rw (next_item c.args.ops.now i o c.loop-op-test.true c.op-item.is) at c.loop-op.invariant in
-    rw (c.as_slice.ensures.moves, c.op_moves-moves.ensures.moves) (moves_part script t (op_moves script T o) (ops_moves script t (perform t (op_moves script T o) T) (drop (i + 1) c.args.ops.now)) T h.way.go).0
+    rw (c.as_slice.ensures.moves, c.op_moves.ensures.moves) (moves_part script t (op_moves script T o) (ops_moves script t (perform t (op_moves script T o) T) (drop (i + 1) c.args.ops.now)) T h.way.go).0
 
 pub perform-requires-clause-few : goal.perform-requires-clause-few
 perform-requires-clause-few g c =
@@ -32,13 +32,13 @@ perform-requires-clause-few g c =
     let i = c.loop-op.op-index in
     let ns = op_moves script T o in
     let h = rw (next_item c.args.ops.now i o c.loop-op-test.true c.op-item.is) at c.loop-op.invariant in
-    rw (c.as_slice.ensures.moves, c.op_moves-moves.ensures.moves) (way_few script t _ ns (ops_moves script t (perform t ns T) (drop (i + 1) c.args.ops.now)) c.args.tables.now c.loop-op.tables c.args.ready.now c.loop-op.ready c.args.effects.now c.loop-op.effects c.requires.few h.way)
+    rw (c.as_slice.ensures.moves, c.op_moves.ensures.moves) (way_few script t _ ns (ops_moves script t (perform t ns T) (drop (i + 1) c.args.ops.now)) c.args.tables.now c.loop-op.tables c.args.ready.now c.loop-op.ready c.args.effects.now c.loop-op.effects c.requires.few h.way)
 
 pub add_moves-requires : goal.add_moves-requires
 add_moves-requires g c =
     let h = rw (next_item c.args.ops.now c.loop-op.op-index c.op-item.result c.loop-op-test.true c.op-item.is) at c.loop-op.invariant in
     let few = h.few in
-    let moves = c.op_moves-moves.ensures.few in
+    let moves = c.op_moves.ensures.few in
     let all = c.requires.short in
     let same = ap length c.as_slice-2.ensures.moves in
     omega arith
@@ -53,9 +53,9 @@ loop-op-preserved g c =
     let i = c.loop-op.op-index in
     let ns = op_moves script (state_of tables) o in
     let h = rw (next_item c.args.ops.now i o c.loop-op-test.true c.op-item.is) at c.loop-op.invariant in
-    let did = subst (λ (ms : List Move). IsPerformed script t ms tables new c.loop-op.ready c.perform.new.ready c.loop-op.effects c.perform.new.effects) (c.as_slice.ensures.moves ∙ c.op_moves-moves.ensures.moves) c.perform.ensures.performed in
-    let short : length ns ≤ 2 = subst (λ (ms : List Move). length ms ≤ 2) c.op_moves-moves.ensures.moves c.op_moves-moves.ensures.few in
-    rw (c.add_moves.ensures, c.as_slice-2.ensures.moves, c.op_moves-moves.ensures.moves) (ops_go_on script t c.args.ops.now c.args.tables.now c.args.ready.now c.args.effects.now c.args.made.now o (drop (i + 1) c.args.ops.now) tables new c.loop-op.ready c.perform.new.ready c.loop-op.effects c.perform.new.effects c.loop-op.made h did c.perform.ensures.size short)
+    let did = subst (λ (ms : List Move). IsPerformed script t ms tables new c.loop-op.ready c.perform.new.ready c.loop-op.effects c.perform.new.effects) (c.as_slice.ensures.moves ∙ c.op_moves.ensures.moves) c.perform.ensures.performed in
+    let short : length ns ≤ 2 = subst (λ (ms : List Move). length ms ≤ 2) c.op_moves.ensures.moves c.op_moves.ensures.few in
+    rw (c.add_moves.ensures, c.as_slice-2.ensures.moves, c.op_moves.ensures.moves) (ops_go_on script t c.args.ops.now c.args.tables.now c.args.ready.now c.args.effects.now c.args.made.now o (drop (i + 1) c.args.ops.now) tables new c.loop-op.ready c.perform.new.ready c.loop-op.effects c.perform.new.effects c.loop-op.made h did c.perform.ensures.size short)
 
 pub returns-clause-performed : goal.returns-clause-performed
 returns-clause-performed g c =

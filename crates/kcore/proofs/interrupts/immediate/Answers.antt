@@ -11,7 +11,7 @@ use Rattle.kcore.proofs.GoingActions.{immediate_goes}
 use Rattle.kcore.proofs.interrupts.immediate.Goals as goal
 
 pub follow-requires-clause-goes : goal.follow-requires-clause-goes
-follow-requires-clause-goes g c = rw c.immediate_plan-plan.ensures (immediate_goes c.args.script.now (state_of c.args.tables.now) c.requires.shaped c.requires.rows)
+follow-requires-clause-goes g c = rw c.immediate_action-body.ensures (immediate_goes c.args.script.now (state_of c.args.tables.now) c.requires.shaped c.requires.rows)
 
 pub returns : goal.returns
 unfolding immediate
@@ -19,4 +19,4 @@ returns g c =
     let script = c.args.script.now in
     let X = state_of c.args.tables.now in
     let decide = λ (S : State). decision_by script supervisor S (immediate_plan script S (next_immediate S.deferred)) in
-    does_same script supervisor (decide X) decide c.args.tables.now c.follow.new.tables c.args.ready.now c.follow.new.ready c.follow.result (λ qs. sym (immediate_apart script X qs)) (rw c.immediate_plan-plan.ensures at c.follow.ensures)
+    does_same script supervisor (decide X) decide c.args.tables.now c.follow.new.tables c.args.ready.now c.follow.new.ready c.follow.result (λ qs. sym (immediate_apart script X qs)) (rw c.immediate_action-body.ensures at c.follow.ensures)

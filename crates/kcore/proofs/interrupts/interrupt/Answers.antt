@@ -10,8 +10,8 @@ use Rattle.kcore.proofs.BodiesApart.{body_apart}
 use Rattle.kcore.proofs.GoingActions.{interrupt_goes}
 use Rattle.kcore.proofs.interrupts.interrupt.Goals as goal
 
-pub follow-requires-clause-goes : goal.follow-requires-clause-goes
-follow-requires-clause-goes g c = interrupt_goes c.args.script.now (state_of c.args.tables.now) c.args.number c.requires.shaped c.requires.rows
+pub run_body-requires-clause-goes : goal.run_body-requires-clause-goes
+run_body-requires-clause-goes g c = interrupt_goes c.args.script.now (state_of c.args.tables.now) c.args.number c.requires.shaped c.requires.rows
 
 pub returns : goal.returns
 unfolding interrupt
@@ -19,4 +19,4 @@ returns g c =
     let script = c.args.script.now in
     let X = state_of c.args.tables.now in
     let decide = λ (S : State). decision_by script supervisor S (Runs (Interrupt c.args.number)) in
-    does_same script supervisor (decide X) decide c.args.tables.now c.follow.new.tables c.args.ready.now c.follow.new.ready c.follow.result (λ qs. sym (body_apart script supervisor X qs (Interrupt c.args.number))) c.follow.ensures
+    does_same script supervisor (decide X) decide c.args.tables.now c.run_body.new.tables c.args.ready.now c.run_body.new.ready c.run_body.result (λ qs. sym (body_apart script supervisor X qs (Interrupt c.args.number))) c.run_body.ensures

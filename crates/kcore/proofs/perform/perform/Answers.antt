@@ -7,14 +7,14 @@ use Rattle.kcore.specs.StateOf.{state_of}
 use Rattle.kcore.proofs.Performing.{performed_one, way_goes_on, way_few, next_item}
 use Rattle.kcore.proofs.perform.perform.Goals as goal
 
-pub add_effects-requires : goal.add_effects-requires
-add_effects-requires g c =
+pub tell-requires-clause-few : goal.tell-requires-clause-few
+tell-requires-clause-few g c =
     let m = c.change-item.result in
     let i = c.loop-change.change-index in
     let next = next_item c.args.moves.now i m c.loop-change-test.true c.change-item.is in
     let h = rw next at c.loop-change.invariant in
     let told_now = told m (state_of c.loop-change.tables) in
-    rw (c.as_slice.ensures.effects, c.told.ensures) (subst (λ (es : List Effect). length c.loop-change.effects + length es ≤ 4) (append-nil told_now) (way_few c.args.script.now c.args.thread c.args.moves.now (m ∷ []) (drop (i + 1) c.args.moves.now) c.args.tables.now c.loop-change.tables c.args.ready.now c.loop-change.ready c.args.effects.now c.loop-change.effects c.requires.few h))
+    subst (λ (es : List Effect). length c.loop-change.effects + length es ≤ 4) (append-nil told_now) (way_few c.args.script.now c.args.thread c.args.moves.now (m ∷ []) (drop (i + 1) c.args.moves.now) c.args.tables.now c.loop-change.tables c.args.ready.now c.loop-change.ready c.args.effects.now c.loop-change.effects c.requires.few h)
 
 pub make_move-requires-clause-can : goal.make_move-requires-clause-can
 make_move-requires-clause-can g c =
@@ -36,4 +36,4 @@ loop-change-preserved g c =
     let h = rw next at c.loop-change.invariant in
     let follow = rw c.touched.ensures at c.arrive_touched.ensures.queues in
     let one = performed_one script t m tables new c.loop-change.ready c.take_out.new.ready c.arrive_touched.new.ready c.loop-change.effects h.go.0 h.performed.kept c.make_move.ensures c.take_out.ensures.queues follow in
-    rw (c.add_effects.ensures, c.as_slice.ensures.effects, c.told.ensures) (way_goes_on script t c.args.moves.now (m ∷ []) (drop (i + 1) c.args.moves.now) c.args.tables.now tables new c.args.ready.now c.loop-change.ready c.arrive_touched.new.ready c.args.effects.now c.loop-change.effects _ h one c.arrive_touched.ensures.size)
+    rw c.tell.ensures (way_goes_on script t c.args.moves.now (m ∷ []) (drop (i + 1) c.args.moves.now) c.args.tables.now tables new c.args.ready.now c.loop-change.ready c.arrive_touched.new.ready c.args.effects.now c.loop-change.effects _ h one c.arrive_touched.ensures.size)

@@ -12,4 +12,4 @@ pub returns : goal.returns
 returns g c =
     let did = rw (c.as_slice-moves.ensures.moves, c.new-effects.ensures) at c.perform.ensures.performed in
     let follow = rw c.as_slice-moves.ensures.moves at c.leave_along.ensures.queues in
-    carried_does c.args.script.now c.args.thread c.args.decision c.args.tables.now c.perform.new.tables c.args.ready.now c.perform.new.ready c.leave_along.new.ready _ c.perform.new.effects c.requires.goes.each did follow refl
+    carried_does c.args.script.now c.args.thread c.args.decision.now c.args.tables.now c.perform.new.tables c.args.ready.now c.perform.new.ready c.leave_along.new.ready _ c.perform.new.effects c.requires.goes.each did follow refl

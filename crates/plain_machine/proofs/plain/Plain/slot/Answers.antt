@@ -3,9 +3,10 @@ use Rattle.entry_log.specs.declared.entry.Entry.{Entry}
 use Rattle.script_types.proofs.ShapeLaws.{valid_is_shaped}
 use Rattle.script_types.specs.declared.script.Script.{Script}
 use Rattle.machine.specs.declared.state.State.{State}
+use Rattle.plain_machine.specs.Allowed.{AllowsAction}
 use Rattle.plain_machine.specs.PlainView.{PlainView, IsPlain}
 use Rattle.machine.specs.Slots.{IsDeclared}
-use Rattle.plain_machine.proofs.Steps.{AllowsAction, allows_action, formed_plain, plain_goes_on_by}
+use Rattle.plain_machine.proofs.Steps.{allows_action, formed_plain, plain_goes_on_by}
 use Rattle.plain_machine.proofs.plain.Plain.slot.Goals as goal
 
 pub transition-requires-clause-shaped : goal.transition-requires-clause-shaped
@@ -14,14 +15,8 @@ transition-requires-clause-shaped c = valid_is_shaped c.self.inside.script c.sel
 allows : (script : Script) (history : List Entry) (S copy : State) → IsPlain script history S → copy ≡ S → AllowsAction script copy
 allows script history S copy plain same = subst (AllowsAction script) (sym same) (allows_action script S (valid_is_shaped script plain.valid) (formed_plain script history S plain).rows)
 
-pub transition-requires-clause-room : goal.transition-requires-clause-room
-transition-requires-clause-room c = (allows _ _ _ _ c.self.invariant c.in_ok-state.ensures).room
-
-pub transition-requires-clause-small : goal.transition-requires-clause-small
-transition-requires-clause-small c = (allows _ _ _ _ c.self.invariant c.in_ok-state.ensures).small
-
-pub transition-requires-clause-few : goal.transition-requires-clause-few
-transition-requires-clause-few c = (allows _ _ _ _ c.self.invariant c.in_ok-state.ensures).few
+pub transition-requires-clause-allowed : goal.transition-requires-clause-allowed
+transition-requires-clause-allowed c = allows _ _ _ _ c.self.invariant c.in_ok-state.ensures
 
 pub invariant_of-self-2 : goal.invariant_of-self-2
 invariant_of-self-2 c =

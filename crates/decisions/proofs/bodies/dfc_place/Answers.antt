@@ -1,9 +1,0 @@
-use Rattle.std.proofs.Common.{rules, tests}
-use Rattle.std.specs.Str.{bytes_eq}
-use Rattle.std.proofs.lemmas.Iterator.{YieldsList-from_slice}
-use Rattle.std.proofs.lemmas.Iterator.Search.{position_from_yields_List}
-use Rattle.script_types.specs.declared.declaration.DfcDecl.{DfcDecl}
-use Rattle.decisions.proofs.bodies.dfc_place.Goals as goal
-
-pub returns-clause-place : goal.returns-clause-place
-returns-clause-place c = position_from_yields_List (λ (d : DfcDecl). bytes_eq c.args.name.now d.name) _ _ _ c.position.ensures.ran (YieldsList-from_slice c.args.script.now.dfcs cc) (λ x b q k. search (rules, tests))

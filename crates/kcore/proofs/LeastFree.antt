@@ -1,0 +1,42 @@
+-- The least free slot of a handle table, looked for from a place on before which no slot is free.
+use Rattle.std.proofs.Common.{◌≡◌, ◌≢◌, inl, inr, ℕ, suc, zero, ◌+◌, ◌<◌, ◌≤◌, List, [], ◌∷◌, length, drop, arith, refl, subst, Option, Some, None}
+use Rattle.std.specs.Prelude.{slice_set, is_none, if◌then◌else◌}
+use Rattle.std.proofs.lemmas.Bool.{cases_eq}
+use Rattle.sym_base.specs.declared.number.ObjNo.{ObjNo}
+use Rattle.machine.specs.declared.state.HandleSlot.{HandleSlot}
+use Rattle.machine.specs.Handles.{free_index, slot_at, taken_slot}
+
+from_step : (x : Option ObjNo) (n rest all : ℕ) → suc n ≤ (if is_none x then 0 else all + 1) → (n ≤ all → n + rest ≡ all) → suc n + rest ≡ (if is_none x then 0 else all + 1)
+from_step None n rest all h same = absurd (omega arith)
+from_step (Some o) n rest all h same = let r = same (omega arith) in omega arith
+
+-- it is the least free one of the rest
+pub least_from : (slots : List HandleSlot) (n : ℕ) → n ≤ free_index slots → n + free_index (drop n slots) ≡ free_index slots
+least_from slots zero h = refl
+least_from [] (suc n) h = absurd (omega arith)
+least_from (slot ∷ slots) (suc n) h = from_step slot.object n (free_index (drop n slots)) (free_index slots) h (least_from slots n)
+
+keeps_step : (x : Option ObjNo) (n m old new : ℕ) → suc n ≤ (if is_none x then 0 else old + 1) → (n ≤ old → m ≤ new) → suc m ≤ (if is_none x then 0 else new + 1)
+keeps_step None n m old new h keeps = absurd (omega arith)
+keeps_step (Some o) n m old new h keeps = let r = keeps (omega arith) in omega arith
+
+-- a change behind a place leaves no slot free before it
+pub keeps_least : (slots : List HandleSlot) (n i : ℕ) (x : HandleSlot) → n ≤ free_index slots → n ≤ i → n ≤ free_index (slice_set slots i x)
+keeps_least slots zero i x h behind = omega arith
+keeps_least [] (suc n) i x h behind = absurd (omega arith)
+keeps_least (slot ∷ slots) (suc n) zero x h behind = absurd (omega arith)
+keeps_least (slot ∷ slots) (suc n) (suc i) x h behind = keeps_step slot.object n n (free_index slots) (free_index (slice_set slots i x)) h (λ le. keeps_least slots n i x le (omega arith))
+
+-- once the slot at the place is taken, none is free up to it
+pub takes_least : (slots : List HandleSlot) (i : ℕ) (o : ObjNo) (slot : HandleSlot) → i ≤ free_index slots → i < length slots → i + 1 ≤ free_index (slice_set slots i (taken_slot o slot))
+takes_least [] i o slot h inside = absurd (omega arith)
+takes_least (first ∷ slots) zero o slot h inside = omega arith
+takes_least (first ∷ slots) (suc i) o slot h inside = keeps_step first.object i (i + 1) (free_index slots) (free_index (slice_set slots i (taken_slot o slot))) h (λ le. takes_least slots i o slot le (omega arith))
+
+-- so the place from which the least free slot is looked for after a slot is taken
+pub low_taken : (slots : List HandleSlot) (low i next : ℕ) (o : ObjNo) → low ≤ free_index slots → i < length slots → (low ≡ i → next ≡ i + 1) → (low ≢ i → (next ≤ low) × (next ≤ i)) → next ≤ free_index (slice_set slots i (taken_slot o (slot_at slots i)))
+low_taken slots low i next o h inside here apart =
+    elim (cases_eq low i) as (λ _. next ≤ free_index (slice_set slots i (taken_slot o (slot_at slots i)))) [
+      | inl e ↦ let is = here e in let r = takes_least slots i o (slot_at slots i) (omega arith) inside in omega arith
+      | inr n ↦ let few = apart n in keeps_least slots next i (taken_slot o (slot_at slots i)) (omega arith) few.1
+    ]
