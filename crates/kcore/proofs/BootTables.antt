@@ -5,6 +5,8 @@ use Rattle.std.specs.List.{list_any}
 use Rattle.std.proofs.lemmas.Bool.{cases_eq, cases_lt, and_right}
 use Rattle.std.proofs.lemmas.List.{get_or-set_same, get_or-set_other, set-set, length-map, length-take-le}
 use Rattle.std.proofs.lemmas.Option.{slice_get-map}
+use Rattle.state_rows.specs.declared.deferred.DeferredRows.{DeferredRows}
+use Rattle.state_rows.specs.DeclaredCalls.{calls_of}
 use Rattle.state_rows.specs.declared.object.ObjectRow.{ObjectRow}
 use Rattle.state_rows.specs.ObjectRows.{has_name, is_session, is_taken}
 use Rattle.script_types.specs.declared.script.Script.{Script}
@@ -30,6 +32,10 @@ take_get_suc (y ∷ ys) (suc i) x h = ap (λ l. y ∷ l) (take_get_suc ys i x h)
 
 pub take_get : {A : Type 0} (xs : List A) (i : ℕ) (x : A) → slice_get xs i ≡ Some x → take (i + 1) xs ≡ take i xs ++ x ∷ []
 take_get xs i x h = rw add-one (take_get_suc xs i x h)
+
+-- the state that is made for what stands at boot
+pub boot_is : (script : Script) (S : State) (calls : DeferredRows) (bs : List Born) → S ≡ boot_of script.fast calls bs → calls ≡ calls_of script → bs ≡ born script → S ≡ boot script
+boot_is script S calls bs made are all = made ∙ (ap (λ (r : DeferredRows). boot_of script.fast r bs) are ∙ ap (boot_of script.fast (calls_of script)) all)
 
 -- an item that was read is at its place
 pub read_at : {A : Type 0} (xs : List A) (i : ℕ) (x : A) → i < length xs → x ≡ get_or xs i x → slice_get xs i ≡ Some x
