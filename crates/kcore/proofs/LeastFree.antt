@@ -12,7 +12,7 @@ from_step (Some o) n rest all h same = let r = same (omega arith) in omega arith
 
 -- it is the least free one of the rest
 pub least_from : (slots : List HandleSlot) (n : ℕ) → n ≤ free_index slots → n + free_index (drop n slots) ≡ free_index slots
-least_from slots zero h = refl
+least_from slots zero h = omega arith
 least_from [] (suc n) h = absurd (omega arith)
 least_from (slot ∷ slots) (suc n) h = from_step slot.object n (free_index (drop n slots)) (free_index slots) h (least_from slots n)
 
@@ -31,7 +31,9 @@ keeps_least (slot ∷ slots) (suc n) (suc i) x h behind = keeps_step slot.object
 takes_least : (slots : List HandleSlot) (i n : ℕ) (o : ObjNo) → i ≤ free_index slots → i < length slots → i + 1 ≤ free_index (slice_set slots i (record { instance = n; object = Some o }))
 takes_least [] i n o h inside = absurd (omega arith)
 takes_least (first ∷ slots) zero n o h inside = omega arith
-takes_least (first ∷ slots) (suc i) n o h inside = keeps_step first.object i (i + 1) (free_index slots) (free_index (slice_set slots i (record { instance = n; object = Some o }))) h (λ le. takes_least slots i n o le (omega arith))
+takes_least (first ∷ slots) (suc i) n o h inside =
+    let r = keeps_step first.object i (i + 1) (free_index slots) (free_index (slice_set slots i (record { instance = n; object = Some o }))) h (λ le. takes_least slots i n o le (omega arith)) in
+    omega arith
 
 -- so the place from which the least free slot is looked for after a slot is taken
 pub low_taken : (slots : List HandleSlot) (low i next : ℕ) (o : ObjNo) (n : ℕ) → low ≤ free_index slots → i < length slots → (low ≡ i → next ≡ i + 1) → (low ≢ i → (next ≤ low) × (next ≤ i)) → next ≤ free_index (slice_set slots i (record { instance = n; object = Some o }))
