@@ -1,10 +1,13 @@
 -- The least free slot of a handle table, looked for from a place on before which no slot is free.
-use Rattle.std.proofs.Common.{◌≡◌, ◌≢◌, inl, inr, ℕ, suc, zero, ◌+◌, ◌<◌, ◌≤◌, List, [], ◌∷◌, length, drop, arith, refl, subst, Option, Some, None}
+use Rattle.std.proofs.Common.{◌≡◌, ◌≢◌, inl, inr, ℕ, suc, zero, ◌+◌, ◌-◌, ◌<◌, ◌≤◌, List, [], ◌∷◌, length, drop, take, get_or, arith, refl, subst, Option, Some, None}
+use Rattle.std.proofs.lemmas.List.{take_rest}
 use Rattle.std.specs.Prelude.{slice_set, is_none, if◌then◌else◌}
 use Rattle.std.proofs.lemmas.Bool.{cases_eq}
 use Rattle.sym_base.specs.declared.number.ObjNo.{ObjNo}
 use Rattle.machine.specs.declared.state.HandleSlot.{HandleSlot}
-use Rattle.machine.specs.Handles.{free_index}
+use Rattle.machine.specs.Handles.{free_index, slot_at}
+use Rattle.machine.specs.WellFormed.{IsTable, AreTables}
+use Rattle.machine.proofs.RowLaws.Tables.{tables-with_slot}
 
 from_step : (x : Option ObjNo) (n rest all : ℕ) → suc n ≤ (if is_none x then 0 else all + 1) → (n ≤ all → n + rest ≡ all) → suc n + rest ≡ (if is_none x then 0 else all + 1)
 from_step None n rest all h same = absurd (omega arith)
@@ -50,3 +53,21 @@ within_step (Some o) a b h = omega arith
 pub least_within : (slots : List HandleSlot) → free_index slots ≤ length slots
 least_within [] = omega arith
 least_within (slot ∷ slots) = within_step slot.object (free_index slots) (length slots) (least_within slots)
+
+only_table : (table : List HandleSlot) → IsTable table → AreTables (table ∷ [])
+only_table table h zero inside = h
+only_table table h (suc k) inside = absurd (omega arith)
+
+-- a table in which another slot stands
+pub table_put : (table : List HandleSlot) (i : ℕ) (slot : HandleSlot) → slot.instance ≤ 16383 → IsTable table → IsTable (slice_set table i slot)
+table_put table i slot few h = tables-with_slot (table ∷ []) (record { 0 = 0 }) i (λ _. slot) (λ old le. few) (only_table table h) 0 (omega arith)
+
+-- the instance of a slot of a table, whatever stands past its end
+pub slot_few : (table : List HandleSlot) (i : ℕ) (past : HandleSlot) → ((k : ℕ) → (slot_at table k).instance ≤ 16383) → i < length table → (get_or table i past).instance ≤ 16383
+slot_few [] i past few inside = absurd (omega arith)
+slot_few (slot ∷ slots) zero past few inside = few 0
+slot_few (slot ∷ slots) (suc i) past few inside = slot_few slots i past (λ k. few (suc k)) (omega arith)
+
+-- the least free slot, looked for in the part from a place on
+pub least_in_part : (slots : List HandleSlot) (n : ℕ) → n ≤ free_index slots → n + free_index (take (length slots - n) (drop n slots)) ≡ free_index slots
+least_in_part slots n h = rw (take_rest slots n) (least_from slots n h)
