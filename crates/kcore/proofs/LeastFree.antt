@@ -4,7 +4,7 @@ use Rattle.std.specs.Prelude.{slice_set, is_none, if◌then◌else◌}
 use Rattle.std.proofs.lemmas.Bool.{cases_eq}
 use Rattle.sym_base.specs.declared.number.ObjNo.{ObjNo}
 use Rattle.machine.specs.declared.state.HandleSlot.{HandleSlot}
-use Rattle.machine.specs.Handles.{free_index, slot_at, taken_slot}
+use Rattle.machine.specs.Handles.{free_index}
 
 from_step : (x : Option ObjNo) (n rest all : ℕ) → suc n ≤ (if is_none x then 0 else all + 1) → (n ≤ all → n + rest ≡ all) → suc n + rest ≡ (if is_none x then 0 else all + 1)
 from_step None n rest all h same = absurd (omega arith)
@@ -12,7 +12,7 @@ from_step (Some o) n rest all h same = let r = same (omega arith) in omega arith
 
 -- it is the least free one of the rest
 pub least_from : (slots : List HandleSlot) (n : ℕ) → n ≤ free_index slots → n + free_index (drop n slots) ≡ free_index slots
-least_from slots zero h = refl
+least_from slots zero h = omega arith
 least_from [] (suc n) h = absurd (omega arith)
 least_from (slot ∷ slots) (suc n) h = from_step slot.object n (free_index (drop n slots)) (free_index slots) h (least_from slots n)
 
@@ -28,15 +28,25 @@ keeps_least (slot ∷ slots) (suc n) zero x h behind = absurd (omega arith)
 keeps_least (slot ∷ slots) (suc n) (suc i) x h behind = keeps_step slot.object n n (free_index slots) (free_index (slice_set slots i x)) h (λ le. keeps_least slots n i x le (omega arith))
 
 -- once the slot at the place is taken, none is free up to it
-pub takes_least : (slots : List HandleSlot) (i : ℕ) (o : ObjNo) (slot : HandleSlot) → i ≤ free_index slots → i < length slots → i + 1 ≤ free_index (slice_set slots i (taken_slot o slot))
-takes_least [] i o slot h inside = absurd (omega arith)
-takes_least (first ∷ slots) zero o slot h inside = omega arith
-takes_least (first ∷ slots) (suc i) o slot h inside = keeps_step first.object i (i + 1) (free_index slots) (free_index (slice_set slots i (taken_slot o slot))) h (λ le. takes_least slots i o slot le (omega arith))
+takes_least : (slots : List HandleSlot) (i n : ℕ) (o : ObjNo) → i ≤ free_index slots → i < length slots → i + 1 ≤ free_index (slice_set slots i (record { instance = n; object = Some o }))
+takes_least [] i n o h inside = absurd (omega arith)
+takes_least (first ∷ slots) zero n o h inside = omega arith
+takes_least (first ∷ slots) (suc i) n o h inside =
+    let r = keeps_step first.object i (i + 1) (free_index slots) (free_index (slice_set slots i (record { instance = n; object = Some o }))) h (λ le. takes_least slots i n o le (omega arith)) in
+    omega arith
 
 -- so the place from which the least free slot is looked for after a slot is taken
-pub low_taken : (slots : List HandleSlot) (low i next : ℕ) (o : ObjNo) → low ≤ free_index slots → i < length slots → (low ≡ i → next ≡ i + 1) → (low ≢ i → (next ≤ low) × (next ≤ i)) → next ≤ free_index (slice_set slots i (taken_slot o (slot_at slots i)))
-low_taken slots low i next o h inside here apart =
-    elim (cases_eq low i) as (λ _. next ≤ free_index (slice_set slots i (taken_slot o (slot_at slots i)))) [
-      | inl e ↦ let is = here e in let r = takes_least slots i o (slot_at slots i) (omega arith) inside in omega arith
-      | inr n ↦ let few = apart n in keeps_least slots next i (taken_slot o (slot_at slots i)) (omega arith) few.1
+pub low_taken : (slots : List HandleSlot) (low i next : ℕ) (o : ObjNo) (n : ℕ) → low ≤ free_index slots → i < length slots → (low ≡ i → next ≡ i + 1) → (low ≢ i → (next ≤ low) × (next ≤ i)) → next ≤ free_index (slice_set slots i (record { instance = n; object = Some o }))
+low_taken slots low i next o n h inside here apart =
+    elim (cases_eq low i) as (λ _. next ≤ free_index (slice_set slots i (record { instance = n; object = Some o }))) [
+      | inl e ↦ let is = here e in let r = takes_least slots i n o (omega arith) inside in omega arith
+      | inr other ↦ let few = apart other in keeps_least slots next i (record { instance = n; object = Some o }) (omega arith) few.1
     ]
+
+within_step : (x : Option ObjNo) (a b : ℕ) → a ≤ b → (if is_none x then 0 else a + 1) ≤ suc b
+within_step None a b h = omega arith
+within_step (Some o) a b h = omega arith
+
+pub least_within : (slots : List HandleSlot) → free_index slots ≤ length slots
+least_within [] = omega arith
+least_within (slot ∷ slots) = within_step slot.object (free_index slots) (length slots) (least_within slots)
