@@ -40,7 +40,7 @@ add_moves-requires g c =
     let few = h.few in
     let moves = c.op_moves.ensures.few in
     let all = c.requires.short in
-    let same = ap length c.as_slice-2.ensures.moves in
+    let same = ap length c.as_slice-in-loop-op.ensures.moves in
     omega arith
 
 pub loop-op-preserved : goal.loop-op-preserved
@@ -55,7 +55,7 @@ loop-op-preserved g c =
     let h = rw (next_item c.args.ops.now i o c.loop-op-test.true c.op-item.is) at c.loop-op.invariant in
     let did = subst (λ (ms : List Move). IsPerformed script t ms tables new c.loop-op.ready c.perform.new.ready c.loop-op.effects c.perform.new.effects) (c.as_slice.ensures.moves ∙ c.op_moves.ensures.moves) c.perform.ensures.performed in
     let short : length ns ≤ 2 = subst (λ (ms : List Move). length ms ≤ 2) c.op_moves.ensures.moves c.op_moves.ensures.few in
-    rw (c.add_moves.ensures, c.as_slice-2.ensures.moves, c.op_moves.ensures.moves) (ops_go_on script t c.args.ops.now c.args.tables.now c.args.ready.now c.args.effects.now c.args.made.now o (drop (i + 1) c.args.ops.now) tables new c.loop-op.ready c.perform.new.ready c.loop-op.effects c.perform.new.effects c.loop-op.made h did c.perform.ensures.size short)
+    rw (c.add_moves.ensures, c.as_slice-in-loop-op.ensures.moves, c.op_moves.ensures.moves) (ops_go_on script t c.args.ops.now c.args.tables.now c.args.ready.now c.args.effects.now c.args.made.now o (drop (i + 1) c.args.ops.now) tables new c.loop-op.ready c.perform.new.ready c.loop-op.effects c.perform.new.effects c.loop-op.made h did c.perform.ensures.size short)
 
 pub returns-clause-performed : goal.returns-clause-performed
 returns-clause-performed g c =
