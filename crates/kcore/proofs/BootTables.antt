@@ -33,10 +33,6 @@ take_get_suc (y ∷ ys) (suc i) x h = ap (λ l. y ∷ l) (take_get_suc ys i x h)
 pub take_get : {A : Type 0} (xs : List A) (i : ℕ) (x : A) → slice_get xs i ≡ Some x → take (i + 1) xs ≡ take i xs ++ x ∷ []
 take_get xs i x h = rw add-one (take_get_suc xs i x h)
 
--- the state that is made for what stands at boot
-pub boot_is : (script : Script) (S : State) (calls : DeferredRows) (bs : List Born) → S ≡ boot_of script.fast calls bs → calls ≡ calls_of script → bs ≡ born script → S ≡ boot script
-boot_is script S calls bs made are all = made ∙ (ap (λ (r : DeferredRows). boot_of script.fast r bs) are ∙ ap (boot_of script.fast (calls_of script)) all)
-
 -- an item that was read is at its place
 pub read_at : {A : Type 0} (xs : List A) (i : ℕ) (x : A) → i < length xs → x ≡ get_or xs i x → slice_get xs i ≡ Some x
 read_at [] i x lt e = absurd (omega arith)

@@ -1,5 +1,6 @@
 mod ActionsDone
 mod BodiesApart
+mod BootFields
 mod BootNano
 mod BootReady
 mod BootTables

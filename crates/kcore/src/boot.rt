@@ -3,6 +3,8 @@ ghost use Rattle.std.specs.Prelude.{if◌then◌else◌, ◌≡◌, ℕ, ◌<◌
 ghost use Rattle.sym_base.specs.declared.limits.TheConstants.Limits.{BOOT_OBJECTS, DEVICES, OBJECTS, HANDLES};
 ghost use Rattle.sym_base.specs.declared.number.ObjNo.{ObjNo};
 ghost use Rattle.script_types.specs.Source.{IsValid};
+ghost use Rattle.script_types.specs.Shape.{IsShaped};
+ghost use Rattle.state_rows.specs.DeclaredCalls.{calls_of};
 ghost use Rattle.ref_words.specs.Words.{NoneCreated};
 ghost use Rattle.state_rows.specs.ObjectRows.{is_session, is_taken};
 ghost use Rattle.machine.specs.Arrivals.{is_listed};
@@ -23,13 +25,13 @@ use crate::handles::Handles;
 use crate::object_table::ObjectTable;
 use crate::tables::Tables;
 use cleanup::Cleanup;
-use machine::{Born, State, all_born, boot_of, count_of, row_of};
+use machine::{Born, State, ThreadRow, all_born, count_of, row_of, state_at_boot};
 use nano_sync::NanoSync;
 use ready_list::ReadyList;
 use ref_words::RefWords;
 use requests::Requests;
 use script_types::Script;
-use state_rows::{ObjectRow, calls_of};
+use state_rows::ObjectRow;
 use std::alloc::Global;
 use sym_base::{Items, Limits, NoMemory, ObjNo, ThreadNo};
 
@@ -148,8 +150,42 @@ fn queues_of(alloc: Global, state: &State) -> Result<ReadyList, NoMemory>
     Ok(list)
 }
 
+/// The tables of what stands at boot, over its objects and its threads' rows.
+fn tables_of<W: RefWords + Drop>(
+    alloc: Global,
+    script: &Script,
+    all: &[Born],
+    objects: ObjectTable<W>,
+    threads: Items<Option<ThreadRow>>,
+) -> Result<Tables<W>, NoMemory>
+    requires shaped { IsShaped script.now }
+    requires few { length all.now < 65536 }
+    ensures objects { IfOk result (λ tables. tables.objects ≡ objects) }
+    ensures threads { IfOk result (λ tables. tables.threads ≡ threads) }
+    ensures handles { IfOk result (λ tables. tables.handles ≡ map (λ _. replicate HANDLES fresh_slot) all.now) }
+    ensures owed { IfOk result (λ tables. tables.cleanup.duties ≡ map (λ _. []) all.now) }
+    ensures uses { IfOk result (λ tables. tables.cleanup.temporary ≡ replicate (length all.now) None) }
+    ensures nano { IfOk result (λ tables. tables.nano ≡ nano_of script.now.fast all.now) }
+    ensures deferred { IfOk result (λ tables. tables.deferred ≡ calls_of script.now) }
+    ensures requests { IfOk result (λ tables. tables.requests ≡ request_rows (length all.now) DEVICES) }
+{
+    let handles = fresh_handles(alloc, all)?;
+    let cleanup = empty_lists(alloc, all)?;
+    let nano = nano_of(alloc, script.fast, all)?;
+    let deferred = CallQueues::new(alloc, script)?;
+    let requests = requests_of(alloc, all)?;
+    Ok(Tables {
+        objects,
+        handles,
+        threads,
+        cleanup,
+        nano,
+        deferred,
+        requests,
+    })
+}
+
 /// The tables and the queues of ready threads at boot.
-#[tactic(auto, unfolding(machine::specs::Boot::boot_of))]
 pub fn boot<W: RefWords + Drop>(
     alloc: Global,
     script: &Script,
@@ -163,23 +199,9 @@ pub fn boot<W: RefWords + Drop>(
     ensures queues { IfOk result (λ made. AreReady (priority_of (boot script.now)) (boot script.now).ready made.1) }
 {
     let all = all_born(alloc, script)?;
-    let handles = fresh_handles(alloc, all.as_slice())?;
-    let calls = calls_of(alloc, script)?;
-    let state = boot_of(alloc, script.fast, calls, all.as_slice())?;
+    let state = state_at_boot(alloc, script)?;
     let objects = counted(alloc, words, all.as_slice(), &state)?;
     let ready = queues_of(alloc, &state)?;
-    let cleanup = empty_lists(alloc, all.as_slice())?;
-    let nano = nano_of(alloc, script.fast, all.as_slice())?;
-    let deferred = CallQueues::new(alloc, script)?;
-    let requests = requests_of(alloc, all.as_slice())?;
-    let tables = Tables {
-        objects,
-        handles,
-        threads: state.threads,
-        cleanup,
-        nano,
-        deferred,
-        requests,
-    };
+    let tables = tables_of(alloc, script, all.as_slice(), objects, state.threads)?;
     Ok((tables, ready))
 }

@@ -8,6 +8,7 @@ invariant_of-self c =
     let table = c.self.invariant.0 in
     let size = table.size in
     let small = c.ranges.index.fits in
-    let after = c.low_after-self-inside.ensures in
-    (table_put k.slots.items c.args.index _ c.next_instance-instance.ensures.small table,
-    low_taken k.slots.items k.low c.args.index c.low_after-self-inside.result c.args.object c.next_instance-instance.result c.self.invariant.1 (omega arith) after.here after.apart)
+    let after = c.low_after-self-inside.ensures in (
+      table_put k.slots.items c.args.index _ c.next_instance-instance.ensures.small table,
+      low_taken k.slots.items k.low c.args.index c.low_after-self-inside.result c.args.object c.next_instance-instance.result c.self.invariant.1 (omega arith) after.here after.apart,
+    )

@@ -1,0 +1,64 @@
+-- The tables at boot stand for the state at boot, field by field.
+use Rattle.std.proofs.Common.{◌≡◌, ℕ, ◌≤◌, List, [], length, take, map, replicate, arith, refl, sym, ap, subst, ◌∙◌, Option, Some, None}
+use Rattle.std.proofs.lemmas.List.{length-map, take_all}
+use Rattle.sym_base.specs.declared.limits.TheConstants.Limits.{DEVICES, HANDLES}
+use Rattle.sym_base.specs.declared.number.ObjNo.{ObjNo}
+use Rattle.script_types.specs.declared.script.Script.{Script}
+use Rattle.state_rows.specs.declared.deferred.DeferredRows.{DeferredRows}
+use Rattle.state_rows.specs.declared.duty.Owed.{Owed}
+use Rattle.state_rows.specs.declared.nano.NanoRows.{NanoRows}
+use Rattle.state_rows.specs.declared.object.ObjectRow.{ObjectRow}
+use Rattle.state_rows.specs.declared.requests.RequestRows.{RequestRows}
+use Rattle.state_rows.specs.DeclaredCalls.{calls_of}
+use Rattle.state_rows.specs.RequestChanges.{new_rows}
+use Rattle.machine.specs.declared.boot.Born.{Born}
+use Rattle.machine.specs.declared.state.HandleSlot.{HandleSlot}
+use Rattle.machine.specs.declared.state.State.{State}
+use Rattle.machine.specs.declared.state.ThreadRow.{ThreadRow}
+use Rattle.machine.specs.Boot.{boot, boot_of, born, nano_of}
+use Rattle.machine.specs.Handles.{fresh_slot}
+
+objects_at_boot : (script : Script) → (boot script).objects ≡ map (λ (b : Born). Some b.object) (born script)
+unfolding boot_of
+objects_at_boot script = refl
+
+handles_at_boot : (script : Script) → (boot script).handles ≡ map (λ (_ : Born). replicate HANDLES fresh_slot) (born script)
+unfolding boot_of
+handles_at_boot script = refl
+
+pub threads_at_boot : (script : Script) → (boot script).threads ≡ map (λ (b : Born). b.thread) (born script)
+unfolding boot_of
+threads_at_boot script = refl
+
+owed_at_boot : (script : Script) → (boot script).owed ≡ map (λ (_ : Born). []) (born script)
+unfolding boot_of
+owed_at_boot script = refl
+
+nano_at_boot : (script : Script) → (boot script).nano ≡ nano_of script.fast (born script)
+unfolding boot_of
+nano_at_boot script = refl
+
+deferred_at_boot : (script : Script) → (boot script).deferred ≡ calls_of script
+unfolding boot_of
+deferred_at_boot script = refl
+
+requests_at_boot : (script : Script) → (boot script).requests ≡ new_rows (length (born script)) DEVICES
+unfolding boot_of
+requests_at_boot script = refl
+
+-- a state is its fields
+all_fields : (S : State) (objects : List (Option ObjectRow)) (handles : List (List HandleSlot)) (threads : List (Option ThreadRow)) (owed : List (List Owed)) (nano : NanoRows) (deferred : DeferredRows) (requests : RequestRows) → objects ≡ S.objects → handles ≡ S.handles → threads ≡ S.threads → owed ≡ S.owed → nano ≡ S.nano → deferred ≡ S.deferred → requests ≡ S.requests → record { objects = objects; handles = handles; threads = threads; ready = S.ready; owed = owed; nano = nano; deferred = deferred; requests = requests } ≡ S
+all_fields S objects handles threads owed nano deferred requests o h t w n d r = rw (o, h, t, w, n, d, r) refl
+
+-- the tables that are made for what stands at boot
+pub fields_at_boot : (script : Script) (all : List Born) (state : State) (objects : List (Option ObjectRow)) (handles : List (List HandleSlot)) (threads : List (Option ThreadRow)) (owed : List (List Owed)) (nano : NanoRows) (deferred : DeferredRows) (requests : RequestRows) → all ≡ born script → state ≡ boot script → objects ≡ take (length all) (map (λ (b : Born). Some b.object) all) → handles ≡ map (λ (_ : Born). replicate HANDLES fresh_slot) all → threads ≡ state.threads → owed ≡ map (λ (_ : Born). []) all → nano ≡ nano_of script.fast all → deferred ≡ calls_of script → requests ≡ new_rows (length all) DEVICES → record { objects = objects; handles = handles; threads = threads; ready = (boot script).ready; owed = owed; nano = nano; deferred = deferred; requests = requests } ≡ boot script
+fields_at_boot script all state objects handles threads owed nano deferred requests born_are state_is o h t w n d r =
+    let long : length (map (λ (b : Born). Some b.object) all) ≤ length all = let e = length-map all (λ (b : Born). Some b.object) in omega arith in
+    let rows : objects ≡ (boot script).objects = o ∙ (take_all (length all) (map (λ (b : Born). Some b.object) all) long ∙ (ap (map (λ (b : Born). Some b.object)) born_are ∙ sym (objects_at_boot script))) in
+    all_fields (boot script) objects handles threads owed nano deferred requests rows
+    (h ∙ (ap (map (λ (_ : Born). replicate HANDLES fresh_slot)) born_are ∙ sym (handles_at_boot script)))
+    (t ∙ ap (λ (S : State). S.threads) state_is)
+    (w ∙ (ap (map (λ (_ : Born). [])) born_are ∙ sym (owed_at_boot script)))
+    (n ∙ (ap (nano_of script.fast) born_are ∙ sym (nano_at_boot script)))
+    (d ∙ sym (deferred_at_boot script))
+    (r ∙ (ap (λ (bs : List Born). new_rows (length bs) DEVICES) born_are ∙ sym (requests_at_boot script)))
