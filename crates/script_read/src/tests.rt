@@ -87,8 +87,8 @@ const BAD_TEXTS: [BadText; 13] = [
         reason: Reason::End,
     },
     BadText {
-        text: "eka2 1\nprocess p\nthread a 10 held\nthread a 64\n",
-        line: 3,
+        text: "eka2 1\nprocess p\nthread a 10\nlock r0\nthread a 64\n",
+        line: 4,
         reason: Reason::Unbuilt,
     },
 ];
