@@ -1,1 +1,2 @@
+pub mod NextActions
 pub mod Planned

@@ -18,10 +18,12 @@ mod open;
 mod queueing;
 mod request_calls;
 mod steps;
+mod tasks;
 mod thread_calls;
 
 pub use bodies::{leave_queue, op_moves, ops_of, step_of_body};
 pub use immediate::immediate_action;
 pub use move_effects::tell;
 pub use readings::{Reads, is_able, is_ready, wanted_holder};
-pub use steps::next_action;
+pub use steps::decide_step;
+pub use tasks::{NextAction, decide_action, next_action};

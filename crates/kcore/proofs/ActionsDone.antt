@@ -20,14 +20,15 @@ use Rattle.machine.specs.Tick.{moved_behind, tick}
 use Rattle.state_rows.specs.Nano.{turned}
 use Rattle.machine.specs.Transition.{left, carried_out, idle}
 use Rattle.sym_base.specs.Greatest.{first_of_greatest}
-use Rattle.kcore.specs.declared.tables.Tables.{Tables}
-use Rattle.kcore.specs.Noted.{AreKept}
-use Rattle.kcore.specs.Moved.{MovesGo}
-use Rattle.kcore.specs.Performed.{IsPerformed, IsLeft, Does}
-use Rattle.kcore.specs.ReadyQueues.{AreReady, Follow, leave_along}
-use Rattle.kcore.specs.StateOf.{state_of, with_ready}
+use Rattle.kernel_tables.specs.declared.tables.Tables.{Tables}
+use Rattle.kernel_tables.specs.Noted.{AreKept}
+use Rattle.kernel_tables.specs.Moved.{MovesGo}
+use Rattle.kernel_tables.specs.Performed.{IsPerformed}
+use Rattle.kcore.specs.Done.{IsLeft, Does}
+use Rattle.kernel_tables.specs.ReadyQueues.{AreReady, Follow, leave_along}
+use Rattle.kernel_tables.specs.StateOf.{state_of, with_ready}
 use Rattle.kcore.proofs.MovesApart.{perform_apart, tell_apart, arrivals_apart}
-use Rattle.kcore.proofs.ReadyLists.{is_touched, leave_is_filter, listed_behind, taken_listed}
+use Rattle.kernel_tables.proofs.ReadyLists.{is_touched, leave_is_filter, listed_behind, taken_listed}
 
 -- who came, or was there
 arrive_listed : (script : Script) (S : State) (us qs : List ObjNo) (u : ObjNo) → is_listed (arrive script S us qs) u ≡ true → is_listed us u ≡ false → is_listed qs u ≡ true

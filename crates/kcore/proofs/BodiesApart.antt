@@ -23,7 +23,7 @@ use Rattle.machine.specs.Bodies.{queue_call, signal_object, ends_wait, end_wait,
 use Rattle.machine.specs.Find.{find_object}
 use Rattle.machine.specs.Moves.{perform}
 use Rattle.machine.specs.Rows.{thread_of}
-use Rattle.kcore.specs.StateOf.{with_ready}
+use Rattle.kernel_tables.specs.StateOf.{with_ready}
 use Rattle.kcore.proofs.MovesApart.{perform_apart}
 
 call_apart : (S : State) (qs : List ObjNo) (dfc : Option ℕ) → queue_call (with_ready S qs) dfc ≡ queue_call S dfc

@@ -15,11 +15,11 @@ use Rattle.machine.specs.Choice.{priority_of, priority_of_row}
 use Rattle.machine.specs.Rows.{thread_of}
 use Rattle.machine.specs.WellFormed.{AreApart, IsWellFormed}
 use Rattle.machine.proofs.Lists.Totals.{inside}
-use Rattle.kcore.specs.ReadyQueues.{AreReady}
+use Rattle.kernel_tables.specs.ReadyQueues.{AreReady}
 use Rattle.kcore.proofs.BootTables.{take_get}
-use Rattle.kcore.proofs.ReadyChanges.{ready_behind}
-use Rattle.kcore.proofs.ReadyQueues.{nobody_queued, ready_queued, other_thread}
-use Rattle.kcore.proofs.ReadyRows.{ready_row}
+use Rattle.kernel_tables.proofs.ReadyChanges.{ready_behind}
+use Rattle.kernel_tables.proofs.ReadyQueues.{nobody_queued, ready_queued, other_thread}
+use Rattle.kernel_tables.proofs.ReadyRows.{ready_row}
 
 -- a listed thread has a row
 listed_row : (script : Script) (S : State) (t : ObjNo) → IsWellFormed script S → is_listed S.ready t ≡ true → (row : ThreadRow) × (thread_of S t ≡ Some row)

@@ -22,8 +22,8 @@ use Rattle.machine.specs.Rows.{object_of}
 use Rattle.machine.proofs.AtBoot.BootNames.{boot_rows, boot_names_new, boot_kinds, boot_no_session}
 use Rattle.machine.proofs.AtBoot.BootRows.{boot_count_inside}
 use Rattle.kcore.specs.BootTable.{AreNew, FirstStand}
-use Rattle.kcore.specs.Counts.{Agrees}
-use Rattle.kcore.proofs.FirstCount.{inside_of}
+use Rattle.kernel_tables.specs.Counts.{Agrees}
+use Rattle.kernel_tables.proofs.FirstCount.{inside_of}
 
 take_get_suc : {A : Type 0} (xs : List A) (i : ℕ) (x : A) → slice_get xs i ≡ Some x → take (suc i) xs ≡ take i xs ++ x ∷ []
 take_get_suc [] i x h = cc

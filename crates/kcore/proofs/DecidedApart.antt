@@ -22,7 +22,7 @@ use Rattle.state_rows.specs.DeclaredCalls.{dfc_named}
 use Rattle.machine.specs.Bodies.{decision_by}
 use Rattle.machine.specs.Interrupts.{immediate_plan, supervisor}
 use Rattle.machine.specs.Queueing.{queue_named}
-use Rattle.kcore.specs.StateOf.{with_ready}
+use Rattle.kernel_tables.specs.StateOf.{with_ready}
 use Rattle.kcore.proofs.BodiesApart.{body_apart}
 
 queue_apart : (S : State) (qs : List ObjNo) (t : ObjNo) (dfc : Option ℕ) → queue_named (with_ready S qs) t dfc ≡ queue_named S t dfc

@@ -18,7 +18,7 @@ use Rattle.machine.specs.declared.state.ThreadRow.{ThreadRow}
 use Rattle.script_types.specs.Source.{IsValid}
 use Rattle.machine.specs.Boot.{boot}
 use Rattle.machine.specs.Choice.{priority_of}
-use Rattle.kcore.specs.Noted.{AreKept}
+use Rattle.kernel_tables.specs.Noted.{AreKept}
 use Rattle.machine.specs.FinalRows.{final_row, rows_of, rows_from, IsNextRow}
 use Rattle.machine.specs.History.{transition, next, entry_of, entry_by, after, CanAct, IsLegal}
 use Rattle.machine.specs.Rows.{thread_of}
@@ -33,12 +33,12 @@ use Rattle.machine.proofs.Reached.Histories.{after-push, legal-push, slot_can}
 use Rattle.machine_safe.specs.SafeReferences.{IsSafeReferences}
 use Rattle.machine_safe.proofs.SafeHistories.{legal_safe}
 use Rattle.ready_list.specs.Ready.{Ready}
-use Rattle.kcore.specs.declared.tables.Tables.{Tables}
+use Rattle.kernel_tables.specs.declared.tables.Tables.{Tables}
 use Rattle.kcore.specs.KernelView.{Stands}
-use Rattle.kcore.specs.Performed.{EachReady, Does}
-use Rattle.kcore.specs.ReadyQueues.{AreReady, SomeReady}
-use Rattle.kcore.specs.StateOf.{state_of, with_ready}
-use Rattle.kcore.proofs.ReadyRows.{ready_row}
+use Rattle.kcore.specs.Done.{EachReady, Does}
+use Rattle.kernel_tables.specs.ReadyQueues.{AreReady, SomeReady}
+use Rattle.kernel_tables.specs.StateOf.{state_of, with_ready}
+use Rattle.kernel_tables.proofs.ReadyRows.{ready_row}
 
 -- rows don't look at the list of ready threads
 rows_apart : (script : Script) (S : State) (qs : List ObjNo) → AreRows script (with_ready S qs) → AreRows script S

@@ -12,7 +12,7 @@ use Rattle.machine.specs.declared.state.State.{State}
 use Rattle.machine.specs.Arrivals.{is_listed, touched, taken_out, arrive, arrivals}
 use Rattle.machine.specs.Moves.{moved, told, perform, tell}
 use Rattle.machine.specs.Task.{is_ready}
-use Rattle.kcore.specs.StateOf.{with_ready}
+use Rattle.kernel_tables.specs.StateOf.{with_ready}
 
 -- moves don't look at the list of ready threads
 moved_apart : (t : ObjNo) (m : Move) (S : State) (qs : List ObjNo) → moved t m (with_ready S qs) ≡ with_ready (moved t m S) qs

@@ -10,12 +10,12 @@ use Rattle.machine.specs.declared.moves.Move.{Move}
 use Rattle.machine.specs.declared.state.State.{State}
 use Rattle.machine.specs.Bodies.{op_moves, ops_moves}
 use Rattle.machine.specs.Moves.{perform, tell}
-use Rattle.kcore.specs.declared.tables.Tables.{Tables}
-use Rattle.kcore.specs.Moved.{MovesGo}
-use Rattle.kcore.specs.Noted.{AreKept}
-use Rattle.kcore.specs.Performed.{IsPerformed}
-use Rattle.kcore.specs.StateOf.{state_of}
-use Rattle.kcore.proofs.Performing.{OnTheWay, way_begins, way_goes_on, way_ends, performed_then}
+use Rattle.kernel_tables.specs.declared.tables.Tables.{Tables}
+use Rattle.kernel_tables.specs.Moved.{MovesGo}
+use Rattle.kernel_tables.specs.Noted.{AreKept}
+use Rattle.kernel_tables.specs.Performed.{IsPerformed}
+use Rattle.kernel_tables.specs.StateOf.{state_of}
+use Rattle.kernel_tables.proofs.Performing.{OnTheWay, way_begins, way_goes_on, way_ends, performed_then}
 
 -- some operations are done, and the others are left
 pub record OpsRun {W N : Type 0} (script : Script) (t : ObjNo) (ops : List Op) (old : Tables W N) (before : Ready) (was : List Effect) (first : List Move) (left : List Op) (tables : Tables W N) (r : Ready) (effects : List Effect) (made : List Move) : Type 0 where

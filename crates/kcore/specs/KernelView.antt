@@ -7,10 +7,10 @@ use Rattle.entry_log.specs.declared.entry.Entry.{Entry}
 use Rattle.ready_list.specs.Ready.{Ready}
 use Rattle.machine.specs.Choice.{priority_of}
 use Rattle.machine.specs.History.{after, IsLegal}
-use Rattle.kcore.specs.declared.tables.Tables.{Tables}
-use Rattle.kcore.specs.Noted.{AreKept}
-use Rattle.kcore.specs.ReadyQueues.{AreReady}
-use Rattle.kcore.specs.StateOf.{state_of, with_ready}
+use Rattle.kernel_tables.specs.declared.tables.Tables.{Tables}
+use Rattle.kernel_tables.specs.Noted.{AreKept}
+use Rattle.kernel_tables.specs.ReadyQueues.{AreReady}
+use Rattle.kernel_tables.specs.StateOf.{state_of, with_ready}
 
 -- its script, its history, and the entries that it has room for
 pub record KernelView : Type 0 where

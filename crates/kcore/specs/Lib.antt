@@ -1,11 +1,3 @@
 pub mod BootTable
-pub mod ObjectsView
-pub mod Counts
-pub mod StateOf
-pub mod Noted
-pub mod NanoMoved
-pub mod RequestMoved
-pub mod Moved
-pub mod ReadyQueues
-pub mod Performed
+pub mod Done
 pub mod KernelView

@@ -1,5 +1,5 @@
 //! Actions: of a thread, of an interrupt or of the immediate queue, or the end of a time slice.
-ghost use Rattle.std.specs.Prelude.{◌≡◌, ℕ, [], Some, None};
+ghost use Rattle.std.specs.Prelude.{◌≡◌, ℕ, [], Some, None, IsTrue};
 ghost use Rattle.sym_base.specs.declared.limits.TheConstants.Limits.{BOOT_OBJECTS};
 ghost use Rattle.sym_base.specs.declared.number.ObjNo.{ObjNo};
 ghost use Rattle.sym_base.specs.Greatest.{first_of_greatest};
@@ -7,27 +7,64 @@ ghost use Rattle.script_types.specs.Shape.{IsShaped};
 ghost use Rattle.machine.specs.History.{transition};
 ghost use Rattle.machine.specs.Tick.{moved_behind};
 ghost use Rattle.state_rows.specs.Nano.{turned};
-ghost use Rattle.machine.specs.Transition.{act};
+ghost use Rattle.machine.specs.declared.task.Task.TheVariants as task;
+ghost use Rattle.machine.specs.Task.{is_able, task_of};
+ghost use Rattle.machine.specs.Transition.{act, carried_out};
+ghost use Rattle.exec_user.specs.Stepping.{step_at};
 ghost use Rattle.machine.specs.WellFormed.{AreRows};
-ghost use Rattle.kcore.specs.Noted.{AreKept};
-ghost use Rattle.kcore.specs.Performed.{Does};
-ghost use Rattle.kcore.specs.ReadyQueues.{Follow, SomeReady};
-ghost use Rattle.kcore.specs.StateOf.{state_of};
+ghost use Rattle.kernel_tables.specs.Noted.{AreKept};
+ghost use Rattle.kcore.specs.Done.{Does, MayAct};
+ghost use Rattle.kernel_tables.specs.ReadyQueues.{Follow, SomeReady};
+ghost use Rattle.kernel_tables.specs.StateOf.{state_of};
 
+use crate::bodies::run_body;
 use crate::interrupts::{immediate, interrupt};
-use crate::plans::follow;
-use crate::ready::turn;
-use crate::tables::Tables;
-use decisions::next_action;
+use crate::plans::carry_out;
+use decisions::{NextAction, next_action};
 use entry_log::{Actor, Effects, Step};
+use exec_user::{ExecUser, phase_at};
+use kernel_tables::{Tables, leave_along, turn};
 use machine::{Decision, Outcome};
 use nano_sync::NanoSync;
 use ready_list::ReadyList;
 use ref_words::RefWords;
-use script_types::Script;
+use script_types::{Instr, Script};
 use sym_base::ThreadNo;
 
-/// The next action of a thread, decided in the place of the decision before it.
+/// A step of the instruction that a thread is at.
+fn step<W: RefWords + Drop>(
+    script: &Script,
+    tables: &mut Tables<W>,
+    ready: &mut ReadyList,
+    decision: &mut Decision,
+    thread: ThreadNo,
+    instr: &Instr,
+) -> Outcome
+    requires shaped { IsShaped script.now }
+    requires rows { AreRows script.now (state_of tables.old) }
+    requires kept { AreKept tables.old }
+    requires size { ready.old.threads ≡ BOOT_OBJECTS }
+    requires able { IsTrue (is_able script.now (state_of tables.old) thread) }
+    requires next { task_of script.now (state_of tables.old) thread ≡ Some (task.Step instr.now) }
+    ensures { Does script.now tables.old ready.old tables.new ready.new result (λ S. carried_out script.now thread S (step_at script.now (state_of tables.old) thread instr.now)) }
+{
+    let phase = phase_at(tables, thread);
+    let mut user = ExecUser {
+        tables,
+        ready,
+        decision,
+    };
+    let made = user.step(script, thread, instr, phase);
+    let moves = decision.moves.as_slice();
+    leave_along(script, tables, ready, thread, moves);
+    Outcome {
+        step: decision.step,
+        effects: made.effects,
+        answer: made.answer,
+    }
+}
+
+/// The next action of an able thread, decided in the place of the decision before it.
 fn act<W: RefWords + Drop>(
     script: &Script,
     tables: &mut Tables<W>,
@@ -39,10 +76,16 @@ fn act<W: RefWords + Drop>(
     requires rows { AreRows script.now (state_of tables.old) }
     requires kept { AreKept tables.old }
     requires size { ready.old.threads ≡ BOOT_OBJECTS }
+    requires able { IsTrue (is_able script.now (state_of tables.old) thread) }
     ensures { Does script.now tables.old ready.old tables.new ready.new result (λ S. act script.now S thread) }
 {
-    let body = next_action(decision, script, tables, thread);
-    follow(script, tables, ready, decision, thread, body)
+    match next_action(decision, script, tables, thread) {
+        NextAction::Decided => carry_out(script, tables, ready, thread, decision),
+        NextAction::Runs(body) => {
+            run_body(script, tables, ready, &mut decision.moves, thread, body)
+        }
+        NextAction::Steps(instr) => step(script, tables, ready, decision, thread, instr),
+    }
 }
 
 /// The end of a time slice.
@@ -81,6 +124,7 @@ pub fn transition<W: RefWords + Drop>(
     requires rows { AreRows script.now (state_of tables.old) }
     requires kept { AreKept tables.old }
     requires ready { SomeReady ready.old }
+    requires able { MayAct script.now (state_of tables.old) actor }
     ensures { Does script.now tables.old ready.old tables.new ready.new result (λ S. transition script.now S actor) }
 {
     match actor {

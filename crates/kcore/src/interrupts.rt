@@ -4,14 +4,14 @@ ghost use Rattle.sym_base.specs.declared.limits.TheConstants.Limits.{BOOT_OBJECT
 ghost use Rattle.script_types.specs.Shape.{IsShaped};
 ghost use Rattle.machine.specs.Interrupts.{immediate, interrupt};
 ghost use Rattle.machine.specs.WellFormed.{AreRows};
-ghost use Rattle.kcore.specs.Noted.{AreKept};
-ghost use Rattle.kcore.specs.Performed.{Does};
-ghost use Rattle.kcore.specs.StateOf.{state_of};
+ghost use Rattle.kernel_tables.specs.Noted.{AreKept};
+ghost use Rattle.kcore.specs.Done.{Does};
+ghost use Rattle.kernel_tables.specs.StateOf.{state_of};
 
 use crate::bodies::run_body;
 use crate::plans::follow;
-use crate::tables::Tables;
 use decisions::immediate_action;
+use kernel_tables::Tables;
 use machine::{Body, Decision, Outcome};
 use ready_list::ReadyList;
 use ref_words::RefWords;

@@ -5,15 +5,14 @@ ghost use Rattle.script_types.specs.Shape.{IsShaped};
 ghost use Rattle.decisions.specs.Planned.{planned};
 ghost use Rattle.machine.specs.Bodies.{decision_by};
 ghost use Rattle.machine.specs.Transition.{carried_out};
-ghost use Rattle.kcore.specs.Noted.{AreKept};
-ghost use Rattle.kcore.specs.Performed.{ActionGoes, Does};
-ghost use Rattle.kcore.specs.StateOf.{state_of};
+ghost use Rattle.kernel_tables.specs.Noted.{AreKept};
+ghost use Rattle.kernel_tables.specs.Performed.{ActionGoes};
+ghost use Rattle.kcore.specs.Done.{Does};
+ghost use Rattle.kernel_tables.specs.StateOf.{state_of};
 
 use crate::bodies::run_body;
-use crate::perform::perform;
-use crate::ready::leave_along;
-use crate::tables::Tables;
 use entry_log::Effects;
+use kernel_tables::{Tables, leave_along, perform};
 use machine::{Body, Decision, Outcome};
 use ready_list::ReadyList;
 use ref_words::RefWords;
@@ -21,7 +20,7 @@ use script_types::Script;
 use sym_base::ThreadNo;
 
 /// A decision of a thread.
-fn carry_out<W: RefWords + Drop>(
+pub fn carry_out<W: RefWords + Drop>(
     script: &Script,
     tables: &mut Tables<W>,
     ready: &mut ReadyList,

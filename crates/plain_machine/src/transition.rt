@@ -8,7 +8,7 @@ ghost use Rattle.plain_machine.specs.Allowed.{AllowsAction};
 
 use crate::action::{follow, run_body};
 use crate::tick::tick;
-use decisions::{immediate_action, next_action};
+use decisions::{decide_action, immediate_action};
 use entry_log::{Actor, Effects, Step};
 use machine::{Body, Decision, Outcome, State};
 use script_types::Script;
@@ -42,7 +42,7 @@ fn act(
     ensures { IfOk result (λ outcome. left state.new outcome ≡ act script.now state.old thread) }
 {
     let mut decision = Decision::new();
-    let body = next_action(&mut decision, script, state, thread);
+    let body = decide_action(&mut decision, script, state, thread);
     follow(alloc, script, state, thread, decision, body)
 }
 

@@ -4,10 +4,10 @@ use Rattle.machine.specs.declared.state.State.{State}
 use Rattle.machine.specs.Bodies.{decision_by}
 use Rattle.machine.specs.Steps.{decision_of}
 use Rattle.machine.specs.Transition.{act}
-use Rattle.kcore.specs.StateOf.{state_of}
+use Rattle.kernel_tables.specs.StateOf.{state_of}
 use Rattle.kcore.proofs.ActionsDone.{does_same}
 use Rattle.kcore.proofs.DecidedApart.{decision_apart}
-use Rattle.kcore.proofs.GoingActions.{action_goes}
+use Rattle.kernel_tables.proofs.GoingActions.{action_goes}
 use Rattle.kcore.proofs.act.act.Goals as goal
 
 pub follow-requires-clause-goes : goal.follow-requires-clause-goes

@@ -1,7 +1,7 @@
 use Rattle.std.proofs.Common.{subst, sym}
 use Rattle.entry_log.specs.declared.entry.Actor.{Actor}
 use Rattle.machine.specs.History.{transition}
-use Rattle.kcore.specs.Performed.{Does}
+use Rattle.kcore.specs.Done.{Does}
 use Rattle.kcore.proofs.ActionsDone.{tick_does}
 use Rattle.kcore.proofs.act.transition.Goals as goal
 

@@ -6,12 +6,12 @@ use Rattle.machine.specs.declared.state.State.{State}
 use Rattle.machine.specs.Bodies.{leave_queue, ops_moves, ops_of, run_body}
 use Rattle.machine.specs.Moves.{perform, tell}
 use Rattle.machine.proofs.Fitting.Bodies.{short_body}
-use Rattle.kcore.specs.Moved.{MovesGo}
-use Rattle.kcore.specs.Performed.{IsPerformed}
-use Rattle.kcore.specs.ReadyQueues.{Follow, leave_along}
-use Rattle.kcore.specs.StateOf.{state_of}
+use Rattle.kernel_tables.specs.Moved.{MovesGo}
+use Rattle.kernel_tables.specs.Performed.{IsPerformed}
+use Rattle.kernel_tables.specs.ReadyQueues.{Follow, leave_along}
+use Rattle.kernel_tables.specs.StateOf.{state_of}
 use Rattle.kcore.proofs.ActionsDone.{carried_does}
-use Rattle.kcore.proofs.Performing.{moves_part, tell_append}
+use Rattle.kernel_tables.proofs.Performing.{moves_part, tell_append}
 use Rattle.kcore.proofs.RunningOps.{body_performed}
 use Rattle.kcore.proofs.bodies.run_body.Goals as goal
 

@@ -3,10 +3,10 @@ use Rattle.entry_log.specs.declared.effect.Effect.{Effect}
 use Rattle.machine.specs.declared.moves.Move.{Move}
 use Rattle.machine.specs.Bodies.{op_moves, ops_moves}
 use Rattle.machine.specs.Moves.{perform, tell}
-use Rattle.kcore.specs.Moved.{MovesGo}
-use Rattle.kcore.specs.Performed.{IsPerformed}
-use Rattle.kcore.specs.StateOf.{state_of}
-use Rattle.kcore.proofs.Performing.{moves_part, way_few, next_item, none_left}
+use Rattle.kernel_tables.specs.Moved.{MovesGo}
+use Rattle.kernel_tables.specs.Performed.{IsPerformed}
+use Rattle.kernel_tables.specs.StateOf.{state_of}
+use Rattle.kernel_tables.proofs.Performing.{moves_part, way_few, next_item, none_left}
 use Rattle.kcore.proofs.RunningOps.{ops_begin, ops_go_on, ops_end}
 use Rattle.kcore.proofs.bodies.run_ops.Goals as goal
 

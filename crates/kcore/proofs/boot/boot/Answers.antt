@@ -16,8 +16,8 @@ use Rattle.machine.proofs.AtBoot.Born.{born_few, each_born}
 use Rattle.machine.proofs.AtBoot.BootRows.{rows-boot, well_formed-boot}
 use Rattle.machine.proofs.Numbers.CountSmall.{count_small}
 use Rattle.kcore.specs.BootTable.{AreNew, FirstStand}
-use Rattle.kcore.specs.Counts.{Agrees}
-use Rattle.kcore.specs.ReadyQueues.{AreReady}
+use Rattle.kernel_tables.specs.Counts.{Agrees}
+use Rattle.kernel_tables.specs.ReadyQueues.{AreReady}
 use Rattle.kcore.proofs.BootFields.{fields_at_boot, threads_at_boot}
 use Rattle.kcore.proofs.BootReady.{listed_known, listed_ranged}
 use Rattle.kcore.proofs.BootTables.{new_at_boot, agrees_at_boot}

@@ -4,7 +4,7 @@ use Rattle.std.proofs.lemmas.Option.{slice_get-get_or}
 use Rattle.sym_base.specs.declared.number.ObjNo.{ObjNo}
 use Rattle.ready_list.specs.Ready.{Ready, added}
 use Rattle.machine.specs.Choice.{priority_of}
-use Rattle.kcore.specs.ReadyQueues.{AreReady}
+use Rattle.kernel_tables.specs.ReadyQueues.{AreReady}
 use Rattle.kcore.proofs.BootReady.{none_ready, one_more_ready, not_ready_yet, got_listed}
 use Rattle.kcore.proofs.boot.queues_of.Goals as goal
 

@@ -1,6 +1,6 @@
 use Rattle.std.proofs.Common.{take}
 use Rattle.machine.specs.Choice.{priority_of}
-use Rattle.kcore.specs.ReadyQueues.{AreReady}
+use Rattle.kernel_tables.specs.ReadyQueues.{AreReady}
 use Rattle.kcore.proofs.boot.queues_of.Given as goal
 
 abbrev pub invariant-loop-thread : goal.invariant-loop-thread

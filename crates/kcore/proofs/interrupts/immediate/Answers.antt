@@ -4,10 +4,10 @@ use Rattle.machine.specs.declared.plan.Plan.{Plan}
 use Rattle.machine.specs.declared.state.State.{State}
 use Rattle.machine.specs.Bodies.{decision_by}
 use Rattle.machine.specs.Interrupts.{immediate, immediate_plan, supervisor}
-use Rattle.kcore.specs.StateOf.{state_of}
+use Rattle.kernel_tables.specs.StateOf.{state_of}
 use Rattle.kcore.proofs.ActionsDone.{does_same}
 use Rattle.kcore.proofs.DecidedApart.{immediate_apart}
-use Rattle.kcore.proofs.GoingActions.{immediate_goes}
+use Rattle.kernel_tables.proofs.GoingActions.{immediate_goes}
 use Rattle.kcore.proofs.interrupts.immediate.Goals as goal
 
 pub follow-requires-clause-goes : goal.follow-requires-clause-goes

@@ -4,10 +4,10 @@ use Rattle.machine.specs.declared.plan.Plan.TheVariants.{Runs}
 use Rattle.machine.specs.declared.state.State.{State}
 use Rattle.machine.specs.Bodies.{decision_by}
 use Rattle.machine.specs.Interrupts.{interrupt, supervisor}
-use Rattle.kcore.specs.StateOf.{state_of}
+use Rattle.kernel_tables.specs.StateOf.{state_of}
 use Rattle.kcore.proofs.ActionsDone.{does_same}
 use Rattle.kcore.proofs.BodiesApart.{body_apart}
-use Rattle.kcore.proofs.GoingActions.{interrupt_goes}
+use Rattle.kernel_tables.proofs.GoingActions.{interrupt_goes}
 use Rattle.kcore.proofs.interrupts.interrupt.Goals as goal
 
 pub run_body-requires-clause-goes : goal.run_body-requires-clause-goes

@@ -1,6 +1,6 @@
 use Rattle.std.proofs.Common.{◌≡◌}
 use Rattle.machine.specs.FinalRows.{rows_from}
-use Rattle.kcore.specs.StateOf.{state_of}
+use Rattle.kernel_tables.specs.StateOf.{state_of}
 use Rattle.kcore.proofs.kernel.next_row.Given as goal
 
 abbrev pub invariant-loop-number : goal.invariant-loop-number

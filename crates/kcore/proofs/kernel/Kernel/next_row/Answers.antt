@@ -1,5 +1,5 @@
 use Rattle.machine.specs.History.{after}
-use Rattle.kcore.specs.StateOf.{state_of}
+use Rattle.kernel_tables.specs.StateOf.{state_of}
 use Rattle.kcore.proofs.Goes.{next_row_apart}
 use Rattle.kcore.proofs.kernel.Kernel.next_row.Goals as goal
 

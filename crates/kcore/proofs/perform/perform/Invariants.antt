@@ -1,6 +1,0 @@
-use Rattle.std.proofs.Common.{drop}
-use Rattle.kcore.proofs.Performing.{OnTheWay}
-use Rattle.kcore.proofs.perform.perform.Given as goal
-
-abbrev pub invariant-loop-change : goal.invariant-loop-change
-invariant-loop-change g l = OnTheWay l.script l.thread l.moves l.initial.tables l.initial.ready l.initial.effects (drop l.change-index l.moves) l.tables l.ready l.effects

@@ -1,4 +1,0 @@
-use Rattle.kcore.proofs.ready.take_out.Goals as goal
-
-pub returns-in-SetPriority-clause-queues : goal.returns-in-SetPriority-clause-queues
-returns-in-SetPriority-clause-queues c = λ rank. rw c.in-SetPriority.is (c.take_off.ensures.queues rank)

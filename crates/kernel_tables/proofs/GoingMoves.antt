@@ -1,0 +1,301 @@
+-- The moves of each action go through: they can be made in the tables, and keep priorities and the readiness of those that
+-- they don't touch.
+use Rattle.std.proofs.Common.{◌≡◌, inl, inr, ℕ, zero, suc, ◌+◌, ◌<◌, ◌≤◌, List, [], ◌∷◌, length, get_or, arith, refl, sym, ap, subst, ◌∙◌, Bool, true, false}
+use Rattle.std.specs.Prelude.{◌==◌, IsTrue, is_some, if◌then◌else◌, Option, Some, None, option_map, slice_set}
+use Rattle.std.proofs.lemmas.Bool.{cases_eq, cases_lt, eq-eqb}
+use Rattle.std.proofs.lemmas.List.{get_or_past}
+use Rattle.sym_base.specs.declared.number.ObjNo.{ObjNo}
+use Rattle.script_types.specs.declared.script.Script.{Script}
+use Rattle.script_types.specs.Shape.{IsShaped}
+use Rattle.entry_log.specs.declared.effect.Holder.{Holder}
+use Rattle.entry_log.specs.declared.effect.Holder.TheVariants.{InProcess, InThread, Temp, Own, Link, Message, Kernel}
+use Rattle.state_rows.specs.declared.duty.Owed.{Owed}
+use Rattle.state_rows.specs.declared.duty.Owed.TheVariants.{Close, Sweep}
+use Rattle.state_rows.specs.declared.object.ObjectRow.{ObjectRow}
+use Rattle.state_rows.specs.ObjectRows.{is_dead_row}
+use Rattle.machine.specs.declared.moves.Move.{Move}
+use Rattle.machine.specs.declared.moves.Move.TheVariants.{Make, Gain, Lose, Find, Miss, GoOn, Write, Advance, Wait, Wake, SetPriority, Nano, Deferred, Requests, Pay}
+use Rattle.machine.specs.declared.nano_move.NanoMove.{NanoMove}
+use Rattle.machine.specs.declared.nano_move.NanoMove.TheVariants as nano
+use Rattle.machine.specs.declared.request_move.RequestMove.{RequestMove}
+use Rattle.machine.specs.declared.request_move.RequestMove.TheVariants as request
+use Rattle.state_rows.specs.declared.requests.RequestRows.{RequestRows}
+use Rattle.machine.specs.declared.state.State.{State}
+use Rattle.machine.specs.declared.state.Waiting.TheVariants as waiting
+use Rattle.machine.specs.declared.state.Role.{Role}
+use Rattle.machine.specs.declared.state.Role.TheVariants.{Supervisor, Queue, Declared}
+use Rattle.script_types.specs.declared.declaration.ThreadDecl.{ThreadDecl}
+use Rattle.machine.specs.Task.{declared_of, instructions_in}
+use Rattle.machine.specs.declared.state.ThreadRow.{ThreadRow}
+use Rattle.machine.specs.Choice.{priority_of, priority_of_row}
+use Rattle.machine.specs.NanoMoves.{nano_thread}
+use Rattle.machine.specs.Fits.{FitsNano, FitsRequests, IsFree, FitsMove, EachFits, Sane, most_told, most_owed}
+use Rattle.machine.specs.Moves.{moved, told, tell, closed_effects, threads_gain, threads_lose, threads_closed, with_use, unlinked, with_found, with_part, with_register, with_waiting, with_priority, advanced, next_object}
+use Rattle.machine.specs.References.{total, same, count_of, kernel_names, pluses, minuses, RefsMove}
+use Rattle.machine.specs.Rows.{object_of, thread_of, owed_of, with_row}
+use Rattle.machine.specs.WellFormed.{IsAlive, AreRows, AreRequests, is_dead, dead_bit, owed_sweeps, weight}
+use Rattle.machine.proofs.Holders.ThreadRows.{row-here, row-other}
+use Rattle.machine.proofs.Lists.Totals.{inside, total_at_least}
+use Rattle.machine.proofs.MoveLaws.Run.{sound-move, sound-pay, sane-after, refs-of, weight-move}
+use Rattle.machine.proofs.Numbers.CountSmall.{count_small}
+use Rattle.machine.proofs.Readiness.ReadyActions.{joins_own}
+use Rattle.machine.proofs.Readiness.Touched.{untouched}
+use Rattle.machine.proofs.References.Same.{same_self}
+use Rattle.kernel_tables.specs.Moved.{CanMove, IsReferred, HasPlaces, MayGain, AreKnown, MoveGoes, MovesGo, is_set}
+use Rattle.kernel_tables.specs.NanoMoved.{CanNano}
+use Rattle.kernel_tables.specs.ObjectsView.{IsThere}
+use Rattle.kernel_tables.specs.RequestMoved.{CanRequest}
+
+-- a change of a row that leaves its priority leaves all priorities
+rank_row : (row : Option ThreadRow) (f : ThreadRow → ThreadRow) → ((r : ThreadRow) → (f r).priority ≡ r.priority) → priority_of_row (option_map f row) ≡ priority_of_row row
+rank_row None f keeps = refl
+rank_row (Some r) f keeps = keeps r
+
+rank-with_row : (threads : List (Option ThreadRow)) (t : ObjNo) (f : ThreadRow → ThreadRow) (u : ObjNo) → ((r : ThreadRow) → (f r).priority ≡ r.priority) → priority_of_row (get_or (with_row threads t f) u.0 None) ≡ priority_of_row (get_or threads u.0 None)
+rank-with_row threads t f u keeps = elim (cases_eq t.0 u.0) [
+  | inl at ↦ ap priority_of_row (row-here threads t f u.0 at) ∙ (rank_row (get_or threads t.0 None) f keeps ∙ ap (λ (n : ℕ). priority_of_row (get_or threads n None)) at)
+  | inr apart ↦ ap priority_of_row (row-other threads t f u.0 apart)
+]
+
+rank-gain : (threads : List (Option ThreadRow)) (h : Holder) (o u : ObjNo) → priority_of_row (get_or (threads_gain h o threads) u.0 None) ≡ priority_of_row (get_or threads u.0 None)
+rank-gain threads (Temp t) o u = rank-with_row threads t (with_use (Some o)) u (λ r. refl)
+rank-gain threads _ o u = refl
+
+rank-lose : (threads : List (Option ThreadRow)) (h : Holder) (u : ObjNo) → priority_of_row (get_or (threads_lose h threads) u.0 None) ≡ priority_of_row (get_or threads u.0 None)
+rank-lose threads (Temp t) u = rank-with_row threads t (with_use None) u (λ r. refl)
+rank-lose threads _ u = refl
+
+rank-closed : (threads : List (Option ThreadRow)) (last : Bool) (o u : ObjNo) → priority_of_row (get_or (threads_closed last o threads) u.0 None) ≡ priority_of_row (get_or threads u.0 None)
+rank-closed threads true o u = rank-with_row threads o unlinked u (λ r. refl)
+rank-closed threads false o u = refl
+
+-- a number without a row has none after it is taken away
+rank-none : (threads : List (Option ThreadRow)) (o u : ObjNo) → get_or threads o.0 None ≡ None → priority_of_row (get_or (slice_set threads o.0 None) u.0 None) ≡ priority_of_row (get_or threads u.0 None)
+rank-none threads o u none = ap (λ (l : List (Option ThreadRow)). priority_of_row (get_or l u.0 None)) (set_none threads o.0 none)
+  where
+    set_none : (threads : List (Option ThreadRow)) (i : ℕ) → get_or threads i None ≡ None → slice_set threads i None ≡ threads
+    set_none [] i none = refl
+    set_none (x ∷ xs) zero none = ap (λ y. y ∷ xs) (sym none)
+    set_none (x ∷ xs) (suc i) none = ap (λ l. x ∷ l) (set_none xs i none)
+
+-- an object that is alive isn't swept
+alive_there : (row : Option ObjectRow) → IsAlive row → IsThere row
+alive_there None h = absurd h
+alive_there (Some row) h = refl
+
+-- an object that is referred to is alive, and few refer to it
+referred : (script : Script) (S : State) (o : ObjNo) → AreRows script S → 0 < count_of S o → IsReferred S o
+referred script S o rows some = record {
+  there = alive_there (object_of S o) (rows.lives.alive o some);
+  known = some;
+  few = count_small script S rows o;
+}
+
+-- whoever gives a reference up has one
+closed_minus : (last : Bool) (h : Holder) (o : ObjNo) → (minuses (closed_effects last h o) o ≡ 1) × (pluses (closed_effects last h o) o ≡ 0)
+closed_minus true h o = let one = same_self o in (omega arith, refl)
+closed_minus false h o = let one = same_self o in (omega arith, refl)
+
+was_held : (S T : State) (last : Bool) (h : Holder) (o : ObjNo) → RefsMove S T (closed_effects last h o) → 0 < count_of S o
+was_held S T last h o refs = let moves = refs.each o in let one = closed_minus last h o in omega arith
+
+-- the next object isn't referred to yet
+next_fresh : (script : Script) (S : State) → AreRows script S → count_of S (next_object S) ≡ 0
+next_fresh script S rows = elim (cases_lt 0 (count_of S (next_object S))) [
+  | inl some ↦
+      let alive = rows.lives.alive (next_object S) some in
+      let none = get_or_past S.objects (length S.objects) None (omega arith) in
+      absurd (subst IsAlive none alive)
+  | inr zero_left ↦ omega arith
+]
+
+-- an object whose sweep is owed is dead
+bit_true : (b : Bool) → 0 < dead_bit b → b ≡ true
+bit_true true h = refl
+bit_true false h = absurd (omega arith)
+
+counted_dead : (row : Option ObjectRow) → 0 < is_dead row → IsTrue (is_dead_row row)
+counted_dead None h = absurd (omega arith)
+counted_dead (Some row) h = bit_true row.dead h
+
+swept_dead : (script : Script) (S : State) (t o : ObjNo) (rest : List Owed) → AreRows script S → t.0 < length S.owed → owed_of S t ≡ Sweep o ∷ rest → IsTrue (is_dead_row (object_of S o))
+swept_dead script S t o rest rows lt is =
+    let at = total_at_least (total (owed_sweeps o)) S.owed t.0 [] lt in
+    let was : total (owed_sweeps o) (owed_of S t) ≡ same o o + total (owed_sweeps o) rest = ap (total (owed_sweeps o)) is in
+    let self = same_self o in
+    let dead = rows.lives.sweeps o in
+    counted_dead (object_of S o) (omega arith)
+
+-- a dead object is no thread with a row
+dead_alive : (row : Option ObjectRow) → IsTrue (is_dead_row row) → IsAlive row → ⊥
+dead_alive None dead alive = alive
+dead_alive (Some row) dead alive = cc
+
+kernel_holds : (S : State) (o : ObjNo) (row : Option ThreadRow) → thread_of S o ≡ row → (0 < count_of S o → ⊥) → row ≡ None
+kernel_holds S o None is uncounted = refl
+kernel_holds S o (Some row) is uncounted = absurd (uncounted (counted_by S o row is))
+  where
+    counted_by : (S : State) (o : ObjNo) (row : ThreadRow) → thread_of S o ≡ Some row → 0 < count_of S o
+    counted_by S o row is = let one : kernel_names S o ≡ 1 = ap (λ (x : Option ThreadRow). if is_some x then 1 else 0) is in omega arith
+
+-- a thread has at most 16,384 instructions
+few_in : (script : Script) → IsShaped script → (role : Role) (declared : Option ThreadDecl) → declared_of script role ≡ declared → length (instructions_in declared) ≤ 16384
+few_in script shaped role None at = omega arith
+few_in script shaped Supervisor (Some declared) at = absurd (cc)
+few_in script shaped (Queue queue) (Some declared) at = absurd (cc)
+few_in script shaped (Declared k) (Some declared) at = (shaped.threads k declared at).size
+
+-- each duty weighs something, so those of a thread are few
+weighs : (what : Owed) → 1 ≤ weight what
+weighs (Sweep o) = omega arith
+weighs (Close (InProcess p i) o) = omega arith
+weighs (Close (InThread t i) o) = omega arith
+weighs (Close (Temp t) o) = omega arith
+weighs (Close (Own t) o) = omega arith
+weighs (Close (Link x) o) = omega arith
+weighs (Close (Message m) o) = omega arith
+weighs (Close Kernel o) = omega arith
+
+few_duties : (owed : List Owed) → length owed ≤ total weight owed
+few_duties [] = omega arith
+few_duties (what ∷ rest) = omega (arith, weighs what, few_duties rest)
+
+few_places : (script : Script) (S : State) (t : ObjNo) → AreRows script S → HasPlaces 2 S t
+few_places script S t rows = omega (arith, few_duties (owed_of S t), rows.duties.few t.0)
+
+one_place : (script : Script) (S : State) (t : ObjNo) → AreRows script S → HasPlaces 1 S t
+one_place script S t rows = let two = few_places script S t rows in omega arith
+
+-- a call that gets a reference uses nothing yet
+may_gain : (S : State) (h : Holder) → IsFree S h → MayGain S h
+may_gain S (InProcess p i) free = tt
+may_gain S (InThread t i) free = tt
+may_gain S (Temp t) free = record { row = free.row; is = free.is; unused = free.unused }
+may_gain S (Own t) free = tt
+may_gain S (Link x) free = tt
+may_gain S (Message m) free = tt
+may_gain S Kernel free = tt
+
+-- a move in the rows of threads that synchronize is one of a thread and of a fast mutex that are there
+sized_at : (threads : List (Option ThreadRow)) (t : ObjNo) (row : Option ThreadRow) → get_or threads t.0 None ≡ row → is_some (get_or threads t.0 None) ≡ true → t.0 < length threads
+sized_at threads t (Some row) is some = inside threads t.0 row is
+sized_at threads t None is some = let clash : false ≡ true = ap (λ (x : Option ThreadRow). is_some x) (sym is) ∙ some in absurd (cc)
+
+can_nano : (script : Script) (S : State) (m : NanoMove) → AreRows script S → is_some (thread_of S (nano_thread m)) ≡ true → FitsNano m S → CanNano m S.nano
+can_nano script S m rows there fits =
+    let long = rows.nano.sized in
+    let at = sized_at S.threads (nano_thread m) (thread_of S (nano_thread m)) refl there in
+    by_kind m (omega arith) fits
+  where
+    by_kind : (m : NanoMove) → (nano_thread m).0 < length S.nano.signals → FitsNano m S → CanNano m S.nano
+    by_kind (nano.Take t f) at fits = (at, fits.0, fits.2.holds)
+    by_kind (nano.Give t f) at fits = (at, fits.0)
+    by_kind (nano.Want t None) at fits = (at, λ wanted is. absurd (cc))
+    by_kind (nano.Want t (Some f)) at fits = (at, λ wanted is. let same : f ≡ wanted = cc in subst (λ (n : ℕ). n < length S.nano.holders) same fits.0)
+    by_kind (nano.Enter t) at fits = at
+    by_kind (nano.Leave t) at fits = at
+    by_kind (nano.LeaveAll t) at fits = at
+    by_kind (nano.Suspend t) at fits = at
+    by_kind (nano.Resume t) at fits = at
+    by_kind (nano.Raise t) at fits = at
+    by_kind (nano.Lower t) at fits = at
+
+-- a move in the rows of requests names what is there, and completes what is pending
+can_request : (count : ℕ) (r : RequestRows) (m : RequestMove) → AreRequests count r → FitsRequests m r → CanRequest m r
+can_request count r (request.Begin d t s) rows fits = (fits.device, fits.thread, fits.status)
+can_request count r (request.Complete d t s code) rows fits =
+    let known = rows.rows.requests_known d _ fits.1 in
+    ((fits.0, known.0, known.1), rows.pending d _ fits.1)
+can_request count r (request.TakeSignal t) rows fits = fits
+
+-- when a move that fits can be made
+can_move : (script : Script) (S : State) (t : ObjNo) (m : Move) → IsShaped script → FitsMove script t m S → RefsMove S (moved t m S) (told m S) → Sane script t S → CanMove t m S
+can_move script S t (Make kind name h) shaped fits refs s = (fits.0.named, fits.0.new, record { room = fits.0.room; fresh = next_fresh script S s.rows }, may_gain S h fits.1)
+can_move script S t (Gain h o) shaped fits refs s = (referred script S o s.rows (s.rows.lives.counted o fits.1), may_gain S h fits.0)
+can_move script S t (Lose h o) shaped fits refs s = (referred script S o s.rows (was_held S (moved t (Lose h o) S) _ h o refs), few_places script S t s.rows)
+can_move script S t (Find u o) shaped fits refs s = tt
+can_move script S t (Miss o) shaped fits refs s = tt
+can_move script S t (GoOn u part) shaped fits refs s = tt
+can_move script S t (Write u x value) shaped fits refs s = tt
+can_move script S t (Advance u) shaped fits refs s = (
+  λ k row is. let next = (s.rows.threads.rows k row is).next_instruction in let few = few_in script shaped row.role _ refl in omega arith,
+  one_place script S u s.rows,
+)
+can_move script S t (Wait u what) shaped fits refs s = tt
+can_move script S t (Wake u) shaped fits refs s = tt
+can_move script S t (SetPriority u priority) shaped fits refs s = tt
+can_move script S t (Nano m) shaped fits refs s = can_nano script S m s.rows fits.0 fits.1
+can_move script S t (Deferred m) shaped fits refs s = fits
+can_move script S t (Requests m) shaped fits refs s = can_request (length S.threads) S.requests m s.rows.requests fits
+can_move script S t (Pay what) shaped fits refs s = absurd fits
+
+-- priorities stay that aren't set
+set_other : (u v : ObjNo) → (u.0 == v.0) ≡ false → v.0 ≡ u.0 → ⊥
+set_other u v other same = let is : (u.0 == v.0) ≡ true = eq-eqb u.0 v.0 (sym same) in cc
+
+ranks_move : (script : Script) (S : State) (t : ObjNo) (m : Move) (u : ObjNo) → FitsMove script t m S → is_set m u ≡ false → priority_of (moved t m S) u ≡ priority_of S u
+ranks_move script S t (Wait v what) u fits unset = rank-with_row S.threads v (with_waiting what) u (λ r. refl)
+ranks_move script S t (Wake v) u fits unset = rank-with_row S.threads v (with_waiting waiting.Nothing) u (λ r. refl)
+ranks_move script S t (SetPriority v priority) u fits unset = ap priority_of_row (row-other S.threads v (with_priority priority) u.0 (set_other u v unset))
+ranks_move script S t (Nano m) u fits unset = refl
+ranks_move script S t (Deferred m) u fits unset = refl
+ranks_move script S t (Requests m) u fits unset = refl
+ranks_move script S t (Make kind name h) u fits unset = rank-gain S.threads h (next_object S) u
+ranks_move script S t (Gain h o) u fits unset = rank-gain S.threads h o u
+ranks_move script S t (Lose h o) u fits unset = rank-closed (threads_lose h S.threads) _ o u ∙ rank-lose S.threads h u
+ranks_move script S t (Find v o) u fits unset = rank-with_row S.threads v (with_found o) u (λ r. refl)
+ranks_move script S t (Miss o) u fits unset = refl
+ranks_move script S t (GoOn v part) u fits unset = rank-with_row S.threads v (with_part part) u (λ r. refl)
+ranks_move script S t (Write v x value) u fits unset = rank-with_row S.threads v (with_register x value) u (λ r. refl)
+ranks_move script S t (Advance v) u fits unset = rank-with_row S.threads v advanced u (λ r. refl)
+ranks_move script S t (Pay what) u fits unset = absurd fits
+
+-- threads have the least numbers, and priorities in their range
+known : (script : Script) (S : State) → AreRows script S → AreKnown S
+known script S rows u row is =
+    let there = inside S.threads u.0 row is in
+    let few = rows.sized.threads_few in
+    let low = (rows.threads.rows u.0 row is).priority in
+    (omega arith, omega arith)
+
+-- each of the moves that fit goes through
+pub each_goes : (script : Script) (S : State) (t : ObjNo) (ms : List Move) → IsShaped script → EachFits script t ms S → total weight (owed_of S t) + total most_owed ms ≤ 12 → Sane script t S → MovesGo script t ms S
+each_goes script S t [] shaped fits few s = tt
+each_goes script S t (m ∷ ms) shaped fits few s =
+    let T = moved t m S in
+    let sound = sound-move script S t m fits.0 (omega arith) s in
+    let refs = refs-of script S T (told m S) sound in
+    let w = weight-move script S t m fits.0 in
+    let goes : MoveGoes script t m S = record {
+      can = can_move script S t m shaped fits.0 refs s;
+      refs = refs;
+      known = known script T sound.rows;
+      ranks = λ u unset. ranks_move script S t m u fits.0 unset;
+      apart = λ u none. untouched script S t m u s.rows.threads (joins_own script S t m fits.0) none;
+    } in
+    (goes, each_goes script T t ms shaped fits.1 (omega arith) (sane-after script S T t (told m S) s sound))
+
+-- so does the payment of what is owed
+can_pay : (script : Script) (S : State) (t : ObjNo) (what : Owed) (rest : List Owed) → owed_of S t ≡ what ∷ rest → RefsMove S (moved t (Pay what) S) (told (Pay what) S) → Sane script t S → CanMove t (Pay what) S
+can_pay script S t (Close h o) rest owes refs s = (referred script S o s.rows (was_held S (moved t (Pay (Close h o)) S) _ h o refs), few_places script S t s.rows)
+can_pay script S t (Sweep o) rest owes refs s =
+    let dead = swept_dead script S t o rest s.rows (let long = s.rows.sized.duties in let there = s.inside in omega arith) owes in
+    (dead, kernel_holds S o (thread_of S o) refl (λ some. dead_alive (object_of S o) dead (s.rows.lives.alive o some)))
+
+ranks_pay : (script : Script) (S : State) (t : ObjNo) (what : Owed) (u : ObjNo) → CanMove t (Pay what) S → priority_of (moved t (Pay what) S) u ≡ priority_of S u
+ranks_pay script S t (Close h o) u can = rank-closed S.threads _ o u
+ranks_pay script S t (Sweep o) u can = rank-none S.threads o u can.1
+
+pub pay_goes : (script : Script) (S : State) (t : ObjNo) (what : Owed) (rest : List Owed) → owed_of S t ≡ what ∷ rest → Sane script t S → MoveGoes script t (Pay what) S
+pay_goes script S t what rest owes s =
+    let T = moved t (Pay what) S in
+    let sound = sound-pay script S t what rest owes s in
+    let refs = refs-of script S T (told (Pay what) S) sound in
+    let can = can_pay script S t what rest owes refs s in
+    record {
+      can = can;
+      refs = refs;
+      known = known script T sound.rows;
+      ranks = λ u _. ranks_pay script S t what u can;
+      apart = λ u none. untouched script S t (Pay what) u s.rows.threads tt none;
+    }

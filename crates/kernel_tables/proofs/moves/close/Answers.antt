@@ -1,0 +1,12 @@
+use Rattle.std.proofs.Common.{rules}
+use Rattle.kernel_tables.proofs.Noting.{noted_closed}
+use Rattle.kernel_tables.proofs.moves.close.Goals as goal
+
+pub returns : goal.returns
+returns g c =
+    let old = c.args.tables.now in
+    record {
+      state = search rules;
+      counts = c.close_ref.ensures.counts;
+      uses = rw (c.owe_close.ensures, c.threads_closed.ensures) (noted_closed old.cleanup old.threads _ c.args.object c.requires.uses);
+    }

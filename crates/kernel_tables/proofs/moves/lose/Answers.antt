@@ -1,0 +1,22 @@
+use Rattle.std.proofs.Common.{refl, ◌∙◌}
+use Rattle.std.specs.Prelude.{◌==◌, slice_index}
+use Rattle.kernel_tables.proofs.FirstCount.{counts-less}
+use Rattle.kernel_tables.proofs.Noting.{noted_lost, duties_lost}
+use Rattle.kernel_tables.proofs.moves.lose.Goals as goal
+
+pub close-requires-clause-uses : goal.close-requires-clause-uses
+close-requires-clause-uses g c =
+    let old = c.args.tables.now in
+    rw (c.threads_lose.ensures, c.note_lost.ensures) (noted_lost old.cleanup old.threads c.args.holder c.requires.kept.uses)
+
+pub returns : goal.returns
+returns g c =
+    let old = c.args.tables.now in
+    let count = slice_index old.objects.counts c.args.object.0 in
+    let known = c.requires.can.0.known in
+    let agree = c.requires.kept.counts c.args.object in
+    record {
+      state = c.close.ensures.state ∙ rw (c.lose_slot.ensures, c.threads_lose.ensures, c.note_lost.ensures, c.link_of-link.ensures, duties_lost old.cleanup c.args.holder, agree) refl;
+      counts = rw (c.close.ensures.counts, ← agree) (counts-less old.objects.counts c.args.object c.args.holder (count == 1) (rw agree known));
+      uses = c.close.ensures.uses;
+    }

@@ -1,0 +1,28 @@
+use Rattle.std.proofs.Common.{◌≡◌, ◌∙◌, ℕ, List, length, refl, sym, ap}
+use Rattle.std.specs.Prelude.{slice_index, slice_set}
+use Rattle.sym_base.specs.declared.number.ObjNo.{ObjNo}
+use Rattle.kernel_tables.specs.StateOf.{state_of}
+use Rattle.kernel_tables.proofs.FirstCount.{counts-first}
+use Rattle.kernel_tables.proofs.Noting.{may_use, noted_gained, duties_gained}
+use Rattle.kernel_tables.proofs.moves.make.Goals as goal
+
+pub note_gain-requires : goal.note_gain-requires
+note_gain-requires g c = may_use c.args.tables.now.cleanup (state_of c.args.tables.now) c.args.holder c.requires.kept.uses c.requires.can.3
+
+-- the object that is made has the next number, which nothing refers to
+pub returns : goal.returns
+returns g c =
+    let tables = c.args.tables.now in
+    let rows = tables.objects.rows in
+    let old = tables.objects.counts in
+    let new = c.make-object.new.self.counts in
+    let named : ℕ → ObjNo = λ n. record { 0 = n } in
+    let next : ObjNo = record { 0 = length rows } in
+    let is : c.make-object.result ≡ next = ap named c.make-object.ensures.number in
+    let none : slice_index old (length rows) ≡ 0 = c.requires.kept.counts next ∙ c.requires.can.2.fresh in
+    let one : slice_index (slice_set old (length rows) 1) (length rows) ≡ 1 = ap (λ (l : List ℕ). slice_index l (length rows)) (sym c.make-object.ensures.counts) ∙ c.make-object.ensures.one in
+    λ t. record {
+      state = rw (c.gain_slot.ensures, c.threads_gain.ensures, c.make-object.ensures.rows, c.note_gain.ensures, is, duties_gained tables.cleanup c.args.holder next) refl;
+      counts = rw c.make-object.ensures.counts (counts-first old next c.args.holder none one);
+      uses = rw (c.threads_gain.ensures, c.note_gain.ensures, is) (noted_gained tables.cleanup (state_of tables) c.args.holder next c.requires.can.3 c.requires.kept.uses);
+    }

@@ -1,0 +1,88 @@
+use Rattle.std.proofs.Common.{refl}
+use Rattle.machine.specs.Moves.{with_found, with_part, with_register, with_waiting, with_priority}
+use Rattle.machine.specs.declared.state.Waiting.TheVariants as waiting
+use Rattle.kernel_tables.proofs.Noting.{noted_row}
+use Rattle.kernel_tables.proofs.FirstCount.{nano_counts, request_counts}
+use Rattle.kernel_tables.proofs.moves.make_move.Goals as goal
+
+pub returns-in-Make : goal.returns-in-Make
+returns-in-Make g c = rw c.in-Make.is (c.make.ensures c.args.thread)
+
+pub returns-in-Gain : goal.returns-in-Gain
+returns-in-Gain g c = rw c.in-Gain.is (c.gain.ensures c.args.thread)
+
+pub returns-in-Advance : goal.returns-in-Advance
+returns-in-Advance g c = rw c.in-Advance.is (c.advance.ensures c.args.thread)
+
+pub returns-in-Find : goal.returns-in-Find
+returns-in-Find g c =
+    let old = c.args.tables.now in
+    rw c.in-Find.is (record {
+      state = rw c.threads_find.ensures refl;
+      counts = λ o. refl;
+      uses = rw c.threads_find.ensures (noted_row old.cleanup old.threads c.in-Find.other (with_found c.in-Find.object) (λ r. refl) c.requires.kept.uses);
+    })
+
+pub returns-in-GoOn : goal.returns-in-GoOn
+returns-in-GoOn g c =
+    let old = c.args.tables.now in
+    rw c.in-GoOn.is (record {
+      state = rw c.threads_go_on.ensures refl;
+      counts = λ o. refl;
+      uses = rw c.threads_go_on.ensures (noted_row old.cleanup old.threads c.in-GoOn.other (with_part c.in-GoOn.part) (λ r. refl) c.requires.kept.uses);
+    })
+
+pub returns-in-Write : goal.returns-in-Write
+returns-in-Write g c =
+    let old = c.args.tables.now in
+    rw c.in-Write.is (record {
+      state = rw c.threads_write.ensures refl;
+      counts = λ o. refl;
+      uses = rw c.threads_write.ensures (noted_row old.cleanup old.threads c.in-Write.other (with_register c.in-Write.register c.in-Write.value) (λ r. refl) c.requires.kept.uses);
+    })
+
+pub returns-in-Wait : goal.returns-in-Wait
+returns-in-Wait g c =
+    let old = c.args.tables.now in
+    rw c.in-Wait.is (record {
+      state = rw c.threads_wait.ensures refl;
+      counts = λ o. refl;
+      uses = rw c.threads_wait.ensures (noted_row old.cleanup old.threads c.in-Wait.other (with_waiting c.in-Wait.what) (λ r. refl) c.requires.kept.uses);
+    })
+
+pub returns-in-Wake : goal.returns-in-Wake
+returns-in-Wake g c =
+    let old = c.args.tables.now in
+    rw c.in-Wake.is (record {
+      state = rw c.threads_wait-in-Wake.ensures refl;
+      counts = λ o. refl;
+      uses = rw c.threads_wait-in-Wake.ensures (noted_row old.cleanup old.threads c.in-Wake.other (with_waiting waiting.Nothing) (λ r. refl) c.requires.kept.uses);
+    })
+
+pub returns-in-SetPriority : goal.returns-in-SetPriority
+returns-in-SetPriority g c =
+    let old = c.args.tables.now in
+    rw c.in-SetPriority.is (record {
+      state = rw c.threads_set_priority.ensures refl;
+      counts = λ o. refl;
+      uses = rw c.threads_set_priority.ensures (noted_row old.cleanup old.threads c.in-SetPriority.other (with_priority c.in-SetPriority.priority) (λ r. refl) c.requires.kept.uses);
+    })
+
+pub returns-in-Nano : goal.returns-in-Nano
+returns-in-Nano g c =
+    rw c.in-Nano.is (record {
+      state = rw c.move_nano.ensures refl;
+      counts = nano_counts c.args.tables.now.objects.counts c.in-Nano.change;
+      uses = c.requires.kept.uses;
+    })
+
+pub returns-in-Deferred : goal.returns-in-Deferred
+returns-in-Deferred g c = rw c.in-Deferred.is (record { state = rw c.change.ensures refl; counts = λ o. refl; uses = c.requires.kept.uses })
+
+pub returns-in-Requests : goal.returns-in-Requests
+returns-in-Requests g c =
+    rw c.in-Requests.is (record {
+      state = rw c.move_request.ensures refl;
+      counts = request_counts c.args.tables.now.objects.counts c.in-Requests.change;
+      uses = c.requires.kept.uses;
+    })

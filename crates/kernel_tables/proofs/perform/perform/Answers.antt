@@ -1,0 +1,39 @@
+use Rattle.std.proofs.Common.{◌∷◌, [], ◌+◌, ◌≤◌, List, length, append-nil, drop, subst}
+use Rattle.entry_log.specs.declared.effect.Effect.{Effect}
+use Rattle.machine.specs.declared.moves.Move.{Move}
+use Rattle.machine.specs.Moves.{told}
+use Rattle.kernel_tables.specs.Moved.{MovesGo}
+use Rattle.kernel_tables.specs.StateOf.{state_of}
+use Rattle.kernel_tables.proofs.Performing.{performed_one, way_goes_on, way_few, next_item}
+use Rattle.kernel_tables.proofs.perform.perform.Goals as goal
+
+pub tell-requires-clause-few : goal.tell-requires-clause-few
+tell-requires-clause-few g c =
+    let m = c.change-item.result in
+    let i = c.loop-change.change-index in
+    let next = next_item c.args.moves.now i m c.loop-change-test.true c.change-item.is in
+    let h = rw next at c.loop-change.invariant in
+    let told_now = told m (state_of c.loop-change.tables) in
+    subst (λ (es : List Effect). length c.loop-change.effects + length es ≤ 4) (append-nil told_now) (way_few c.args.script.now c.args.thread c.args.moves.now (m ∷ []) (drop (i + 1) c.args.moves.now) c.args.tables.now c.loop-change.tables c.args.ready.now c.loop-change.ready c.args.effects.now c.loop-change.effects c.requires.few h)
+
+pub make_move-requires-clause-can : goal.make_move-requires-clause-can
+make_move-requires-clause-can g c =
+    let m = c.change-item.result in
+    let i = c.loop-change.change-index in
+    let next = next_item c.args.moves.now i m c.loop-change-test.true c.change-item.is in
+    let h : MovesGo c.args.script.now c.args.thread (m ∷ drop (i + 1) c.args.moves.now) (state_of c.loop-change.tables) = subst (λ (l : List Move). MovesGo c.args.script.now c.args.thread l (state_of c.loop-change.tables)) next c.loop-change.invariant.go in
+    h.0.can
+
+pub loop-change-preserved : goal.loop-change-preserved
+loop-change-preserved g c =
+    let m = c.change-item.result in
+    let i = c.loop-change.change-index in
+    let script = c.args.script.now in
+    let t = c.args.thread in
+    let tables = c.loop-change.tables in
+    let new = c.make_move.new.tables in
+    let next = next_item c.args.moves.now i m c.loop-change-test.true c.change-item.is in
+    let h = rw next at c.loop-change.invariant in
+    let follow = rw c.touched.ensures at c.arrive_touched.ensures.queues in
+    let one = performed_one script t m tables new c.loop-change.ready c.take_out.new.ready c.arrive_touched.new.ready c.loop-change.effects h.go.0 h.performed.kept c.make_move.ensures c.take_out.ensures.queues follow in
+    rw c.tell.ensures (way_goes_on script t c.args.moves.now (m ∷ []) (drop (i + 1) c.args.moves.now) c.args.tables.now tables new c.args.ready.now c.loop-change.ready c.arrive_touched.new.ready c.args.effects.now c.loop-change.effects _ h one c.arrive_touched.ensures.size)

@@ -1,0 +1,9 @@
+pub mod ObjectsView
+pub mod Counts
+pub mod StateOf
+pub mod Noted
+pub mod NanoMoved
+pub mod RequestMoved
+pub mod Moved
+pub mod ReadyQueues
+pub mod Performed

@@ -1,0 +1,130 @@
+-- Moves in the kernel's tables: when one can be made, and what it leaves.
+use Rattle.std.specs.Prelude.{◌≡◌, ℕ, ◌+◌, ◌-◌, ◌<◌, ◌≤◌, ◌==◌, Bool, false, List, [], ◌∷◌, length, IsTrue, Option, Some, None, slice_index, slice_set}
+use Rattle.sym_base.specs.declared.limits.TheConstants.Limits.{OBJECTS, BOOT_OBJECTS}
+use Rattle.sym_base.specs.declared.kind.Kind.{Kind}
+use Rattle.sym_base.specs.declared.number.ObjNo.{ObjNo}
+use Rattle.entry_log.specs.declared.effect.Holder.{Holder}
+use Rattle.entry_log.specs.declared.effect.Holder.TheVariants.{Temp}
+use Rattle.state_rows.specs.declared.duty.Owed.TheVariants.{Close, Sweep}
+use Rattle.state_rows.specs.ObjectRows.{is_session, is_taken, is_dead_row}
+use Rattle.machine.specs.declared.moves.Move.{Move}
+use Rattle.machine.specs.declared.moves.Move.TheVariants.{Make, Gain, Lose, Find, Miss, GoOn, Write, Advance, Wait, Wake, SetPriority, Nano, Deferred, Requests, Pay}
+use Rattle.machine.specs.declared.state.State.{State}
+use Rattle.machine.specs.declared.state.ThreadRow.{ThreadRow}
+use Rattle.script_types.specs.declared.script.Script.{Script}
+use Rattle.machine.specs.Moves.{moved, told, objects_closed, threads_closed, owed_by_close}
+use Rattle.machine.specs.Arrivals.{is_listed, touched}
+use Rattle.machine.specs.Fits.{FitsDeferred}
+use Rattle.machine.specs.Choice.{priority_of}
+use Rattle.machine.specs.References.{count_of, RefsMove}
+use Rattle.machine.specs.Room.{MayAdvance}
+use Rattle.machine.specs.Rows.{object_of, thread_of, owed_of, owing}
+use Rattle.machine.specs.Task.{is_ready}
+use Rattle.kernel_tables.specs.declared.tables.Tables.{Tables}
+use Rattle.kernel_tables.specs.Counts.{CountsMove}
+use Rattle.kernel_tables.specs.NanoMoved.{CanNano}
+use Rattle.kernel_tables.specs.Noted.{AreNoted}
+use Rattle.kernel_tables.specs.ObjectsView.{IsThere}
+use Rattle.kernel_tables.specs.RequestMoved.{CanRequest}
+use Rattle.kernel_tables.specs.StateOf.{state_of}
+
+-- there is room for one more object, and nothing refers to it yet
+pub record IsNew (S : State) : Type 0 where
+  pub room : length S.objects < OBJECTS
+  pub fresh : count_of S (record { 0 = length S.objects }) ≡ 0
+
+-- an object that isn't swept and has references, so many that one more may come
+pub record IsReferred (S : State) (o : ObjNo) : Type 0 where
+  pub there : IsThere (object_of S o)
+  pub known : 0 < count_of S o
+  pub few : count_of S o < 65536
+
+-- a thread has places left for so many duties more
+abbrev pub HasPlaces : ℕ → State → ObjNo → Type 0
+HasPlaces n S t = length (owed_of S t) + n ≤ 16
+
+-- a thread with a row, whose call uses nothing
+pub record UsesNothing (x : Option ThreadRow) : Type 0 where
+  pub row : ThreadRow
+  pub is : x ≡ Some row
+  pub unused : row.uses ≡ None
+
+-- a holder may get a reference: a thread's call uses nothing yet
+abbrev pub MayGain : State → Holder → Type 0
+MayGain S (Temp t) = UsesNothing (thread_of S t)
+MayGain S _ = Unit {0}
+
+-- an object can be made, a reference be added to an object that has some, and a thread go on
+abbrev pub CanMake : Kind → List ℕ → Holder → State → Type 0
+CanMake kind name h S = (is_session kind ≡ false) × (is_taken kind name S.objects ≡ false) × IsNew S × MayGain S h
+
+abbrev pub CanGain : Holder → ObjNo → State → Type 0
+CanGain h o S = IsReferred S o × MayGain S h
+
+abbrev pub CanAdvance : ObjNo → State → Type 0
+CanAdvance u S = MayAdvance 1 S.threads × HasPlaces 1 S u
+
+-- when a move in an action of thread t can be made: a reference is taken from an object that has some; what is swept is
+-- dead, and no thread; and there is a place for what the thread owes then
+abbrev pub CanMove : ObjNo → Move → State → Type 0
+CanMove t (Make kind name h) S = CanMake kind name h S
+CanMove t (Gain h o) S = CanGain h o S
+CanMove t (Lose h o) S = IsReferred S o × HasPlaces 2 S t
+CanMove t (Find u o) S = Unit {0}
+CanMove t (Miss o) S = Unit {0}
+CanMove t (GoOn u part) S = Unit {0}
+CanMove t (Write u x value) S = Unit {0}
+CanMove t (Advance u) S = CanAdvance u S
+CanMove t (Wait u what) S = Unit {0}
+CanMove t (Wake u) S = Unit {0}
+CanMove t (SetPriority u priority) S = Unit {0}
+CanMove t (Nano m) S = CanNano m S.nano
+CanMove t (Deferred m) S = FitsDeferred m S.deferred
+CanMove t (Requests m) S = CanRequest m S.requests
+CanMove t (Pay (Close h o)) S = IsReferred S o × HasPlaces 2 S t
+CanMove t (Pay (Sweep o)) S = IsTrue (is_dead_row (object_of S o)) × (thread_of S o ≡ None)
+
+-- A move of an action of thread t was made: the tables stand for the state that it leaves, the counts moved with what it
+-- tells, and what threads use is noted.
+pub record IsMoved {W N : Type 0} (t : ObjNo) (m : Move) (old new : Tables W N) : Type 0 where
+  pub state : state_of new ≡ moved t m (state_of old)
+  pub counts : CountsMove old.objects.counts new.objects.counts (told m (state_of old))
+  pub uses : AreNoted new.cleanup new.threads
+
+-- what tables stand for once a reference of an object with this link went, the last or not: the object is dead then,
+-- its link is off its row, and thread t owes the close of the link, and then the sweep
+abbrev pub closed : Bool → ObjNo → ObjNo → Option ObjNo → State → State
+closed last t o link S = record S {
+  objects = objects_closed last o S.objects;
+  threads = threads_closed last o S.threads;
+  owed = owing S.owed t (owed_by_close last o link);
+}
+
+-- it was the last where it was the only one
+pub record IsClosed {W N : Type 0} (t o : ObjNo) (link : Option ObjNo) (old new : Tables W N) : Type 0 where
+  pub state : state_of new ≡ closed (slice_index old.objects.counts o.0 == 1) t o link (state_of old)
+  pub counts : new.objects.counts ≡ slice_set old.objects.counts o.0 (slice_index old.objects.counts o.0 - 1)
+  pub uses : AreNoted new.cleanup new.threads
+
+-- threads have the least numbers, and priorities below 64
+abbrev pub AreKnown : State → Type 0
+AreKnown S = (u : ObjNo) (row : ThreadRow) → thread_of S u ≡ Some row → (u.0 < BOOT_OBJECTS) × (row.priority < 64)
+
+-- whether a move sets a thread's priority
+abbrev pub is_set : Move → ObjNo → Bool
+is_set (SetPriority v priority) u = u.0 == v.0
+is_set _ u = false
+
+-- A move in an action of thread t goes through: it can be made, the references move with what it tells, priorities stay
+-- that it doesn't set, and so does the readiness of all threads that it doesn't touch.
+pub record MoveGoes (script : Script) (t : ObjNo) (m : Move) (S : State) : Type 0 where
+  pub can : CanMove t m S
+  pub refs : RefsMove S (moved t m S) (told m S)
+  pub known : AreKnown (moved t m S)
+  pub ranks : (u : ObjNo) → is_set m u ≡ false → priority_of (moved t m S) u ≡ priority_of S u
+  pub apart : (u : ObjNo) → is_listed (touched t m) u ≡ false → is_ready script (moved t m S) u ≡ is_ready script S u
+
+-- and so does each of several, when its turn comes
+abbrev pub MovesGo : Script → ObjNo → List Move → State → Type 0
+MovesGo script t [] S = Unit {0}
+MovesGo script t (m ∷ ms) S = MoveGoes script t m S × MovesGo script t ms (moved t m S)

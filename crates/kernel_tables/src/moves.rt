@@ -1,0 +1,198 @@
+//! Moves in the kernel's tables: each changes the rows, and the counts move with what it tells.
+ghost use Rattle.std.specs.Prelude.{◌≡◌, ◌+◌, ◌-◌, ◌≤◌, ◌==◌, length, slice_index, slice_set};
+ghost use Rattle.sym_base.specs.declared.number.ObjNo.{ObjNo};
+ghost use Rattle.machine.specs.Moves.{tables_gain, tables_lose, link_of_row};
+ghost use Rattle.machine.specs.Handles.{with_slot, taken_slot, freed_slot};
+ghost use Rattle.machine.specs.Rows.{thread_of};
+ghost use Rattle.cleanup.specs.Lists.{list_of};
+ghost use Rattle.kernel_tables.specs.Noted.{AreKept, AreNoted};
+ghost use Rattle.kernel_tables.specs.Moved.{CanMake, CanGain, CanAdvance, CanMove, IsMoved, IsClosed};
+ghost use Rattle.kernel_tables.specs.ObjectsView.{IsHeld};
+ghost use Rattle.kernel_tables.specs.StateOf.{state_of};
+
+use crate::duties::{drop_first_owed, owe_close, owe_use};
+use crate::handles::Handles;
+use crate::nano_moves::move_nano;
+use crate::request_moves::move_request;
+use crate::tables::Tables;
+use crate::uses::{note_end, note_gain, note_lost, use_of};
+use entry_log::Holder;
+use machine::{Move, Owed, Waiting};
+use ref_words::{Closed, RefWords};
+use sym_base::{Items, Kind, Name, ObjNo, ThreadNo};
+
+/// A holder gets a reference: where it is a handle, that stands in its slot.
+fn gain_slot(tables: &mut Items<Handles>, holder: Holder, object: ObjNo)
+    ensures { tables.new ≡ tables_gain holder object tables.old }
+{
+    match holder {
+        Holder::InProcess(owner, index) | Holder::InThread(owner, index) => {
+            let at = owner.0 as usize;
+            if at < tables.len() {
+                tables.get_mut(at).take(index, object);
+            }
+        }
+        _ => {}
+    }
+}
+
+/// A holder gives its reference up: where it is a handle, that goes.
+fn lose_slot(tables: &mut Items<Handles>, holder: Holder)
+    ensures { tables.new ≡ tables_lose holder tables.old }
+{
+    match holder {
+        Holder::InProcess(owner, index) | Holder::InThread(owner, index) => {
+            let at = owner.0 as usize;
+            if at < tables.len() {
+                tables.get_mut(at).free(index);
+            }
+        }
+        _ => {}
+    }
+}
+
+/// Makes an object, whose first reference is the holder's.
+fn make<W: RefWords + Drop>(tables: &mut Tables<W>, kind: Kind, name: Name, holder: Holder)
+    requires can { CanMake kind name holder (state_of tables.old) }
+    requires kept { AreKept tables.old }
+    ensures { (t : ObjNo) → IsMoved t (Move.Make kind name holder) tables.old tables.new }
+{
+    let object = tables.objects.make(kind, &name);
+    gain_slot(&mut tables.handles, holder, object);
+    note_gain(&mut tables.cleanup, holder, object);
+    machine::threads_gain(&mut tables.threads, holder, object);
+}
+
+/// A holder gets a reference.
+fn gain<W: RefWords + Drop>(tables: &mut Tables<W>, holder: Holder, object: ObjNo)
+    requires can { CanGain holder object (state_of tables.old) }
+    requires kept { AreKept tables.old }
+    ensures { (t : ObjNo) → IsMoved t (Move.Gain holder object) tables.old tables.new }
+{
+    tables.objects.add_ref(object);
+    gain_slot(&mut tables.handles, holder, object);
+    note_gain(&mut tables.cleanup, holder, object);
+    machine::threads_gain(&mut tables.threads, holder, object);
+}
+
+/// A reference to an object with this link of its own goes. With the last one the object dies, and the thread
+/// owes the close of the link, and then the sweep.
+fn close<W: RefWords + Drop>(
+    tables: &mut Tables<W>,
+    thread: ThreadNo,
+    object: ObjNo,
+    link: Option<ObjNo>,
+)
+    requires held { IsHeld tables.old.objects object }
+    requires places { length (list_of tables.old.cleanup.duties thread) + 2 ≤ 16 }
+    requires uses { AreNoted tables.old.cleanup tables.old.threads }
+    ensures { IsClosed thread object link tables.old tables.new }
+{
+    let last = tables.objects.close_ref(object) == Closed::Last;
+    machine::threads_closed(&mut tables.threads, last, object);
+    owe_close(&mut tables.cleanup, thread, last, object, link);
+}
+
+/// A holder gives its reference up, and the thread owes what a last one leaves to do.
+fn lose<W: RefWords + Drop>(tables: &mut Tables<W>, thread: ThreadNo, holder: Holder, object: ObjNo)
+    requires can { CanMove thread (Move.Lose holder object) (state_of tables.old) }
+    requires kept { AreKept tables.old }
+    ensures { IsMoved thread (Move.Lose holder object) tables.old tables.new }
+{
+    let link = link_of(tables, object);
+    lose_slot(&mut tables.handles, holder);
+    note_lost(&mut tables.cleanup, &tables.threads, holder);
+    machine::threads_lose(&mut tables.threads, holder);
+    close(tables, thread, object, link);
+}
+
+/// An object's own reference: a thread's link to its process.
+fn link_of<W: RefWords + Drop>(tables: &Tables<W>, object: ObjNo) -> Option<ObjNo>
+    ensures { result ≡ link_of_row (thread_of (state_of tables.now) object) }
+{
+    machine::row_of(&tables.threads, object)?.link
+}
+
+/// The thread goes on to its next instruction, and owes the close of what it used.
+fn advance<W: RefWords + Drop>(tables: &mut Tables<W>, thread: ThreadNo)
+    requires can { CanAdvance thread (state_of tables.old) }
+    requires uses { AreNoted tables.old.cleanup tables.old.threads }
+    ensures { (t : ObjNo) → IsMoved t (Move.Advance thread) tables.old tables.new }
+{
+    let uses = use_of(&tables.threads, thread);
+    note_end(&mut tables.cleanup, &tables.threads, thread);
+    machine::threads_advance(&mut tables.threads, thread);
+    owe_use(&mut tables.cleanup, thread, uses);
+}
+
+/// The thread pays a close that it owes.
+fn pay_close<W: RefWords + Drop>(
+    tables: &mut Tables<W>,
+    thread: ThreadNo,
+    holder: Holder,
+    object: ObjNo,
+)
+    requires can { CanMove thread (Move.Pay (Owed.Close holder object)) (state_of tables.old) }
+    requires kept { AreKept tables.old }
+    ensures { IsMoved thread (Move.Pay (Owed.Close holder object)) tables.old tables.new }
+{
+    let link = link_of(tables, object);
+    drop_first_owed(&mut tables.cleanup, thread);
+    close(tables, thread, object, link);
+}
+
+/// The thread removes the row of a dead object.
+fn pay_sweep<W: RefWords + Drop>(tables: &mut Tables<W>, thread: ThreadNo, object: ObjNo)
+    requires can { CanMove thread (Move.Pay (Owed.Sweep object)) (state_of tables.old) }
+    requires uses { AreNoted tables.old.cleanup tables.old.threads }
+    ensures { IsMoved thread (Move.Pay (Owed.Sweep object)) tables.old tables.new }
+{
+    tables.objects.sweep(object);
+    machine::set_row(&mut tables.threads, object, None);
+    drop_first_owed(&mut tables.cleanup, thread);
+}
+
+/// The thread pays the oldest of what it owes.
+fn pay<W: RefWords + Drop>(tables: &mut Tables<W>, thread: ThreadNo, what: Owed)
+    requires can { CanMove thread (Move.Pay what) (state_of tables.old) }
+    requires kept { AreKept tables.old }
+    ensures { IsMoved thread (Move.Pay what) tables.old tables.new }
+{
+    match what {
+        Owed::Close(holder, object) => pay_close(tables, thread, holder, object),
+        Owed::Sweep(object) => pay_sweep(tables, thread, object),
+    }
+}
+
+/// One move in an action of a thread.
+pub fn make_move<W: RefWords + Drop>(tables: &mut Tables<W>, thread: ThreadNo, change: Move)
+    requires can { CanMove thread change (state_of tables.old) }
+    requires kept { AreKept tables.old }
+    ensures { IsMoved thread change tables.old tables.new }
+{
+    match change {
+        Move::Make(kind, name, holder) => make(tables, kind, name, holder),
+        Move::Gain(holder, object) => gain(tables, holder, object),
+        Move::Lose(holder, object) => lose(tables, thread, holder, object),
+        Move::Find(other, object) => {
+            machine::threads_find(&mut tables.threads, other, object);
+        }
+        Move::Miss(_) => {}
+        Move::GoOn(other, part) => machine::threads_go_on(&mut tables.threads, other, part),
+        Move::Write(other, register, value) => {
+            machine::threads_write(&mut tables.threads, other, register, value);
+        }
+        Move::Advance(other) => advance(tables, other),
+        Move::Wait(other, what) => machine::threads_wait(&mut tables.threads, other, what),
+        Move::Wake(other) => {
+            machine::threads_wait(&mut tables.threads, other, Waiting::Nothing);
+        }
+        Move::SetPriority(other, priority) => {
+            machine::threads_set_priority(&mut tables.threads, other, priority);
+        }
+        Move::Nano(change) => move_nano(&mut tables.nano, change),
+        Move::Deferred(change) => tables.deferred.change(change),
+        Move::Requests(change) => move_request(&mut tables.requests, change),
+        Move::Pay(what) => pay(tables, thread, what),
+    }
+}

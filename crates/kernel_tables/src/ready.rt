@@ -1,0 +1,162 @@
+//! The queues of ready threads follow the moves of an action: who becomes ready comes, and who has nothing left to
+//! do leaves at the end.
+ghost use Rattle.std.specs.Prelude.{◌≡◌, ℕ, ◌<◌, List, option_map};
+ghost use Rattle.sym_base.specs.declared.limits.TheConstants.Limits.{BOOT_OBJECTS};
+ghost use Rattle.sym_base.specs.declared.number.ObjNo.{ObjNo};
+ghost use Rattle.machine.specs.Arrivals.{arrive, one_of, taken_out, threads_of, unlisted};
+ghost use Rattle.sym_base.specs.Greatest.{first_of_greatest};
+ghost use Rattle.ready_list.specs.Arrival.{AreQueuesOf};
+ghost use Rattle.machine.specs.Choice.{priority_of};
+ghost use Rattle.machine.specs.Tick.{moved_behind};
+ghost use Rattle.state_rows.specs.Deferred.{next_immediate};
+ghost use Rattle.state_rows.specs.Nano.{in_place_of, turned, actor_of, item_or};
+ghost use Rattle.kernel_tables.specs.Moved.{AreKnown};
+ghost use Rattle.kernel_tables.specs.ReadyQueues.{Follow, SomeReady, pairs, leave, leave_along};
+ghost use Rattle.kernel_tables.specs.StateOf.{state_of};
+
+use crate::tables::Tables;
+use decisions::{is_ready, wanted_holder};
+use entry_log::Actor;
+use machine::{Move, TouchedThreads, row_of, touched};
+use nano_sync::NanoSync;
+use ready_list::ReadyList;
+use ref_words::RefWords;
+use script_types::Script;
+use sym_base::{Limits, ThreadNo};
+
+/// A thread comes behind the others of its priority, where it is ready and stands in no queue.
+fn arrive<W: RefWords + Drop>(
+    script: &Script,
+    tables: &Tables<W>,
+    ready: &mut ReadyList,
+    thread: Option<ThreadNo>,
+)
+    requires known { AreKnown (state_of tables.now) }
+    requires size { ready.old.threads ≡ BOOT_OBJECTS }
+    ensures size { ready.new.threads ≡ BOOT_OBJECTS }
+    ensures queues { Follow (priority_of (state_of tables.now)) (arrive script.now (state_of tables.now) (one_of thread)) ready.old ready.new }
+{
+    let Some(thread) = thread else {
+        return;
+    };
+    if thread.0 as usize >= Limits::BOOT_OBJECTS {
+        return;
+    }
+    if ready.priority_of(thread).is_some() {
+        return;
+    }
+    if !is_ready(script, tables, thread) {
+        return;
+    }
+    if let Some(row) = row_of(&tables.threads, thread) {
+        ready.add(thread, row.priority);
+    }
+}
+
+/// Those come that a move touched.
+pub fn arrive_touched<W: RefWords + Drop>(
+    script: &Script,
+    tables: &Tables<W>,
+    ready: &mut ReadyList,
+    touched: TouchedThreads,
+)
+    requires known { AreKnown (state_of tables.now) }
+    requires size { ready.old.threads ≡ BOOT_OBJECTS }
+    ensures size { ready.new.threads ≡ BOOT_OBJECTS }
+    ensures queues { Follow (priority_of (state_of tables.now)) (arrive script.now (state_of tables.now) (threads_of touched)) ready.old ready.new }
+{
+    arrive(script, tables, ready, touched.first);
+    arrive(script, tables, ready, touched.second);
+}
+
+/// Takes a thread off the queues, where it stands in one.
+fn take_off(ready: &mut ReadyList, thread: ThreadNo)
+    requires { ready.old.threads ≡ BOOT_OBJECTS }
+    ensures size { ready.new.threads ≡ BOOT_OBJECTS }
+    ensures queues { (rank : ObjNo → ℕ) → Follow rank (unlisted thread) ready.old ready.new }
+{
+    if thread.0 as usize >= Limits::BOOT_OBJECTS {
+        return;
+    }
+    if ready.priority_of(thread).is_some() {
+        ready.remove(thread);
+    }
+}
+
+/// A thread whose priority a move sets leaves, and so comes anew.
+pub fn take_out(ready: &mut ReadyList, change: Move)
+    requires { ready.old.threads ≡ BOOT_OBJECTS }
+    ensures size { ready.new.threads ≡ BOOT_OBJECTS }
+    ensures queues { (rank : ObjNo → ℕ) → Follow rank (taken_out change) ready.old ready.new }
+{
+    if let Move::SetPriority(thread, _) = change {
+        take_off(ready, thread);
+    }
+}
+
+/// A thread that isn't ready leaves.
+fn leave<W: RefWords + Drop>(
+    script: &Script,
+    tables: &Tables<W>,
+    ready: &mut ReadyList,
+    thread: Option<ThreadNo>,
+)
+    requires { ready.old.threads ≡ BOOT_OBJECTS }
+    ensures size { ready.new.threads ≡ BOOT_OBJECTS }
+    ensures queues { (rank : ObjNo → ℕ) → Follow rank (leave script.now (state_of tables.now) (one_of thread)) ready.old ready.new }
+{
+    let Some(thread) = thread else {
+        return;
+    };
+    if !is_ready(script, tables, thread) {
+        take_off(ready, thread);
+    }
+}
+
+/// Of those that a move touched, who isn't ready leaves.
+fn leave_touched<W: RefWords + Drop>(
+    script: &Script,
+    tables: &Tables<W>,
+    ready: &mut ReadyList,
+    touched: TouchedThreads,
+)
+    requires { ready.old.threads ≡ BOOT_OBJECTS }
+    ensures size { ready.new.threads ≡ BOOT_OBJECTS }
+    ensures queues { (rank : ObjNo → ℕ) → Follow rank (leave script.now (state_of tables.now) (threads_of touched)) ready.old ready.new }
+{
+    leave(script, tables, ready, touched.first);
+    leave(script, tables, ready, touched.second);
+}
+
+/// Of those that the moves of an action touched, who isn't ready leaves.
+pub fn leave_along<W: RefWords + Drop>(
+    script: &Script,
+    tables: &Tables<W>,
+    ready: &mut ReadyList,
+    thread: ThreadNo,
+    moves: &[Move],
+)
+    requires { ready.old.threads ≡ BOOT_OBJECTS }
+    ensures size { ready.new.threads ≡ BOOT_OBJECTS }
+    ensures queues { (rank : ObjNo → ℕ) → Follow rank (leave_along script.now (state_of tables.now) thread moves.now) ready.old ready.new }
+{
+    for change in moves {
+        leave_touched(script, tables, ready, touched(thread, *change));
+    }
+}
+
+/// Whom the queues let act: the oldest item of the immediate queue, where it has one; else the first thread of the highest
+/// queue, or who acts in its place, or nobody.
+#[tactic(auto, using(crate::proofs::ReadyChanges::chosen_follows))]
+pub fn chosen<W: RefWords + Drop>(tables: &Tables<W>, ready: &ReadyList) -> Actor
+    ensures { (rank : ObjNo → ℕ) (qs : List ObjNo) → AreQueuesOf (pairs rank qs) ready.now → result ≡ item_or (next_immediate (state_of tables.now).deferred) (actor_of (option_map (in_place_of (state_of tables.now).nano) (first_of_greatest rank qs))) }
+{
+    nano::chosen(ready, &tables.nano, tables.deferred.calls())
+}
+
+/// Puts the first thread of the highest queue behind its equals, unless it holds a fast mutex.
+pub fn turn(nano: &NanoSync, ready: &mut ReadyList)
+    ensures { (rank : ObjNo → ℕ) → Follow rank (λ qs. moved_behind qs (turned nano.now (first_of_greatest rank qs))) ready.old ready.new }
+{
+    nano::tick(ready, nano);
+}
