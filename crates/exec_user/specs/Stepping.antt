@@ -16,7 +16,7 @@ abbrev pub step_at : Script → State → ObjNo → Instr → Decision
 step_at script S t instr = decision_of_row script S t (thread_of S t) (Some (Step instr))
 
 -- a thread may make a step of an instruction in a phase: it is able, the step is its next task, and it is in that phase
-pub record IsAtStep (script : Script) (S : State) (t : ObjNo) (instr : Instr) (phase : ℕ) : Type 0 where
+pub record IsAtStep (script : Script) (S : State) (t : ObjNo) (instr : Instr) (p : ℕ) : Type 0 where
   pub able : IsTrue (is_able script S t)
   pub next : task_of script S t ≡ Some (Step instr)
-  pub phase : phase ≡ phase_at S t
+  pub phase : p ≡ phase_at S t

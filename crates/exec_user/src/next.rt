@@ -1,6 +1,6 @@
 //! What comes after a step of an instruction. That the steps of an instruction have numbers, its phases, is this project's own.
 ghost use Rattle.std.specs.Prelude.{◌≡◌, option_copied};
-ghost use Rattle.exec_user.specs.Phases.{phase_of, next_of};
+ghost use Rattle.exec_user.specs.Phases.{goes_on, next_of, phase_of};
 
 use entry_log::Part;
 use machine::{ThreadRow, Waiting};

@@ -1,3 +1,4 @@
 pub mod BootTable
 pub mod Done
 pub mod KernelView
+pub mod Told

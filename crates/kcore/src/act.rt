@@ -14,6 +14,7 @@ ghost use Rattle.exec_user.specs.Stepping.{step_at};
 ghost use Rattle.machine.specs.WellFormed.{AreRows};
 ghost use Rattle.kernel_tables.specs.Noted.{AreKept};
 ghost use Rattle.kcore.specs.Done.{Does, MayAct};
+ghost use Rattle.kcore.specs.Told.{IsTold, told_in};
 ghost use Rattle.kernel_tables.specs.ReadyQueues.{Follow, SomeReady};
 ghost use Rattle.kernel_tables.specs.StateOf.{state_of};
 
@@ -21,10 +22,10 @@ use crate::bodies::run_body;
 use crate::interrupts::{immediate, interrupt};
 use crate::plans::carry_out;
 use decisions::{NextAction, next_action};
-use entry_log::{Actor, Effects, Step};
+use entry_log::{Actor, Entry, Step};
 use exec_user::{ExecUser, phase_at};
 use kernel_tables::{Tables, leave_along, turn};
-use machine::{Decision, Outcome};
+use machine::Decision;
 use nano_sync::NanoSync;
 use ready_list::ReadyList;
 use ref_words::RefWords;
@@ -39,14 +40,16 @@ fn step<W: RefWords + Drop>(
     decision: &mut Decision,
     thread: ThreadNo,
     instr: &Instr,
-) -> Outcome
+    entry: &mut Entry,
+)
     requires shaped { IsShaped script.now }
     requires rows { AreRows script.now (state_of tables.old) }
     requires kept { AreKept tables.old }
     requires size { ready.old.threads ≡ BOOT_OBJECTS }
     requires able { IsTrue (is_able script.now (state_of tables.old) thread) }
     requires next { task_of script.now (state_of tables.old) thread ≡ Some (task.Step instr.now) }
-    ensures { Does script.now tables.old ready.old tables.new ready.new result (λ S. carried_out script.now thread S (step_at script.now (state_of tables.old) thread instr.now)) }
+    ensures told { IsTold entry.old entry.new }
+    ensures does { Does script.now tables.old ready.old tables.new ready.new (told_in entry.new) (λ S. carried_out script.now thread S (step_at script.now (state_of tables.old) thread instr.now)) }
 {
     let phase = phase_at(tables, thread);
     let mut user = ExecUser {
@@ -57,11 +60,9 @@ fn step<W: RefWords + Drop>(
     let made = user.step(script, thread, instr, phase);
     let moves = decision.moves.as_slice();
     leave_along(script, tables, ready, thread, moves);
-    Outcome {
-        step: decision.step,
-        effects: made.effects,
-        answer: made.answer,
-    }
+    entry.step = decision.step;
+    entry.effects = made.effects;
+    entry.answer = made.answer;
 }
 
 /// The next action of an able thread, decided in the place of the decision before it.
@@ -71,67 +72,71 @@ fn act<W: RefWords + Drop>(
     ready: &mut ReadyList,
     decision: &mut Decision,
     thread: ThreadNo,
-) -> Outcome
+    entry: &mut Entry,
+)
     requires shaped { IsShaped script.now }
     requires rows { AreRows script.now (state_of tables.old) }
     requires kept { AreKept tables.old }
     requires size { ready.old.threads ≡ BOOT_OBJECTS }
     requires able { IsTrue (is_able script.now (state_of tables.old) thread) }
-    ensures { Does script.now tables.old ready.old tables.new ready.new result (λ S. act script.now S thread) }
+    requires empty { entry.old.effects ≡ [] }
+    ensures told { IsTold entry.old entry.new }
+    ensures does { Does script.now tables.old ready.old tables.new ready.new (told_in entry.new) (λ S. act script.now S thread) }
 {
     match next_action(decision, script, tables, thread) {
-        NextAction::Decided => carry_out(script, tables, ready, thread, decision),
+        NextAction::Decided => carry_out(script, tables, ready, thread, decision, entry),
         NextAction::Runs(body) => {
-            run_body(script, tables, ready, &mut decision.moves, thread, body)
+            run_body(script, tables, ready, &mut decision.moves, thread, body, entry);
         }
-        NextAction::Steps(instr) => step(script, tables, ready, decision, thread, instr),
+        NextAction::Steps(instr) => step(script, tables, ready, decision, thread, instr, entry),
     }
 }
 
 /// The end of a time slice.
-fn tick(nano: &NanoSync, ready: &mut ReadyList) -> Outcome
+fn tick(nano: &NanoSync, ready: &mut ReadyList, entry: &mut Entry)
+    requires empty { entry.old.effects ≡ [] }
+    ensures told { IsTold entry.old entry.new }
     ensures queues { (rank : ObjNo → ℕ) → Follow rank (λ qs. moved_behind qs (turned nano.now (first_of_greatest rank qs))) ready.old ready.new }
-    ensures told { result ≡ record { step = Step.Turn; effects = []; answer = None } }
+    ensures outcome { told_in entry.new ≡ record { step = Step.Turn; effects = []; answer = None } }
 {
     turn(nano, ready);
-    Outcome {
-        step: Step::Turn,
-        effects: Effects::new(),
-        answer: None,
-    }
+    entry.step = Step::Turn;
+    entry.answer = None;
 }
 
 /// Nobody acts.
-fn idle() -> Outcome
-    ensures { result ≡ record { step = Step.Wait; effects = []; answer = None } }
+fn idle(entry: &mut Entry)
+    requires empty { entry.old.effects ≡ [] }
+    ensures told { IsTold entry.old entry.new }
+    ensures outcome { told_in entry.new ≡ record { step = Step.Wait; effects = []; answer = None } }
 {
-    Outcome {
-        step: Step::Wait,
-        effects: Effects::new(),
-        answer: None,
-    }
+    entry.step = Step::Wait;
+    entry.answer = None;
 }
 
-/// An action of an actor.
+/// An action of an actor, told by an entry that has no effects yet.
 pub fn transition<W: RefWords + Drop>(
     script: &Script,
     tables: &mut Tables<W>,
     ready: &mut ReadyList,
     decision: &mut Decision,
     actor: Actor,
-) -> Outcome
+    entry: &mut Entry,
+)
     requires shaped { IsShaped script.now }
     requires rows { AreRows script.now (state_of tables.old) }
     requires kept { AreKept tables.old }
     requires ready { SomeReady ready.old }
     requires able { MayAct script.now (state_of tables.old) actor }
-    ensures { Does script.now tables.old ready.old tables.new ready.new result (λ S. transition script.now S actor) }
+    requires empty { entry.old.effects ≡ [] }
+    ensures told { IsTold entry.old entry.new }
+    ensures does { Does script.now tables.old ready.old tables.new ready.new (told_in entry.new) (λ S. transition script.now S actor) }
 {
     match actor {
-        Actor::Thread(thread) => act(script, tables, ready, decision, thread),
-        Actor::Tick => tick(&tables.nano, ready),
-        Actor::Irq(number) => interrupt(script, tables, ready, decision, number),
-        Actor::Idfc => immediate(script, tables, ready, decision),
-        Actor::Idle => idle(),
+        Actor::Thread(thread) => act(script, tables, ready, decision, thread, entry),
+        Actor::Tick => tick(&tables.nano, ready, entry),
+        Actor::Irq(number) => interrupt(script, tables, ready, decision, number, entry),
+        Actor::Idfc => immediate(script, tables, ready, decision, entry),
+        Actor::Idle => idle(entry),
     }
 }

@@ -1,6 +1,6 @@
 //! Bodies: what interrupts and deferred function calls do, one operation after the other, each decided in the tables that
 //! the earlier ones left. Whoever isn't ready leaves the queues once, at the end.
-ghost use Rattle.std.specs.Prelude.{◌≡◌, ◌+◌, ◌*◌, ◌≤◌, ◌++◌, length};
+ghost use Rattle.std.specs.Prelude.{◌≡◌, ◌+◌, ◌*◌, ◌≤◌, ◌++◌, [], length};
 ghost use Rattle.sym_base.specs.declared.limits.TheConstants.Limits.{BOOT_OBJECTS};
 ghost use Rattle.script_types.specs.Shape.{IsShaped};
 ghost use Rattle.machine.specs.Bodies.{ops_moves, run_body};
@@ -9,14 +9,15 @@ ghost use Rattle.machine.specs.Transition.{carried_out};
 ghost use Rattle.kernel_tables.specs.Moved.{MovesGo};
 ghost use Rattle.kernel_tables.specs.Noted.{AreKept};
 ghost use Rattle.kcore.specs.Done.{Does};
+ghost use Rattle.kcore.specs.Told.{IsTold, told_in};
 ghost use Rattle.kernel_tables.specs.Performed.{ActionGoes, IsPerformed};
 ghost use Rattle.kernel_tables.specs.StateOf.{state_of};
 
 use crate::made::{Made, add_moves};
 use decisions::{leave_queue, op_moves, ops_of, step_of_body};
-use entry_log::Effects;
+use entry_log::{Effects, Entry};
 use kernel_tables::{Tables, leave_along, perform};
-use machine::{Body, Moves, Outcome};
+use machine::{Body, Moves};
 use ready_list::ReadyList;
 use ref_words::RefWords;
 use script_types::{Op, Script};
@@ -58,14 +59,16 @@ pub fn run_body<W: RefWords + Drop>(
     moves: &mut Moves,
     thread: ThreadNo,
     body: Body,
-) -> Outcome
+    entry: &mut Entry,
+)
     requires shaped { IsShaped script.now }
     requires goes { ActionGoes script.now thread (run_body script.now thread (state_of tables.old) body).moves (state_of tables.old) }
     requires kept { AreKept tables.old }
     requires size { ready.old.threads ≡ BOOT_OBJECTS }
-    ensures { Does script.now tables.old ready.old tables.new ready.new result (λ S. carried_out script.now thread S (run_body script.now thread (state_of tables.old) body)) }
+    requires empty { entry.old.effects ≡ [] }
+    ensures told { IsTold entry.old entry.new }
+    ensures does { Does script.now tables.old ready.old tables.new ready.new (told_in entry.new) (λ S. carried_out script.now thread S (run_body script.now thread (state_of tables.old) body)) }
 {
-    let mut effects = Effects::new();
     let mut made = Made::new();
     leave_queue(moves, tables, body);
     perform(
@@ -74,7 +77,7 @@ pub fn run_body<W: RefWords + Drop>(
         ready,
         thread,
         moves.as_slice(),
-        &mut effects,
+        &mut entry.effects,
     );
     add_moves(&mut made, moves.as_slice());
     run_ops(
@@ -84,13 +87,10 @@ pub fn run_body<W: RefWords + Drop>(
         moves,
         thread,
         ops_of(script, body),
-        &mut effects,
+        &mut entry.effects,
         &mut made,
     );
     leave_along(script, tables, ready, thread, made.as_slice());
-    Outcome {
-        step: step_of_body(script, body),
-        effects,
-        answer: None,
-    }
+    entry.step = step_of_body(script, body);
+    entry.answer = None;
 }

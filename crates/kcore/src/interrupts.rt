@@ -1,18 +1,20 @@
 //! Actions of which no thread is the actor: those of interrupts and of the immediate queue.
-ghost use Rattle.std.specs.Prelude.{◌≡◌};
+ghost use Rattle.std.specs.Prelude.{◌≡◌, []};
 ghost use Rattle.sym_base.specs.declared.limits.TheConstants.Limits.{BOOT_OBJECTS};
 ghost use Rattle.script_types.specs.Shape.{IsShaped};
 ghost use Rattle.machine.specs.Interrupts.{immediate, interrupt};
 ghost use Rattle.machine.specs.WellFormed.{AreRows};
 ghost use Rattle.kernel_tables.specs.Noted.{AreKept};
 ghost use Rattle.kcore.specs.Done.{Does};
+ghost use Rattle.kcore.specs.Told.{IsTold, told_in};
 ghost use Rattle.kernel_tables.specs.StateOf.{state_of};
 
 use crate::bodies::run_body;
 use crate::plans::follow;
 use decisions::immediate_action;
+use entry_log::Entry;
 use kernel_tables::Tables;
-use machine::{Body, Decision, Outcome};
+use machine::{Body, Decision};
 use ready_list::ReadyList;
 use ref_words::RefWords;
 use script_types::Script;
@@ -28,15 +30,18 @@ pub fn interrupt<W: RefWords + Drop>(
     ready: &mut ReadyList,
     decision: &mut Decision,
     number: u8,
-) -> Outcome
+    entry: &mut Entry,
+)
     requires shaped { IsShaped script.now }
     requires rows { AreRows script.now (state_of tables.old) }
     requires kept { AreKept tables.old }
     requires size { ready.old.threads ≡ BOOT_OBJECTS }
-    ensures { Does script.now tables.old ready.old tables.new ready.new result (λ S. interrupt script.now S number) }
+    requires empty { entry.old.effects ≡ [] }
+    ensures told { IsTold entry.old entry.new }
+    ensures does { Does script.now tables.old ready.old tables.new ready.new (told_in entry.new) (λ S. interrupt script.now S number) }
 {
     let body = Body::Interrupt(number);
-    run_body(script, tables, ready, &mut decision.moves, SUPERVISOR, body)
+    run_body(script, tables, ready, &mut decision.moves, SUPERVISOR, body, entry);
 }
 
 /// The oldest item of the immediate queue runs, or moves to its own queue.
@@ -45,13 +50,16 @@ pub fn immediate<W: RefWords + Drop>(
     tables: &mut Tables<W>,
     ready: &mut ReadyList,
     decision: &mut Decision,
-) -> Outcome
+    entry: &mut Entry,
+)
     requires shaped { IsShaped script.now }
     requires rows { AreRows script.now (state_of tables.old) }
     requires kept { AreKept tables.old }
     requires size { ready.old.threads ≡ BOOT_OBJECTS }
-    ensures { Does script.now tables.old ready.old tables.new ready.new result (λ S. immediate script.now S) }
+    requires empty { entry.old.effects ≡ [] }
+    ensures told { IsTold entry.old entry.new }
+    ensures does { Does script.now tables.old ready.old tables.new ready.new (told_in entry.new) (λ S. immediate script.now S) }
 {
     let body = immediate_action(decision, script, tables);
-    follow(script, tables, ready, decision, SUPERVISOR, body)
+    follow(script, tables, ready, decision, SUPERVISOR, body, entry);
 }

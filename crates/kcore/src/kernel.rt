@@ -1,5 +1,5 @@
 //! The kernel that a script's schedule drives.
-ghost use Rattle.std.specs.Prelude.{◌≡◌, ◌+◌, ◌<◌, ◌≤◌, ◌++◌, [], ◌∷◌, List, length, IsTrue, IfOk};
+ghost use Rattle.std.specs.Prelude.{◌≡◌, ◌+◌, ◌<◌, ◌≤◌, ◌++◌, [], ◌∷◌, List, length, None, IsTrue, IfOk};
 ghost use Rattle.sym_base.specs.declared.limits.TheConstants.Limits.{OBJECTS, SHARED_HISTORY};
 ghost use Rattle.ref_words.specs.Words.{NoneCreated};
 ghost use Rattle.script_types.specs.Source.{IsValid};
@@ -8,7 +8,7 @@ ghost use Rattle.machine.specs.FinalRows.{rows_from, IsNextRow};
 ghost use Rattle.entry_log.specs.declared.entry.Actor.TheVariants as Actor;
 ghost use Rattle.machine.specs.Choice.{priority_of};
 ghost use Rattle.machine.specs.Task.{is_able};
-ghost use Rattle.machine.specs.History.{after, entry_by, CanAct, IsLegal};
+ghost use Rattle.machine.specs.History.{after, entry_by, entry_of, CanAct, IsLegal};
 ghost use Rattle.machine.specs.Run.{slot_actor};
 ghost use Rattle.machine_safe.specs.ReadyHolders.{AreHoldersReady};
 ghost use Rattle.machine_safe.specs.SafeReferences.{IsSafeReferences};
@@ -21,9 +21,9 @@ ghost use Rattle.kernel_tables.specs.StateOf.{state_of, with_ready};
 use crate::act::transition;
 use crate::boot;
 use decisions::is_able;
-use entry_log::{Actor, Entry, FinalRow};
+use entry_log::{Actor, Effects, Entry, FinalRow, Step};
 use kernel_tables::{Tables, chosen};
-use machine::{Decision, entry_of};
+use machine::Decision;
 use ready_list::ReadyList;
 use ref_words::{PlainWords, RefWords};
 use script_types::{Script, Slot};
@@ -63,6 +63,19 @@ fn slot_actor<W: RefWords + Drop>(tables: &Tables<W>, ready: &ReadyList, slot: S
         Slot::Go => chosen(tables, ready),
         Slot::Irq(number) => Actor::Irq(number),
         Slot::Tick => Actor::Tick,
+    }
+}
+
+/// An entry of an actor at a place, which tells nothing yet.
+fn new_entry(place: u32, actor: Actor) -> Entry
+    ensures { result ≡ entry_of place actor (record { step = Step.Wait; effects = []; answer = None }) }
+{
+    Entry {
+        place,
+        actor,
+        step: Step::Wait,
+        effects: Effects::new(),
+        answer: None,
     }
 }
 
@@ -117,16 +130,16 @@ impl<W: RefWords + Drop> Kernel<W> {
         ensures safe { IsSafeReferences self.new.script self.new.history }
         ensures holders { AreHoldersReady self.new.script self.new.history }
     {
-        let outcome = transition(
+        let at = self.history.len();
+        self.history.push_reserved(new_entry(at as u32 + 1, actor));
+        transition(
             &self.script,
             &mut self.tables,
             &mut self.ready,
             &mut self.decision,
             actor,
+            &mut self.history[at],
         );
-        let place = self.history.as_slice().len() as u32 + 1;
-        let entry = entry_of(place, actor, outcome);
-        self.history.push_reserved(entry);
     }
 
     /// Whether a thread may act: it is ready, and wants no fast mutex that another holds.

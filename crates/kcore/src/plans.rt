@@ -1,5 +1,5 @@
 //! What an actor decided is carried out: moves that were decided at once, or a body.
-ghost use Rattle.std.specs.Prelude.{◌≡◌};
+ghost use Rattle.std.specs.Prelude.{◌≡◌, []};
 ghost use Rattle.sym_base.specs.declared.limits.TheConstants.Limits.{BOOT_OBJECTS};
 ghost use Rattle.script_types.specs.Shape.{IsShaped};
 ghost use Rattle.decisions.specs.Planned.{planned};
@@ -8,12 +8,13 @@ ghost use Rattle.machine.specs.Transition.{carried_out};
 ghost use Rattle.kernel_tables.specs.Noted.{AreKept};
 ghost use Rattle.kernel_tables.specs.Performed.{ActionGoes};
 ghost use Rattle.kcore.specs.Done.{Does};
+ghost use Rattle.kcore.specs.Told.{IsTold, told_in};
 ghost use Rattle.kernel_tables.specs.StateOf.{state_of};
 
 use crate::bodies::run_body;
-use entry_log::Effects;
+use entry_log::Entry;
 use kernel_tables::{Tables, leave_along, perform};
-use machine::{Body, Decision, Outcome};
+use machine::{Body, Decision};
 use ready_list::ReadyList;
 use ref_words::RefWords;
 use script_types::Script;
@@ -26,21 +27,20 @@ pub fn carry_out<W: RefWords + Drop>(
     ready: &mut ReadyList,
     thread: ThreadNo,
     decision: &Decision,
-) -> Outcome
+    entry: &mut Entry,
+)
     requires goes { ActionGoes script.now thread decision.now.moves (state_of tables.old) }
     requires kept { AreKept tables.old }
     requires size { ready.old.threads ≡ BOOT_OBJECTS }
-    ensures { Does script.now tables.old ready.old tables.new ready.new result (λ S. carried_out script.now thread S decision.now) }
+    requires empty { entry.old.effects ≡ [] }
+    ensures told { IsTold entry.old entry.new }
+    ensures does { Does script.now tables.old ready.old tables.new ready.new (told_in entry.new) (λ S. carried_out script.now thread S decision.now) }
 {
-    let mut effects = Effects::new();
     let moves = decision.moves.as_slice();
-    perform(script, tables, ready, thread, moves, &mut effects);
+    perform(script, tables, ready, thread, moves, &mut entry.effects);
     leave_along(script, tables, ready, thread, moves);
-    Outcome {
-        step: decision.step,
-        effects,
-        answer: decision.answer,
-    }
+    entry.step = decision.step;
+    entry.answer = decision.answer;
 }
 
 /// What was decided for a thread, or a body, where there is one.
@@ -51,15 +51,20 @@ pub fn follow<W: RefWords + Drop>(
     decision: &mut Decision,
     thread: ThreadNo,
     body: Option<Body>,
-) -> Outcome
+    entry: &mut Entry,
+)
     requires shaped { IsShaped script.now }
     requires goes { ActionGoes script.now thread (decision_by script.now thread (state_of tables.old) (planned decision.old body)).moves (state_of tables.old) }
     requires kept { AreKept tables.old }
     requires size { ready.old.threads ≡ BOOT_OBJECTS }
-    ensures { Does script.now tables.old ready.old tables.new ready.new result (λ S. carried_out script.now thread S (decision_by script.now thread (state_of tables.old) (planned decision.old body))) }
+    requires empty { entry.old.effects ≡ [] }
+    ensures told { IsTold entry.old entry.new }
+    ensures does { Does script.now tables.old ready.old tables.new ready.new (told_in entry.new) (λ S. carried_out script.now thread S (decision_by script.now thread (state_of tables.old) (planned decision.old body))) }
 {
     match body {
-        None => carry_out(script, tables, ready, thread, decision),
-        Some(body) => run_body(script, tables, ready, &mut decision.moves, thread, body),
+        None => carry_out(script, tables, ready, thread, decision, entry),
+        Some(body) => {
+            run_body(script, tables, ready, &mut decision.moves, thread, body, entry);
+        }
     }
 }

@@ -1,22 +1,22 @@
 //! The kernel's tables: what the moves of actions do to them, and to the queues of ready threads.
 #![tactic(auto)]
 
+mod actions;
 mod call_queues;
 mod duties;
 mod handles;
 mod moves;
 mod nano_moves;
 mod object_table;
-mod perform;
 mod reading;
 mod ready;
 mod request_moves;
 mod tables;
 mod uses;
 
+pub use actions::perform;
 pub use call_queues::CallQueues;
 pub use handles::Handles;
 pub use object_table::ObjectTable;
-pub use perform::perform;
 pub use ready::{chosen, leave_along, turn};
 pub use tables::Tables;

@@ -33,7 +33,7 @@ perform-requires-clause-few g c =
     let all : length (tell t (ms ++ ns) S) ≡ length (tell t ms S ++ tell t ns (perform t ms S)) = ap length (tell_append t ms ns S) in
     let long = length-append (tell t ms S) (tell t ns (perform t ms S)) in
     let few = c.requires.goes.few in
-    rw (c.as_slice.ensures.moves, c.leave_queue.ensures.moves, c.new-effects.ensures) (omega arith)
+    rw (c.as_slice.ensures.moves, c.leave_queue.ensures.moves, c.requires.empty) (omega arith)
 
 pub run_ops-requires-clause-go : goal.run_ops-requires-clause-go
 run_ops-requires-clause-go g c =
@@ -55,7 +55,7 @@ run_ops-requires-clause-few g c =
     let ops = ops_of script c.args.body in
     let T = perform t ms S in
     let ns = ops_moves script t T ops in
-    let did = rw (c.as_slice.ensures.moves, c.leave_queue.ensures.moves, c.new-effects.ensures) at c.perform.ensures.performed in
+    let did = rw (c.as_slice.ensures.moves, c.leave_queue.ensures.moves, c.requires.empty) at c.perform.ensures.performed in
     let all : length (tell t (ms ++ ns) S) ≡ length (tell t ms S ++ tell t ns T) = ap length (tell_append t ms ns S) in
     let long = length-append (tell t ms S) (tell t ns T) in
     let few = c.requires.goes.few in
@@ -71,8 +71,8 @@ run_ops-requires-clause-short g c =
     rw c.ops_of.ensures (omega arith)
 
 -- the moves that were made are those of the body
-pub returns : goal.returns
-returns g c =
+pub returns-clause-does : goal.returns-clause-does
+returns-clause-does g c =
     let script = c.args.script.now in
     let t = c.args.thread in
     let old = c.args.tables.now in
@@ -82,7 +82,7 @@ returns g c =
     let d = run_body script t S c.args.body in
     let ms = leave_queue S c.args.body in
     let ops = ops_of script c.args.body in
-    let first = rw (c.as_slice.ensures.moves, c.leave_queue.ensures.moves, c.new-effects.ensures) at c.perform.ensures.performed in
+    let first = rw (c.as_slice.ensures.moves, c.leave_queue.ensures.moves, c.requires.empty) at c.perform.ensures.performed in
     let second = rw c.ops_of.ensures at c.run_ops.ensures.performed in
     let did = body_performed script t ms ops old mid new c.args.ready.now c.perform.new.ready c.run_ops.new.ready [] c.perform.new.effects c.run_ops.new.effects first second in
     let noted : c.as_slice-3.result.now ≡ ms ++ ops_moves script t (state_of mid) ops = rw (c.add_moves.ensures, c.new-made.ensures, c.as_slice-2.ensures.moves, c.leave_queue.ensures.moves, c.ops_of.ensures) at (c.as_slice-3.ensures ∙ c.run_ops.ensures.made) in

@@ -1,7 +1,7 @@
 use Rattle.kcore.proofs.plans.follow.Goals as goal
 
-pub returns-in-None : goal.returns-in-None
-returns-in-None g c = rw c.in-None.is c.carry_out.ensures
+pub returns-in-None-clause-does : goal.returns-in-None-clause-does
+returns-in-None-clause-does g c = rw c.in-None.is c.carry_out.ensures.does
 
-pub returns-in-Some : goal.returns-in-Some
-returns-in-Some g c = rw c.in-Some.is c.run_body.ensures
+pub returns-in-Some-clause-does : goal.returns-in-Some-clause-does
+returns-in-Some-clause-does g c = rw c.in-Some.is c.run_body.ensures.does
