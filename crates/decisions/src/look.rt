@@ -1,6 +1,7 @@
 //! The first step of the instructions that name an object by a handle.
 ghost use Rattle.std.specs.Prelude.{◌≡◌, ◌<◌, IfSome};
-ghost use Rattle.machine.specs.Handles.{object_at, index_of};
+ghost use Rattle.machine.specs.Handles.{object_at};
+ghost use Rattle.state_rows.specs.HandleNumbers.{index_of};
 ghost use Rattle.machine.specs.Look.{look_at, look, is_of_kind, of_kind, look_kind};
 
 use crate::decide::{go_on, refuse};

@@ -2,7 +2,8 @@
 //! and both decide by the same functions.
 ghost use Rattle.std.specs.Prelude.{◌≡◌, ◌<◌, ◌≤◌, length, IfSome, is_some, option_copied};
 ghost use Rattle.machine.specs.Find.{find_object};
-ghost use Rattle.machine.specs.Handles.{slot_at, next_handle};
+ghost use Rattle.state_rows.specs.HandleSlots.{slot_at};
+ghost use Rattle.machine.specs.Handles.{next_handle};
 ghost use Rattle.machine.specs.References.{is_last};
 ghost use Rattle.machine.specs.Rows.{object_of, thread_of, table_of, first_owed};
 ghost use Rattle.state_rows.specs.declared.deferred.Item.TheVariants.{Move};
