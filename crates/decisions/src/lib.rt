@@ -13,10 +13,13 @@ mod fast_semaphore;
 mod find;
 mod immediate;
 mod look;
+mod memory_calls;
 mod move_effects;
+mod mutex_calls;
 mod open;
 mod queueing;
 mod request_calls;
+mod semaphore_calls;
 mod steps;
 mod thread_calls;
 

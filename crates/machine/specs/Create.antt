@@ -11,6 +11,7 @@ use Rattle.entry_log.specs.declared.step.Step.TheVariants.{Of}
 use Rattle.entry_log.specs.declared.step.Part.TheVariants.{Do}
 use Rattle.machine.specs.declared.decision.Decision.{Decision}
 use Rattle.machine.specs.declared.handles.NewHandle.{NewHandle}
+use Rattle.machine.specs.declared.lock_move.LockMove.{LockMove}
 use Rattle.machine.specs.declared.lock_move.LockMove.TheVariants.{Start}
 use Rattle.machine.specs.declared.moves.Move.{Move}
 use Rattle.machine.specs.declared.moves.Move.TheVariants.{Make, Locks}
@@ -20,22 +21,27 @@ use Rattle.machine.specs.Handles.{process_handle}
 use Rattle.machine.specs.Moves.{next_object}
 use Rattle.machine.specs.Decide.{refuse, answer_handle}
 
--- handles full: an overflow; else the object is made with its handle, and these moves follow
-abbrev pub make_with_handle : ObjNo → Kind → List ℕ → List Move → ℕ → Option NewHandle → Decision
+-- what follows the making of an object: nothing, or a semaphore's start
+abbrev pub start_moves : Option LockMove → List Move
+start_moves None = []
+start_moves (Some start) = Locks start ∷ []
+
+-- handles full: an overflow; else the object is made with its handle
+abbrev pub make_with_handle : ObjNo → Kind → List ℕ → Option LockMove → ℕ → Option NewHandle → Decision
 make_with_handle t kind name start x None = refuse t (Of Create Do) Overflow
 make_with_handle t kind name start x (Some handle) =
-    answer_handle t (Of Create Do) (Make kind name handle.holder ∷ start) x handle.number
+    answer_handle t (Of Create Do) (Make kind name handle.holder ∷ start_moves start) x handle.number
 
 -- the name is taken: it exists already; objects full: an overflow
-abbrev pub create_do : State → ObjNo → ThreadRow → Kind → List ℕ → List Move → ℕ → Decision
+abbrev pub create_do : State → ObjNo → ThreadRow → Kind → List ℕ → Option LockMove → ℕ → Decision
 create_do S t row kind name start x =
     if is_taken kind name S.objects then refuse t (Of Create Do) AlreadyExists
     else if length S.objects == OBJECTS then refuse t (Of Create Do) Overflow
     else make_with_handle t kind name start x (process_handle S row.process)
 
 abbrev pub create_mutex_do : State → ObjNo → ThreadRow → List ℕ → ℕ → Decision
-create_mutex_do S t row name x = create_do S t row Mutex name [] x
+create_mutex_do S t row name x = create_do S t row Mutex name None x
 
 -- a semaphore starts with a count
 abbrev pub create_semaphore_do : State → ObjNo → ThreadRow → List ℕ → ℕ → ℕ → Decision
-create_semaphore_do S t row name count x = create_do S t row Semaphore name (Locks (Start (next_object S) count) ∷ []) x
+create_semaphore_do S t row name count x = create_do S t row Semaphore name (Some (Start (next_object S) count)) x

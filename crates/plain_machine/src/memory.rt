@@ -1,46 +1,56 @@
-//! The memory of processes.
-ghost use Rattle.std.specs.Prelude.{◌≡◌, ◌+◌, ◌≤◌, length, IfSome};
+//! The memory of processes, on the plain machine's lists.
+ghost use Rattle.std.specs.Prelude.{◌≡◌, ◌++◌, IfOk, OnOk, replicate};
 ghost use Rattle.std.specs.List.{slice_index_or};
-ghost use Rattle.machine.specs.Memory.{filled, with_memory, byte_of};
+ghost use Rattle.machine.specs.Memory.{filled, with_memory};
 
-use sym_base::{Items, ObjNo};
+use std::alloc::Global;
+use sym_base::{Items, NoMemory, ObjNo};
 
-/// So many bytes from an offset on get a value.
-fn fill(bytes: &mut Items<u8>, at: u16, length: u16, byte: u8)
-    requires { at + length ≤ length bytes.old }
-    ensures { bytes.new ≡ filled at length byte bytes.old }
+/// Adds a byte so often.
+fn push_times(all: &mut Vec<u8>, times: usize, byte: u8) -> Result<(), NoMemory>
+    ensures { OnOk result (all.new.items ≡ all.old.items ++ replicate times byte) }
 {
-    for index in at as usize..at as usize + length as usize {
-        bytes.set(index, byte);
+    for _time in 0..times {
+        all.push(byte)?;
     }
+    Ok(())
+}
+
+/// The bytes, of which so many from an offset on have a value.
+fn filled(
+    alloc: Global,
+    bytes: &[u8],
+    at: usize,
+    length: usize,
+    byte: u8,
+) -> Result<Items<u8>, NoMemory>
+    requires { at + length ≤ 131070 }
+    ensures { IfOk result (λ all. all ≡ filled at length byte bytes.now) }
+{
+    let mut all = Vec::new(alloc);
+    all.extend_from_slice(&bytes[..at.min(bytes.len())])?;
+    push_times(&mut all, length, byte)?;
+    all.extend_from_slice(&bytes[(at + length).min(bytes.len())..])?;
+    Ok(Items::new(all))
 }
 
 /// So many bytes of a process from an offset on get a value.
 pub fn fill_memory(
+    alloc: Global,
     memories: &mut Items<Option<Items<u8>>>,
     process: ObjNo,
     at: u16,
     length: u16,
     byte: u8,
-)
-    requires { IfSome (slice_index_or memories.old process.0 None) (λ bytes. at + length ≤ length bytes) }
-    ensures { memories.new ≡ with_memory memories.old process (filled at length byte) }
+) -> Result<(), NoMemory>
+    ensures { OnOk result (memories.new ≡ with_memory memories.old process (filled at length byte)) }
 {
     let number = process.0 as usize;
     if number >= memories.len() {
-        return;
+        return Ok(());
     }
     if let Some(bytes) = memories.get_mut(number) {
-        fill(bytes, at, length, byte);
+        *bytes = filled(alloc, bytes.as_slice(), at as usize, length as usize, byte)?;
     }
-}
-
-/// A byte of a process.
-pub fn byte_of(memories: &[Option<Items<u8>>], process: ObjNo, at: u16) -> u8
-    ensures { result ≡ byte_of memories.now process at }
-{
-    match memories.get(process.0 as usize) {
-        Some(Some(bytes)) => bytes.as_slice().get(at as usize).copied().unwrap_or(0),
-        _ => 0,
-    }
+    Ok(())
 }

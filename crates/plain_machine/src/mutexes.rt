@@ -6,8 +6,10 @@ ghost use Rattle.state_rows.specs.Locks.{without};
 ghost use Rattle.state_rows.specs.declared.duty.Owed.TheVariants.{Close};
 ghost use Rattle.entry_log.specs.declared.effect.Holder.TheVariants.{Own};
 
-use crate::Owed;
+use crate::arrivals::unlisted;
 use entry_log::Holder;
+use machine::Owed;
+use std::alloc::Global;
 use sym_base::{Items, NoMemory, ObjNo, ThreadNo};
 
 /// A thread holds a further mutex, the last that it took.
@@ -26,13 +28,20 @@ pub fn set_holding(
 }
 
 /// A thread doesn't hold a mutex any more.
-pub fn set_not_holding(mutexes: &mut Items<Items<ObjNo>>, thread: ThreadNo, mutex: ObjNo)
-    ensures { mutexes.new ≡ not_holding mutexes.old thread mutex }
+pub fn set_not_holding(
+    alloc: Global,
+    mutexes: &mut Items<Items<ObjNo>>,
+    thread: ThreadNo,
+    mutex: ObjNo,
+) -> Result<(), NoMemory>
+    ensures { OnOk result (mutexes.new ≡ not_holding mutexes.old thread mutex) }
 {
     let at = thread.0 as usize;
     if at < mutexes.len() {
-        mutexes.get_mut(at).retain(|other| other.0 != mutex.0);
+        let held = mutexes.get_mut(at);
+        *held = Items::new(unlisted(alloc, mutex, held.as_slice())?);
     }
+    Ok(())
 }
 
 /// A thread owes the close of its ownership of a mutex.
