@@ -84,7 +84,7 @@ fn ends_wait<R: Reads>(reads: &R, thread: ThreadNo, status: u8, waiting: Waiting
     match waiting {
         Waiting::Any => true,
         Waiting::Status(other) => other == status || !is_pending(reads, thread, other),
-        Waiting::Nothing | Waiting::Fast => false,
+        _ => false,
     }
 }
 

@@ -1,7 +1,7 @@
 //! `close`: a handle goes, and with it a reference.
 ghost use Rattle.std.specs.Prelude.{◌≡◌, ◌<◌, IfSome};
 ghost use Rattle.machine.specs.Close.{close_handle, close_do};
-ghost use Rattle.machine.specs.Handles.{index_of};
+ghost use Rattle.state_rows.specs.HandleNumbers.{index_of};
 
 use crate::decide::{answer_after, refuse};
 use crate::look::object_at;

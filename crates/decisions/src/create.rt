@@ -1,54 +1,60 @@
 //! `create`: a new object and a handle of it.
-ghost use Rattle.std.specs.Prelude.{◌≡◌, ◌<◌, IfSome};
-ghost use Rattle.machine.specs.Create.{make_with_handle, create_do};
+ghost use Rattle.std.specs.Prelude.{◌≡◌, ◌<◌, ◌++◌, length, IfSome};
+ghost use Rattle.machine.specs.Create.{start_moves, make_with_handle, create_do, create_mutex_do, create_semaphore_do};
 
 use crate::decide::{answer_handle, refuse};
-use entry_log::{Holder, Part, Step, Word};
-use machine::{Decision, Move, NewHandle, ThreadRow};
+use entry_log::{Part, Step, Word};
+use machine::{Decision, LockMove, Move, NewHandle, ThreadRow};
 use readings::Reads;
-use sym_base::{Error, Kind, Limits, Name, ThreadNo};
+use sym_base::{Error, Kind, Limits, Name, ObjNo, ThreadNo};
 
 const STEP: Step = Step::Of(Word::Create, Part::Do);
+
+/// What follows the making of an object: nothing, or a semaphore's start.
+fn push_start(decision: &mut Decision, start: Option<LockMove>)
+    requires { length decision.old.moves < 8 }
+    ensures { decision.new ≡ record decision.old { moves = decision.old.moves ++ start_moves start } }
+{
+    if let Some(start) = start {
+        decision.moves.push(Move::Locks(start));
+    }
+}
 
 /// The object is made with its handle, where a slot is free.
 fn make_with_handle(
     decision: &mut Decision,
     thread: ThreadNo,
-    row: &ThreadRow,
     kind: Kind,
     name: &Name,
+    start: Option<LockMove>,
     register: u8,
     next: Option<NewHandle>,
 )
     requires { IfSome next (λ handle. handle.number < 2147483648) }
-    ensures { decision.new ≡ make_with_handle thread row.now kind name.now register next }
+    ensures { decision.new ≡ make_with_handle thread kind name.now (start_moves start) register next }
 {
     let Some(handle) = next else {
         return refuse(decision, thread, STEP, Error::Overflow);
     };
-    let holder = Holder::InProcess(row.process, handle.index);
-    answer_handle(
-        decision,
-        thread,
-        STEP,
-        Move::Make(kind, *name, holder),
-        register,
-        handle.number,
-    )
+    decision.moves.clear();
+    decision.moves.push(Move::Make(kind, *name, handle.holder));
+    push_start(decision, start);
+    answer_handle(decision, thread, STEP, register, handle.number)
 }
 
 /// A new object and a handle of it, where the name is free and there is room for both.
-pub fn create_do<R: Reads>(
+fn create_do<R: Reads>(
     decision: &mut Decision,
     reads: &R,
     thread: ThreadNo,
     row: &ThreadRow,
     kind: Kind,
     name: &Name,
+    start: Option<LockMove>,
     register: u8,
 )
     requires { R.is_readable reads.now }
-    ensures { decision.new ≡ create_do (R.state reads.now) thread row.now kind name.now register }
+    ensures { decision.new ≡ create_do (R.state reads.now) thread row.now kind name.now (start_moves start) register }
 {
     if reads.is_taken(kind, name) {
         return refuse(decision, thread, STEP, Error::AlreadyExists);
@@ -56,13 +62,57 @@ pub fn create_do<R: Reads>(
     if reads.objects_made() == Limits::OBJECTS {
         return refuse(decision, thread, STEP, Error::Overflow);
     }
-    make_with_handle(
+    let handle = reads.process_handle(row.process);
+    make_with_handle(decision, thread, kind, name, start, register, handle)
+}
+
+/// A new mutex.
+pub fn create_mutex_do<R: Reads>(
+    decision: &mut Decision,
+    reads: &R,
+    thread: ThreadNo,
+    row: &ThreadRow,
+    name: &Name,
+    register: u8,
+)
+    requires { R.is_readable reads.now }
+    ensures { decision.new ≡ create_mutex_do (R.state reads.now) thread row.now name.now register }
+{
+    create_do(
         decision,
+        reads,
         thread,
         row,
-        kind,
+        Kind::Mutex,
         name,
+        None,
         register,
-        reads.next_handle(row.process),
+    )
+}
+
+/// A new semaphore, which starts with a count.
+pub fn create_semaphore_do<R: Reads>(
+    decision: &mut Decision,
+    reads: &R,
+    thread: ThreadNo,
+    row: &ThreadRow,
+    name: &Name,
+    count: u32,
+    register: u8,
+)
+    requires { R.is_readable reads.now }
+    ensures { decision.new ≡ create_semaphore_do (R.state reads.now) thread row.now name.now count register }
+{
+    let object = ObjNo(reads.objects_made() as u16);
+    let start = Some(LockMove::Start(object, count));
+    create_do(
+        decision,
+        reads,
+        thread,
+        row,
+        Kind::Semaphore,
+        name,
+        start,
+        register,
     )
 }

@@ -1,10 +1,13 @@
 //! How a step answers, refuses, or goes on to the next step of its instruction. Each writes the decision in place of
 //! the one before.
-ghost use Rattle.std.specs.Prelude.{◌≡◌, ◌<◌, [], ◌∷◌, length, IfSome};
-ghost use Rattle.machine.specs.Decide.{nothing, answer, refuse, go_on, wait_for, answer_handle, give_handle};
+ghost use Rattle.std.specs.Prelude.{◌≡◌, ◌<◌, [], ◌∷◌, length, if◌then◌else◌, is_some, IfSome};
+ghost use Rattle.state_rows.specs.Nano.{held_by};
+ghost use Rattle.sym_base.specs.declared.error.Error.TheVariants.{InUse};
+ghost use Rattle.machine.specs.Decide.{nothing, answer, refuse, go_on, wait_for, wait_at, answer_handle, give_handle};
 
-use entry_log::{Holder, Part, Step};
-use machine::{Decision, Move, NewHandle, ThreadRow, Waiting};
+use entry_log::{Part, Step};
+use machine::{Decision, LockMove, Move, NewHandle, Waiting};
+use readings::Reads;
 use sym_base::{Error, ObjNo, ThreadNo};
 
 /// Nobody acts.
@@ -68,47 +71,63 @@ pub fn wait_for(decision: &mut Decision, thread: ThreadNo, step: Step, what: Wai
     go_on(decision, thread, step, Move::Wait(thread, what), Part::Done);
 }
 
-/// The instruction is over: after this move a new handle's number goes to a register and is answered.
+/// Refuses a thread that holds a fast mutex what may block, and answers whether it did.
+pub fn refuse_holder<R: Reads>(
+    decision: &mut Decision,
+    reads: &R,
+    thread: ThreadNo,
+    step: Step,
+) -> bool
+    ensures holds { result ≡ is_some (held_by (R.state reads.now).nano thread) }
+    ensures decision { decision.new ≡ (if result then refuse thread step InUse else decision.old) }
+{
+    let holds = reads.is_holding(thread);
+    if holds {
+        refuse(decision, thread, step, Error::InUse);
+    }
+    holds
+}
+
+/// The thread waits for an object, as this move says.
+pub fn wait_at(decision: &mut Decision, thread: ThreadNo, step: Step, object: ObjNo, lock: LockMove)
+    ensures { decision.new ≡ wait_at thread step object lock }
+{
+    wait_for(decision, thread, step, Waiting::Lock(object));
+    decision.moves.push(Move::Locks(lock));
+}
+
+/// The instruction is over: after the moves so far a new handle's number goes to a register and is answered.
 pub fn answer_handle(
     decision: &mut Decision,
     thread: ThreadNo,
     step: Step,
-    change: Move,
     register: u8,
     handle: u32,
 )
-    requires { handle < 2147483648 }
-    ensures { decision.new ≡ answer_handle thread step change register handle }
+    requires number { handle < 2147483648 }
+    requires room { length decision.old.moves < 7 }
+    ensures { decision.new ≡ answer_handle thread step decision.old.moves register handle }
 {
-    decision.moves.clear();
-    decision.moves.push(change);
     decision.moves.push(Move::Write(thread, register, handle));
     answer(decision, thread, step, handle as i32);
 }
 
-/// A handle of the object, in the process's table, where a slot is free.
+/// The next handle of a table is the object's, where a slot is free.
 pub fn give_handle(
     decision: &mut Decision,
     thread: ThreadNo,
-    row: &ThreadRow,
     step: Step,
     object: ObjNo,
     register: u8,
     next: Option<NewHandle>,
 )
     requires { IfSome next (λ handle. handle.number < 2147483648) }
-    ensures { decision.new ≡ give_handle thread row.now step object register next }
+    ensures { decision.new ≡ give_handle thread step object register next }
 {
     let Some(handle) = next else {
         return refuse(decision, thread, step, Error::Overflow);
     };
-    let holder = Holder::InProcess(row.process, handle.index);
-    answer_handle(
-        decision,
-        thread,
-        step,
-        Move::Gain(holder, object),
-        register,
-        handle.number,
-    );
+    decision.moves.clear();
+    decision.moves.push(Move::Gain(handle.holder, object));
+    answer_handle(decision, thread, step, register, handle.number);
 }

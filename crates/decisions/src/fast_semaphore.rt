@@ -55,7 +55,7 @@ pub fn signal_move(other: ThreadNo, waiting: Waiting) -> Move
 {
     match waiting {
         Waiting::Fast => Move::Wake(other),
-        Waiting::Nothing | Waiting::Any | Waiting::Status(_) => Move::Nano(NanoMove::Raise(other)),
+        _ => Move::Nano(NanoMove::Raise(other)),
     }
 }
 

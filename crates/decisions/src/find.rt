@@ -1,11 +1,11 @@
 //! The first two steps of the instructions that find an object by its kind and name: the find, and the
 //! return, which opens what was found.
 ghost use Rattle.std.specs.Prelude.{◌≡◌};
-ghost use Rattle.machine.specs.Find.{seek_object, seek, is_open, return_to};
+ghost use Rattle.machine.specs.Find.{seek_object, seek, found_object, is_open, return_to};
 
-use crate::decide::{answer_after, go_on, nothing, refuse};
+use crate::decide::{answer_after, go_on, refuse};
 use entry_log::{Holder, Part, Step, Word};
-use machine::{Decision, Found, Move};
+use machine::{Decision, Move, ThreadRow};
 use readings::Reads;
 use state_rows::ObjectRow;
 use sym_base::{Error, Kind, Name, ObjNo, ThreadNo};
@@ -42,6 +42,13 @@ pub fn seek<R: Reads>(
     seek_object(decision, thread, word, reads.find(kind, name))
 }
 
+/// The object that a thread's find found.
+pub fn found_object(row: &ThreadRow) -> ObjNo
+    ensures { result ≡ found_object row.now }
+{
+    ObjNo((row.found % 65_536) as u16)
+}
+
 /// Whether an object may be opened: it is there and isn't dead.
 pub fn is_open(row: Option<ObjectRow>) -> bool
     ensures { result ≡ is_open row }
@@ -59,14 +66,11 @@ pub fn return_to<R: Reads>(
     thread: ThreadNo,
     word: Word,
     next: Part,
-    found: Found,
+    object: ObjNo,
 )
-    ensures { decision.new ≡ return_to (R.state reads.now) thread word next found }
+    ensures { decision.new ≡ return_to (R.state reads.now) thread word next object }
 {
     let step = Step::Of(word, Part::Return);
-    let Found::Object(object) = found else {
-        return nothing(decision);
-    };
     if is_open(reads.object(object)) {
         let gain = Move::Gain(Holder::Temp(thread), object);
         return go_on(decision, thread, step, gain, next);

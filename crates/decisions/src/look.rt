@@ -1,11 +1,12 @@
 //! The first step of the instructions that name an object by a handle.
 ghost use Rattle.std.specs.Prelude.{◌≡◌, ◌<◌, IfSome};
-ghost use Rattle.machine.specs.Handles.{object_at, index_of};
+ghost use Rattle.machine.specs.Handles.{object_at};
+ghost use Rattle.state_rows.specs.HandleNumbers.{index_of};
 ghost use Rattle.machine.specs.Look.{look_at, look, is_of_kind, of_kind, look_kind};
 
 use crate::decide::{go_on, refuse};
 use entry_log::{Holder, Part, Step, Word};
-use machine::{Decision, Move, ThreadRow, index_of, instance_of, object_in, owner_of};
+use machine::{Decision, Move, ThreadRow, owner_of};
 use readings::Reads;
 use state_rows::ObjectRow;
 use sym_base::{Error, Kind, ObjNo, ThreadNo};
@@ -21,8 +22,7 @@ pub fn object_at<R: Reads>(
     ensures object { result ≡ object_at (R.state reads.now) thread row.now handle }
     ensures index { IfSome result (λ o. index_of handle < 256) }
 {
-    let slot = reads.slot(owner_of(thread, row, handle), index_of(handle));
-    object_in(slot, instance_of(handle))
+    reads.handle(owner_of(thread, row, handle), handle)
 }
 
 /// The thread uses the object from now on, where there is one.

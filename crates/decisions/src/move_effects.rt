@@ -3,11 +3,16 @@ ghost use Rattle.std.specs.Prelude.{◌≡◌, ◌+◌, ◌≤◌, [], ◌∷◌
 ghost use Rattle.machine.specs.Moves.{closed_effects, told};
 ghost use Rattle.machine.specs.NanoMoves.{nano_told};
 ghost use Rattle.machine.specs.RequestMoves.{request_told};
+ghost use Rattle.machine.specs.LockMoves.{lock_told};
+ghost use Rattle.entry_log.specs.declared.effect.Effect.TheVariants.{Plus, Take};
+ghost use Rattle.entry_log.specs.declared.effect.Holder.TheVariants.{Own};
+ghost use Rattle.entry_log.specs.declared.effect.LockNo.TheVariants.{Object};
 
 use entry_log::{Effect, Effects, Holder, LockNo, StatusNo};
-use machine::{Move, NanoMove, Owed, RequestMove};
+use machine::{LockMove, Move, NanoMove, Owed, RequestMove};
 use readings::Reads;
-use sym_base::ObjNo;
+use state_rows::{Locked, Unlocked};
+use sym_base::{ObjNo, ThreadNo};
 
 /// Tells a close: with its last reference an object dies.
 fn tell_close(effects: &mut Effects, last: bool, holder: Holder, object: ObjNo)
@@ -57,6 +62,33 @@ fn tell_request(effects: &mut Effects, change: RequestMove)
     }
 }
 
+/// Tells that a thread took a mutex, and owns it.
+fn tell_taken(effects: &mut Effects, thread: ThreadNo, mutex: ObjNo)
+    requires { length effects.old + 2 ≤ 4 }
+    ensures { effects.new ≡ effects.old ++ Take thread (Object mutex) ∷ Plus (Own thread) mutex ∷ [] }
+{
+    effects.push(Effect::Take(thread, LockNo::Object(mutex)));
+    effects.push(Effect::Plus(Holder::Own(thread), mutex));
+}
+
+/// Tells a move in the rows of mutexes and semaphores: who took and gave which mutex, and who owns it from now on.
+fn tell_lock(effects: &mut Effects, change: LockMove)
+    requires { length effects.old + length (lock_told change) ≤ 4 }
+    ensures { effects.new ≡ effects.old ++ lock_told change }
+{
+    match change {
+        LockMove::Lock(mutex, thread, Locked::Taken) => tell_taken(effects, thread, mutex),
+        LockMove::Unlock(mutex, thread, Unlocked::Freed) => {
+            effects.push(Effect::Give(thread, LockNo::Object(mutex)));
+        }
+        LockMove::Unlock(mutex, thread, Unlocked::Passed(waiter)) => {
+            effects.push(Effect::Give(thread, LockNo::Object(mutex)));
+            tell_taken(effects, waiter, mutex);
+        }
+        _ => {}
+    }
+}
+
 /// Tells a move, from the state before it, behind the effects so far.
 pub fn tell<R: Reads>(effects: &mut Effects, reads: &R, change: Move)
     requires readable { R.is_readable reads.now }
@@ -74,13 +106,15 @@ pub fn tell<R: Reads>(effects: &mut Effects, reads: &R, change: Move)
         Move::Miss(object) => effects.push(Effect::Missed(object)),
         Move::Nano(change) => tell_nano(effects, change),
         Move::Requests(change) => tell_request(effects, change),
+        Move::Locks(change) => tell_lock(effects, change),
         Move::GoOn(_, _)
         | Move::Write(_, _, _)
         | Move::Advance(_)
         | Move::Wait(_, _)
         | Move::Wake(_)
         | Move::SetPriority(_, _)
-        | Move::Deferred(_) => {}
+        | Move::Deferred(_)
+        | Move::Fill(_, _, _, _) => {}
         Move::Pay(what) => tell_payment(effects, reads, what),
     }
 }

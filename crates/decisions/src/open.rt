@@ -3,7 +3,7 @@ ghost use Rattle.std.specs.Prelude.{◌≡◌};
 ghost use Rattle.machine.specs.Open.{open_do, open_step, open_return};
 
 use crate::decide::{give_handle, nothing, refuse};
-use crate::find::{return_to, seek};
+use crate::find::{found_object, return_to, seek};
 use entry_log::{Part, Step, Word};
 use machine::{Decision, ThreadRow};
 use readings::Reads;
@@ -26,15 +26,8 @@ fn open_do<R: Reads>(
     let Some(object) = uses else {
         return nothing(decision);
     };
-    give_handle(
-        decision,
-        thread,
-        row,
-        STEP,
-        object,
-        register,
-        reads.next_handle(row.process),
-    )
+    let handle = reads.process_handle(row.process);
+    give_handle(decision, thread, STEP, object, register, handle)
 }
 
 /// First the find, and after the return a handle. A thread that holds a fast mutex is refused.
@@ -68,5 +61,6 @@ pub fn open_step<R: Reads>(
 pub fn open_return<R: Reads>(decision: &mut Decision, reads: &R, thread: ThreadNo, row: &ThreadRow)
     ensures { decision.new ≡ open_return (R.state reads.now) thread row.now }
 {
-    return_to(decision, reads, thread, Word::Open, Part::Do, row.found)
+    let object = found_object(row);
+    return_to(decision, reads, thread, Word::Open, Part::Do, object)
 }

@@ -6,20 +6,23 @@ ghost use Rattle.machine.specs.Rows.{thread_of};
 ghost use Rattle.machine.specs.Steps.{step_of, return_of, decision_of_row};
 
 use crate::close::close_do;
-use crate::create::create_do;
+use crate::create::{create_mutex_do, create_semaphore_do};
 use crate::critical_section::{enter_do, leave_do};
 use crate::decide::nothing;
-use crate::dup::dup_step;
+use crate::dup::{dup_step, duplocal_step};
 use crate::fast_mutex::{flock_step, funlock_do};
 use crate::fast_semaphore::{fssignal_do, fswait_step};
+use crate::memory_calls::{fill_do, peek_do};
+use crate::mutex_calls::{lock_step, unlock_step};
 use crate::open::{open_return, open_step};
 use crate::queueing::queue_do;
 use crate::request_calls::{cancel_do, request_do, status_do, waitany_step, waitfor_step};
+use crate::semaphore_calls::{signal_step, wait_step};
 use crate::thread_calls::{priority_step, resume_step, suspend_step};
 use machine::{Decision, ThreadRow};
 use readings::Reads;
 use script_types::{Instr, Script};
-use sym_base::{Kind, ThreadNo};
+use sym_base::ThreadNo;
 
 /// The next step of an instruction. What isn't built yet does nothing.
 fn step_of<R: Reads>(
@@ -37,12 +40,22 @@ fn step_of<R: Reads>(
 {
     match instr {
         Instr::CreateMutex(name, register) => {
-            create_do(decision, reads, thread, row, Kind::Mutex, name, *register)
+            create_mutex_do(decision, reads, thread, row, name, *register)
         }
+        Instr::CreateSemaphore(name, count, register) => create_semaphore_do(
+            decision, reads, thread, row, name, *count, *register,
+        ),
         Instr::Open(kind, name, register) => open_step(
             decision, reads, thread, row, *kind, name, *register,
         ),
         Instr::Dup(from, to) => dup_step(decision, reads, thread, row, *from, *to),
+        Instr::DupLocal(from, to) => duplocal_step(decision, reads, thread, row, *from, *to),
+        Instr::Lock(register) => lock_step(decision, reads, thread, row, *register),
+        Instr::Unlock(register) => unlock_step(decision, reads, thread, row, *register),
+        Instr::Wait(register) => wait_step(decision, reads, thread, row, *register),
+        Instr::Signal(register) => signal_step(decision, reads, thread, row, *register),
+        Instr::Fill(at, length, byte) => fill_do(decision, thread, row, *at, *length, *byte),
+        Instr::Peek(at) => peek_do(decision, reads, thread, row, *at),
         Instr::Close(register) => close_do(decision, reads, thread, row, *register),
         Instr::Flock(fast) => flock_step(decision, reads, thread, *fast, row.part),
         Instr::Funlock(fast) => funlock_do(decision, reads, thread, *fast),

@@ -1,15 +1,15 @@
 -- Free places and places in use of a handle table.
 use Rattle.std.proofs.Common.{◌≡◌, ◌≢◌, ℕ, zero, suc, ◌+◌, ◌==◌, ◌<◌, ◌≤◌, Bool, true, false, cond, List, [], ◌∷◌, length, set, refl, ap, ◌∙◌, sym, arith, inl, inr, Option, Some, None, is_none, is_some, add-one}
 use Rattle.sym_base.specs.declared.number.ObjNo.{ObjNo}
-use Rattle.handles.specs.declared.slot.HandleSlot.{HandleSlot}
+use Rattle.state_rows.specs.declared.handle_slot.HandleSlot.{HandleSlot}
 use Rattle.std.proofs.Common.{get_or-set_same, get_or-set_other, length-set, replicate, eq-eqb}
 use Rattle.std.proofs.lemmas.Bool.{cases_eq, cases_lt}
 use Rattle.std.proofs.lemmas.List.{length-replicate, get_or_past}
 use Rattle.std.proofs.lemmas.List.Sums.{sum_by-cons, count_by-le-length}
 use Rattle.handles.specs.Bits.{bit_of}
 use Rattle.handles.specs.Kept.{AreKept}
-use Rattle.handles.specs.Slots.{fresh_slot, slot_at, free_index, is_full, handle_count, object_of, look}
-use Rattle.handles.specs.Number.{handle_number, index_of}
+use Rattle.state_rows.specs.HandleSlots.{fresh_slot, slot_at, free_index, is_full, handle_count, object_of, look}
+use Rattle.state_rows.specs.HandleNumbers.{handle_number, index_of}
 
 free_index_step : (object : Option ObjNo) (rest : ℕ) → is_none object ≡ false → cond (is_none object) 0 (rest + 1) ≡ rest + 1
 free_index_step None rest h = absurd (cc)

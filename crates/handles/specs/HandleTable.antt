@@ -1,6 +1,6 @@
 -- What contracts see of a handle table.
 use Rattle.std.specs.Prelude.{Bool, List}
-use Rattle.handles.specs.declared.slot.HandleSlot.{HandleSlot}
+use Rattle.state_rows.specs.declared.handle_slot.HandleSlot.{HandleSlot}
 
 -- whether it is a thread's table, and its places in order of their indices
 pub record HandleTable : Type 0 where

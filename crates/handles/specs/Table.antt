@@ -2,12 +2,12 @@
 use Rattle.std.specs.Prelude.{ℕ, Bool, if◌then◌else◌, is_some, List, Some, None, replicate, slice_set}
 use Rattle.sym_base.specs.declared.number.ObjNo.{ObjNo}
 use Rattle.sym_base.specs.declared.limits.TheConstants.Limits.{HANDLES}
-use Rattle.handles.specs.declared.slot.HandleSlot.{HandleSlot}
+use Rattle.state_rows.specs.declared.handle_slot.HandleSlot.{HandleSlot}
 use Rattle.handles.specs.declared.table.Added.{Added}
 use Rattle.handles.specs.declared.table.Added.TheVariants.{Handle, Full}
 use Rattle.handles.specs.HandleTable.{HandleTable}
-use Rattle.handles.specs.Number.{index_of}
-use Rattle.handles.specs.Slots.{fresh_slot, slot_at, free_index, is_full, new_instance, new_handle, look}
+use Rattle.state_rows.specs.HandleNumbers.{index_of}
+use Rattle.state_rows.specs.HandleSlots.{fresh_slot, slot_at, free_index, is_full, new_instance, new_handle, look}
 
 -- a table whose places were never taken
 abbrev pub no_handles : Bool → HandleTable

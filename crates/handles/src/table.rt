@@ -1,7 +1,8 @@
 //! One handle table, and its calls.
 ghost use Rattle.std.specs.Prelude.{◌≡◌, ◌≢◌, ℕ, false, ◌<◌, ◌≤◌, ◌↔◌, IfOk};
-ghost use Rattle.handles.specs.Number.{index_of};
-ghost use Rattle.handles.specs.Slots.{IsTable, free_index, is_full, handle_count, new_handle, look, next_used};
+ghost use Rattle.state_rows.specs.HandleNumbers.{index_of};
+ghost use Rattle.state_rows.specs.HandleSlots.{IsTable, free_index, is_full, handle_count, new_handle, look};
+ghost use Rattle.handles.specs.Used.{next_used};
 ghost use Rattle.handles.specs.Table.{no_handles, add_answer, table_added, table_removed};
 
 use crate::free::FreePlaces;

@@ -15,9 +15,9 @@ use Rattle.machine.specs.declared.plan.Body.{Body}
 use Rattle.machine.specs.declared.plan.Body.TheVariants as body
 use Rattle.machine.specs.declared.request_move.RequestMove.TheVariants.{Complete}
 use Rattle.machine.specs.declared.state.State.{State}
-use Rattle.machine.specs.declared.state.ThreadRow.{ThreadRow}
-use Rattle.machine.specs.declared.state.Waiting.{Waiting}
-use Rattle.machine.specs.declared.state.Waiting.TheVariants as waiting
+use Rattle.state_rows.specs.declared.thread.ThreadRow.{ThreadRow}
+use Rattle.state_rows.specs.declared.thread.Waiting.{Waiting}
+use Rattle.state_rows.specs.declared.thread.Waiting.TheVariants as waiting
 use Rattle.state_rows.specs.DeclaredCalls.{dfc_named}
 use Rattle.machine.specs.Bodies.{queue_call, signal_object, ends_wait, end_wait, complete, op_moves, ops_moves, ops_of, leave_queue, run_body, step_of_body}
 use Rattle.machine.specs.Find.{find_object}

@@ -12,11 +12,11 @@ use Rattle.state_rows.specs.declared.requests.RequestRows.{RequestRows}
 use Rattle.state_rows.specs.DeclaredCalls.{calls_of}
 use Rattle.state_rows.specs.RequestChanges.{new_rows}
 use Rattle.machine.specs.declared.boot.Born.{Born}
-use Rattle.machine.specs.declared.state.HandleSlot.{HandleSlot}
+use Rattle.state_rows.specs.declared.handle_slot.HandleSlot.{HandleSlot}
 use Rattle.machine.specs.declared.state.State.{State}
-use Rattle.machine.specs.declared.state.ThreadRow.{ThreadRow}
+use Rattle.state_rows.specs.declared.thread.ThreadRow.{ThreadRow}
 use Rattle.machine.specs.Boot.{boot, boot_of, born, nano_of}
-use Rattle.machine.specs.Handles.{fresh_slot}
+use Rattle.state_rows.specs.HandleSlots.{fresh_slot}
 
 objects_at_boot : (script : Script) → (boot script).objects ≡ map (λ (b : Born). Some b.object) (born script)
 unfolding boot_of

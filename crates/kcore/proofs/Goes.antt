@@ -14,7 +14,7 @@ use Rattle.entry_log.specs.declared.entry.FinalRow.{FinalRow}
 use Rattle.state_rows.specs.declared.object.ObjectRow.{ObjectRow}
 use Rattle.machine.specs.declared.decision.Outcome.{Outcome}
 use Rattle.machine.specs.declared.state.State.{State}
-use Rattle.machine.specs.declared.state.ThreadRow.{ThreadRow}
+use Rattle.state_rows.specs.declared.thread.ThreadRow.{ThreadRow}
 use Rattle.script_types.specs.Source.{IsValid}
 use Rattle.machine.specs.Boot.{boot}
 use Rattle.machine.specs.Choice.{priority_of}

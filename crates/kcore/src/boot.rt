@@ -10,7 +10,7 @@ ghost use Rattle.state_rows.specs.ObjectRows.{is_session, is_taken};
 ghost use Rattle.machine.specs.Arrivals.{is_listed};
 ghost use Rattle.machine.specs.Boot.{boot, nano_of};
 ghost use Rattle.machine.specs.Choice.{priority_of};
-ghost use Rattle.machine.specs.Handles.{fresh_slot};
+ghost use Rattle.state_rows.specs.HandleSlots.{fresh_slot};
 ghost use Rattle.machine.specs.References.{count_of};
 ghost use Rattle.machine.specs.WellFormed.{AreApart};
 ghost use Rattle.state_rows.specs.Nano.{suspend_count};

@@ -7,7 +7,8 @@ use Rattle.std.proofs.lemmas.Bool.{cases_Bool}
 use Rattle.std.proofs.lemmas.List.{map-append, map-set}
 use Rattle.sym_base.specs.declared.number.ObjNo.{ObjNo}
 use Rattle.links.specs.Linked as nodes
-use Rattle.kern_sync.specs.KernelLocks.{holds, without}
+use Rattle.kern_sync.specs.KernelLocks.{holds}
+use Rattle.state_rows.specs.Locks.{without}
 use Rattle.kern_sync.specs.Kept.{thread, queues_of}
 
 -- waiters hold the threads whose numbers their list holds

@@ -8,9 +8,11 @@ use Rattle.sym_base.specs.Greatest.{first_of_greatest}
 use Rattle.sym_base.proofs.Greatest.{greatest_map, is_first_of_greatest, none_greatest}
 use Rattle.links.specs.Linked.{Linked, list_at, with_list}
 use Rattle.links.specs.Linked as nodes
-use Rattle.kern_sync.specs.declared.answers.Owner.{Owner}
-use Rattle.kern_sync.specs.KernelLocks.{KernelLocks, owner_at, count_at, waiters_at, best_of, priority_of, is_waiting}
-use Rattle.kern_sync.specs.Calls.{after_remove, after_wait, without_best}
+use Rattle.state_rows.specs.declared.locks.Owner.{Owner}
+use Rattle.kern_sync.specs.KernelLocks.{KernelLocks, best_of, priority_of}
+use Rattle.state_rows.specs.Locks.{owner_at, count_at, waiters_at, is_waiting}
+use Rattle.state_rows.specs.LockChanges.{after_remove, after_wait}
+use Rattle.kern_sync.specs.Calls.{without_best}
 use Rattle.kern_sync.specs.Kept.{AreKept, thread, locks_of}
 use Rattle.kern_sync.proofs.Threads.{all_without_absent, all_without_thread, any_thread, queue_thread, queue_added, queue_left, option_thread}
 

@@ -2,7 +2,7 @@
 use Rattle.std.specs.Prelude.{◌≡◌, ℕ, ◌<◌, ◌^◌, List, Option, length, map}
 use Rattle.sym_base.specs.declared.number.ObjNo.{ObjNo}
 use Rattle.links.specs.Linked.{Linked}
-use Rattle.kern_sync.specs.declared.answers.Owner.{Owner}
+use Rattle.state_rows.specs.declared.locks.Owner.{Owner}
 use Rattle.kern_sync.specs.KernelLocks.{KernelLocks}
 
 -- the thread whose number a node is

@@ -1,10 +1,13 @@
 //! The table of mutexes and semaphores, and its calls.
 ghost use Rattle.std.specs.Prelude.{◌≡◌, ℕ, pos, ◌≤ℤ◌, false, ◌<◌, ◌≤◌, ◌↔◌, [], not, ◌==◌, IsNone, IsSome, length, slice_set, IfOk, IfSome};
 ghost use Rattle.sym_base.specs.declared.number.ObjNo.{ObjNo};
-ghost use Rattle.kern_sync.specs.KernelLocks.{owner_at, level_of, count_at, waiters_at, best_of, is_waiting, IsWaiting};
-ghost use Rattle.kern_sync.specs.Calls.{new_locks, start_count, after_new_row, lock_answer, after_lock, unlock_answer, after_unlock, after_free, after_wait, signal_answer, after_signal, after_remove, after_priority, without_best};
-ghost use Rattle.kern_sync.specs.declared.answers.Unlocked.TheVariants.{NotOwner, Passed};
-ghost use Rattle.kern_sync.specs.declared.answers.Signalled.TheVariants.{Overflow, Woke};
+ghost use Rattle.state_rows.specs.Locks.{owner_at, level_of, count_at, waiters_at, is_waiting};
+ghost use Rattle.kern_sync.specs.KernelLocks.{best_of, IsWaiting};
+ghost use Rattle.kern_sync.specs.KernelLocks.{new_locks, after_priority};
+ghost use Rattle.state_rows.specs.LockChanges.{start_count, after_new_row, lock_answer, after_lock, unlock_answer, after_unlock, after_free, after_wait, signal_answer, after_signal, after_remove};
+ghost use Rattle.kern_sync.specs.Calls.{without_best};
+ghost use Rattle.state_rows.specs.declared.locks.Unlocked.TheVariants.{NotOwner, Passed};
+ghost use Rattle.state_rows.specs.declared.locks.Signalled.TheVariants.{Overflow, Woke};
 
 use crate::answers::{Locked, Owner, Signalled, Unlocked};
 use links::Links;

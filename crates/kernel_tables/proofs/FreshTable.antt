@@ -2,8 +2,8 @@
 use Rattle.std.proofs.Common.{◌≡◌, ℕ, arith, inl, inr, replicate}
 use Rattle.std.proofs.lemmas.Bool.{cases_lt}
 use Rattle.std.proofs.lemmas.List.{length-replicate, get_or-replicate, get_or_past}
-use Rattle.machine.specs.Handles.{fresh_slot}
-use Rattle.machine.specs.WellFormed.{IsTable}
+use Rattle.state_rows.specs.HandleSlots.{fresh_slot}
+use Rattle.state_rows.specs.HandleSlots.{IsTable}
 
 pub table_fresh : (n : ℕ) → n ≡ 256 → IsTable (replicate n fresh_slot)
 table_fresh n is = record {

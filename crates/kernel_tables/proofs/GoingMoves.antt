@@ -21,12 +21,12 @@ use Rattle.machine.specs.declared.request_move.RequestMove.{RequestMove}
 use Rattle.machine.specs.declared.request_move.RequestMove.TheVariants as request
 use Rattle.state_rows.specs.declared.requests.RequestRows.{RequestRows}
 use Rattle.machine.specs.declared.state.State.{State}
-use Rattle.machine.specs.declared.state.Waiting.TheVariants as waiting
-use Rattle.machine.specs.declared.state.Role.{Role}
-use Rattle.machine.specs.declared.state.Role.TheVariants.{Supervisor, Queue, Declared}
+use Rattle.state_rows.specs.declared.thread.Waiting.TheVariants as waiting
+use Rattle.state_rows.specs.declared.thread.Role.{Role}
+use Rattle.state_rows.specs.declared.thread.Role.TheVariants.{Supervisor, Queue, Declared}
 use Rattle.script_types.specs.declared.declaration.ThreadDecl.{ThreadDecl}
 use Rattle.machine.specs.Task.{declared_of, instructions_in}
-use Rattle.machine.specs.declared.state.ThreadRow.{ThreadRow}
+use Rattle.state_rows.specs.declared.thread.ThreadRow.{ThreadRow}
 use Rattle.machine.specs.Choice.{priority_of, priority_of_row}
 use Rattle.machine.specs.NanoMoves.{nano_thread}
 use Rattle.machine.specs.Fits.{FitsNano, FitsRequests, IsFree, FitsMove, EachFits, Sane, most_told, most_owed}

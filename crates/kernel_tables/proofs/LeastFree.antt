@@ -4,9 +4,10 @@ use Rattle.std.proofs.lemmas.List.{take_rest}
 use Rattle.std.specs.Prelude.{slice_set, is_none, if◌then◌else◌}
 use Rattle.std.proofs.lemmas.Bool.{cases_eq}
 use Rattle.sym_base.specs.declared.number.ObjNo.{ObjNo}
-use Rattle.machine.specs.declared.state.HandleSlot.{HandleSlot}
-use Rattle.machine.specs.Handles.{free_index, slot_at}
-use Rattle.machine.specs.WellFormed.{IsTable, AreTables}
+use Rattle.state_rows.specs.declared.handle_slot.HandleSlot.{HandleSlot}
+use Rattle.state_rows.specs.HandleSlots.{free_index, slot_at}
+use Rattle.state_rows.specs.HandleSlots.{IsTable}
+use Rattle.machine.specs.WellFormed.{AreTables}
 use Rattle.machine.proofs.RowLaws.Tables.{tables-with_slot}
 
 from_step : (x : Option ObjNo) (n rest all : ℕ) → suc n ≤ (if is_none x then 0 else all + 1) → (n ≤ all → n + rest ≡ all) → suc n + rest ≡ (if is_none x then 0 else all + 1)

@@ -11,7 +11,7 @@ use Rattle.entry_log.specs.declared.effect.Holder.TheVariants.{InProcess, InThre
 use Rattle.state_rows.specs.declared.duty.Owed.{Owed}
 use Rattle.cleanup.specs.Lists.{Lists}
 use Rattle.machine.specs.declared.state.State.{State}
-use Rattle.machine.specs.declared.state.ThreadRow.{ThreadRow}
+use Rattle.state_rows.specs.declared.thread.ThreadRow.{ThreadRow}
 use Rattle.machine.specs.Moves.{use_of_row, with_use as row_with_use, threads_gain, threads_lose, threads_closed, unlinked, advanced}
 use Rattle.machine.specs.Rows.{with_row, owing, first_of}
 use Rattle.kernel_tables.specs.Moved.{MayGain}

@@ -17,7 +17,7 @@ use Rattle.state_rows.specs.declared.deferred.DeferredRows.{DeferredRows}
 use Rattle.state_rows.specs.Deferred.{next_immediate}
 use Rattle.state_rows.specs.Nano.{held_by, in_place_of, turned, actor_of, item_or}
 use Rattle.machine.specs.declared.state.State.{State}
-use Rattle.machine.specs.declared.state.ThreadRow.{ThreadRow}
+use Rattle.state_rows.specs.declared.thread.ThreadRow.{ThreadRow}
 use Rattle.machine.specs.Arrivals.{is_listed, unlisted, arrive}
 use Rattle.machine.specs.Rows.{thread_of}
 use Rattle.machine.specs.Task.{is_ready}

@@ -5,7 +5,7 @@ use Rattle.sym_base.specs.declared.number.ObjNo.{ObjNo}
 use Rattle.script_types.specs.declared.script.Script.{Script}
 use Rattle.state_rows.specs.Nano.{is_protected}
 use Rattle.machine.specs.declared.state.State.{State}
-use Rattle.machine.specs.declared.state.ThreadRow.{ThreadRow}
+use Rattle.state_rows.specs.declared.thread.ThreadRow.{ThreadRow}
 use Rattle.machine.specs.Rows.{thread_of, first_owed}
 use Rattle.machine.specs.Task.{is_ready, is_stopped, is_waiting_row, task_of_row}
 

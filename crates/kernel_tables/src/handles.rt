@@ -1,7 +1,8 @@
 //! One handle table: 256 slots, the least free one taken first.
 ghost use Rattle.std.specs.Prelude.{◌≡◌, ◌≢◌, ◌+◌, ◌<◌, ◌≤◌, None, IfOk, IfSome, replicate, slice_set};
 ghost use Rattle.sym_base.specs.declared.limits.TheConstants.Limits.{HANDLES};
-ghost use Rattle.machine.specs.Handles.{fresh_slot, slot_at, next_handle, taken_slot, freed_slot};
+ghost use Rattle.state_rows.specs.HandleSlots.{fresh_slot, slot_at};
+ghost use Rattle.machine.specs.Handles.{next_handle, taken_slot, freed_slot};
 
 use machine::{FRESH_SLOT, HandleSlot, NewHandle};
 use std::alloc::Global;
@@ -19,9 +20,9 @@ pub struct Handles {
 
 impl Model for Handles {
     ghost use Rattle.std.specs.Prelude.{◌≤◌, List};
-    ghost use Rattle.machine.specs.declared.state.HandleSlot.{HandleSlot};
-    ghost use Rattle.machine.specs.Handles.{free_index};
-    ghost use Rattle.machine.specs.WellFormed.{IsTable};
+    ghost use Rattle.state_rows.specs.declared.handle_slot.HandleSlot.{HandleSlot};
+    ghost use Rattle.state_rows.specs.HandleSlots.{free_index};
+    ghost use Rattle.state_rows.specs.HandleSlots.{IsTable};
 
     ghost Value = { List HandleSlot };
 

@@ -24,9 +24,9 @@ use Rattle.machine.specs.declared.plan.Body.TheVariants.{Interrupt, Immediate, D
 use Rattle.machine.specs.declared.plan.Plan.{Plan}
 use Rattle.machine.specs.declared.plan.Plan.TheVariants.{Decided, Runs}
 use Rattle.machine.specs.declared.request_move.RequestMove.TheVariants.{Complete}
-use Rattle.machine.specs.declared.state.Waiting.{Waiting}
-use Rattle.machine.specs.declared.state.Waiting.TheVariants.{Any, Status}
-use Rattle.machine.specs.declared.state.ThreadRow.{ThreadRow}
+use Rattle.state_rows.specs.declared.thread.Waiting.{Waiting}
+use Rattle.state_rows.specs.declared.thread.Waiting.TheVariants.{Any, Status}
+use Rattle.state_rows.specs.declared.thread.ThreadRow.{ThreadRow}
 use Rattle.machine.specs.declared.state.State.{State}
 use Rattle.machine.specs.Rows.{thread_of}
 use Rattle.machine.specs.Find.{find_object}

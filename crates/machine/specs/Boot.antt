@@ -11,20 +11,20 @@ use Rattle.script_types.specs.declared.declaration.ProcessDecl.{ProcessDecl}
 use Rattle.script_types.specs.declared.instruction.Instr.{Instr}
 use Rattle.state_rows.specs.declared.object.ObjectRow.{ObjectRow}
 use Rattle.sym_base.specs.declared.number.ObjNo.{ObjNo}
-use Rattle.sym_base.specs.declared.limits.TheConstants.Limits.{HANDLES, DEVICES}
+use Rattle.sym_base.specs.declared.limits.TheConstants.Limits.{HANDLES, DEVICES, OBJECTS}
 use Rattle.state_rows.specs.declared.nano.NanoRows.{NanoRows}
 use Rattle.state_rows.specs.NanoChanges.{new_rows}
 use Rattle.state_rows.specs.DeclaredCalls.{calls_of}
 use Rattle.state_rows.specs.RequestChanges.{new_rows as request_rows}
 use Rattle.state_rows.specs.declared.deferred.DeferredRows.{DeferredRows}
-use Rattle.machine.specs.declared.state.Found.TheVariants.{Nothing}
-use Rattle.machine.specs.declared.state.Waiting.TheVariants as waiting
-use Rattle.machine.specs.declared.state.Role.{Role}
-use Rattle.machine.specs.declared.state.Role.TheVariants.{Supervisor, Queue, Declared}
-use Rattle.machine.specs.declared.state.ThreadRow.{ThreadRow}
+use Rattle.state_rows.specs.LockChanges.{new_rows as lock_rows}
+use Rattle.state_rows.specs.ThreadRows.{new_thread as added_thread}
+use Rattle.state_rows.specs.declared.thread.Role.{Role}
+use Rattle.state_rows.specs.declared.thread.Role.TheVariants.{Supervisor, Queue, Declared}
+use Rattle.state_rows.specs.declared.thread.ThreadRow.{ThreadRow}
 use Rattle.machine.specs.declared.state.State.{State}
 use Rattle.machine.specs.declared.boot.Born.{Born}
-use Rattle.machine.specs.Handles.{fresh_slot}
+use Rattle.state_rows.specs.HandleSlots.{fresh_slot}
 
 -- an object that stands at boot
 abbrev pub boot_object : Kind → List ℕ → ObjectRow
@@ -36,18 +36,7 @@ born_process name = record { object = boot_object Process name; thread = None; w
 
 -- a thread in the process of object number p
 abbrev pub new_thread : ℕ → Role → ℕ → ThreadRow
-new_thread p role priority = record {
-  role = role;
-  process = record { 0 = p };
-  link = Some (record { 0 = p });
-  priority = priority;
-  waiting = waiting.Nothing;
-  next_instruction = 0;
-  part = None;
-  found = Nothing;
-  uses = None;
-  registers = replicate 8 0;
-}
+new_thread p role priority = record (added_thread (record { 0 = p })) { role = role; link = Some (record { 0 = p }); priority = priority }
 
 -- whether a list has an instruction
 abbrev pub has_any : List Instr → Bool
@@ -107,7 +96,15 @@ held_count b = if b.held then 1 else 0
 abbrev pub nano_of : ℕ → List Born → NanoRows
 nano_of fast bs = record (new_rows (length bs) fast) { suspensions = map held_count bs }
 
--- each has an empty table and owes nothing, and no device has a request
+-- a process has 1,024 zero bytes
+abbrev pub memory_of_row : Option ThreadRow → Option (List ℕ)
+memory_of_row None = Some (replicate 1024 0)
+memory_of_row (Some row) = None
+
+abbrev pub memory_of : Born → Option (List ℕ)
+memory_of b = memory_of_row b.thread
+
+-- each has an empty table and owes and holds nothing, no device has a request, and nobody waits for a lock
 unfoldable pub boot_of : ℕ → DeferredRows → List Born → State
 boot_of fast calls bs = record {
   objects = map (λ b. Some b.object) bs;
@@ -118,6 +115,9 @@ boot_of fast calls bs = record {
   nano = nano_of fast bs;
   deferred = calls;
   requests = request_rows (length bs) DEVICES;
+  locks = lock_rows OBJECTS;
+  mutexes = map (λ _. []) bs;
+  memories = map memory_of bs;
 }
 
 abbrev pub boot : Script → State

@@ -4,7 +4,6 @@ use Rattle.sym_base.specs.declared.error.Error.{Error}
 use Rattle.sym_base.specs.declared.error.Error.TheVariants.{InUse, Overflow}
 use Rattle.sym_base.specs.declared.number.ObjNo.{ObjNo}
 use Rattle.sym_base.specs.ErrorCode.{error_code}
-use Rattle.entry_log.specs.declared.effect.Holder.TheVariants.{InProcess}
 use Rattle.entry_log.specs.declared.step.Part.{Part}
 use Rattle.entry_log.specs.declared.step.Part.TheVariants.{Done}
 use Rattle.entry_log.specs.declared.step.Step.{Step}
@@ -14,9 +13,10 @@ use Rattle.machine.specs.declared.decision.Decision.{Decision}
 use Rattle.machine.specs.declared.handles.NewHandle.{NewHandle}
 use Rattle.machine.specs.declared.moves.Move.{Move}
 use Rattle.machine.specs.declared.moves.Move.TheVariants as move
-use Rattle.machine.specs.declared.moves.Move.TheVariants.{Gain, GoOn, Write, Advance}
-use Rattle.machine.specs.declared.state.Waiting.{Waiting}
-use Rattle.machine.specs.declared.state.ThreadRow.{ThreadRow}
+use Rattle.machine.specs.declared.moves.Move.TheVariants.{Gain, GoOn, Write, Advance, Locks}
+use Rattle.machine.specs.declared.lock_move.LockMove.{LockMove}
+use Rattle.state_rows.specs.declared.thread.Waiting.{Waiting}
+use Rattle.state_rows.specs.declared.thread.Waiting.TheVariants as waiting
 use Rattle.machine.specs.declared.state.State.{State}
 
 -- nobody acts
@@ -43,11 +43,15 @@ wait_for t step what = go_on t step (move.Wait t what) Done
 abbrev pub unless_holding : State → ObjNo → Step → Decision → Decision
 unless_holding S t step d = if is_some (held_by S.nano t) then refuse t step InUse else d
 
--- the instruction is over: after this move a new handle's number goes to a register and is answered
-abbrev pub answer_handle : ObjNo → Step → Move → ℕ → ℕ → Decision
-answer_handle t step move x handle = answer t step (move ∷ Write t x handle ∷ []) (pos handle)
+-- the thread waits for an object, as this move says
+abbrev pub wait_at : ObjNo → Step → ObjNo → LockMove → Decision
+wait_at t step o lock = record { step = step; moves = GoOn t Done ∷ move.Wait t (waiting.Lock o) ∷ Locks lock ∷ []; answer = None }
 
--- a handle of the object, in the process's table; handles full: an overflow
-abbrev pub give_handle : ObjNo → ThreadRow → Step → ObjNo → ℕ → Option NewHandle → Decision
-give_handle t row step o x None = refuse t step Overflow
-give_handle t row step o x (Some handle) = answer_handle t step (Gain (InProcess row.process handle.index) o) x handle.number
+-- the instruction is over: after these moves a new handle's number goes to a register and is answered
+abbrev pub answer_handle : ObjNo → Step → List Move → ℕ → ℕ → Decision
+answer_handle t step moves x handle = answer t step (moves ++ Write t x handle ∷ []) (pos handle)
+
+-- the next handle of a table is the object's; handles full: an overflow
+abbrev pub give_handle : ObjNo → Step → ObjNo → ℕ → Option NewHandle → Decision
+give_handle t step o x None = refuse t step Overflow
+give_handle t step o x (Some handle) = answer_handle t step (Gain handle.holder o ∷ []) x handle.number

@@ -1,6 +1,6 @@
 -- The first two steps of the instructions that find an object by its kind and name: the find, and the return,
 -- which opens what was found. The object may die in between.
-use Rattle.std.specs.Prelude.{ℕ, nat_lt, ◌||◌, Bool, false, not, if◌then◌else◌, List, [], ◌∷◌, Option, Some, None}
+use Rattle.std.specs.Prelude.{ℕ, ◌%◌, nat_lt, ◌||◌, Bool, false, not, if◌then◌else◌, List, [], ◌∷◌, Option, Some, None}
 use Rattle.sym_base.specs.declared.error.Error.TheVariants.{NotFound}
 use Rattle.sym_base.specs.declared.kind.Kind.{Kind}
 use Rattle.sym_base.specs.declared.number.ObjNo.{ObjNo}
@@ -14,12 +14,11 @@ use Rattle.state_rows.specs.declared.object.ObjectRow.{ObjectRow}
 use Rattle.state_rows.specs.ObjectRows.{is_dead_row, is_session, named}
 use Rattle.machine.specs.declared.decision.Decision.{Decision}
 use Rattle.machine.specs.declared.moves.Move.TheVariants.{Find, Miss, Gain}
-use Rattle.machine.specs.declared.state.Found.{Found}
-use Rattle.machine.specs.declared.state.Found.TheVariants.{Nothing, Object}
+use Rattle.state_rows.specs.declared.thread.ThreadRow.{ThreadRow}
 use Rattle.machine.specs.declared.state.State.{State}
 use Rattle.machine.specs.Rows.{object_of}
 use Rattle.machine.specs.References.{count_of}
-use Rattle.machine.specs.Decide.{nothing, answer, refuse, go_on}
+use Rattle.machine.specs.Decide.{answer, refuse, go_on}
 
 -- an object that isn't dead and has no reference isn't found
 abbrev pub findable : State → Option ObjNo → Option ObjNo
@@ -39,14 +38,17 @@ seek_object t word (Some o) = go_on t (Of word Seek) (Find t o) Return
 abbrev pub seek : State → ObjNo → Word → Kind → List ℕ → Decision
 seek S t word kind name = seek_object t word (find_object S kind name)
 
+-- the object that a thread's find found; a number of an object has 16 bits
+abbrev pub found_object : ThreadRow → ObjNo
+found_object row = record { 0 = row.found % 65536 }
+
 -- whether an object may be opened: it is there and isn't dead
 abbrev pub is_open : Option ObjectRow → Bool
 is_open None = false
 is_open (Some row) = not row.dead
 
 -- the object died: it is missed, and isn't found; else the thread uses it from now on, and another step comes
-abbrev pub return_to : State → ObjNo → Word → Part → Found → Decision
-return_to S t word part Nothing = nothing
-return_to S t word part (Object o) =
+abbrev pub return_to : State → ObjNo → Word → Part → ObjNo → Decision
+return_to S t word part o =
     if is_open (object_of S o) then go_on t (Of word Return) (Gain (Temp t) o) part
     else answer t (Of word Return) (Miss o ∷ []) (error_code NotFound)

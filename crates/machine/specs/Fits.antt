@@ -9,7 +9,7 @@ use Rattle.entry_log.specs.declared.effect.Holder.{Holder}
 use Rattle.entry_log.specs.declared.effect.Holder.TheVariants.{InProcess, InThread, Temp}
 use Rattle.entry_log.specs.declared.step.Part.{Part}
 use Rattle.machine.specs.declared.moves.Move.{Move}
-use Rattle.machine.specs.declared.moves.Move.TheVariants.{Make, Gain, Lose, Find, Miss, GoOn, Write, Advance, Wait, Wake, SetPriority, Nano, Deferred, Requests, Pay}
+use Rattle.machine.specs.declared.moves.Move.TheVariants.{Make, Gain, Lose, Find, Miss, GoOn, Write, Advance, Wait, Wake, SetPriority, Nano, Deferred, Requests, Locks, Fill, Pay}
 use Rattle.machine.specs.declared.nano_move.NanoMove.{NanoMove}
 use Rattle.machine.specs.declared.nano_move.NanoMove.TheVariants.{Take, Give, Want, Suspend}
 use Rattle.machine.specs.declared.deferred_move.DeferredMove.{DeferredMove}
@@ -22,21 +22,30 @@ use Rattle.state_rows.specs.declared.requests.RequestRows.{RequestRows}
 use Rattle.state_rows.specs.Requests.{request_at, is_pending}
 use Rattle.state_rows.specs.Nano.{suspend_count, holder_of, held_by}
 use Rattle.machine.specs.NanoMoves.{nano_thread}
-use Rattle.machine.specs.declared.state.Waiting.TheVariants as waiting
-use Rattle.machine.specs.declared.state.ThreadRow.{ThreadRow}
+use Rattle.state_rows.specs.declared.thread.Waiting.TheVariants as waiting
+use Rattle.state_rows.specs.declared.thread.ThreadRow.{ThreadRow}
 use Rattle.machine.specs.declared.state.State.{State}
 use Rattle.machine.specs.Rows.{object_of, table_of, thread_of, owed_of}
-use Rattle.machine.specs.Handles.{slot_at}
+use Rattle.state_rows.specs.HandleSlots.{slot_at, free_index}
 use Rattle.machine.specs.References.{total}
 use Rattle.machine.specs.Moves.{moved, tell}
 use Rattle.machine.specs.Task.{instructions_of, is_returning}
 use Rattle.machine.specs.HeldIn.{owed_by}
-use Rattle.machine.specs.WellFormed.{IsAlive, AreRows, is_before_use, part_of, weight}
+use Rattle.machine.specs.WellFormed.{IsAlive, AreRows, Awaits, is_before_use, part_of, weight}
+use Rattle.machine.specs.Choice.{priority_of}
+use Rattle.state_rows.specs.declared.locks.Locked.{Locked}
+use Rattle.state_rows.specs.declared.locks.Locked.TheVariants.{Waits}
+use Rattle.state_rows.specs.declared.locks.Unlocked.{Unlocked}
+use Rattle.state_rows.specs.declared.locks.Signalled.{Signalled}
+use Rattle.state_rows.specs.Locks.{owner_at, count_at, waiters_at, best_waiter, is_among}
+use Rattle.state_rows.specs.LockChanges.{lock_answer, unlock_answer, signal_answer}
+use Rattle.machine.specs.declared.lock_move.LockMove.{LockMove}
+use Rattle.machine.specs.declared.lock_move.LockMove.TheVariants.{Start, Lock, Unlock, WaitOn, Signal}
 
--- a slot of a table that nothing stands in
+-- the slot of a table that is taken next: the least that nothing stands in
 pub record IsFreeSlot (S : State) (owner : ObjNo) (i : ℕ) : Type 0 where
   pub inside : i < length (table_of S owner)
-  pub free : (slot_at (table_of S owner) i).object ≡ None
+  pub least : i ≡ free_index (table_of S owner)
 
 -- a thread that uses nothing, after its look or return, and owes no close of what it used
 pub record UsesNothing (S : State) (t : ObjNo) : Type 0 where
@@ -123,6 +132,53 @@ FitsRequests (Begin d t s) r = MayBegin r d t s
 FitsRequests (Complete d t s code) r = (d < length r.devices) × (request_at r d ≡ Some (record { thread = t; status = s }))
 FitsRequests (TakeSignal t) r = t.0 < length r.signals
 
+-- whether a thread stands among no waiters
+abbrev pub WaitsNowhere : State → ObjNo → Type 0
+WaitsNowhere S u = (o : ObjNo) → is_among u (waiters_at S.locks o) ≡ false
+
+-- an object that may become a semaphore with this count: nobody owns it or waits for it
+pub record MayStart (S : State) (o : ObjNo) (count : ℕ) : Type 0 where
+  pub object : o.0 < length S.objects
+  pub few : count ≤ 2147483647
+  pub free : owner_at S.locks o ≡ None
+  pub alone : waiters_at S.locks o ≡ []
+
+-- a thread that may come to stand among an object's waiters: it waits for that object, and stands nowhere yet
+pub record MayJoin (S : State) (o t : ObjNo) : Type 0 where
+  pub waits : Awaits S.threads t o
+  pub nowhere : WaitsNowhere S t
+
+-- a thread that may lock an object, with the answer that the object's owner gives
+pub record MayLock (S : State) (o t : ObjNo) (locked : Locked) : Type 0 where
+  pub alive : IsAlive (object_of S o)
+  pub thread : is_some (thread_of S t) ≡ true
+  pub answer : locked ≡ lock_answer (owner_at S.locks o) t
+  pub joins : locked ≡ Waits → MayJoin S o t
+
+-- a thread that may unlock an object, with the answer that owner and waiters give
+pub record MayUnlock (S : State) (o t : ObjNo) (unlocked : Unlocked) : Type 0 where
+  pub object : o.0 < length S.objects
+  pub thread : is_some (thread_of S t) ≡ true
+  pub answer : unlocked ≡ unlock_answer (owner_at S.locks o) t (best_waiter (priority_of S) S.locks o)
+
+-- a thread that may wait on an object: it joins the waiters at count 0
+pub record MayWaitOn (S : State) (o t : ObjNo) : Type 0 where
+  pub alive : IsAlive (object_of S o)
+  pub joins : count_at S.locks o ≡ 0 → MayJoin S o t
+
+-- an object that may be signalled, with the answer that waiters and count give
+pub record MaySignal (S : State) (o : ObjNo) (signalled : Signalled) : Type 0 where
+  pub object : o.0 < length S.objects
+  pub answer : signalled ≡ signal_answer (best_waiter (priority_of S) S.locks o) (count_at S.locks o)
+
+-- A move in the rows of mutexes and semaphores fits the state: its answer is the one that they give.
+abbrev pub FitsLocks : LockMove → State → Type 0
+FitsLocks (Start o count) S = MayStart S o count
+FitsLocks (Lock o t locked) S = MayLock S o t locked
+FitsLocks (Unlock o t unlocked) S = MayUnlock S o t unlocked
+FitsLocks (WaitOn o t) S = MayWaitOn S o t
+FitsLocks (Signal o signalled) S = MaySignal S o signalled
+
 -- A move in an action of thread t fits the state. What is owed is paid by an action of its own.
 abbrev pub FitsMove : Script → ObjNo → Move → State → Type 0
 FitsMove script t (Make kind name h) S = MayMake S kind name × IsFree S h
@@ -133,12 +189,14 @@ FitsMove script t (Miss o) S = Unit {0}
 FitsMove script t (GoOn u part) S = MayGoOn S u (Some part)
 FitsMove script t (Write u x value) S = x < 8
 FitsMove script t (Advance u) S = (u ≡ t) × IsAtInstruction script S u
-FitsMove script t (Wait u what) S = held_by S.nano u ≡ None
-FitsMove script t (Wake u) S = Unit {0}
+FitsMove script t (Wait u what) S = (held_by S.nano u ≡ None) × WaitsNowhere S u
+FitsMove script t (Wake u) S = WaitsNowhere S u
 FitsMove script t (SetPriority u priority) S = priority ≤ 63
 FitsMove script t (Nano m) S = (is_some (thread_of S (nano_thread m)) ≡ true) × FitsNano m S
 FitsMove script t (Deferred m) S = FitsDeferred m S.deferred
 FitsMove script t (Requests m) S = FitsRequests m S.requests
+FitsMove script t (Locks m) S = FitsLocks m S
+FitsMove script t (Fill p at length byte) S = at + length ≤ 1024
 FitsMove script t (Pay what) S = ⊥
 
 -- each move fits when its turn comes
@@ -157,13 +215,16 @@ most_told (Wait u what) = 0
 most_told (Wake u) = 0
 most_told (SetPriority u priority) = 0
 most_told (Deferred m) = 0
+most_told (Locks m) = 3
+most_told (Fill p at length byte) = 0
 most_told _ = 1
 
 -- the most that a move adds to the weight of what its thread owes: with a last reference the close of a link and a
--- sweep, with the end of an instruction the close of a temporary reference
+-- sweep, with the end of an instruction the close of a temporary reference, and with a mutex the close of its ownership
 abbrev pub most_owed : Move → ℕ
 most_owed (Lose h o) = 3
 most_owed (Advance u) = 4
+most_owed (Locks m) = 4
 most_owed _ = 0
 
 -- The moves of an action fit: each when its turn comes; what the thread owes then weighs at most 12; and an entry has

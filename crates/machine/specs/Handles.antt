@@ -1,45 +1,27 @@
--- Handle tables. A handle's number is index + 65536 × instance, and 1073741824 more for a thread's table.
-use Rattle.std.specs.Prelude.{ℕ, ◌+◌, ◌*◌, ◌/◌, ◌%◌, Bool, nat_lt, ◌==◌, is_none, if◌then◌else◌, List, [], ◌∷◌, length, Option, Some, None, slice_set}
+-- Handle tables of processes and threads, and whose table a handle is in.
+use Rattle.std.specs.Prelude.{ℕ, Bool, true, false, if◌then◌else◌, List, [], Option, Some, None, slice_set}
 use Rattle.std.specs.List.{slice_index_or}
 use Rattle.sym_base.specs.declared.number.ObjNo.{ObjNo}
 use Rattle.entry_log.specs.declared.effect.Holder.{Holder}
 use Rattle.entry_log.specs.declared.effect.Holder.TheVariants.{InProcess, InThread}
-use Rattle.machine.specs.declared.state.HandleSlot.{HandleSlot}
-use Rattle.machine.specs.declared.state.ThreadRow.{ThreadRow}
-use Rattle.machine.specs.declared.state.State.{State}
+use Rattle.state_rows.specs.declared.handle_slot.HandleSlot.{HandleSlot}
+use Rattle.state_rows.specs.declared.thread.ThreadRow.{ThreadRow}
+use Rattle.state_rows.specs.HandleNumbers.{next_instance, index_of, is_local}
+use Rattle.state_rows.specs.HandleSlots.{slot_at, free_index, is_full, new_handle, look}
 use Rattle.machine.specs.declared.handles.NewHandle.{NewHandle}
+use Rattle.machine.specs.declared.state.State.{State}
 use Rattle.machine.specs.Rows.{table_of}
 
--- a slot that was never taken
-abbrev pub fresh_slot : HandleSlot
-fresh_slot = record { instance = 0; object = None }
+-- the handle that a table gives next: it stands at the least free index. None where no slot is free
+abbrev pub next_handle : Bool → (ℕ → Holder) → List HandleSlot → Option NewHandle
+next_handle local holder table = if is_full table then None else Some (record { holder = holder (free_index table); number = new_handle local table })
 
--- the slot of this index, a fresh one past the table's end
-abbrev pub slot_at : List HandleSlot → ℕ → HandleSlot
-slot_at table i = slice_index_or table i fresh_slot
+-- the next handle in a process's table, and in a thread's
+abbrev pub process_handle : State → ObjNo → Option NewHandle
+process_handle S p = next_handle false (InProcess p) (table_of S p)
 
--- the least free index of a table, its length where there is none
-abbrev pub free_index : List HandleSlot → ℕ
-free_index [] = 0
-free_index (slot ∷ slots) = if is_none slot.object then 0 else free_index slots + 1
-
--- whether no slot is free
-abbrev pub is_full : List HandleSlot → Bool
-is_full table = free_index table == length table
-
--- the instance after this one: they count from 1 to 16,383, then from 1 again
-abbrev pub next_instance : ℕ → ℕ
-next_instance n = if n == 16383 then 1 else n + 1
-
--- the number of a process's handle at an index
-abbrev pub handle_number : ℕ → ℕ → ℕ
-handle_number i instance = i + 65536 * instance
-
--- the handle that a process's table gives next: it stands at the least free index. None where no slot is free
-abbrev pub next_handle : List HandleSlot → Option NewHandle
-next_handle table =
-    if is_full table then None
-    else Some (record { index = free_index table; number = handle_number (free_index table) (next_instance (slot_at table (free_index table)).instance) })
+abbrev pub thread_handle : State → ObjNo → Option NewHandle
+thread_handle S t = next_handle true (InThread t) (table_of S t)
 
 -- a slot that takes a handle of the object, and one whose handle goes: it keeps its instance
 abbrev pub taken_slot : ObjNo → HandleSlot → HandleSlot
@@ -55,23 +37,12 @@ with_slot tables owner i change =
 
 -- whose table a handle is in: bit 30 chooses the thread's own
 abbrev pub owner_of : ObjNo → ThreadRow → ℕ → ObjNo
-owner_of t row handle = if nat_lt handle 1073741824 then row.process else t
-
--- a handle's index and instance
-abbrev pub index_of : ℕ → ℕ
-index_of handle = handle % 65536
-
-abbrev pub instance_of : ℕ → ℕ
-instance_of handle = (handle % 1073741824) / 65536
+owner_of t row handle = if is_local handle then t else row.process
 
 -- the holder whose reference a handle is
 abbrev pub holder_of : ObjNo → ThreadRow → ℕ → Holder
-holder_of t row handle = if nat_lt handle 1073741824 then InProcess row.process (index_of handle) else InThread t (index_of handle)
-
--- the object in a slot, where the slot has this instance
-abbrev pub object_in : HandleSlot → ℕ → Option ObjNo
-object_in slot instance = if slot.instance == instance then slot.object else None
+holder_of t row handle = if is_local handle then InThread t (index_of handle) else InProcess row.process (index_of handle)
 
 -- the object that a thread's handle names
 abbrev pub object_at : State → ObjNo → ThreadRow → ℕ → Option ObjNo
-object_at S t row handle = object_in (slot_at (table_of S (owner_of t row handle)) (index_of handle)) (instance_of handle)
+object_at S t row handle = look (is_local handle) (table_of S (owner_of t row handle)) handle

@@ -3,14 +3,14 @@ use Rattle.std.specs.Prelude.{ℕ, ◌+◌, Bool, true, false, not, is_some, if�
 use Rattle.std.specs.List.{slice_index_or}
 use Rattle.sym_base.specs.declared.number.ObjNo.{ObjNo}
 use Rattle.entry_log.specs.declared.effect.Holder.{Holder}
-use Rattle.entry_log.specs.declared.effect.Holder.TheVariants.{InProcess, InThread, Temp, Link, Kernel}
+use Rattle.entry_log.specs.declared.effect.Holder.TheVariants.{InProcess, InThread, Temp, Own, Link, Kernel}
 use Rattle.state_rows.specs.declared.duty.Owed.{Owed}
 use Rattle.state_rows.specs.declared.duty.Owed.TheVariants.{Close, Sweep}
-use Rattle.machine.specs.declared.state.HandleSlot.{HandleSlot}
-use Rattle.machine.specs.declared.state.ThreadRow.{ThreadRow}
+use Rattle.state_rows.specs.declared.handle_slot.HandleSlot.{HandleSlot}
+use Rattle.state_rows.specs.declared.thread.ThreadRow.{ThreadRow}
 use Rattle.machine.specs.declared.state.State.{State}
-use Rattle.machine.specs.Handles.{slot_at}
-use Rattle.machine.specs.References.{total, option_names, slot_names}
+use Rattle.state_rows.specs.HandleSlots.{slot_at}
+use Rattle.machine.specs.References.{total, option_names, slot_names, mutex_names}
 use Rattle.machine.specs.Holding.{same_pair, link_names}
 
 -- a slot refers to the object there, unless its table is of the other kind than the holder's
@@ -23,15 +23,16 @@ abbrev pub use_names : ObjNo → Option ThreadRow → ℕ
 use_names x None = 0
 use_names x (Some row) = option_names x row.uses
 
--- The references of the tables and the threads' rows: a handle of a process is in the table of a number that is no
--- thread's, and one of a thread in a thread's.
-abbrev pub rows_hold : List (List HandleSlot) → List (Option ThreadRow) → Holder → ObjNo → ℕ
-rows_hold tables threads (InProcess p i) x = own_slot (is_some (slice_index_or threads p.0 None)) x (slot_at (slice_index_or tables p.0 []) i)
-rows_hold tables threads (InThread t i) x = own_slot (not (is_some (slice_index_or threads t.0 None))) x (slot_at (slice_index_or tables t.0 []) i)
-rows_hold tables threads (Temp t) x = use_names x (slice_index_or threads t.0 None)
-rows_hold tables threads (Link t) x = link_names x (slice_index_or threads t.0 None)
-rows_hold tables threads Kernel x = if is_some (slice_index_or threads x.0 None) then 1 else 0
-rows_hold tables threads _ x = 0
+-- The references of the tables, the threads' rows and the mutexes that threads hold: a handle of a process is in the
+-- table of a number that is no thread's, and one of a thread in a thread's.
+abbrev pub rows_hold : List (List HandleSlot) → List (Option ThreadRow) → List (List ObjNo) → Holder → ObjNo → ℕ
+rows_hold tables threads mutexes (InProcess p i) x = own_slot (is_some (slice_index_or threads p.0 None)) x (slot_at (slice_index_or tables p.0 []) i)
+rows_hold tables threads mutexes (InThread t i) x = own_slot (not (is_some (slice_index_or threads t.0 None))) x (slot_at (slice_index_or tables t.0 []) i)
+rows_hold tables threads mutexes (Temp t) x = use_names x (slice_index_or threads t.0 None)
+rows_hold tables threads mutexes (Link t) x = link_names x (slice_index_or threads t.0 None)
+rows_hold tables threads mutexes (Own t) x = total (mutex_names x) (slice_index_or mutexes t.0 [])
+rows_hold tables threads mutexes Kernel x = if is_some (slice_index_or threads x.0 None) then 1 else 0
+rows_hold tables threads mutexes _ x = 0
 
 -- an owed close stands for its holder's reference
 abbrev pub owed_by : Holder → ObjNo → Owed → ℕ
@@ -40,4 +41,4 @@ owed_by g x (Sweep o) = 0
 
 -- how many references a holder has to an object: those of the rows, and those that its owed closes stand for
 abbrev pub held_in : State → Holder → ObjNo → ℕ
-held_in S g x = rows_hold S.handles S.threads g x + total (total (owed_by g x)) S.owed
+held_in S g x = rows_hold S.handles S.threads S.mutexes g x + total (total (owed_by g x)) S.owed

@@ -18,8 +18,12 @@ pub mod HeldIn
 pub mod History
 pub mod Holding
 pub mod Interrupts
+pub mod LockMoves
 pub mod Look
+pub mod Memory
+pub mod MemoryCalls
 pub mod Moves
+pub mod MutexCalls
 pub mod NanoMoves
 pub mod Open
 pub mod Queueing
@@ -29,6 +33,7 @@ pub mod RequestMoves
 pub mod Room
 pub mod Rows
 pub mod Run
+pub mod SemaphoreCalls
 pub mod Slots
 pub mod Steps
 pub mod Task

@@ -14,12 +14,11 @@ use Rattle.state_rows.specs.declared.duty.Owed.TheVariants.{Close, Sweep}
 use Rattle.state_rows.specs.declared.object.ObjectRow.{ObjectRow}
 use Rattle.state_rows.specs.ObjectRows.{dead_row}
 use Rattle.machine.specs.declared.moves.Move.{Move}
-use Rattle.machine.specs.declared.moves.Move.TheVariants.{Make, Gain, Lose, Find, Miss, GoOn, Write, Advance, Wait, Wake, SetPriority, Nano, Deferred, Requests, Pay}
-use Rattle.machine.specs.declared.state.Found.TheVariants.{Nothing, Object}
-use Rattle.machine.specs.declared.state.Waiting.{Waiting}
-use Rattle.machine.specs.declared.state.Waiting.TheVariants as waiting
-use Rattle.machine.specs.declared.state.HandleSlot.{HandleSlot}
-use Rattle.machine.specs.declared.state.ThreadRow.{ThreadRow}
+use Rattle.machine.specs.declared.moves.Move.TheVariants.{Make, Gain, Lose, Find, Miss, GoOn, Write, Advance, Wait, Wake, SetPriority, Nano, Deferred, Requests, Locks, Fill, Pay}
+use Rattle.state_rows.specs.declared.thread.Waiting.{Waiting}
+use Rattle.state_rows.specs.declared.thread.Waiting.TheVariants as waiting
+use Rattle.state_rows.specs.declared.handle_slot.HandleSlot.{HandleSlot}
+use Rattle.state_rows.specs.declared.thread.ThreadRow.{ThreadRow}
 use Rattle.machine.specs.declared.state.State.{State}
 use Rattle.machine.specs.Rows.{thread_of, with_row, owing, without_first}
 use Rattle.machine.specs.Handles.{with_slot, taken_slot, freed_slot}
@@ -27,6 +26,8 @@ use Rattle.machine.specs.References.{is_last}
 use Rattle.machine.specs.NanoMoves.{nano_moved, nano_told}
 use Rattle.machine.specs.DeferredMoves.{deferred_moved}
 use Rattle.machine.specs.RequestMoves.{request_moved, request_told}
+use Rattle.machine.specs.LockMoves.{lock_moved, mutexes_moved, owed_moved, lock_told}
+use Rattle.machine.specs.Memory.{filled, with_memory}
 
 -- the number that the next object gets
 abbrev pub next_object : State → ObjNo
@@ -45,7 +46,7 @@ abbrev pub unlinked : ThreadRow → ThreadRow
 unlinked row = record row { link = None }
 
 abbrev pub with_found : ObjNo → ThreadRow → ThreadRow
-with_found o row = record row { found = Object o }
+with_found o row = record row { found = o.0 }
 
 abbrev pub with_part : Part → ThreadRow → ThreadRow
 with_part part row = record row { part = Some part }
@@ -54,7 +55,7 @@ abbrev pub with_register : ℕ → ℕ → ThreadRow → ThreadRow
 with_register x value row = record row { registers = slice_set row.registers x value }
 
 abbrev pub advanced : ThreadRow → ThreadRow
-advanced row = record row { next_instruction = row.next_instruction + 1; part = None; found = Nothing; uses = None }
+advanced row = record row { next_instruction = row.next_instruction + 1; part = None; found = 0; uses = None }
 
 abbrev pub with_waiting : Waiting → ThreadRow → ThreadRow
 with_waiting what row = record row { waiting = what }
@@ -153,6 +154,12 @@ moved t (SetPriority u priority) S = record S { threads = with_row S.threads u (
 moved t (Nano m) S = record S { nano = nano_moved m S.nano }
 moved t (Deferred m) S = record S { deferred = deferred_moved m S.deferred }
 moved t (Requests m) S = record S { requests = request_moved m S.requests }
+moved t (Locks m) S = record S {
+  locks = lock_moved m S.locks;
+  mutexes = mutexes_moved m S.mutexes;
+  owed = owed_moved m S.owed;
+}
+moved t (Fill p at length byte) S = record S { memories = with_memory S.memories p (filled at length byte) }
 moved t (Pay (Close h o)) S = record S {
   objects = objects_closed (is_last S o) o S.objects;
   threads = threads_closed (is_last S o) o S.threads;
@@ -180,6 +187,8 @@ told (SetPriority t priority) S = []
 told (Nano m) S = nano_told m
 told (Deferred m) S = []
 told (Requests m) S = request_told m
+told (Locks m) S = lock_told m
+told (Fill p at length byte) S = []
 told (Pay (Close h o)) S = closed_effects (is_last S o) h o
 told (Pay (Sweep o)) S = Swept o ∷ []
 

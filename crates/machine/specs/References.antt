@@ -5,8 +5,8 @@ use Rattle.entry_log.specs.declared.effect.Effect.{Effect}
 use Rattle.entry_log.specs.declared.effect.Effect.TheVariants.{Plus, Minus}
 use Rattle.state_rows.specs.declared.duty.Owed.{Owed}
 use Rattle.state_rows.specs.declared.duty.Owed.TheVariants.{Close, Sweep}
-use Rattle.machine.specs.declared.state.HandleSlot.{HandleSlot}
-use Rattle.machine.specs.declared.state.ThreadRow.{ThreadRow}
+use Rattle.state_rows.specs.declared.handle_slot.HandleSlot.{HandleSlot}
+use Rattle.state_rows.specs.declared.thread.ThreadRow.{ThreadRow}
 use Rattle.machine.specs.declared.state.State.{State}
 use Rattle.machine.specs.Rows.{thread_of}
 
@@ -33,6 +33,10 @@ abbrev pub thread_names : ObjNo → Option ThreadRow → ℕ
 thread_names o None = 0
 thread_names o (Some row) = option_names o row.link + option_names o row.uses
 
+-- a thread owns the mutexes that it holds
+abbrev pub mutex_names : ObjNo → ObjNo → ℕ
+mutex_names o x = same x o
+
 -- a close that is owed stands for a reference that isn't given up yet
 abbrev pub owed_names : ObjNo → Owed → ℕ
 owed_names o (Close holder x) = same x o
@@ -42,10 +46,10 @@ owed_names o (Sweep x) = 0
 abbrev pub kernel_names : State → ObjNo → ℕ
 kernel_names S o = if is_some (thread_of S o) then 1 else 0
 
--- the count of an object: the number of handles, links, temporary references, owed closes and of
+-- the count of an object: the number of handles, links, temporary references, ownerships, owed closes and of
 -- the kernel's own references that name it
 abbrev pub count_of : State → ObjNo → ℕ
-count_of S o = total (total (slot_names o)) S.handles + total (thread_names o) S.threads + kernel_names S o + total (total (owed_names o)) S.owed
+count_of S o = total (total (slot_names o)) S.handles + total (thread_names o) S.threads + kernel_names S o + total (total (owed_names o)) S.owed + total (total (mutex_names o)) S.mutexes
 
 -- whether an object has one reference
 abbrev pub is_last : State → ObjNo → Bool

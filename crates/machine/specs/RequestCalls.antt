@@ -11,7 +11,7 @@ use Rattle.state_rows.specs.Requests.{request_at, status_of, value_of, is_pendin
 use Rattle.machine.specs.declared.decision.Decision.{Decision}
 use Rattle.machine.specs.declared.moves.Move.TheVariants.{Requests}
 use Rattle.machine.specs.declared.request_move.RequestMove.TheVariants.{Begin, Complete, TakeSignal}
-use Rattle.machine.specs.declared.state.Waiting.TheVariants as waiting
+use Rattle.state_rows.specs.declared.thread.Waiting.TheVariants as waiting
 use Rattle.machine.specs.declared.state.State.{State}
 use Rattle.machine.specs.Decide.{answer, refuse, wait_for, unless_holding}
 

@@ -2,10 +2,10 @@
 -- that a history leaves has it.
 use Rattle.std.specs.Prelude.{◌≡◌, ℕ, ◌+◌, ◌≤◌, List, [], length, Option, Some, None}
 use Rattle.std.specs.List.{slice_index_or}
-use Rattle.machine.specs.declared.state.HandleSlot.{HandleSlot}
-use Rattle.machine.specs.declared.state.ThreadRow.{ThreadRow}
+use Rattle.state_rows.specs.declared.handle_slot.HandleSlot.{HandleSlot}
+use Rattle.state_rows.specs.declared.thread.ThreadRow.{ThreadRow}
 use Rattle.machine.specs.declared.state.State.{State}
-use Rattle.machine.specs.Handles.{slot_at}
+use Rattle.state_rows.specs.HandleSlots.{slot_at}
 
 -- a handle table is small, and its instances are in their range
 pub record IsSmallTable (table : List HandleSlot) : Type 0 where

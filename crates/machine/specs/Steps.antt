@@ -1,6 +1,5 @@
 -- The decision of each task of a thread.
 use Rattle.std.specs.Prelude.{Bool, true, false, [], ◌∷◌, Option, Some, None}
-use Rattle.sym_base.specs.declared.kind.Kind.TheVariants.{Mutex}
 use Rattle.sym_base.specs.declared.number.ObjNo.{ObjNo}
 use Rattle.script_types.specs.declared.script.Script.{Script}
 use Rattle.script_types.specs.declared.instruction.Instr.{Instr}
@@ -14,18 +13,21 @@ use Rattle.machine.specs.declared.decision.Decision.{Decision}
 use Rattle.machine.specs.declared.moves.Move.TheVariants as move
 use Rattle.machine.specs.declared.task.Task.{Task}
 use Rattle.machine.specs.declared.task.Task.TheVariants as task
-use Rattle.machine.specs.declared.state.ThreadRow.{ThreadRow}
+use Rattle.state_rows.specs.declared.thread.ThreadRow.{ThreadRow}
 use Rattle.machine.specs.declared.state.State.{State}
 use Rattle.machine.specs.Rows.{thread_of}
 use Rattle.machine.specs.Decide.{nothing}
-use Rattle.machine.specs.Create.{create_do}
-use Rattle.machine.specs.Dup.{dup_step}
+use Rattle.machine.specs.Create.{create_mutex_do, create_semaphore_do}
+use Rattle.machine.specs.Dup.{dup_step, duplocal_step}
 use Rattle.machine.specs.Open.{open_step, open_return}
 use Rattle.machine.specs.Close.{close_do}
 use Rattle.machine.specs.FastMutex.{flock_step, funlock_do}
 use Rattle.machine.specs.FastSemaphore.{fswait_step, fssignal_do}
 use Rattle.machine.specs.CriticalSection.{enter_do, leave_do, flush}
 use Rattle.machine.specs.ThreadCalls.{suspend_step, resume_step, priority_step}
+use Rattle.machine.specs.MutexCalls.{lock_step, unlock_step}
+use Rattle.machine.specs.SemaphoreCalls.{wait_step, signal_step}
+use Rattle.machine.specs.MemoryCalls.{fill_do, peek_do}
 use Rattle.machine.specs.Queueing.{queue_do}
 use Rattle.machine.specs.RequestCalls.{request_do, cancel_do, waitany_step, waitfor_step, status_do}
 use Rattle.machine.specs.Bodies.{run_body}
@@ -34,10 +36,16 @@ use Rattle.machine.specs.Task.{task_of, is_able}
 
 -- an instruction's step, by the part that is next, None being its first. What isn't built yet does nothing
 abbrev pub step_of : Script → State → ObjNo → ThreadRow → Instr → Option Part → Decision
-step_of script S t row (instr.CreateMutex name x) p = create_do S t row Mutex name x
+step_of script S t row (instr.CreateMutex name x) p = create_mutex_do S t row name x
+step_of script S t row (instr.CreateSemaphore name count x) p = create_semaphore_do S t row name count x
 step_of script S t row (instr.Open kind name x) p = open_step S t row kind name x p
 step_of script S t row (instr.Dup x y) p = dup_step S t row x y p
+step_of script S t row (instr.DupLocal x y) p = duplocal_step S t row x y p
 step_of script S t row (instr.Close x) p = close_do S t row x
+step_of script S t row (instr.Lock x) p = lock_step S t row x p
+step_of script S t row (instr.Unlock x) p = unlock_step S t row x p
+step_of script S t row (instr.Wait x) p = wait_step S t row x p
+step_of script S t row (instr.Signal x) p = signal_step S t row x p
 step_of script S t row (instr.Flock f) p = flock_step S t f p
 step_of script S t row (instr.Funlock f) p = funlock_do S t f
 step_of script S t row instr.Fswait p = fswait_step S t p
@@ -53,6 +61,8 @@ step_of script S t row (instr.Cancel d) p = cancel_do S t d
 step_of script S t row instr.WaitAny p = waitany_step S t p
 step_of script S t row (instr.WaitFor s) p = waitfor_step S t s p
 step_of script S t row (instr.Status s) p = status_do S t s
+step_of script S t row (instr.Fill at length byte) p = fill_do t row at length byte
+step_of script S t row (instr.Peek at) p = peek_do S t row at
 step_of script S t row _ p = nothing
 
 -- the return of an instruction that found an object

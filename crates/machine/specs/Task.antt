@@ -12,11 +12,11 @@ use Rattle.state_rows.specs.Nano.{suspend_count, is_protected, wanted_holder}
 use Rattle.state_rows.specs.declared.duty.Owed.{Owed}
 use Rattle.machine.specs.declared.task.Task.{Task}
 use Rattle.machine.specs.declared.task.Task.TheVariants.{Return, Pay, RunDfc, Step, Flush}
-use Rattle.machine.specs.declared.state.Role.{Role}
-use Rattle.machine.specs.declared.state.Role.TheVariants.{Supervisor, Queue, Declared}
-use Rattle.machine.specs.declared.state.Waiting.{Waiting}
-use Rattle.machine.specs.declared.state.Waiting.TheVariants.{Nothing}
-use Rattle.machine.specs.declared.state.ThreadRow.{ThreadRow}
+use Rattle.state_rows.specs.declared.thread.Role.{Role}
+use Rattle.state_rows.specs.declared.thread.Role.TheVariants.{Supervisor, Queue, Declared}
+use Rattle.state_rows.specs.declared.thread.Waiting.{Waiting}
+use Rattle.state_rows.specs.declared.thread.Waiting.TheVariants.{Nothing}
+use Rattle.state_rows.specs.declared.thread.ThreadRow.{ThreadRow}
 use Rattle.machine.specs.declared.state.State.{State}
 use Rattle.machine.specs.Rows.{thread_of, first_owed}
 

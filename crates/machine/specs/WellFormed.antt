@@ -1,11 +1,11 @@
 -- What holds of every state that a legal history leaves: a predicate for each part of the state.
-use Rattle.std.specs.Prelude.{◌≡◌, ℕ, ◌+◌, ◌<◌, ◌≤◌, Bool, true, false, List, [], ◌∷◌, length, Option, Some, None}
+use Rattle.std.specs.Prelude.{◌≡◌, ℕ, ◌+◌, ◌<◌, ◌≤◌, Bool, true, false, List, [], ◌∷◌, length, Option, Some, None, is_some}
 use Rattle.std.specs.List.{slice_index_or, AllByRecursion}
-use Rattle.sym_base.specs.declared.limits.TheConstants.Limits.{OBJECTS, BOOT_OBJECTS, DEVICES, HANDLES}
+use Rattle.sym_base.specs.declared.limits.TheConstants.Limits.{OBJECTS, BOOT_OBJECTS, DEVICES}
 use Rattle.sym_base.specs.declared.number.ObjNo.{ObjNo}
 use Rattle.script_types.specs.declared.script.Script.{Script}
 use Rattle.entry_log.specs.declared.effect.Holder.{Holder}
-use Rattle.entry_log.specs.declared.effect.Holder.TheVariants.{Temp, Link}
+use Rattle.entry_log.specs.declared.effect.Holder.TheVariants.{Temp, Own, Link}
 use Rattle.entry_log.specs.declared.step.Part.{Part}
 use Rattle.entry_log.specs.declared.step.Part.TheVariants as part
 use Rattle.state_rows.specs.declared.duty.Owed.{Owed}
@@ -20,13 +20,16 @@ use Rattle.state_rows.specs.Requests.{request_at, is_pending}
 use Rattle.state_rows.specs.RequestSound.{AreRequestRows}
 use Rattle.state_rows.specs.Nano.{want_of, holder_of}
 use Rattle.state_rows.specs.NanoSound.{AreNanoRows}
-use Rattle.machine.specs.declared.state.Waiting.TheVariants as waiting
-use Rattle.machine.specs.declared.state.HandleSlot.{HandleSlot}
-use Rattle.machine.specs.declared.state.ThreadRow.{ThreadRow}
+use Rattle.state_rows.specs.declared.thread.Waiting.TheVariants as waiting
+use Rattle.state_rows.specs.declared.handle_slot.HandleSlot.{HandleSlot}
+use Rattle.state_rows.specs.declared.thread.ThreadRow.{ThreadRow}
 use Rattle.machine.specs.declared.state.State.{State}
 use Rattle.machine.specs.Rows.{object_of}
-use Rattle.machine.specs.Handles.{slot_at}
-use Rattle.machine.specs.References.{total, same, count_of}
+use Rattle.state_rows.specs.HandleSlots.{IsTable}
+use Rattle.state_rows.specs.declared.locks.Owner.{Owner}
+use Rattle.state_rows.specs.declared.locks.LockRows.{LockRows}
+use Rattle.state_rows.specs.Locks.{owner_at, count_at, waiters_at, is_among}
+use Rattle.machine.specs.References.{total, same, mutex_names, count_of}
 use Rattle.machine.specs.Task.{instructions_of, served_queue, is_ready, is_returning}
 use Rattle.machine.specs.Arrivals.{is_listed}
 use Rattle.state_rows.specs.DeclaredCalls.{calls_of}
@@ -40,11 +43,7 @@ pub record AreSized (S : State) : Type 0 where
   pub threads_few : length S.threads ≤ BOOT_OBJECTS
   pub objects_few : length S.objects ≤ OBJECTS
 
--- a handle table has 256 slots, and instances stay below 16,384
-pub record IsTable (table : List HandleSlot) : Type 0 where
-  pub size : length table ≡ HANDLES
-  pub instances : (i : ℕ) → (slot_at table i).instance ≤ 16383
-
+-- each handle table is one
 abbrev pub AreTables : List (List HandleSlot) → Type 0
 AreTables tables = (k : ℕ) → k < length tables → IsTable (slice_index_or tables k [])
 
@@ -82,10 +81,11 @@ abbrev pub part_of : Option ThreadRow → Option Part
 part_of None = None
 part_of (Some row) = row.part
 
--- whose closes a thread may owe: its own temporary reference's, and the link's of an object that is gone, to what has
+-- whose closes a thread may owe: its own temporary reference's and ownership's, and the link's of an object that is gone, to what has
 -- no link itself
 abbrev pub MayOwe : List (Option ThreadRow) → ℕ → Holder → ObjNo → Type 0
 MayOwe threads k (Temp u) o = u.0 ≡ k
+MayOwe threads k (Own u) o = u.0 ≡ k
 MayOwe threads k (Link x) o = slice_index_or threads o.0 None ≡ None
 MayOwe threads k _ o = ⊥
 
@@ -129,6 +129,43 @@ pub record AreRequests (count : ℕ) (r : RequestRows) : Type 0 where
   pub devices : length r.devices ≡ DEVICES
   pub pending : (d : ℕ) (request : Request) → request_at r d ≡ Some request → is_pending r request.thread request.status ≡ true
   pub apart : (d e : ℕ) (request : Request) → request_at r d ≡ Some request → request_at r e ≡ Some request → d ≡ e
+
+-- a thread that waits for an object
+pub record Awaits (threads : List (Option ThreadRow)) (t o : ObjNo) : Type 0 where
+  pub row : ThreadRow
+  pub is : slice_index_or threads t.0 None ≡ Some row
+  pub waits : row.waiting ≡ waiting.Lock o
+
+-- a thread that owns an object
+pub record IsOwnerOf (r : LockRows) (t o : ObjNo) : Type 0 where
+  pub owner : Owner
+  pub is : owner_at r o ≡ Some owner
+  pub thread : owner.thread.0 ≡ t.0
+
+-- how often a thread holds an object
+abbrev pub times_held : List (List ObjNo) → ObjNo → ObjNo → ℕ
+times_held mutexes t o = total (mutex_names o) (slice_index_or mutexes t.0 [])
+
+-- The rows of mutexes and semaphores: one for each object that may be made; counts stay in their range; the owner of a
+-- mutex holds it once, and nobody else does; whoever stands among an object's waiters waits for it; and what isn't made
+-- yet has no owner and no waiter.
+pub record AreLocks (objects : ℕ) (threads : List (Option ThreadRow)) (mutexes : List (List ObjNo)) (r : LockRows) : Type 0 where
+  pub owners_sized : length r.owners ≡ OBJECTS
+  pub counts_sized : length r.counts ≡ OBJECTS
+  pub waiters_sized : length r.waiters ≡ OBJECTS
+  pub mutexes_sized : length mutexes ≡ length threads
+  pub counts : (o : ObjNo) → count_at r o ≤ 2147483647
+  pub owned : (o : ObjNo) (owner : Owner) → owner_at r o ≡ Some owner → times_held mutexes owner.thread o ≡ 1
+  pub held : (t o : ObjNo) → 0 < times_held mutexes t o → IsOwnerOf r t o
+  pub waiters : (t o : ObjNo) → is_among t (waiters_at r o) ≡ true → Awaits threads t o
+  pub owners_made : (o : ObjNo) → objects ≤ o.0 → owner_at r o ≡ None
+  pub waiters_made : (o : ObjNo) → objects ≤ o.0 → waiters_at r o ≡ []
+
+-- the memory of a process has 1,024 bytes, and a thread's process has one
+pub record AreMemories (threads : List (Option ThreadRow)) (memories : List (Option (List ℕ))) : Type 0 where
+  pub sized : length memories ≡ length threads
+  pub bytes : (k : ℕ) (bytes : List ℕ) → slice_index_or memories k None ≡ Some bytes → length bytes ≡ 1024
+  pub processes : (k : ℕ) (row : ThreadRow) → slice_index_or threads k None ≡ Some row → is_some (slice_index_or memories row.process.0 None) ≡ true
 
 -- an object that is there and has a reference left
 abbrev pub IsAlive : Option ObjectRow → Type 0
@@ -178,6 +215,8 @@ pub record AreRows (script : Script) (S : State) : Type 0 where
   pub nano : AreSynchronized script S.threads S.nano
   pub deferred : AreCalls script S.deferred
   pub requests : AreRequests (length S.threads) S.requests
+  pub locks : AreLocks (length S.objects) S.threads S.mutexes S.locks
+  pub memories : AreMemories S.threads S.memories
   pub lives : AreLives S
 
 pub record IsWellFormed (script : Script) (S : State) : Type 0 where

@@ -1,18 +1,18 @@
 //! What stands at boot.
 ghost use Rattle.std.specs.Prelude.{◌≡◌, ℕ, ◌+◌, ◌<◌, ◌≤◌, ◌++◌, [], ◌∷◌, codes, false, IfOk, OnOk, length, map, pos, replicate, vec_len};
 ghost use Rattle.script_types.specs.Shape.{IsShaped};
-ghost use Rattle.sym_base.specs.declared.limits.TheConstants.Limits.{DEVICES};
+ghost use Rattle.sym_base.specs.declared.limits.TheConstants.Limits.{DEVICES, OBJECTS};
 ghost use Rattle.state_rows.specs.RequestChanges.{new_rows as request_rows};
-ghost use Rattle.machine.specs.Boot.{boot_object, born_process, new_thread, born_thread, born_queue, born_queues, is_of, has_any, born_threads, born_kernel, born, ready_from, held_count, nano_of, boot_of, boot};
-ghost use Rattle.machine.specs.Handles.{fresh_slot};
-ghost use Rattle.machine.specs.declared.state.Role.TheVariants as role;
+ghost use Rattle.state_rows.specs.LockChanges.{new_rows as lock_rows};
+ghost use Rattle.machine.specs.Boot.{boot_object, born_process, new_thread, born_thread, born_queue, born_queues, is_of, has_any, born_threads, born_kernel, born, ready_from, held_count, nano_of, memory_of, boot_of, boot};
+ghost use Rattle.state_rows.specs.HandleSlots.{fresh_slot};
+ghost use Rattle.state_rows.specs.declared.thread.Role.TheVariants as role;
 
-use crate::handles::FRESH_SLOT;
 use crate::{
-    DeferredRows, Found, HandleSlot, NanoRows, Owed, RequestRows, Role, State, ThreadRow, Waiting,
+    DeferredRows, HandleSlot, LockRows, NanoRows, Owed, RequestRows, Role, State, ThreadRow,
 };
 use script_types::{QueueDecl, Script, ThreadDecl};
-use state_rows::{ObjectRow, STATUSES, calls_of};
+use state_rows::{MEMORY, ObjectRow, STATUSES, calls_of};
 use std::alloc::Global;
 use sym_base::{Items, Kind, Limits, Name, NoMemory, ObjNo, ThreadNo, read_name};
 
@@ -60,15 +60,9 @@ fn new_thread(process: ObjNo, role: Role, priority: u8) -> ThreadRow
 {
     ThreadRow {
         role,
-        process,
         link: Some(process),
         priority,
-        waiting: Waiting::Nothing,
-        next_instruction: 0,
-        part: None,
-        found: Found::Nothing,
-        uses: None,
-        registers: [0; 8],
+        ..ThreadRow::new(process)
     }
 }
 
@@ -177,7 +171,7 @@ pub fn all_born(alloc: Global, script: &Script) -> Result<Items<Born>, NoMemory>
 fn fresh_table(alloc: Global) -> Result<Items<HandleSlot>, NoMemory>
     ensures { IfOk result (λ table. table ≡ replicate 256 fresh_slot) }
 {
-    let slots = [FRESH_SLOT; Limits::HANDLES];
+    let slots = [HandleSlot::FRESH; Limits::HANDLES];
     Ok(Items::new(Vec::from_slice(alloc, &slots)?))
 }
 
@@ -288,7 +282,61 @@ fn no_requests(alloc: Global, threads: usize) -> Result<RequestRows, NoMemory>
     })
 }
 
-/// The state in which these stand, each with an empty table and nothing that it owes, and no device with a request.
+/// No waiter, of so many objects.
+fn no_waiters(alloc: Global, objects: usize) -> Result<Items<Items<ThreadNo>>, NoMemory>
+    ensures { IfOk result (λ waiters. waiters ≡ replicate objects []) }
+{
+    let mut waiters = Vec::new(alloc);
+    for _object in 0..objects {
+        waiters.push(Items::new(Vec::new(alloc)))?;
+    }
+    Ok(Items::new(waiters))
+}
+
+/// Mutexes and semaphores that nobody owns or waits for, and whose counts are 0.
+fn no_locks(alloc: Global) -> Result<LockRows, NoMemory>
+    ensures { IfOk result (λ locks. locks ≡ lock_rows OBJECTS) }
+{
+    Ok(LockRows {
+        owners: Items::new(vec![in alloc; None; Limits::OBJECTS]?),
+        counts: Items::new(vec![in alloc; 0u32; Limits::OBJECTS]?),
+        waiters: no_waiters(alloc, Limits::OBJECTS)?,
+    })
+}
+
+/// The memory of what stands at boot: a process has 1,024 zero bytes, and a thread none.
+fn memory_of(alloc: Global, born: &Born) -> Result<Option<Items<u8>>, NoMemory>
+    ensures { IfOk result (λ memory. memory ≡ memory_of born.now) }
+{
+    match born.thread {
+        Some(_) => Ok(None),
+        None => Ok(Some(Items::new(vec![in alloc; 0u8; MEMORY]?))),
+    }
+}
+
+/// The memories of what stands at boot.
+fn memories_of(alloc: Global, all: &[Born]) -> Result<Items<Option<Items<u8>>>, NoMemory>
+    ensures { IfOk result (λ memories. memories ≡ map memory_of all.now) }
+{
+    let mut memories = Vec::new(alloc);
+    for born in all {
+        memories.push(memory_of(alloc, born)?)?;
+    }
+    Ok(Items::new(memories))
+}
+
+/// The mutexes that each holds: none.
+fn no_mutexes(alloc: Global, all: &[Born]) -> Result<Items<Items<ObjNo>>, NoMemory>
+    ensures { IfOk result (λ mutexes. mutexes ≡ map (λ _. []) all.now) }
+{
+    let mut mutexes = Vec::new(alloc);
+    for _born in all {
+        mutexes.push(Items::new(Vec::new(alloc)))?;
+    }
+    Ok(Items::new(mutexes))
+}
+
+/// The state in which these stand, each with an empty table and nothing that it owes or holds, and no device with a request.
 #[tactic(auto, unfolding(crate::specs::Boot::boot_of))]
 pub fn boot_of(
     alloc: Global,
@@ -308,6 +356,9 @@ pub fn boot_of(
         nano: nano_of(alloc, fast, all)?,
         deferred: calls,
         requests: no_requests(alloc, all.len())?,
+        locks: no_locks(alloc)?,
+        mutexes: no_mutexes(alloc, all)?,
+        memories: memories_of(alloc, all)?,
     })
 }
 

@@ -1,7 +1,7 @@
 //! Counting references by going over all the rows that hold one. Counts stand still at the end of their
 //! type, which no state that a history leaves comes near.
 ghost use Rattle.std.specs.Prelude.{◌≡◌, ◌-◌, ◌^◌, ◌<◌, ◌≤◌, min, nat_lt};
-ghost use Rattle.machine.specs.References.{total, same, option_names, slot_names, thread_names, owed_names, kernel_names, count_of, is_last};
+ghost use Rattle.machine.specs.References.{total, same, option_names, slot_names, thread_names, owed_names, mutex_names, kernel_names, count_of, is_last};
 
 use crate::rows::thread_of;
 use crate::{HandleSlot, Owed, State, ThreadRow};
@@ -101,6 +101,28 @@ fn owed_total(object: ObjNo, owed: &[Items<Owed>]) -> u32
     count
 }
 
+/// How often the mutexes that a thread holds are an object.
+fn held_total(object: ObjNo, mutexes: &[ObjNo]) -> u32
+    ensures { result ≡ min (total (mutex_names object) mutexes.now) (2 ^ 32 - 1) }
+{
+    let mut count: u32 = 0;
+    for mutex in mutexes {
+        count = count.saturating_add(same(*mutex, object));
+    }
+    count
+}
+
+/// How often the mutexes that the threads hold are an object.
+fn mutexes_total(object: ObjNo, mutexes: &[Items<ObjNo>]) -> u32
+    ensures { result ≡ min (total (total (mutex_names object)) mutexes.now) (2 ^ 32 - 1) }
+{
+    let mut count: u32 = 0;
+    for held in mutexes {
+        count = count.saturating_add(held_total(object, held.as_slice()));
+    }
+    count
+}
+
 /// How often the kernel itself refers to an object: it holds each thread.
 fn kernel_names(state: &State, object: ObjNo) -> u32
     ensures { result ≡ kernel_names state.now object }
@@ -123,6 +145,7 @@ fn capped_count(state: &State, object: ObjNo) -> u32
         .saturating_add(threads)
         .saturating_add(kernel_names(state, object))
         .saturating_add(owed)
+        .saturating_add(mutexes_total(object, state.mutexes.as_slice()))
 }
 
 /// The count of an object: the number of references to it.

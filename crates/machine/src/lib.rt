@@ -8,6 +8,7 @@ mod decision;
 mod deferred_move;
 mod duties;
 mod handles;
+mod lock_move;
 mod moves;
 mod nano_move;
 mod nano_rows;
@@ -24,10 +25,8 @@ pub use count::{count_of, is_counted, is_last};
 pub use decision::{Decision, Outcome, entry_of};
 pub use deferred_move::DeferredMove;
 pub use duties::{drop_first_owed, owe_close, owe_use};
-pub use handles::{
-    FRESH_SLOT, NewHandle, free_index, handle_at, holder_of, index_of, instance_of, next_handle,
-    next_instance, object_in, owner_of, slot_at,
-};
+pub use handles::{NewHandle, holder_of, owner_of, process_handle, thread_handle};
+pub use lock_move::LockMove;
 pub use moves::{MAX_MOVES, Move, Moves};
 pub use nano_move::NanoMove;
 pub use nano_rows::{
@@ -37,8 +36,10 @@ pub use nano_rows::{
 pub use plan::{Body, Plan};
 pub use request_move::RequestMove;
 pub use rows::{first_owed, object_of, row_of, set_row, set_slot, table_of, thread_in, thread_of};
-pub use state::{Found, HandleSlot, Role, State, ThreadRow, Waiting};
-pub use state_rows::{DeferredRows, NanoRows, Owed, RequestRows};
+pub use state::State;
+pub use state_rows::{
+    DeferredRows, HandleSlot, LockRows, NanoRows, Owed, RequestRows, Role, ThreadRow, Waiting,
+};
 pub use task::Task;
 pub use thread_rows::{
     threads_advance, threads_closed, threads_find, threads_gain, threads_go_on, threads_lose,

@@ -2,7 +2,7 @@
 //! a move of its own (the split is this project's own).
 ghost use Rattle.std.specs.Prelude.{◌≡◌, ◌<◌, ◌≤◌, [], ◌∷◌, ◌++◌, length};
 
-use crate::{DeferredMove, NanoMove, RequestMove, Waiting};
+use crate::{DeferredMove, LockMove, NanoMove, RequestMove, Waiting};
 use arrayvec::ArrayVec;
 use entry_log::{Holder, Part};
 use state_rows::Owed;
@@ -42,6 +42,10 @@ pub enum Move {
     Deferred(DeferredMove),
     /// What the kernel keeps of requests changes.
     Requests(RequestMove),
+    /// What the kernel keeps of mutexes and semaphores changes, and with it who owns a mutex.
+    Locks(LockMove),
+    /// Bytes of the process's memory, from an offset on and so many, get a value.
+    Fill(ObjNo, u16, u16, u8),
     /// The acting thread pays this, the oldest of what it owes.
     Pay(Owed),
 }

@@ -1,72 +1,11 @@
 //! The kernel's state as plain lists of rows, indexed by number.
 ghost use Rattle.std.specs.Prelude.{◌≡◌, IfOk};
 
-use entry_log::Part;
-use state_rows::{DeferredRows, NanoRows, ObjectRow, Owed, RequestRows};
+use state_rows::{
+    DeferredRows, HandleSlot, LockRows, NanoRows, ObjectRow, Owed, RequestRows, ThreadRow,
+};
 use std::alloc::{AllocError, Global};
 use sym_base::{Items, ObjNo, ThreadNo};
-
-/// A slot of a handle table: how often it was taken, 0 at first and counted from 1 to 16,383 and
-/// then from 1 again, and the object whose handle stands there (Symbian OS Internals, the chapter on kernel
-/// services, on object indexes).
-#[derive(Clone, Copy)]
-pub struct HandleSlot {
-    pub instance: u16,
-    pub object: Option<ObjNo>,
-}
-
-/// What a thread carries out.
-#[derive(Clone, Copy)]
-pub enum Role {
-    /// The kernel's own thread, which serves queue 0 of deferred function calls.
-    Supervisor,
-    /// The thread of a queue of deferred function calls, of which the script declares the first as number 1.
-    Queue(u8),
-    /// The instructions of the thread that the script declares at this place, from 0.
-    Declared(u8),
-}
-
-/// What the steps of a thread's present instruction found so far.
-#[derive(Clone, Copy)]
-pub enum Found {
-    Nothing,
-    /// An object, by its name. That is no reference.
-    Object(ObjNo),
-}
-
-/// What a thread waits for.
-#[derive(Clone, Copy)]
-pub enum Waiting {
-    Nothing,
-    /// A signal of its fast semaphore.
-    Fast,
-    /// A signal of its request semaphore.
-    Any,
-    /// A signal of its request semaphore, and the completion of this status.
-    Status(u8),
-}
-
-/// A thread (the chapter on threads and processes).
-#[derive(Clone, Copy)]
-pub struct ThreadRow {
-    pub role: Role,
-    /// The process whose handles it uses.
-    pub process: ObjNo,
-    /// Its reference to its process, until it is given up.
-    pub link: Option<ObjNo>,
-    /// 0 to 63, the greatest first.
-    pub priority: u8,
-    pub waiting: Waiting,
-    /// The number of instructions that are behind it.
-    pub next_instruction: u32,
-    /// The next step of its present instruction, None before the first.
-    pub part: Option<Part>,
-    pub found: Found,
-    /// The object that its present instruction uses, to which it has a temporary reference.
-    pub uses: Option<ObjNo>,
-    /// r0 to r7.
-    pub registers: [u32; 8],
-}
 
 /// The whole state. Each list but the ready one is indexed by object number.
 #[derive(Drop)]
@@ -87,6 +26,12 @@ pub struct State {
     pub deferred: DeferredRows,
     /// Devices' requests, statuses and request semaphores.
     pub requests: RequestRows,
+    /// Mutexes and semaphores, and who waits for them.
+    pub locks: LockRows,
+    /// The mutexes that each thread holds, in order of taking.
+    pub mutexes: Items<Items<ObjNo>>,
+    /// The 1,024 bytes of each process, None at the number of a thread.
+    pub memories: Items<Option<Items<u8>>>,
 }
 
 /// A second list of lists of the same items.
@@ -137,6 +82,41 @@ fn copied_requests(alloc: Global, requests: &RequestRows) -> Result<RequestRows,
     })
 }
 
+/// The same rows of mutexes and semaphores, a second time.
+fn copied_locks(alloc: Global, locks: &LockRows) -> Result<LockRows, AllocError>
+    ensures { IfOk result (λ copy. copy ≡ locks.now) }
+{
+    Ok(LockRows {
+        owners: locks.owners.copied(alloc)?,
+        counts: locks.counts.copied(alloc)?,
+        waiters: copied_lists(alloc, locks.waiters.as_slice())?,
+    })
+}
+
+/// The same bytes, a second time.
+fn copied_memory(alloc: Global, memory: &Option<Items<u8>>) -> Result<Option<Items<u8>>, AllocError>
+    ensures { IfOk result (λ copy. copy ≡ memory.now) }
+{
+    match memory {
+        Some(bytes) => Ok(Some(bytes.copied(alloc)?)),
+        None => Ok(None),
+    }
+}
+
+/// The same memories, a second time.
+fn copied_memories(
+    alloc: Global,
+    memories: &[Option<Items<u8>>],
+) -> Result<Items<Option<Items<u8>>>, AllocError>
+    ensures { IfOk result (λ copies. copies ≡ memories.now) }
+{
+    let mut copies = Vec::new(alloc);
+    for memory in memories {
+        copies.push(copied_memory(alloc, memory)?)?;
+    }
+    Ok(Items::new(copies))
+}
+
 impl State {
     /// A second state that is the same.
     pub fn copied(&self, alloc: Global) -> Result<State, AllocError>
@@ -151,6 +131,9 @@ impl State {
             nano: copied_nano(alloc, &self.nano)?,
             deferred: copied_deferred(alloc, &self.deferred)?,
             requests: copied_requests(alloc, &self.requests)?,
+            locks: copied_locks(alloc, &self.locks)?,
+            mutexes: copied_lists(alloc, self.mutexes.as_slice())?,
+            memories: copied_memories(alloc, self.memories.as_slice())?,
         })
     }
 }

@@ -4,9 +4,9 @@ ghost use Rattle.std.specs.List.{slice_index_or};
 ghost use Rattle.machine.specs.Moves.{with_use, unlinked, with_found, with_part, with_register, advanced, with_waiting, with_priority, threads_gain, threads_lose, threads_closed};
 ghost use Rattle.machine.specs.Room.{MayAdvance};
 ghost use Rattle.machine.specs.Rows.{with_row};
-ghost use Rattle.machine.specs.declared.state.ThreadRow.{ThreadRow};
+ghost use Rattle.state_rows.specs.declared.thread.ThreadRow.{ThreadRow};
 
-use crate::{Found, ThreadRow, Waiting};
+use crate::{ThreadRow, Waiting};
 use entry_log::{Holder, Part};
 use sym_base::{Items, ObjNo, ThreadNo};
 
@@ -33,7 +33,7 @@ fn with_found(row: &mut Option<ThreadRow>, object: ObjNo)
     ensures { row.new ≡ option_map (with_found object) row.old }
 {
     if let Some(row) = row {
-        row.found = Found::Object(object);
+        row.found = u32::from(object.0);
     }
 }
 
@@ -73,7 +73,7 @@ fn advanced(row: &mut Option<ThreadRow>)
     if let Some(row) = row {
         row.next_instruction += 1;
         row.part = None;
-        row.found = Found::Nothing;
+        row.found = 0;
         row.uses = None;
     }
 }

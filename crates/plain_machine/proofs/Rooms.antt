@@ -10,11 +10,12 @@ use Rattle.state_rows.specs.declared.object.ObjectRow.{ObjectRow}
 use Rattle.state_rows.specs.ObjectRows.{dead_row}
 use Rattle.machine.specs.declared.moves.Move.{Move}
 use Rattle.machine.specs.declared.moves.Move.TheVariants.{Make, Gain, Lose, Find, Miss, GoOn, Write, Advance, Wait, Wake, SetPriority, Nano, Deferred, Requests, Pay}
-use Rattle.machine.specs.declared.state.HandleSlot.{HandleSlot}
-use Rattle.machine.specs.declared.state.Waiting.TheVariants.{Nothing}
-use Rattle.machine.specs.declared.state.ThreadRow.{ThreadRow}
+use Rattle.state_rows.specs.declared.handle_slot.HandleSlot.{HandleSlot}
+use Rattle.state_rows.specs.declared.thread.Waiting.TheVariants.{Nothing}
+use Rattle.state_rows.specs.declared.thread.ThreadRow.{ThreadRow}
 use Rattle.machine.specs.declared.state.State.{State}
-use Rattle.machine.specs.Handles.{slot_at, with_slot, taken_slot, freed_slot, fresh_slot}
+use Rattle.state_rows.specs.HandleSlots.{slot_at, fresh_slot}
+use Rattle.machine.specs.Handles.{with_slot, taken_slot, freed_slot}
 use Rattle.machine.specs.Moves.{moved, with_use, unlinked, with_found, with_part, with_register, advanced, with_waiting, with_priority, tables_gain, tables_lose, threads_gain, threads_lose, threads_closed, objects_closed, next_object, new_object}
 use Rattle.machine.specs.References.{is_last}
 use Rattle.machine.specs.Room.{HasRoom, IsSmallTable, AreSmallTables, MayAdvance}

@@ -1,44 +1,19 @@
 //! The choice of the next actor.
 ghost use Rattle.state_rows.specs.Nano.{in_place_of};
 ghost use Rattle.std.specs.Prelude.{◌≡◌};
-ghost use Rattle.machine.specs.Choice.{priority_of, first_ready, chosen_thread, chosen};
-ghost use Rattle.readings.specs.BestSoFar.{better};
+ghost use Rattle.machine.specs.Choice.{first_ready, chosen_thread, chosen};
 
 use decisions::{Reads, wanted_holder};
 use entry_log::Actor;
-use machine::{State, thread_of};
+use machine::State;
+use readings::first_of_greatest;
 use sym_base::ThreadNo;
 
-/// The priority of a thread, 0 where there is none.
-fn priority_of(state: &State, thread: ThreadNo) -> u8
-    ensures { result ≡ priority_of state.now thread }
-{
-    match thread_of(state, thread) {
-        Some(row) => row.priority,
-        None => 0,
-    }
-}
-
-/// The best so far, where a thread more has come: that one only where its priority is greater.
-fn better(state: &State, best: Option<ThreadNo>, next: ThreadNo) -> Option<ThreadNo>
-    ensures { result ≡ better (priority_of state.now) best next }
-{
-    match best {
-        Some(first) if priority_of(state, first) >= priority_of(state, next) => Some(first),
-        _ => Some(next),
-    }
-}
-
 /// The ready thread of greatest priority that has been ready longest.
-#[tactic(auto, using(readings::proofs::Best::best_step, readings::proofs::Best::best_alone))]
 pub fn first_ready(state: &State) -> Option<ThreadNo>
     ensures { result ≡ first_ready state.now }
 {
-    let mut best = None;
-    for thread in state.ready.as_slice() {
-        best = better(state, best, *thread);
-    }
-    best
+    first_of_greatest(state, state.ready.as_slice())
 }
 
 /// Who acts in a thread's place: the holder of the fast mutex that it wants, or the thread itself.

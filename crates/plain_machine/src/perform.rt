@@ -6,16 +6,17 @@ ghost use Rattle.machine.specs.Moves.{tables_gain, threads_gain, tables_lose, th
 ghost use Rattle.machine.specs.Room.{HasRoom, AreSmallTables};
 
 use crate::calls::make_deferred_move;
+use crate::locks::make_lock_move;
+use crate::memory::fill_memory;
 use crate::nano::make_nano_move;
 use crate::requests::make_request_move;
 use entry_log::Holder;
 use machine::{
-    HandleSlot, Move, Owed, State, Waiting, drop_first_owed, is_last, next_instance, object_of,
-    owe_close, owe_use, set_row, set_slot, slot_at, table_of, thread_of, threads_advance,
-    threads_closed, threads_find, threads_gain, threads_go_on, threads_lose, threads_set_priority,
-    threads_wait, threads_write,
+    HandleSlot, Move, Owed, State, Waiting, drop_first_owed, is_last, object_of, owe_close,
+    owe_use, set_row, set_slot, table_of, thread_of, threads_advance, threads_closed, threads_find,
+    threads_gain, threads_go_on, threads_lose, threads_set_priority, threads_wait, threads_write,
 };
-use state_rows::{ObjectRow, dead_row};
+use state_rows::{ObjectRow, dead_row, next_instance, slot_at};
 use std::alloc::Global;
 use sym_base::{Kind, Name, NoMemory, ObjNo, ThreadNo};
 
@@ -220,6 +221,10 @@ pub fn make_move(
         Move::Nano(change) => make_nano_move(&mut state.nano, change),
         Move::Deferred(change) => return make_deferred_move(alloc, state, change),
         Move::Requests(change) => make_request_move(state, change),
+        Move::Locks(change) => return make_lock_move(alloc, state, thread, change),
+        Move::Fill(process, at, length, byte) => {
+            return fill_memory(alloc, &mut state.memories, process, at, length, byte);
+        }
     }
     Ok(())
 }

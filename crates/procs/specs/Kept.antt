@@ -1,6 +1,6 @@
 -- What the table of threads and processes keeps.
 use Rattle.std.specs.Prelude.{◌≡◌, ℕ, ◌+◌, ◌<◌, ◌≤◌, List, length, Option, Some, None, is_some, count_by, slice_index_or}
-use Rattle.procs.specs.declared.row.ThreadRow.{ThreadRow}
+use Rattle.state_rows.specs.declared.thread.ThreadRow.{ThreadRow}
 use Rattle.procs.specs.Rows.{no_bytes}
 
 -- each process has 1,024 bytes, the spare memories have zeros, and there is one for each process to come

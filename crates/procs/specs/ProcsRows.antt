@@ -1,6 +1,6 @@
 -- What contracts see of the table of threads and processes.
 use Rattle.std.specs.Prelude.{ℕ, List, Option}
-use Rattle.procs.specs.declared.row.ThreadRow.{ThreadRow}
+use Rattle.state_rows.specs.declared.thread.ThreadRow.{ThreadRow}
 
 -- by object number, none where it wasn't added: the row of each thread, and the 1,024 bytes of each process
 pub record ProcsRows : Type 0 where

@@ -1,9 +1,9 @@
 -- Rows of threads and processes.
 use Rattle.std.specs.Prelude.{◌≡◌, ℕ, ◌<◌, Bool, false, List, length, Some, None, is_some, unwrap_or, replicate, slice_index_or, slice_set}
 use Rattle.sym_base.specs.declared.number.ObjNo.{ObjNo}
-use Rattle.procs.specs.declared.row.ThreadRow.{ThreadRow}
-use Rattle.procs.specs.declared.row.Stage.TheVariants.{Live}
-use Rattle.procs.specs.declared.row.Waiting.TheVariants.{Nothing}
+use Rattle.state_rows.specs.declared.thread.ThreadRow.{ThreadRow}
+use Rattle.state_rows.specs.declared.thread.Stage.TheVariants.{Live}
+use Rattle.state_rows.specs.declared.thread.Waiting.TheVariants.{Nothing}
 use Rattle.procs.specs.ProcsRows.{ProcsRows}
 
 -- a thread of a process that was just added

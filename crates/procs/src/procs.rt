@@ -1,6 +1,7 @@
 //! The table of threads and processes, and its calls.
 ghost use Rattle.std.specs.Prelude.{◌≡◌, ◌<◌, ◌↔◌, IsTrue, IsNone, IfOk, is_some, length, replicate, slice_index, slice_index_or, slice_set, None};
-ghost use Rattle.procs.specs.Rows.{no_rows, is_thread, is_process, IsFresh, row_of, bytes_of, with_row, with_process, new_thread, no_bytes};
+ghost use Rattle.procs.specs.Rows.{no_rows, is_thread, is_process, IsFresh, row_of, bytes_of, with_row, with_process, no_bytes};
+ghost use Rattle.state_rows.specs.ThreadRows.{new_thread};
 
 use crate::row::{MEMORY, Stage, ThreadRow, Waiting};
 use std::alloc::Global;

@@ -2,11 +2,14 @@
 #![tactic(auto)]
 
 mod plain_calls;
+mod plain_choice;
+mod plain_locks;
 mod plain_reads;
 mod plain_requests;
 mod reads;
 mod task;
 
 pub use plain_calls::is_queued;
+pub use plain_choice::first_of_greatest;
 pub use reads::Reads;
 pub use task::{instruction, is_able, is_ready, is_returning, next_call, wanted_holder};

@@ -6,13 +6,16 @@ ghost use Rattle.state_rows.specs.ObjectRows.{has_name, named, is_taken};
 
 use crate::Reads;
 use crate::plain_calls::{is_queued, next_immediate, next_of, queue_of};
+use crate::plain_locks::{best_waiter, byte_of, lock_count};
 use crate::plain_requests::{request_at, request_signals, value_of};
 use machine::{
-    HandleSlot, NewHandle, Owed, State, ThreadRow, critical_count, first_owed, held_place,
-    is_counted, is_last, is_protected, mutex_holder, next_handle, object_of, signal_count, slot_at,
-    suspend_count, table_of, thread_in, wanted_mutex,
+    NewHandle, Owed, State, ThreadRow, critical_count, first_owed, held_place, is_counted, is_last,
+    is_protected, mutex_holder, object_of, process_handle, row_of, signal_count, suspend_count,
+    table_of, thread_handle, thread_in, wanted_mutex,
 };
-use state_rows::{Item, ObjectRow, Request, has_name, is_dead_row, is_session};
+use state_rows::{
+    Item, ObjectRow, Owner, Request, free_index, has_name, is_dead_row, is_local, is_session, look,
+};
 use sym_base::{Kind, Name, ObjNo, ThreadNo};
 
 /// The place of the unswept object of this kind and name.
@@ -77,12 +80,18 @@ impl Reads for State {
         first_owed(self, thread)
     }
 
-    fn slot(&self, owner: ObjNo, index: usize) -> HandleSlot {
-        slot_at(table_of(self, owner), index)
+    fn handle(&self, owner: ObjNo, handle: u32) -> Option<ObjNo> {
+        look(is_local(handle), table_of(self, owner), handle)
     }
 
-    fn next_handle(&self, owner: ObjNo) -> Option<NewHandle> {
-        next_handle(table_of(self, owner))
+    fn process_handle(&self, process: ObjNo) -> Option<NewHandle> {
+        let table = table_of(self, process);
+        process_handle(process, table, free_index(table))
+    }
+
+    fn thread_handle(&self, thread: ThreadNo) -> Option<NewHandle> {
+        let table = table_of(self, thread);
+        thread_handle(thread, table, free_index(table))
     }
 
     fn is_taken(&self, kind: Kind, name: &Name) -> bool {
@@ -163,5 +172,21 @@ impl Reads for State {
 
     fn request_signals(&self, thread: ThreadNo) -> u64 {
         request_signals(&self.requests, thread)
+    }
+
+    fn lock_owner(&self, mutex: ObjNo) -> Option<Owner> {
+        row_of(&self.locks.owners, mutex)
+    }
+
+    fn lock_count(&self, semaphore: ObjNo) -> u32 {
+        lock_count(self, semaphore)
+    }
+
+    fn best_waiter(&self, object: ObjNo) -> Option<ThreadNo> {
+        best_waiter(self, object)
+    }
+
+    fn byte(&self, process: ObjNo, at: u16) -> u8 {
+        byte_of(self.memories.as_slice(), process, at)
     }
 }

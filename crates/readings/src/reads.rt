@@ -2,7 +2,12 @@
 //! and both decide by the same functions.
 ghost use Rattle.std.specs.Prelude.{◌≡◌, ◌<◌, ◌≤◌, length, IfSome, is_some, option_copied};
 ghost use Rattle.machine.specs.Find.{find_object};
-ghost use Rattle.machine.specs.Handles.{slot_at, next_handle};
+ghost use Rattle.state_rows.specs.HandleSlots.{look};
+ghost use Rattle.machine.specs.Choice.{priority_of};
+ghost use Rattle.machine.specs.Handles.{process_handle, thread_handle};
+ghost use Rattle.machine.specs.Memory.{byte_of};
+ghost use Rattle.state_rows.specs.HandleNumbers.{index_of, is_local};
+ghost use Rattle.state_rows.specs.Locks.{owner_at, count_at, best_waiter};
 ghost use Rattle.machine.specs.References.{is_last};
 ghost use Rattle.machine.specs.Rows.{object_of, thread_of, table_of, first_owed};
 ghost use Rattle.state_rows.specs.declared.deferred.Item.TheVariants.{Move};
@@ -11,8 +16,8 @@ ghost use Rattle.state_rows.specs.Nano.{signal_count, suspend_count, critical_co
 ghost use Rattle.state_rows.specs.ObjectRows.{is_taken};
 ghost use Rattle.state_rows.specs.Requests.{request_at, value_of, signal_count as request_signals};
 
-use machine::{HandleSlot, NewHandle, Owed, ThreadRow};
-use state_rows::{Item, ObjectRow, Request};
+use machine::{NewHandle, Owed, ThreadRow};
+use state_rows::{Item, ObjectRow, Owner, Request};
 use sym_base::{Kind, Name, ObjNo, ThreadNo};
 
 /// A state that can be read. A number without a row reads as none, and a count without one as 0.
@@ -38,16 +43,22 @@ pub trait Reads {
     fn first_owed(&self, thread: ThreadNo) -> Option<Owed>
         ensures { result ≡ first_owed (state self.now) thread };
 
-    /// The slot of an index in the handle table of a process or a thread, a fresh one past its end.
-    fn slot(&self, owner: ObjNo, index: usize) -> HandleSlot
+    /// The object that a number names as a handle in the table of a process or a thread.
+    fn handle(&self, owner: ObjNo, handle: u32) -> Option<ObjNo>
         requires { is_readable self.now }
-        ensures slot { result ≡ slot_at (table_of (state self.now) owner) index }
-        ensures past { 256 ≤ index → result.object ≡ None };
+        ensures object { result ≡ look (is_local handle) (table_of (state self.now) owner) handle }
+        ensures index { IfSome result (λ o. index_of handle < 256) };
 
     /// The handle that a process's table gives next, None where no slot is free.
-    fn next_handle(&self, owner: ObjNo) -> Option<NewHandle>
+    fn process_handle(&self, process: ObjNo) -> Option<NewHandle>
         requires { is_readable self.now }
-        ensures handle { result ≡ next_handle (table_of (state self.now) owner) }
+        ensures handle { result ≡ process_handle (state self.now) process }
+        ensures positive { IfSome result (λ handle. handle.number < 2147483648) };
+
+    /// The handle that a thread's table gives next, None where no slot is free.
+    fn thread_handle(&self, thread: ThreadNo) -> Option<NewHandle>
+        requires { is_readable self.now }
+        ensures handle { result ≡ thread_handle (state self.now) thread }
         ensures positive { IfSome result (λ handle. handle.number < 2147483648) };
 
     /// Whether an unswept object has this kind and name.
@@ -130,4 +141,21 @@ pub trait Reads {
     /// How many signals are at a thread's request semaphore.
     fn request_signals(&self, thread: ThreadNo) -> u64
         ensures { result ≡ request_signals (state self.now).requests thread };
+
+    /// Who owns a mutex, and how often.
+    fn lock_owner(&self, mutex: ObjNo) -> Option<Owner>
+        ensures { result ≡ owner_at (state self.now).locks mutex };
+
+    /// The count of a semaphore.
+    fn lock_count(&self, semaphore: ObjNo) -> u32
+        ensures { result ≡ count_at (state self.now).locks semaphore };
+
+    /// The waiter of a mutex or semaphore that is served next.
+    fn best_waiter(&self, object: ObjNo) -> Option<ThreadNo>
+        requires { is_readable self.now }
+        ensures { result ≡ best_waiter (priority_of (state self.now)) (state self.now).locks object };
+
+    /// A byte of a process's memory, 0 past its end.
+    fn byte(&self, process: ObjNo, at: u16) -> u8
+        ensures { result ≡ byte_of (state self.now).memories process at };
 }

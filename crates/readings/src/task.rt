@@ -72,7 +72,13 @@ fn is_wait(waiting: Waiting) -> bool
 {
     match waiting {
         Waiting::Nothing => false,
-        Waiting::Fast | Waiting::Any | Waiting::Status(_) => true,
+        Waiting::Lock(_)
+        | Waiting::Fast
+        | Waiting::Any
+        | Waiting::Status(_)
+        | Waiting::Reply
+        | Waiting::Receive(_)
+        | Waiting::Away => true,
     }
 }
 

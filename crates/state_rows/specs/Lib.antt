@@ -1,6 +1,10 @@
 pub mod DeclaredCalls
 pub mod Deferred
 pub mod DeferredChanges
+pub mod HandleNumbers
+pub mod HandleSlots
+pub mod LockChanges
+pub mod Locks
 pub mod Nano
 pub mod NanoChanges
 pub mod NanoSound
@@ -8,3 +12,4 @@ pub mod ObjectRows
 pub mod RequestChanges
 pub mod RequestSound
 pub mod Requests
+pub mod ThreadRows

@@ -13,7 +13,7 @@ use Rattle.script_types.specs.Source.{IsValid}
 use Rattle.script_types.proofs.ProcessThreads.{HasThread, valid_has_thread}
 use Rattle.state_rows.specs.declared.object.ObjectRow.{ObjectRow}
 use Rattle.machine.specs.declared.boot.Born.{Born}
-use Rattle.machine.specs.declared.state.ThreadRow.{ThreadRow}
+use Rattle.state_rows.specs.declared.thread.ThreadRow.{ThreadRow}
 use Rattle.machine.specs.Boot.{boot, boot_of, born, born_kernel, born_queues, born_thread, born_threads, born_processes, is_of}
 use Rattle.machine.specs.Rows.{object_of}
 use Rattle.machine.specs.WellFormed.{IsAlive}

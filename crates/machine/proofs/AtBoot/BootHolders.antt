@@ -7,10 +7,10 @@ use Rattle.entry_log.specs.declared.effect.Holder.TheVariants.{InProcess, InThre
 use Rattle.script_types.specs.declared.script.Script.{Script}
 use Rattle.script_types.specs.Shape.{IsShaped}
 use Rattle.machine.specs.declared.boot.Born.{Born}
-use Rattle.machine.specs.declared.state.HandleSlot.{HandleSlot}
-use Rattle.machine.specs.declared.state.ThreadRow.{ThreadRow}
+use Rattle.state_rows.specs.declared.handle_slot.HandleSlot.{HandleSlot}
+use Rattle.state_rows.specs.declared.thread.ThreadRow.{ThreadRow}
 use Rattle.machine.specs.Boot.{boot, boot_of, born}
-use Rattle.machine.specs.Handles.{slot_at, fresh_slot}
+use Rattle.state_rows.specs.HandleSlots.{slot_at, fresh_slot}
 use Rattle.machine.specs.HeldIn.{own_slot, use_names, rows_hold, owed_by, held_in}
 use Rattle.machine.specs.Holding.{held_at_boot}
 use Rattle.machine.specs.References.{total, option_names}

@@ -7,9 +7,9 @@ use Rattle.script_types.specs.declared.declaration.ProcessDecl.{ProcessDecl}
 use Rattle.script_types.specs.declared.declaration.QueueDecl.{QueueDecl}
 use Rattle.script_types.specs.declared.declaration.ThreadDecl.{ThreadDecl}
 use Rattle.machine.specs.declared.boot.Born.{Born}
-use Rattle.machine.specs.declared.state.Role.{Role}
-use Rattle.machine.specs.declared.state.Role.TheVariants.{Supervisor, Queue, Declared}
-use Rattle.machine.specs.declared.state.ThreadRow.{ThreadRow}
+use Rattle.state_rows.specs.declared.thread.Role.{Role}
+use Rattle.state_rows.specs.declared.thread.Role.TheVariants.{Supervisor, Queue, Declared}
+use Rattle.state_rows.specs.declared.thread.ThreadRow.{ThreadRow}
 use Rattle.machine.specs.Boot.{born, born_kernel, born_process, born_queues, born_thread, born_threads, born_processes, new_thread, is_of}
 
 at_seam : (pre : List Born) (b : Born) (bs : List Born) → get_or (map (λ x. x.thread) (pre ++ b ∷ bs)) (length pre) None ≡ b.thread

@@ -7,7 +7,7 @@ use Rattle.script_types.specs.declared.script.Script.{Script}
 use Rattle.script_types.specs.Shape.{IsShaped}
 use Rattle.state_rows.specs.declared.duty.Owed.{Owed}
 use Rattle.machine.specs.declared.boot.Born.{Born}
-use Rattle.machine.specs.declared.state.ThreadRow.{ThreadRow}
+use Rattle.state_rows.specs.declared.thread.ThreadRow.{ThreadRow}
 use Rattle.machine.specs.Arrivals.{is_listed}
 use Rattle.state_rows.specs.DeclaredCalls.{calls_of}
 use Rattle.machine.specs.Boot.{boot, boot_of, born, ready_from}

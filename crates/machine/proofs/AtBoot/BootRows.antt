@@ -12,12 +12,13 @@ use Rattle.sym_base.specs.declared.limits.TheConstants.Limits.{DEVICES}
 use Rattle.state_rows.specs.RequestChanges.{new_rows as request_rows}
 use Rattle.state_rows.specs.declared.duty.Owed.{Owed}
 use Rattle.machine.specs.declared.boot.Born.{Born}
-use Rattle.machine.specs.declared.state.ThreadRow.{ThreadRow}
+use Rattle.state_rows.specs.declared.thread.ThreadRow.{ThreadRow}
 use Rattle.machine.specs.Boot.{boot, boot_of, born}
-use Rattle.machine.specs.Handles.{fresh_slot, slot_at}
+use Rattle.state_rows.specs.HandleSlots.{fresh_slot, slot_at}
 use Rattle.machine.specs.References.{total, option_names, slot_names, thread_names, kernel_names, owed_names, count_of}
 use Rattle.machine.specs.Rows.{thread_of}
-use Rattle.machine.specs.WellFormed.{IsTable, EachMayOwe, AreRequests, AreRows, IsWellFormed, IsAlive, is_dead, dead_bit, owed_sweeps, weight}
+use Rattle.state_rows.specs.HandleSlots.{IsTable}
+use Rattle.machine.specs.WellFormed.{EachMayOwe, AreRequests, AreRows, IsWellFormed, IsAlive, is_dead, dead_bit, owed_sweeps, weight}
 use Rattle.machine.proofs.AtBoot.BootCounts.{counted-boot}
 use Rattle.machine.proofs.AtBoot.BootLinks.{each_linked, linked_at}
 use Rattle.machine.proofs.AtBoot.BootNano.{synchronized-boot}

@@ -6,7 +6,7 @@ use Rattle.script_types.specs.declared.declaration.QueueDecl.{QueueDecl}
 use Rattle.script_types.specs.declared.declaration.ThreadDecl.{ThreadDecl}
 use Rattle.script_types.specs.declared.script.Script.{Script}
 use Rattle.machine.specs.declared.boot.Born.{Born}
-use Rattle.machine.specs.declared.state.ThreadRow.{ThreadRow}
+use Rattle.state_rows.specs.declared.thread.ThreadRow.{ThreadRow}
 use Rattle.machine.specs.Boot.{born, born_kernel, born_queues, born_thread, born_threads, born_processes}
 use Rattle.machine.specs.Task.{served_queue}
 use Rattle.machine.proofs.AtBoot.Declared.{all-append, all_threads, all_processes}

@@ -13,10 +13,10 @@ use Rattle.script_types.specs.Shape.{IsShaped}
 use Rattle.state_rows.specs.Deferred.{next_of, priority_of}
 use Rattle.sym_base.specs.Greatest.{first_of_greatest}
 use Rattle.machine.specs.declared.boot.Born.{Born}
-use Rattle.machine.specs.declared.state.Role.{Role}
-use Rattle.machine.specs.declared.state.Role.TheVariants.{Supervisor, Queue, Declared}
-use Rattle.machine.specs.declared.state.ThreadRow.{ThreadRow}
-use Rattle.machine.specs.declared.state.Waiting.TheVariants as waiting
+use Rattle.state_rows.specs.declared.thread.Role.{Role}
+use Rattle.state_rows.specs.declared.thread.Role.TheVariants.{Supervisor, Queue, Declared}
+use Rattle.state_rows.specs.declared.thread.ThreadRow.{ThreadRow}
+use Rattle.state_rows.specs.declared.thread.Waiting.TheVariants as waiting
 use Rattle.state_rows.specs.DeclaredCalls.{calls_of}
 use Rattle.machine.specs.Boot.{born, born_kernel, born_process, born_queues, born_thread, born_threads, born_processes, new_thread, has_any, is_of}
 use Rattle.machine.specs.Task.{instructions_in, run_or, step_or_end, task_of_row}

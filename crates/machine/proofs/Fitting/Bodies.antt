@@ -18,9 +18,9 @@ use Rattle.machine.specs.declared.moves.Move.TheVariants as move
 use Rattle.machine.specs.declared.plan.Body.{Body}
 use Rattle.machine.specs.declared.plan.Body.TheVariants.{Interrupt, Immediate, Deferred}
 use Rattle.machine.specs.declared.request_move.RequestMove.TheVariants.{Complete}
-use Rattle.machine.specs.declared.state.Waiting.{Waiting}
-use Rattle.machine.specs.declared.state.Waiting.TheVariants as waiting
-use Rattle.machine.specs.declared.state.ThreadRow.{ThreadRow}
+use Rattle.state_rows.specs.declared.thread.Waiting.{Waiting}
+use Rattle.state_rows.specs.declared.thread.Waiting.TheVariants as waiting
+use Rattle.state_rows.specs.declared.thread.ThreadRow.{ThreadRow}
 use Rattle.machine.specs.declared.state.State.{State}
 use Rattle.state_rows.specs.DeclaredCalls.{dfc_named, idfc_named}
 use Rattle.machine.specs.Bodies.{complete, end_wait, ends_wait, irq_of, leave_queue, op_moves, ops_moves, ops_of, ops_of_dfc, ops_of_idfc, ops_of_irq, queue_call, queue_immediate, queue_to_move, run_body, signal_object, signal_row}

@@ -6,10 +6,10 @@ use Rattle.sym_base.specs.declared.number.ObjNo.{ObjNo}
 use Rattle.sym_base.specs.declared.kind.Kind.{Kind}
 use Rattle.state_rows.specs.ObjectRows.{has_name, is_dead_row, is_session, named, numbered}
 use Rattle.state_rows.specs.declared.object.ObjectRow.{ObjectRow}
-use Rattle.machine.specs.declared.state.ThreadRow.{ThreadRow}
+use Rattle.state_rows.specs.declared.thread.ThreadRow.{ThreadRow}
 use Rattle.machine.specs.declared.state.State.{State}
 use Rattle.machine.specs.Rows.{object_of, table_of, thread_of}
-use Rattle.machine.specs.Handles.{slot_at, fresh_slot}
+use Rattle.state_rows.specs.HandleSlots.{slot_at, fresh_slot}
 use Rattle.machine.specs.References.{total, same, option_names, slot_names, thread_names, count_of}
 use Rattle.machine.specs.Find.{find_object, findable, is_open}
 use Rattle.machine.specs.WellFormed.{IsAlive, AreLives}

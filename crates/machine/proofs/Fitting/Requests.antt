@@ -20,9 +20,9 @@ use Rattle.state_rows.specs.declared.requests.Request.{Request}
 use Rattle.machine.specs.declared.moves.Move.TheVariants as move
 use Rattle.machine.specs.declared.request_move.RequestMove.{RequestMove}
 use Rattle.machine.specs.declared.request_move.RequestMove.TheVariants.{Begin, Complete, TakeSignal}
-use Rattle.machine.specs.declared.state.Waiting.{Waiting}
-use Rattle.machine.specs.declared.state.Waiting.TheVariants as waiting
-use Rattle.machine.specs.declared.state.ThreadRow.{ThreadRow}
+use Rattle.state_rows.specs.declared.thread.Waiting.{Waiting}
+use Rattle.state_rows.specs.declared.thread.Waiting.TheVariants as waiting
+use Rattle.state_rows.specs.declared.thread.ThreadRow.{ThreadRow}
 use Rattle.machine.specs.declared.state.State.{State}
 use Rattle.state_rows.specs.DeclaredCalls.{dfc_named}
 use Rattle.machine.specs.Bodies.{add_call}

@@ -18,10 +18,11 @@ use Rattle.machine.specs.declared.moves.Move.{Move}
 use Rattle.machine.specs.declared.moves.Move.TheVariants.{Gain, Write}
 use Rattle.machine.specs.declared.state.Found.{Found}
 use Rattle.machine.specs.declared.state.Found.TheVariants.{Nothing, Object}
-use Rattle.machine.specs.declared.state.ThreadRow.{ThreadRow}
+use Rattle.state_rows.specs.declared.thread.ThreadRow.{ThreadRow}
 use Rattle.machine.specs.declared.state.State.{State}
 use Rattle.machine.specs.Rows.{object_of, table_of, with_row}
-use Rattle.machine.specs.Handles.{free_index, is_full, next_handle, object_at}
+use Rattle.state_rows.specs.HandleSlots.{free_index, is_full}
+use Rattle.machine.specs.Handles.{next_handle, object_at}
 use Rattle.machine.specs.Moves.{moved, with_register}
 use Rattle.machine.specs.Decide.{answer_handle, give_handle}
 use Rattle.machine.specs.Find.{seek, seek_object, find_object, return_to, is_open}

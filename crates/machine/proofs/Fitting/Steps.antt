@@ -16,10 +16,12 @@ use Rattle.entry_log.specs.declared.step.Part.TheVariants as part
 use Rattle.entry_log.specs.declared.step.Step.TheVariants.{Of}
 use Rattle.machine.specs.declared.handles.NewHandle.{NewHandle}
 use Rattle.machine.specs.declared.moves.Move.TheVariants.{Make, Lose}
-use Rattle.machine.specs.declared.state.ThreadRow.{ThreadRow}
+use Rattle.state_rows.specs.declared.thread.ThreadRow.{ThreadRow}
 use Rattle.machine.specs.declared.state.State.{State}
 use Rattle.machine.specs.Rows.{object_of, table_of}
-use Rattle.machine.specs.Handles.{next_handle, object_at, slot_at, index_of, holder_of}
+use Rattle.machine.specs.Handles.{next_handle, object_at, holder_of}
+use Rattle.state_rows.specs.HandleSlots.{slot_at}
+use Rattle.state_rows.specs.HandleNumbers.{index_of}
 use Rattle.machine.specs.Moves.{moved, unlinked, threads_closed, threads_lose}
 use Rattle.machine.specs.References.{is_last}
 use Rattle.machine.specs.Close.{close_do, close_handle}

@@ -6,10 +6,10 @@ use Rattle.std.proofs.lemmas.Bool.{cases_eq, eq-eqb}
 use Rattle.sym_base.specs.declared.number.ObjNo.{ObjNo}
 use Rattle.entry_log.specs.declared.effect.Holder.{Holder}
 use Rattle.entry_log.specs.declared.effect.Holder.TheVariants.{InProcess, InThread, Temp, Own, Link, Message, Kernel}
-use Rattle.machine.specs.declared.state.HandleSlot.{HandleSlot}
-use Rattle.machine.specs.declared.state.ThreadRow.{ThreadRow}
+use Rattle.state_rows.specs.declared.handle_slot.HandleSlot.{HandleSlot}
+use Rattle.state_rows.specs.declared.thread.ThreadRow.{ThreadRow}
 use Rattle.machine.specs.Rows.{with_row}
-use Rattle.machine.specs.Handles.{slot_at}
+use Rattle.state_rows.specs.HandleSlots.{slot_at}
 use Rattle.machine.specs.Holding.{is_holder, link_names}
 use Rattle.machine.specs.HeldIn.{own_slot, use_names, rows_hold}
 use Rattle.machine.proofs.Lists.Totals.{get-with}

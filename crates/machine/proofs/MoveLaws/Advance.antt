@@ -7,7 +7,7 @@ use Rattle.script_types.specs.declared.script.Script.{Script}
 use Rattle.entry_log.specs.declared.effect.Holder.{Holder}
 use Rattle.entry_log.specs.declared.effect.Holder.TheVariants.{Temp, Link}
 use Rattle.machine.specs.declared.moves.Move.TheVariants.{Advance}
-use Rattle.machine.specs.declared.state.ThreadRow.{ThreadRow}
+use Rattle.state_rows.specs.declared.thread.ThreadRow.{ThreadRow}
 use Rattle.machine.specs.declared.state.State.{State}
 use Rattle.machine.specs.Rows.{thread_of, owed_of, with_row}
 use Rattle.machine.specs.Moves.{moved, told, advanced, owed_use, use_of, use_of_row}

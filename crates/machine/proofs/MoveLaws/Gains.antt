@@ -8,11 +8,12 @@ use Rattle.script_types.specs.declared.script.Script.{Script}
 use Rattle.entry_log.specs.declared.effect.Holder.{Holder}
 use Rattle.entry_log.specs.declared.effect.Holder.TheVariants.{InProcess, InThread, Temp, Link}
 use Rattle.machine.specs.declared.moves.Move.TheVariants.{Gain, Make}
-use Rattle.machine.specs.declared.state.HandleSlot.{HandleSlot}
-use Rattle.machine.specs.declared.state.ThreadRow.{ThreadRow}
+use Rattle.state_rows.specs.declared.handle_slot.HandleSlot.{HandleSlot}
+use Rattle.state_rows.specs.declared.thread.ThreadRow.{ThreadRow}
 use Rattle.machine.specs.declared.state.State.{State}
 use Rattle.machine.specs.Rows.{table_of, thread_of, with_row}
-use Rattle.machine.specs.Handles.{slot_at, taken_slot, with_slot}
+use Rattle.state_rows.specs.HandleSlots.{slot_at}
+use Rattle.machine.specs.Handles.{taken_slot, with_slot}
 use Rattle.machine.specs.Moves.{moved, told, tables_gain, threads_gain, next_object, new_object}
 use Rattle.machine.specs.References.{same, thread_names, option_names, slot_names, count_of}
 use Rattle.machine.specs.Holding.{is_holder, same_pair}

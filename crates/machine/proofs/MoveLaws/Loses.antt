@@ -7,10 +7,11 @@ use Rattle.script_types.specs.declared.script.Script.{Script}
 use Rattle.entry_log.specs.declared.effect.Holder.{Holder}
 use Rattle.entry_log.specs.declared.effect.Holder.TheVariants.{InProcess, InThread, Temp, Link}
 use Rattle.machine.specs.declared.moves.Move.TheVariants.{Lose}
-use Rattle.machine.specs.declared.state.ThreadRow.{ThreadRow}
+use Rattle.state_rows.specs.declared.thread.ThreadRow.{ThreadRow}
 use Rattle.machine.specs.declared.state.State.{State}
 use Rattle.machine.specs.Rows.{table_of, thread_of, owed_of, with_row}
-use Rattle.machine.specs.Handles.{slot_at, freed_slot, with_slot}
+use Rattle.state_rows.specs.HandleSlots.{slot_at}
+use Rattle.machine.specs.Handles.{freed_slot, with_slot}
 use Rattle.machine.specs.Moves.{moved, told, tables_lose, threads_lose, link_of, link_of_row}
 use Rattle.machine.specs.References.{total, thread_names, option_names, slot_names, is_last, same}
 use Rattle.machine.specs.Holding.{is_holder, same_pair}

@@ -7,10 +7,10 @@ use Rattle.entry_log.specs.declared.effect.Holder.{Holder}
 use Rattle.entry_log.specs.declared.effect.Holder.TheVariants as holder
 use Rattle.state_rows.specs.declared.duty.Owed.{Owed}
 use Rattle.state_rows.specs.declared.duty.Owed.TheVariants.{Close, Sweep}
-use Rattle.machine.specs.declared.state.ThreadRow.{ThreadRow}
+use Rattle.state_rows.specs.declared.thread.ThreadRow.{ThreadRow}
 use Rattle.machine.specs.declared.state.State.{State}
 use Rattle.machine.specs.Rows.{thread_of}
-use Rattle.machine.specs.Handles.{fresh_slot}
+use Rattle.state_rows.specs.HandleSlots.{fresh_slot}
 use Rattle.machine.specs.References.{total, option_names, slot_names, thread_names, owed_names, kernel_names, count_of}
 use Rattle.machine.specs.WellFormed.{AreRows, weight}
 use Rattle.machine.proofs.Lists.Totals.{total_at_most}

@@ -15,9 +15,9 @@ use Rattle.script_types.specs.Shape.{HasRegisters, IsShaped}
 use Rattle.script_types.proofs.LimitLaws.{both, in_form, number_in}
 use Rattle.state_rows.specs.declared.deferred.DeferredRows.{DeferredRows}
 use Rattle.state_rows.specs.declared.duty.Owed.{Owed}
-use Rattle.machine.specs.declared.state.Role.{Role}
-use Rattle.machine.specs.declared.state.Role.TheVariants.{Supervisor, Queue, Declared}
-use Rattle.machine.specs.declared.state.ThreadRow.{ThreadRow}
+use Rattle.state_rows.specs.declared.thread.Role.{Role}
+use Rattle.state_rows.specs.declared.thread.Role.TheVariants.{Supervisor, Queue, Declared}
+use Rattle.state_rows.specs.declared.thread.ThreadRow.{ThreadRow}
 use Rattle.machine.specs.declared.task.Task.TheVariants.{Step}
 use Rattle.machine.specs.Task.{declared_of, instructions_in, instruction, is_returning, next_call, pay_or, return_or, run_or, step_or_end, task_of_row}
 

@@ -10,7 +10,7 @@ use Rattle.state_rows.specs.declared.duty.Owed.{Owed}
 use Rattle.state_rows.specs.declared.nano.NanoRows.{NanoRows}
 use Rattle.state_rows.specs.Nano.{suspend_count, critical_count, holder_of, held_by, want_of, is_protected, in_place_of, or_self, wanted_holder}
 use Rattle.state_rows.proofs.Soundness.{held_none}
-use Rattle.machine.specs.declared.state.ThreadRow.{ThreadRow}
+use Rattle.state_rows.specs.declared.thread.ThreadRow.{ThreadRow}
 use Rattle.machine.specs.declared.state.State.{State}
 use Rattle.machine.specs.Rows.{first_owed}
 use Rattle.machine.specs.Task.{instruction, is_returning, next_call, pay_or, return_or, run_or, step_or_end, task_of, task_of_row, is_wait, is_waiting, is_waiting_row, is_stopped, is_ready, is_able}

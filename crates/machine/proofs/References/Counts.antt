@@ -3,10 +3,11 @@ use Rattle.std.proofs.Common.{◌≡◌, ℕ, Bool, ◌+◌, ◌<◌, List, [], 
 use Rattle.std.specs.Prelude.{slice_set, option_map, is_some, if◌then◌else◌, drop}
 use Rattle.sym_base.specs.declared.number.ObjNo.{ObjNo}
 use Rattle.state_rows.specs.declared.duty.Owed.{Owed}
-use Rattle.machine.specs.declared.state.HandleSlot.{HandleSlot}
-use Rattle.machine.specs.declared.state.ThreadRow.{ThreadRow}
+use Rattle.state_rows.specs.declared.handle_slot.HandleSlot.{HandleSlot}
+use Rattle.state_rows.specs.declared.thread.ThreadRow.{ThreadRow}
 use Rattle.machine.specs.Rows.{with_row, owing}
-use Rattle.machine.specs.Handles.{with_slot, fresh_slot, slot_at}
+use Rattle.machine.specs.Handles.{with_slot}
+use Rattle.state_rows.specs.HandleSlots.{fresh_slot, slot_at}
 use Rattle.machine.specs.Rows.{without_first}
 use Rattle.machine.specs.References.{total, slot_names, thread_names}
 use Rattle.machine.proofs.Lists.Totals.{total-set, total-append, total-with}

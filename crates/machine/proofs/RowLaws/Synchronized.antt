@@ -10,8 +10,8 @@ use Rattle.state_rows.specs.NanoChanges.{after_take, after_give, after_want}
 use Rattle.state_rows.specs.NanoSound.{AreNanoRows}
 use Rattle.state_rows.proofs.Soundness.{held_none}
 use Rattle.state_rows.proofs.SoundChanges.{set_item, was_holder, sound-take, sound-give, sound-want}
-use Rattle.machine.specs.declared.state.ThreadRow.{ThreadRow}
-use Rattle.machine.specs.declared.state.Waiting.TheVariants as waiting
+use Rattle.state_rows.specs.declared.thread.ThreadRow.{ThreadRow}
+use Rattle.state_rows.specs.declared.thread.Waiting.TheVariants as waiting
 use Rattle.machine.specs.Rows.{with_row}
 use Rattle.machine.specs.WellFormed.{IsHolder, AreSynchronized}
 use Rattle.machine.proofs.Holders.ThreadRows.{row-other}

@@ -4,9 +4,11 @@ use Rattle.std.specs.Prelude.{slice_set, ◌==◌, is_none, if◌then◌else◌}
 use Rattle.std.proofs.lemmas.Bool.{eq-eqb, cases_eq}
 use Rattle.std.proofs.lemmas.List.{length-set, get_or-set_same, get_or-set_other}
 use Rattle.sym_base.specs.declared.number.ObjNo.{ObjNo}
-use Rattle.machine.specs.declared.state.HandleSlot.{HandleSlot}
-use Rattle.machine.specs.Handles.{free_index, is_full, slot_at, fresh_slot, with_slot, taken_slot, freed_slot, object_in}
-use Rattle.machine.specs.WellFormed.{IsTable, AreTables}
+use Rattle.state_rows.specs.declared.handle_slot.HandleSlot.{HandleSlot}
+use Rattle.state_rows.specs.HandleSlots.{free_index, is_full, slot_at, fresh_slot}
+use Rattle.machine.specs.Handles.{with_slot, taken_slot, freed_slot, object_in}
+use Rattle.state_rows.specs.HandleSlots.{IsTable}
+use Rattle.machine.specs.WellFormed.{AreTables}
 use Rattle.machine.proofs.Lists.Sets.{set_keeps}
 
 -- a change of a slot that leaves the instance small

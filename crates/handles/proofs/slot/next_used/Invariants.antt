@@ -1,5 +1,5 @@
 use Rattle.std.proofs.Common.{◌≡◌, drop}
-use Rattle.handles.specs.Slots.{first_used, next_used}
+use Rattle.handles.specs.Used.{first_used, next_used}
 use Rattle.handles.proofs.slot.next_used.Given as goal
 
 abbrev pub invariant-loop-index : goal.invariant-loop-index

@@ -1,6 +1,6 @@
 use Rattle.std.proofs.Common.{◌≡◌, map, replicate, take}
 use Rattle.sym_base.specs.declared.limits.TheConstants.Limits.{HANDLES}
-use Rattle.machine.specs.Handles.{fresh_slot}
+use Rattle.state_rows.specs.HandleSlots.{fresh_slot}
 use Rattle.kcore.proofs.boot.fresh_handles.Given as goal
 
 abbrev pub invariant-loop-born : goal.invariant-loop-born

@@ -1,6 +1,6 @@
 use Rattle.std.proofs.Common.{refl}
 use Rattle.machine.specs.Moves.{with_found, with_part, with_register, with_waiting, with_priority}
-use Rattle.machine.specs.declared.state.Waiting.TheVariants as waiting
+use Rattle.state_rows.specs.declared.thread.Waiting.TheVariants as waiting
 use Rattle.kernel_tables.proofs.Noting.{noted_row}
 use Rattle.kernel_tables.proofs.FirstCount.{nano_counts, request_counts}
 use Rattle.kernel_tables.proofs.moves.make_move.Goals as goal

@@ -1,6 +1,6 @@
 use Rattle.std.proofs.Common.{◌≡◌, ◌++◌, drop, map, replicate}
 use Rattle.machine.specs.declared.boot.Born.{Born}
-use Rattle.machine.specs.Handles.{fresh_slot}
+use Rattle.state_rows.specs.HandleSlots.{fresh_slot}
 use Rattle.machine.proofs.boot.fresh_tables.Given as goal
 
 abbrev pub invariant-loop-born : goal.invariant-loop-born

@@ -1,6 +1,6 @@
 use Rattle.std.proofs.Common.{◌≡◌, ◌<◌, ap, sym, ◌∙◌, refl, arith, length}
 use Rattle.handles.specs.HandleTable.{HandleTable}
-use Rattle.handles.specs.Slots.{free_index}
+use Rattle.state_rows.specs.HandleSlots.{free_index}
 use Rattle.handles.proofs.Places.{count_full, count_free, kept_set}
 use Rattle.handles.proofs.table.Handles.add.Goals as goal
 

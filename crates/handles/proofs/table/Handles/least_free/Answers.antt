@@ -1,6 +1,6 @@
 use Rattle.std.proofs.Common.{ap, sym, ◌∙◌}
 use Rattle.handles.specs.HandleTable.{HandleTable}
-use Rattle.handles.specs.Slots.{free_index}
+use Rattle.state_rows.specs.HandleSlots.{free_index}
 use Rattle.handles.proofs.Places.{free_index_marked}
 use Rattle.handles.proofs.table.Handles.least_free.Goals as goal
 

@@ -1,6 +1,6 @@
 use Rattle.std.proofs.Common.{List, ap}
 use Rattle.handles.specs.HandleTable.{HandleTable}
-use Rattle.handles.specs.declared.slot.HandleSlot.{HandleSlot}
+use Rattle.state_rows.specs.declared.handle_slot.HandleSlot.{HandleSlot}
 use Rattle.handles.proofs.Places.{kept_fresh}
 use Rattle.handles.proofs.table.Handles.new.Goals as goal
 

@@ -1,8 +1,8 @@
 use Rattle.std.proofs.Common.{◌≡◌, ℕ, ◌<◌, List, Option, ap, sym, ◌∙◌, arith, length, is_some, true}
 use Rattle.std.proofs.lemmas.List.{get_or_read}
 use Rattle.sym_base.specs.declared.number.ObjNo.{ObjNo}
-use Rattle.handles.specs.declared.slot.HandleSlot.{HandleSlot}
-use Rattle.handles.specs.Slots.{look, fresh_slot}
+use Rattle.state_rows.specs.declared.handle_slot.HandleSlot.{HandleSlot}
+use Rattle.state_rows.specs.HandleSlots.{look, fresh_slot}
 use Rattle.handles.proofs.Places.{kept_set, look_inside}
 use Rattle.handles.proofs.table.Handles.remove.Goals as goal
 

@@ -1,5 +1,5 @@
 use Rattle.std.proofs.Common.{◌∙◌, ◌++◌, ◌∷◌, []}
-use Rattle.kern_sync.specs.KernelLocks.{waiters_at}
+use Rattle.state_rows.specs.Locks.{waiters_at}
 use Rattle.kern_sync.specs.Kept.{locks_of}
 use Rattle.kern_sync.proofs.Threads.{any_thread}
 use Rattle.kern_sync.proofs.Waiting.{waiter_added, waiters_alone}

@@ -1,6 +1,6 @@
 use Rattle.std.proofs.Common.{◌≡◌, ℕ, replicate, refl, rules}
 use Rattle.std.specs.Prelude.{Option, None}
-use Rattle.kern_sync.specs.declared.answers.Owner.{Owner}
+use Rattle.state_rows.specs.declared.locks.Owner.{Owner}
 use Rattle.kern_sync.proofs.Threads.{none_waiting}
 use Rattle.kern_sync.proofs.sync.KernSync.new.Goals as goal
 

@@ -1,5 +1,5 @@
 use Rattle.std.proofs.Common.{◌≤◌, sym, subst, arith}
-use Rattle.machine.specs.declared.state.HandleSlot.{HandleSlot}
+use Rattle.state_rows.specs.declared.handle_slot.HandleSlot.{HandleSlot}
 use Rattle.kernel_tables.proofs.LeastFree.{keeps_least, slot_few, table_put}
 use Rattle.kernel_tables.proofs.handles.Handles.free.Goals as goal
 

@@ -1,5 +1,5 @@
 use Rattle.std.proofs.Common.{◌≡◌, ◌≤◌, ap, ◌∙◌, sym, arith, length}
-use Rattle.machine.specs.Handles.{free_index}
+use Rattle.state_rows.specs.HandleSlots.{free_index}
 use Rattle.kernel_tables.proofs.LeastFree.{least_in_part, least_within}
 use Rattle.kernel_tables.proofs.handles.Handles.next.Goals as goal
 

@@ -1,11 +1,24 @@
-//! Who owns a mutex, and what the calls answer.
-use sym_base::ThreadNo;
+//! Rows of kernel mutexes and semaphores, and what their calls answer.
+use sym_base::{Items, ThreadNo};
+
+/// The greatest count of a semaphore. This project's own limit.
+pub const MAX_COUNT: u32 = 2_147_483_647;
 
 /// The owner of a mutex: the thread, and how often it holds the mutex, 1 or more.
 #[derive(Clone, Copy, Debug, PartialEq, Eq)]
 pub struct Owner {
     pub thread: ThreadNo,
     pub level: u64,
+}
+
+/// What the kernel keeps of mutexes and semaphores (Symbian OS Internals, the chapter on threads and processes), by
+/// object number: the owner of a mutex, the count of a semaphore, and the threads that wait for either, in order of
+/// waiting.
+#[derive(Drop)]
+pub struct LockRows {
+    pub owners: Items<Option<Owner>>,
+    pub counts: Items<u32>,
+    pub waiters: Items<Items<ThreadNo>>,
 }
 
 /// What locking a mutex answers.

@@ -1,7 +1,8 @@
 //! The row of a thread.
 ghost use Rattle.std.specs.Prelude.{◌≡◌};
-ghost use Rattle.procs.specs.Rows.{new_thread};
+ghost use Rattle.state_rows.specs.ThreadRows.{new_thread};
 
+use entry_log::Part;
 use sym_base::{Exit, ObjNo};
 
 /// The bytes of a process's memory. This project's own limit: the memory stands for the process's chunks.
@@ -9,6 +10,17 @@ pub const MEMORY: usize = 1_024;
 
 /// The registers of a thread, r0 to r7, and likewise its message numbers, m0 to m7. This project's own limit.
 pub const REGISTERS: usize = 8;
+
+/// What a thread carries out.
+#[derive(Clone, Copy)]
+pub enum Role {
+    /// The kernel's own thread, which serves queue 0 of deferred function calls.
+    Supervisor,
+    /// The thread of a queue of deferred function calls, of which the script declares the first as number 1.
+    Queue(u8),
+    /// The instructions of the thread that the script declares at this place, from 0.
+    Declared(u8),
+}
 
 /// How far the death of a thread is (Symbian OS Internals, the chapter on threads and processes, on exiting threads).
 /// That it goes by these four is this project's own rule.
@@ -29,11 +41,11 @@ pub enum Waiting {
     Nothing,
     /// A kernel mutex or semaphore.
     Lock(ObjNo),
-    /// Its own fast semaphore.
+    /// A signal of its fast semaphore.
     Fast,
-    /// Any signal of its request semaphore.
+    /// A signal of its request semaphore.
     Any,
-    /// The completion of this request status, 0 to 15.
+    /// A signal of its request semaphore, and the completion of this status, 0 to 15.
     Status(u8),
     /// The reply to its synchronous message.
     Reply,
@@ -43,26 +55,36 @@ pub enum Waiting {
     Away,
 }
 
-/// What the kernel keeps of a thread (Symbian OS Internals, the chapter on threads and processes).
+/// What the kernel keeps of a thread (Symbian OS Internals, the chapter on threads and processes). The registers and
+/// the stages of a death are this project's own.
 #[derive(Clone, Copy)]
 pub struct ThreadRow {
+    pub role: Role,
+    /// The process whose handles it uses.
     pub process: ObjNo,
+    /// Its reference to its process, until it is given up.
+    pub link: Option<ObjNo>,
     pub stage: Stage,
     /// None exactly where no exit is set.
     pub exit: Option<Exit>,
-    /// The exit that a doom noted while the thread was protected. None exactly where none is noted.
+    /// The exit that was noted while the thread was protected. None exactly where none is noted.
     pub noted: Option<Exit>,
-    /// 0 to 63.
+    /// 0 to 63, the greatest first.
     pub priority: u8,
     pub waiting: Waiting,
-    /// The number of instructions that are behind the thread.
-    pub place: u32,
-    /// What the steps of the present instruction found: an object, a handle or a number of bytes.
+    /// The number of instructions that are behind it.
+    pub next_instruction: u32,
+    /// The next step of its present instruction, None before the first.
+    pub part: Option<Part>,
+    /// What the steps of its present instruction found: the number of an object, of a handle, or of bytes that were
+    /// copied. The step to come says which.
     pub found: u32,
+    /// The object that its present instruction uses, to which it has a temporary reference.
+    pub uses: Option<ObjNo>,
     /// r0 to r7.
-    pub registers: [u32; 8],
+    pub registers: [u32; REGISTERS],
     /// m0 to m7.
-    pub messages: [u32; 8],
+    pub messages: [u32; REGISTERS],
 }
 
 impl ThreadRow {
@@ -71,16 +93,20 @@ impl ThreadRow {
         ensures { result ≡ new_thread process }
     {
         ThreadRow {
+            role: Role::Supervisor,
             process,
+            link: None,
             stage: Stage::Live,
             exit: None,
             noted: None,
             priority: 0,
             waiting: Waiting::Nothing,
-            place: 0,
+            next_instruction: 0,
+            part: None,
             found: 0,
-            registers: [0; 8],
-            messages: [0; 8],
+            uses: None,
+            registers: [0; REGISTERS],
+            messages: [0; REGISTERS],
         }
     }
 }

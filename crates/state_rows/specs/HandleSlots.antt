@@ -3,8 +3,8 @@ use Rattle.std.specs.Prelude.{◌≡◌, ℕ, ◌+◌, ◌≤◌, Bool, ◌==◌
 use Rattle.std.specs.List.{slice_index_or}
 use Rattle.sym_base.specs.declared.number.ObjNo.{ObjNo}
 use Rattle.sym_base.specs.declared.limits.TheConstants.Limits.{HANDLES}
-use Rattle.handles.specs.declared.slot.HandleSlot.{HandleSlot}
-use Rattle.handles.specs.Number.{handle_number, index_of, next_instance}
+use Rattle.state_rows.specs.declared.handle_slot.HandleSlot.{HandleSlot}
+use Rattle.state_rows.specs.HandleNumbers.{handle_number, index_of, next_instance}
 
 -- a place that was never taken
 abbrev pub fresh_slot : HandleSlot
@@ -48,17 +48,3 @@ object_of local slot handle = if handle_number local (index_of handle) slot.inst
 -- the object that a handle names: none for a free place or another instance
 abbrev pub look : Bool → List HandleSlot → ℕ → Option ObjNo
 look local slots handle = object_of local (slot_at slots (index_of handle)) handle
-
--- the place of this index where it has an object, else what the later places give
-abbrev pub used_or : ℕ → Option ObjNo → Option (ℕ × ObjNo) → Option (ℕ × ObjNo)
-used_or index (Some object) later = Some (index, object)
-used_or index None later = later
-
--- the first place in use and its object, the first place of the list having this index
-abbrev pub first_used : ℕ → List HandleSlot → Option (ℕ × ObjNo)
-first_used index [] = None
-first_used index (slot ∷ later) = used_or index slot.object (first_used (index + 1) later)
-
--- the least index in use from one on, and the object there
-abbrev pub next_used : List HandleSlot → ℕ → Option (ℕ × ObjNo)
-next_used slots from = first_used from (drop from slots)

@@ -1,7 +1,7 @@
 //! The places of a handle table, and the numbers of their handles.
 ghost use Rattle.std.specs.Prelude.{◌≡◌, ◌<◌, ◌≤◌, length, IfSome};
-ghost use Rattle.handles.specs.Number.{handle_number, index_of, is_local, next_instance};
-ghost use Rattle.handles.specs.Slots.{look, next_used};
+ghost use Rattle.state_rows.specs.HandleNumbers.{handle_number, index_of, is_local, next_instance};
+ghost use Rattle.state_rows.specs.HandleSlots.{slot_at, free_index, look};
 
 use sym_base::{Limits, ObjNo};
 
@@ -57,6 +57,30 @@ pub fn handle_number(local: bool, index: usize, instance: u16) -> u32
     if local { number + LOCAL_BIT } else { number }
 }
 
+/// The slot of an index, a fresh one past the table's end.
+pub fn slot_at(slots: &[HandleSlot], index: usize) -> HandleSlot
+    ensures { result ≡ slot_at slots.now index }
+{
+    if index < slots.len() {
+        slots[index]
+    } else {
+        HandleSlot::FRESH
+    }
+}
+
+/// The least free index of a table, its length where no place is free.
+pub fn free_index(slots: &[HandleSlot]) -> usize
+    ensures least { result ≡ free_index slots.now }
+    ensures within { result ≤ length slots.now }
+{
+    for (index, slot) in slots.iter().enumerate() {
+        if slot.object.is_none() {
+            return index;
+        }
+    }
+    slots.len()
+}
+
 /// The index in a handle's number.
 pub fn index_of(handle: u32) -> usize
     ensures { result ≡ index_of handle }
@@ -83,17 +107,4 @@ pub fn look(local: bool, slots: &[HandleSlot], handle: u32) -> Option<ObjNo>
     } else {
         None
     }
-}
-
-/// The least index from `from` on whose place is in use, and the object there. None where there is none.
-pub fn next_used(slots: &[HandleSlot], from: usize) -> Option<(usize, ObjNo)>
-    ensures used { result ≡ next_used slots.now from }
-    ensures inside { IfSome result (λ used. used.0 < length slots.now) }
-{
-    for index in from..slots.len() {
-        if let Some(object) = slots[index].object {
-            return Some((index, object));
-        }
-    }
-    None
 }
