@@ -101,8 +101,12 @@ abbrev pub signal_answer : Option ObjNo → ℕ → Signalled
 signal_answer (Some t) count = Woke t
 signal_answer None count = if nat_lt count 2147483647 then Counted else Overflow
 
+-- a count that rises stands still at the greatest
+abbrev pub counted : ℕ → ℕ
+counted count = if nat_lt count 2147483647 then count + 1 else count
+
 abbrev pub count_after_signal : ℕ → Signalled → ℕ
-count_after_signal count Counted = count + 1
+count_after_signal count Counted = counted count
 count_after_signal count (Woke t) = count
 count_after_signal count Overflow = count
 
