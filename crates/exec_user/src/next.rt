@@ -42,7 +42,7 @@ fn goes_on(row: &ThreadRow) -> Next
 {
     match row.waiting {
         Waiting::Nothing => Next::Phase(phase_of(row.part)),
-        Waiting::Fast | Waiting::Any | Waiting::Status(_) => Next::Waits,
+        _ => Next::Waits,
     }
 }
 

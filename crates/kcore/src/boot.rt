@@ -21,16 +21,19 @@ ghost use Rattle.kernel_tables.specs.ReadyQueues.{AreReady};
 ghost use Rattle.kernel_tables.specs.StateOf.{state_of, with_ready};
 
 use cleanup::Cleanup;
-use kernel_tables::{CallQueues, Handles, ObjectTable, Tables};
+use handles::Handles;
+use kern_sync::KernSync;
+use kernel_tables::{CallQueues, ObjectTable, Tables};
 use machine::{Born, State, ThreadRow, all_born, count_of, row_of, state_at_boot};
 use nano_sync::NanoSync;
+use procs::Procs;
 use ready_list::ReadyList;
 use ref_words::RefWords;
 use requests::Requests;
 use script_types::Script;
 use state_rows::ObjectRow;
 use std::alloc::Global;
-use sym_base::{Items, Limits, NoMemory, ObjNo, ThreadNo};
+use sym_base::{Items, Kind, Limits, NoMemory, ObjNo, ThreadNo};
 
 /// An object with so many references, at least one.
 fn make_counted<W: RefWords + Drop>(objects: &mut ObjectTable<W>, row: &ObjectRow, count: u32)
@@ -77,8 +80,8 @@ fn fresh_handles(alloc: Global, all: &[Born]) -> Result<Items<Handles>, NoMemory
     ensures { IfOk result (λ tables. tables ≡ map (λ _. replicate HANDLES fresh_slot) all.now) }
 {
     let mut tables = Vec::new(alloc);
-    for _born in all {
-        tables.push(Handles::new(alloc)?)?;
+    for born in all {
+        tables.push(Handles::new(alloc, born.object.kind == Kind::Thread)?)?;
     }
     Ok(Items::new(tables))
 }
@@ -90,6 +93,39 @@ fn empty_lists(alloc: Global, all: &[Born]) -> Result<Cleanup, NoMemory>
     ensures uses { IfOk result (λ lists. lists.temporary ≡ replicate (length all.now) None) }
 {
     Cleanup::new(alloc, all.len() as u16, Limits::OBJECTS as u16)
+}
+
+/// Adds a thread with its row, or a process.
+fn add(procs: &mut Procs, number: ObjNo, row: Option<ThreadRow>) {
+    match row {
+        Some(row) => procs.add_row(number, row),
+        None => procs.add_process(number),
+    }
+}
+
+/// The threads' rows, and the processes' memories.
+fn procs_of(alloc: Global, threads: &[Option<ThreadRow>]) -> Result<Procs, NoMemory> {
+    let mut procs = Procs::new(alloc, threads.len() as u16)?;
+    for (number, row) in threads.iter().enumerate() {
+        add(&mut procs, ObjNo(number as u16), *row);
+    }
+    Ok(procs)
+}
+
+/// A thread has its priority among waiters too.
+fn rank(locks: &mut KernSync, thread: ThreadNo, row: &Option<ThreadRow>) {
+    if let Some(row) = row {
+        locks.set_priority(thread, row.priority);
+    }
+}
+
+/// Nobody owns or waits for anything, and each thread has its priority.
+fn locks_of(alloc: Global, threads: &[Option<ThreadRow>]) -> Result<KernSync, NoMemory> {
+    let mut locks = KernSync::new(alloc, Limits::OBJECTS as u16, Limits::BOOT_OBJECTS as u16)?;
+    for (number, row) in threads.iter().enumerate() {
+        rank(&mut locks, ObjNo(number as u16), row);
+    }
+    Ok(locks)
 }
 
 /// Suspends a thread once, where it is declared as held.
@@ -153,7 +189,7 @@ fn tables_of<W: RefWords + Drop>(
     script: &Script,
     all: &[Born],
     objects: ObjectTable<W>,
-    threads: Items<Option<ThreadRow>>,
+    threads: &[Option<ThreadRow>],
 ) -> Result<Tables<W>, NoMemory>
     requires shaped { IsShaped script.now }
     requires few { length all.now < 65536 }
@@ -171,10 +207,13 @@ fn tables_of<W: RefWords + Drop>(
     let nano = nano_of(alloc, script.fast, all)?;
     let deferred = CallQueues::new(alloc, script)?;
     let requests = requests_of(alloc, all)?;
+    let procs = procs_of(alloc, threads)?;
+    let locks = locks_of(alloc, threads)?;
     Ok(Tables {
         objects,
         handles,
-        threads,
+        procs,
+        locks,
         cleanup,
         nano,
         deferred,
@@ -199,6 +238,6 @@ pub fn boot<W: RefWords + Drop>(
     let state = state_at_boot(alloc, script)?;
     let objects = counted(alloc, words, all.as_slice(), &state)?;
     let ready = queues_of(alloc, &state)?;
-    let tables = tables_of(alloc, script, all.as_slice(), objects, state.threads)?;
+    let tables = tables_of(alloc, script, all.as_slice(), objects, state.threads.as_slice())?;
     Ok((tables, ready))
 }

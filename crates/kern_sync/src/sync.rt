@@ -235,6 +235,39 @@ impl KernSync {
         Some(ObjNo(node as u16))
     }
 
+    /// Who owns the mutex of a number. None also where the table isn't made for the number.
+    pub fn owner_at(&self, o: ObjNo) -> Option<Owner>
+        ensures { result ≡ owner_at self.now.rows o }
+    {
+        if (o.0 as usize) < self.owners.len() {
+            self.owner(o)
+        } else {
+            None
+        }
+    }
+
+    /// The count of the semaphore of a number, 0 also where the table isn't made for the number.
+    pub fn count_at(&self, o: ObjNo) -> u32
+        ensures { result ≡ count_at self.now.rows o }
+    {
+        if (o.0 as usize) < self.owners.len() {
+            self.count(o)
+        } else {
+            0
+        }
+    }
+
+    /// The waiter that is served next. None also where the table isn't made for the number.
+    pub fn best_at(&self, o: ObjNo) -> Option<ThreadNo>
+        ensures { result ≡ best_of self.now o }
+    {
+        if (o.0 as usize) < self.owners.len() {
+            self.best_waiter(o)
+        } else {
+            None
+        }
+    }
+
     /// Takes the waiter that is served next off its list.
     fn take_best(&mut self, o: ObjNo) -> Option<ThreadNo>
         requires { o.0 < length self.old.rows.owners }

@@ -11,7 +11,7 @@ use machine::Owed;
 use sym_base::{ObjNo, ThreadNo};
 
 /// A thread owes one thing more.
-fn owe(cleanup: &mut Cleanup, thread: ThreadNo, what: Owed)
+pub fn owe(cleanup: &mut Cleanup, thread: ThreadNo, what: Owed)
     requires { length (list_of cleanup.old.duties thread) + 1 ≤ 16 }
     ensures { cleanup.new ≡ with_duties cleanup.old (owing cleanup.old.duties thread (what ∷ [])) }
 {

@@ -4,7 +4,7 @@
 mod actions;
 mod call_queues;
 mod duties;
-mod handles;
+mod lock_moves;
 mod moves;
 mod nano_moves;
 mod object_table;
@@ -12,11 +12,11 @@ mod reading;
 mod ready;
 mod request_moves;
 mod tables;
+mod threads;
 mod uses;
 
 pub use actions::perform;
 pub use call_queues::CallQueues;
-pub use handles::Handles;
 pub use object_table::ObjectTable;
 pub use ready::{chosen, leave_along, turn};
 pub use tables::Tables;

@@ -11,12 +11,14 @@ ghost use Rattle.kernel_tables.specs.ObjectsView.{IsHeld};
 ghost use Rattle.kernel_tables.specs.StateOf.{state_of};
 
 use crate::duties::{drop_first_owed, owe_close, owe_use};
-use crate::handles::Handles;
+use crate::lock_moves::move_lock;
 use crate::nano_moves::move_nano;
 use crate::request_moves::move_request;
 use crate::tables::Tables;
+use crate::threads;
 use crate::uses::{note_end, note_gain, note_lost, use_of};
 use entry_log::Holder;
+use handles::Handles;
 use machine::{Move, Owed, Waiting};
 use ref_words::{Closed, RefWords};
 use sym_base::{Items, Kind, Name, ObjNo, ThreadNo};
@@ -26,10 +28,10 @@ fn gain_slot(tables: &mut Items<Handles>, holder: Holder, object: ObjNo)
     ensures { tables.new ≡ tables_gain holder object tables.old }
 {
     match holder {
-        Holder::InProcess(owner, index) | Holder::InThread(owner, index) => {
+        Holder::InProcess(owner, _) | Holder::InThread(owner, _) => {
             let at = owner.0 as usize;
             if at < tables.len() {
-                tables.get_mut(at).take(index, object);
+                let _ = tables.get_mut(at).add(object);
             }
         }
         _ => {}
@@ -44,7 +46,8 @@ fn lose_slot(tables: &mut Items<Handles>, holder: Holder)
         Holder::InProcess(owner, index) | Holder::InThread(owner, index) => {
             let at = owner.0 as usize;
             if at < tables.len() {
-                tables.get_mut(at).free(index);
+                let table = tables.get_mut(at);
+                let _ = table.remove(table.number_at(index));
             }
         }
         _ => {}
@@ -60,7 +63,7 @@ fn make<W: RefWords + Drop>(tables: &mut Tables<W>, kind: Kind, name: Name, hold
     let object = tables.objects.make(kind, &name);
     gain_slot(&mut tables.handles, holder, object);
     note_gain(&mut tables.cleanup, holder, object);
-    machine::threads_gain(&mut tables.threads, holder, object);
+    threads::gain(&mut tables.procs, holder, object);
 }
 
 /// A holder gets a reference.
@@ -72,7 +75,7 @@ fn gain<W: RefWords + Drop>(tables: &mut Tables<W>, holder: Holder, object: ObjN
     tables.objects.add_ref(object);
     gain_slot(&mut tables.handles, holder, object);
     note_gain(&mut tables.cleanup, holder, object);
-    machine::threads_gain(&mut tables.threads, holder, object);
+    threads::gain(&mut tables.procs, holder, object);
 }
 
 /// A reference to an object with this link of its own goes. With the last one the object dies, and the thread
@@ -85,11 +88,11 @@ fn close<W: RefWords + Drop>(
 )
     requires held { IsHeld tables.old.objects object }
     requires places { length (list_of tables.old.cleanup.duties thread) + 2 ≤ 16 }
-    requires uses { AreNoted tables.old.cleanup tables.old.threads }
+    requires uses { AreNoted tables.old.cleanup tables.old.procs.threads }
     ensures { IsClosed thread object link tables.old tables.new }
 {
     let last = tables.objects.close_ref(object) == Closed::Last;
-    machine::threads_closed(&mut tables.threads, last, object);
+    threads::closed(&mut tables.procs, last, object);
     owe_close(&mut tables.cleanup, thread, last, object, link);
 }
 
@@ -101,8 +104,8 @@ fn lose<W: RefWords + Drop>(tables: &mut Tables<W>, thread: ThreadNo, holder: Ho
 {
     let link = link_of(tables, object);
     lose_slot(&mut tables.handles, holder);
-    note_lost(&mut tables.cleanup, &tables.threads, holder);
-    machine::threads_lose(&mut tables.threads, holder);
+    note_lost(&mut tables.cleanup, &tables.procs, holder);
+    threads::lose(&mut tables.procs, holder);
     close(tables, thread, object, link);
 }
 
@@ -110,19 +113,32 @@ fn lose<W: RefWords + Drop>(tables: &mut Tables<W>, thread: ThreadNo, holder: Ho
 fn link_of<W: RefWords + Drop>(tables: &Tables<W>, object: ObjNo) -> Option<ObjNo>
     ensures { result ≡ link_of_row (thread_of (state_of tables.now) object) }
 {
-    machine::row_of(&tables.threads, object)?.link
+    tables.procs.thread(object)?.link
 }
 
 /// The thread goes on to its next instruction, and owes the close of what it used.
 fn advance<W: RefWords + Drop>(tables: &mut Tables<W>, thread: ThreadNo)
     requires can { CanAdvance thread (state_of tables.old) }
-    requires uses { AreNoted tables.old.cleanup tables.old.threads }
+    requires uses { AreNoted tables.old.cleanup tables.old.procs.threads }
     ensures { (t : ObjNo) → IsMoved t (Move.Advance thread) tables.old tables.new }
 {
-    let uses = use_of(&tables.threads, thread);
-    note_end(&mut tables.cleanup, &tables.threads, thread);
-    machine::threads_advance(&mut tables.threads, thread);
+    let uses = use_of(&tables.procs, thread);
+    note_end(&mut tables.cleanup, &tables.procs, thread);
+    threads::advance(&mut tables.procs, thread);
     owe_use(&mut tables.cleanup, thread, uses);
+}
+
+/// A thread gets a priority, among the ready threads and among waiters.
+fn set_priority<W: RefWords + Drop>(tables: &mut Tables<W>, thread: ThreadNo, priority: u8)
+    requires can { CanMove thread (Move.SetPriority thread priority) (state_of tables.old) }
+    requires uses { AreNoted tables.old.cleanup tables.old.procs.threads }
+    ensures { (t : ObjNo) → IsMoved t (Move.SetPriority thread priority) tables.old tables.new }
+{
+    if tables.procs.thread(thread).is_none() {
+        return;
+    }
+    threads::set_priority(&mut tables.procs, thread, priority);
+    tables.locks.set_priority(thread, priority);
 }
 
 /// The thread pays a close that it owes.
@@ -144,11 +160,11 @@ fn pay_close<W: RefWords + Drop>(
 /// The thread removes the row of a dead object.
 fn pay_sweep<W: RefWords + Drop>(tables: &mut Tables<W>, thread: ThreadNo, object: ObjNo)
     requires can { CanMove thread (Move.Pay (Owed.Sweep object)) (state_of tables.old) }
-    requires uses { AreNoted tables.old.cleanup tables.old.threads }
+    requires uses { AreNoted tables.old.cleanup tables.old.procs.threads }
     ensures { IsMoved thread (Move.Pay (Owed.Sweep object)) tables.old tables.new }
 {
     tables.objects.sweep(object);
-    machine::set_row(&mut tables.threads, object, None);
+    tables.procs.remove_thread(object);
     drop_first_owed(&mut tables.cleanup, thread);
 }
 
@@ -174,25 +190,23 @@ pub fn make_move<W: RefWords + Drop>(tables: &mut Tables<W>, thread: ThreadNo, c
         Move::Make(kind, name, holder) => make(tables, kind, name, holder),
         Move::Gain(holder, object) => gain(tables, holder, object),
         Move::Lose(holder, object) => lose(tables, thread, holder, object),
-        Move::Find(other, object) => {
-            machine::threads_find(&mut tables.threads, other, object);
-        }
+        Move::Find(other, object) => threads::find(&mut tables.procs, other, object),
         Move::Miss(_) => {}
-        Move::GoOn(other, part) => machine::threads_go_on(&mut tables.threads, other, part),
+        Move::GoOn(other, part) => threads::go_on(&mut tables.procs, other, part),
         Move::Write(other, register, value) => {
-            machine::threads_write(&mut tables.threads, other, register, value);
+            threads::write(&mut tables.procs, other, register, value);
         }
         Move::Advance(other) => advance(tables, other),
-        Move::Wait(other, what) => machine::threads_wait(&mut tables.threads, other, what),
-        Move::Wake(other) => {
-            machine::threads_wait(&mut tables.threads, other, Waiting::Nothing);
-        }
-        Move::SetPriority(other, priority) => {
-            machine::threads_set_priority(&mut tables.threads, other, priority);
-        }
+        Move::Wait(other, what) => threads::wait(&mut tables.procs, other, what),
+        Move::Wake(other) => threads::wait(&mut tables.procs, other, Waiting::Nothing),
+        Move::SetPriority(other, priority) => set_priority(tables, other, priority),
         Move::Nano(change) => move_nano(&mut tables.nano, change),
         Move::Deferred(change) => tables.deferred.change(change),
         Move::Requests(change) => move_request(&mut tables.requests, change),
+        Move::Locks(change) => move_lock(tables, change),
+        Move::Fill(process, at, length, byte) => {
+            threads::fill(&mut tables.procs, process, at, length, byte);
+        }
         Move::Pay(what) => pay(tables, thread, what),
     }
 }

@@ -1,15 +1,38 @@
 //! What decisions read of the kernel's tables.
-ghost use Rattle.std.specs.Prelude.{◌≡◌, ◌<◌, ◌≤◌, None, IfSome};
+ghost use Rattle.std.specs.Prelude.{◌≡◌, ◌<◌, ◌≤◌, [], None, IfSome};
+ghost use Rattle.std.specs.List.{slice_index_or};
+ghost use Rattle.state_rows.specs.HandleSlots.{free_index};
 ghost use Rattle.kernel_tables.specs.Noted.{AreKept};
-ghost use Rattle.kernel_tables.specs.StateOf.{state_of};
+ghost use Rattle.kernel_tables.specs.StateOf.{slots_of, state_of};
 
 use crate::duties::first_owed;
 use crate::tables::Tables;
 use decisions::Reads;
-use machine::{FRESH_SLOT, HandleSlot, NewHandle, Owed, ThreadRow, thread_in};
+use handles::Handles;
+use machine::{NewHandle, Owed, ThreadRow};
 use ref_words::RefWords;
-use state_rows::{Item, ObjectRow, Request};
-use sym_base::{Kind, Name, ObjNo, ThreadNo};
+use state_rows::{HandleSlot, Item, ObjectRow, Owner, Request, is_local, look};
+use sym_base::{Items, Kind, Name, ObjNo, ThreadNo};
+
+/// The places of the handle table of a process or a thread, none where there is no such table.
+fn slots_of(handles: &Items<Handles>, owner: ObjNo) -> &[HandleSlot]
+    ensures { result.now ≡ slice_index_or (slots_of handles.now) owner.0 [] }
+{
+    match handles.as_slice().get(owner.0 as usize) {
+        Some(table) => table.slots(),
+        None => &[],
+    }
+}
+
+/// The least free index of the handle table of a process or a thread, the number of its places where none is free.
+fn free_index_of(handles: &Items<Handles>, owner: ObjNo) -> usize
+    ensures { result ≡ free_index (slice_index_or (slots_of handles.now) owner.0 []) }
+{
+    match handles.as_slice().get(owner.0 as usize) {
+        Some(table) => table.free_index(),
+        None => 0,
+    }
+}
 
 impl<W: RefWords + Drop> Reads for Tables<W> {
     ghost state = { λ tables. state_of tables };
@@ -21,29 +44,25 @@ impl<W: RefWords + Drop> Reads for Tables<W> {
     }
 
     fn thread(&self, thread: ThreadNo) -> Option<&ThreadRow> {
-        thread_in(&self.threads, thread)
+        self.procs.thread(thread)
     }
 
     fn first_owed(&self, thread: ThreadNo) -> Option<Owed> {
         first_owed(&self.cleanup, thread)
     }
 
-    fn slot(&self, owner: ObjNo, index: usize) -> HandleSlot {
-        let at = owner.0 as usize;
-        if at < self.handles.len() {
-            self.handles.as_slice()[at].slot(index)
-        } else {
-            FRESH_SLOT
-        }
+    fn handle(&self, owner: ObjNo, handle: u32) -> Option<ObjNo> {
+        look(is_local(handle), slots_of(&self.handles, owner), handle)
     }
 
-    fn next_handle(&self, owner: ObjNo) -> Option<NewHandle> {
-        let at = owner.0 as usize;
-        if at < self.handles.len() {
-            self.handles.as_slice()[at].next()
-        } else {
-            None
-        }
+    fn process_handle(&self, process: ObjNo) -> Option<NewHandle> {
+        let free = free_index_of(&self.handles, process);
+        machine::process_handle(process, slots_of(&self.handles, process), free)
+    }
+
+    fn thread_handle(&self, thread: ThreadNo) -> Option<NewHandle> {
+        let free = free_index_of(&self.handles, thread);
+        machine::thread_handle(thread, slots_of(&self.handles, thread), free)
     }
 
     fn is_taken(&self, kind: Kind, name: &Name) -> bool {
@@ -120,5 +139,21 @@ impl<W: RefWords + Drop> Reads for Tables<W> {
 
     fn request_signals(&self, thread: ThreadNo) -> u64 {
         self.requests.signal_count(thread)
+    }
+
+    fn lock_owner(&self, mutex: ObjNo) -> Option<Owner> {
+        self.locks.owner_at(mutex)
+    }
+
+    fn lock_count(&self, semaphore: ObjNo) -> u32 {
+        self.locks.count_at(semaphore)
+    }
+
+    fn best_waiter(&self, object: ObjNo) -> Option<ThreadNo> {
+        self.locks.best_at(object)
+    }
+
+    fn byte(&self, process: ObjNo, at: u16) -> u8 {
+        self.procs.byte_at(process, at)
     }
 }

@@ -17,7 +17,7 @@ ghost use Rattle.kernel_tables.specs.StateOf.{state_of};
 use crate::tables::Tables;
 use decisions::{is_ready, wanted_holder};
 use entry_log::Actor;
-use machine::{Move, TouchedThreads, row_of, touched};
+use machine::{Move, TouchedThreads, touched};
 use nano_sync::NanoSync;
 use ready_list::ReadyList;
 use ref_words::RefWords;
@@ -48,7 +48,7 @@ fn arrive<W: RefWords + Drop>(
     if !is_ready(script, tables, thread) {
         return;
     }
-    if let Some(row) = row_of(&tables.threads, thread) {
+    if let Some(row) = tables.procs.thread(thread) {
         ready.add(thread, row.priority);
     }
 }

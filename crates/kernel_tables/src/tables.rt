@@ -1,11 +1,12 @@
 //! The kernel's tables.
 
 use crate::call_queues::CallQueues;
-use crate::handles::Handles;
 use crate::object_table::ObjectTable;
 use cleanup::Cleanup;
-use machine::ThreadRow;
+use handles::Handles;
+use kern_sync::KernSync;
 use nano_sync::NanoSync;
+use procs::Procs;
 use ref_words::RefWords;
 use requests::Requests;
 use sym_base::Items;
@@ -16,14 +17,16 @@ pub struct Tables<W: RefWords> {
     pub objects: ObjectTable<W>,
     /// The handle table of each process and thread.
     pub handles: Items<Handles>,
-    /// The row of each thread, None at the number of a process.
-    pub threads: Items<Option<ThreadRow>>,
+    /// The row of each thread, and the memory of each process.
+    pub procs: Procs,
     /// What each thread owes, the oldest first, and what its death gives up.
     pub cleanup: Cleanup,
     /// Fast semaphores, fast mutexes, critical sections and suspension.
     pub nano: NanoSync,
     /// Deferred function calls, and the immediate ones.
     pub deferred: CallQueues,
+    /// Mutexes and semaphores, and the threads that wait for them.
+    pub locks: KernSync,
     /// Requests of devices, statuses and request semaphores.
     pub requests: Requests,
 }

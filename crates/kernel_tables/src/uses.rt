@@ -6,14 +6,14 @@ ghost use Rattle.kernel_tables.specs.Noted.{AreNoted, MayUse, with_use, use_gain
 
 use cleanup::{Cleanup, Held};
 use entry_log::Holder;
-use machine::ThreadRow;
-use sym_base::{Items, ObjNo, ThreadNo};
+use procs::Procs;
+use sym_base::{ObjNo, ThreadNo};
 
 /// The object that a thread's instruction uses.
-pub fn use_of(threads: &Items<Option<ThreadRow>>, thread: ThreadNo) -> Option<ObjNo>
-    ensures { result ≡ use_of_row (slice_index_or threads.now thread.0 None) }
+pub fn use_of(procs: &Procs, thread: ThreadNo) -> Option<ObjNo>
+    ensures { result ≡ use_of_row (slice_index_or procs.now.threads thread.0 None) }
 {
-    machine::row_of(threads, thread)?.uses
+    procs.thread(thread)?.uses
 }
 
 /// A thread's call uses an object from now on.
@@ -50,19 +50,19 @@ pub fn note_gain(cleanup: &mut Cleanup, holder: Holder, object: ObjNo)
 }
 
 /// A holder gives its reference up: where it is a thread's call, that uses nothing any more.
-pub fn note_lost(cleanup: &mut Cleanup, threads: &Items<Option<ThreadRow>>, holder: Holder)
-    requires { AreNoted cleanup.old threads.now }
+pub fn note_lost(cleanup: &mut Cleanup, procs: &Procs, holder: Holder)
+    requires { AreNoted cleanup.old procs.now.threads }
     ensures { cleanup.new ≡ use_lost holder cleanup.old }
 {
     if let Holder::Temp(thread) = holder {
-        end_use(cleanup, thread, use_of(threads, thread));
+        end_use(cleanup, thread, use_of(procs, thread));
     }
 }
 
 /// A thread's instruction is over, and uses nothing any more.
-pub fn note_end(cleanup: &mut Cleanup, threads: &Items<Option<ThreadRow>>, thread: ThreadNo)
-    requires { AreNoted cleanup.old threads.now }
+pub fn note_end(cleanup: &mut Cleanup, procs: &Procs, thread: ThreadNo)
+    requires { AreNoted cleanup.old procs.now.threads }
     ensures { cleanup.new ≡ with_use cleanup.old thread None }
 {
-    end_use(cleanup, thread, use_of(threads, thread));
+    end_use(cleanup, thread, use_of(procs, thread));
 }

@@ -64,6 +64,14 @@ impl Procs {
         self.threads[t.0 as usize] = Some(ThreadRow::new(process));
     }
 
+    /// Adds a thread with a row.
+    pub fn add_row(&mut self, t: ThreadNo, row: ThreadRow)
+        requires { IsFresh self.old t }
+        ensures { self.new ≡ with_row self.old t row }
+    {
+        self.threads[t.0 as usize] = Some(row);
+    }
+
     /// The row of a thread that was added.
     pub fn row(&self, t: ThreadNo) -> &ThreadRow
         requires { IsTrue (is_thread self.now t) }
@@ -84,6 +92,16 @@ impl Procs {
             self.threads[at].as_ref()
         } else {
             None
+        }
+    }
+
+    /// Removes the row of a thread. Where no thread of the number was added nothing changes.
+    pub fn remove_thread(&mut self, t: ThreadNo)
+        ensures { self.new ≡ record self.old { threads = slice_set self.old.threads t.0 None } }
+    {
+        let at = t.0 as usize;
+        if at < self.threads.len() {
+            self.threads[at] = None;
         }
     }
 
