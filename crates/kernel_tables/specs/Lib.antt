@@ -2,6 +2,8 @@ pub mod ObjectsView
 pub mod Counts
 pub mod StateOf
 pub mod Noted
+pub mod Referred
+pub mod LockMoved
 pub mod NanoMoved
 pub mod RequestMoved
 pub mod Moved

@@ -1,14 +1,17 @@
 -- Moves in the kernel's tables: when one can be made, and what it leaves.
 use Rattle.std.specs.Prelude.{◌≡◌, ℕ, ◌+◌, ◌-◌, ◌<◌, ◌≤◌, ◌==◌, Bool, false, List, [], ◌∷◌, length, IsTrue, Option, Some, None, slice_index, slice_set}
+use Rattle.std.specs.List.{slice_index_or}
 use Rattle.sym_base.specs.declared.limits.TheConstants.Limits.{OBJECTS, BOOT_OBJECTS}
 use Rattle.sym_base.specs.declared.kind.Kind.{Kind}
 use Rattle.sym_base.specs.declared.number.ObjNo.{ObjNo}
 use Rattle.entry_log.specs.declared.effect.Holder.{Holder}
-use Rattle.entry_log.specs.declared.effect.Holder.TheVariants.{Temp}
+use Rattle.entry_log.specs.declared.effect.Holder.TheVariants.{InProcess, InThread, Temp}
 use Rattle.state_rows.specs.declared.duty.Owed.TheVariants.{Close, Sweep}
+use Rattle.state_rows.specs.declared.handle_slot.HandleSlot.{HandleSlot}
+use Rattle.state_rows.specs.HandleSlots.{free_index}
 use Rattle.state_rows.specs.ObjectRows.{is_session, is_taken, is_dead_row}
 use Rattle.machine.specs.declared.moves.Move.{Move}
-use Rattle.machine.specs.declared.moves.Move.TheVariants.{Make, Gain, Lose, Find, Miss, GoOn, Write, Advance, Wait, Wake, SetPriority, Nano, Deferred, Requests, Pay}
+use Rattle.machine.specs.declared.moves.Move.TheVariants.{Make, Gain, Lose, Find, Miss, GoOn, Write, Advance, Wait, Wake, SetPriority, Nano, Deferred, Requests, Locks, Fill, Pay}
 use Rattle.machine.specs.declared.state.State.{State}
 use Rattle.state_rows.specs.declared.thread.ThreadRow.{ThreadRow}
 use Rattle.script_types.specs.declared.script.Script.{Script}
@@ -23,8 +26,10 @@ use Rattle.machine.specs.Task.{is_ready}
 use Rattle.kernel_tables.specs.declared.tables.Tables.{Tables}
 use Rattle.kernel_tables.specs.Counts.{CountsMove}
 use Rattle.kernel_tables.specs.NanoMoved.{CanNano}
-use Rattle.kernel_tables.specs.Noted.{AreNoted}
+use Rattle.kernel_tables.specs.LockMoved.{CanLock}
+use Rattle.kernel_tables.specs.Noted.{TiedTables}
 use Rattle.kernel_tables.specs.ObjectsView.{IsThere}
+use Rattle.kernel_tables.specs.Referred.{HasPlaces, IsReferred}
 use Rattle.kernel_tables.specs.RequestMoved.{CanRequest}
 use Rattle.kernel_tables.specs.StateOf.{state_of}
 
@@ -32,16 +37,6 @@ use Rattle.kernel_tables.specs.StateOf.{state_of}
 pub record IsNew (S : State) : Type 0 where
   pub room : length S.objects < OBJECTS
   pub fresh : count_of S (record { 0 = length S.objects }) ≡ 0
-
--- an object that isn't swept and has references, so many that one more may come
-pub record IsReferred (S : State) (o : ObjNo) : Type 0 where
-  pub there : IsThere (object_of S o)
-  pub known : 0 < count_of S o
-  pub few : count_of S o < 65536
-
--- a thread has places left for so many duties more
-abbrev pub HasPlaces : ℕ → State → ObjNo → Type 0
-HasPlaces n S t = length (owed_of S t) + n ≤ 16
 
 -- a thread with a row, whose call uses nothing
 pub record UsesNothing (x : Option ThreadRow) : Type 0 where
@@ -54,15 +49,29 @@ abbrev pub MayGain : State → Holder → Type 0
 MayGain S (Temp t) = UsesNothing (thread_of S t)
 MayGain S _ = Unit {0}
 
+-- a place of a handle table is the least free one
+abbrev pub IsLeast : List HandleSlot → ℕ → Type 0
+IsLeast slots i = (i < length slots) × (i ≡ free_index slots)
+
+-- a handle that comes gets the least free place
+abbrev pub TakesLeast : List (List HandleSlot) → Holder → Type 0
+TakesLeast tables (InProcess p i) = IsLeast (slice_index_or tables p.0 []) i
+TakesLeast tables (InThread t i) = IsLeast (slice_index_or tables t.0 []) i
+TakesLeast tables _ = Unit {0}
+
 -- an object can be made, a reference be added to an object that has some, and a thread go on
 abbrev pub CanMake : Kind → List ℕ → Holder → State → Type 0
-CanMake kind name h S = (is_session kind ≡ false) × (is_taken kind name S.objects ≡ false) × IsNew S × MayGain S h
+CanMake kind name h S = (is_session kind ≡ false) × (is_taken kind name S.objects ≡ false) × IsNew S × MayGain S h × TakesLeast S.handles h
 
 abbrev pub CanGain : Holder → ObjNo → State → Type 0
-CanGain h o S = IsReferred S o × MayGain S h
+CanGain h o S = IsReferred S o × MayGain S h × TakesLeast S.handles h
 
 abbrev pub CanAdvance : ObjNo → State → Type 0
 CanAdvance u S = MayAdvance 1 S.threads × HasPlaces 1 S u
+
+-- threads have the least numbers, and priorities below 64
+abbrev pub AreKnown : State → Type 0
+AreKnown S = (u : ObjNo) (row : ThreadRow) → thread_of S u ≡ Some row → (u.0 < BOOT_OBJECTS) × (row.priority < 64)
 
 -- when a move in an action of thread t can be made: a reference is taken from an object that has some; what is swept is
 -- dead, and no thread; and there is a place for what the thread owes then
@@ -73,23 +82,25 @@ CanMove t (Lose h o) S = IsReferred S o × HasPlaces 2 S t
 CanMove t (Find u o) S = Unit {0}
 CanMove t (Miss o) S = Unit {0}
 CanMove t (GoOn u part) S = Unit {0}
-CanMove t (Write u x value) S = Unit {0}
+CanMove t (Write u x value) S = x < 8
 CanMove t (Advance u) S = CanAdvance u S
 CanMove t (Wait u what) S = Unit {0}
 CanMove t (Wake u) S = Unit {0}
-CanMove t (SetPriority u priority) S = Unit {0}
+CanMove t (SetPriority u priority) S = AreKnown S
 CanMove t (Nano m) S = CanNano m S.nano
 CanMove t (Deferred m) S = FitsDeferred m S.deferred
 CanMove t (Requests m) S = CanRequest m S.requests
+CanMove t (Locks m) S = CanLock m S
+CanMove t (Fill p at length byte) S = at + length ≤ 1024
 CanMove t (Pay (Close h o)) S = IsReferred S o × HasPlaces 2 S t
 CanMove t (Pay (Sweep o)) S = IsTrue (is_dead_row (object_of S o)) × (thread_of S o ≡ None)
 
 -- A move of an action of thread t was made: the tables stand for the state that it leaves, the counts moved with what it
--- tells, and what threads use is noted.
+-- tells, and what is kept of threads is theirs.
 pub record IsMoved {W N : Type 0} (t : ObjNo) (m : Move) (old new : Tables W N) : Type 0 where
   pub state : state_of new ≡ moved t m (state_of old)
   pub counts : CountsMove old.objects.counts new.objects.counts (told m (state_of old))
-  pub uses : AreNoted new.cleanup new.threads
+  pub tied : TiedTables new
 
 -- what tables stand for once a reference of an object with this link went, the last or not: the object is dead then,
 -- its link is off its row, and thread t owes the close of the link, and then the sweep
@@ -104,11 +115,7 @@ closed last t o link S = record S {
 pub record IsClosed {W N : Type 0} (t o : ObjNo) (link : Option ObjNo) (old new : Tables W N) : Type 0 where
   pub state : state_of new ≡ closed (slice_index old.objects.counts o.0 == 1) t o link (state_of old)
   pub counts : new.objects.counts ≡ slice_set old.objects.counts o.0 (slice_index old.objects.counts o.0 - 1)
-  pub uses : AreNoted new.cleanup new.threads
-
--- threads have the least numbers, and priorities below 64
-abbrev pub AreKnown : State → Type 0
-AreKnown S = (u : ObjNo) (row : ThreadRow) → thread_of S u ≡ Some row → (u.0 < BOOT_OBJECTS) × (row.priority < 64)
+  pub tied : TiedTables new
 
 -- whether a move sets a thread's priority
 abbrev pub is_set : Move → ObjNo → Bool

@@ -1,12 +1,14 @@
 -- What is noted of threads for their deaths: what they owe, and what their calls use.
-use Rattle.std.specs.Prelude.{◌≡◌, List, map, Option, Some, None, slice_set}
+use Rattle.std.specs.Prelude.{◌≡◌, ℕ, List, length, map, Option, Some, None, slice_set}
 use Rattle.std.specs.List.{slice_index_or}
+use Rattle.sym_base.specs.declared.limits.TheConstants.Limits.{BOOT_OBJECTS, OBJECTS}
 use Rattle.sym_base.specs.declared.number.ObjNo.{ObjNo}
 use Rattle.entry_log.specs.declared.effect.Holder.{Holder}
 use Rattle.entry_log.specs.declared.effect.Holder.TheVariants.{Temp}
 use Rattle.state_rows.specs.declared.duty.Owed.{Owed}
 use Rattle.cleanup.specs.Lists.{Lists}
 use Rattle.state_rows.specs.declared.thread.ThreadRow.{ThreadRow}
+use Rattle.machine.specs.Choice.{priority_of_row}
 use Rattle.machine.specs.Moves.{use_of_row}
 use Rattle.kernel_tables.specs.declared.tables.Tables.{Tables}
 use Rattle.kernel_tables.specs.Counts.{Agrees}
@@ -38,8 +40,24 @@ MayUse s _ = Unit {0}
 abbrev pub AreNoted : Lists → List (Option ThreadRow) → Type 0
 AreNoted s threads = s.temporary ≡ map use_of_row threads
 
--- What the tables keep beside the rows is what the rows say: each count is the number of references, and what each thread
--- uses is noted for its death.
+-- the priorities by which waiters are served are those of the threads' rows
+abbrev pub AreRanked : List ℕ → List (Option ThreadRow) → Type 0
+AreRanked priorities threads = (u : ObjNo) → slice_index_or priorities u.0 0 ≡ priority_of_row (slice_index_or threads u.0 None)
+
+-- What is kept beside the rows of threads is what they say: what each uses is noted for its death, and its priority among waiters is its
+-- own. The lists have room for each object, and the priorities for each thread.
+pub record AreTied (temporary : List (Option ObjNo)) (objects : ℕ) (priorities : List ℕ) (threads : List (Option ThreadRow)) : Type 0 where
+  pub uses : temporary ≡ map use_of_row threads
+  pub ranks : AreRanked priorities threads
+  pub listed : objects ≡ OBJECTS
+  pub ranked : length priorities ≡ BOOT_OBJECTS
+
+-- the same of tables
+abbrev pub TiedTables : {W N : Type 0} → Tables W N → Type 0
+TiedTables tables = AreTied tables.cleanup.temporary tables.cleanup.objects tables.locks.priorities tables.procs.threads
+
+-- What the tables keep beside the rows is what the rows say: each count is the number of references, and what is kept of
+-- threads is theirs.
 pub record AreKept {W N : Type 0} (tables : Tables W N) : Type 0 where
   pub counts : Agrees tables.objects.counts (state_of tables)
-  pub uses : AreNoted tables.cleanup tables.threads
+  pub tied : TiedTables tables

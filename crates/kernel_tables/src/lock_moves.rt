@@ -1,12 +1,21 @@
 //! Moves in the table of mutexes and semaphores.
-ghost use Rattle.std.specs.Prelude.{◌≡◌};
-ghost use Rattle.kernel_tables.specs.Moved.{CanMove, IsMoved};
+ghost use Rattle.std.specs.Prelude.{◌≡◌, ◌+◌, ◌<◌, ◌≤◌, ◌∷◌, [], length, slice_index, slice_set};
+ghost use Rattle.sym_base.specs.declared.number.ObjNo.{ObjNo};
+ghost use Rattle.entry_log.specs.declared.effect.Holder.TheVariants as holder;
+ghost use Rattle.state_rows.specs.declared.duty.Owed.TheVariants as owed;
+ghost use Rattle.machine.specs.LockMoves.{holding, not_holding};
+ghost use Rattle.cleanup.specs.Lists.{list_of};
+ghost use Rattle.machine.specs.declared.lock_move.LockMove.{LockMove};
+ghost use Rattle.machine.specs.declared.moves.Move.TheVariants as Move;
+ghost use Rattle.machine.specs.Rows.{owing};
+ghost use Rattle.kernel_tables.specs.LockMoved.{CanGive, CanLock, CanTake};
+ghost use Rattle.kernel_tables.specs.Moved.{IsMoved};
 ghost use Rattle.kernel_tables.specs.Noted.{AreKept};
 ghost use Rattle.kernel_tables.specs.StateOf.{state_of};
 
 use crate::duties::owe;
 use crate::tables::Tables;
-use cleanup::Held;
+use cleanup::{Cleanup, Held};
 use entry_log::Holder;
 use machine::{LockMove, Owed};
 use ref_words::RefWords;
@@ -14,31 +23,56 @@ use state_rows::{Locked, Unlocked};
 use sym_base::{ObjNo, ThreadNo};
 
 /// A thread takes a mutex, and owns it.
-fn take<W: RefWords + Drop>(tables: &mut Tables<W>, thread: ThreadNo, mutex: ObjNo) {
+fn take<W: RefWords + Drop>(tables: &mut Tables<W>, thread: ThreadNo, mutex: ObjNo)
+    requires can { CanTake (state_of tables.old) tables.old.cleanup.mutexes thread mutex }
+    requires kept { AreKept tables.old }
+    ensures lists { tables.new.cleanup ≡ record tables.old.cleanup { mutexes = holding tables.old.cleanup.mutexes thread mutex } }
+    ensures rows { tables.new.objects.rows ≡ tables.old.objects.rows }
+    ensures counts { tables.new.objects.counts ≡ slice_set tables.old.objects.counts mutex.0 (slice_index tables.old.objects.counts mutex.0 + 1) }
+    ensures rest { tables.new ≡ record tables.old { cleanup = tables.new.cleanup; objects = tables.new.objects } }
+{
     tables.cleanup.push(thread, Held::Mutex(mutex));
     tables.objects.add_ref(mutex);
 }
 
 /// A thread gives a mutex up, and owes the close of its ownership.
-fn give<W: RefWords + Drop>(tables: &mut Tables<W>, thread: ThreadNo, mutex: ObjNo) {
-    tables.cleanup.remove(thread, Held::Mutex(mutex));
+fn give(cleanup: &mut Cleanup, thread: ThreadNo, mutex: ObjNo)
+    requires thread { thread.0 < cleanup.old.threads }
+    requires object { mutex.0 < cleanup.old.objects }
+    requires places { length (list_of cleanup.old.duties thread) + 1 ≤ 16 }
+    ensures { cleanup.new ≡ record cleanup.old { mutexes = not_holding cleanup.old.mutexes thread mutex; duties = owing cleanup.old.duties thread (owed.Close (holder.Own thread) mutex ∷ []) } }
+{
+    cleanup.remove(thread, Held::Mutex(mutex));
     let close = Owed::Close(Holder::Own(thread), mutex);
-    owe(&mut tables.cleanup, thread, close);
+    owe(cleanup, thread, close);
 }
 
 /// A thread locks a mutex.
-fn lock<W: RefWords + Drop>(tables: &mut Tables<W>, mutex: ObjNo, thread: ThreadNo) {
+fn lock<W: RefWords + Drop>(tables: &mut Tables<W>, mutex: ObjNo, thread: ThreadNo, locked: Locked)
+    requires can { CanLock (LockMove.Lock mutex thread locked) (state_of tables.old) }
+    requires kept { AreKept tables.old }
+    ensures { (t : ObjNo) → IsMoved t (Move.Locks (LockMove.Lock mutex thread locked)) tables.old tables.new }
+{
     if tables.locks.lock(mutex, thread) == Locked::Taken {
         take(tables, thread, mutex);
     }
 }
 
 /// A thread unlocks a mutex.
-fn unlock<W: RefWords + Drop>(tables: &mut Tables<W>, mutex: ObjNo, thread: ThreadNo) {
+fn unlock<W: RefWords + Drop>(
+    tables: &mut Tables<W>,
+    mutex: ObjNo,
+    thread: ThreadNo,
+    unlocked: Unlocked,
+)
+    requires can { CanLock (LockMove.Unlock mutex thread unlocked) (state_of tables.old) }
+    requires kept { AreKept tables.old }
+    ensures { (t : ObjNo) → IsMoved t (Move.Locks (LockMove.Unlock mutex thread unlocked)) tables.old tables.new }
+{
     match tables.locks.unlock(mutex, thread) {
-        Unlocked::Freed => give(tables, thread, mutex),
+        Unlocked::Freed => give(&mut tables.cleanup, thread, mutex),
         Unlocked::Passed(waiter) => {
-            give(tables, thread, mutex);
+            give(&mut tables.cleanup, thread, mutex);
             take(tables, waiter, mutex);
         }
         Unlocked::Level | Unlocked::NotOwner => {}
@@ -46,13 +80,17 @@ fn unlock<W: RefWords + Drop>(tables: &mut Tables<W>, mutex: ObjNo, thread: Thre
 }
 
 /// One move in the table.
-pub fn move_lock<W: RefWords + Drop>(tables: &mut Tables<W>, change: LockMove) {
+pub fn move_lock<W: RefWords + Drop>(tables: &mut Tables<W>, change: LockMove)
+    requires can { CanLock change (state_of tables.old) }
+    requires kept { AreKept tables.old }
+    ensures { (t : ObjNo) → IsMoved t (Move.Locks change) tables.old tables.new }
+{
     match change {
         LockMove::Start(semaphore, count) => {
             tables.locks.new_row(semaphore, Some(count as i32));
         }
-        LockMove::Lock(mutex, thread, _) => lock(tables, mutex, thread),
-        LockMove::Unlock(mutex, thread, _) => unlock(tables, mutex, thread),
+        LockMove::Lock(mutex, thread, locked) => lock(tables, mutex, thread, locked),
+        LockMove::Unlock(mutex, thread, unlocked) => unlock(tables, mutex, thread, unlocked),
         LockMove::WaitOn(semaphore, thread) => {
             let _ = tables.locks.sem_wait(semaphore, thread);
         }

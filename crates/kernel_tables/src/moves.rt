@@ -5,17 +5,20 @@ ghost use Rattle.machine.specs.Moves.{tables_gain, tables_lose, link_of_row};
 ghost use Rattle.machine.specs.Handles.{with_slot, taken_slot, freed_slot};
 ghost use Rattle.machine.specs.Rows.{thread_of};
 ghost use Rattle.cleanup.specs.Lists.{list_of};
-ghost use Rattle.kernel_tables.specs.Noted.{AreKept, AreNoted};
-ghost use Rattle.kernel_tables.specs.Moved.{CanMake, CanGain, CanAdvance, CanMove, IsMoved, IsClosed};
+ghost use Rattle.kernel_tables.specs.Noted.{AreKept, TiedTables};
+ghost use Rattle.kernel_tables.specs.Moved.{CanMake, CanGain, CanAdvance, CanMove, IsMoved, IsClosed, TakesLeast};
 ghost use Rattle.kernel_tables.specs.ObjectsView.{IsHeld};
-ghost use Rattle.kernel_tables.specs.StateOf.{state_of};
+ghost use Rattle.kernel_tables.specs.StateOf.{slots_of, state_of};
 
 use crate::duties::{drop_first_owed, owe_close, owe_use};
 use crate::lock_moves::move_lock;
 use crate::nano_moves::move_nano;
 use crate::request_moves::move_request;
 use crate::tables::Tables;
-use crate::threads;
+use crate::threads::{
+    fill, threads_advance, threads_closed, threads_find, threads_gain, threads_go_on, threads_lose,
+    threads_set_priority, threads_wait, threads_write,
+};
 use crate::uses::{note_end, note_gain, note_lost, use_of};
 use entry_log::Holder;
 use handles::Handles;
@@ -25,7 +28,8 @@ use sym_base::{Items, Kind, Name, ObjNo, ThreadNo};
 
 /// A holder gets a reference: where it is a handle, that stands in its slot.
 fn gain_slot(tables: &mut Items<Handles>, holder: Holder, object: ObjNo)
-    ensures { tables.new ≡ tables_gain holder object tables.old }
+    requires { TakesLeast (slots_of tables.old) holder }
+    ensures { slots_of tables.new ≡ tables_gain holder object (slots_of tables.old) }
 {
     match holder {
         Holder::InProcess(owner, _) | Holder::InThread(owner, _) => {
@@ -40,7 +44,7 @@ fn gain_slot(tables: &mut Items<Handles>, holder: Holder, object: ObjNo)
 
 /// A holder gives its reference up: where it is a handle, that goes.
 fn lose_slot(tables: &mut Items<Handles>, holder: Holder)
-    ensures { tables.new ≡ tables_lose holder tables.old }
+    ensures { slots_of tables.new ≡ tables_lose holder (slots_of tables.old) }
 {
     match holder {
         Holder::InProcess(owner, index) | Holder::InThread(owner, index) => {
@@ -63,7 +67,7 @@ fn make<W: RefWords + Drop>(tables: &mut Tables<W>, kind: Kind, name: Name, hold
     let object = tables.objects.make(kind, &name);
     gain_slot(&mut tables.handles, holder, object);
     note_gain(&mut tables.cleanup, holder, object);
-    threads::gain(&mut tables.procs, holder, object);
+    threads_gain(&mut tables.procs, holder, object);
 }
 
 /// A holder gets a reference.
@@ -75,7 +79,7 @@ fn gain<W: RefWords + Drop>(tables: &mut Tables<W>, holder: Holder, object: ObjN
     tables.objects.add_ref(object);
     gain_slot(&mut tables.handles, holder, object);
     note_gain(&mut tables.cleanup, holder, object);
-    threads::gain(&mut tables.procs, holder, object);
+    threads_gain(&mut tables.procs, holder, object);
 }
 
 /// A reference to an object with this link of its own goes. With the last one the object dies, and the thread
@@ -88,11 +92,11 @@ fn close<W: RefWords + Drop>(
 )
     requires held { IsHeld tables.old.objects object }
     requires places { length (list_of tables.old.cleanup.duties thread) + 2 ≤ 16 }
-    requires uses { AreNoted tables.old.cleanup tables.old.procs.threads }
+    requires tied { TiedTables tables.old }
     ensures { IsClosed thread object link tables.old tables.new }
 {
     let last = tables.objects.close_ref(object) == Closed::Last;
-    threads::closed(&mut tables.procs, last, object);
+    threads_closed(&mut tables.procs, last, object);
     owe_close(&mut tables.cleanup, thread, last, object, link);
 }
 
@@ -105,7 +109,7 @@ fn lose<W: RefWords + Drop>(tables: &mut Tables<W>, thread: ThreadNo, holder: Ho
     let link = link_of(tables, object);
     lose_slot(&mut tables.handles, holder);
     note_lost(&mut tables.cleanup, &tables.procs, holder);
-    threads::lose(&mut tables.procs, holder);
+    threads_lose(&mut tables.procs, holder);
     close(tables, thread, object, link);
 }
 
@@ -119,25 +123,25 @@ fn link_of<W: RefWords + Drop>(tables: &Tables<W>, object: ObjNo) -> Option<ObjN
 /// The thread goes on to its next instruction, and owes the close of what it used.
 fn advance<W: RefWords + Drop>(tables: &mut Tables<W>, thread: ThreadNo)
     requires can { CanAdvance thread (state_of tables.old) }
-    requires uses { AreNoted tables.old.cleanup tables.old.procs.threads }
+    requires tied { TiedTables tables.old }
     ensures { (t : ObjNo) → IsMoved t (Move.Advance thread) tables.old tables.new }
 {
     let uses = use_of(&tables.procs, thread);
     note_end(&mut tables.cleanup, &tables.procs, thread);
-    threads::advance(&mut tables.procs, thread);
+    threads_advance(&mut tables.procs, thread);
     owe_use(&mut tables.cleanup, thread, uses);
 }
 
 /// A thread gets a priority, among the ready threads and among waiters.
 fn set_priority<W: RefWords + Drop>(tables: &mut Tables<W>, thread: ThreadNo, priority: u8)
     requires can { CanMove thread (Move.SetPriority thread priority) (state_of tables.old) }
-    requires uses { AreNoted tables.old.cleanup tables.old.procs.threads }
+    requires tied { TiedTables tables.old }
     ensures { (t : ObjNo) → IsMoved t (Move.SetPriority thread priority) tables.old tables.new }
 {
     if tables.procs.thread(thread).is_none() {
         return;
     }
-    threads::set_priority(&mut tables.procs, thread, priority);
+    threads_set_priority(&mut tables.procs, thread, priority);
     tables.locks.set_priority(thread, priority);
 }
 
@@ -160,7 +164,7 @@ fn pay_close<W: RefWords + Drop>(
 /// The thread removes the row of a dead object.
 fn pay_sweep<W: RefWords + Drop>(tables: &mut Tables<W>, thread: ThreadNo, object: ObjNo)
     requires can { CanMove thread (Move.Pay (Owed.Sweep object)) (state_of tables.old) }
-    requires uses { AreNoted tables.old.cleanup tables.old.procs.threads }
+    requires tied { TiedTables tables.old }
     ensures { IsMoved thread (Move.Pay (Owed.Sweep object)) tables.old tables.new }
 {
     tables.objects.sweep(object);
@@ -190,22 +194,22 @@ pub fn make_move<W: RefWords + Drop>(tables: &mut Tables<W>, thread: ThreadNo, c
         Move::Make(kind, name, holder) => make(tables, kind, name, holder),
         Move::Gain(holder, object) => gain(tables, holder, object),
         Move::Lose(holder, object) => lose(tables, thread, holder, object),
-        Move::Find(other, object) => threads::find(&mut tables.procs, other, object),
+        Move::Find(other, object) => threads_find(&mut tables.procs, other, object),
         Move::Miss(_) => {}
-        Move::GoOn(other, part) => threads::go_on(&mut tables.procs, other, part),
+        Move::GoOn(other, part) => threads_go_on(&mut tables.procs, other, part),
         Move::Write(other, register, value) => {
-            threads::write(&mut tables.procs, other, register, value);
+            threads_write(&mut tables.procs, other, register, value);
         }
         Move::Advance(other) => advance(tables, other),
-        Move::Wait(other, what) => threads::wait(&mut tables.procs, other, what),
-        Move::Wake(other) => threads::wait(&mut tables.procs, other, Waiting::Nothing),
+        Move::Wait(other, what) => threads_wait(&mut tables.procs, other, what),
+        Move::Wake(other) => threads_wait(&mut tables.procs, other, Waiting::Nothing),
         Move::SetPriority(other, priority) => set_priority(tables, other, priority),
         Move::Nano(change) => move_nano(&mut tables.nano, change),
         Move::Deferred(change) => tables.deferred.change(change),
         Move::Requests(change) => move_request(&mut tables.requests, change),
         Move::Locks(change) => move_lock(tables, change),
         Move::Fill(process, at, length, byte) => {
-            threads::fill(&mut tables.procs, process, at, length, byte);
+            fill(&mut tables.procs, process, at, length, byte);
         }
         Move::Pay(what) => pay(tables, thread, what),
     }

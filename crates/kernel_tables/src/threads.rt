@@ -21,7 +21,7 @@ fn set_use(procs: &mut Procs, thread: ThreadNo, uses: Option<ObjNo>)
 }
 
 /// A holder gets a reference: where it is a thread's call, that uses the object.
-pub fn gain(procs: &mut Procs, holder: Holder, object: ObjNo)
+pub fn threads_gain(procs: &mut Procs, holder: Holder, object: ObjNo)
     ensures { procs.new ≡ with_threads procs.old (threads_gain holder object procs.old.threads) }
 {
     if let Holder::Temp(thread) = holder {
@@ -30,7 +30,7 @@ pub fn gain(procs: &mut Procs, holder: Holder, object: ObjNo)
 }
 
 /// A holder gives its reference up: where it is a thread's call, that uses nothing any more.
-pub fn lose(procs: &mut Procs, holder: Holder)
+pub fn threads_lose(procs: &mut Procs, holder: Holder)
     ensures { procs.new ≡ with_threads procs.old (threads_lose holder procs.old.threads) }
 {
     if let Holder::Temp(thread) = holder {
@@ -39,7 +39,7 @@ pub fn lose(procs: &mut Procs, holder: Holder)
 }
 
 /// A reference to an object goes: with the last one its own link is taken off its row.
-pub fn closed(procs: &mut Procs, last: bool, object: ObjNo)
+pub fn threads_closed(procs: &mut Procs, last: bool, object: ObjNo)
     ensures { procs.new ≡ with_threads procs.old (threads_closed last object procs.old.threads) }
 {
     if last && procs.thread(object).is_some() {
@@ -48,7 +48,7 @@ pub fn closed(procs: &mut Procs, last: bool, object: ObjNo)
 }
 
 /// A thread found an object.
-pub fn find(procs: &mut Procs, thread: ThreadNo, object: ObjNo)
+pub fn threads_find(procs: &mut Procs, thread: ThreadNo, object: ObjNo)
     ensures { procs.new ≡ with_threads procs.old (with_row procs.old.threads thread (with_found object)) }
 {
     if procs.thread(thread).is_some() {
@@ -57,7 +57,7 @@ pub fn find(procs: &mut Procs, thread: ThreadNo, object: ObjNo)
 }
 
 /// A thread goes on to a step of its instruction.
-pub fn go_on(procs: &mut Procs, thread: ThreadNo, part: Part)
+pub fn threads_go_on(procs: &mut Procs, thread: ThreadNo, part: Part)
     ensures { procs.new ≡ with_threads procs.old (with_row procs.old.threads thread (with_part part)) }
 {
     if procs.thread(thread).is_some() {
@@ -66,7 +66,7 @@ pub fn go_on(procs: &mut Procs, thread: ThreadNo, part: Part)
 }
 
 /// A register of a thread gets a value.
-pub fn write(procs: &mut Procs, thread: ThreadNo, register: u8, value: u32)
+pub fn threads_write(procs: &mut Procs, thread: ThreadNo, register: u8, value: u32)
     requires { register < 8 }
     ensures { procs.new ≡ with_threads procs.old (with_row procs.old.threads thread (with_register register value)) }
 {
@@ -76,7 +76,7 @@ pub fn write(procs: &mut Procs, thread: ThreadNo, register: u8, value: u32)
 }
 
 /// A thread goes on to its next instruction.
-pub fn advance(procs: &mut Procs, thread: ThreadNo)
+pub fn threads_advance(procs: &mut Procs, thread: ThreadNo)
     requires { MayAdvance 1 procs.old.threads }
     ensures { procs.new ≡ with_threads procs.old (with_row procs.old.threads thread advanced) }
 {
@@ -91,7 +91,7 @@ pub fn advance(procs: &mut Procs, thread: ThreadNo)
 }
 
 /// A thread waits for this from now on.
-pub fn wait(procs: &mut Procs, thread: ThreadNo, what: Waiting)
+pub fn threads_wait(procs: &mut Procs, thread: ThreadNo, what: Waiting)
     ensures { procs.new ≡ with_threads procs.old (with_row procs.old.threads thread (with_waiting what)) }
 {
     if procs.thread(thread).is_some() {
@@ -100,7 +100,7 @@ pub fn wait(procs: &mut Procs, thread: ThreadNo, what: Waiting)
 }
 
 /// A thread gets a priority.
-pub fn set_priority(procs: &mut Procs, thread: ThreadNo, priority: u8)
+pub fn threads_set_priority(procs: &mut Procs, thread: ThreadNo, priority: u8)
     ensures { procs.new ≡ with_threads procs.old (with_row procs.old.threads thread (with_priority priority)) }
 {
     if procs.thread(thread).is_some() {
