@@ -1,2 +1,3 @@
 mod Marks
+pub mod Numbers
 pub mod Places

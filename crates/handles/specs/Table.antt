@@ -6,12 +6,16 @@ use Rattle.state_rows.specs.declared.handle_slot.HandleSlot.{HandleSlot}
 use Rattle.handles.specs.declared.table.Added.{Added}
 use Rattle.handles.specs.declared.table.Added.TheVariants.{Handle, Full}
 use Rattle.handles.specs.HandleTable.{HandleTable}
-use Rattle.state_rows.specs.HandleNumbers.{index_of}
+use Rattle.state_rows.specs.HandleNumbers.{handle_number, index_of}
 use Rattle.state_rows.specs.HandleSlots.{fresh_slot, slot_at, free_index, is_full, new_instance, new_handle, look}
 
 -- a table whose places were never taken
 abbrev pub no_handles : Bool → HandleTable
 no_handles local = record { local = local; slots = replicate HANDLES fresh_slot }
+
+-- the number of the handle at an index: of the last one there, where the place is free
+abbrev pub number_at : HandleTable → ℕ → ℕ
+number_at t index = handle_number t.local index (slot_at t.slots index).instance
 
 -- the answer of an adding
 abbrev pub add_answer : HandleTable → Added

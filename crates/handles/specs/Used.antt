@@ -1,5 +1,5 @@
 -- The places of a handle table that are in use.
-use Rattle.std.specs.Prelude.{ℕ, ◌+◌, ◌×◌, List, [], ◌∷◌, drop, Option, Some, None}
+use Rattle.std.specs.Prelude.{ℕ, ◌+◌, List, [], ◌∷◌, drop, Option, Some, None}
 use Rattle.sym_base.specs.declared.number.ObjNo.{ObjNo}
 use Rattle.state_rows.specs.declared.handle_slot.HandleSlot.{HandleSlot}
 

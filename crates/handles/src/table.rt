@@ -1,12 +1,13 @@
 //! One handle table, and its calls.
 ghost use Rattle.std.specs.Prelude.{◌≡◌, ◌≢◌, ℕ, false, ◌<◌, ◌≤◌, ◌↔◌, IfOk};
 ghost use Rattle.state_rows.specs.HandleNumbers.{index_of};
-ghost use Rattle.state_rows.specs.HandleSlots.{IsTable, free_index, is_full, handle_count, new_handle, look};
+ghost use Rattle.state_rows.specs.HandleSlots.{IsTable, slot_at, free_index, is_full, handle_count, new_handle, look};
 ghost use Rattle.handles.specs.Used.{next_used};
-ghost use Rattle.handles.specs.Table.{no_handles, add_answer, table_added, table_removed};
+ghost use Rattle.handles.specs.Table.{no_handles, number_at, add_answer, table_added, table_removed};
 
 use crate::free::FreePlaces;
-use crate::slot::{HandleSlot, handle_number, index_of, look, next_instance, next_used};
+use crate::used::next_used;
+use state_rows::{HandleSlot, handle_number, index_of, look, next_instance};
 use std::alloc::Global;
 use std::marker::Model;
 use sym_base::{Limits, NoMemory, ObjNo};
@@ -55,12 +56,28 @@ impl Handles {
         })
     }
 
+    /// The places of the table, by index.
+    pub fn slots(&self) -> &[HandleSlot]
+        ensures slots { result.now ≡ self.now.slots }
+        ensures table { IsTable self.now.slots }
+    {
+        &self.slots
+    }
+
+    /// The least free index, 256 where no place is free.
+    pub fn free_index(&self) -> usize
+        ensures least { result ≡ free_index self.now.slots }
+        ensures within { result ≤ Limits.HANDLES }
+    {
+        self.free.least()
+    }
+
     /// Whether no place is free.
     pub fn is_full(&self) -> bool
         ensures full { result ≡ is_full self.now.slots }
         ensures table { IsTable self.now.slots }
     {
-        self.least_free() == self.slots.len()
+        self.free_index() == self.slots.len()
     }
 
     /// The number that the next handle gets.
@@ -69,8 +86,18 @@ impl Handles {
         ensures handle { result ≡ new_handle self.now.local self.now.slots }
         ensures positive { result < 2147483648 }
     {
-        let index = self.least_free();
+        let index = self.free_index();
         handle_number(self.local, index, next_instance(self.slots[index].instance))
+    }
+
+    /// The number of the handle at an index, which has that of its place's last handle where the place is free.
+    pub fn number_at(&self, index: u8) -> u32
+        ensures number { result ≡ number_at self.now index }
+        ensures place { index_of result ≡ index }
+        ensures object { look self.now.local self.now.slots result ≡ (slot_at self.now.slots index).object }
+    {
+        let index = usize::from(index);
+        handle_number(self.local, index, self.slots[index].instance)
     }
 
     /// Adds a handle of an object at the least free place. `Full` comes exactly at 256 handles, and then nothing
@@ -81,7 +108,7 @@ impl Handles {
         ensures full { (result ≡ Added.Full) ↔ (handle_count self.old.slots ≡ Limits.HANDLES) }
         ensures found { (h : ℕ) → result ≡ Added.Handle h → look self.new.local self.new.slots h ≡ Some o }
     {
-        let index = self.least_free();
+        let index = self.free_index();
         if index == Limits::HANDLES {
             return Added::Full;
         }
@@ -123,13 +150,5 @@ impl Handles {
     {
         let (index, object) = next_used(&self.slots, from as usize)?;
         Some((index as u8, object))
-    }
-
-    /// The least free index, 256 where no place is free.
-    fn least_free(&self) -> usize
-        ensures least { result ≡ free_index self.now.slots }
-        ensures within { result ≤ Limits.HANDLES }
-    {
-        self.free.least()
     }
 }

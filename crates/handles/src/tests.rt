@@ -37,6 +37,9 @@ fn a_thread_has_256_handles(rt: HostRuntime) -> Result<(), Fail> {
     assert!(rt; !table.is_full());
     assert_eq!(rt; table.add(ObjNo(9)), Added::Handle(1_073_807_615));
     assert!(rt; table.is_full());
+    assert_eq!(rt; table.free_index(), 256);
+    assert_eq!(rt; table.slots().len(), 256);
+    assert_eq!(rt; table.number_at(255), 1_073_807_615);
     assert_eq!(rt; table.add(ObjNo(9)), Added::Full);
     assert_eq!(rt; table.look(1_073_807_615), Some(ObjNo(9)));
     assert_eq!(rt; table.look(65_791), None);

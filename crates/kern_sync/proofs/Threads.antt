@@ -7,16 +7,15 @@ use Rattle.std.proofs.lemmas.Bool.{cases_Bool}
 use Rattle.std.proofs.lemmas.List.{map-append, map-set}
 use Rattle.sym_base.specs.declared.number.ObjNo.{ObjNo}
 use Rattle.links.specs.Linked as nodes
-use Rattle.kern_sync.specs.KernelLocks.{holds}
-use Rattle.state_rows.specs.Locks.{without}
+use Rattle.state_rows.specs.Locks.{is_among, without}
 use Rattle.kern_sync.specs.Kept.{thread, queues_of}
 
 -- waiters hold the threads whose numbers their list holds
-holds_thread : (t : ObjNo) (xs : List ℕ) → holds t (map thread xs) ≡ nodes.holds t.0 xs
+holds_thread : (t : ObjNo) (xs : List ℕ) → is_among t (map thread xs) ≡ nodes.holds t.0 xs
 holds_thread t [] = refl
 holds_thread t (x ∷ xs) = rw (holds_thread t xs) refl
 
-pub any_thread : (t : ObjNo) (lists : List (List ℕ)) → list_any (holds t) (queues_of lists) ≡ list_any (nodes.holds t.0) lists
+pub any_thread : (t : ObjNo) (lists : List (List ℕ)) → list_any (is_among t) (queues_of lists) ≡ list_any (nodes.holds t.0) lists
 any_thread t [] = refl
 any_thread t (list ∷ lists) = rw (holds_thread t list, any_thread t lists) refl
 
@@ -54,7 +53,7 @@ option_thread t None is = absurd (cc)
 option_thread t (Some node) is = let same : t ≡ thread node = cc in rw same refl
 
 -- a thread that waits nowhere leaves nothing behind
-without_absent : (t : ObjNo) (queue : List ObjNo) → holds t queue ≡ false → without t queue ≡ queue
+without_absent : (t : ObjNo) (queue : List ObjNo) → is_among t queue ≡ false → without t queue ≡ queue
 without_absent t [] absent = refl
 without_absent t (x ∷ rest) absent =
     elim (cases_Bool (eqb x.0 t.0)) [
@@ -62,10 +61,10 @@ without_absent t (x ∷ rest) absent =
       | inr other ↦ rw other (ap (λ (q : List ObjNo). x ∷ q) (without_absent t rest (rw other at absent)))
     ]
 
-pub all_without_absent : (t : ObjNo) (queues : List (List ObjNo)) → list_any (holds t) queues ≡ false → map (without t) queues ≡ queues
+pub all_without_absent : (t : ObjNo) (queues : List (List ObjNo)) → list_any (is_among t) queues ≡ false → map (without t) queues ≡ queues
 all_without_absent t [] absent = refl
 all_without_absent t (queue ∷ queues) absent =
-    elim (cases_Bool (holds t queue)) [
+    elim (cases_Bool (is_among t queue)) [
       | inl held ↦ let no : true ≡ false = rw held at absent in absurd (cc)
       | inr unheld ↦ rw (without_absent t queue unheld, all_without_absent t queues (rw unheld at absent)) refl
     ]

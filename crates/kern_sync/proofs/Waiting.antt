@@ -9,11 +9,11 @@ use Rattle.sym_base.proofs.Greatest.{greatest_map, is_first_of_greatest, none_gr
 use Rattle.links.specs.Linked.{Linked, list_at, with_list}
 use Rattle.links.specs.Linked as nodes
 use Rattle.state_rows.specs.declared.locks.Owner.{Owner}
-use Rattle.kern_sync.specs.KernelLocks.{KernelLocks, best_of, priority_of}
+use Rattle.state_rows.specs.declared.locks.LockRows.{LockRows}
+use Rattle.kern_sync.specs.KernelLocks.{KernelLocks, best_of, priority_of, with_rows, without_best}
 use Rattle.state_rows.specs.Locks.{owner_at, count_at, waiters_at, is_waiting}
 use Rattle.state_rows.specs.LockChanges.{after_remove, after_wait}
-use Rattle.kern_sync.specs.Calls.{without_best}
-use Rattle.kern_sync.specs.Kept.{AreKept, thread, locks_of}
+use Rattle.kern_sync.specs.Kept.{AreKept, thread, locks_of, queues_of}
 use Rattle.kern_sync.proofs.Threads.{all_without_absent, all_without_thread, any_thread, queue_thread, queue_added, queue_left, option_thread}
 
 -- a test that fails has the other answer
@@ -56,14 +56,14 @@ module _ (owners : List (Option Owner)) (counts priorities : List ℕ) (links : 
   best_left o t is = rw (← is, queue_left links.lists o.0 t) refl
 
 -- a thread whose node stands nowhere waits for nothing
-pub waits_not : (owners : List (Option Owner)) (counts priorities : List ℕ) (links : Linked) (t : ObjNo) → (list_any (nodes.holds t.0) links.lists ≡ true → ⊥) → is_waiting (locks_of owners counts priorities links) t ≡ false
+pub waits_not : (owners : List (Option Owner)) (counts priorities : List ℕ) (links : Linked) (t : ObjNo) → (list_any (nodes.holds t.0) links.lists ≡ true → ⊥) → is_waiting (locks_of owners counts priorities links).rows t ≡ false
 waits_not owners counts priorities links t free =
     any_thread t links.lists ∙ unheld (list_any (nodes.holds t.0) links.lists) free
 
 -- nobody is served next exactly where nobody waits
-pub none_best : (s : KernelLocks) (o : ObjNo) (r : Option ObjNo) → r ≡ best_of s o → (is_some r ≡ false → waiters_at s o ≡ []) × (waiters_at s o ≡ [] → is_some r ≡ false)
+pub none_best : (s : KernelLocks) (o : ObjNo) (r : Option ObjNo) → r ≡ best_of s o → (is_some r ≡ false → waiters_at s.rows o ≡ []) × (waiters_at s.rows o ≡ [] → is_some r ≡ false)
 none_best s o r is = (
-  λ none. none_greatest (priority_of s) (waiters_at s o) (sym is ∙ option_none r none),
+  λ none. none_greatest (priority_of s) (waiters_at s.rows o) (sym is ∙ option_none r none),
   λ empty. rw (is, empty) refl,
 )
   where
@@ -73,24 +73,24 @@ none_best s o r is = (
 
 -- and then nothing changes
 pub best_none : (s : KernelLocks) (o : ObjNo) → None ≡ best_of s o → s ≡ without_best s o
-best_none s o is = rw (← is, set-get_or s.waiters o.0 []) refl
+best_none s o is = rw (← is, set-get_or s.rows.waiters o.0 []) refl
 
 -- one part written anew and the others as they were
-pub waiters_alone : (s : KernelLocks) (o : ObjNo) (queue : List ObjNo) → record s { waiters = set s.waiters o.0 queue } ≡ record s { owners = set s.owners o.0 (owner_at s o); waiters = set s.waiters o.0 queue }
-waiters_alone s o queue = rw (set-get_or s.owners o.0 None) refl
+pub waiters_alone : (r : LockRows) (o : ObjNo) (queue : List ObjNo) → record r { waiters = set r.waiters o.0 queue } ≡ record r { owners = set r.owners o.0 (owner_at r o); waiters = set r.waiters o.0 queue }
+waiters_alone r o queue = rw (set-get_or r.owners o.0 None) refl
 
-pub waited : (s : KernelLocks) (o t : ObjNo) → count_at s o ≡ 0 → record s { waiters = set s.waiters o.0 (waiters_at s o ++ t ∷ []) } ≡ after_wait s o t
-waited s o t zero =
-    let same : count_at s o - 1 ≡ count_at s o = omega (arith, zero) in
-    rw (same, set-get_or s.counts o.0 0, zero) refl
+pub waited : (r : LockRows) (o t : ObjNo) → count_at r o ≡ 0 → record r { waiters = set r.waiters o.0 (waiters_at r o ++ t ∷ []) } ≡ after_wait r o t
+waited r o t zero =
+    let same : count_at r o - 1 ≡ count_at r o = omega (arith, zero) in
+    rw (same, set-get_or r.counts o.0 0, zero) refl
 
 -- a thread that waits stands last
-pub waiter_added : (owners : List (Option Owner)) (counts priorities : List ℕ) (links : Linked) (o t : ObjNo) → locks_of owners counts priorities (nodes.pushed_back links o.0 t.0) ≡ record (locks_of owners counts priorities links) { waiters = set (locks_of owners counts priorities links).waiters o.0 (waiters_at (locks_of owners counts priorities links) o ++ t ∷ []) }
+pub waiter_added : (owners : List (Option Owner)) (counts priorities : List ℕ) (links : Linked) (o t : ObjNo) → (locks_of owners counts priorities (nodes.pushed_back links o.0 t.0)).rows ≡ record (locks_of owners counts priorities links).rows { waiters = set (queues_of links.lists) o.0 (waiters_at (locks_of owners counts priorities links).rows o ++ t ∷ []) }
 waiter_added owners counts priorities links o t = rw (queue_added links.lists o.0 t) refl
 
 -- a thread that leaves all its lists waits for nothing, and where it stands on none nothing changes
-pub waiter_removed : (owners : List (Option Owner)) (counts priorities : List ℕ) (links : Linked) (t : ObjNo) → locks_of owners counts priorities (nodes.unlinked links t.0) ≡ after_remove (locks_of owners counts priorities links) t
+pub waiter_removed : (owners : List (Option Owner)) (counts priorities : List ℕ) (links : Linked) (t : ObjNo) → locks_of owners counts priorities (nodes.unlinked links t.0) ≡ with_rows (locks_of owners counts priorities links) (after_remove (locks_of owners counts priorities links).rows t)
 waiter_removed owners counts priorities links t = rw (all_without_thread t links.lists) refl
 
-pub waiter_absent : (s : KernelLocks) (t : ObjNo) → is_waiting s t ≡ false → s ≡ after_remove s t
-waiter_absent s t absent = rw (all_without_absent t s.waiters absent) refl
+pub waiter_absent : (s : KernelLocks) (t : ObjNo) → is_waiting s.rows t ≡ false → s ≡ with_rows s (after_remove s.rows t)
+waiter_absent s t absent = rw (all_without_absent t s.rows.waiters absent) refl

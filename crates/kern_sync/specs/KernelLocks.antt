@@ -2,8 +2,8 @@
 use Rattle.std.specs.Prelude.{ℕ, List, Option, slice_index_or, slice_set, replicate}
 use Rattle.sym_base.specs.declared.number.ObjNo.{ObjNo}
 use Rattle.state_rows.specs.declared.locks.LockRows.{LockRows}
-use Rattle.state_rows.specs.LockChanges.{new_rows}
-use Rattle.state_rows.specs.Locks.{best_waiter}
+use Rattle.state_rows.specs.LockChanges.{new_rows, left}
+use Rattle.state_rows.specs.Locks.{best_waiter, waiters_at}
 
 -- by object the owner of a mutex, the count of a semaphore, and the threads that wait for either; and the priority of
 -- each thread
@@ -26,6 +26,10 @@ new_locks objects threads = record { rows = new_rows objects; priorities = repli
 -- the rows change, and the priorities stay
 abbrev pub with_rows : KernelLocks → LockRows → KernelLocks
 with_rows s rows = record s { rows = rows }
+
+-- the waiter that is served next waits no longer
+abbrev pub without_best : KernelLocks → ObjNo → KernelLocks
+without_best s o = with_rows s (record s.rows { waiters = slice_set s.rows.waiters o.0 (left (best_of s o) (waiters_at s.rows o)) })
 
 -- the thread has another priority, and its place among waiters stays
 abbrev pub after_priority : KernelLocks → ObjNo → ℕ → KernelLocks

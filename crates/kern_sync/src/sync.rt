@@ -1,22 +1,18 @@
 //! The table of mutexes and semaphores, and its calls.
 ghost use Rattle.std.specs.Prelude.{◌≡◌, ℕ, pos, ◌≤ℤ◌, false, ◌<◌, ◌≤◌, ◌↔◌, [], not, ◌==◌, IsNone, IsSome, length, slice_set, IfOk, IfSome};
 ghost use Rattle.sym_base.specs.declared.number.ObjNo.{ObjNo};
-ghost use Rattle.state_rows.specs.Locks.{owner_at, level_of, count_at, waiters_at, is_waiting};
-ghost use Rattle.kern_sync.specs.KernelLocks.{best_of, IsWaiting};
-ghost use Rattle.kern_sync.specs.KernelLocks.{new_locks, after_priority};
+ghost use Rattle.state_rows.specs.Locks.{owner_at, count_at, waiters_at, is_waiting};
+ghost use Rattle.kern_sync.specs.KernelLocks.{new_locks, best_of, with_rows, without_best, after_priority};
+ghost use Rattle.state_rows.specs.NanoChanges.{one_more};
 ghost use Rattle.state_rows.specs.LockChanges.{start_count, after_new_row, lock_answer, after_lock, unlock_answer, after_unlock, after_free, after_wait, signal_answer, after_signal, after_remove};
-ghost use Rattle.kern_sync.specs.Calls.{without_best};
 ghost use Rattle.state_rows.specs.declared.locks.Unlocked.TheVariants.{NotOwner, Passed};
 ghost use Rattle.state_rows.specs.declared.locks.Signalled.TheVariants.{Overflow, Woke};
 
-use crate::answers::{Locked, Owner, Signalled, Unlocked};
 use links::Links;
+use state_rows::{Locked, MAX_COUNT, Owner, Signalled, Unlocked};
 use std::alloc::Global;
 use std::marker::Model;
 use sym_base::{NoMemory, ObjNo, ThreadNo};
-
-/// The greatest count of a semaphore.
-pub const MAX_COUNT: u32 = 2_147_483_647;
 
 /// Kernel mutexes and semaphores (Symbian OS Internals, the chapter on threads and processes): who owns
 /// each mutex and how often, the count of each semaphore, and the threads that wait for one of either. A
@@ -65,24 +61,23 @@ impl KernSync {
 
     /// Makes an object a free mutex, or a semaphore with a count.
     pub fn new_row(&mut self, o: ObjNo, start: Option<i32>)
-        requires object { o.0 < length self.old.owners }
-        requires free { owner_at self.old o ≡ None }
-        requires alone { waiters_at self.old o ≡ [] }
+        requires object { o.0 < length self.old.rows.owners }
+        requires free { owner_at self.old.rows o ≡ None }
+        requires alone { waiters_at self.old.rows o ≡ [] }
         requires count { IfSome start (λ count. pos 0 ≤ℤ count) }
-        ensures { self.new ≡ after_new_row self.old o start }
+        ensures { self.new ≡ with_rows self.old (after_new_row self.old.rows o start) }
     {
         self.counts[o.0 as usize] = count_from(start);
     }
 
     /// Locks a mutex for a thread that waits for nothing. Where another thread owns it the thread waits,
-    /// behind the others; where the thread owns it already its level rises.
+    /// behind the others; where the thread owns it already its level rises, unless it is at the end of its 64 bits.
     pub fn lock(&mut self, o: ObjNo, t: ThreadNo) -> Locked
-        requires object { o.0 < length self.old.owners }
+        requires object { o.0 < length self.old.rows.owners }
         requires thread { t.0 < length self.old.priorities }
-        requires waits { ¬ IsWaiting self.old t }
-        requires level { level_of (owner_at self.old o) < 18446744073709551615 }
-        ensures answer { result ≡ lock_answer (owner_at self.old o) t }
-        ensures after { self.new ≡ after_lock self.old o t result }
+        requires waits { is_waiting self.old.rows t ≡ false }
+        ensures answer { result ≡ lock_answer (owner_at self.old.rows o) t }
+        ensures after { self.new ≡ with_rows self.old (after_lock self.old.rows o t result) }
     {
         match self.owners[o.0 as usize] {
             None => {
@@ -95,7 +90,7 @@ impl KernSync {
             Some(Owner { thread, level }) if thread == t => {
                 self.owners[o.0 as usize] = Some(Owner {
                     thread,
-                    level: level + 1,
+                    level: one_more(level),
                 });
                 Locked::Again
             }
@@ -110,11 +105,11 @@ impl KernSync {
     /// waiter, or is free where nobody waits. NotOwner exactly where the thread doesn't own it, and then
     /// nothing changes.
     pub fn unlock(&mut self, o: ObjNo, t: ThreadNo) -> Unlocked
-        requires object { o.0 < length self.old.owners }
-        ensures answer { result ≡ unlock_answer (owner_at self.old o) t (best_of self.old o) }
-        ensures after { self.new ≡ after_unlock self.old o result }
+        requires object { o.0 < length self.old.rows.owners }
+        ensures answer { result ≡ unlock_answer (owner_at self.old.rows o) t (best_of self.old o) }
+        ensures after { self.new ≡ with_rows self.old (after_unlock self.old.rows o result) }
         ensures unchanged { result ≡ NotOwner → self.new ≡ self.old }
-        ensures woken { (u : ObjNo) → result ≡ Passed u → (u.0 < length self.old.priorities) × (is_waiting self.new u ≡ false) }
+        ensures woken { (u : ObjNo) → result ≡ Passed u → (u.0 < length self.old.priorities) × (is_waiting self.new.rows u ≡ false) }
     {
         let Some(Owner { thread, level }) = self.owners[o.0 as usize] else {
             return Unlocked::NotOwner;
@@ -138,12 +133,12 @@ impl KernSync {
     /// Takes a mutex from its owner, all levels at once, and passes it to the best waiter. None exactly
     /// where nobody waits, and then the mutex is free.
     pub fn free(&mut self, o: ObjNo) -> Option<ThreadNo>
-        requires object { o.0 < length self.old.owners }
-        requires owned { IsSome (owner_at self.old o) }
+        requires object { o.0 < length self.old.rows.owners }
+        requires owned { IsSome (owner_at self.old.rows o) }
         ensures answer { result ≡ best_of self.old o }
-        ensures none { IsNone result ↔ (waiters_at self.old o ≡ []) }
-        ensures after { self.new ≡ after_free self.old o }
-        ensures woken { IfSome result (λ t. (t.0 < length self.old.priorities) × (is_waiting self.new t ≡ false)) }
+        ensures none { IsNone result ↔ (waiters_at self.old.rows o ≡ []) }
+        ensures after { self.new ≡ with_rows self.old (after_free self.old.rows o (best_of self.old o)) }
+        ensures woken { IfSome result (λ t. (t.0 < length self.old.priorities) × (is_waiting self.new.rows t ≡ false)) }
     {
         let next = self.take_best(o);
         self.owners[o.0 as usize] = match next {
@@ -156,11 +151,11 @@ impl KernSync {
     /// Takes one from the count of a semaphore, for a thread that waits for nothing. False exactly where
     /// the count is 0, and then the thread waits, behind the others.
     pub fn sem_wait(&mut self, o: ObjNo, t: ThreadNo) -> bool
-        requires object { o.0 < length self.old.owners }
+        requires object { o.0 < length self.old.rows.owners }
         requires thread { t.0 < length self.old.priorities }
-        requires waits { ¬ IsWaiting self.old t }
-        ensures answer { result ≡ not (count_at self.old o == 0) }
-        ensures after { self.new ≡ after_wait self.old o t }
+        requires waits { is_waiting self.old.rows t ≡ false }
+        ensures answer { result ≡ not (count_at self.old.rows o == 0) }
+        ensures after { self.new ≡ with_rows self.old (after_wait self.old.rows o t) }
     {
         let count = self.counts[o.0 as usize];
         if count == 0 {
@@ -174,11 +169,11 @@ impl KernSync {
     /// Signals a semaphore: the best waiter goes on, or the count rises where nobody waits. Overflow
     /// exactly where nobody waits and the count is 2,147,483,647, and then nothing changes.
     pub fn sem_signal(&mut self, o: ObjNo) -> Signalled
-        requires { o.0 < length self.old.owners }
-        ensures answer { result ≡ signal_answer (best_of self.old o) (count_at self.old o) }
-        ensures after { self.new ≡ after_signal self.old o result }
+        requires { o.0 < length self.old.rows.owners }
+        ensures answer { result ≡ signal_answer (best_of self.old o) (count_at self.old.rows o) }
+        ensures after { self.new ≡ with_rows self.old (after_signal self.old.rows o result) }
         ensures unchanged { result ≡ Overflow → self.new ≡ self.old }
-        ensures woken { (u : ObjNo) → result ≡ Woke u → (u.0 < length self.old.priorities) × (is_waiting self.new u ≡ false) }
+        ensures woken { (u : ObjNo) → result ≡ Woke u → (u.0 < length self.old.priorities) × (is_waiting self.new.rows u ≡ false) }
     {
         if let Some(t) = self.take_best(o) {
             return Signalled::Woke(t);
@@ -194,9 +189,9 @@ impl KernSync {
     /// Ends the wait of a thread. Where it waits for nothing, nothing changes.
     pub fn remove_waiter(&mut self, t: ThreadNo)
         requires { t.0 < length self.old.priorities }
-        ensures after { self.new ≡ after_remove self.old t }
-        ensures unchanged { (¬ IsWaiting self.old t) → self.new ≡ self.old }
-        ensures ended { is_waiting self.new t ≡ false }
+        ensures after { self.new ≡ with_rows self.old (after_remove self.old.rows t) }
+        ensures unchanged { (is_waiting self.old.rows t ≡ false) → self.new ≡ self.old }
+        ensures ended { is_waiting self.new.rows t ≡ false }
     {
         if self.links.is_linked(t.0 as u32) {
             self.links.unlink(t.0 as u32);
@@ -214,16 +209,16 @@ impl KernSync {
 
     /// Who owns a mutex, and how often. None exactly where nobody does.
     pub fn owner(&self, o: ObjNo) -> Option<Owner>
-        requires { o.0 < length self.now.owners }
-        ensures { result ≡ owner_at self.now o }
+        requires { o.0 < length self.now.rows.owners }
+        ensures { result ≡ owner_at self.now.rows o }
     {
         self.owners[o.0 as usize]
     }
 
     /// The count of a semaphore.
     pub fn count(&self, o: ObjNo) -> u32
-        requires { o.0 < length self.now.owners }
-        ensures { result ≡ count_at self.now o }
+        requires { o.0 < length self.now.rows.owners }
+        ensures { result ≡ count_at self.now.rows o }
     {
         self.counts[o.0 as usize]
     }
@@ -231,9 +226,9 @@ impl KernSync {
     /// The waiter that is served next: of those of the greatest priority the one that waits longest. None
     /// exactly where nobody waits.
     pub fn best_waiter(&self, o: ObjNo) -> Option<ThreadNo>
-        requires { o.0 < length self.now.owners }
+        requires { o.0 < length self.now.rows.owners }
         ensures best { result ≡ best_of self.now o }
-        ensures none { IsNone result ↔ (waiters_at self.now o ≡ []) }
+        ensures none { IsNone result ↔ (waiters_at self.now.rows o ≡ []) }
         ensures known { IfSome result (λ t. t.0 < length self.now.priorities) }
     {
         let node = self.links.first_of_greatest(o.0 as u32, &self.priorities)?;
@@ -242,16 +237,23 @@ impl KernSync {
 
     /// Takes the waiter that is served next off its list.
     fn take_best(&mut self, o: ObjNo) -> Option<ThreadNo>
-        requires { o.0 < length self.old.owners }
+        requires { o.0 < length self.old.rows.owners }
         ensures best { result ≡ best_of self.old o }
-        ensures none { IsNone result ↔ (waiters_at self.old o ≡ []) }
+        ensures none { IsNone result ↔ (waiters_at self.old.rows o ≡ []) }
         ensures after { self.new ≡ without_best self.old o }
-        ensures woken { IfSome result (λ t. (t.0 < length self.old.priorities) × (is_waiting self.new t ≡ false)) }
+        ensures woken { IfSome result (λ t. (t.0 < length self.old.priorities) × (is_waiting self.new.rows t ≡ false)) }
     {
         let t = self.best_waiter(o)?;
         self.links.unlink(t.0 as u32);
         Some(t)
     }
+}
+
+/// One level more. At the end of its 64 bits it stands still.
+fn one_more(level: u64) -> u64
+    ensures { result ≡ one_more level }
+{
+    level.saturating_add(1)
 }
 
 /// The count that a row starts with: that of a semaphore, and 0 for a mutex.

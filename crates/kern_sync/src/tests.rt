@@ -1,5 +1,6 @@
 //! A worked example: a mutex locked twice is passed on once, to the waiter of the greatest priority.
-use crate::{KernSync, Locked, Signalled, Unlocked};
+use crate::KernSync;
+use state_rows::{Locked, Signalled, Unlocked};
 use std::test::Fail;
 use sym_base::ObjNo;
 

@@ -1,25 +1,9 @@
 -- Rows of threads and processes.
-use Rattle.std.specs.Prelude.{◌≡◌, ℕ, ◌<◌, Bool, false, List, length, Some, None, is_some, unwrap_or, replicate, slice_index_or, slice_set}
+use Rattle.std.specs.Prelude.{◌≡◌, ℕ, ◌<◌, Bool, false, List, [], length, Some, None, is_some, unwrap_or, replicate, slice_index, slice_index_or, slice_set}
 use Rattle.sym_base.specs.declared.number.ObjNo.{ObjNo}
 use Rattle.state_rows.specs.declared.thread.ThreadRow.{ThreadRow}
-use Rattle.state_rows.specs.declared.thread.Stage.TheVariants.{Live}
-use Rattle.state_rows.specs.declared.thread.Waiting.TheVariants.{Nothing}
+use Rattle.state_rows.specs.ThreadRows.{new_thread}
 use Rattle.procs.specs.ProcsRows.{ProcsRows}
-
--- a thread of a process that was just added
-abbrev pub new_thread : ObjNo → ThreadRow
-new_thread process = record {
-  process = process;
-  stage = Live;
-  exit = None;
-  noted = None;
-  priority = 0;
-  waiting = Nothing;
-  place = 0;
-  found = 0;
-  registers = replicate 8 0;
-  messages = replicate 8 0;
-}
 
 -- the memory of a process that was just added
 abbrev pub no_bytes : List ℕ
@@ -51,6 +35,10 @@ row_of rows t = unwrap_or (slice_index_or rows.threads t.0 None) (new_thread t)
 -- the bytes of a process that was added
 abbrev pub bytes_of : ProcsRows → ObjNo → List ℕ
 bytes_of rows p = unwrap_or (slice_index_or rows.processes p.0 None) no_bytes
+
+-- a byte of a process, 0 where it wasn't added or the byte is past its memory's end
+abbrev pub byte_at : ProcsRows → ObjNo → ℕ → ℕ
+byte_at rows p at = slice_index (unwrap_or (slice_index_or rows.processes p.0 None) []) at
 
 -- a thread has this row, and nothing else changes
 abbrev pub with_row : ProcsRows → ObjNo → ThreadRow → ProcsRows

@@ -2,9 +2,7 @@
 #![tactic(auto)]
 
 mod procs;
-mod row;
 #[cfg(test)]
 mod tests;
 
 pub use procs::Procs;
-pub use row::{MEMORY, REGISTERS, Stage, ThreadRow, Waiting};

@@ -1,12 +1,15 @@
 //! The table of threads and processes, and its calls.
-ghost use Rattle.std.specs.Prelude.{◌≡◌, ◌<◌, ◌↔◌, IsTrue, IsNone, IfOk, is_some, length, replicate, slice_index, slice_index_or, slice_set, None};
-ghost use Rattle.procs.specs.Rows.{no_rows, is_thread, is_process, IsFresh, row_of, bytes_of, with_row, with_process, no_bytes};
+ghost use Rattle.std.specs.Prelude.{◌≡◌, ◌<◌, IsTrue, IfOk, is_some, length, option_copied, replicate, slice_index, slice_index_or, slice_set, None};
+ghost use Rattle.procs.specs.Rows.{no_rows, is_thread, is_process, IsFresh, row_of, bytes_of, byte_at, with_row, with_process, no_bytes};
 ghost use Rattle.state_rows.specs.ThreadRows.{new_thread};
 
-use crate::row::{MEMORY, Stage, ThreadRow, Waiting};
+mod reading;
+mod writing;
+
+use state_rows::{MEMORY, ThreadRow};
 use std::alloc::Global;
 use std::marker::Model;
-use sym_base::{Exit, Items, NoMemory, ObjNo, ThreadNo};
+use sym_base::{Items, NoMemory, ObjNo, ThreadNo};
 
 /// What the kernel keeps of its threads and processes (Symbian OS Internals, the chapter on threads and processes), by
 /// object number. A contract sees the row of each thread and the bytes of each process.
@@ -52,8 +55,8 @@ impl Procs {
         self.processes[p.0 as usize] = self.spare.pop();
     }
 
-    /// Adds a thread of a process. It is live, with priority 0, waits for nothing, has no exit and no noted exit, and 0
-    /// in its place, what its steps found, and each register.
+    /// Adds a thread of a process. It is live, with priority 0, and waits for nothing; it has no reference to its process,
+    /// no exit and no noted exit, and 0 in its place, what its steps found, and each register. Its role is set afterwards.
     pub fn add_thread(&mut self, t: ThreadNo, process: ObjNo)
         requires { IsFresh self.old t }
         ensures { self.new ≡ with_row self.old t (new_thread process) }
@@ -72,180 +75,24 @@ impl Procs {
         }
     }
 
-    /// The process of a thread.
-    pub fn process_of(&self, t: ThreadNo) -> ObjNo
-        requires { IsTrue (is_thread self.now t) }
-        ensures { result ≡ (row_of self.now t).process }
+    /// The row of a thread. None exactly where no thread of the number was added.
+    pub fn thread(&self, t: ThreadNo) -> Option<&ThreadRow>
+        ensures { option_copied result ≡ slice_index_or self.now.threads t.0 None }
     {
-        self.row(t).process
-    }
-
-    /// How far the death of a thread is.
-    pub fn stage(&self, t: ThreadNo) -> Stage
-        requires { IsTrue (is_thread self.now t) }
-        ensures { result ≡ (row_of self.now t).stage }
-    {
-        self.row(t).stage
-    }
-
-    /// Sets how far the death of a thread is, and changes nothing else.
-    pub fn set_stage(&mut self, t: ThreadNo, to: Stage)
-        requires { IsTrue (is_thread self.old t) }
-        ensures { self.new ≡ with_row self.old t (record (row_of self.old t) { stage = to }) }
-    {
-        if let Some(row) = &mut self.threads[t.0 as usize] {
-            row.stage = to;
+        let at = t.0 as usize;
+        if at < self.threads.len() {
+            self.threads[at].as_ref()
+        } else {
+            None
         }
     }
 
-    /// The priority of a thread.
-    pub fn priority(&self, t: ThreadNo) -> u8
-        requires { IsTrue (is_thread self.now t) }
-        ensures { result ≡ (row_of self.now t).priority }
+    /// Whether a process of the number was added.
+    pub fn is_process(&self, p: ObjNo) -> bool
+        ensures { result ≡ is_process self.now p }
     {
-        self.row(t).priority
-    }
-
-    /// Sets the priority of a thread, and changes nothing else.
-    pub fn set_priority(&mut self, t: ThreadNo, to: u8)
-        requires { IsTrue (is_thread self.old t) }
-        ensures { self.new ≡ with_row self.old t (record (row_of self.old t) { priority = to }) }
-    {
-        if let Some(row) = &mut self.threads[t.0 as usize] {
-            row.priority = to;
-        }
-    }
-
-    /// What a thread waits for.
-    pub fn waiting(&self, t: ThreadNo) -> Waiting
-        requires { IsTrue (is_thread self.now t) }
-        ensures { result ≡ (row_of self.now t).waiting }
-    {
-        self.row(t).waiting
-    }
-
-    /// Sets what a thread waits for, and changes nothing else.
-    pub fn set_waiting(&mut self, t: ThreadNo, to: Waiting)
-        requires { IsTrue (is_thread self.old t) }
-        ensures { self.new ≡ with_row self.old t (record (row_of self.old t) { waiting = to }) }
-    {
-        if let Some(row) = &mut self.threads[t.0 as usize] {
-            row.waiting = to;
-        }
-    }
-
-    /// The exit of a thread. None exactly where no exit is set.
-    pub fn exit(&self, t: ThreadNo) -> Option<Exit>
-        requires { IsTrue (is_thread self.now t) }
-        ensures exit { result ≡ (row_of self.now t).exit }
-        ensures none { IsNone result ↔ ((row_of self.now t).exit ≡ None) }
-    {
-        self.row(t).exit
-    }
-
-    /// Sets the exit of a thread, or that it has none, and changes nothing else.
-    pub fn set_exit(&mut self, t: ThreadNo, to: Option<Exit>)
-        requires { IsTrue (is_thread self.old t) }
-        ensures { self.new ≡ with_row self.old t (record (row_of self.old t) { exit = to }) }
-    {
-        if let Some(row) = &mut self.threads[t.0 as usize] {
-            row.exit = to;
-        }
-    }
-
-    /// The exit that was noted while a thread was protected. None exactly where none is noted.
-    pub fn noted(&self, t: ThreadNo) -> Option<Exit>
-        requires { IsTrue (is_thread self.now t) }
-        ensures noted { result ≡ (row_of self.now t).noted }
-        ensures none { IsNone result ↔ ((row_of self.now t).noted ≡ None) }
-    {
-        self.row(t).noted
-    }
-
-    /// Notes an exit of a thread, or that there is none, and changes nothing else.
-    pub fn set_noted(&mut self, t: ThreadNo, to: Option<Exit>)
-        requires { IsTrue (is_thread self.old t) }
-        ensures { self.new ≡ with_row self.old t (record (row_of self.old t) { noted = to }) }
-    {
-        if let Some(row) = &mut self.threads[t.0 as usize] {
-            row.noted = to;
-        }
-    }
-
-    /// The number of instructions that are behind a thread.
-    pub fn place(&self, t: ThreadNo) -> u32
-        requires { IsTrue (is_thread self.now t) }
-        ensures { result ≡ (row_of self.now t).place }
-    {
-        self.row(t).place
-    }
-
-    /// Sets the number of instructions that are behind a thread, and changes nothing else.
-    pub fn set_place(&mut self, t: ThreadNo, to: u32)
-        requires { IsTrue (is_thread self.old t) }
-        ensures { self.new ≡ with_row self.old t (record (row_of self.old t) { place = to }) }
-    {
-        if let Some(row) = &mut self.threads[t.0 as usize] {
-            row.place = to;
-        }
-    }
-
-    /// What the steps of a thread's present instruction found: an object, a handle or a number of bytes.
-    pub fn found(&self, t: ThreadNo) -> u32
-        requires { IsTrue (is_thread self.now t) }
-        ensures { result ≡ (row_of self.now t).found }
-    {
-        self.row(t).found
-    }
-
-    /// Sets what the steps of a thread's present instruction found, and changes nothing else.
-    pub fn set_found(&mut self, t: ThreadNo, to: u32)
-        requires { IsTrue (is_thread self.old t) }
-        ensures { self.new ≡ with_row self.old t (record (row_of self.old t) { found = to }) }
-    {
-        if let Some(row) = &mut self.threads[t.0 as usize] {
-            row.found = to;
-        }
-    }
-
-    /// A register r0 to r7 of a thread, by its number.
-    pub fn register(&self, t: ThreadNo, x: u8) -> u32
-        requires thread { IsTrue (is_thread self.now t) }
-        requires register { x < 8 }
-        ensures { result ≡ slice_index (row_of self.now t).registers x }
-    {
-        self.row(t).registers[x as usize]
-    }
-
-    /// Sets a register r0 to r7 of a thread, and changes nothing else.
-    pub fn set_register(&mut self, t: ThreadNo, x: u8, to: u32)
-        requires thread { IsTrue (is_thread self.old t) }
-        requires register { x < 8 }
-        ensures { self.new ≡ with_row self.old t (record (row_of self.old t) { registers = slice_set (row_of self.old t).registers x to }) }
-    {
-        if let Some(row) = &mut self.threads[t.0 as usize] {
-            row.registers[x as usize] = to;
-        }
-    }
-
-    /// A message number m0 to m7 of a thread, by its number.
-    pub fn message(&self, t: ThreadNo, x: u8) -> u32
-        requires thread { IsTrue (is_thread self.now t) }
-        requires message { x < 8 }
-        ensures { result ≡ slice_index (row_of self.now t).messages x }
-    {
-        self.row(t).messages[x as usize]
-    }
-
-    /// Sets a message number m0 to m7 of a thread, and changes nothing else.
-    pub fn set_message(&mut self, t: ThreadNo, x: u8, to: u32)
-        requires thread { IsTrue (is_thread self.old t) }
-        requires message { x < 8 }
-        ensures { self.new ≡ with_row self.old t (record (row_of self.old t) { messages = slice_set (row_of self.old t).messages x to }) }
-    {
-        if let Some(row) = &mut self.threads[t.0 as usize] {
-            row.messages[x as usize] = to;
-        }
+        let at = p.0 as usize;
+        at < self.processes.len() && self.processes[at].is_some()
     }
 
     /// A byte of a process's memory.
@@ -257,6 +104,20 @@ impl Procs {
         match &self.processes[p.0 as usize] {
             Some(bytes) => bytes.get(at as usize),
             None => unreachable!(),
+        }
+    }
+
+    /// A byte of a process's memory, 0 where no process of the number was added or the byte is past the memory's end.
+    pub fn byte_at(&self, p: ObjNo, at: u16) -> u8
+        ensures { result ≡ byte_at self.now p at }
+    {
+        let (process, at) = (p.0 as usize, at as usize);
+        if process >= self.processes.len() {
+            return 0;
+        }
+        match &self.processes[process] {
+            Some(bytes) if at < bytes.len() => bytes.get(at),
+            _ => 0,
         }
     }
 

@@ -11,7 +11,7 @@ returns-then-is_linked-clause-after c =
 pub returns-then-is_linked-clause-unchanged : goal.returns-then-is_linked-clause-unchanged
 returns-then-is_linked-clause-unchanged c =
     let held = c.is_linked.ensures.linked.0 c.if-is_linked.true in
-    rw (← c.self.view_is) (λ absent. absurd (absent (any_thread c.args.t c.self.inside.links.lists ∙ held)))
+    rw (← c.self.view_is) (λ absent. let no : true ≡ false = sym held ∙ sym (any_thread c.args.t c.self.inside.links.lists) ∙ absent in absurd (cc))
 
 pub returns-then-is_linked-clause-ended : goal.returns-then-is_linked-clause-ended
 returns-then-is_linked-clause-ended c =

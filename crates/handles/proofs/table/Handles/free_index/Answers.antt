@@ -2,7 +2,7 @@ use Rattle.std.proofs.Common.{ap, sym, ◌∙◌}
 use Rattle.handles.specs.HandleTable.{HandleTable}
 use Rattle.state_rows.specs.HandleSlots.{free_index}
 use Rattle.handles.proofs.Places.{free_index_marked}
-use Rattle.handles.proofs.table.Handles.least_free.Goals as goal
+use Rattle.handles.proofs.table.Handles.free_index.Goals as goal
 
 pub returns-clause-least : goal.returns-clause-least
 returns-clause-least c =
