@@ -1,14 +1,13 @@
 -- Moves in the rows of mutexes and semaphores. Whoever takes a mutex owns it: that is a reference. Whoever gives it up owes the
 -- close of it.
-use Rattle.std.proofs.Common.{◌≡◌, inl, inr, ℕ, ◌+◌, ◌<◌, ◌≤◌, List, [], ◌∷◌, ◌++◌, length, get_or, arith, refl, sym, subst, ap, ◌∙◌, Option, Some, None, Bool, true, false}
-use Rattle.std.specs.Prelude.{◌==◌, if◌then◌else◌, is_some, nat_lt}
-use Rattle.std.proofs.lemmas.Bool.{cases_lt, eqb-true}
-use Rattle.std.proofs.lemmas.List.{get_or_past, length-set}
+use Rattle.std.proofs.Common.{◌≡◌, ℕ, ◌+◌, ◌<◌, ◌≤◌, List, [], ◌∷◌, ◌++◌, length, get_or, arith, refl, sym, subst, ap, Option, Some, None, Bool, true, false}
+use Rattle.std.specs.Prelude.{◌==◌, if◌then◌else◌, nat_lt}
+use Rattle.std.proofs.lemmas.Bool.{eqb-true}
+use Rattle.std.proofs.lemmas.List.{length-set}
 use Rattle.sym_base.specs.declared.number.ObjNo.{ObjNo}
 use Rattle.script_types.specs.declared.script.Script.{Script}
 use Rattle.entry_log.specs.declared.effect.Effect.{Effect}
 use Rattle.entry_log.specs.declared.effect.Effect.TheVariants.{Give, Plus, Take}
-use Rattle.entry_log.specs.declared.effect.Holder.{Holder}
 use Rattle.entry_log.specs.declared.effect.Holder.TheVariants.{Own}
 use Rattle.entry_log.specs.declared.effect.LockNo.TheVariants.{Object}
 use Rattle.state_rows.specs.declared.duty.Owed.{Owed}
@@ -26,15 +25,14 @@ use Rattle.machine.specs.declared.lock_move.LockMove.TheVariants.{Start, Lock, U
 use Rattle.machine.specs.declared.moves.Move.TheVariants.{Locks}
 use Rattle.machine.specs.declared.state.State.{State}
 use Rattle.machine.specs.Choice.{priority_of}
-use Rattle.machine.specs.Fits.{FitsMove, MayJoin, MayLock, MayUnlock, Sane}
+use Rattle.machine.specs.Fits.{FitsMove, MayJoin, MayLock, MayUnlock}
 use Rattle.machine.specs.HeldIn.{held_in, owed_by}
-use Rattle.machine.specs.Holding.{same_pair}
 use Rattle.machine.specs.LockMoves.{holding, lock_told, not_holding, owed_moved}
 use Rattle.machine.specs.Moves.{moved, told}
-use Rattle.machine.specs.References.{count_of, mutex_names, owed_names, same, total}
-use Rattle.machine.specs.Rows.{object_of, owed_of, owing, thread_of}
+use Rattle.machine.specs.References.{mutex_names, owed_names, same, total}
+use Rattle.machine.specs.Rows.{object_of, owed_of, owing}
 use Rattle.machine.specs.Told.{removals}
-use Rattle.machine.specs.WellFormed.{AreDuties, AreLocks, AreRows, IsAlive, owed_sweeps, sweeps_of, times_held, weight}
+use Rattle.machine.specs.WellFormed.{AreDuties, AreLocks, AreRows, IsAlive, owed_sweeps, sweeps_of, weight}
 use Rattle.machine.proofs.Holders.HoldersMove.{HoldersMove, holders-none, holders-plus}
 use Rattle.machine.proofs.Holders.MutexRows.{rows-holding, rows-not_holding}
 use Rattle.machine.proofs.Lists.Totals.{inside, total_at_least}

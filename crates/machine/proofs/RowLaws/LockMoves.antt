@@ -9,21 +9,19 @@ use Rattle.entry_log.specs.declared.effect.Holder.TheVariants.{Own}
 use Rattle.state_rows.specs.declared.duty.Owed.{Owed}
 use Rattle.state_rows.specs.declared.duty.Owed.TheVariants.{Close}
 use Rattle.state_rows.specs.declared.locks.Locked.TheVariants.{Taken, Again, Waits}
-use Rattle.state_rows.specs.declared.locks.LockRows.{LockRows}
 use Rattle.state_rows.specs.declared.locks.Owner.{Owner}
 use Rattle.state_rows.specs.declared.locks.Signalled.{Signalled}
 use Rattle.state_rows.specs.declared.locks.Signalled.TheVariants.{Counted, Woke, Overflow}
 use Rattle.state_rows.specs.declared.locks.Unlocked.TheVariants.{Level, Freed, Passed, NotOwner}
 use Rattle.state_rows.specs.declared.thread.ThreadRow.{ThreadRow}
-use Rattle.state_rows.specs.LockChanges.{after_lock, after_new_row, after_signal, after_unlock, after_wait, count_after_signal, counted, once, owner_after_lock, owner_after_unlock, waiters_after_signal}
+use Rattle.state_rows.specs.LockChanges.{after_lock, after_new_row, after_signal, after_unlock, after_wait, count_after_signal, once, owner_after_lock, owner_after_unlock, waiters_after_signal}
 use Rattle.state_rows.specs.Locks.{count_at, is_among, owner_at, waiters_at, without}
 use Rattle.state_rows.proofs.SoundChanges.{set_item}
 use Rattle.machine.specs.HeldIn.{owed_by}
-use Rattle.machine.specs.Holding.{same_pair}
 use Rattle.machine.specs.LockMoves.{holding, not_holding}
 use Rattle.machine.specs.References.{same, total}
 use Rattle.machine.specs.Rows.{owing}
-use Rattle.machine.specs.WellFormed.{AreLocks, Awaits, times_held}
+use Rattle.machine.specs.WellFormed.{AreLocks, times_held}
 use Rattle.machine.proofs.Holders.HoldersMove.{pair_self}
 use Rattle.machine.proofs.Lists.Sets.{set_either}
 use Rattle.machine.proofs.Lists.Totals.{total-append}

@@ -1,5 +1,5 @@
 -- The memory of processes, where it changes, or the rows of threads.
-use Rattle.std.proofs.Common.{◌≡◌, inl, inr, ℕ, ◌+◌, ◌≤◌, List, length, get_or, arith, refl, sym, ap, subst, ◌∙◌, Option, Some, None, true}
+use Rattle.std.proofs.Common.{◌≡◌, inl, inr, ℕ, ◌+◌, ◌≤◌, List, length, get_or, arith, sym, ap, subst, ◌∙◌, Option, Some, None, true}
 use Rattle.std.specs.Prelude.{is_some, option_map}
 use Rattle.std.proofs.lemmas.List.{length-append, length-drop, length-replicate, length-set, length-take}
 use Rattle.sym_base.specs.declared.number.ObjNo.{ObjNo}
