@@ -1,7 +1,7 @@
 //! What stands at boot.
 ghost use Rattle.std.specs.Prelude.{◌≡◌, ℕ, ◌+◌, ◌<◌, ◌≤◌, ◌++◌, [], ◌∷◌, codes, false, IfOk, OnOk, length, map, pos, replicate, vec_len};
 ghost use Rattle.script_types.specs.Shape.{IsShaped};
-ghost use Rattle.sym_base.specs.declared.limits.TheConstants.Limits.{DEVICES, OBJECTS};
+ghost use Rattle.sym_base.specs.declared.limits.TheConstants.Limits.{DEVICES};
 ghost use Rattle.state_rows.specs.RequestChanges.{new_rows as request_rows};
 ghost use Rattle.state_rows.specs.LockChanges.{new_rows as lock_rows};
 ghost use Rattle.machine.specs.Boot.{boot_object, born_process, new_thread, born_thread, born_queue, born_queues, is_of, has_any, born_threads, born_kernel, born, ready_from, held_count, nano_of, memory_of, boot_of, boot};
@@ -293,15 +293,22 @@ fn no_waiters(alloc: Global, objects: usize) -> Result<Items<Items<ThreadNo>>, N
     Ok(Items::new(waiters))
 }
 
-/// Mutexes and semaphores that nobody owns or waits for, and whose counts are 0.
-fn no_locks(alloc: Global) -> Result<LockRows, NoMemory>
-    ensures { IfOk result (λ locks. locks ≡ lock_rows OBJECTS) }
+/// So many mutexes and semaphores that nobody owns or waits for, and whose counts are 0.
+fn no_locks(alloc: Global, objects: usize) -> Result<LockRows, NoMemory>
+    ensures { IfOk result (λ locks. locks ≡ lock_rows objects) }
 {
     Ok(LockRows {
-        owners: Items::new(vec![in alloc; None; Limits::OBJECTS]?),
-        counts: Items::new(vec![in alloc; 0u32; Limits::OBJECTS]?),
-        waiters: no_waiters(alloc, Limits::OBJECTS)?,
+        owners: Items::new(vec![in alloc; None; objects]?),
+        counts: Items::new(vec![in alloc; 0u32; objects]?),
+        waiters: no_waiters(alloc, objects)?,
     })
+}
+
+/// So many bytes of memory, each 0.
+fn zero_bytes(alloc: Global, size: usize) -> Result<Items<u8>, NoMemory>
+    ensures { IfOk result (λ bytes. bytes ≡ replicate size 0) }
+{
+    Ok(Items::new(vec![in alloc; 0u8; size]?))
 }
 
 /// The memory of what stands at boot: a process has 1,024 zero bytes, and a thread none.
@@ -310,7 +317,7 @@ fn memory_of(alloc: Global, born: &Born) -> Result<Option<Items<u8>>, NoMemory>
 {
     match born.thread {
         Some(_) => Ok(None),
-        None => Ok(Some(Items::new(vec![in alloc; 0u8; MEMORY]?))),
+        None => Ok(Some(zero_bytes(alloc, MEMORY)?)),
     }
 }
 
@@ -356,7 +363,7 @@ pub fn boot_of(
         nano: nano_of(alloc, fast, all)?,
         deferred: calls,
         requests: no_requests(alloc, all.len())?,
-        locks: no_locks(alloc)?,
+        locks: no_locks(alloc, Limits::OBJECTS)?,
         mutexes: no_mutexes(alloc, all)?,
         memories: memories_of(alloc, all)?,
     })
