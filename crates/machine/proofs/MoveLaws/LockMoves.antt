@@ -153,8 +153,8 @@ sound-lock script S t o u Taken may rows =
     let T = passing S mutexes S.owed new in
     let few = rows.sized.objects_few in
     let none : held_in S (Own u) o ≡ 0 =
-        let a = none_held (length S.objects) S.threads (parts S) rows.locks few o made free u in
-        let b = none_owed_by S.threads S.owed u (Own u) o rows.duties (λ k y own. own) (ap (total (owed_by (Own u) o)) may.paid) in omega arith in
+    let a = none_held (length S.objects) S.threads (parts S) rows.locks few o made free u in
+    let b = none_owed_by S.threads S.owed u (Own u) o rows.duties (λ k y own. own) (ap (total (owed_by (Own u) o)) may.paid) in omega arith in
     sound-told script S T (Take u (Object o) ∷ []) (Plus (Own u) o ∷ []) (silent-take S u o) (λ p. refl) rows
     (sound-passed script S mutexes S.owed new (Plus (Own u) o ∷ [])
     (record { long = refl; duties = rows.duties; locks = locks-taken (length S.objects) S.threads (parts S) rows.locks few o made u free there; sweeps = λ p. refl })
@@ -204,10 +204,10 @@ sound-given script S t o w may few rows =
     let T = passing S mutexes owed new in
     let apart : t.0 ≡ w.0 → ⊥ = λ at. let same : is_among t (waiters_at S.locks o) ≡ is_among w (waiters_at S.locks o) = ap (λ (n : ℕ). is_among (record { 0 = n }) (waiters_at S.locks o)) at in let nowhere = may.nowhere o in cc in
     let none : held_in S (Own w) o ≡ 0 =
-        let a = given_none (length S.objects) S.threads (parts S) rows.locks small o may.object t own.own own.is own.thread there (may.nowhere o) w in
-        let b = held-not_holding S.mutexes t o w o there once in
-        let c = if_not (t.0 == w.0) (same o o) (eqb_apart t.0 w.0 apart) in
-        let d = none_owed_by S.threads S.owed w (Own w) o rows.duties (λ k y own. own) (rows.locks.paid w o among) in omega arith in
+    let a = given_none (length S.objects) S.threads (parts S) rows.locks small o may.object t own.own own.is own.thread there (may.nowhere o) w in
+    let b = held-not_holding S.mutexes t o w o there once in
+    let c = if_not (t.0 == w.0) (same o o) (eqb_apart t.0 w.0 apart) in
+    let d = none_owed_by S.threads S.owed w (Own w) o rows.duties (λ k y own. own) (rows.locks.paid w o among) in omega arith in
     let alive : IsAlive (object_of S o) = rows.lives.alive o (let a = total_at_least (total (mutex_names o)) S.mutexes t.0 [] there in omega arith) in
     let sweeps : (p : ObjNo) → total (total (owed_sweeps p)) owed ≡ sweeps_of S p = λ p. let a = total-owing (owed_sweeps p) S.owed t (Close (Own t) o ∷ []) owes in omega arith in
     sound-told script S T (Give t (Object o) ∷ Take w (Object o) ∷ []) (Plus (Own w) o ∷ []) (silent-pass S t w o) (λ p. refl) rows
