@@ -12,9 +12,18 @@ fn is_built_instr(what: &Instr) -> bool
     matches!(
         what,
         Instr::CreateMutex(..)
-            | Instr::Open(Kind::Mutex | Kind::Thread | Kind::Process, ..)
+            | Instr::CreateSemaphore(..)
+            | Instr::Open(
+                Kind::Mutex | Kind::Semaphore | Kind::Thread | Kind::Process,
+                ..
+            )
             | Instr::Dup(..)
+            | Instr::DupLocal(..)
             | Instr::Close(_)
+            | Instr::Lock(_)
+            | Instr::Unlock(_)
+            | Instr::Wait(_)
+            | Instr::Signal(_)
             | Instr::Suspend(_)
             | Instr::Resume(_)
             | Instr::Priority(..)
@@ -30,6 +39,8 @@ fn is_built_instr(what: &Instr) -> bool
             | Instr::WaitAny
             | Instr::WaitFor(_)
             | Instr::Status(_)
+            | Instr::Fill(..)
+            | Instr::Peek(_)
     )
 }
 

@@ -8,11 +8,18 @@ use Rattle.sym_base.specs.declared.kind.Kind.TheVariants as kind
 
 abbrev pub is_built_instr : Instr → Bool
 is_built_instr (instr.CreateMutex name x) = true
+is_built_instr (instr.CreateSemaphore name count x) = true
 is_built_instr (instr.Open kind.Mutex name x) = true
+is_built_instr (instr.Open kind.Semaphore name x) = true
 is_built_instr (instr.Open kind.Thread name x) = true
 is_built_instr (instr.Open kind.Process name x) = true
 is_built_instr (instr.Dup x y) = true
+is_built_instr (instr.DupLocal x y) = true
 is_built_instr (instr.Close x) = true
+is_built_instr (instr.Lock x) = true
+is_built_instr (instr.Unlock x) = true
+is_built_instr (instr.Wait x) = true
+is_built_instr (instr.Signal x) = true
 is_built_instr (instr.Suspend x) = true
 is_built_instr (instr.Resume x) = true
 is_built_instr (instr.Priority x priority) = true
@@ -28,6 +35,8 @@ is_built_instr (instr.Cancel d) = true
 is_built_instr instr.WaitAny = true
 is_built_instr (instr.WaitFor s) = true
 is_built_instr (instr.Status s) = true
+is_built_instr (instr.Fill place size byte) = true
+is_built_instr (instr.Peek place) = true
 is_built_instr _ = false
 
 abbrev pub is_built_line : SourceLine → Bool
