@@ -93,146 +93,134 @@ fn are_processes(script: &Script) -> bool {
     }
 }
 
-fn are_of_kernel(instrs: &[Instr]) -> bool {
-    match instrs {
-        [
-            Instr::Flock(0),
-            Instr::Funlock(15),
-            Instr::Fswait,
-            Instr::Fssignal(thread),
-            Instr::Enter,
-            Instr::Leave,
-            Instr::Queue(call),
-        ] => is(thread, "high") && is(call, "last"),
-        _ => false,
+/// Whether an instruction is that of this place among those of the kernel thread.
+fn is_of_kernel(place: usize, what: &Instr) -> bool {
+    match place {
+        0 => matches!(what, Instr::Flock(0)),
+        1 => matches!(what, Instr::Funlock(15)),
+        2 => matches!(what, Instr::Fswait),
+        3 => matches!(what, Instr::Fssignal(thread) if is(thread, "high")),
+        4 => matches!(what, Instr::Enter),
+        5 => matches!(what, Instr::Leave),
+        _ => matches!(what, Instr::Queue(call) if is(call, "last")),
     }
 }
 
-fn are_of_handles(instrs: &[Instr]) -> bool {
-    match instrs {
-        [
-            Instr::CreateMutex(mutex, 0),
-            Instr::CreateSemaphore(semaphore, 0, 7),
-            Instr::CreateSemaphore(other, 2_147_483_647, 1),
-            Instr::Open(Kind::Process, process, 2),
-            Instr::Open(Kind::Thread, thread, 3),
-            Instr::Open(Kind::Mutex, opened, 4),
-            Instr::Open(Kind::Semaphore, found, 5),
-            Instr::Dup(6, 7),
-            Instr::DupLocal(0, 1),
-            Instr::Close(2),
-            Instr::Lock(3),
-            Instr::Unlock(4),
-            Instr::Wait(5),
-            Instr::Signal(6),
-        ] => {
-            is(mutex, "m")
-                && is(semaphore, "s")
-                && is(other, "abcdefghijklmn_9")
-                && is(process, "p")
-                && is(thread, "k")
-                && is(opened, "m")
-                && is(found, "s")
-        }
-        _ => false,
+/// Among those on handles.
+fn is_of_handles(place: usize, what: &Instr) -> bool {
+    match place {
+        0 => matches!(what, Instr::CreateMutex(name, 0) if is(name, "m")),
+        1 => matches!(what, Instr::CreateSemaphore(name, 0, 7) if is(name, "s")),
+        2 =>
+            matches!(what, Instr::CreateSemaphore(name, 2_147_483_647, 1) if is(name, "abcdefghijklmn_9")),
+        3 => matches!(what, Instr::Open(Kind::Process, name, 2) if is(name, "p")),
+        4 => matches!(what, Instr::Open(Kind::Thread, name, 3) if is(name, "k")),
+        5 => matches!(what, Instr::Open(Kind::Mutex, name, 4) if is(name, "m")),
+        6 => matches!(what, Instr::Open(Kind::Semaphore, name, 5) if is(name, "s")),
+        7 => matches!(what, Instr::Dup(6, 7)),
+        8 => matches!(what, Instr::DupLocal(0, 1)),
+        9 => matches!(what, Instr::Close(2)),
+        10 => matches!(what, Instr::Lock(3)),
+        11 => matches!(what, Instr::Unlock(4)),
+        12 => matches!(what, Instr::Wait(5)),
+        _ => matches!(what, Instr::Signal(6)),
     }
 }
 
-fn are_of_threads(instrs: &[Instr]) -> bool {
-    match instrs {
-        [
-            Instr::Suspend(0),
-            Instr::Resume(1),
-            Instr::Priority(2, 0),
-            Instr::Priority(3, 63),
-            Instr::Kill(4, -2_147_483_646),
-            Instr::Terminate(5, 2_147_483_647),
-            Instr::Panic(6, category, 0),
-            Instr::ExitType(7),
-            Instr::Logon(0, 15),
-            Instr::Exit(-1),
-        ] => is(category, "E32USER-CBase_69"),
-        _ => false,
+/// Among those on threads.
+fn is_of_threads(place: usize, what: &Instr) -> bool {
+    match place {
+        0 => matches!(what, Instr::Suspend(0)),
+        1 => matches!(what, Instr::Resume(1)),
+        2 => matches!(what, Instr::Priority(2, 0)),
+        3 => matches!(what, Instr::Priority(3, 63)),
+        4 => matches!(what, Instr::Kill(4, -2_147_483_646)),
+        5 => matches!(what, Instr::Terminate(5, 2_147_483_647)),
+        6 => matches!(what, Instr::Panic(6, category, 0) if is(category, "E32USER-CBase_69")),
+        7 => matches!(what, Instr::ExitType(7)),
+        8 => matches!(what, Instr::Logon(0, 15)),
+        _ => matches!(what, Instr::Exit(-1)),
+    }
+}
+
+fn is_described(argument: Arg, from: u16, size: u16, most: u16) -> bool {
+    match argument {
+        Arg::Descriptor {
+            offset,
+            length,
+            max,
+        } => offset == from && length == size && max == most,
+        Arg::Number(_) => false,
     }
 }
 
 fn are_sent(args: &Args) -> bool {
-    matches!(
-        args,
-        Args(
-            Arg::Number(-2_147_483_648),
-            Arg::Number(2_147_483_647),
-            Arg::Descriptor {
-                offset: 0,
-                length: 1,
-                max: 2
-            },
-            Arg::Descriptor {
-                offset: 1024,
-                length: 1023,
-                max: 1022
-            },
-        )
-    )
+    matches!(args.0, Arg::Number(-2_147_483_648))
+        && matches!(args.1, Arg::Number(2_147_483_647))
+        && is_described(args.2, 0, 1, 2)
+        && is_described(args.3, 1024, 1023, 1022)
 }
 
 fn are_called(args: &Args) -> bool {
-    matches!(
-        args,
-        Args(
-            Arg::Number(0),
-            Arg::Number(-1),
-            Arg::Descriptor {
-                offset: 3,
-                length: 4,
-                max: 5
-            },
-            Arg::Number(6),
-        )
-    )
+    matches!(args.0, Arg::Number(0))
+        && matches!(args.1, Arg::Number(-1))
+        && is_described(args.2, 3, 4, 5)
+        && matches!(args.3, Arg::Number(6))
 }
 
-fn are_of_clients(instrs: &[Instr]) -> bool {
-    match instrs {
-        [
-            Instr::Request(0, 15),
-            Instr::Cancel(15),
-            Instr::WaitAny,
-            Instr::WaitFor(0),
-            Instr::Status(1),
-            Instr::Server(server, 2),
-            Instr::Connect(one, Slots::Own(1), 3),
-            Instr::Connect(two, Slots::Own(255), 4),
-            Instr::Connect(three, Slots::Pool, 5),
-            Instr::Send(6, 0, 2, sent),
-            Instr::Call(7, 2_147_483_647, called),
-        ] => {
-            is(server, "files")
-                && is(one, "files")
-                && is(two, "files")
-                && is(three, "files")
-                && are_sent(sent)
-                && are_called(called)
-        }
+/// Among those of a client.
+fn is_of_client(place: usize, what: &Instr) -> bool {
+    match place {
+        0 => matches!(what, Instr::Request(0, 15)),
+        1 => matches!(what, Instr::Cancel(15)),
+        2 => matches!(what, Instr::WaitAny),
+        3 => matches!(what, Instr::WaitFor(0)),
+        4 => matches!(what, Instr::Status(1)),
+        5 => matches!(what, Instr::Server(name, 2) if is(name, "files")),
+        6 => matches!(what, Instr::Connect(name, Slots::Own(1), 3) if is(name, "files")),
+        7 => matches!(what, Instr::Connect(name, Slots::Own(255), 4) if is(name, "files")),
+        8 => matches!(what, Instr::Connect(name, Slots::Pool, 5) if is(name, "files")),
+        9 => matches!(what, Instr::Send(6, 0, 2, args) if are_sent(args)),
+        _ => matches!(what, Instr::Call(7, 2_147_483_647, args) if are_called(args)),
+    }
+}
+
+/// Among those of a server, and on memory.
+fn is_of_server(place: usize, what: &Instr) -> bool {
+    match place {
+        0 => matches!(what, Instr::Receive(0, 7)),
+        1 => matches!(what, Instr::Complete(1, -2_147_483_646)),
+        2 => matches!(what, Instr::Function(2)),
+        3 => matches!(what, Instr::Read(3, 0, 0, 1024, 1)),
+        4 => matches!(what, Instr::Write(4, 3, 1024, 0, 2)),
+        5 => matches!(what, Instr::Fill(0, 1024, 255)),
+        6 => matches!(what, Instr::Fill(1024, 0, 0)),
+        7 => matches!(what, Instr::Peek(0)),
+        _ => matches!(what, Instr::Peek(1023)),
+    }
+}
+
+/// Whether an instruction is that of this place in the thread of this number.
+fn is_instruction(thread: usize, place: usize, what: &Instr) -> bool {
+    match thread {
+        0 => is_of_kernel(place, what),
+        2 => is_of_handles(place, what),
+        3 => is_of_threads(place, what),
+        4 => is_of_client(place, what),
+        5 => is_of_server(place, what),
         _ => false,
     }
 }
 
-fn are_of_servers(instrs: &[Instr]) -> bool {
-    matches!(
-        instrs,
-        [
-            Instr::Receive(0, 7),
-            Instr::Complete(1, -2_147_483_646),
-            Instr::Function(2),
-            Instr::Read(3, 0, 0, 1024, 1),
-            Instr::Write(4, 3, 1024, 0, 2),
-            Instr::Fill(0, 1024, 255),
-            Instr::Fill(1024, 0, 0),
-            Instr::Peek(0),
-            Instr::Peek(1023),
-        ]
-    )
+/// Whether a thread, that of this number, has so many instructions, and which.
+fn has_instructions(number: usize, thread: &ThreadDecl, count: usize) -> bool {
+    thread.instrs.len() == count
+        && thread
+            .instrs
+            .as_slice()
+            .iter()
+            .enumerate()
+            .all(|(place, what)| is_instruction(number, place, what))
 }
 
 fn are_threads(script: &Script) -> bool {
@@ -244,12 +232,21 @@ fn are_threads(script: &Script) -> bool {
                 && is_thread(b, "b", 63, true, Some(0))
                 && is_thread(c, "c", 1, false, Some(1))
                 && is_thread(d, "d", 2, false, Some(1))
-                && are_of_kernel(k.instrs.as_slice())
-                && l.instrs.is_empty()
-                && are_of_handles(a.instrs.as_slice())
-                && are_of_threads(b.instrs.as_slice())
-                && are_of_clients(c.instrs.as_slice())
-                && are_of_servers(d.instrs.as_slice())
+        }
+        _ => false,
+    }
+}
+
+/// Whether the threads have so many instructions, and which.
+fn are_instructions(script: &Script) -> bool {
+    match script.threads.as_slice() {
+        [k, l, a, b, c, d] => {
+            has_instructions(0, k, 7)
+                && has_instructions(1, l, 0)
+                && has_instructions(2, a, 14)
+                && has_instructions(3, b, 10)
+                && has_instructions(4, c, 11)
+                && has_instructions(5, d, 9)
         }
         _ => false,
     }
@@ -275,5 +272,6 @@ pub fn is_every_form(script: &Script) -> bool {
         && are_interrupts(script)
         && are_processes(script)
         && are_threads(script)
+        && are_instructions(script)
         && are_slots(script.slots.as_slice())
 }

@@ -11,7 +11,6 @@ mod line_form;
 mod line_signs;
 mod numeral;
 mod operand;
-mod sign;
 mod source;
 mod source_line;
 
