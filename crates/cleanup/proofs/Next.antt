@@ -7,7 +7,7 @@ use Rattle.state_rows.specs.declared.duty.Held.TheVariants.{Mutex, Server, Temp,
 use Rattle.cleanup.specs.Lists.{listed, behind, is_object}
 use Rattle.cleanup.specs.Nodes.{object}
 use Rattle.links.specs.Linked.{holds}
-use Rattle.cleanup.proofs.Seen.{maps_at, seen_holds}
+use Rattle.links.proofs.Seen.{seen_at, seen_holds}
 use Rattle.std.specs.List.{list_any}
 use Rattle.std.proofs.lemmas.List.Folds.{list_any_at}
 use Rattle.std.proofs.lemmas.List.{length-map}
@@ -62,7 +62,7 @@ unseen o (Some n) is = let same : object n ≡ o = cc in ap (λ (made : ObjNo). 
 pub behind_seen : (lists : List (List ℕ)) (l : ℕ) (o : ObjNo) (r : Option ℕ) → list_any (is_object o) (get_or (map (map object) lists) l []) ≡ true → ((list place : ℕ) → slice_get (get_or lists list []) place ≡ Some o.0 → r ≡ slice_get (get_or lists list []) (place + 1)) → option_map object r ≡ behind o (get_or (map (map object) lists) l [])
 behind_seen lists l o r own follows =
     let list = get_or lists l [] in
-    let seen = maps_at object lists l in
+    let seen = seen_at object lists l in
     rw seen (behind_is o (map object list) (option_map object r) (rw seen at own) (λ place at.
     let stands = unseen o (slice_get list place) (sym (slice_get-map object list place) ∙ at) in
     let next : r ≡ slice_get list (suc place) = rw add-one at (follows l place stands) in
@@ -71,12 +71,12 @@ behind_seen lists l o r own follows =
 -- and a server that a thread owns is on some list
 pub owned_held : (lists : List (List ℕ)) (l : ℕ) (o : ObjNo) → l < length lists → list_any (is_object o) (get_or (map (map object) lists) l []) ≡ true → list_any (holds o.0) lists ≡ true
 owned_held lists l o listed own =
-    list_any_at (holds o.0) lists l [] listed (sym (seen_holds object (is_object o) o.0 (λ m. refl) (get_or lists l [])) ∙ rw (maps_at object lists l) at own)
+    list_any_at (holds o.0) lists l [] listed (sym (seen_holds object (is_object o) o.0 (λ m. refl) (get_or lists l [])) ∙ rw (seen_at object lists l) at own)
 
 -- and nothing stands behind the object at the list's end alone
 pub none_seen : (lists : List (List ℕ)) (l : ℕ) (o : ObjNo) (none : Bool) → ((list place : ℕ) → slice_get (get_or lists list []) place ≡ Some o.0 → (none ≡ false → place + 1 ≡ length (get_or lists list [])) × (place + 1 ≡ length (get_or lists list []) → none ≡ false)) → (place : ℕ) → slice_get (get_or (map (map object) lists) l []) place ≡ Some o → (none ≡ false → place + 1 ≡ length (get_or (map (map object) lists) l [])) × (place + 1 ≡ length (get_or (map (map object) lists) l []) → none ≡ false)
 none_seen lists l o none last place at =
     let list = get_or lists l [] in
-    let seen = maps_at object lists l in
+    let seen = seen_at object lists l in
     let stands = unseen o (slice_get list place) (sym (slice_get-map object list place) ∙ rw seen at at) in
     rw (seen, length-map) (last l place stands)

@@ -10,7 +10,8 @@ use Rattle.state_rows.specs.declared.duty.Owed.TheVariants.{Sweep}
 use Rattle.links.specs.Linked.{Linked, list_at, holds, with_list, pushed_back, popped_front}
 use Rattle.links.proofs.Marks.{held_at}
 use Rattle.cleanup.specs.Nodes.{object, duties_of}
-use Rattle.cleanup.proofs.Seen.{take_set, maps_same, maps_at, drop_map}
+use Rattle.links.proofs.Seen.{seen_at}
+use Rattle.cleanup.proofs.Seen.{take_set, maps_same, drop_map}
 
 -- what a node stands for
 abbrev row_of : List Owed → ℕ → Owed
@@ -27,7 +28,7 @@ duties_kept threads l links rows list high = rw take-set-le refl
 
 pub duties_at : (threads t : ℕ) (links : Linked) (rows : List Owed) → t < threads → get_or (duties_of threads links rows) t [] ≡ map (row_of rows) (list_at links t)
 duties_at threads t links rows low =
-    maps_at (row_of rows) (take threads links.lists) t ∙ ap (map (row_of rows)) (get_or-take threads links.lists t [] low)
+    seen_at (row_of rows) (take threads links.lists) t ∙ ap (map (row_of rows)) (get_or-take threads links.lists t [] low)
 
 -- the oldest of what a thread owes is gone
 pub popped_duties : (threads t : ℕ) (links : Linked) (rows : List Owed) → t < threads → duties_of threads (popped_front links t) rows ≡ set (duties_of threads links rows) t (drop 1 (get_or (duties_of threads links rows) t []))

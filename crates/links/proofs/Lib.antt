@@ -7,5 +7,6 @@ pub mod Inserted
 pub mod Marks
 pub mod Owned
 pub mod Removed
+pub mod Seen
 pub mod Walks
 pub mod Without

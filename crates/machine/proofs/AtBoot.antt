@@ -2,6 +2,7 @@ pub mod Born
 pub mod BootCounts
 pub mod BootHolders
 pub mod BootLinks
+pub mod BootLocks
 pub mod BootNames
 pub mod BootNano
 pub mod BootReady

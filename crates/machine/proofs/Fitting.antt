@@ -1,10 +1,13 @@
 -- The moves of each step fit the state.
-pub mod Living
-pub mod Stepping
-pub mod Shared
-pub mod KernelThreads
-pub mod Bodies
-pub mod Requests
-pub mod Steps
 pub mod Actions
+pub mod Bodies
 pub mod Interrupts
+pub mod KernelThreads
+pub mod Living
+pub mod Locks
+pub mod MemoryCalls
+pub mod Requests
+pub mod Shared
+pub mod Stepping
+pub mod Steps
+pub mod Waiters

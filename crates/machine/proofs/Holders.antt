@@ -1,4 +1,5 @@
 -- Who holds what, and what changes of rows do to it.
 pub mod HoldersMove
+pub mod MutexRows
 pub mod SlotRows
 pub mod ThreadRows

@@ -1,6 +1,7 @@
 -- What each kind of move does, and several in a row.
 pub mod Sound
 pub mod RowMoves
+pub mod LockMoves
 pub mod NanoMoves
 pub mod CallMoves
 pub mod Advance

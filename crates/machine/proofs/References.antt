@@ -1,4 +1,5 @@
 -- References, and what changes of rows do to the count of an object.
 pub mod Same
 pub mod Counts
+pub mod Mutexes
 pub mod Effects

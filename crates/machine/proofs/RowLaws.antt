@@ -1,8 +1,12 @@
 -- What holds of rows, where one of them changes.
-pub mod Tables
-pub mod Threads
-pub mod Duties
-pub mod Synchronized
 pub mod Calls
 pub mod Declared
+pub mod Duties
+pub mod LockChanges
+pub mod LockMoves
+pub mod Locks
+pub mod Memories
 pub mod Requests
+pub mod Synchronized
+pub mod Tables
+pub mod Threads

@@ -72,11 +72,15 @@ born_processes threads j p [] = []
 born_processes threads j p (d ∷ ds) =
     born_process d.name ∷ born_threads (Some j) p 0 threads ++ born_processes threads (j + 1) (p + 1 + length (born_threads (Some j) p 0 threads)) ds
 
+-- the supervisor
+abbrev pub born_supervisor : Born
+born_supervisor = record { object = boot_object Thread (codes "supervisor"); thread = Some (new_thread 0 Supervisor 48); works = false; held = false }
+
 -- process `kernel` with its threads: the supervisor, the threads of queues, and the kernel threads
 abbrev pub born_kernel : Script → List Born
 born_kernel script =
     born_process (codes "kernel")
-    ∷ record { object = boot_object Thread (codes "supervisor"); thread = Some (new_thread 0 Supervisor 48); works = false; held = false }
+    ∷ born_supervisor
     ∷ born_queues 1 script.queues ++ born_threads None 0 0 script.threads
 
 -- all that stands at boot, in order of number

@@ -143,22 +143,27 @@ pub record MayStart (S : State) (o : ObjNo) (count : ℕ) : Type 0 where
   pub free : owner_at S.locks o ≡ None
   pub alone : waiters_at S.locks o ≡ []
 
--- a thread that may come to stand among an object's waiters: it waits for that object, and stands nowhere yet
+-- a thread that may come to stand among an object's waiters: it waits for that object, stands nowhere yet, and owes nothing
 pub record MayJoin (S : State) (o t : ObjNo) : Type 0 where
   pub waits : Awaits S.threads t o
   pub nowhere : WaitsNowhere S t
+  pub paid : owed_of S t ≡ []
 
--- a thread that may lock an object, with the answer that the object's owner gives
+-- a thread that may lock an object, with the answer that the object's owner gives: it owes nothing
 pub record MayLock (S : State) (o t : ObjNo) (locked : Locked) : Type 0 where
   pub alive : IsAlive (object_of S o)
   pub thread : is_some (thread_of S t) ≡ true
+  pub paid : owed_of S t ≡ []
   pub answer : locked ≡ lock_answer (owner_at S.locks o) t
   pub joins : locked ≡ Waits → MayJoin S o t
 
--- a thread that may unlock an object, with the answer that owner and waiters give
+-- a thread that may unlock an object, with the answer that owner and waiters give: it stands among no waiters, and isn't
+-- between a find and its return
 pub record MayUnlock (S : State) (o t : ObjNo) (unlocked : Unlocked) : Type 0 where
   pub object : o.0 < length S.objects
   pub thread : is_some (thread_of S t) ≡ true
+  pub nowhere : WaitsNowhere S t
+  pub going : is_returning (part_of (thread_of S t)) ≡ false
   pub answer : unlocked ≡ unlock_answer (owner_at S.locks o) t (best_waiter (priority_of S) S.locks o)
 
 -- a thread that may wait on an object: it joins the waiters at count 0
@@ -171,13 +176,14 @@ pub record MaySignal (S : State) (o : ObjNo) (signalled : Signalled) : Type 0 wh
   pub object : o.0 < length S.objects
   pub answer : signalled ≡ signal_answer (best_waiter (priority_of S) S.locks o) (count_at S.locks o)
 
--- A move in the rows of mutexes and semaphores fits the state: its answer is the one that they give.
-abbrev pub FitsLocks : LockMove → State → Type 0
-FitsLocks (Start o count) S = MayStart S o count
-FitsLocks (Lock o t locked) S = MayLock S o t locked
-FitsLocks (Unlock o t unlocked) S = MayUnlock S o t unlocked
-FitsLocks (WaitOn o t) S = MayWaitOn S o t
-FitsLocks (Signal o signalled) S = MaySignal S o signalled
+-- A move in the rows of mutexes and semaphores, in an action of thread t, fits the state: its answer is the one that they
+-- give, and only the acting thread unlocks a mutex.
+abbrev pub FitsLocks : ObjNo → LockMove → State → Type 0
+FitsLocks t (Start o count) S = MayStart S o count
+FitsLocks t (Lock o u locked) S = MayLock S o u locked
+FitsLocks t (Unlock o u unlocked) S = (u ≡ t) × MayUnlock S o u unlocked
+FitsLocks t (WaitOn o u) S = MayWaitOn S o u
+FitsLocks t (Signal o signalled) S = MaySignal S o signalled
 
 -- A move in an action of thread t fits the state. What is owed is paid by an action of its own.
 abbrev pub FitsMove : Script → ObjNo → Move → State → Type 0
@@ -195,7 +201,7 @@ FitsMove script t (SetPriority u priority) S = priority ≤ 63
 FitsMove script t (Nano m) S = (is_some (thread_of S (nano_thread m)) ≡ true) × FitsNano m S
 FitsMove script t (Deferred m) S = FitsDeferred m S.deferred
 FitsMove script t (Requests m) S = FitsRequests m S.requests
-FitsMove script t (Locks m) S = FitsLocks m S
+FitsMove script t (Locks m) S = FitsLocks t m S
 FitsMove script t (Fill p at length byte) S = at + length ≤ 1024
 FitsMove script t (Pay what) S = ⊥
 

@@ -1,5 +1,5 @@
 -- Moves in the rows of mutexes and semaphores: what each changes, and what it tells.
-use Rattle.std.specs.Prelude.{ℕ, pos, List, [], ◌∷◌, ◌++◌, Some, slice_set}
+use Rattle.std.specs.Prelude.{pos, List, [], ◌∷◌, ◌++◌, Some, slice_set}
 use Rattle.std.specs.List.{slice_index_or}
 use Rattle.sym_base.specs.declared.number.ObjNo.{ObjNo}
 use Rattle.entry_log.specs.declared.effect.Effect.{Effect}

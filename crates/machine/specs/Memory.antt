@@ -1,8 +1,7 @@
 -- The memory of processes: 1,024 bytes each.
-use Rattle.std.specs.Prelude.{ℕ, ◌+◌, List, [], ◌++◌, Option, Some, None, option_map, replicate, take, drop, slice_index, slice_set, unwrap_or}
+use Rattle.std.specs.Prelude.{ℕ, ◌+◌, List, [], ◌++◌, Option, None, option_map, replicate, take, drop, slice_index, slice_set, unwrap_or}
 use Rattle.std.specs.List.{slice_index_or}
 use Rattle.sym_base.specs.declared.number.ObjNo.{ObjNo}
-use Rattle.machine.specs.declared.state.State.{State}
 
 -- bytes, of which so many from an offset on have a value
 abbrev pub filled : ℕ → ℕ → ℕ → List ℕ → List ℕ

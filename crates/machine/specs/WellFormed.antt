@@ -30,6 +30,7 @@ use Rattle.state_rows.specs.declared.locks.Owner.{Owner}
 use Rattle.state_rows.specs.declared.locks.LockRows.{LockRows}
 use Rattle.state_rows.specs.Locks.{owner_at, count_at, waiters_at, is_among}
 use Rattle.machine.specs.References.{total, same, mutex_names, count_of}
+use Rattle.machine.specs.HeldIn.{owed_by}
 use Rattle.machine.specs.Task.{instructions_of, served_queue, is_ready, is_returning}
 use Rattle.machine.specs.Arrivals.{is_listed}
 use Rattle.state_rows.specs.DeclaredCalls.{calls_of}
@@ -147,9 +148,9 @@ abbrev pub times_held : List (List ObjNo) → ObjNo → ObjNo → ℕ
 times_held mutexes t o = total (mutex_names o) (slice_index_or mutexes t.0 [])
 
 -- The rows of mutexes and semaphores: one for each object that may be made; counts stay in their range; the owner of a
--- mutex holds it once, and nobody else does; whoever stands among an object's waiters waits for it; and what isn't made
--- yet has no owner and no waiter.
-pub record AreLocks (objects : ℕ) (threads : List (Option ThreadRow)) (mutexes : List (List ObjNo)) (r : LockRows) : Type 0 where
+-- mutex holds it once, and nobody else does; whoever stands among an object's waiters waits for it, and owes no close of
+-- its ownership; and what isn't made yet has no owner and no waiter.
+pub record AreLocks (objects : ℕ) (threads : List (Option ThreadRow)) (mutexes : List (List ObjNo)) (owed : List (List Owed)) (r : LockRows) : Type 0 where
   pub owners_sized : length r.owners ≡ OBJECTS
   pub counts_sized : length r.counts ≡ OBJECTS
   pub waiters_sized : length r.waiters ≡ OBJECTS
@@ -158,6 +159,7 @@ pub record AreLocks (objects : ℕ) (threads : List (Option ThreadRow)) (mutexes
   pub owned : (o : ObjNo) (owner : Owner) → owner_at r o ≡ Some owner → times_held mutexes owner.thread o ≡ 1
   pub held : (t o : ObjNo) → 0 < times_held mutexes t o → IsOwnerOf r t o
   pub waiters : (t o : ObjNo) → is_among t (waiters_at r o) ≡ true → Awaits threads t o
+  pub paid : (t o : ObjNo) → is_among t (waiters_at r o) ≡ true → total (owed_by (Own t) o) (slice_index_or owed t.0 []) ≡ 0
   pub owners_made : (o : ObjNo) → objects ≤ o.0 → owner_at r o ≡ None
   pub waiters_made : (o : ObjNo) → objects ≤ o.0 → waiters_at r o ≡ []
 
@@ -215,7 +217,7 @@ pub record AreRows (script : Script) (S : State) : Type 0 where
   pub nano : AreSynchronized script S.threads S.nano
   pub deferred : AreCalls script S.deferred
   pub requests : AreRequests (length S.threads) S.requests
-  pub locks : AreLocks (length S.objects) S.threads S.mutexes S.locks
+  pub locks : AreLocks (length S.objects) S.threads S.mutexes S.owed S.locks
   pub memories : AreMemories S.threads S.memories
   pub lives : AreLives S
 

@@ -1,10 +1,10 @@
 //! What stands at boot.
 ghost use Rattle.std.specs.Prelude.{◌≡◌, ℕ, ◌+◌, ◌<◌, ◌≤◌, ◌++◌, [], ◌∷◌, codes, false, IfOk, OnOk, length, map, pos, replicate, vec_len};
 ghost use Rattle.script_types.specs.Shape.{IsShaped};
-ghost use Rattle.sym_base.specs.declared.limits.TheConstants.Limits.{DEVICES, OBJECTS};
+ghost use Rattle.sym_base.specs.declared.limits.TheConstants.Limits.{DEVICES};
 ghost use Rattle.state_rows.specs.RequestChanges.{new_rows as request_rows};
 ghost use Rattle.state_rows.specs.LockChanges.{new_rows as lock_rows};
-ghost use Rattle.machine.specs.Boot.{boot_object, born_process, new_thread, born_thread, born_queue, born_queues, is_of, has_any, born_threads, born_kernel, born, ready_from, held_count, nano_of, memory_of, boot_of, boot};
+ghost use Rattle.machine.specs.Boot.{boot_object, born_process, new_thread, born_thread, born_queue, born_queues, is_of, has_any, born_threads, born_supervisor, born_kernel, born, ready_from, held_count, nano_of, memory_of, boot_of, boot};
 ghost use Rattle.state_rows.specs.HandleSlots.{fresh_slot};
 ghost use Rattle.state_rows.specs.declared.thread.Role.TheVariants as role;
 
@@ -90,6 +90,15 @@ fn born_queue(queue: u8, declared: &QueueDecl) -> Born
     }
 }
 
+/// Adds one more.
+fn add(all: &mut Vec<Born>, one: Born) -> Result<(), NoMemory>
+    ensures ok { OnOk result (all.new.items ≡ all.old.items ++ one ∷ []) }
+    ensures few { vec_len all.new ≤ vec_len all.old + 1 }
+{
+    all.extend_from_slice(&[one])?;
+    Ok(())
+}
+
 /// Adds the threads of the queues of deferred function calls.
 fn push_queues(all: &mut Vec<Born>, queues: &[QueueDecl]) -> Result<(), NoMemory>
     requires { length queues.now ≤ 63 }
@@ -97,7 +106,7 @@ fn push_queues(all: &mut Vec<Born>, queues: &[QueueDecl]) -> Result<(), NoMemory
     ensures few { vec_len all.new ≤ vec_len all.old + 63 }
 {
     for (k, declared) in queues.iter().enumerate() {
-        all.push(born_queue(k as u8 + 1, declared))?;
+        add(all, born_queue(k as u8 + 1, declared))?;
     }
     Ok(())
 }
@@ -128,9 +137,21 @@ fn push_threads(
         if !is_of(process, declared.process) {
             continue;
         }
-        all.push(born_thread(number, k as u8, declared))?;
+        add(all, born_thread(number, k as u8, declared))?;
     }
     Ok(())
+}
+
+/// The supervisor.
+fn born_supervisor() -> Born
+    ensures { result ≡ born_supervisor }
+{
+    Born {
+        object: boot_object(Kind::Thread, read_name(b"supervisor").unwrap()),
+        thread: Some(new_thread(KERNEL, Role::Supervisor, SUPERVISOR_PRIORITY)),
+        works: false,
+        held: false,
+    }
 }
 
 /// The kernel's own process with its threads: the supervisor, the threads of queues, and the kernel threads.
@@ -140,13 +161,8 @@ fn born_kernel(alloc: Global, script: &Script) -> Result<Vec<Born>, NoMemory>
     ensures few { IfOk result (λ all. vec_len all ≤ 128) }
 {
     let mut all = Vec::new(alloc);
-    all.push(born_process(read_name(b"kernel").unwrap()))?;
-    all.push(Born {
-        object: boot_object(Kind::Thread, read_name(b"supervisor").unwrap()),
-        thread: Some(new_thread(KERNEL, Role::Supervisor, SUPERVISOR_PRIORITY)),
-        works: false,
-        held: false,
-    })?;
+    add(&mut all, born_process(read_name(b"kernel").unwrap()))?;
+    add(&mut all, born_supervisor())?;
     push_queues(&mut all, script.queues.as_slice())?;
     push_threads(&mut all, None, KERNEL, script.threads.as_slice())?;
     Ok(all)
@@ -161,7 +177,7 @@ pub fn all_born(alloc: Global, script: &Script) -> Result<Items<Born>, NoMemory>
     let mut all = born_kernel(alloc, script)?;
     for (j, process) in script.processes.as_slice().iter().enumerate() {
         let number = ObjNo(all.len() as u16);
-        all.push(born_process(process.name))?;
+        add(&mut all, born_process(process.name))?;
         push_threads(&mut all, Some(j as u8), number, script.threads.as_slice())?;
     }
     Ok(Items::new(all))
@@ -293,15 +309,22 @@ fn no_waiters(alloc: Global, objects: usize) -> Result<Items<Items<ThreadNo>>, N
     Ok(Items::new(waiters))
 }
 
-/// Mutexes and semaphores that nobody owns or waits for, and whose counts are 0.
-fn no_locks(alloc: Global) -> Result<LockRows, NoMemory>
-    ensures { IfOk result (λ locks. locks ≡ lock_rows OBJECTS) }
+/// So many mutexes and semaphores that nobody owns or waits for, and whose counts are 0.
+fn no_locks(alloc: Global, objects: usize) -> Result<LockRows, NoMemory>
+    ensures { IfOk result (λ locks. locks ≡ lock_rows objects) }
 {
     Ok(LockRows {
-        owners: Items::new(vec![in alloc; None; Limits::OBJECTS]?),
-        counts: Items::new(vec![in alloc; 0u32; Limits::OBJECTS]?),
-        waiters: no_waiters(alloc, Limits::OBJECTS)?,
+        owners: Items::new(vec![in alloc; None; objects]?),
+        counts: Items::new(vec![in alloc; 0u32; objects]?),
+        waiters: no_waiters(alloc, objects)?,
     })
+}
+
+/// So many bytes of memory, each 0.
+fn zero_bytes(alloc: Global, size: usize) -> Result<Items<u8>, NoMemory>
+    ensures { IfOk result (λ bytes. bytes ≡ replicate size 0) }
+{
+    Ok(Items::new(vec![in alloc; 0u8; size]?))
 }
 
 /// The memory of what stands at boot: a process has 1,024 zero bytes, and a thread none.
@@ -310,7 +333,7 @@ fn memory_of(alloc: Global, born: &Born) -> Result<Option<Items<u8>>, NoMemory>
 {
     match born.thread {
         Some(_) => Ok(None),
-        None => Ok(Some(Items::new(vec![in alloc; 0u8; MEMORY]?))),
+        None => Ok(Some(zero_bytes(alloc, MEMORY)?)),
     }
 }
 
@@ -356,7 +379,7 @@ pub fn boot_of(
         nano: nano_of(alloc, fast, all)?,
         deferred: calls,
         requests: no_requests(alloc, all.len())?,
-        locks: no_locks(alloc)?,
+        locks: no_locks(alloc, Limits::OBJECTS)?,
         mutexes: no_mutexes(alloc, all)?,
         memories: memories_of(alloc, all)?,
     })

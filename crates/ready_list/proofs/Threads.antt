@@ -1,10 +1,11 @@
 -- Queues of threads and lists of their numbers.
-use Rattle.std.proofs.Common.{◌≡◌, ℕ, zero, suc, true, false, eqb, List, [], ◌∷◌, ◌++◌, map, set, get_or, refl, sym, ap, ◌∙◌, inl, inr}
+use Rattle.std.proofs.Common.{◌≡◌, ℕ, true, false, eqb, List, [], ◌∷◌, ◌++◌, map, set, get_or, refl, sym, ◌∙◌, inl, inr}
 use Rattle.std.specs.List.{list_any}
 use Rattle.std.proofs.lemmas.Bool.{cases_Bool}
 use Rattle.std.proofs.lemmas.List.{map-append, map-set}
 use Rattle.sym_base.specs.declared.number.ObjNo.{ObjNo}
 use Rattle.links.specs.Linked as nodes
+use Rattle.links.proofs.Seen.{seen_at, seen_holds, seen_any, seen_unlinked, seen_pushed}
 use Rattle.ready_list.specs.Queue.{holds, without, turned}
 use Rattle.ready_list.specs.Kept.{thread, queues_of}
 
@@ -14,44 +15,27 @@ both_tests same = absurd (cc)
 
 -- a queue holds the threads whose numbers its list holds
 pub holds_thread : (t : ObjNo) (xs : List ℕ) → holds t (map thread xs) ≡ nodes.holds t.0 xs
-holds_thread t [] = refl
-holds_thread t (x ∷ xs) = rw (holds_thread t xs) refl
+holds_thread t xs = seen_holds thread (λ (other : ObjNo). eqb other.0 t.0) t.0 (λ m. refl) xs
 
 pub any_thread : (t : ObjNo) (lists : List (List ℕ)) → list_any (holds t) (queues_of lists) ≡ list_any (nodes.holds t.0) lists
-any_thread t [] = refl
-any_thread t (list ∷ lists) = rw (holds_thread t list, any_thread t lists) refl
+any_thread t lists = seen_any thread (λ (other : ObjNo). eqb other.0 t.0) t.0 (λ m. refl) lists
 
 -- and loses those that its list loses
-without_thread : (t : ObjNo) (xs : List ℕ) → map thread (nodes.without t.0 xs) ≡ without t (map thread xs)
-without_thread t [] = refl
-without_thread t (x ∷ xs) =
-    elim (cases_Bool (eqb x t.0)) [
-      | inl same ↦ rw same (without_thread t xs)
-      | inr other ↦ rw other (ap (λ (rest : List ObjNo). thread x ∷ rest) (without_thread t xs))
-    ]
-
 pub all_without_thread : (t : ObjNo) (lists : List (List ℕ)) → queues_of (map (nodes.without t.0) lists) ≡ map (without t) (queues_of lists)
-all_without_thread t [] = refl
-all_without_thread t (list ∷ lists) = rw (without_thread t list, all_without_thread t lists) refl
+all_without_thread t lists = seen_unlinked thread (λ (other : ObjNo). eqb other.0 t.0) t.0 (λ m. refl) lists
 
 -- the queue of a priority is that of its list
 pub queue_thread : (lists : List (List ℕ)) (p : ℕ) → get_or (queues_of lists) p [] ≡ map thread (get_or lists p [])
-queue_thread [] p = refl
-queue_thread (list ∷ lists) zero = refl
-queue_thread (list ∷ lists) (suc p) = queue_thread lists p
-
--- another list in the place of one is another queue in the place of its queue
-pub queues_set : (lists : List (List ℕ)) (p : ℕ) (list : List ℕ) → queues_of (set lists p list) ≡ set (queues_of lists) p (map thread list)
-queues_set lists p list = map-set (map thread) lists p list
+queue_thread lists p = seen_at thread lists p
 
 -- one thread more in a queue
 pub queue_added : (lists : List (List ℕ)) (p : ℕ) (t : ObjNo) → queues_of (set lists p (get_or lists p [] ++ t.0 ∷ [])) ≡ set (queues_of lists) p (get_or (queues_of lists) p [] ++ t ∷ [])
-queue_added lists p t = rw (queues_set lists p (get_or lists p [] ++ t.0 ∷ []), map-append, queue_thread lists p) refl
+queue_added lists p t = seen_pushed thread t.0 t refl lists p
 
 -- the first of a queue comes last
 pub queue_turned : (lists : List (List ℕ)) (p first : ℕ) (rest : List ℕ) → get_or lists p [] ≡ first ∷ rest → queues_of (set lists p (rest ++ first ∷ [])) ≡ set (queues_of lists) p (turned (get_or (queues_of lists) p []))
 queue_turned lists p first rest is =
-    rw (queues_set lists p (rest ++ first ∷ []), map-append, queue_thread lists p, is) refl
+    rw (map-set (map thread) lists p (rest ++ first ∷ []), map-append, queue_thread lists p, is) refl
 
 -- a thread that was taken out of each queue stands in none
 without_unheld : (t : ObjNo) (queue : List ObjNo) → holds t (without t queue) ≡ false

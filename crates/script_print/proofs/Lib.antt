@@ -4,7 +4,7 @@ pub mod DeclaredAgain
 pub mod Front
 pub mod LinesAgain
 pub mod NamesAgain
+pub mod PartLaws
 pub mod PlainLines
-pub mod Printing
 pub mod ScheduleAgain
 pub mod ThreadGroups

@@ -5,8 +5,6 @@ mod print;
 mod print_bodies;
 mod print_instr;
 mod print_slots;
-#[cfg(test)]
-mod tests;
 mod word;
 
 pub use print::print_script;

@@ -7,7 +7,7 @@ use Rattle.std.specs.List.{list_any}
 use Rattle.std.specs.Ordering.{nat_cmp}
 use Rattle.std.specs.Prelude.{◌||◌, ◌&&◌, not, codes, decimal}
 use Rattle.std.specs.Str.{bytes_eq}
-use Rattle.script_read.specs.Knows.{Knows, has_name, is_schedule}
+use Rattle.script_read.specs.FileNames.{Knows, has_name, is_schedule}
 use Rattle.script_read.specs.declared.declarations.Declarations.{Declarations}
 use Rattle.script_read.proofs.NameSets.{or_none}
 use Rattle.script_words.proofs.Steps.{same_bytes}

@@ -5,7 +5,7 @@ use Rattle.std.specs.BTreeSet.{contains}
 use Rattle.std.specs.Ordering.{nat_cmp}
 use Rattle.std.specs.Prelude.{if◌then◌else◌, ◌||◌, ◌&&◌, not, codes}
 use Rattle.std.specs.Str.{bytes_eq}
-use Rattle.script_read.specs.Knows.{Knows, declared_by, has_name}
+use Rattle.script_read.specs.FileNames.{Knows, declared_by, has_name}
 use Rattle.script_read.proofs.FileDeclares.{and_false, knows_more}
 use Rattle.script_read.proofs.NameSets.{or_none}
 use Rattle.script_read.specs.declared.declarations.Declarations.{Declarations}

@@ -1,13 +1,13 @@
+pub mod ExampleTexts
 pub mod FileDeclares
 pub mod FileLines
-pub mod FirstBads
+pub mod FirstBadLaws
 pub mod FirstWords
 pub mod Instructions
 pub mod JudgedLines
-pub mod JudgedTexts
 pub mod LastThread
 pub mod NameSets
+pub mod ProgressLaws
 pub mod ReadAnswers
-pub mod ReadingLines
 pub mod Replicated
 pub mod SourceLaws

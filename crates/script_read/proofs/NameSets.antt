@@ -12,7 +12,7 @@ use Rattle.std.specs.Ordering.{is_eq, nat_cmp}
 use Rattle.std.specs.Prelude.{◌||◌, ◌&&◌, cond, decimal}
 use Rattle.std.specs.Str.{bytes_eq}
 use Rattle.script_words.specs.Fields.{number_of}
-use Rattle.script_read.specs.Knows.{has_name}
+use Rattle.script_read.specs.FileNames.{has_name}
 use Rattle.script_words.proofs.Numbers.{number_takes, number_again}
 use Rattle.script_words.proofs.Steps.{some_is, same_bytes}
 

@@ -1,9 +1,9 @@
 -- What is read of a text is what it is accepted as, and what is told of it is its first bad line.
 use Rattle.std.proofs.Common.{◌≡◌, ℕ, List, sym, Ok, Err}
 use Rattle.script_read.specs.FirstBad.{IsFirstBad}
-use Rattle.script_read.specs.Judged.{read_text}
+use Rattle.script_read.specs.LineByLine.{read_text}
 use Rattle.script_read.specs.declared.reason.Reason.{Reason}
-use Rattle.script_read.proofs.FirstBads.{read_text_ok, read_text_bad, one_first_bad}
+use Rattle.script_read.proofs.FirstBadLaws.{read_text_ok, read_text_bad, one_first_bad}
 use Rattle.script_read.proofs.SourceLaws.{read_is_accepted, accepted_not_bad, one_accepted}
 use Rattle.script_types.specs.Source.{IsAccepted}
 use Rattle.script_types.specs.declared.context.Context.{Context}

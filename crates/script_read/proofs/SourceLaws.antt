@@ -12,7 +12,7 @@ use Rattle.script_read.specs.Reasons.{has, reasons, keyword_in, is_scheduled, af
 use Rattle.script_types.specs.declared.keyword.Keyword.{Keyword}
 use Rattle.script_read.specs.declared.reason.Reason.{Reason}
 use Rattle.script_read.specs.declared.reason.Reason.TheVariants as reason
-use Rattle.script_read.proofs.FirstBads.{find_is, read_or_bad, read_not_bad, one_script_read}
+use Rattle.script_read.proofs.FirstBadLaws.{find_is, read_or_bad, read_not_bad, one_script_read}
 use Rattle.script_words.proofs.FormsAgain.{kind_at, takes, line_again, keyword_again}
 use Rattle.script_words.proofs.Steps.{by_test, same_bytes}
 use Rattle.script_types.specs.BuiltLine.{is_built_line}

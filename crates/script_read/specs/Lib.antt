@@ -1,9 +1,9 @@
 pub mod Answer
 pub mod Counts
+pub mod FileNames
 pub mod FirstBad
-pub mod Judged
 pub mod Judging
-pub mod Knows
+pub mod LineByLine
 pub mod Progress
 pub mod Reasons
 pub mod Refusal

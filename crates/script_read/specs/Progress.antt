@@ -1,6 +1,6 @@
 -- Reading the lines of a text one after another.
 use Rattle.std.specs.Prelude.{◌≡◌, ℕ, ◌≤◌, length, List, Option, Some, None, Result, Ok, Err}
-use Rattle.script_read.specs.Knows.{AreKnown}
+use Rattle.script_read.specs.FileNames.{AreKnown}
 use Rattle.script_read.specs.Reasons.{first_reason, after_text}
 use Rattle.script_read.specs.declared.progress.Progress.{Progress}
 use Rattle.script_read.specs.declared.progress.Reading.{Reading}

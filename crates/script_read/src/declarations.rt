@@ -3,7 +3,7 @@ ghost use Rattle.std.specs.Prelude.{◌≡◌, ◌<◌, ℕ, List, [], ◌∷◌
 ghost use Rattle.std.specs.BTreeSet.{contains};
 ghost use Rattle.std.specs.Ordering.{nat_cmp};
 ghost use Rattle.std.specs.Str.{bytes_eq};
-ghost use Rattle.script_read.specs.Knows.{has_name, Knows, AreKnown};
+ghost use Rattle.script_read.specs.FileNames.{has_name, Knows, AreKnown};
 ghost use Rattle.script_types.specs.Names.{Declared, file_declares};
 ghost use Rattle.script_types.specs.SourceText.{text_lines};
 

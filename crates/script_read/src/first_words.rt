@@ -2,7 +2,7 @@
 ghost use Rattle.std.specs.Prelude.{◌≡◌, List, ℕ, ◌∷◌, [], Some, None, MatchOption};
 ghost use Rattle.script_types.specs.SourceText.{words_of};
 ghost use Rattle.script_types.specs.Names.{first_two};
-ghost use Rattle.script_read.specs.Knows.{declared_by};
+ghost use Rattle.script_read.specs.FileNames.{declared_by};
 
 use script_words::{begins_comment, cut};
 

@@ -1,7 +1,7 @@
 //! What a line of a text is: bad, and for which reason, or a line.
 ghost use Rattle.std.specs.Prelude.{◌≡◌, IsTrue, IfNone, IfOk, List};
 ghost use Rattle.script_read.specs.Judging.{refused, reason_of_fault, word_tests, line_tests, judged_as, IsJudged, IsJudgedWithin};
-ghost use Rattle.script_read.specs.Knows.{Knows, AreKnown, names_something};
+ghost use Rattle.script_read.specs.FileNames.{Knows, AreKnown, names_something};
 ghost use Rattle.script_words.specs.Pieces.{pieces};
 ghost use Rattle.script_types.specs.Names.{Declared, file_declares};
 ghost use Rattle.script_types.specs.SourceText.{text_lines};

@@ -2,7 +2,7 @@
 ghost use Rattle.std.specs.Prelude.{◌≡◌, IsTrue, List, ◌||◌, codes, decimal};
 ghost use Rattle.std.specs.List.{list_all};
 ghost use Rattle.std.specs.Str.{bytes_eq};
-ghost use Rattle.script_read.specs.Knows.{Knows, names_something};
+ghost use Rattle.script_read.specs.FileNames.{Knows, names_something};
 ghost use Rattle.script_types.specs.Names.{Declared, is_declared, is_irq_declared, is_known, is_known_instr, is_known_op};
 
 use crate::declarations::{Declarations, has_name};

@@ -4,8 +4,12 @@
 mod built;
 mod context;
 mod declarations;
+#[cfg(test)]
+mod every_form;
 mod fault;
 mod first_words;
+#[cfg(test)]
+mod form_tests;
 mod judge;
 mod known;
 mod law;

@@ -1,6 +1,6 @@
 //! Reading the lines of a text one after another, up to the first bad one.
 ghost use Rattle.std.specs.Prelude.{◌≡◌, ◌+◌, ◌<◌, ◌≤◌, length, IfOk, OnOk, IsTrue};
-ghost use Rattle.script_read.specs.Judged.{at_end, read_text};
+ghost use Rattle.script_read.specs.LineByLine.{at_end, read_text};
 ghost use Rattle.script_read.specs.Judging.{IsJudged, IsJudgedWithin};
 ghost use Rattle.script_read.specs.Progress.{reading_of, IsSteady, IsLineRead};
 ghost use Rattle.script_types.specs.Context.{start, after, is_ended};
@@ -54,7 +54,7 @@ impl<'a> Progress<'a> {
     }
 
     /// Adds a line.
-    #[tactic(auto, using(crate::proofs::ReadingLines::processes_after))]
+    #[tactic(auto, using(crate::proofs::ProgressLaws::processes_after))]
     fn add(&mut self, alloc: Global, line: SourceLine) -> Result<(), NoMemory>
         requires steady { IsSteady self.old }
         requires within { IsTrue (is_within self.old.context line) }

@@ -1,8 +1,8 @@
 -- The parts of a body's words between the words `;` are its operations.
-use Rattle.std.proofs.Common.{◌≡◌, ℕ, zero, suc, ◌<◌, Bool, List, [], ◌∷◌, ◌++◌, length, map, take, get_or, refl, sym, subst, ap, ◌∙◌, arith}
+use Rattle.std.proofs.Common.{◌≡◌, ℕ, zero, suc, ◌<◌, Bool, true, false, List, [], ◌∷◌, ◌++◌, length, map, take, get_or, refl, sym, subst, ap, ◌∙◌, arith}
 use Rattle.std.specs.Borrow.{Bor}
 use Rattle.std.specs.List.{AllByRecursion, list_all, slice_split, onto_first}
-use Rattle.std.specs.Prelude.{codes}
+use Rattle.std.specs.Prelude.{◌&&◌, codes}
 use Rattle.std.specs.Str.{bytes_eq}
 use Rattle.script_words.specs.LineSigns.{operations}
 use Rattle.script_words.specs.Pieces.{pieces}
@@ -32,7 +32,7 @@ all_parts : (test : List (List ℕ) → Bool) (parts : List (List (Bor (List ℕ
 all_parts test [] = refl
 all_parts test (p ∷ ps) = rw (all_parts test ps) refl
 
-pub all_operations : (test : List (List ℕ) → Bool) (words : List (Bor (List ℕ))) → list_all (λ part. test (pieces part)) (parts_of words) ≡ list_all test (operations (pieces words))
+all_operations : (test : List (List ℕ) → Bool) (words : List (Bor (List ℕ))) → list_all (λ part. test (pieces part)) (parts_of words) ≡ list_all test (operations (pieces words))
 all_operations test words = all_parts test (parts_of words) ∙ ap (list_all test) (parts_are_operations words)
 
 -- a part that was yielded is the next
@@ -56,6 +56,25 @@ take_whole [] zero h = refl
 take_whole [] (suc n) h = refl
 take_whole (p ∷ ps) zero h = absurd (omega arith)
 take_whole (p ∷ ps) (suc n) h = ap (λ qs. p ∷ qs) (take_whole ps n (omega arith))
+
+-- the parts so far pass a test, and one more
+and_again : (b c d : Bool) → (b && (c && d)) ≡ ((b && c) && d)
+and_again true c d = refl
+and_again false c d = refl
+
+and_true : (b : Bool) → (b && true) ≡ b
+and_true true = refl
+and_true false = refl
+
+pub one_more_passes : {A : Type 0} (test : A → Bool) (parts : List A) (n : ℕ) (part : A) → n < length parts → part ≡ get_or parts n part → list_all test (take (suc n) parts) ≡ (list_all test (take n parts) && test part)
+one_more_passes test [] n part within is = absurd (omega arith)
+one_more_passes test (p ∷ ps) zero part within is = and_true (test p) ∙ ap test (sym is)
+one_more_passes test (p ∷ ps) (suc n) part within is =
+    let later = one_more_passes test ps n part (omega arith) is in
+    rw later (and_again (test p) (list_all test (take n ps)) (test part))
+
+pub whole_passes : (test : List (List ℕ) → Bool) (words : List (Bor (List ℕ))) (n : ℕ) → n ≡ length (parts_of words) → list_all (λ part. test (pieces part)) (take n (parts_of words)) ≡ list_all test (operations (pieces words))
+whole_passes test words n h = ap (list_all (λ part. test (pieces part))) (take_whole (parts_of words) n h) ∙ all_operations test words
 
 map_parts : {B : Type 0} (f : List (List ℕ) → B) (parts : List (List (Bor (List ℕ)))) → map (λ part. f (pieces part)) parts ≡ map f (map pieces parts)
 map_parts f [] = refl

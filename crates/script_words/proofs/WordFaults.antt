@@ -6,7 +6,7 @@ use Rattle.std.specs.Borrow.{Bor}
 use Rattle.std.specs.List.{list_all}
 use Rattle.std.specs.Str.{bytes_eq}
 use Rattle.std.specs.Str.Parse.{digits_value}
-use Rattle.script_words.specs.Faults.{fault_by, fault_with, is_of_form}
+use Rattle.script_words.specs.Faults.{fault_by, both_faults, is_of_form}
 use Rattle.script_words.specs.Fields.{is_number}
 use Rattle.script_words.specs.LineSigns.{all_pass_as, body_part, is_op, operations}
 use Rattle.script_words.specs.Pieces.{pieces}
@@ -90,9 +90,11 @@ and_true : (b : Bool) → (b && true) ≡ b
 and_true true = refl
 and_true false = refl
 
-joined : (f r form range : Bool) → fault_with (fault_by f r) form range ≡ fault_by (f && form) (r && range)
+pub joined : (f r form range : Bool) → both_faults (fault_by f r) (fault_by form range) ≡ fault_by (f && form) (r && range)
 joined false r form range = refl
-joined true false form range = refl
+joined true false false range = refl
+joined true false true false = refl
+joined true false true true = refl
 joined true true form range = refl
 
 pub line_without : (k : Keyword) (second : Bool) (words : List (List ℕ)) → body_of k second ≡ None → fault_by (each_passes has_form (operands_of k second) (drop 1 words)) (each_passes is_in_range (operands_of k second) (drop 1 words)) ≡ fault_by (all_pass_as has_form k second words) (all_pass_as is_in_range k second words)
@@ -102,7 +104,7 @@ line_without k second words none =
     rw (none, f, r) refl
 
 pub line_with : (k : Keyword) (second : Bool) (words : List (List ℕ)) (kind : BodyKind) → body_of k second ≡ Some kind
-    → fault_with (fault_by (each_passes has_form (operands_of k second) (drop 1 words)) (each_passes is_in_range (operands_of k second) (drop 1 words))) (list_all (is_op has_form kind) (operations (body_part (operands_of k second) words))) (list_all (is_op is_in_range kind) (operations (body_part (operands_of k second) words)))
+    → both_faults (fault_by (each_passes has_form (operands_of k second) (drop 1 words)) (each_passes is_in_range (operands_of k second) (drop 1 words))) (fault_by (list_all (is_op has_form kind) (operations (body_part (operands_of k second) words))) (list_all (is_op is_in_range kind) (operations (body_part (operands_of k second) words))))
     ≡ fault_by (all_pass_as has_form k second words) (all_pass_as is_in_range k second words)
 line_with k second words kind some =
     let f = each_passes has_form (operands_of k second) (drop 1 words) in

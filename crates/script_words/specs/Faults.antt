@@ -15,8 +15,10 @@ is_of_form (Some fault.Form) = true
 is_of_form (Some fault.Range) = false
 is_of_form None = false
 
--- what is wrong with words and a body behind them, by the words' fault, and the body's forms and ranges
-abbrev pub fault_with : Option Fault → Bool → Bool → Option Fault
-fault_with (Some fault.Form) form range = Some fault.Form
-fault_with (Some fault.Range) form range = fault_by form false
-fault_with None form range = fault_by form range
+-- of two faults one of form comes first
+abbrev pub both_faults : Option Fault → Option Fault → Option Fault
+both_faults (Some fault.Form) other = Some fault.Form
+both_faults (Some fault.Range) (Some fault.Form) = Some fault.Form
+both_faults (Some fault.Range) (Some fault.Range) = Some fault.Range
+both_faults (Some fault.Range) None = Some fault.Range
+both_faults None other = other

@@ -5,4 +5,3 @@ pub mod LineSigns
 pub mod Operands
 pub mod Pieces
 pub mod Signs
-pub mod Tests

@@ -1,13 +1,13 @@
 //! What is wrong with a word of a line, found at one look where nothing is.
 ghost use Rattle.std.specs.Prelude.{◌≡◌, true, false};
-ghost use Rattle.script_words.specs.Faults.{fault_by};
+ghost use Rattle.script_words.specs.Faults.{fault_by, both_faults};
 ghost use Rattle.script_words.specs.Signs.{has_form, is_in_range, is_signed, is_natural, is_between, is_lettered, is_lettered_within};
 
 use crate::argument::{is_argument, is_argument_in_range};
-use crate::field::{is_number, is_word};
+use crate::field::{is_number, is_object_name, is_word};
 use crate::numeral::{is_between, is_natural, is_signed};
-use crate::sign::has_form;
 use script_types::Operand;
+use sym_base::read_name;
 
 /// What is wrong with a word, or with the words of a line.
 #[derive(Clone, Copy)]
@@ -102,6 +102,27 @@ fn argument_fault(word: &[u8]) -> Option<Fault>
     }
 }
 
+/// Whether a word names a kind of object that can be opened by name.
+fn is_kind(word: &[u8]) -> bool
+    ensures { result ≡ has_form Operand.Kind word.now }
+{
+    is_word(word, "process")
+        || is_word(word, "thread")
+        || is_word(word, "mutex")
+        || is_word(word, "semaphore")
+}
+
+/// What is wrong with two: a form first.
+pub fn both_faults(one: Option<Fault>, other: Option<Fault>) -> Option<Fault>
+    ensures { result ≡ both_faults one other }
+{
+    match (one, other) {
+        (Some(Fault::Form), _) | (_, Some(Fault::Form)) => Some(Fault::Form),
+        (None, None) => None,
+        _ => Some(Fault::Range),
+    }
+}
+
 /// What is wrong with the word of an operand.
 pub fn word_fault(operand: Operand, word: &[u8]) -> Option<Fault>
     ensures { result ≡ fault_by (has_form operand word.now) (is_in_range operand word.now) }
@@ -113,11 +134,11 @@ pub fn word_fault(operand: Operand, word: &[u8]) -> Option<Fault>
         Operand::Lettered(letter, last) => lettered_fault(letter, last, word),
         Operand::Slots => slots_fault(word),
         Operand::Argument => argument_fault(word),
-        Operand::Name
-        | Operand::Category
-        | Operand::Kind
-        | Operand::Mutex
-        | Operand::Semaphore
-        | Operand::Held => fault_of_form(has_form(operand, word)),
+        Operand::Name => fault_of_form(is_object_name(word)),
+        Operand::Category => fault_of_form(read_name(word).is_some()),
+        Operand::Kind => fault_of_form(is_kind(word)),
+        Operand::Mutex => fault_of_form(is_word(word, "mutex")),
+        Operand::Semaphore => fault_of_form(is_word(word, "semaphore")),
+        Operand::Held => fault_of_form(is_word(word, "held")),
     }
 }

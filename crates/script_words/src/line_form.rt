@@ -2,51 +2,15 @@
 ghost use Rattle.std.specs.List.{list_all};
 ghost use Rattle.std.specs.Prelude.{◌≡◌, drop, option_map, codes};
 ghost use Rattle.std.specs.Str.{bytes_eq};
-ghost use Rattle.script_words.specs.Faults.{fault_by, fault_with, is_of_form};
+ghost use Rattle.script_words.specs.Faults.{fault_by, is_of_form};
 ghost use Rattle.script_words.specs.LineSigns.{op_signs, are_words, is_op, operations, all_pass_as};
 ghost use Rattle.script_words.specs.Pieces.{pieces};
 ghost use Rattle.script_words.specs.Signs.{each_passes, has_form, is_in_range};
-ghost use Rattle.script_words.specs.Tests.{passes};
 
-use crate::fault::{Fault, word_fault};
+use crate::fault::{Fault, both_faults, word_fault};
 use crate::field::is_word;
 use crate::line_signs::{DEVICE, body_of, operands_of};
-use crate::sign::{has_form, is_in_range};
 use script_types::{BodyKind, Keyword, Operand};
-
-/// What is tested of a word.
-#[derive(Clone, Copy)]
-pub enum Test {
-    /// Whether it has the form of its operand.
-    Form,
-    /// Whether its numbers are in the range of its operand.
-    Range,
-}
-
-/// Whether a word passes the test of its operand.
-fn passes(test: Test, operand: Operand, word: &[u8]) -> bool
-    ensures { result ≡ passes test operand word.now }
-{
-    match test {
-        Test::Form => has_form(operand, word),
-        Test::Range => is_in_range(operand, word),
-    }
-}
-
-/// Whether each word passes the test of its operand.
-fn each_passes(test: Test, operands: &[Operand], words: &[&[u8]]) -> bool
-    ensures { result ≡ each_passes (passes test) operands.now (pieces words.now) }
-{
-    for i in 0..operands.len() {
-        if i >= words.len() {
-            return false;
-        }
-        if !passes(test, operands[i], words[i]) {
-            return false;
-        }
-    }
-    true
-}
 
 /// The words behind so many.
 #[tactic(auto, using(crate::proofs::WordPlaces::pieces_behind, crate::proofs::WordPlaces::none_behind))]
@@ -94,41 +58,11 @@ fn call_signs(first: &[u8]) -> Option<&'static [Operand]>
     }
 }
 
-/// Whether there are as many words as operands, and each passes the test.
-#[tactic(auto, using(crate::proofs::WordPlaces::pieces_length))]
-fn are_words(test: Test, operands: &[Operand], words: &[&[u8]]) -> bool
-    ensures { result ≡ are_words (passes test) operands.now (pieces words.now) }
-{
-    words.len() == operands.len() && each_passes(test, operands, words)
-}
-
-/// Whether words are an operation of a body that passes the test.
-fn is_operation(test: Test, kind: BodyKind, words: &[&[u8]]) -> bool
-    ensures { result ≡ is_op (passes test) kind (pieces words.now) }
-{
-    if words.is_empty() {
-        return false;
-    }
-    match operation_signs(kind, words[0]) {
-        Some(operands) => are_words(test, operands, &words[1..]),
-        None => false,
-    }
-}
-
 /// Whether a word stands between two operations.
 pub fn ends_operation(word: &[u8]) -> bool
     ensures { result ≡ bytes_eq word.now (codes ";") }
 {
     is_word(word, ";")
-}
-
-/// Whether each operation of a body passes the test.
-fn are_operations(test: Test, kind: BodyKind, words: &[&[u8]]) -> bool
-    ensures { result ≡ list_all (is_op (passes test) kind) (operations (pieces words.now)) }
-{
-    words
-        .split(|word| ends_operation(word))
-        .all(|operation| is_operation(test, kind, operation))
 }
 
 /// Whether a fault is one of form.
@@ -163,16 +97,40 @@ fn words_fault(operands: &[Operand], words: &[&[u8]]) -> Option<Fault>
     }
 }
 
-/// What is wrong with words and a body behind them.
-fn fault_with(fault: Option<Fault>, form: bool, range: bool) -> Option<Fault>
-    ensures { result ≡ fault_with fault form range }
+/// What is wrong with words that must be as many as the operands.
+#[tactic(auto, using(crate::proofs::WordPlaces::pieces_length))]
+fn all_words_fault(operands: &[Operand], words: &[&[u8]]) -> Option<Fault>
+    ensures { result ≡ fault_by (are_words has_form operands.now (pieces words.now)) (are_words is_in_range operands.now (pieces words.now)) }
 {
-    match fault {
-        Some(Fault::Form) => Some(Fault::Form),
-        _ if !form => Some(Fault::Form),
-        None if range => None,
-        _ => Some(Fault::Range),
+    if words.len() == operands.len() {
+        words_fault(operands, words)
+    } else {
+        Some(Fault::Form)
     }
+}
+
+/// What is wrong with the words of an operation of a body.
+fn operation_fault(kind: BodyKind, words: &[&[u8]]) -> Option<Fault>
+    ensures { result ≡ fault_by (is_op has_form kind (pieces words.now)) (is_op is_in_range kind (pieces words.now)) }
+{
+    if words.is_empty() {
+        return Some(Fault::Form);
+    }
+    match operation_signs(kind, words[0]) {
+        Some(operands) => all_words_fault(operands, &words[1..]),
+        None => Some(Fault::Form),
+    }
+}
+
+/// What is wrong with the words of a body.
+fn body_fault(kind: BodyKind, words: &[&[u8]]) -> Option<Fault>
+    ensures { result ≡ fault_by (list_all (is_op has_form kind) (operations (pieces words.now))) (list_all (is_op is_in_range kind) (operations (pieces words.now))) }
+{
+    let mut fault = None;
+    for operation in words.split(|word| ends_operation(word)) {
+        fault = both_faults(fault, operation_fault(kind, operation));
+    }
+    fault
 }
 
 /// What is wrong with the words of a line: a form first, of an operand or in the body.
@@ -186,8 +144,7 @@ pub fn line_fault(keyword: Keyword, second: bool, words: &[&[u8]]) -> Option<Fau
         None => fault,
         Some(kind) => {
             let body = words_behind(words, operands.len() + 1);
-            let form = are_operations(Test::Form, kind, body);
-            fault_with(fault, form, are_operations(Test::Range, kind, body))
+            both_faults(fault, body_fault(kind, body))
         }
     }
 }

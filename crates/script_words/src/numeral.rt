@@ -1,6 +1,6 @@
-//! Numbers with a range, and letters with a number.
+//! Numbers with a range.
 ghost use Rattle.std.specs.Prelude.{◌≡◌};
-ghost use Rattle.script_words.specs.Signs.{is_signed, is_natural, is_lettered, is_lettered_within, is_between};
+ghost use Rattle.script_words.specs.Signs.{is_signed, is_natural, is_between};
 
 use crate::field::{is_number, is_word, read_natural};
 
@@ -28,26 +28,6 @@ pub fn is_natural(low: u32, high: u32, word: &[u8]) -> bool
     match read_natural(word, high) {
         Some(number) => low <= number,
         None => false,
-    }
-}
-
-/// Whether a word is this letter and a number.
-pub fn is_lettered(letter: u8, word: &[u8]) -> bool
-    ensures { result ≡ is_lettered letter word.now }
-{
-    match word {
-        [] => false,
-        [first, digits @ ..] => *first == letter && is_number(digits),
-    }
-}
-
-/// Whether the number behind a word's letter is at most the last.
-pub fn is_lettered_within(last: u8, word: &[u8]) -> bool
-    ensures { result ≡ is_lettered_within last word.now }
-{
-    match word {
-        [] => is_natural(0, last as u32, word),
-        [_, digits @ ..] => is_natural(0, last as u32, digits),
     }
 }
 

@@ -11,19 +11,14 @@ use Rattle.script_types.specs.declared.declaration.ThreadDecl.{ThreadDecl}
 use Rattle.script_types.specs.declared.script.Script.{Script}
 use Rattle.script_types.specs.Source.{IsValid}
 use Rattle.script_types.proofs.ProcessThreads.{HasThread, valid_has_thread}
-use Rattle.state_rows.specs.declared.object.ObjectRow.{ObjectRow}
 use Rattle.machine.specs.declared.boot.Born.{Born}
 use Rattle.state_rows.specs.declared.thread.ThreadRow.{ThreadRow}
 use Rattle.machine.specs.Boot.{boot, boot_of, born, born_kernel, born_queues, born_thread, born_threads, born_processes, is_of}
 use Rattle.machine.specs.Rows.{object_of}
 use Rattle.machine.specs.WellFormed.{IsAlive}
 use Rattle.machine.specs.References.{total, thread_names, count_of}
+use Rattle.machine.proofs.Fitting.Living.{alive_inside}
 use Rattle.machine.proofs.References.Same.{same_object, same_self}
-
-alive_is_some : (objects : List (Option ObjectRow)) (i : ℕ) → IsAlive (get_or objects i None) → i < length objects
-alive_is_some [] i h = absurd h
-alive_is_some (x ∷ xs) zero h = omega arith
-alive_is_some (x ∷ xs) (suc i) h = let r = alive_is_some xs i h in omega arith
 
 -- how often the threads of a list refer to an object
 abbrev links : ObjNo → List Born → ℕ
@@ -115,7 +110,7 @@ pub counted-boot : (script : Script) → IsValid script → (o : ObjNo) → IsAl
 unfolding boot_of
 counted-boot script valid o alive =
     let bs = born script in
-    let there = alive_is_some (map (λ b. Some b.object) bs) o.0 alive in
+    let there = alive_inside (map (λ b. Some b.object) bs) o.0 alive in
     let long = length-map bs (λ b. Some b.object) in
     let some = held_at bs 0 bs o.0 o (omega arith) (born_held script valid) (omega arith) in
     omega arith

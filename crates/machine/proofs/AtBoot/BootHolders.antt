@@ -13,11 +13,12 @@ use Rattle.machine.specs.Boot.{boot, boot_of, born}
 use Rattle.state_rows.specs.HandleSlots.{slot_at, fresh_slot}
 use Rattle.machine.specs.HeldIn.{own_slot, use_names, rows_hold, owed_by, held_in}
 use Rattle.machine.specs.Holding.{held_at_boot}
-use Rattle.machine.specs.References.{total, option_names}
+use Rattle.machine.specs.References.{total, option_names, mutex_names}
 use Rattle.machine.specs.WellFormed.{dead_bit}
 use Rattle.machine.proofs.Lives.Bits.{gone, gone_bit, unmade}
-use Rattle.machine.proofs.AtBoot.Born.{EachBorn, each_born}
-use Rattle.machine.proofs.AtBoot.BootRows.{total-const, const_either, born_row}
+use Rattle.machine.proofs.AtBoot.BootLocks.{nothing_at}
+use Rattle.machine.proofs.AtBoot.BootRows.{total-const, const_either}
+use Rattle.machine.proofs.AtBoot.Born.{EachBorn, each_born, born_row}
 
 fresh_own_slot : (c : Bool) (n i : ℕ) (x : ObjNo) → own_slot c x (slot_at (replicate n fresh_slot) i) ≡ 0
 fresh_own_slot true n i x = refl
@@ -51,11 +52,11 @@ held-boot script shaped g x = let a = rows g in let b = owed in omega arith
     owed : total (total (owed_by g x)) (map (λ _. []) bs) ≡ 0
     owed = total-const (total (owed_by g x)) [] bs refl
 
-    rows : (g : Holder) → rows_hold tables (map (λ b. b.thread) bs) g x ≡ held_at_boot script g x
+    rows : (g : Holder) → rows_hold tables (map (λ b. b.thread) bs) (map (λ _. []) bs) g x ≡ held_at_boot script g x
     rows (InProcess p i) = own_slot_of (is_some (get_or (map (λ b. b.thread) bs) p.0 None)) (get_or tables p.0 []) i x (const_either (replicate 256 fresh_slot) [] bs p.0)
     rows (InThread t i) = own_slot_of (not (is_some (get_or (map (λ b. b.thread) bs) t.0 None))) (get_or tables t.0 []) i x (const_either (replicate 256 fresh_slot) [] bs t.0)
     rows (Temp t) = nothing_used_by script (length bs) bs t.0 x (get_or (map (λ b. b.thread) bs) t.0 None) (each_born script shaped) refl
-    rows (Own t) = refl
+    rows (Own t) = nothing_at bs (λ (l : List ObjNo). total (mutex_names x) l ≡ 0) t.0 refl
     rows (Link t) = refl
     rows (Message m) = refl
     rows Kernel = refl

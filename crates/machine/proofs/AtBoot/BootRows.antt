@@ -8,24 +8,27 @@ use Rattle.script_types.specs.declared.script.Script.{Script}
 use Rattle.script_types.specs.Shape.{IsShaped}
 use Rattle.script_types.specs.Source.{IsValid}
 use Rattle.script_types.proofs.ShapeLaws.{valid_is_shaped}
-use Rattle.sym_base.specs.declared.limits.TheConstants.Limits.{DEVICES}
+use Rattle.sym_base.specs.declared.limits.TheConstants.Limits.{DEVICES, OBJECTS}
 use Rattle.state_rows.specs.RequestChanges.{new_rows as request_rows}
 use Rattle.state_rows.specs.declared.duty.Owed.{Owed}
 use Rattle.machine.specs.declared.boot.Born.{Born}
+use Rattle.state_rows.specs.declared.handle_slot.HandleSlot.{HandleSlot}
 use Rattle.state_rows.specs.declared.thread.ThreadRow.{ThreadRow}
 use Rattle.machine.specs.Boot.{boot, boot_of, born}
 use Rattle.state_rows.specs.HandleSlots.{fresh_slot, slot_at}
-use Rattle.machine.specs.References.{total, option_names, slot_names, thread_names, kernel_names, owed_names, count_of}
+use Rattle.machine.specs.References.{total, option_names, slot_names, thread_names, kernel_names, owed_names, mutex_names, count_of}
 use Rattle.machine.specs.Rows.{thread_of}
 use Rattle.state_rows.specs.HandleSlots.{IsTable}
 use Rattle.machine.specs.WellFormed.{EachMayOwe, AreRequests, AreRows, IsWellFormed, IsAlive, is_dead, dead_bit, owed_sweeps, weight}
 use Rattle.machine.proofs.AtBoot.BootCounts.{counted-boot}
 use Rattle.machine.proofs.AtBoot.BootLinks.{each_linked, linked_at}
+use Rattle.machine.proofs.AtBoot.BootLocks.{locks-boot, memories-boot, nothing_at}
 use Rattle.machine.proofs.AtBoot.BootNano.{synchronized-boot}
 use Rattle.machine.proofs.AtBoot.BootReady.{ready-boot}
 use Rattle.machine.proofs.AtBoot.BootRequests.{requests-boot}
 use Rattle.machine.proofs.AtBoot.BootServers.{servers-boot}
-use Rattle.machine.proofs.AtBoot.Born.{IsNewThread, EachBorn, each_born, born_few}
+use Rattle.machine.proofs.AtBoot.Born.{IsNewThread, EachBorn, each_born, born_few, born_row}
+use Rattle.machine.proofs.Lists.Copies.{copy_at}
 use Rattle.machine.proofs.References.Same.{same_other}
 
 total-replicate : {A : Type 0} (f : A → ℕ) (x : A) (n : ℕ) → f x ≡ 0 → total f (replicate n x) ≡ 0
@@ -57,12 +60,6 @@ born_alive script n [] i h lt = absurd (omega arith)
 born_alive script n (b ∷ bs) zero h lt = h.0.alive
 born_alive script n (b ∷ bs) (suc i) h lt = born_alive script n bs i h.1 (omega arith)
 
--- each row at boot is a new thread's
-pub born_row : (script : Script) (n : ℕ) (bs : List Born) (i : ℕ) (row : ThreadRow) → EachBorn script n bs → get_or (map (λ b. b.thread) bs) i None ≡ Some row → IsNewThread n row
-born_row script n [] i row h is = cc
-born_row script n (b ∷ bs) zero row h is = h.0.row row is
-born_row script n (b ∷ bs) (suc i) row h is = born_row script n bs i row h.1 is
-
 -- no row names an object past those at boot
 thread_names_past : (n : ℕ) (o : ObjNo) (thread : Option ThreadRow) → n ≤ o.0 → ((row : ThreadRow) → thread ≡ Some row → IsNewThread n row) → thread_names o thread ≡ 0
 thread_names_past n o None le rows = refl
@@ -88,6 +85,7 @@ boot_count_inside script shaped o le =
     let none : thread_of (boot script) o ≡ None = get_or_past (map (λ b. b.thread) (born script)) o.0 None (simp length-map le) in
     let kernel : kernel_names (boot script) o ≡ 0 = ap (λ x. if is_some x then 1 else 0) none in
     let owed = total-const (total (owed_names o)) [] (born script) refl in
+    let mutexes = total-const (total (mutex_names o)) [] (born script) refl in
     omega arith
 
 fresh_instances : (n i : ℕ) → (slot_at (replicate n fresh_slot) i).instance ≤ 16383
@@ -96,13 +94,7 @@ fresh_instances (suc n) zero = omega arith
 fresh_instances (suc n) (suc i) = fresh_instances n i
 
 fresh_table : IsTable (replicate 256 fresh_slot)
-fresh_table = record { size = length-replicate 256 fresh_slot; instances = fresh_instances 256 }
-
--- nobody owes anything
-owes_nothing : (bs : List Born) (P : List Owed → Type 0) (k : ℕ) → P [] → P (get_or (map (λ _. []) bs) k [])
-owes_nothing [] P k h = h
-owes_nothing (b ∷ bs) P zero h = h
-owes_nothing (b ∷ bs) P (suc k) h = owes_nothing bs P k h
+fresh_table = record { size = length-replicate 256 fresh_slot; instances = fresh_instances 256; counted = λ i o is. let none = copy_at fresh_slot 256 i in let object = ap (λ (slot : HandleSlot). slot.object) none in absurd (cc) }
 
 pub rows-boot : (script : Script) → IsValid script → AreRows script (boot script)
 unfolding boot_of
@@ -139,13 +131,15 @@ rows-boot script valid =
         servers = λ k queue row is serves. servers-boot script k queue row is serves;
       };
       duties = record {
-        own = λ k. owes_nothing bs (EachMayOwe (map (λ b. b.thread) bs) k) k tt;
-        few = λ k. owes_nothing bs (λ (l : List Owed). total weight l ≤ 12) k (omega arith);
-        returns = λ k _. owes_nothing bs (λ (l : List Owed). l ≡ []) k refl;
+        own = λ k. nothing_at bs (EachMayOwe (map (λ b. b.thread) bs) k) k tt;
+        few = λ k. nothing_at bs (λ (l : List Owed). total weight l ≤ 12) k (omega arith);
+        returns = λ k _. nothing_at bs (λ (l : List Owed). l ≡ []) k refl;
       };
       nano = synchronized-boot script shaped;
       deferred = record { idfcs = refl; places = refl; queues = length-replicate {A = List ℕ} (1 + length script.queues) []; known = tt };
       requests = subst (λ (n : ℕ). AreRequests n (request_rows (length bs) DEVICES)) (sym threads) (requests-boot (length bs));
+      locks = locks-boot (length (map (λ b. Some b.object) bs)) OBJECTS bs refl;
+      memories = memories-boot script shaped;
       lives = record {
         alive = λ o c. elim (cases_lt o.0 (length bs)) [
           | inl lt ↦ born_alive script (length bs) bs o.0 each lt

@@ -1,5 +1,5 @@
 -- What holds of each that stands at boot.
-use Rattle.std.proofs.Common.{◌≡◌, ℕ, ◌+◌, ◌<◌, ◌≤◌, List, [], ◌∷◌, ◌++◌, length, arith, refl, sym, subst, ap, ◌∙◌, Option, Some, None, Bool, true, false}
+use Rattle.std.proofs.Common.{◌≡◌, ℕ, suc, zero, ◌+◌, ◌<◌, ◌≤◌, List, [], ◌∷◌, ◌++◌, length, get_or, map, arith, refl, sym, subst, ap, ◌∙◌, Option, Some, None, Bool, true, false}
 use Rattle.std.specs.Prelude.{codes, slice_get, is_some, not, ◌&&◌, if◌then◌else◌, nat_le, IsTrue}
 use Rattle.std.specs.List.{list_all}
 use Rattle.std.proofs.lemmas.Bool.{and_parts, leb-true}
@@ -212,3 +212,9 @@ born_few script h =
     let f = length-append (born_kernel script) (born_processes script.threads 0 first script.processes) in
     let g = length-append (born_queues 1 script.queues) (born_threads None 0 0 script.threads) in
     let i = length_queues 1 script.queues in omega arith
+
+-- each row at boot is a new thread's
+pub born_row : (script : Script) (n : ℕ) (bs : List Born) (i : ℕ) (row : ThreadRow) → EachBorn script n bs → get_or (map (λ b. b.thread) bs) i None ≡ Some row → IsNewThread n row
+born_row script n [] i row h is = cc
+born_row script n (b ∷ bs) zero row h is = h.0.row row is
+born_row script n (b ∷ bs) (suc i) row h is = born_row script n bs i row h.1 is

@@ -4,7 +4,6 @@ use Rattle.std.specs.Prelude.{not, ◌&&◌, is_some, is_none, slice_get}
 use Rattle.std.proofs.lemmas.Bool.{cases_lt}
 use Rattle.std.proofs.lemmas.List.{append-nil, get_or_past}
 use Rattle.std.proofs.lemmas.Option.{slice_get_past}
-use Rattle.sym_base.specs.declared.kind.Kind.TheVariants.{Mutex}
 use Rattle.sym_base.specs.declared.number.ObjNo.{ObjNo}
 use Rattle.script_types.specs.declared.script.Script.{Script}
 use Rattle.script_types.specs.declared.instruction.Instr.{Instr}
@@ -40,14 +39,22 @@ use Rattle.machine.proofs.Fitting.Stepping.{FitsDecision, IsStepping, fits-nothi
 use Rattle.machine.proofs.Fitting.KernelThreads.{none_is, fits-flock, fits-funlock, fits-fswait, fits-fssignal, fits-enter, fits-leave, fits-flush, fits-suspend, fits-resume, fits-priority}
 use Rattle.machine.proofs.Fitting.Bodies.{Goes, goes-body}
 use Rattle.machine.proofs.Fitting.Requests.{fits-queue, fits-request, fits-cancel, fits-waitany, fits-waitfor, fits-status}
-use Rattle.machine.proofs.Fitting.Steps.{fits-create, fits-dup, fits-open, fits-open_return, fits-close}
+use Rattle.machine.proofs.Fitting.Locks.{fits-lock, fits-unlock, fits-wait, fits-signal}
+use Rattle.machine.proofs.Fitting.MemoryCalls.{fits-fill, fits-peek}
+use Rattle.machine.proofs.Fitting.Steps.{fits-create_mutex, fits-create_semaphore, fits-dup, fits-duplocal, fits-open, fits-open_return, fits-close}
 
 -- the steps of instructions fit
 fits-step : (script : Script) (S : State) (t : ObjNo) (row : ThreadRow) (instr : Instr) (p : Option Part) → IsStepping script S t row instr → is_returning row.part ≡ false → row.part ≡ p → FitsDecision script t S (step_of script S t row instr p)
-fits-step script S t row (instr.CreateMutex name x) p h going at = fits-create Mutex name x h h.registers refl
+fits-step script S t row (instr.CreateMutex name x) p h going at = fits-create_mutex name x h
+fits-step script S t row (instr.CreateSemaphore name count x) p h going at = fits-create_semaphore name count x h
 fits-step script S t row (instr.Open kind name x) p h going at = fits-open kind name x p h h.registers at
 fits-step script S t row (instr.Dup x y) p h going at = fits-dup x y p h h.registers.1 at
+fits-step script S t row (instr.DupLocal x y) p h going at = fits-duplocal x y p h h.registers.1 at
 fits-step script S t row (instr.Close x) p h going at = fits-close x h going
+fits-step script S t row (instr.Lock x) p h going at = fits-lock x p h at
+fits-step script S t row (instr.Unlock x) p h going at = fits-unlock x p h going at
+fits-step script S t row (instr.Wait x) p h going at = fits-wait x p h at
+fits-step script S t row (instr.Signal x) p h going at = fits-signal x p h at
 fits-step script S t row (instr.Flock f) p h going at = fits-flock f p h
 fits-step script S t row (instr.Funlock f) p h going at = fits-funlock f h
 fits-step script S t row instr.Fswait p h going at = fits-fswait p h
@@ -63,6 +70,8 @@ fits-step script S t row (instr.Cancel d) p h going at = fits-cancel d h
 fits-step script S t row instr.WaitAny p h going at = fits-waitany p h
 fits-step script S t row (instr.WaitFor s) p h going at = fits-waitfor s p h
 fits-step script S t row (instr.Status s) p h going at = fits-status s h
+fits-step script S t row (instr.Fill at length byte) p h going is = fits-fill at length byte h
+fits-step script S t row (instr.Peek at) p h going is = fits-peek at h
 fits-step script S t row _ p h going at = fits-nothing script S t
 
 -- and so do their returns

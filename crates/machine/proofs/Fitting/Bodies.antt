@@ -1,5 +1,5 @@
 -- The moves of bodies fit: those of each operation in the state that the earlier ones left.
-use Rattle.std.proofs.Common.{◌≡◌, ℕ, ◌+◌, ◌≤◌, List, [], ◌∷◌, ◌++◌, length, arith, refl, ap, Option, Some, None, Bool, true, false}
+use Rattle.std.proofs.Common.{◌≡◌, ℕ, ◌+◌, ◌≤◌, List, [], ◌∷◌, ◌++◌, length, arith, refl, ap, ◌∙◌, Option, Some, None, Bool, true, false}
 use Rattle.std.specs.Prelude.{ℤ, is_some, if◌then◌else◌, option_and_then, slice_get}
 use Rattle.std.proofs.lemmas.Bool.{leb-true}
 use Rattle.sym_base.specs.declared.kind.Kind.TheVariants.{Thread}
@@ -11,7 +11,9 @@ use Rattle.script_types.specs.declared.declaration.Op.{Op}
 use Rattle.script_types.specs.declared.declaration.Op.TheVariants as op
 use Rattle.script_types.specs.declared.script.Script.{Script}
 use Rattle.script_types.specs.Shape.{IsShaped, is_short}
+use Rattle.state_rows.specs.Locks.{is_among, waiters_at}
 use Rattle.state_rows.specs.Requests.{request_at}
+use Rattle.state_rows.specs.declared.locks.LockRows.{LockRows}
 use Rattle.state_rows.specs.declared.requests.Request.{Request}
 use Rattle.machine.specs.declared.moves.Move.{Move}
 use Rattle.machine.specs.declared.moves.Move.TheVariants as move
@@ -26,8 +28,8 @@ use Rattle.state_rows.specs.DeclaredCalls.{dfc_named, idfc_named}
 use Rattle.machine.specs.Bodies.{complete, end_wait, ends_wait, irq_of, leave_queue, op_moves, ops_moves, ops_of, ops_of_dfc, ops_of_idfc, ops_of_irq, queue_call, queue_immediate, queue_to_move, run_body, signal_object, signal_row}
 use Rattle.machine.specs.FastSemaphore.{signal_move}
 use Rattle.machine.specs.Find.{find_object}
-use Rattle.machine.specs.Fits.{EachFits, Sane, most_owed, most_told}
-use Rattle.machine.specs.Moves.{moved, perform, tell}
+use Rattle.machine.specs.Fits.{EachFits, Sane, WaitsNowhere, most_owed, most_told}
+use Rattle.machine.specs.Moves.{perform, tell}
 use Rattle.machine.specs.References.{total}
 use Rattle.machine.specs.Rows.{owed_of, thread_of}
 use Rattle.machine.specs.WellFormed.{AreRows, weight}
@@ -35,6 +37,8 @@ use Rattle.machine.proofs.Lists.Totals.{inside, total-append}
 use Rattle.machine.proofs.MoveLaws.Run.{each-sound, sane-after}
 use Rattle.machine.proofs.Numbers.Registers.{all_at}
 use Rattle.machine.proofs.RowLaws.Declared.{dfc_inside, idfc_inside, queue_inside}
+use Rattle.machine.proofs.Fitting.Stepping.{fits-both}
+use Rattle.machine.proofs.Fitting.Waiters.{waits_nowhere}
 
 -- the moves fit one by one, what they may owe has room, and they tell at most four effects
 pub record Goes (script : Script) (t : ObjNo) (S : State) (ms : List Move) : Type 0 where
@@ -55,10 +59,6 @@ light_few script S t ms rows light = let few = rows.duties.few t.0 in omega arit
 pub goes-light : (script : Script) (S : State) (t : ObjNo) (ms : List Move) → AreRows script S → OwesNothing script t S ms 4 → Goes script t S ms
 goes-light script S t ms rows h = record { each = h.each; few = light_few script S t ms rows h.light; told = h.told }
 
-pub fits-both : (script : Script) (S : State) (t : ObjNo) (xs ys : List Move) → EachFits script t xs S → EachFits script t ys (perform t xs S) → EachFits script t (xs ++ ys) S
-fits-both script S t [] ys h more = more
-fits-both script S t (m ∷ xs) ys h more = (h.0, fits-both script (moved t m S) t xs ys h.1 more)
-
 -- moves, and others in the state that they leave
 pub light-then : (script : Script) (S : State) (t : ObjNo) (xs ys : List Move) (n m most : ℕ) → n + m ≤ most → OwesNothing script t S xs n → OwesNothing script t (perform t xs S) ys m → OwesNothing script t S (xs ++ ys) most
 light-then script S t xs ys n m most fits h more =
@@ -78,33 +78,40 @@ no_moves : (script : Script) (S : State) (t : ObjNo) (n : ℕ) → OwesNothing s
 no_moves script S t n = record { each = tt; told = omega arith; light = refl }
 
 -- a signal of a thread's fast semaphore
-light-signal : (script : Script) (S : State) (t u : ObjNo) (row : ThreadRow) (what : Waiting) → thread_of S u ≡ Some row → OwesNothing script t S (signal_move u what ∷ []) 1
-light-signal script S t u row waiting.Fast is = record { each = (tt, tt); told = omega arith; light = refl }
-light-signal script S t u row _ is = record { each = ((ap is_some is, tt), tt); told = omega arith; light = refl }
+light-signal : (script : Script) (S : State) (t u : ObjNo) (row : ThreadRow) (what : Waiting) → AreRows script S → thread_of S u ≡ Some row → row.waiting ≡ what → OwesNothing script t S (signal_move u what ∷ []) 1
+light-signal script S t u row waiting.Fast rows is waits = record { each = (waits_nowhere script S u row rows is (λ o e. absurd (cc)), tt); told = omega arith; light = refl }
+light-signal script S t u row _ rows is waits = record { each = ((ap is_some is, tt), tt); told = omega arith; light = refl }
 
-light-named : (script : Script) (S : State) (t : ObjNo) (named : Option ObjNo) → OwesNothing script t S (signal_object S named) 1
-light-named script S t None = no_moves script S t 1
-light-named script S t (Some u) = by (thread_of S u) refl
+light-named : (script : Script) (S : State) (t : ObjNo) (named : Option ObjNo) → AreRows script S → OwesNothing script t S (signal_object S named) 1
+light-named script S t None rows = no_moves script S t 1
+light-named script S t (Some u) rows = by (thread_of S u) refl
   where
     by : (row : Option ThreadRow) → thread_of S u ≡ row → OwesNothing script t S (signal_row u row) 1
     by None is = no_moves script S t 1
-    by (Some row) is = light-signal script S t u row row.waiting is
+    by (Some row) is = light-signal script S t u row row.waiting rows is refl
 
--- a completion, and the end of its thread's wait
-light-end : (script : Script) (S T : State) (t u : ObjNo) (s : ℕ) (row : Option ThreadRow) → OwesNothing script t T (end_wait S u s row) 0
-light-end script S T t u s None = no_moves script T t 0
-light-end script S T t u s (Some row) = by (ends_wait S u s row.waiting)
+-- a completion, and the end of its thread's wait, which isn't one for an object
+ends_no_lock : (S : State) (u : ObjNo) (s : ℕ) (what : Waiting) (o : ObjNo) → ends_wait S u s what ≡ true → what ≡ waiting.Lock o → ⊥
+ends_no_lock S u s (waiting.Lock x) o ends is = cc
+ends_no_lock S u s _ o ends is = cc
+
+light-end : (script : Script) (S T : State) (t u : ObjNo) (s : ℕ) (row : Option ThreadRow) → AreRows script S → T.locks ≡ S.locks → thread_of S u ≡ row → OwesNothing script t T (end_wait S u s row) 0
+light-end script S T t u s None rows same is = no_moves script T t 0
+light-end script S T t u s (Some row) rows same is = by (ends_wait S u s row.waiting) refl
   where
-    by : (b : Bool) → OwesNothing script t T (if b then move.Wake u ∷ [] else []) 0
-    by true = record { each = (tt, tt); told = omega arith; light = refl }
-    by false = no_moves script T t 0
+    nowhere : ends_wait S u s row.waiting ≡ true → WaitsNowhere T u
+    nowhere ends o = ap (λ (r : LockRows). is_among u (waiters_at r o)) same ∙ waits_nowhere script S u row rows is (λ x waits. ends_no_lock S u s row.waiting x ends waits) o
 
-light-complete : (script : Script) (S : State) (t : ObjNo) (d : ℕ) (code : ℤ) (request : Option Request) → request_at S.requests d ≡ request → OwesNothing script t S (complete S d code request) 1
-light-complete script S t d code None is = no_moves script S t 1
-light-complete script S t d code (Some request) is =
+    by : (b : Bool) → ends_wait S u s row.waiting ≡ b → OwesNothing script t T (if b then move.Wake u ∷ [] else []) 0
+    by true ends = record { each = (nowhere ends, tt); told = omega arith; light = refl }
+    by false ends = no_moves script T t 0
+
+light-complete : (script : Script) (S : State) (t : ObjNo) (d : ℕ) (code : ℤ) (request : Option Request) → AreRows script S → request_at S.requests d ≡ request → OwesNothing script t S (complete S d code request) 1
+light-complete script S t d code None rows is = no_moves script S t 1
+light-complete script S t d code (Some request) rows is =
     light-then script S t (move.Requests (Complete d request.thread request.status code) ∷ []) _ 1 0 1 (omega arith)
     (record { each = ((inside S.requests.devices d request is, is), tt); told = omega arith; light = refl })
-    (light-end script S _ t request.thread request.status (thread_of S request.thread))
+    (light-end script S _ t request.thread request.status (thread_of S request.thread) rows refl refl)
 
 -- an operation
 pub light-op : (script : Script) (S : State) (t : ObjNo) (operation : Op) → AreRows script S → OwesNothing script t S (op_moves script S operation) 1
@@ -118,8 +125,8 @@ light-op script S t (op.Dfc name) rows = by (dfc_named script name) refl
     by : (found : Option ℕ) → dfc_named script name ≡ found → OwesNothing script t S (queue_to_move found) 1
     by None is = no_moves script S t 1
     by (Some dfc) is = record { each = (dfc_inside script S.deferred name dfc rows.deferred is, tt); told = omega arith; light = refl }
-light-op script S t (op.Fssignal name) rows = light-named script S t (find_object S Thread name)
-light-op script S t (op.Device d code) rows = light-complete script S t d code (request_at S.requests d) refl
+light-op script S t (op.Fssignal name) rows = light-named script S t (find_object S Thread name) rows
+light-op script S t (op.Device d code) rows = light-complete script S t d code (request_at S.requests d) rows refl
 light-op script S t (op.Queue name) rows = by (dfc_named script name) refl
   where
     by : (found : Option ℕ) → dfc_named script name ≡ found → OwesNothing script t S (queue_call S found) 1

@@ -47,10 +47,11 @@ use Rattle.machine.specs.WellFormed.{AreRows, is_before_use}
 use Rattle.machine.proofs.Lists.Cases.{if_cases}
 use Rattle.machine.proofs.Numbers.Registers.{priority_small}
 use Rattle.machine.proofs.Holders.ThreadRows.{row-here}
-use Rattle.machine.proofs.RowLaws.Tables.{object_in_is}
+use Rattle.machine.proofs.RowLaws.Tables.{object_of_is}
 use Rattle.machine.proofs.Fitting.Living.{handle_is_alive}
 use Rattle.machine.proofs.Fitting.Shared.{IsCheap}
 use Rattle.machine.proofs.Fitting.Stepping.{FitsDecision, IsStepping, fits-nothing, fits-refuse, fits-use, at_instruction, at-with_row}
+use Rattle.machine.proofs.Fitting.Waiters.{waits_nowhere, stepping_nowhere}
 
 pub none_of : {A : Type 0} (x : Option A) → is_some x ≡ false → x ≡ None
 none_of None e = refl
@@ -145,23 +146,23 @@ pub fits-fswait : {script : Script} {S : State} {t : ObjNo} {row : ThreadRow} {i
 fits-fswait {script = script} {S = S} {t = t} None h =
     fits-unless (step.Of word.Fswait part.Do) _ h (λ none.
     if_cases (FitsDecision script t S) (signal_count S.nano t == 0) _ _
-    (λ _. fits-later (step.Of word.Fswait part.Do) (move.Wait t waiting.Fast) (record { told = omega arith; light = refl }) none)
+    (λ _. fits-later (step.Of word.Fswait part.Do) (move.Wait t waiting.Fast) (record { told = omega arith; light = refl }) (none, stepping_nowhere h))
     (λ _. fits-nano (step.Of word.Fswait part.Do) (nano.Lower t) (pos 0) h (own_row h) tt))
 fits-fswait (Some p) h = fits-answer (step.Of word.Fswait part.Done) (pos 0) h
 
 -- `fssignal`
-signalled : {script : Script} {S : State} {t : ObjNo} {row : ThreadRow} {instr : Instr} (u : ObjNo) (r : ThreadRow) (what : Waiting) → IsStepping script S t row instr → thread_of S u ≡ Some r → FitsDecision script t S (answer t (step.Of word.Fssignal part.Do) (signal_move u what ∷ []) (pos 0))
-signalled {script = script} {S = S} {t = t} u r waiting.Fast h is =
-    fits-move (step.Of word.Fssignal part.Do) (move.Wake u) (pos 0) h (record { told = omega arith; light = refl }) tt
+signalled : {script : Script} {S : State} {t : ObjNo} {row : ThreadRow} {instr : Instr} (u : ObjNo) (r : ThreadRow) (what : Waiting) → IsStepping script S t row instr → thread_of S u ≡ Some r → r.waiting ≡ what → FitsDecision script t S (answer t (step.Of word.Fssignal part.Do) (signal_move u what ∷ []) (pos 0))
+signalled {script = script} {S = S} {t = t} u r waiting.Fast h is waits =
+    fits-move (step.Of word.Fssignal part.Do) (move.Wake u) (pos 0) h (record { told = omega arith; light = refl }) (waits_nowhere script S u r h.rows is (λ o e. absurd (cc)))
     (at-with_row script S (moved t (move.Wake u) S) t u (with_waiting waiting.Nothing) (record { role = λ r. refl; next = λ r. refl }) refl (at_instruction h))
-signalled u r _ h is = fits-nano (step.Of word.Fssignal part.Do) (nano.Raise u) (pos 0) h (ap is_some is) tt
+signalled u r _ h is waits = fits-nano (step.Of word.Fssignal part.Do) (nano.Raise u) (pos 0) h (ap is_some is) tt
 
 pub fits-fssignal : {script : Script} {S : State} {t : ObjNo} {row : ThreadRow} {instr : Instr} (name : List ℕ) → IsStepping script S t row instr → FitsDecision script t S (fssignal_do S t name)
 fits-fssignal {script = script} {S = S} {t = t} name h = found (find_object S kind.Thread name)
   where
     there : (u : ObjNo) (r : Option ThreadRow) → thread_of S u ≡ r → FitsDecision script t S (signal_thread t u r)
     there u None e = fits-refuse (step.Of word.Fssignal part.Do) error.Died h
-    there u (Some r) e = signalled u r r.waiting h e
+    there u (Some r) e = signalled u r r.waiting h e refl
 
     found : (named : Option ObjNo) → FitsDecision script t S (signal_found S t named)
     found None = fits-refuse (step.Of word.Fssignal part.Do) error.Died h
@@ -199,7 +200,7 @@ fits-look_kind {script = script} {S = S} {t = t} {row = row} kind word x h befor
   where
     found : (named : Option ObjNo) → of_kind S kind (object_at S t row (slice_index row.registers x)) ≡ named → FitsDecision script t S (look_at t word named)
     found None e = fits-refuse (step.Of word part.Look) error.BadHandle h
-    found (Some o) e = fits-use (step.Of word part.Look) o part.Do h before refl (handle_is_alive S _ _ o h.rows.lives (object_in_is _ _ o (of_kind_is S kind _ o e)))
+    found (Some o) e = fits-use (step.Of word part.Look) o part.Do h before refl (handle_is_alive S _ _ o h.rows.lives (object_of_is _ _ _ o (of_kind_is S kind _ o e)))
 
 -- a move of a call on a thread that is there
 pub record FitsCall (script : Script) (S : State) (t : ObjNo) (m : Move) : Type 0 where

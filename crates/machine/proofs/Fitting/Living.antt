@@ -1,6 +1,6 @@
 -- Objects that are referred to are alive.
-use Rattle.std.proofs.Common.{◌≡◌, ℕ, ◌<◌, List, length, arith, refl, ap, Option, Some, None, Bool, true, false}
-use Rattle.std.specs.Prelude.{not, position, nat_lt, ◌||◌, if◌then◌else◌, []}
+use Rattle.std.proofs.Common.{◌≡◌, ℕ, suc, zero, ◌<◌, List, [], ◌∷◌, length, get_or, arith, refl, ap, Option, Some, None, Bool, true, false}
+use Rattle.std.specs.Prelude.{not, position, nat_lt, ◌||◌, if◌then◌else◌}
 use Rattle.std.proofs.lemmas.List.Quantifiers.{position-Some}
 use Rattle.sym_base.specs.declared.number.ObjNo.{ObjNo}
 use Rattle.sym_base.specs.declared.kind.Kind.{Kind}
@@ -35,6 +35,12 @@ use_is_alive S t row o lives is uses =
     let used : option_names o row.uses ≡ same o o = ap (option_names o) uses in
     let self = same_self o in
     lives.alive o (omega arith)
+
+-- what is alive was made
+pub alive_inside : (objects : List (Option ObjectRow)) (i : ℕ) → IsAlive (get_or objects i None) → i < length objects
+alive_inside [] i h = absurd h
+alive_inside (x ∷ xs) zero h = omega arith
+alive_inside (x ∷ xs) (suc i) h = let r = alive_inside xs i h in omega arith
 
 not_dead : (dead : Bool) → not dead ≡ true → dead ≡ false
 not_dead true e = cc

@@ -1,6 +1,6 @@
 -- What is known where a thread makes a step of an instruction, and how its answers fit.
 use Rattle.state_rows.specs.Nano.{wanted_holder}
-use Rattle.std.proofs.Common.{◌≡◌, ◌<◌, ◌≤◌, List, [], length, get_or, arith, refl, ap, subst, ◌∙◌, Option, Some, None, true, false}
+use Rattle.std.proofs.Common.{◌≡◌, ℕ, ℤ, ◌<◌, ◌≤◌, List, [], ◌∷◌, ◌++◌, length, get_or, arith, refl, sym, ap, subst, ◌∙◌, Option, Some, None, true, false}
 use Rattle.std.specs.Prelude.{option_map}
 use Rattle.sym_base.specs.declared.error.Error.{Error}
 use Rattle.sym_base.specs.declared.number.ObjNo.{ObjNo}
@@ -14,19 +14,21 @@ use Rattle.entry_log.specs.declared.effect.Holder.TheVariants.{Temp}
 use Rattle.entry_log.specs.declared.step.Part.{Part}
 use Rattle.entry_log.specs.declared.step.Step.{Step}
 use Rattle.machine.specs.declared.decision.Decision.{Decision}
-use Rattle.machine.specs.declared.moves.Move.TheVariants.{GoOn, Gain}
+use Rattle.machine.specs.declared.moves.Move.{Move}
+use Rattle.machine.specs.declared.moves.Move.TheVariants.{GoOn, Gain, Write, Advance}
 use Rattle.state_rows.specs.declared.thread.Waiting.TheVariants as waiting
 use Rattle.state_rows.specs.declared.thread.ThreadRow.{ThreadRow}
 use Rattle.machine.specs.declared.state.State.{State}
 use Rattle.machine.specs.Rows.{object_of, thread_of, owed_of, with_row}
-use Rattle.machine.specs.Moves.{moved, with_part}
-use Rattle.machine.specs.Decide.{nothing, refuse, go_on}
+use Rattle.machine.specs.Moves.{moved, perform, with_part, with_register}
+use Rattle.machine.specs.Decide.{nothing, answer, answer_handle, refuse, go_on}
 use Rattle.machine.specs.References.{total}
 use Rattle.machine.specs.HeldIn.{owed_by}
 use Rattle.machine.specs.Task.{instructions_of}
 use Rattle.machine.specs.Fits.{EachFits, most_told, most_owed, IsAtInstruction, MayGoOn, IsFree}
 use Rattle.machine.specs.WellFormed.{IsAlive, AreRows, is_before_use}
 use Rattle.machine.proofs.Holders.ThreadRows.{row-here}
+use Rattle.machine.proofs.Lists.Totals.{total-append}
 use Rattle.machine.proofs.RowLaws.Threads.{row-kept}
 
 -- the moves of a decision fit, and what they tell and owe is little
@@ -92,3 +94,28 @@ fits-use {script = script} {S = S} {t = t} {row = row} told o part h before late
       unused = (h.rows.threads.rows t.0 row h.is).unused before;
       paid = λ x. ap (total (owed_by (Temp t) x)) h.paid;
     }
+
+-- moves fit behind others, in the state that those leave
+pub fits-both : (script : Script) (S : State) (t : ObjNo) (xs ys : List Move) → EachFits script t xs S → EachFits script t ys (perform t xs S) → EachFits script t (xs ++ ys) S
+fits-both script S t [] ys h more = more
+fits-both script S t (m ∷ xs) ys h more = (h.0, fits-both script (moved t m S) t xs ys h.1 more)
+
+perform-append : (t : ObjNo) (xs ys : List Move) (S : State) → perform t (xs ++ ys) S ≡ perform t ys (perform t xs S)
+perform-append t [] ys S = refl
+perform-append t (m ∷ xs) ys S = perform-append t xs ys (moved t m S)
+
+-- an answer after moves that fit and leave the thread at its instruction
+pub fits-answers : {script : Script} {S : State} {t : ObjNo} (told : Step) (ms : List Move) (code : ℤ) → EachFits script t ms S → IsAtInstruction script (perform t ms S) t → total most_told ms ≤ 4 → total most_owed ms ≤ 8 → FitsDecision script t S (answer t told ms code)
+fits-answers {script = script} {S = S} {t = t} told ms code each at few light =
+    let all_told = total-append most_told ms (Advance t ∷ []) in
+    let all_owed = total-append most_owed ms (Advance t ∷ []) in
+    record { each = fits-both script S t ms (Advance t ∷ []) each ((refl, at), tt); told = omega arith; light = omega arith }
+
+-- a new handle's number, after moves that fit and leave the threads
+pub fits-handle : {script : Script} {S : State} {t : ObjNo} {row : ThreadRow} {instr : Instr} (told : Step) (ms : List Move) (x number : ℕ) → IsStepping script S t row instr → x < 8 → EachFits script t ms S → (perform t ms S).threads ≡ S.threads → total most_told ms ≤ 4 → total most_owed ms ≤ 8 → FitsDecision script t S (answer_handle t told ms x number)
+fits-handle {script = script} {S = S} {t = t} told ms x number h register each stays few light =
+    let more = Write t x number ∷ [] in
+    let all_told = total-append most_told ms more in
+    let all_owed = total-append most_owed ms more in
+    let at = at-with_row script S (perform t more (perform t ms S)) t t (with_register x number) (record { role = λ r. refl; next = λ r. refl }) (ap (λ (threads : List (Option ThreadRow)). with_row threads t (with_register x number)) stays) (at_instruction h) in
+    fits-answers told (ms ++ more) _ (fits-both script S t ms more each (register, tt)) (subst (λ (T : State). IsAtInstruction script T t) (sym (perform-append t ms more S)) at) (omega arith) (omega arith)

@@ -85,12 +85,12 @@ abbrev pub slot_holder : Bool → ObjNo → ℕ → Holder
 slot_holder false owner i = InProcess owner i
 slot_holder true owner i = InThread owner i
 
-pub rows-with_slot : (tables : List (List HandleSlot)) (threads : List (Option ThreadRow)) (owner : ObjNo) (i : ℕ) (f : HandleSlot → HandleSlot) (thread : Bool) → is_some (get_or threads owner.0 None) ≡ thread → owner.0 < length tables → i < length (get_or tables owner.0 []) → (g : Holder) (x : ObjNo) → rows_hold (with_slot tables owner i f) threads g x + (if is_holder (slot_holder thread owner i) g then slot_names x (slot_at (get_or tables owner.0 []) i) else 0) ≡ rows_hold tables threads g x + (if is_holder (slot_holder thread owner i) g then slot_names x (f (slot_at (get_or tables owner.0 []) i)) else 0)
-rows-with_slot tables threads owner i f false e h k (InProcess p j) x = own_slot_set tables owner i f p j x (is_some (get_or threads p.0 None)) h k (λ at. ap (λ (n : ℕ). is_some (get_or threads n None)) (sym at) ∙ e)
-rows-with_slot tables threads owner i f false e h k (InThread p j) x =
+pub rows-with_slot : (tables : List (List HandleSlot)) (threads : List (Option ThreadRow)) (mutexes : List (List ObjNo)) (owner : ObjNo) (i : ℕ) (f : HandleSlot → HandleSlot) (thread : Bool) → is_some (get_or threads owner.0 None) ≡ thread → owner.0 < length tables → i < length (get_or tables owner.0 []) → (g : Holder) (x : ObjNo) → rows_hold (with_slot tables owner i f) threads mutexes g x + (if is_holder (slot_holder thread owner i) g then slot_names x (slot_at (get_or tables owner.0 []) i) else 0) ≡ rows_hold tables threads mutexes g x + (if is_holder (slot_holder thread owner i) g then slot_names x (f (slot_at (get_or tables owner.0 []) i)) else 0)
+rows-with_slot tables threads mutexes owner i f false e h k (InProcess p j) x = own_slot_set tables owner i f p j x (is_some (get_or threads p.0 None)) h k (λ at. ap (λ (n : ℕ). is_some (get_or threads n None)) (sym at) ∙ e)
+rows-with_slot tables threads mutexes owner i f false e h k (InThread p j) x =
     let a = own_slot_stays tables owner i f p j x (not (is_some (get_or threads p.0 None))) (λ at. ap (λ (n : ℕ). not (is_some (get_or threads n None))) (sym at) ∙ ap not e) in omega arith
-rows-with_slot tables threads owner i f true e h k (InProcess p j) x =
+rows-with_slot tables threads mutexes owner i f true e h k (InProcess p j) x =
     let a = own_slot_stays tables owner i f p j x (is_some (get_or threads p.0 None)) (λ at. ap (λ (n : ℕ). is_some (get_or threads n None)) (sym at) ∙ e) in omega arith
-rows-with_slot tables threads owner i f true e h k (InThread p j) x = own_slot_set tables owner i f p j x (not (is_some (get_or threads p.0 None))) h k (λ at. ap (λ (n : ℕ). not (is_some (get_or threads n None))) (sym at) ∙ ap not e)
-rows-with_slot tables threads owner i f false e h k _ x = refl
-rows-with_slot tables threads owner i f true e h k _ x = refl
+rows-with_slot tables threads mutexes owner i f true e h k (InThread p j) x = own_slot_set tables owner i f p j x (not (is_some (get_or threads p.0 None))) h k (λ at. ap (λ (n : ℕ). not (is_some (get_or threads n None))) (sym at) ∙ ap not e)
+rows-with_slot tables threads mutexes owner i f false e h k _ x = refl
+rows-with_slot tables threads mutexes owner i f true e h k _ x = refl

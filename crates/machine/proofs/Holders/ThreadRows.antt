@@ -44,11 +44,11 @@ of_row q threads t f u =
 abbrev pub row_holds : ObjNo → Option ThreadRow → Holder → ObjNo → ℕ
 row_holds t row g x = (if is_holder (Temp t) g then use_names x row else 0) + (if is_holder (Link t) g then link_names x row else 0)
 
-pub rows-with_row : (tables : List (List HandleSlot)) (threads : List (Option ThreadRow)) (t : ObjNo) (f : ThreadRow → ThreadRow) (g : Holder) (x : ObjNo) → rows_hold tables (with_row threads t f) g x + row_holds t (get_or threads t.0 None) g x ≡ rows_hold tables threads g x + row_holds t (option_map f (get_or threads t.0 None)) g x
-rows-with_row tables threads t f (InProcess p i) x = let a = ap (λ (s : Bool). own_slot s x (slot_at (get_or tables p.0 []) i)) (is_some-with_row threads t f p) in omega arith
-rows-with_row tables threads t f (InThread p i) x = let a = ap (λ (s : Bool). own_slot (not s) x (slot_at (get_or tables p.0 []) i)) (is_some-with_row threads t f p) in omega arith
-rows-with_row tables threads t f (Temp u) x = let a = of_row (use_names x) threads t f u in omega arith
-rows-with_row tables threads t f (Link u) x = let a = of_row (link_names x) threads t f u in omega arith
-rows-with_row tables threads t f Kernel x = let a = kernel-with_row threads t f x in omega arith
-rows-with_row tables threads t f (Own u) x = refl
-rows-with_row tables threads t f (Message m) x = refl
+pub rows-with_row : (tables : List (List HandleSlot)) (threads : List (Option ThreadRow)) (mutexes : List (List ObjNo)) (t : ObjNo) (f : ThreadRow → ThreadRow) (g : Holder) (x : ObjNo) → rows_hold tables (with_row threads t f) mutexes g x + row_holds t (get_or threads t.0 None) g x ≡ rows_hold tables threads mutexes g x + row_holds t (option_map f (get_or threads t.0 None)) g x
+rows-with_row tables threads mutexes t f (InProcess p i) x = let a = ap (λ (s : Bool). own_slot s x (slot_at (get_or tables p.0 []) i)) (is_some-with_row threads t f p) in omega arith
+rows-with_row tables threads mutexes t f (InThread p i) x = let a = ap (λ (s : Bool). own_slot (not s) x (slot_at (get_or tables p.0 []) i)) (is_some-with_row threads t f p) in omega arith
+rows-with_row tables threads mutexes t f (Temp u) x = let a = of_row (use_names x) threads t f u in omega arith
+rows-with_row tables threads mutexes t f (Link u) x = let a = of_row (link_names x) threads t f u in omega arith
+rows-with_row tables threads mutexes t f Kernel x = let a = kernel-with_row threads t f x in omega arith
+rows-with_row tables threads mutexes t f (Own u) x = refl
+rows-with_row tables threads mutexes t f (Message m) x = refl

@@ -1,7 +1,7 @@
 -- Sums over rows, and what changing or adding a row does to them.
 use Rattle.std.proofs.Common.{◌≡◌, ℕ, suc, zero, ◌+◌, ◌*◌, ◌<◌, ◌≤◌, List, [], ◌∷◌, ◌++◌, length, get_or, arith}
 use Rattle.std.proofs.Common.{Option, Some, None, sym, refl}
-use Rattle.std.specs.Prelude.{slice_set}
+use Rattle.std.specs.Prelude.{drop, slice_set}
 use Rattle.machine.specs.References.{total}
 
 pub total-set : {A : Type 0} (f : A → ℕ) (xs : List A) (i : ℕ) (y d : A) → i < length xs → total f (slice_set xs i y) + f (get_or xs i d) ≡ total f xs + f y
@@ -12,6 +12,10 @@ total-set f (x ∷ xs) (suc i) y d h = let r = total-set f xs i y d (omega arith
 pub total-append : {A : Type 0} (f : A → ℕ) (xs ys : List A) → total f (xs ++ ys) ≡ total f xs + total f ys
 total-append f [] ys = omega arith
 total-append f (x ∷ xs) ys = let r = total-append f xs ys in omega arith
+
+pub total-drop : {A : Type 0} (f : A → ℕ) (xs : List A) → total f (drop 1 xs) ≤ total f xs
+total-drop f [] = omega arith
+total-drop f (x ∷ xs) = omega arith
 
 -- a row's number is at most the sum
 pub total_at_least : {A : Type 0} (f : A → ℕ) (xs : List A) (i : ℕ) (d : A) → i < length xs → f (get_or xs i d) ≤ total f xs

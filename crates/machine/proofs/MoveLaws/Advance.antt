@@ -5,11 +5,11 @@ use Rattle.std.proofs.lemmas.List.{length-set}
 use Rattle.sym_base.specs.declared.number.ObjNo.{ObjNo}
 use Rattle.script_types.specs.declared.script.Script.{Script}
 use Rattle.entry_log.specs.declared.effect.Holder.{Holder}
-use Rattle.entry_log.specs.declared.effect.Holder.TheVariants.{Temp, Link}
+use Rattle.entry_log.specs.declared.effect.Holder.TheVariants.{Temp, Own, Link}
 use Rattle.machine.specs.declared.moves.Move.TheVariants.{Advance}
 use Rattle.state_rows.specs.declared.thread.ThreadRow.{ThreadRow}
 use Rattle.machine.specs.declared.state.State.{State}
-use Rattle.machine.specs.Rows.{thread_of, owed_of, with_row}
+use Rattle.machine.specs.Rows.{thread_of, owed_of, owing, with_row}
 use Rattle.machine.specs.Moves.{moved, told, advanced, owed_use, use_of, use_of_row}
 use Rattle.machine.specs.References.{total, thread_names, owed_names, count_of, option_names}
 use Rattle.machine.specs.Holding.{is_holder, link_names}
@@ -25,6 +25,8 @@ use Rattle.machine.proofs.References.Same.{if_zero}
 use Rattle.machine.proofs.RowLaws.Threads.{length-with_row, threads-with_row}
 use Rattle.machine.proofs.RowLaws.Duties.{paid-with_row, duties-threads, duties-owing}
 use Rattle.machine.proofs.RowLaws.Synchronized.{synchronized-with_row}
+use Rattle.machine.proofs.RowLaws.Locks.{leaves-owing, leaves-then, leaves-with_row, locks-left}
+use Rattle.machine.proofs.RowLaws.Memories.{memories-with_row}
 use Rattle.machine.proofs.MoveLaws.Sound.{Sound, sound-of}
 
 -- what the thread used is what it owes then
@@ -39,6 +41,11 @@ use_weight u (Some x) = omega arith
 use_owed_by : (u : ObjNo) (used : Option ObjNo) (g : Holder) (x : ObjNo) → total (owed_by g x) (owed_use u used) ≡ (if is_holder (Temp u) g then option_names x used else 0)
 use_owed_by u None g x = sym (if_zero (is_holder (Temp u) g) 0 refl)
 use_owed_by u (Some o) g x = omega arith
+
+-- that is no close of an ownership
+use_unowned : (u : ObjNo) (used : Option ObjNo) (t o : ObjNo) → total (owed_by (Own t) o) (owed_use u used) ≡ 0
+use_unowned u None t o = refl
+use_unowned u (Some x) t o = refl
 
 advanced_names : (x : Option ThreadRow) (o : ObjNo) → thread_names o (option_map advanced x) + option_names o (use_of_row x) ≡ thread_names o x
 advanced_names None o = refl
@@ -76,7 +83,7 @@ sound-advance script S t u fits few inside rows =
     let d = total-owing (owed_sweeps o) S.owed u (owed_use u used) here in
     let e = (use_owed u used o).1 in omega arith in
     let held : (g : Holder) (x : ObjNo) → held_in T g x ≡ held_in S g x = λ g x.
-    let a = rows-with_row S.handles S.threads u advanced g x in
+    let a = rows-with_row S.handles S.threads S.mutexes u advanced g x in
     let n = advanced_holds old x in
     let b : (if is_holder (Link u) g then link_names x (option_map advanced old) else 0) ≡ (if is_holder (Link u) g then link_names x old else 0) = ap (λ (y : ℕ). if is_holder (Link u) g then y else 0) n.1 in
     let c = if_zero (is_holder (Temp u) g) (use_names x (option_map advanced old)) n.0 in
@@ -107,4 +114,8 @@ sound-advance script S t u fits few inside rows =
       nano = synchronized-with_row script S.threads u advanced S.nano (λ row h. h) rows.nano;
       deferred = rows.deferred;
       requests = rows.requests;
+      locks = locks-left (length S.objects) (length S.objects) S.threads (with_row S.threads u advanced) S.mutexes S.owed (owing S.owed u (owed_use u used)) S.locks (omega arith)
+          (leaves-then S.threads (with_row S.threads u advanced) (with_row S.threads u advanced) S.owed S.owed (owing S.owed u (owed_use u used)) S.locks (leaves-with_row S.threads u advanced S.owed S.locks (λ row. refl))
+          (leaves-owing (with_row S.threads u advanced) S.owed u (owed_use u used) S.locks (use_unowned u used))) rows.locks;
+      memories = memories-with_row S.threads u advanced S.memories (λ row is. refl) rows.memories;
     }) (lives-none S T refl counts sweeps) (holders-none S T held)

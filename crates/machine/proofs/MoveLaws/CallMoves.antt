@@ -18,7 +18,7 @@ use Rattle.machine.proofs.MoveLaws.RowMoves.{IsSilent, silent, sound-rest}
 use Rattle.machine.proofs.MoveLaws.Sound.{Sound}
 
 pub sound-deferred : (script : Script) (S : State) (t : ObjNo) (m : DeferredMove) → FitsMove script t (Deferred m) S → AreRows script S → Sound script S (moved t (Deferred m) S) (told (Deferred m) S)
-sound-deferred script S t m fits rows = sound-rest script S S.nano (deferred_moved m S.deferred) S.requests [] (silent S) rows.nano (calls-moved script m S.deferred fits rows.deferred) rows.requests rows
+sound-deferred script S t m fits rows = sound-rest script S S.nano (deferred_moved m S.deferred) S.requests S.memories [] (silent S) rows.nano (calls-moved script m S.deferred fits rows.deferred) rows.requests rows.memories rows
 
 -- a signal tells of no reference and no death
 pub request_silent : (S : State) (m : RequestMove) → IsSilent S (request_told m)
@@ -26,4 +26,4 @@ request_silent S (Complete d t s code) = record { quiet = record { minuses = λ 
 request_silent S _ = silent S
 
 pub sound-requests : (script : Script) (S : State) (t : ObjNo) (m : RequestMove) → FitsMove script t (Requests m) S → AreRows script S → Sound script S (moved t (Requests m) S) (told (Requests m) S)
-sound-requests script S t m fits rows = sound-rest script S S.nano S.deferred (request_moved m S.requests) (request_told m) (request_silent S m) rows.nano rows.deferred (requests-moved _ m S.requests fits rows.requests) rows
+sound-requests script S t m fits rows = sound-rest script S S.nano S.deferred (request_moved m S.requests) S.memories (request_told m) (request_silent S m) rows.nano rows.deferred (requests-moved _ m S.requests fits rows.requests) rows.memories rows

@@ -5,7 +5,7 @@ use Rattle.std.proofs.lemmas.List.{length-set}
 use Rattle.sym_base.specs.declared.number.ObjNo.{ObjNo}
 use Rattle.script_types.specs.declared.script.Script.{Script}
 use Rattle.entry_log.specs.declared.effect.Holder.{Holder}
-use Rattle.entry_log.specs.declared.effect.Holder.TheVariants.{Temp, Link}
+use Rattle.entry_log.specs.declared.effect.Holder.TheVariants.{Temp, Own, Link}
 use Rattle.state_rows.specs.ObjectRows.{dead_row}
 use Rattle.state_rows.specs.declared.duty.Owed.{Owed}
 use Rattle.state_rows.specs.declared.duty.Owed.TheVariants.{Sweep}
@@ -18,7 +18,7 @@ use Rattle.machine.specs.References.{total, same, thread_names, owed_names, opti
 use Rattle.machine.specs.Holding.{is_holder, same_pair, link_names}
 use Rattle.machine.specs.HeldIn.{held_in, use_names, owed_by}
 use Rattle.machine.specs.Task.{is_returning}
-use Rattle.machine.specs.WellFormed.{IsAlive, AreTables, AreThreads, AreDuties, AreSynchronized, EachMayOwe, AreRows, weight, owed_sweeps, sweeps_of, part_of}
+use Rattle.machine.specs.WellFormed.{IsAlive, AreTables, AreThreads, AreDuties, AreSynchronized, AreMemories, EachMayOwe, AreRows, weight, owed_sweeps, sweeps_of, part_of}
 use Rattle.machine.proofs.Lives.Closes.{lives-closed}
 use Rattle.machine.proofs.Holders.HoldersMove.{holders-closed}
 use Rattle.machine.proofs.Holders.ThreadRows.{rows-with_row}
@@ -27,6 +27,8 @@ use Rattle.machine.proofs.References.Same.{if_zero, same_self}
 use Rattle.machine.proofs.RowLaws.Threads.{length-with_row, threads-with_row, none-with_row}
 use Rattle.machine.proofs.RowLaws.Duties.{paid-with_row, duties-threads, duties-owing}
 use Rattle.machine.proofs.RowLaws.Synchronized.{synchronized-with_row}
+use Rattle.machine.proofs.RowLaws.Locks.{LeavesLocks, leaves-owing, leaves-then, leaves-with_row, locks-left}
+use Rattle.machine.proofs.RowLaws.Memories.{memories-with_row}
 use Rattle.machine.proofs.MoveLaws.Sound.{Sound, sound-of}
 
 -- the rows in the middle of a close of an object: a holder's reference to it isn't there any more
@@ -42,6 +44,8 @@ pub record HasLost (script : Script) (S : State) (t : ObjNo) (h : Holder) (o : O
   pub threads_are : AreThreads script threads
   pub duties : AreDuties threads owed
   pub nano : AreSynchronized script threads S.nano
+  pub locks : LeavesLocks S.threads threads S.owed owed S.locks
+  pub memories : AreMemories threads S.memories
   pub going : is_returning (part_of (get_or threads t.0 None)) ≡ false
   pub few : total weight (get_or owed t.0 []) + total weight (owed_by_close (is_last S o) o (link_of S o)) ≤ 12
 
@@ -61,6 +65,11 @@ link_owed o (Some x) p = (omega arith, omega arith)
 link_owed_by : (o : ObjNo) (link : Option ObjNo) (g : Holder) (x : ObjNo) → total (owed_by g x) (owed_link o link ++ Sweep o ∷ []) ≡ (if is_holder (Link o) g then option_names x link else 0)
 link_owed_by o None g x = sym (if_zero (is_holder (Link o) g) 0 refl)
 link_owed_by o (Some p) g x = omega arith
+
+-- that is no close of an ownership
+link_unowned : (o : ObjNo) (link : Option ObjNo) (t x : ObjNo) → total (owed_by (Own t) x) (owed_link o link ++ Sweep o ∷ []) ≡ 0
+link_unowned o None t x = refl
+link_unowned o (Some p) t x = refl
 
 linked_row : (x : Option ThreadRow) (p : ObjNo) → link_of_row x ≡ Some p → (row : ThreadRow) × (x ≡ Some row) × (row.link ≡ Some p)
 linked_row None p e = absurd (cc)
@@ -91,6 +100,9 @@ sound-closed false script S t h o handles threads owed e inside lost rows =
       nano = lost.nano;
       deferred = rows.deferred;
       requests = rows.requests;
+      locks = locks-left (length S.objects) (length S.objects) S.threads threads S.mutexes S.owed (owing owed t []) S.locks (omega arith)
+          (leaves-then S.threads threads threads S.owed owed (owing owed t []) S.locks lost.locks (leaves-owing threads owed t [] S.locks (λ u x. refl))) rows.locks;
+      memories = lost.memories;
     })
     (lives-closed false S T h o e alive refl
     (λ p. let a = total-owing (owed_names p) owed t [] here in let b = lost.counts p in omega arith)
@@ -123,6 +135,9 @@ sound-closed true script S t h o handles threads owed e inside lost rows =
       nano = synchronized-with_row script threads o f S.nano (λ row r. r) lost.nano;
       deferred = rows.deferred;
       requests = rows.requests;
+      locks = locks-left (length S.objects) (length T.objects) S.threads other S.mutexes S.owed (owing owed t more) S.locks (let a = length-set S.objects o.0 (dead_row (get_or S.objects o.0 None)) in omega arith)
+          (leaves-then S.threads threads other S.owed owed (owing owed t more) S.locks lost.locks (leaves-then threads other other owed owed (owing owed t more) S.locks (leaves-with_row threads o f owed S.locks (λ row. refl)) (leaves-owing other owed t more S.locks (link_unowned o link)))) rows.locks;
+      memories = memories-with_row threads o f S.memories (λ row is. refl) lost.memories;
     })
     (lives-closed true S T h o e alive refl
     (λ p.
@@ -135,7 +150,7 @@ sound-closed true script S t h o handles threads owed e inside lost rows =
     let j = lost.counts p in omega arith)
     (λ p. let a = total-owing (owed_sweeps p) owed t more here in let b = lost.sweeps p in let c = (link_owed o link p).1 in omega arith))
     (holders-closed true S T h o (λ g x.
-    let a = rows-with_row handles threads o f g x in
+    let a = rows-with_row handles threads S.mutexes o f g x in
     let n = without_link old x in
     let b : (if is_holder (Temp o) g then use_names x (option_map f old) else 0) ≡ (if is_holder (Temp o) g then use_names x old else 0) = ap (λ (y : ℕ). if is_holder (Temp o) g then y else 0) n.1 in
     let c = if_zero (is_holder (Link o) g) (link_names x (option_map f old)) n.2 in

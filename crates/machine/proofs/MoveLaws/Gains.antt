@@ -1,5 +1,5 @@
 -- A holder gets a reference: to an object that there is, or to a new one.
-use Rattle.std.proofs.Common.{◌≡◌, inr, ℕ, ◌+◌, List, length, arith, refl, ap, Option, Some, None, Bool, true, false}
+use Rattle.std.proofs.Common.{◌≡◌, inr, ℕ, ◌+◌, List, length, arith, refl, ap, ◌∙◌, Option, Some, None, Bool, true, false}
 use Rattle.std.specs.Prelude.{option_map, is_some, if◌then◌else◌}
 use Rattle.std.proofs.lemmas.List.{length_push}
 use Rattle.sym_base.specs.declared.number.ObjNo.{ObjNo}
@@ -19,17 +19,19 @@ use Rattle.machine.specs.References.{same, thread_names, option_names, slot_name
 use Rattle.machine.specs.Holding.{is_holder, same_pair}
 use Rattle.machine.specs.HeldIn.{held_in, use_names, own_slot, rows_hold}
 use Rattle.machine.specs.Fits.{FitsMove, IsFree, IsFreeSlot, UsesNothing}
-use Rattle.machine.specs.WellFormed.{AreTables, AreThreads, AreDuties, AreSynchronized, AreRows, MayOwe}
+use Rattle.machine.specs.WellFormed.{AreTables, AreThreads, AreDuties, AreSynchronized, AreMemories, AreRows, MayOwe}
 use Rattle.machine.proofs.Lives.Kinds.{lives-plus, lives-made}
 use Rattle.machine.proofs.Holders.HoldersMove.{holders-plus}
 use Rattle.machine.proofs.Holders.SlotRows.{slot_holder, rows-with_slot}
 use Rattle.machine.proofs.Holders.ThreadRows.{row_holds, rows-with_row}
 use Rattle.machine.proofs.References.Counts.{count-with_slot, count-with_row, kernel-with_row}
 use Rattle.machine.proofs.References.Same.{if_zero}
-use Rattle.machine.proofs.RowLaws.Tables.{length-with_slot, tables-with_slot, taken_keeps, table_inside}
+use Rattle.machine.proofs.RowLaws.Tables.{free_index_is_free, length-with_slot, tables-with_slot, taken_keeps, table_inside}
 use Rattle.machine.proofs.RowLaws.Threads.{length-with_row, threads-with_row}
-use Rattle.machine.proofs.RowLaws.Duties.{paid-with_row, duties-threads, none_owed, none_owed_temp}
+use Rattle.machine.proofs.RowLaws.Duties.{paid-with_row, duties-threads, none_owed, none_owed_by}
 use Rattle.machine.proofs.RowLaws.Synchronized.{synchronized-with_row}
+use Rattle.machine.proofs.RowLaws.Locks.{LeavesLocks, leaves-none, leaves-with_row, locks-left}
+use Rattle.machine.proofs.RowLaws.Memories.{memories-with_row}
 use Rattle.machine.proofs.MoveLaws.Sound.{Sound, sound-of}
 
 -- the tables and threads where a holder got a reference
@@ -43,12 +45,14 @@ pub record HasGained (script : Script) (S : State) (h : Holder) (o : ObjNo) (han
   pub threads_are : AreThreads script threads
   pub duties : AreDuties threads S.owed
   pub nano : AreSynchronized script threads S.nano
+  pub locks : LeavesLocks S.threads threads S.owed S.owed S.locks
+  pub memories : AreMemories threads S.memories
 
 empty_slot : (c : Bool) (x : ObjNo) (slot : HandleSlot) → slot.object ≡ None → own_slot c x slot ≡ 0
 empty_slot true x slot e = refl
 empty_slot false x slot e = ap (option_names x) e
 
-empty_holder : (thread : Bool) (S : State) (owner : ObjNo) (i : ℕ) (x : ObjNo) → (slot_at (table_of S owner) i).object ≡ None → rows_hold S.handles S.threads (slot_holder thread owner i) x ≡ 0
+empty_holder : (thread : Bool) (S : State) (owner : ObjNo) (i : ℕ) (x : ObjNo) → (slot_at (table_of S owner) i).object ≡ None → rows_hold S.handles S.threads S.mutexes (slot_holder thread owner i) x ≡ 0
 empty_holder true S owner i x e = empty_slot _ x (slot_at (table_of S owner) i) e
 empty_holder false S owner i x e = empty_slot _ x (slot_at (table_of S owner) i) e
 
@@ -61,18 +65,21 @@ gained-slot script S thread owner i o is fits rows =
     let h = slot_holder thread owner i in
     let there = table_inside S.handles owner.0 i fits.inside in
     let old = slot_at (table_of S owner) i in
+    let free : old.object ≡ None = ap (λ (n : ℕ). (slot_at (table_of S owner) n).object) fits.least ∙ free_index_is_free (table_of S owner) in
     record {
-      counts = λ p. let a = count-with_slot S.handles owner i (taken_slot o) p there fits.inside in let b : slot_names p old ≡ 0 = ap (option_names p) fits.free in omega arith;
-      none = let a = empty_holder thread S owner i o fits.free in let b = none_owed S.threads S.owed h o rows.duties (unowed thread S.threads owner i) in omega arith;
+      counts = λ p. let a = count-with_slot S.handles owner i (taken_slot o) p there fits.inside in let b : slot_names p old ≡ 0 = ap (option_names p) free in omega arith;
+      none = let a = empty_holder thread S owner i o free in let b = none_owed S.threads S.owed h o rows.duties (unowed thread S.threads owner i) in omega arith;
       held = λ g x.
-          let a = rows-with_slot S.handles S.threads owner i (taken_slot o) thread is there fits.inside g x in
-          let b = if_zero (is_holder h g) (slot_names x old) (ap (option_names x) fits.free) in omega arith;
+          let a = rows-with_slot S.handles S.threads S.mutexes owner i (taken_slot o) thread is there fits.inside g x in
+          let b = if_zero (is_holder h g) (slot_names x old) (ap (option_names x) free) in omega arith;
       handles_long = length-with_slot S.handles owner i (taken_slot o);
       threads_long = refl;
       tables = tables-with_slot S.handles owner i (taken_slot o) (taken_keeps o) rows.tables;
       threads_are = rows.threads;
       duties = rows.duties;
       nano = rows.nano;
+      locks = leaves-none S.threads S.owed S.locks;
+      memories = rows.memories;
     }
 
 gained-use : (script : Script) (S : State) (u o : ObjNo) → UsesNothing S u → AreRows script S → HasGained script S (Temp u) o S.handles (with_row S.threads u (λ row. record row { uses = Some o }))
@@ -87,9 +94,9 @@ gained-use script S u o fits rows =
           let c : thread_names p (thread_of S u) ≡ option_names p row.link + option_names p row.uses = ap (thread_names p) fits.is in
           let d : thread_names p (option_map f (thread_of S u)) ≡ option_names p row.link + same o p = ap (λ (x : Option ThreadRow). thread_names p (option_map f x)) fits.is in
           let e = unused p in omega arith;
-      none = let a : use_names o (thread_of S u) ≡ option_names o row.uses = ap (use_names o) fits.is in let b = unused o in let c = none_owed_temp S.threads S.owed u o rows.duties (fits.paid o) in omega arith;
+      none = let a : use_names o (thread_of S u) ≡ option_names o row.uses = ap (use_names o) fits.is in let b = unused o in let c = none_owed_by S.threads S.owed u (Temp u) o rows.duties (λ k y own. own) (fits.paid o) in omega arith;
       held = λ g x.
-          let a = rows-with_row S.handles S.threads u f g x in
+          let a = rows-with_row S.handles S.threads S.mutexes u f g x in
           let b : row_holds u (thread_of S u) g x ≡ (if is_holder (Temp u) g then option_names x row.uses else 0) + (if is_holder (Link u) g then option_names x row.link else 0) = ap (λ (y : Option ThreadRow). row_holds u y g x) fits.is in
           let c : row_holds u (option_map f (thread_of S u)) g x ≡ same_pair (Temp u) o g x + (if is_holder (Link u) g then option_names x row.link else 0) = ap (λ (y : Option ThreadRow). row_holds u (option_map f y) g x) fits.is in
           let d = if_zero (is_holder (Temp u) g) (option_names x row.uses) (unused x) in omega arith;
@@ -110,6 +117,8 @@ gained-use script S u o fits rows =
       }) rows.threads;
       duties = duties-threads S.threads (with_row S.threads u f) S.owed (λ k. inr (paid-with_row S.threads u f (λ r h. h) k)) rows.duties;
       nano = synchronized-with_row script S.threads u f S.nano (λ r h. h) rows.nano;
+      locks = leaves-with_row S.threads u f S.owed S.locks (λ r. refl);
+      memories = memories-with_row S.threads u f S.memories (λ r is. refl) rows.memories;
     }
 
 is_some_of : (x : Option ThreadRow) → x ≡ None → is_some x ≡ false
@@ -126,7 +135,7 @@ sound-gain script S t h o fits rows =
     let T = moved t (Gain h o) S in
     let g = gained script S h o fits.0 rows in
     sound-of script S T (told (Gain h o) S) rows
-    (record { handles_long = g.handles_long; threads_long = g.threads_long; owed_long = refl; objects_few = rows.sized.objects_few; tables = g.tables; threads = g.threads_are; duties = g.duties; nano = g.nano; deferred = rows.deferred; requests = rows.requests })
+    (record { handles_long = g.handles_long; threads_long = g.threads_long; owed_long = refl; objects_few = rows.sized.objects_few; tables = g.tables; threads = g.threads_are; duties = g.duties; nano = g.nano; deferred = rows.deferred; requests = rows.requests; locks = locks-left (length S.objects) (length S.objects) S.threads (threads_gain h o S.threads) S.mutexes S.owed S.owed S.locks (omega arith) g.locks rows.locks; memories = g.memories })
     (lives-plus S T h o refl g.counts (λ p. refl) fits.1) (holders-plus S T h o g.none g.held)
 
 pub sound-make : (script : Script) (S : State) (t : ObjNo) (kind : Kind) (name : List ℕ) (h : Holder) → FitsMove script t (Make kind name h) S → AreRows script S → Sound script S (moved t (Make kind name h) S) (told (Make kind name h) S)
@@ -137,5 +146,5 @@ sound-make script S t kind name h fits rows =
     let room = fits.0.room in
     let long = length_push S.objects (Some (new_object kind name)) in
     sound-of script S T (told (Make kind name h) S) rows
-    (record { handles_long = g.handles_long; threads_long = g.threads_long; owed_long = refl; objects_few = omega arith; tables = g.tables; threads = g.threads_are; duties = g.duties; nano = g.nano; deferred = rows.deferred; requests = rows.requests })
+    (record { handles_long = g.handles_long; threads_long = g.threads_long; owed_long = refl; objects_few = omega arith; tables = g.tables; threads = g.threads_are; duties = g.duties; nano = g.nano; deferred = rows.deferred; requests = rows.requests; locks = locks-left (length S.objects) (length T.objects) S.threads (threads_gain h o S.threads) S.mutexes S.owed S.owed S.locks (omega arith) g.locks rows.locks; memories = g.memories })
     (lives-made S T (new_object kind name) h o refl refl refl g.counts (λ p. refl)) (holders-plus S T h o g.none g.held)

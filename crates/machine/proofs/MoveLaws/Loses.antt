@@ -26,6 +26,8 @@ use Rattle.machine.proofs.RowLaws.Tables.{length-with_slot, tables-with_slot, fr
 use Rattle.machine.proofs.RowLaws.Threads.{length-with_row, threads-with_row}
 use Rattle.machine.proofs.RowLaws.Duties.{paid-with_row, duties-threads}
 use Rattle.machine.proofs.RowLaws.Synchronized.{synchronized-with_row}
+use Rattle.machine.proofs.RowLaws.Locks.{leaves-none, leaves-with_row}
+use Rattle.machine.proofs.RowLaws.Memories.{memories-with_row}
 use Rattle.machine.proofs.MoveLaws.Closes.{HasLost, sound-closed, close_weight}
 use Rattle.machine.proofs.MoveLaws.Sound.{Sound}
 
@@ -39,7 +41,7 @@ lost-slot script S t thread owner i o is there going few rows =
     record {
       counts = λ p. let a = count-with_slot S.handles owner i freed_slot p outside inside in let b : slot_names p slot ≡ same o p = ap (option_names p) there in omega arith;
       held = λ g x.
-          let a = rows-with_slot S.handles S.threads owner i freed_slot thread is outside inside g x in
+          let a = rows-with_slot S.handles S.threads S.mutexes owner i freed_slot thread is outside inside g x in
           let b = if_zero (is_holder h g) (slot_names x (freed_slot slot)) refl in
           let c : (if is_holder h g then slot_names x slot else 0) ≡ same_pair h o g x = ap (λ (y : Option ObjNo). if is_holder h g then option_names x y else 0) there in omega arith;
       sweeps = λ p. refl;
@@ -51,6 +53,8 @@ lost-slot script S t thread owner i o is there going few rows =
       threads_are = rows.threads;
       duties = rows.duties;
       nano = rows.nano;
+      locks = leaves-none S.threads S.owed S.locks;
+      memories = rows.memories;
       going = going;
       few = omega arith;
     }
@@ -80,7 +84,7 @@ lost-use script S t u o uses going few rows =
           let d : thread_names p (option_map f (thread_of S u)) ≡ option_names p row.link + 0 = ap (λ (x : Option ThreadRow). thread_names p (option_map f x)) uses.is in
           let e = named p in omega arith;
       held = λ g x.
-          let a = rows-with_row S.handles S.threads u f g x in
+          let a = rows-with_row S.handles S.threads S.mutexes u f g x in
           let b : row_holds u (thread_of S u) g x ≡ (if is_holder (Temp u) g then option_names x row.uses else 0) + (if is_holder (Link u) g then option_names x row.link else 0) = ap (λ (y : Option ThreadRow). row_holds u y g x) uses.is in
           let c : row_holds u (option_map f (thread_of S u)) g x ≡ (if is_holder (Temp u) g then 0 else 0) + (if is_holder (Link u) g then option_names x row.link else 0) = ap (λ (y : Option ThreadRow). row_holds u (option_map f y) g x) uses.is in
           let d : (if is_holder (Temp u) g then option_names x row.uses else 0) ≡ same_pair (Temp u) o g x = ap (λ (y : ℕ). if is_holder (Temp u) g then y else 0) (named x) in
@@ -98,6 +102,8 @@ lost-use script S t u o uses going few rows =
       }) rows.threads;
       duties = duties-threads S.threads (with_row S.threads u f) S.owed (λ k. inr (paid-with_row S.threads u f (λ r h. h) k)) rows.duties;
       nano = synchronized-with_row script S.threads u f S.nano (λ r h. h) rows.nano;
+      locks = leaves-with_row S.threads u f S.owed S.locks (λ r. refl);
+      memories = memories-with_row S.threads u f S.memories (λ r is. refl) rows.memories;
       going = (paid-with_row S.threads u f (λ r h. h) t.0).going going;
       few = omega arith;
     }

@@ -6,7 +6,7 @@ use Rattle.std.proofs.lemmas.List.{length-set, get_or-set_same, get_or_past}
 use Rattle.sym_base.specs.declared.number.ObjNo.{ObjNo}
 use Rattle.script_types.specs.declared.script.Script.{Script}
 use Rattle.entry_log.specs.declared.effect.Holder.{Holder}
-use Rattle.entry_log.specs.declared.effect.Holder.TheVariants.{Temp, Link}
+use Rattle.entry_log.specs.declared.effect.Holder.TheVariants.{Temp, Own, Link}
 use Rattle.state_rows.specs.declared.duty.Owed.{Owed}
 use Rattle.state_rows.specs.declared.duty.Owed.TheVariants.{Close, Sweep}
 use Rattle.machine.specs.declared.moves.Move.TheVariants.{Pay}
@@ -26,12 +26,14 @@ use Rattle.machine.proofs.References.Counts.{total-paying}
 use Rattle.machine.proofs.References.Same.{same_self}
 use Rattle.machine.proofs.RowLaws.Threads.{is_none_by}
 use Rattle.machine.proofs.RowLaws.Duties.{duties-without_first}
+use Rattle.machine.proofs.RowLaws.Locks.{leaves-without_first, locks-left}
 use Rattle.machine.proofs.MoveLaws.Closes.{sound-closed, close_weight, close_weight_unlinked}
 use Rattle.machine.proofs.MoveLaws.Sound.{Sound, sound-of}
 
 -- a close that is paid leaves room for what it owes: it weighs more
 room_by : (threads : List (Option ThreadRow)) (k : ℕ) (last : Bool) (h : Holder) (o : ObjNo) (link : Option ObjNo) → link_of_row (get_or threads o.0 None) ≡ link → MayOwe threads k h o → total weight (owed_by_close last o link) ≤ weight (Close h o)
 room_by threads k last (Temp u) o link e own = let a = close_weight last o link in omega arith
+room_by threads k last (Own u) o link e own = let a = close_weight last o link in omega arith
 room_by threads k last (Link x) o link e own = let none : link ≡ None = sym e ∙ ap link_of_row own in let a = close_weight_unlinked last o link none in omega arith
 room_by threads k last _ o link e own = absurd own
 
@@ -59,6 +61,8 @@ sound-pay_close script S t h o rest e inside rows =
       threads_are = rows.threads;
       duties = duties-without_first S.threads S.owed t rows.duties;
       nano = rows.nano;
+      locks = leaves-without_first S.threads S.owed t S.locks;
+      memories = rows.memories;
       going = not_returning (is_returning (part_of (thread_of S t))) refl (owed_of S t) (Close h o) rest e (rows.duties.returns t.0);
       few = let a = ap (total weight) left in omega arith;
     }) rows
@@ -99,6 +103,8 @@ sound-pay_sweep script S t o rest e inside rows =
       nano = rows.nano;
       deferred = rows.deferred;
       requests = rows.requests;
+      locks = locks-left (length S.objects) (length T.objects) S.threads S.threads S.mutexes S.owed (without_first S.owed t) S.locks (let a = length-set S.objects o.0 None in omega arith) (leaves-without_first S.threads S.owed t S.locks) rows.locks;
+      memories = rows.memories;
     })
     (lives-swept S T o there dead refl counts (λ p. let a = paid p in omega arith))
     (record { fits = (tt, tt); moves = λ g x. let a = total-paying (owed_by g x) S.owed t (Sweep o) rest here e in omega arith }))

@@ -7,7 +7,7 @@ use Rattle.entry_log.specs.declared.effect.Effect.{Effect}
 use Rattle.state_rows.specs.declared.duty.Owed.{Owed}
 use Rattle.state_rows.specs.declared.duty.Owed.TheVariants.{Close, Sweep}
 use Rattle.machine.specs.declared.moves.Move.{Move}
-use Rattle.machine.specs.declared.moves.Move.TheVariants.{Make, Gain, Lose, Find, Miss, GoOn, Write, Advance, Wait, Wake, SetPriority, Nano, Deferred, Requests, Pay}
+use Rattle.machine.specs.declared.moves.Move.TheVariants.{Make, Gain, Lose, Find, Miss, GoOn, Write, Advance, Wait, Wake, SetPriority, Nano, Deferred, Requests, Locks, Fill, Pay}
 use Rattle.machine.specs.declared.state.State.{State}
 use Rattle.machine.specs.Rows.{owed_of}
 use Rattle.machine.specs.Moves.{moved, told, perform, tell, closed_effects, link_of, owed_by_close, owed_use, use_of}
@@ -20,7 +20,8 @@ use Rattle.machine.proofs.RowLaws.Duties.{weight-owing}
 use Rattle.machine.proofs.MoveLaws.Sound.{Sound, sound-then, sound-none}
 use Rattle.machine.proofs.MoveLaws.NanoMoves.{sound-nano, nano_silent}
 use Rattle.machine.proofs.MoveLaws.CallMoves.{sound-deferred, request_silent, sound-requests}
-use Rattle.machine.proofs.MoveLaws.RowMoves.{sound-find, sound-miss, sound-go_on, sound-write, sound-wait, sound-wake, sound-priority}
+use Rattle.machine.proofs.MoveLaws.LockMoves.{lock_removes, lock_weight, sound-locks}
+use Rattle.machine.proofs.MoveLaws.RowMoves.{sound-fill, sound-find, sound-miss, sound-go_on, sound-write, sound-wait, sound-wake, sound-priority}
 use Rattle.machine.proofs.MoveLaws.Advance.{sound-advance, use_weight}
 use Rattle.machine.proofs.MoveLaws.Gains.{sound-gain, sound-make}
 use Rattle.machine.proofs.MoveLaws.Closes.{close_weight}
@@ -38,11 +39,13 @@ sound-move script S t (GoOn u part) fits few s = sound-go_on script S t u part f
 sound-move script S t (Write u x value) fits few s = sound-write script S t u x value fits s.rows
 sound-move script S t (Advance u) fits few s = sound-advance script S t u fits (subst (λ (y : ObjNo). total weight (owed_of S y) + 4 ≤ 12) (sym fits.0) few) (subst (λ (y : ObjNo). y.0 < length S.threads) (sym fits.0) s.inside) s.rows
 sound-move script S t (Wait u what) fits few s = sound-wait script S t u what fits s.rows
-sound-move script S t (Wake u) fits few s = sound-wake script S t u s.rows
+sound-move script S t (Wake u) fits few s = sound-wake script S t u fits s.rows
 sound-move script S t (SetPriority u priority) fits few s = sound-priority script S t u priority fits s.rows
 sound-move script S t (Nano m) fits few s = sound-nano script S t m fits s.rows
 sound-move script S t (Deferred m) fits few s = sound-deferred script S t m fits s.rows
 sound-move script S t (Requests m) fits few s = sound-requests script S t m fits s.rows
+sound-move script S t (Locks m) fits few s = sound-locks script S t m fits few s.rows
+sound-move script S t (Fill p at long byte) fits few s = sound-fill script S t p at long byte fits s.rows
 sound-move script S t (Pay what) fits few s = absurd fits
 
 -- what paying the oldest duty does
@@ -55,6 +58,7 @@ pub weight-move : (script : Script) (S : State) (t : ObjNo) (m : Move) → FitsM
 weight-move script S t (Lose h o) fits = let a = weight-owing S.owed t (owed_by_close (is_last S o) o (link_of S o)) in let b = close_weight (is_last S o) o (link_of S o) in omega arith
 weight-move script S t (Advance u) fits = subst (λ (y : ObjNo). total weight (owed_of (moved t (Advance u) S) y) ≤ total weight (owed_of S y) + 4) fits.0
     (let a = weight-owing S.owed u (owed_use u (use_of S u)) in let b = use_weight u (use_of S u) in omega arith)
+weight-move script S t (Locks m) fits = lock_weight script S t m fits
 weight-move script S t (Pay what) fits = absurd fits
 weight-move script S t _ fits = omega arith
 
@@ -67,6 +71,7 @@ move_removes : (script : Script) (S : State) (t : ObjNo) (m : Move) (p : ObjNo) 
 move_removes script S t (Lose h o) p fits = close_removes (is_last S o) h o p
 move_removes script S t (Nano m) p fits = (nano_silent S m).quiet.removals p
 move_removes script S t (Requests m) p fits = (request_silent S m).quiet.removals p
+move_removes script S t (Locks m) p fits = lock_removes m p
 move_removes script S t (Pay what) p fits = absurd fits
 move_removes script S t _ p fits = refl
 

@@ -1,6 +1,7 @@
 -- Counts are small, since tables, threads and duties are few.
-use Rattle.std.proofs.Common.{◌≡◌, ◌*◌, ◌<◌, ◌≤◌, length, List, [], ◌∷◌, Option, Some, None, slice_index_or, arith}
+use Rattle.std.proofs.Common.{◌≡◌, inl, inr, ℕ, ◌*◌, ◌<◌, ◌≤◌, length, List, [], ◌∷◌, Option, Some, None, slice_index_or, ap, arith}
 use Rattle.std.specs.Prelude.{is_some}
+use Rattle.std.proofs.lemmas.Bool.{cases_lt}
 use Rattle.sym_base.specs.declared.number.ObjNo.{ObjNo}
 use Rattle.script_types.specs.declared.script.Script.{Script}
 use Rattle.entry_log.specs.declared.effect.Holder.{Holder}
@@ -11,8 +12,8 @@ use Rattle.state_rows.specs.declared.thread.ThreadRow.{ThreadRow}
 use Rattle.machine.specs.declared.state.State.{State}
 use Rattle.machine.specs.Rows.{thread_of}
 use Rattle.state_rows.specs.HandleSlots.{fresh_slot}
-use Rattle.machine.specs.References.{total, option_names, slot_names, thread_names, owed_names, kernel_names, count_of}
-use Rattle.machine.specs.WellFormed.{AreRows, weight}
+use Rattle.machine.specs.References.{total, option_names, slot_names, thread_names, owed_names, mutex_names, kernel_names, count_of}
+use Rattle.machine.specs.WellFormed.{AreRows, times_held, weight}
 use Rattle.machine.proofs.Lists.Totals.{total_at_most}
 use Rattle.machine.proofs.References.Same.{same_le, if_le}
 
@@ -36,7 +37,17 @@ duties_le : (o : ObjNo) (duties : List Owed) → total (owed_names o) duties ≤
 duties_le o [] = omega arith
 duties_le o (what ∷ rest) = let a = owed_le o what in let b = duties_le o rest in omega arith
 
--- at most 256 references from a table, 2 from a thread, 1 from the kernel and 12 from what a thread owes
+-- a thread holds a mutex once at most
+held_le : (script : Script) (S : State) → AreRows script S → (o : ObjNo) (k : ℕ) → total (mutex_names o) (slice_index_or S.mutexes k []) ≤ 1
+held_le script S rows o k = elim (cases_lt 0 (times_held S.mutexes (record { 0 = k }) o)) as (λ _. total (mutex_names o) (slice_index_or S.mutexes k []) ≤ 1) [
+  | inl some ↦
+      let own = rows.locks.held (record { 0 = k }) o some in
+      let once = rows.locks.owned o own.owner own.is in
+      let same : times_held S.mutexes own.owner.thread o ≡ total (mutex_names o) (slice_index_or S.mutexes k []) = ap (λ (n : ℕ). total (mutex_names o) (slice_index_or S.mutexes n [])) own.thread in omega arith
+  | inr none ↦ omega arith
+]
+
+-- at most 256 references from a table, 2 from a thread and 1 for what it holds, 1 from the kernel and 12 from what a thread owes
 pub count_small : (script : Script) (S : State) → AreRows script S → (o : ObjNo) → count_of S o < 65536
 count_small script S rows o =
     let handles : total (total (slot_names o)) S.handles ≤ 256 * length S.handles = total_at_most (total (slot_names o)) 256 S.handles [] (λ k inside.
@@ -49,6 +60,8 @@ count_small script S rows o =
     let weighs : total weight (slice_index_or S.owed k []) ≤ 12 = rows.duties.few k in
     omega arith) in
     let kernel : kernel_names S o ≤ 1 = if_le (is_some (thread_of S o)) 1 in
+    let mutexes : total (total (mutex_names o)) S.mutexes ≤ 1 * length S.mutexes = total_at_most (total (mutex_names o)) 1 S.mutexes [] (λ k _. held_le script S rows o k) in
+    let held = rows.locks.mutexes_sized in
     let tables = rows.sized.tables in
     let duties = rows.sized.duties in
     let threads_few = rows.sized.threads_few in

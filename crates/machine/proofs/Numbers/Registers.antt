@@ -68,6 +68,10 @@ priority_small x priority h = let v = in_form (instr_form (instr.Priority x prio
 pub request_small : (d s : ℕ) → is_source_line (line.Instr (instr.Request d s)) ≡ true → (d ≤ 15) × (s ≤ 15)
 request_small d s h = let v = in_form (instr_form (instr.Request d s)) h in (leb-true d 15 v.0.0, leb-true s 15 v.0.1.0)
 
+-- a semaphore's count is one
+pub count_few : (name : List ℕ) (n x : ℕ) → is_source_line (line.Instr (instr.CreateSemaphore name n x)) ≡ true → n ≤ 2147483647
+count_few name n x h = let v = in_form (instr_form (instr.CreateSemaphore name n x)) h in (number_in 0 2147483647 n v.0.1.1.0).1
+
 -- of the step of a row
 of_row : (script : Script) (protected : Bool) (call : Option ℕ) (first : Option Owed) (row : ThreadRow) (instr : Instr) → IsShaped script → (returns : Bool) (at : Option Instr) → instruction script row ≡ at
     → return_or returns at (pay_or first (run_or call (step_or_end protected at))) ≡ Some (Step instr) → HasRegisters instr

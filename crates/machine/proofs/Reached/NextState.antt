@@ -44,6 +44,8 @@ rows-ready script S qs h = record {
   nano = record { rows = h.nano.rows; sized = h.nano.sized; mutexes = h.nano.mutexes; holders = h.nano.holders };
   deferred = h.deferred;
   requests = h.requests;
+  locks = h.locks;
+  memories = h.memories;
   lives = record { alive = h.lives.alive; counted = h.lives.counted; sweeps = h.lives.sweeps };
 }
 

@@ -19,7 +19,8 @@ chosen_listed : (weight : ObjNo → ℕ) (x t : ObjNo) (rest : List ObjNo) (foun
 chosen_listed weight x t rest None e there = here x t rest (cc)
 chosen_listed weight x t rest (Some y) e there = chosen_step x y t rest (nat_lt (weight x) (weight y)) e (λ same. there (ap Some same))
 
-greatest_listed : (weight : ObjNo → ℕ) (qs : List ObjNo) (t : ObjNo) → first_of_greatest weight qs ≡ Some t → is_listed qs t ≡ true
+-- so is one of the greatest weight among those of any list
+pub greatest_listed : (weight : ObjNo → ℕ) (qs : List ObjNo) (t : ObjNo) → first_of_greatest weight qs ≡ Some t → is_listed qs t ≡ true
 greatest_listed weight [] t e = absurd (cc)
 greatest_listed weight (x ∷ xs) t e = chosen_listed weight x t xs (first_of_greatest weight xs) e (greatest_listed weight xs t)
 

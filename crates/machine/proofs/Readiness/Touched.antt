@@ -18,16 +18,20 @@ use Rattle.state_rows.specs.Nano.{suspend_count, critical_count, held_by, is_pro
 use Rattle.state_rows.specs.NanoChanges.{after_suspend}
 use Rattle.state_rows.proofs.OtherThreads.{held_by-after_take, held_by-after_give, count-other}
 use Rattle.machine.specs.declared.moves.Move.{Move}
-use Rattle.machine.specs.declared.moves.Move.TheVariants.{Make, Gain, Lose, Find, Miss, GoOn, Write, Advance, Wait, Wake, SetPriority, Nano, Deferred, Requests, Pay}
+use Rattle.machine.specs.declared.moves.Move.TheVariants.{Make, Gain, Lose, Find, Miss, GoOn, Write, Advance, Wait, Wake, SetPriority, Nano, Deferred, Requests, Locks, Fill, Pay}
 use Rattle.machine.specs.declared.deferred_move.DeferredMove.{DeferredMove}
 use Rattle.machine.specs.declared.deferred_move.DeferredMove.TheVariants.{Add, Take as TakeCall}
+use Rattle.machine.specs.declared.lock_move.LockMove.{LockMove}
+use Rattle.machine.specs.declared.lock_move.LockMove.TheVariants.{Unlock}
 use Rattle.machine.specs.declared.nano_move.NanoMove.{NanoMove}
 use Rattle.machine.specs.declared.nano_move.NanoMove.TheVariants.{Take, Give, Enter, Leave, LeaveAll, Suspend, Resume}
 use Rattle.state_rows.specs.declared.thread.Waiting.TheVariants as waiting
 use Rattle.state_rows.specs.declared.thread.ThreadRow.{ThreadRow}
+use Rattle.state_rows.specs.declared.locks.Unlocked.TheVariants.{Freed, Level, NotOwner, Passed}
 use Rattle.machine.specs.declared.state.State.{State}
 use Rattle.machine.specs.Rows.{thread_of, first_of, first_owed, with_row}
 use Rattle.machine.specs.Moves.{moved, threads_gain, threads_lose, threads_closed, next_object, with_use, unlinked, with_found, with_part, with_register, with_waiting, with_priority, advanced}
+use Rattle.machine.specs.LockMoves.{owed_moved}
 use Rattle.machine.specs.NanoMoves.{nano_moved, nano_thread}
 use Rattle.machine.specs.DeferredMoves.{deferred_moved, deferred_threads, thread_of_queue}
 use Rattle.machine.specs.References.{is_last}
@@ -77,6 +81,14 @@ owed-other owed t u what apart = get_or-set_other owed t.0 u.0 what [] (λ e. ap
 
 apart_of : (t u : ObjNo) → is_listed (t ∷ []) u ≡ false → t.0 ≡ u.0 → ⊥
 apart_of t u none = eqb-false t.0 u.0 (or_parts (t.0 == u.0) false none).0
+
+-- also where a mutex is given up
+owed-locks : (owed : List (List Owed)) (t : ObjNo) (m : LockMove) (u : ObjNo) → is_listed (touched t (Locks m)) u ≡ false → get_or (owed_moved m owed) u.0 [] ≡ get_or owed u.0 []
+owed-locks owed t (Unlock o v Freed) u none = owed-other owed v u _ (apart_of v u none)
+owed-locks owed t (Unlock o v (Passed w)) u none = owed-other owed v u _ (apart_of v u none)
+owed-locks owed t (Unlock o v Level) u none = refl
+owed-locks owed t (Unlock o v NotOwner) u none = refl
+owed-locks owed t _ u none = refl
 
 -- the same duties of a thread, and a row with which it is as ready
 ready-by : (script : Script) (S T : State) (u : ObjNo) → T.deferred ≡ S.deferred → T.nano ≡ S.nano → get_or T.owed u.0 [] ≡ get_or S.owed u.0 [] → ready_row script S.deferred S.nano u (first_owed S u) (thread_of T u) ≡ ready_row script S.deferred S.nano u (first_owed S u) (thread_of S u) → is_ready script T u ≡ is_ready script S u
@@ -163,6 +175,8 @@ untouched script S t (SetPriority v priority) u threads joins none = ap (ready_r
 untouched script S t (Nano m) u threads joins none = ready-nano script S m u (λ at. apart_of (nano_thread m) u none (ap (λ (v : ObjNo). v.0) (sym at)))
 untouched script S t (Deferred m) u threads joins none = ready-deferred script S t m u threads joins none
 untouched script S t (Requests m) u threads joins none = refl
+untouched script S t (Locks m) u threads joins none = ready-by script S (moved t (Locks m) S) u refl refl (owed-locks S.owed t m u none) refl
+untouched script S t (Fill p at long byte) u threads joins none = refl
 untouched script S t (Pay (Close h o)) u threads joins none =
     let apart = apart_of t u none in
     ready-by script S (moved t (Pay (Close h o)) S) u refl refl (get_or-set_other _ t.0 u.0 _ [] (λ e. apart (sym e)) ∙ owed-other S.owed t u _ apart)

@@ -24,18 +24,19 @@ count-with_slot tables owner i f o h k =
 pub count-with_row : (threads : List (Option ThreadRow)) (t : ObjNo) (f : ThreadRow → ThreadRow) (o : ObjNo) → total (thread_names o) (with_row threads t f) + thread_names o (get_or threads t.0 None) ≡ total (thread_names o) threads + thread_names o (option_map f (get_or threads t.0 None))
 count-with_row threads t f o = total-with (thread_names o) (option_map f) None threads t.0 refl
 
-is_some-map : (f : ThreadRow → ThreadRow) (x : Option ThreadRow) → is_some (option_map f x) ≡ is_some x
+is_some-map : {A : Type 0} (f : A → A) (x : Option A) → is_some (option_map f x) ≡ is_some x
 is_some-map f None = refl
 is_some-map f (Some x) = refl
 
-is_some-with : (threads : List (Option ThreadRow)) (i : ℕ) (f : ThreadRow → ThreadRow) (j : ℕ) → is_some (get_or (slice_set threads i (option_map f (get_or threads i None))) j None) ≡ is_some (get_or threads j None)
+-- a row made from the old one leaves which rows there are
+pub is_some-with : {A : Type 0} (rows : List (Option A)) (i : ℕ) (f : A → A) (j : ℕ) → is_some (get_or (slice_set rows i (option_map f (get_or rows i None))) j None) ≡ is_some (get_or rows j None)
 is_some-with [] i f j = refl
 is_some-with (x ∷ xs) zero f zero = is_some-map f x
 is_some-with (x ∷ xs) zero f (suc j) = refl
 is_some-with (x ∷ xs) (suc i) f zero = refl
 is_some-with (x ∷ xs) (suc i) f (suc j) = is_some-with xs i f j
 
--- it leaves which threads there are
+-- so it does with threads
 pub is_some-with_row : (threads : List (Option ThreadRow)) (t : ObjNo) (f : ThreadRow → ThreadRow) (u : ObjNo) → is_some (get_or (with_row threads t f) u.0 None) ≡ is_some (get_or threads u.0 None)
 is_some-with_row threads t f u = is_some-with threads t.0 f u.0
 

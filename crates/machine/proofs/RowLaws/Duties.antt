@@ -4,7 +4,7 @@ use Rattle.std.specs.Prelude.{slice_set, drop, ◌==◌, option_map}
 use Rattle.std.proofs.lemmas.Bool.{cases_eq, cases_Bool}
 use Rattle.sym_base.specs.declared.number.ObjNo.{ObjNo}
 use Rattle.entry_log.specs.declared.effect.Holder.{Holder}
-use Rattle.entry_log.specs.declared.effect.Holder.TheVariants.{Temp, Link}
+use Rattle.entry_log.specs.declared.effect.Holder.TheVariants.{Temp, Own, Link}
 use Rattle.state_rows.specs.declared.duty.Owed.{Owed}
 use Rattle.state_rows.specs.declared.duty.Owed.TheVariants.{Close, Sweep}
 use Rattle.state_rows.specs.declared.thread.ThreadRow.{ThreadRow}
@@ -17,7 +17,7 @@ use Rattle.machine.specs.WellFormed.{MayOwe, EachMayOwe, AreDuties, weight, part
 use Rattle.machine.proofs.Holders.ThreadRows.{row-here, row-other}
 use Rattle.machine.proofs.RowLaws.Threads.{none-with_row}
 use Rattle.machine.proofs.Lists.Sets.{set_either}
-use Rattle.machine.proofs.Lists.Totals.{total-append, total_at_most}
+use Rattle.machine.proofs.Lists.Totals.{total-append, total-drop, total_at_most}
 use Rattle.machine.proofs.References.Same.{if_not, eqb_apart}
 
 -- other rows of threads, of which none is new, and in which thread k isn't between a find and its return where it wasn't
@@ -43,6 +43,7 @@ paid-with_row threads t f keeps k = record {
 
 may_owe-kept : (threads other : List (Option ThreadRow)) (k : ℕ) (h : Holder) (o : ObjNo) → IsPaidIn threads other k → MayOwe threads k h o → MayOwe other k h o
 may_owe-kept threads other k (Temp u) o stays own = own
+may_owe-kept threads other k (Own u) o stays own = own
 may_owe-kept threads other k (Link x) o stays own = stays.none o.0 own
 may_owe-kept threads other k _ o stays own = absurd own
 
@@ -100,13 +101,9 @@ may_owe-drop threads k [] h = tt
 may_owe-drop threads k (Close j o ∷ rest) h = h.1
 may_owe-drop threads k (Sweep o ∷ rest) h = h
 
-weight-drop : (what : List Owed) → total weight (drop 1 what) ≤ total weight what
-weight-drop [] = omega arith
-weight-drop (what ∷ rest) = omega arith
-
 pub duties-without_first : (threads : List (Option ThreadRow)) (owed : List (List Owed)) (t : ObjNo) → AreDuties threads owed → AreDuties threads (without_first owed t)
 duties-without_first threads owed t h =
-    let less = weight-drop (get_or owed t.0 []) in
+    let less = total-drop weight (get_or owed t.0 []) in
     let few = h.few t.0 in
     duties-set threads owed t (drop 1 (get_or owed t.0 [])) (may_owe-drop threads t.0 (get_or owed t.0 []) (h.own t.0)) (omega arith) (λ now. ap (drop 1) (h.returns t.0 now)) h
 
@@ -119,8 +116,10 @@ weight-owing owed t more = elim (set_either owed t.0 (get_or owed t.0 [] ++ more
 
 pair_apart : (threads : List (Option ThreadRow)) (k : ℕ) (h g : Holder) (o x : ObjNo) → MayOwe threads k h o → ((y : ObjNo) → MayOwe threads k g y → ⊥) → same_pair h o g x ≡ 0
 pair_apart threads k (Temp u) (Temp v) o x own apart = if_not (u.0 == v.0) (same o x) (eqb_apart u.0 v.0 (λ e. apart o (sym e ∙ own)))
+pair_apart threads k (Own u) (Own v) o x own apart = if_not (u.0 == v.0) (same o x) (eqb_apart u.0 v.0 (λ e. apart o (sym e ∙ own)))
 pair_apart threads k (Link u) (Link v) o x own apart = absurd (apart o own)
 pair_apart threads k (Temp u) _ o x own apart = refl
+pair_apart threads k (Own u) _ o x own apart = refl
 pair_apart threads k (Link u) _ o x own apart = refl
 pair_apart threads k _ g o x own apart = absurd own
 
@@ -135,12 +134,12 @@ none_owed threads owed g x h apart =
     let few : total (total (owed_by g x)) owed ≤ 0 * length owed = total_at_most (total (owed_by g x)) 0 owed [] (λ k inside. let a = not_owed threads k (get_or owed k []) g x (h.own k) (apart k) in omega arith) in
     omega arith
 
--- no close is owed of the temporary reference of a thread that owes none
-pub none_owed_temp : (threads : List (Option ThreadRow)) (owed : List (List Owed)) (t : ObjNo) (x : ObjNo) → AreDuties threads owed → total (owed_by (Temp t) x) (get_or owed t.0 []) ≡ 0 → total (total (owed_by (Temp t) x)) owed ≡ 0
-none_owed_temp threads owed t x h paid =
-    let few : total (total (owed_by (Temp t) x)) owed ≤ 0 * length owed = total_at_most (total (owed_by (Temp t) x)) 0 owed [] (λ k inside.
-    elim (cases_eq t.0 k) as (λ _. total (owed_by (Temp t) x) (get_or owed k []) ≤ 0) [
-      | inl at ↦ let e : total (owed_by (Temp t) x) (get_or owed k []) ≡ 0 = ap (λ (n : ℕ). total (owed_by (Temp t) x) (get_or owed n [])) (sym at) ∙ paid in omega arith
-      | inr apart ↦ let a = not_owed threads k (get_or owed k []) (Temp t) x (h.own k) (λ y own. apart own) in omega arith
+-- no close is owed of a holder whose references only a thread may owe that owes none
+pub none_owed_by : (threads : List (Option ThreadRow)) (owed : List (List Owed)) (t : ObjNo) (g : Holder) (x : ObjNo) → AreDuties threads owed → ((k : ℕ) (y : ObjNo) → MayOwe threads k g y → t.0 ≡ k) → total (owed_by g x) (get_or owed t.0 []) ≡ 0 → total (total (owed_by g x)) owed ≡ 0
+none_owed_by threads owed t g x h only paid =
+    let few : total (total (owed_by g x)) owed ≤ 0 * length owed = total_at_most (total (owed_by g x)) 0 owed [] (λ k inside.
+    elim (cases_eq t.0 k) as (λ _. total (owed_by g x) (get_or owed k []) ≤ 0) [
+      | inl at ↦ let e : total (owed_by g x) (get_or owed k []) ≡ 0 = ap (λ (n : ℕ). total (owed_by g x) (get_or owed n [])) (sym at) ∙ paid in omega arith
+      | inr apart ↦ let a = not_owed threads k (get_or owed k []) g x (h.own k) (λ y own. apart (only k y own)) in omega arith
     ]) in
     omega arith

@@ -28,12 +28,12 @@ none-with_row threads t f k none = elim (cases_eq t.0 k) as (λ _. get_or (with_
   | inr apart ↦ row-other threads t f k apart ∙ none
 ]
 
-map_some : (f : ThreadRow → ThreadRow) (x : Option ThreadRow) (row : ThreadRow) → option_map f x ≡ Some row → (old : ThreadRow) × (x ≡ Some old) × (f old ≡ row)
+pub map_some : {A : Type 0} (f : A → A) (x : Option A) (row : A) → option_map f x ≡ Some row → (old : A) × (x ≡ Some old) × (f old ≡ row)
 map_some f None row e = absurd (cc)
 map_some f (Some old) row e = (old, refl, cc)
 
 -- a row after the change is the changed one, or was there before
-was_row : (threads : List (Option ThreadRow)) (t : ObjNo) (f : ThreadRow → ThreadRow) (P : ℕ → ThreadRow → Type 0) → ((old : ThreadRow) → get_or threads t.0 None ≡ Some old → P t.0 (f old)) → ((k : ℕ) (row : ThreadRow) → get_or threads k None ≡ Some row → P k row) → (k : ℕ) (row : ThreadRow) → get_or (with_row threads t f) k None ≡ Some row → P k row
+pub was_row : (threads : List (Option ThreadRow)) (t : ObjNo) (f : ThreadRow → ThreadRow) (P : ℕ → ThreadRow → Type 0) → ((old : ThreadRow) → get_or threads t.0 None ≡ Some old → P t.0 (f old)) → ((k : ℕ) (row : ThreadRow) → get_or threads k None ≡ Some row → P k row) → (k : ℕ) (row : ThreadRow) → get_or (with_row threads t f) k None ≡ Some row → P k row
 was_row threads t f P here there k row is = elim (cases_eq t.0 k) as (λ _. P k row) [
   | inl at ↦ let was = map_some f (get_or threads t.0 None) row (sym (row-here threads t f k at) ∙ is) in subst (λ (n : ℕ). P n row) at (subst (P t.0) was.2 (here was.0 was.1))
   | inr apart ↦ there k row (sym (row-other threads t f k apart) ∙ is)

@@ -2,7 +2,7 @@ use Rattle.std.proofs.Common.{◌++◌, map, ap, ◌∙◌}
 use Rattle.std.specs.List.{flat_map}
 use Rattle.std.specs.Prelude.{None}
 use Rattle.script_print.specs.CanonicalText.{source_texts, queue_line, dfc_line, idfc_line, irq_line, thread_lines, threads_of, processes_lines}
-use Rattle.script_print.proofs.Printing.{declared_by}
+use Rattle.script_print.proofs.PartLaws.{declared_by}
 use Rattle.script_print.proofs.print.put_declarations.Goals as goal
 
 pub returns : goal.returns

@@ -1,6 +1,6 @@
 use Rattle.std.proofs.Common.{◌++◌, ap, ◌∙◌}
 use Rattle.script_print.specs.CanonicalText.{source_texts, schedule_lines}
-use Rattle.script_print.proofs.Printing.{canonical_by}
+use Rattle.script_print.proofs.PartLaws.{canonical_by}
 use Rattle.script_print.proofs.print.put_script.Goals as goal
 
 pub returns : goal.returns

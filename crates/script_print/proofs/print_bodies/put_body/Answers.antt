@@ -1,4 +1,4 @@
-use Rattle.script_print.proofs.Printing.{body_texts}
+use Rattle.script_print.proofs.PartLaws.{body_texts}
 use Rattle.script_print.proofs.print_bodies.put_body.Goals as goal
 
 pub loop-number-preserved : goal.loop-number-preserved

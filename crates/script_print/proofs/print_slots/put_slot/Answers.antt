@@ -1,6 +1,6 @@
 use Rattle.std.proofs.Common.{sym, ap, ◌∙◌}
 use Rattle.script_types.specs.declared.script.Slot.TheVariants as slot
-use Rattle.script_print.proofs.Printing.{tick_texts, irq_texts}
+use Rattle.script_print.proofs.PartLaws.{tick_texts, irq_texts}
 use Rattle.script_print.proofs.print_slots.put_slot.Goals as goal
 
 pub returns-in_ok-put_line-in-Irq-clause-text : goal.returns-in_ok-put_line-in-Irq-clause-text

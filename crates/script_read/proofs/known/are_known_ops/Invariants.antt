@@ -1,6 +1,6 @@
 use Rattle.std.proofs.Common.{◌≡◌, List, drop}
 use Rattle.std.specs.List.{list_all}
-use Rattle.script_read.specs.Knows.{Knows}
+use Rattle.script_read.specs.FileNames.{Knows}
 use Rattle.script_read.proofs.known.are_known_ops.Given as goal
 use Rattle.script_types.specs.Names.{Declared, is_known_op}
 

@@ -1,4 +1,4 @@
-use Rattle.script_read.proofs.FirstBads.{one_first_bad}
+use Rattle.script_read.proofs.FirstBadLaws.{one_first_bad}
 use Rattle.script_read.proofs.SourceLaws.{accepted_or_bad, accepted_not_bad, one_accepted}
 use Rattle.script_read.proofs.law.accepted_or_bad.Goals as goal
 

@@ -3,7 +3,7 @@ use Rattle.std.proofs.lemmas.Bool.Decides.{nat_tests}
 use Rattle.std.proofs.lemmas.List.{nil_from_length}
 use Rattle.std.proofs.Common.{arith}
 use Rattle.script_read.specs.Progress.{reading_of}
-use Rattle.script_read.proofs.ReadingLines.{read_to_start, read_to_end}
+use Rattle.script_read.proofs.ProgressLaws.{read_to_start, read_to_end}
 use Rattle.script_read.proofs.progress.read_text.Goals as goal
 
 pub loop-rest-init : goal.loop-rest-init

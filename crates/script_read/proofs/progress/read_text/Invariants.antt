@@ -1,5 +1,5 @@
 use Rattle.std.proofs.Common.{length}
-use Rattle.script_read.proofs.ReadingLines.{IsReadTo}
+use Rattle.script_read.proofs.ProgressLaws.{IsReadTo}
 use Rattle.script_read.proofs.progress.read_text.Given as goal
 
 abbrev pub invariant-loop-rest : goal.invariant-loop-rest

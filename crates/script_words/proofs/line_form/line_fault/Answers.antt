@@ -16,6 +16,5 @@ returns-in-Some c =
     let fault = rw (c.words_behind.ensures, operands) at c.words_fault-fault.ensures in
     let part : pieces c.words_behind-body.result.now ≡ body_part (operands_of c.args.keyword c.args.second) words =
     rw add-one at c.words_behind-body.ensures ∙ ap (λ (os : List Operand). drop (suc (length os)) words) operands in
-    let form : c.are_operations-form.result ≡ list_all (is_op has_form c.in-Some.kind) (operations (body_part (operands_of c.args.keyword c.args.second) words)) = rw part at c.are_operations-form.ensures in
-    let range : c.are_operations.result ≡ list_all (is_op is_in_range c.in-Some.kind) (operations (body_part (operands_of c.args.keyword c.args.second) words)) = rw part at c.are_operations.ensures in
-    c.fault_with.ensures ∙ rw (fault, form, range) (line_with c.args.keyword c.args.second words c.in-Some.kind some)
+    let body = rw part at c.body_fault.ensures in
+    c.both_faults.ensures ∙ rw (fault, body) (line_with c.args.keyword c.args.second words c.in-Some.kind some)

@@ -3,7 +3,7 @@ use Rattle.std.specs.Prelude.{Option, None}
 use Rattle.std.proofs.lemmas.List.{length-replicate}
 use Rattle.sym_base.specs.declared.number.ObjNo.{ObjNo}
 use Rattle.cleanup.specs.Nodes.{object, logon}
-use Rattle.cleanup.proofs.Seen.{seen_fresh}
+use Rattle.links.proofs.Seen.{seen_fresh}
 use Rattle.cleanup.proofs.cleanup.Cleanup.new.Goals as goal
 
 pub returns : goal.returns

@@ -4,7 +4,7 @@ use Rattle.std.proofs.lemmas.List.{get_or_read}
 use Rattle.links.proofs.Marks.{none_first}
 use Rattle.cleanup.specs.Nodes.{object, logon}
 use Rattle.cleanup.proofs.Next.{mutex_next, server_next, temporary_next, logon_next}
-use Rattle.cleanup.proofs.Seen.{seen_first}
+use Rattle.links.proofs.Seen.{seen_first}
 use Rattle.cleanup.proofs.cleanup.Cleanup.next.Goals as goal
 
 pub returns-in-Some-clause-first : goal.returns-in-Some-clause-first

@@ -5,7 +5,7 @@ use Rattle.cleanup.specs.contracts.cleanup.Cleanup.{the_view}
 use Rattle.cleanup.specs.Lists.{is_object, is_logon}
 use Rattle.cleanup.specs.Nodes.{object, logon}
 use Rattle.cleanup.proofs.Logons.{logon_at, logon_tells}
-use Rattle.cleanup.proofs.Seen.{seen_any, seen_pushed}
+use Rattle.links.proofs.Seen.{seen_any, seen_pushed}
 use Rattle.cleanup.proofs.cleanup.Cleanup.push.Goals as goal
 
 pub push-requires-clause-free : goal.push-requires-clause-free

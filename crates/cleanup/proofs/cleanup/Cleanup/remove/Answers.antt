@@ -5,7 +5,7 @@ use Rattle.cleanup.specs.contracts.cleanup.Cleanup.{the_view}
 use Rattle.cleanup.specs.Lists.{is_object, is_logon}
 use Rattle.cleanup.specs.Nodes.{object, logon}
 use Rattle.cleanup.proofs.Logons.{logon_tells}
-use Rattle.cleanup.proofs.Seen.{seen_removed}
+use Rattle.links.proofs.Seen.{seen_removed}
 use Rattle.cleanup.proofs.cleanup.Cleanup.remove.Goals as goal
 
 pub returns-in-Mutex : goal.returns-in-Mutex

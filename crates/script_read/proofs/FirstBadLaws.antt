@@ -3,7 +3,7 @@ use Rattle.std.proofs.Common.{◌≡◌, ℕ, suc, ◌+◌, Bool, true, false, L
 use Rattle.std.specs.List.{AllByRecursion, find}
 use Rattle.std.specs.Prelude.{◌⊎◌, cond}
 use Rattle.script_read.specs.FirstBad.{HasNone, Make, IsFirstReason, IsBadLine, IsUnended, IsFirstBad, IsRead}
-use Rattle.script_read.specs.Judged.{at_end, go_on, read_from, read_text}
+use Rattle.script_read.specs.LineByLine.{at_end, go_on, read_from, read_text}
 use Rattle.script_read.specs.Reasons.{has, reasons, first_reason, after_text}
 use Rattle.script_read.specs.declared.reason.Reason.{Reason}
 use Rattle.script_read.specs.declared.reason.Reason.TheVariants as reason

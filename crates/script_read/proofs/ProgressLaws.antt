@@ -2,7 +2,7 @@
 use Rattle.std.proofs.Common.{◌≡◌, ℕ, ◌+◌, ◌≤◌, List, [], ◌∷◌, length, length-append, sym, ap, ◌∙◌, refl, arith, Result}
 use Rattle.std.proofs.lemmas.Bool.{ltb-true}
 use Rattle.std.specs.Prelude.{IsTrue}
-use Rattle.script_read.specs.Judged.{read_from, read_text, at_end}
+use Rattle.script_read.specs.LineByLine.{read_from, read_text, at_end}
 use Rattle.script_read.specs.Progress.{IsSteady}
 use Rattle.script_read.specs.declared.progress.Progress.{Progress}
 use Rattle.script_read.specs.declared.reason.Reason.{Reason}

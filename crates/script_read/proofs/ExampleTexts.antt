@@ -1,7 +1,7 @@
 -- Texts, and the first bad line of each: one for each reason, in the order in which reasons are tried.
 use Rattle.std.proofs.Common.{◌≡◌, ℕ, List, [], ◌∷◌, ◌++◌, refl, Option, Some, None}
 use Rattle.std.specs.Prelude.{codes, replicate, Result, Ok, Err}
-use Rattle.script_read.specs.Judged.{read_text}
+use Rattle.script_read.specs.LineByLine.{read_text}
 use Rattle.script_read.specs.Reasons.{first_reason, after_text}
 use Rattle.script_types.specs.Keywords.{keyword_of}
 use Rattle.script_words.specs.LineAt.{line_as}

@@ -1,0 +1,144 @@
+//! Each form of line is read, whether the program runs it or not, and printed again; and the ends of ranges.
+use crate::context::{add_line, new_context};
+use crate::every_form::{EVERY_FORM, is_every_form};
+use crate::order::{is_in_order, is_scheduled};
+use crate::print_script;
+use script_types::{Context, Script};
+use script_words::{
+    Fault, is_counted, keyword_kind, keyword_of, line_as, line_fault, second_of, take_words,
+    word_at,
+};
+use std::alloc::Global;
+use std::test::Fail;
+use sym_base::NoMemory;
+
+/// Lines of each kind of operand with a number that is just past an end of its range.
+const PAST_THE_ENDS: [&str; 47] = [
+    "eka2 0",
+    "eka2 2",
+    "pool -1",
+    "pool 256",
+    "fast -1",
+    "fast 17",
+    "dfcq q -1",
+    "dfcq q 64",
+    "dfc d q -1 queue d",
+    "dfc d q 8 queue d",
+    "idfc i device d16 0",
+    "idfc i device d0 -2147483647",
+    "idfc i device d0 2147483648",
+    "irq -1 idfc i",
+    "irq 32 idfc i",
+    "kthread k 64 held",
+    "thread a -1",
+    "thread a 64",
+    "go 0",
+    "go 65537",
+    "create mutex m r8",
+    "create semaphore s -1 r0",
+    "create semaphore s 2147483648 r0",
+    "priority r0 -1",
+    "priority r0 64",
+    "kill r0 -2147483647",
+    "panic r0 C 2147483648",
+    "logon r0 s16",
+    "flock f16",
+    "request d16 s0",
+    "connect f 0 r0",
+    "connect f 256 r0",
+    "send r0 -1 s0 0 0 0 0",
+    "send r0 2147483648 s0 0 0 0 0",
+    "send r0 0 s0 -2147483649 0 0 0",
+    "send r0 0 s0 0 0 0 2147483648",
+    "call r0 0 d:1025:0:0 0 0 0",
+    "call r0 0 0 0 0 d:0:0:-1",
+    "receive r0 m8",
+    "read m0 -1 0 0 0",
+    "read m0 4 0 0 0",
+    "write m0 0 1025 0 0",
+    "write m0 0 0 0 1025",
+    "fill 0 -1 0",
+    "fill 0 0 256",
+    "peek -1",
+    "peek 1024",
+];
+
+/// Adds a line, whether the program runs it or not. False where it is bad for another reason.
+fn add_text<'a>(
+    alloc: Global,
+    context: &mut Context,
+    words: &mut Vec<&'a [u8]>,
+    text: &'a [u8],
+) -> Result<bool, NoMemory> {
+    take_words(words, text)?;
+    let words = words.as_slice();
+    let Some(keyword) = keyword_of(word_at(words, 0)) else {
+        return Ok(false);
+    };
+    let scheduled = is_scheduled(context);
+    let second = second_of(scheduled, keyword, words);
+    if !is_in_order(context, keyword_kind(scheduled, keyword))
+        || !is_counted(keyword, second, words)
+    {
+        return Ok(false);
+    }
+    if line_fault(keyword, second, words).is_some() {
+        return Ok(false);
+    }
+    let line = line_as(alloc, keyword, second, words)?;
+    if context.script.processes.len() > 16 {
+        return Ok(false);
+    }
+    add_line(alloc, context, line)?;
+    Ok(true)
+}
+
+/// The script of the lines of a text. None where one of them is bad for another reason than that it isn't run.
+fn read_lines(alloc: Global, text: &str) -> Result<Option<Script>, NoMemory> {
+    let mut context = new_context(alloc);
+    let mut words = Vec::new(alloc);
+    for line in text.as_bytes().split(|byte| *byte == b'\n') {
+        if !line.is_empty() && !add_text(alloc, &mut context, &mut words, line)? {
+            return Ok(None);
+        }
+    }
+    let Context { script, .. } = context;
+    Ok(Some(script))
+}
+
+/// What is wrong with the words of a line. None where it has no first word of a line.
+fn fault_of(alloc: Global, text: &str) -> Result<Option<Fault>, NoMemory> {
+    let mut words = Vec::new(alloc);
+    take_words(&mut words, text.as_bytes())?;
+    let words = words.as_slice();
+    let Some(keyword) = keyword_of(word_at(words, 0)) else {
+        return Ok(None);
+    };
+    let second = second_of(false, keyword, words);
+    if !is_counted(keyword, second, words) {
+        return Ok(None);
+    }
+    Ok(line_fault(keyword, second, words))
+}
+
+#[test]
+fn reads_and_prints_every_form(rt: HostRuntime) -> Result<(), Fail> {
+    let Some(script) = read_lines(rt.alloc(), EVERY_FORM)? else {
+        return Err("a line is bad".into());
+    };
+    assert!(rt; is_every_form(&script));
+    let printed = print_script(rt.alloc(), &script)?;
+    assert!(rt; printed.as_slice() == EVERY_FORM.as_bytes());
+    Ok(())
+}
+
+#[test]
+fn knows_the_ends_of_ranges(rt: HostRuntime) -> Result<(), Fail> {
+    for text in &PAST_THE_ENDS {
+        assert!(rt;
+            matches!(fault_of(rt.alloc(), text)?, Some(Fault::Range)),
+            "{text}"
+        );
+    }
+    Ok(())
+}
