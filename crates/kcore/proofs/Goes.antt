@@ -8,7 +8,7 @@ use Rattle.script_types.specs.declared.script.Slot.{Slot}
 use Rattle.script_types.specs.Shape.{IsShaped}
 use Rattle.script_types.proofs.ShapeLaws.{valid_is_shaped}
 use Rattle.entry_log.specs.declared.entry.Actor.{Actor}
-use Rattle.entry_log.specs.declared.entry.Actor.TheVariants.{Thread}
+use Rattle.entry_log.specs.declared.entry.Actor.TheVariants.{Thread, Irq, Idfc, Tick, Idle}
 use Rattle.entry_log.specs.declared.entry.Entry.{Entry}
 use Rattle.entry_log.specs.declared.entry.FinalRow.{FinalRow}
 use Rattle.state_rows.specs.declared.object.ObjectRow.{ObjectRow}
@@ -35,7 +35,7 @@ use Rattle.machine_safe.proofs.SafeHistories.{legal_safe}
 use Rattle.ready_list.specs.Ready.{Ready}
 use Rattle.kernel_tables.specs.declared.tables.Tables.{Tables}
 use Rattle.kcore.specs.KernelView.{Stands}
-use Rattle.kcore.specs.Done.{EachReady, Does}
+use Rattle.kcore.specs.Done.{EachReady, Does, MayAct}
 use Rattle.kernel_tables.specs.ReadyQueues.{AreReady, SomeReady}
 use Rattle.kernel_tables.specs.StateOf.{state_of, with_ready}
 use Rattle.kernel_tables.proofs.ReadyRows.{ready_row}
@@ -63,6 +63,14 @@ shape_stands script history tables ready h = valid_is_shaped script h.valid
 
 pub some_stand : {W N : Type 0} (script : Script) (history : List Entry) (tables : Tables W N) (ready : Ready) → Stands script history tables ready → SomeReady ready
 some_stand script history tables ready h = (priority_of (state_of tables), (after script history).ready, h.queues)
+
+-- an actor that may act after the history may act in the tables
+pub may_stand : {W N : Type 0} (script : Script) (history : List Entry) (tables : Tables W N) (ready : Ready) (actor : Actor) → Stands script history tables ready → CanAct script (after script history) actor → MayAct script (state_of tables) actor
+may_stand script history tables ready (Thread t) h can = ap (λ (U : State). is_able script U t) h.state ∙ can
+may_stand script history tables ready (Irq k) h can = tt
+may_stand script history tables ready Idfc h can = tt
+may_stand script history tables ready Tick h can = tt
+may_stand script history tables ready Idle h can = tt
 
 -- the threads of the queues are ready
 each_stands : {W N : Type 0} (script : Script) (history : List Entry) (tables : Tables W N) (ready : Ready) → Stands script history tables ready → EachReady script (state_of tables) (after script history).ready

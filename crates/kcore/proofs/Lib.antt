@@ -7,6 +7,7 @@ mod BootTables
 mod BootUses
 mod DecidedApart
 mod Goes
+mod LastEntry
 mod ListSteps
 mod MovesApart
 mod RunningOps

@@ -15,6 +15,7 @@ ghost use Rattle.machine.specs.WellFormed.{AreRows};
 ghost use Rattle.kernel_tables.specs.Noted.{AreKept};
 ghost use Rattle.kcore.specs.Done.{Does, MayAct};
 ghost use Rattle.kcore.specs.Told.{IsTold, told_in};
+ghost use Rattle.kernel_tables.specs.Performed.{IsPerformed};
 ghost use Rattle.kernel_tables.specs.ReadyQueues.{Follow, SomeReady};
 ghost use Rattle.kernel_tables.specs.StateOf.{state_of};
 
@@ -31,6 +32,35 @@ use ready_list::ReadyList;
 use ref_words::RefWords;
 use script_types::{Instr, Script};
 use sym_base::ThreadNo;
+
+/// A step of the instruction that a thread is at. Whoever isn't ready any more stays in the queues.
+fn make_step<W: RefWords + Drop>(
+    script: &Script,
+    tables: &mut Tables<W>,
+    ready: &mut ReadyList,
+    decision: &mut Decision,
+    thread: ThreadNo,
+    instr: &Instr,
+) -> exec_user::Outcome
+    requires shaped { IsShaped script.now }
+    requires rows { AreRows script.now (state_of tables.old) }
+    requires kept { AreKept tables.old }
+    requires size { ready.old.threads ≡ BOOT_OBJECTS }
+    requires able { IsTrue (is_able script.now (state_of tables.old) thread) }
+    requires next { task_of script.now (state_of tables.old) thread ≡ Some (task.Step instr.now) }
+    ensures size { ready.new.threads ≡ BOOT_OBJECTS }
+    ensures decided { decision.new ≡ step_at script.now (state_of tables.old) thread instr.now }
+    ensures performed { IsPerformed script.now thread (step_at script.now (state_of tables.old) thread instr.now).moves tables.old tables.new ready.old ready.new [] result.effects }
+    ensures answer { result.answer ≡ (step_at script.now (state_of tables.old) thread instr.now).answer }
+{
+    let phase = phase_at(tables, thread);
+    let mut user = ExecUser {
+        tables,
+        ready,
+        decision,
+    };
+    user.step(script, thread, instr, phase)
+}
 
 /// A step of the instruction that a thread is at.
 fn step<W: RefWords + Drop>(
@@ -51,13 +81,7 @@ fn step<W: RefWords + Drop>(
     ensures told { IsTold entry.old entry.new }
     ensures does { Does script.now tables.old ready.old tables.new ready.new (told_in entry.new) (λ S. carried_out script.now thread S (step_at script.now (state_of tables.old) thread instr.now)) }
 {
-    let phase = phase_at(tables, thread);
-    let mut user = ExecUser {
-        tables,
-        ready,
-        decision,
-    };
-    let made = user.step(script, thread, instr, phase);
+    let made = make_step(script, tables, ready, decision, thread, instr);
     let moves = decision.moves.as_slice();
     leave_along(script, tables, ready, thread, moves);
     entry.step = decision.step;
@@ -86,7 +110,15 @@ fn act<W: RefWords + Drop>(
     match next_action(decision, script, tables, thread) {
         NextAction::Decided => carry_out(script, tables, ready, thread, decision, entry),
         NextAction::Runs(body) => {
-            run_body(script, tables, ready, &mut decision.moves, thread, body, entry);
+            run_body(
+                script,
+                tables,
+                ready,
+                &mut decision.moves,
+                thread,
+                body,
+                entry,
+            );
         }
         NextAction::Steps(instr) => step(script, tables, ready, decision, thread, instr, entry),
     }

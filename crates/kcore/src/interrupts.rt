@@ -41,7 +41,15 @@ pub fn interrupt<W: RefWords + Drop>(
     ensures does { Does script.now tables.old ready.old tables.new ready.new (told_in entry.new) (λ S. interrupt script.now S number) }
 {
     let body = Body::Interrupt(number);
-    run_body(script, tables, ready, &mut decision.moves, SUPERVISOR, body, entry);
+    run_body(
+        script,
+        tables,
+        ready,
+        &mut decision.moves,
+        SUPERVISOR,
+        body,
+        entry,
+    );
 }
 
 /// The oldest item of the immediate queue runs, or moves to its own queue.

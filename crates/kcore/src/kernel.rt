@@ -130,7 +130,7 @@ impl<W: RefWords + Drop> Kernel<W> {
         ensures safe { IsSafeReferences self.new.script self.new.history }
         ensures holders { AreHoldersReady self.new.script self.new.history }
     {
-        let at = self.history.len();
+        let at = self.history.as_slice().len();
         self.history.push_reserved(new_entry(at as u32 + 1, actor));
         transition(
             &self.script,

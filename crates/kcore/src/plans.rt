@@ -64,7 +64,15 @@ pub fn follow<W: RefWords + Drop>(
     match body {
         None => carry_out(script, tables, ready, thread, decision, entry),
         Some(body) => {
-            run_body(script, tables, ready, &mut decision.moves, thread, body, entry);
+            run_body(
+                script,
+                tables,
+                ready,
+                &mut decision.moves,
+                thread,
+                body,
+                entry,
+            );
         }
     }
 }

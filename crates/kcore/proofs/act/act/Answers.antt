@@ -1,22 +1,57 @@
-use Rattle.std.proofs.Common.{◌∙◌, sym}
-use Rattle.machine.specs.declared.decision.Outcome.{Outcome}
+use Rattle.std.proofs.Common.{◌≡◌, ◌∙◌, subst, sym}
+use Rattle.machine.specs.declared.decision.Decision.{Decision}
 use Rattle.machine.specs.declared.state.State.{State}
 use Rattle.machine.specs.Bodies.{run_body}
 use Rattle.machine.specs.Steps.{decision_of}
 use Rattle.machine.specs.Transition.{act}
+use Rattle.kernel_tables.specs.Performed.{ActionGoes}
 use Rattle.kernel_tables.specs.StateOf.{state_of}
 use Rattle.kernel_tables.proofs.GoingActions.{action_goes}
-use Rattle.exec_user.specs.Stepping.{step_at}
 use Rattle.kcore.specs.Told.{told_in}
 use Rattle.kcore.proofs.ActionsDone.{does_same}
 use Rattle.kcore.proofs.DecidedApart.{decision_apart}
 use Rattle.kcore.proofs.act.act.Goals as goal
 
 pub carry_out-requires-clause-goes : goal.carry_out-requires-clause-goes
-carry_out-requires-clause-goes g c = ?
+carry_out-requires-clause-goes g c =
+    let is = rw c.in-Decided.is at c.next_action.ensures.decided in
+    rw is (action_goes c.args.script.now (state_of c.args.tables.now) c.args.thread c.requires.shaped c.requires.rows)
 
 pub run_body-requires-clause-goes : goal.run_body-requires-clause-goes
-run_body-requires-clause-goes g c = ?
+run_body-requires-clause-goes g c =
+    let script = c.args.script.now in
+    let t = c.args.thread in
+    let X = state_of c.args.tables.now in
+    let is : run_body script t X c.in-Runs.body ≡ decision_of script X t = rw c.in-Runs.is at c.next_action.ensures.decided in
+    subst (λ (d : Decision). ActionGoes script t d.moves X) (sym is) (action_goes script X t c.requires.shaped c.requires.rows)
 
 pub step-requires-clause-next : goal.step-requires-clause-next
-step-requires-clause-next g c = ?
+step-requires-clause-next g c = rw c.in-Steps.is at c.next_action.ensures.step
+
+-- what is done is what the thread decides
+pub returns-in-Decided-clause-does : goal.returns-in-Decided-clause-does
+unfolding act
+returns-in-Decided-clause-does g c =
+    let script = c.args.script.now in
+    let t = c.args.thread in
+    let X = state_of c.args.tables.now in
+    let is = rw c.in-Decided.is at c.next_action.ensures.decided in
+    does_same script t _ (λ (S : State). decision_of script S t) c.args.tables.now c.carry_out.new.tables c.args.ready.now c.carry_out.new.ready (told_in c.carry_out.new.entry) (λ qs. is ∙ sym (decision_apart script X qs t)) c.carry_out.ensures.does
+
+pub returns-in-Runs-clause-does : goal.returns-in-Runs-clause-does
+unfolding act
+returns-in-Runs-clause-does g c =
+    let script = c.args.script.now in
+    let t = c.args.thread in
+    let X = state_of c.args.tables.now in
+    let is : run_body script t X c.in-Runs.body ≡ decision_of script X t = rw c.in-Runs.is at c.next_action.ensures.decided in
+    does_same script t (run_body script t X c.in-Runs.body) (λ (S : State). decision_of script S t) c.args.tables.now c.run_body.new.tables c.args.ready.now c.run_body.new.ready (told_in c.run_body.new.entry) (λ qs. is ∙ sym (decision_apart script X qs t)) c.run_body.ensures.does
+
+pub returns-in-Steps-clause-does : goal.returns-in-Steps-clause-does
+unfolding act
+returns-in-Steps-clause-does g c =
+    let script = c.args.script.now in
+    let t = c.args.thread in
+    let X = state_of c.args.tables.now in
+    let is = rw c.in-Steps.is at c.next_action.ensures.decided in
+    does_same script t _ (λ (S : State). decision_of script S t) c.args.tables.now c.step.new.tables c.args.ready.now c.step.new.ready (told_in c.step.new.entry) (λ qs. is ∙ sym (decision_apart script X qs t)) c.step.ensures.does

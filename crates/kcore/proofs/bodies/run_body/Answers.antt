@@ -88,4 +88,4 @@ returns-clause-does g c =
     let noted : c.as_slice-3.result.now ≡ ms ++ ops_moves script t (state_of mid) ops = rw (c.add_moves.ensures, c.new-made.ensures, c.as_slice-2.ensures.moves, c.leave_queue.ensures.moves, c.ops_of.ensures) at (c.as_slice-3.ensures ∙ c.run_ops.ensures.made) in
     let moves : c.as_slice-3.result.now ≡ d.moves = noted ∙ ap (λ (U : State). ms ++ ops_moves script t U ops) first.state in
     let follow = rw moves at c.leave_along.ensures.queues in
-    carried_does script t d old new c.args.ready.now c.run_ops.new.ready c.leave_along.new.ready _ c.run_ops.new.effects c.requires.goes.each did follow (rw c.step_of_body.ensures refl)
+    carried_does script t d old new c.args.ready.now c.run_ops.new.ready c.leave_along.new.ready _ c.run_ops.new.effects c.requires.goes.each did follow (rw c.step_of_body-entry.ensures refl)
