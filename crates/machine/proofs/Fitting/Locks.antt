@@ -1,5 +1,5 @@
 -- The steps of mutexes and semaphores.
-use Rattle.std.proofs.Common.{◌≡◌, ℕ, arith, refl, sym, ap, ◌∙◌, Option, Some, None, true, false}
+use Rattle.std.proofs.Common.{◌≡◌, ℕ, arith, refl, sym, ap, ◌∙◌, Option, Some, None, false}
 use Rattle.std.specs.Prelude.{pos, ◌==◌, [], ◌∷◌, is_some, option_map}
 use Rattle.std.proofs.lemmas.Bool.{eq-eqb}
 use Rattle.sym_base.specs.declared.error.Error.TheVariants as error
@@ -89,15 +89,15 @@ fits-lock x (Some _) h at = fits-answer (Of word.Lock part.Done) (pos 0) h
 fits-unlock_by : {script : Script} {S : State} {t : ObjNo} {row : ThreadRow} {instr : Instr} (o : ObjNo) (unlocked : Unlocked) → IsStepping script S t row instr → is_returning row.part ≡ false → IsAlive (object_of S o)
     → unlocked ≡ unlock_answer (owner_at S.locks o) t (best_waiter (priority_of S) S.locks o) → FitsDecision script t S (unlock_by t o unlocked)
 fits-unlock_by {script = script} {S = S} {t = t} {row = row} o unlocked h going alive e = by unlocked (
-    refl,
-    record {
-      object = alive_inside S.objects o.0 alive;
-      thread = ap is_some h.is;
-      nowhere = stepping_nowhere h;
-      going = ap (λ (r : Option ThreadRow). is_returning (part_of r)) h.is ∙ going;
-      answer = e;
-    },
-  )
+  refl,
+  record {
+    object = alive_inside S.objects o.0 alive;
+    thread = ap is_some h.is;
+    nowhere = stepping_nowhere h;
+    going = ap (λ (r : Option ThreadRow). is_returning (part_of r)) h.is ∙ going;
+    answer = e;
+  },
+)
   where
     by : (u : Unlocked) → FitsLocks t (Unlock o t u) S → FitsDecision script t S (unlock_by t o u)
     by NotOwner fits = fits-refuse (Of word.Unlock part.Do) error.General h

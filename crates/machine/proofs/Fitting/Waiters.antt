@@ -1,5 +1,5 @@
 -- Who may come to stand among waiters, and who stands nowhere once it is struck.
-use Rattle.std.proofs.Common.{◌≡◌, inl, inr, ℕ, suc, zero, ◌<◌, List, [], ◌∷◌, length, get_or, arith, refl, sym, ap, subst, ◌∙◌, Option, Some, None, Bool, true, false}
+use Rattle.std.proofs.Common.{◌≡◌, inl, inr, ℕ, suc, zero, ◌<◌, List, [], ◌∷◌, length, get_or, refl, sym, ap, subst, ◌∙◌, Option, Some, None, Bool, true, false}
 use Rattle.std.specs.Prelude.{not, ◌==◌, if◌then◌else◌, nat_lt, slice_get, slice_set}
 use Rattle.std.proofs.lemmas.Bool.{cases_eq, cases_lt, eq-eqb, or_from, or_left, or_right}
 use Rattle.std.proofs.lemmas.List.{get_or-set_same, get_or-set_other, get_or_past}
@@ -12,7 +12,7 @@ use Rattle.state_rows.specs.Locks.{is_among, waiters_at, without}
 use Rattle.state_rows.specs.LockChanges.{passed, signal_answer, unlock_answer}
 use Rattle.state_rows.specs.declared.locks.Owner.{Owner}
 use Rattle.state_rows.specs.declared.locks.Signalled.TheVariants.{Counted, Woke, Overflow}
-use Rattle.state_rows.specs.declared.locks.Unlocked.TheVariants.{Level, Freed, Passed, NotOwner}
+use Rattle.state_rows.specs.declared.locks.Unlocked.TheVariants.{Level, Passed, NotOwner}
 use Rattle.state_rows.specs.declared.thread.Waiting.TheVariants as waiting
 use Rattle.state_rows.specs.declared.thread.ThreadRow.{ThreadRow}
 use Rattle.machine.specs.declared.state.State.{State}
