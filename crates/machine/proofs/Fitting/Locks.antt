@@ -38,10 +38,11 @@ use Rattle.machine.specs.Task.{is_returning}
 use Rattle.machine.specs.WellFormed.{IsAlive, is_before_use, part_of}
 use Rattle.machine.proofs.Holders.ThreadRows.{row-here}
 use Rattle.machine.proofs.Lists.Cases.{if_cases}
+use Rattle.machine.proofs.Readiness.FirstReady.{greatest_listed}
 use Rattle.machine.proofs.Fitting.KernelThreads.{fits-answer, fits-look_kind, fits-unless}
 use Rattle.machine.proofs.Fitting.Living.{alive_inside, use_is_alive}
 use Rattle.machine.proofs.Fitting.Stepping.{FitsDecision, IsStepping, fits-answers, fits-nothing, fits-refuse, at_instruction, at-with_row}
-use Rattle.machine.proofs.Fitting.Waiters.{best_among, passed_is, stepping_nowhere, struck_nowhere, woke_is}
+use Rattle.machine.proofs.Fitting.Waiters.{passed_is, stepping_nowhere, struck_nowhere, woke_is}
 
 -- an answer after a move in the rows of mutexes and semaphores, and where a waiter goes on after it
 fits-locked : {script : Script} {S : State} {t : ObjNo} {row : ThreadRow} {instr : Instr} (told : Step) (m : LockMove) → IsStepping script S t row instr → FitsLocks t m S → FitsDecision script t S (answer t told (move.Locks m ∷ []) (pos 0))
@@ -105,7 +106,7 @@ fits-unlock_by {script = script} {S = S} {t = t} {row = row} o unlocked h going 
     by Freed fits = fits-locked (Of word.Unlock part.Do) (Unlock o t Freed) h fits
     by (Passed w) fits =
         let best = passed_is (owner_at S.locks o) t (best_waiter (priority_of S) S.locks o) w (sym fits.1.answer) in
-        fits-woken (Of word.Unlock part.Do) (Unlock o t (Passed w)) w h fits (struck_nowhere script S o w h.rows (best_among (priority_of S) (waiters_at S.locks o) w best))
+        fits-woken (Of word.Unlock part.Do) (Unlock o t (Passed w)) w h fits (struck_nowhere script S o w h.rows (greatest_listed (priority_of S) (waiters_at S.locks o) w best))
 
 fits-unlock_do : {script : Script} {S : State} {t : ObjNo} {row : ThreadRow} {instr : Instr} (uses : Option ObjNo) → IsStepping script S t row instr → is_returning row.part ≡ false → row.uses ≡ uses → FitsDecision script t S (unlock_do S t uses)
 fits-unlock_do {script = script} {S = S} {t = t} None h going e = fits-nothing script S t
@@ -140,7 +141,7 @@ fits-signal_by {script = script} {S = S} {t = t} o answer h alive e = by answer 
     by signalled.Counted fits = fits-locked (Of word.Signal part.Do) (Signal o signalled.Counted) h fits
     by (signalled.Woke w) fits =
         let best = woke_is (best_waiter (priority_of S) S.locks o) (count_at S.locks o) w (sym fits.answer) in
-        fits-woken (Of word.Signal part.Do) (Signal o (signalled.Woke w)) w h fits (struck_nowhere script S o w h.rows (best_among (priority_of S) (waiters_at S.locks o) w best))
+        fits-woken (Of word.Signal part.Do) (Signal o (signalled.Woke w)) w h fits (struck_nowhere script S o w h.rows (greatest_listed (priority_of S) (waiters_at S.locks o) w best))
 
 fits-signal_do : {script : Script} {S : State} {t : ObjNo} {row : ThreadRow} {instr : Instr} (uses : Option ObjNo) → IsStepping script S t row instr → row.uses ≡ uses → FitsDecision script t S (signal_do S t uses)
 fits-signal_do {script = script} {S = S} {t = t} None h e = fits-nothing script S t
