@@ -5,6 +5,7 @@ ghost use Rattle.state_rows.specs.Locks.{owner_at, count_at, waiters_at, is_wait
 ghost use Rattle.kern_sync.specs.KernelLocks.{new_locks, best_of, with_rows, without_best, after_priority};
 ghost use Rattle.state_rows.specs.NanoChanges.{one_more};
 ghost use Rattle.state_rows.specs.LockChanges.{start_count, after_new_row, lock_answer, after_lock, unlock_answer, after_unlock, after_free, after_wait, signal_answer, after_signal, after_remove};
+ghost use Rattle.state_rows.specs.declared.locks.Locked.TheVariants.{Waits};
 ghost use Rattle.state_rows.specs.declared.locks.Unlocked.TheVariants.{NotOwner, Passed};
 ghost use Rattle.state_rows.specs.declared.locks.Signalled.TheVariants.{Overflow, Woke};
 
@@ -70,12 +71,12 @@ impl KernSync {
         self.counts[o.0 as usize] = count_from(start);
     }
 
-    /// Locks a mutex for a thread that waits for nothing. Where another thread owns it the thread waits,
+    /// Locks a mutex for a thread. Where another thread owns it the thread, which waits for nothing yet, waits,
     /// behind the others; where the thread owns it already its level rises, unless it is at the end of its 64 bits.
     pub fn lock(&mut self, o: ObjNo, t: ThreadNo) -> Locked
         requires object { o.0 < length self.old.rows.owners }
-        requires thread { t.0 < length self.old.priorities }
-        requires waits { is_waiting self.old.rows t ≡ false }
+        requires thread { lock_answer (owner_at self.old.rows o) t ≡ Waits → t.0 < length self.old.priorities }
+        requires waits { lock_answer (owner_at self.old.rows o) t ≡ Waits → is_waiting self.old.rows t ≡ false }
         ensures answer { result ≡ lock_answer (owner_at self.old.rows o) t }
         ensures after { self.new ≡ with_rows self.old (after_lock self.old.rows o t result) }
     {
@@ -148,12 +149,12 @@ impl KernSync {
         next
     }
 
-    /// Takes one from the count of a semaphore, for a thread that waits for nothing. False exactly where
+    /// Takes one from the count of a semaphore, for a thread that waits for nothing yet where the count is 0. False exactly where
     /// the count is 0, and then the thread waits, behind the others.
     pub fn sem_wait(&mut self, o: ObjNo, t: ThreadNo) -> bool
         requires object { o.0 < length self.old.rows.owners }
-        requires thread { t.0 < length self.old.priorities }
-        requires waits { is_waiting self.old.rows t ≡ false }
+        requires thread { count_at self.old.rows o ≡ 0 → t.0 < length self.old.priorities }
+        requires waits { count_at self.old.rows o ≡ 0 → is_waiting self.old.rows t ≡ false }
         ensures answer { result ≡ not (count_at self.old.rows o == 0) }
         ensures after { self.new ≡ with_rows self.old (after_wait self.old.rows o t) }
     {

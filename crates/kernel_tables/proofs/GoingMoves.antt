@@ -14,7 +14,7 @@ use Rattle.state_rows.specs.declared.duty.Owed.TheVariants.{Close, Sweep}
 use Rattle.state_rows.specs.declared.object.ObjectRow.{ObjectRow}
 use Rattle.state_rows.specs.ObjectRows.{is_dead_row}
 use Rattle.machine.specs.declared.moves.Move.{Move}
-use Rattle.machine.specs.declared.moves.Move.TheVariants.{Make, Gain, Lose, Find, Miss, GoOn, Write, Advance, Wait, Wake, SetPriority, Nano, Deferred, Requests, Pay}
+use Rattle.machine.specs.declared.moves.Move.TheVariants.{Make, Gain, Lose, Find, Miss, GoOn, Write, Advance, Wait, Wake, SetPriority, Nano, Deferred, Requests, Locks, Fill, Pay}
 use Rattle.machine.specs.declared.nano_move.NanoMove.{NanoMove}
 use Rattle.machine.specs.declared.nano_move.NanoMove.TheVariants as nano
 use Rattle.machine.specs.declared.request_move.RequestMove.{RequestMove}
@@ -41,42 +41,13 @@ use Rattle.machine.proofs.Numbers.CountSmall.{count_small}
 use Rattle.machine.proofs.Readiness.ReadyActions.{joins_own}
 use Rattle.machine.proofs.Readiness.Touched.{untouched}
 use Rattle.machine.proofs.References.Same.{same_self}
-use Rattle.kernel_tables.specs.Moved.{CanMove, IsReferred, HasPlaces, MayGain, AreKnown, MoveGoes, MovesGo, is_set}
+use Rattle.kernel_tables.specs.Moved.{CanMove, MayGain, TakesLeast, AreKnown, MoveGoes, MovesGo, is_set}
+use Rattle.kernel_tables.specs.Referred.{HasPlaces, IsReferred}
+use Rattle.kernel_tables.proofs.GoingLocks.{can_lock}
+use Rattle.kernel_tables.proofs.Ranks.{rank-with_row, rank-gain, rank-lose, rank-closed, rank-none}
 use Rattle.kernel_tables.specs.NanoMoved.{CanNano}
 use Rattle.kernel_tables.specs.ObjectsView.{IsThere}
 use Rattle.kernel_tables.specs.RequestMoved.{CanRequest}
-
--- a change of a row that leaves its priority leaves all priorities
-rank_row : (row : Option ThreadRow) (f : ThreadRow → ThreadRow) → ((r : ThreadRow) → (f r).priority ≡ r.priority) → priority_of_row (option_map f row) ≡ priority_of_row row
-rank_row None f keeps = refl
-rank_row (Some r) f keeps = keeps r
-
-rank-with_row : (threads : List (Option ThreadRow)) (t : ObjNo) (f : ThreadRow → ThreadRow) (u : ObjNo) → ((r : ThreadRow) → (f r).priority ≡ r.priority) → priority_of_row (get_or (with_row threads t f) u.0 None) ≡ priority_of_row (get_or threads u.0 None)
-rank-with_row threads t f u keeps = elim (cases_eq t.0 u.0) [
-  | inl at ↦ ap priority_of_row (row-here threads t f u.0 at) ∙ (rank_row (get_or threads t.0 None) f keeps ∙ ap (λ (n : ℕ). priority_of_row (get_or threads n None)) at)
-  | inr apart ↦ ap priority_of_row (row-other threads t f u.0 apart)
-]
-
-rank-gain : (threads : List (Option ThreadRow)) (h : Holder) (o u : ObjNo) → priority_of_row (get_or (threads_gain h o threads) u.0 None) ≡ priority_of_row (get_or threads u.0 None)
-rank-gain threads (Temp t) o u = rank-with_row threads t (with_use (Some o)) u (λ r. refl)
-rank-gain threads _ o u = refl
-
-rank-lose : (threads : List (Option ThreadRow)) (h : Holder) (u : ObjNo) → priority_of_row (get_or (threads_lose h threads) u.0 None) ≡ priority_of_row (get_or threads u.0 None)
-rank-lose threads (Temp t) u = rank-with_row threads t (with_use None) u (λ r. refl)
-rank-lose threads _ u = refl
-
-rank-closed : (threads : List (Option ThreadRow)) (last : Bool) (o u : ObjNo) → priority_of_row (get_or (threads_closed last o threads) u.0 None) ≡ priority_of_row (get_or threads u.0 None)
-rank-closed threads true o u = rank-with_row threads o unlinked u (λ r. refl)
-rank-closed threads false o u = refl
-
--- a number without a row has none after it is taken away
-rank-none : (threads : List (Option ThreadRow)) (o u : ObjNo) → get_or threads o.0 None ≡ None → priority_of_row (get_or (slice_set threads o.0 None) u.0 None) ≡ priority_of_row (get_or threads u.0 None)
-rank-none threads o u none = ap (λ (l : List (Option ThreadRow)). priority_of_row (get_or l u.0 None)) (set_none threads o.0 none)
-  where
-    set_none : (threads : List (Option ThreadRow)) (i : ℕ) → get_or threads i None ≡ None → slice_set threads i None ≡ threads
-    set_none [] i none = refl
-    set_none (x ∷ xs) zero none = ap (λ y. y ∷ xs) (sym none)
-    set_none (x ∷ xs) (suc i) none = ap (λ l. x ∷ l) (set_none xs i none)
 
 -- an object that is alive isn't swept
 alive_there : (row : Option ObjectRow) → IsAlive row → IsThere row
@@ -176,6 +147,16 @@ may_gain S (Link x) free = tt
 may_gain S (Message m) free = tt
 may_gain S Kernel free = tt
 
+-- a handle that comes gets the least free place
+takes_least : (S : State) (h : Holder) → IsFree S h → TakesLeast S.handles h
+takes_least S (InProcess p i) free = (free.1.inside, free.1.least)
+takes_least S (InThread t i) free = (free.1.inside, free.1.least)
+takes_least S (Temp t) free = tt
+takes_least S (Own t) free = tt
+takes_least S (Link x) free = tt
+takes_least S (Message m) free = tt
+takes_least S Kernel free = tt
+
 -- a move in the rows of threads that synchronize is one of a thread and of a fast mutex that are there
 sized_at : (threads : List (Option ThreadRow)) (t : ObjNo) (row : Option ThreadRow) → get_or threads t.0 None ≡ row → is_some (get_or threads t.0 None) ≡ true → t.0 < length threads
 sized_at threads t (Some row) is some = inside threads t.0 row is
@@ -208,25 +189,35 @@ can_request count r (request.Complete d t s code) rows fits =
     ((fits.0, known.0, known.1), rows.pending d _ fits.1)
 can_request count r (request.TakeSignal t) rows fits = fits
 
+-- threads have the least numbers, and priorities in their range
+known : (script : Script) (S : State) → AreRows script S → AreKnown S
+known script S rows u row is =
+    let there = inside S.threads u.0 row is in
+    let few = rows.sized.threads_few in
+    let low = (rows.threads.rows u.0 row is).priority in
+    (omega arith, omega arith)
+
 -- when a move that fits can be made
 can_move : (script : Script) (S : State) (t : ObjNo) (m : Move) → IsShaped script → FitsMove script t m S → RefsMove S (moved t m S) (told m S) → Sane script t S → CanMove t m S
-can_move script S t (Make kind name h) shaped fits refs s = (fits.0.named, fits.0.new, record { room = fits.0.room; fresh = next_fresh script S s.rows }, may_gain S h fits.1)
-can_move script S t (Gain h o) shaped fits refs s = (referred script S o s.rows (s.rows.lives.counted o fits.1), may_gain S h fits.0)
+can_move script S t (Make kind name h) shaped fits refs s = (fits.0.named, fits.0.new, record { room = fits.0.room; fresh = next_fresh script S s.rows }, may_gain S h fits.1, takes_least S h fits.1)
+can_move script S t (Gain h o) shaped fits refs s = (referred script S o s.rows (s.rows.lives.counted o fits.1), may_gain S h fits.0, takes_least S h fits.0)
 can_move script S t (Lose h o) shaped fits refs s = (referred script S o s.rows (was_held S (moved t (Lose h o) S) _ h o refs), few_places script S t s.rows)
 can_move script S t (Find u o) shaped fits refs s = tt
 can_move script S t (Miss o) shaped fits refs s = tt
 can_move script S t (GoOn u part) shaped fits refs s = tt
-can_move script S t (Write u x value) shaped fits refs s = tt
+can_move script S t (Write u x value) shaped fits refs s = fits
 can_move script S t (Advance u) shaped fits refs s = (
   λ k row is. let next = (s.rows.threads.rows k row is).next_instruction in let few = few_in script shaped row.role _ refl in omega arith,
   one_place script S u s.rows,
 )
 can_move script S t (Wait u what) shaped fits refs s = tt
 can_move script S t (Wake u) shaped fits refs s = tt
-can_move script S t (SetPriority u priority) shaped fits refs s = tt
+can_move script S t (SetPriority u priority) shaped fits refs s = known script S s.rows
 can_move script S t (Nano m) shaped fits refs s = can_nano script S m s.rows fits.0 fits.1
 can_move script S t (Deferred m) shaped fits refs s = fits
 can_move script S t (Requests m) shaped fits refs s = can_request (length S.threads) S.requests m s.rows.requests fits
+can_move script S t (Locks m) shaped fits refs s = can_lock script S s.rows (known script S s.rows) (λ o. referred script S o s.rows) (λ u. few_places script S u s.rows) t m fits
+can_move script S t (Fill p at size byte) shaped fits refs s = fits
 can_move script S t (Pay what) shaped fits refs s = absurd fits
 
 -- priorities stay that aren't set
@@ -240,6 +231,8 @@ ranks_move script S t (SetPriority v priority) u fits unset = ap priority_of_row
 ranks_move script S t (Nano m) u fits unset = refl
 ranks_move script S t (Deferred m) u fits unset = refl
 ranks_move script S t (Requests m) u fits unset = refl
+ranks_move script S t (Locks m) u fits unset = refl
+ranks_move script S t (Fill p at size byte) u fits unset = refl
 ranks_move script S t (Make kind name h) u fits unset = rank-gain S.threads h (next_object S) u
 ranks_move script S t (Gain h o) u fits unset = rank-gain S.threads h o u
 ranks_move script S t (Lose h o) u fits unset = rank-closed (threads_lose h S.threads) _ o u ∙ rank-lose S.threads h u
@@ -249,14 +242,6 @@ ranks_move script S t (GoOn v part) u fits unset = rank-with_row S.threads v (wi
 ranks_move script S t (Write v x value) u fits unset = rank-with_row S.threads v (with_register x value) u (λ r. refl)
 ranks_move script S t (Advance v) u fits unset = rank-with_row S.threads v advanced u (λ r. refl)
 ranks_move script S t (Pay what) u fits unset = absurd fits
-
--- threads have the least numbers, and priorities in their range
-known : (script : Script) (S : State) → AreRows script S → AreKnown S
-known script S rows u row is =
-    let there = inside S.threads u.0 row is in
-    let few = rows.sized.threads_few in
-    let low = (rows.threads.rows u.0 row is).priority in
-    (omega arith, omega arith)
 
 -- each of the moves that fit goes through
 pub each_goes : (script : Script) (S : State) (t : ObjNo) (ms : List Move) → IsShaped script → EachFits script t ms S → total weight (owed_of S t) + total most_owed ms ≤ 12 → Sane script t S → MovesGo script t ms S

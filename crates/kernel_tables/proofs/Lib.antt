@@ -1,12 +1,16 @@
 mod Finds
 pub mod FirstCount
-mod FreshTable
 pub mod GoingActions
+mod GoingLocks
 mod GoingMoves
-mod LeastFree
+mod LockRows
 mod Noting
 pub mod Performing
+mod Ranks
 pub mod ReadyChanges
 pub mod ReadyLists
 pub mod ReadyQueues
 pub mod ReadyRows
+mod RowsOfThreads
+mod Slots
+mod Tying

@@ -33,10 +33,10 @@ pub record CanGive (S : State) (t o : ObjNo) : Type 0 where
 abbrev pub IsPlaced : State → ObjNo → Type 0
 IsPlaced S o = o.0 < length S.locks.owners
 
--- a thread's number is the table's, and where it comes to wait, it waits nowhere yet
+-- an object's number is the table's, and so is that of a thread that comes to wait, which waits nowhere yet
 pub record CanJoin (S : State) (o t : ObjNo) (waits : Type 0) : Type 0 where
   pub object : IsPlaced S o
-  pub thread : t.0 < BOOT_OBJECTS
+  pub thread : waits → t.0 < BOOT_OBJECTS
   pub nowhere : waits → is_waiting S.locks t ≡ false
 
 -- what a lock and an unlock change in the lists of threads can be made

@@ -4,7 +4,7 @@ ghost use Rattle.sym_base.specs.declared.number.ObjNo.{ObjNo};
 ghost use Rattle.entry_log.specs.declared.effect.Holder.TheVariants as holder;
 ghost use Rattle.state_rows.specs.declared.duty.Owed.TheVariants as owed;
 ghost use Rattle.machine.specs.LockMoves.{holding, not_holding};
-ghost use Rattle.cleanup.specs.Lists.{list_of};
+ghost use Rattle.cleanup.specs.Lists.{HasSome, is_object, list_of};
 ghost use Rattle.machine.specs.declared.lock_move.LockMove.{LockMove};
 ghost use Rattle.machine.specs.declared.moves.Move.TheVariants as Move;
 ghost use Rattle.machine.specs.Rows.{owing};
@@ -22,6 +22,18 @@ use ref_words::RefWords;
 use state_rows::{Locked, Unlocked};
 use sym_base::{ObjNo, ThreadNo};
 
+/// A thread holds a mutex that nobody holds.
+fn hold(cleanup: &mut Cleanup, thread: ThreadNo, mutex: ObjNo)
+    requires thread { thread.0 < length cleanup.old.duties }
+    requires object { mutex.0 < cleanup.old.objects }
+    requires free { HasSome (is_object mutex) cleanup.old.mutexes → ⊥ }
+    ensures { cleanup.new ≡ record cleanup.old { mutexes = holding cleanup.old.mutexes thread mutex } }
+{
+    if (thread.0 as usize) < cleanup.threads() {
+        cleanup.push(thread, Held::Mutex(mutex));
+    }
+}
+
 /// A thread takes a mutex, and owns it.
 fn take<W: RefWords + Drop>(tables: &mut Tables<W>, thread: ThreadNo, mutex: ObjNo)
     requires can { CanTake (state_of tables.old) tables.old.cleanup.mutexes thread mutex }
@@ -31,18 +43,20 @@ fn take<W: RefWords + Drop>(tables: &mut Tables<W>, thread: ThreadNo, mutex: Obj
     ensures counts { tables.new.objects.counts ≡ slice_set tables.old.objects.counts mutex.0 (slice_index tables.old.objects.counts mutex.0 + 1) }
     ensures rest { tables.new ≡ record tables.old { cleanup = tables.new.cleanup; objects = tables.new.objects } }
 {
-    tables.cleanup.push(thread, Held::Mutex(mutex));
+    hold(&mut tables.cleanup, thread, mutex);
     tables.objects.add_ref(mutex);
 }
 
 /// A thread gives a mutex up, and owes the close of its ownership.
 fn give(cleanup: &mut Cleanup, thread: ThreadNo, mutex: ObjNo)
-    requires thread { thread.0 < cleanup.old.threads }
+    requires thread { thread.0 < length cleanup.old.duties }
     requires object { mutex.0 < cleanup.old.objects }
     requires places { length (list_of cleanup.old.duties thread) + 1 ≤ 16 }
     ensures { cleanup.new ≡ record cleanup.old { mutexes = not_holding cleanup.old.mutexes thread mutex; duties = owing cleanup.old.duties thread (owed.Close (holder.Own thread) mutex ∷ []) } }
 {
-    cleanup.remove(thread, Held::Mutex(mutex));
+    if (thread.0 as usize) < cleanup.threads() {
+        cleanup.remove(thread, Held::Mutex(mutex));
+    }
     let close = Owed::Close(Holder::Own(thread), mutex);
     owe(cleanup, thread, close);
 }

@@ -138,7 +138,7 @@ fn set_priority<W: RefWords + Drop>(tables: &mut Tables<W>, thread: ThreadNo, pr
     requires tied { TiedTables tables.old }
     ensures { (t : ObjNo) → IsMoved t (Move.SetPriority thread priority) tables.old tables.new }
 {
-    if tables.procs.thread(thread).is_none() {
+    if !tables.procs.is_thread(thread) {
         return;
     }
     threads_set_priority(&mut tables.procs, thread, priority);

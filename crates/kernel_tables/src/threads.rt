@@ -15,7 +15,7 @@ use sym_base::{ObjNo, ThreadNo};
 fn set_use(procs: &mut Procs, thread: ThreadNo, uses: Option<ObjNo>)
     ensures { procs.new ≡ with_threads procs.old (with_row procs.old.threads thread (with_use uses)) }
 {
-    if procs.thread(thread).is_some() {
+    if procs.is_thread(thread) {
         procs.set_uses(thread, uses);
     }
 }
@@ -42,7 +42,7 @@ pub fn threads_lose(procs: &mut Procs, holder: Holder)
 pub fn threads_closed(procs: &mut Procs, last: bool, object: ObjNo)
     ensures { procs.new ≡ with_threads procs.old (threads_closed last object procs.old.threads) }
 {
-    if last && procs.thread(object).is_some() {
+    if last && procs.is_thread(object) {
         procs.set_link(object, None);
     }
 }
@@ -51,7 +51,7 @@ pub fn threads_closed(procs: &mut Procs, last: bool, object: ObjNo)
 pub fn threads_find(procs: &mut Procs, thread: ThreadNo, object: ObjNo)
     ensures { procs.new ≡ with_threads procs.old (with_row procs.old.threads thread (with_found object)) }
 {
-    if procs.thread(thread).is_some() {
+    if procs.is_thread(thread) {
         procs.set_found(thread, u32::from(object.0));
     }
 }
@@ -60,7 +60,7 @@ pub fn threads_find(procs: &mut Procs, thread: ThreadNo, object: ObjNo)
 pub fn threads_go_on(procs: &mut Procs, thread: ThreadNo, part: Part)
     ensures { procs.new ≡ with_threads procs.old (with_row procs.old.threads thread (with_part part)) }
 {
-    if procs.thread(thread).is_some() {
+    if procs.is_thread(thread) {
         procs.set_part(thread, Some(part));
     }
 }
@@ -70,7 +70,7 @@ pub fn threads_write(procs: &mut Procs, thread: ThreadNo, register: u8, value: u
     requires { register < 8 }
     ensures { procs.new ≡ with_threads procs.old (with_row procs.old.threads thread (with_register register value)) }
 {
-    if procs.thread(thread).is_some() {
+    if procs.is_thread(thread) {
         procs.set_register(thread, register, value);
     }
 }
@@ -94,7 +94,7 @@ pub fn threads_advance(procs: &mut Procs, thread: ThreadNo)
 pub fn threads_wait(procs: &mut Procs, thread: ThreadNo, what: Waiting)
     ensures { procs.new ≡ with_threads procs.old (with_row procs.old.threads thread (with_waiting what)) }
 {
-    if procs.thread(thread).is_some() {
+    if procs.is_thread(thread) {
         procs.set_waiting(thread, what);
     }
 }
@@ -103,7 +103,7 @@ pub fn threads_wait(procs: &mut Procs, thread: ThreadNo, what: Waiting)
 pub fn threads_set_priority(procs: &mut Procs, thread: ThreadNo, priority: u8)
     ensures { procs.new ≡ with_threads procs.old (with_row procs.old.threads thread (with_priority priority)) }
 {
-    if procs.thread(thread).is_some() {
+    if procs.is_thread(thread) {
         procs.set_priority(thread, priority);
     }
 }

@@ -105,6 +105,14 @@ impl Procs {
         }
     }
 
+    /// Whether a thread of the number was added.
+    pub fn is_thread(&self, t: ThreadNo) -> bool
+        ensures { result ≡ is_thread self.now t }
+    {
+        let at = t.0 as usize;
+        at < self.threads.len() && self.threads[at].is_some()
+    }
+
     /// Whether a process of the number was added.
     pub fn is_process(&self, p: ObjNo) -> bool
         ensures { result ≡ is_process self.now p }

@@ -1,5 +1,5 @@
 use Rattle.std.proofs.Common.{refl}
-use Rattle.kernel_tables.proofs.Noting.{noted_ended}
+use Rattle.kernel_tables.proofs.Tying.{tied_ended}
 use Rattle.kernel_tables.proofs.moves.advance.Goals as goal
 
 pub returns : goal.returns
@@ -8,5 +8,5 @@ returns g c =
     λ t. record {
       state = rw (c.threads_advance.ensures, c.owe_use.ensures, c.note_end.ensures, c.use_of-uses.ensures) refl;
       counts = λ o. refl;
-      uses = rw (c.threads_advance.ensures, c.owe_use.ensures, c.note_end.ensures) (noted_ended old.cleanup old.threads c.args.thread c.requires.uses);
+      tied = rw (c.threads_advance.ensures, c.owe_use.ensures, c.note_end.ensures) (tied_ended old.cleanup old.locks.priorities old.procs.threads c.args.thread c.requires.tied);
     }

@@ -1,5 +1,5 @@
 use Rattle.std.proofs.Common.{rules}
-use Rattle.kernel_tables.proofs.Noting.{noted_closed}
+use Rattle.kernel_tables.proofs.Tying.{tied_closed}
 use Rattle.kernel_tables.proofs.moves.close.Goals as goal
 
 pub returns : goal.returns
@@ -8,5 +8,5 @@ returns g c =
     record {
       state = search rules;
       counts = c.close_ref.ensures.counts;
-      uses = rw (c.owe_close.ensures, c.threads_closed.ensures) (noted_closed old.cleanup old.threads _ c.args.object c.requires.uses);
+      tied = rw (c.owe_close.ensures, c.threads_closed.ensures) (tied_closed old.cleanup old.locks.priorities old.procs.threads _ c.args.object c.requires.tied);
     }

@@ -1,13 +1,14 @@
 use Rattle.std.proofs.Common.{refl, ◌∙◌}
 use Rattle.std.specs.Prelude.{◌==◌, slice_index}
 use Rattle.kernel_tables.proofs.FirstCount.{counts-less}
-use Rattle.kernel_tables.proofs.Noting.{noted_lost, duties_lost}
+use Rattle.kernel_tables.proofs.Noting.{duties_lost}
+use Rattle.kernel_tables.proofs.Tying.{tied_lost}
 use Rattle.kernel_tables.proofs.moves.lose.Goals as goal
 
-pub close-requires-clause-uses : goal.close-requires-clause-uses
-close-requires-clause-uses g c =
+pub close-requires-clause-tied : goal.close-requires-clause-tied
+close-requires-clause-tied g c =
     let old = c.args.tables.now in
-    rw (c.threads_lose.ensures, c.note_lost.ensures) (noted_lost old.cleanup old.threads c.args.holder c.requires.kept.uses)
+    rw (c.threads_lose.ensures, c.note_lost.ensures) (tied_lost old.cleanup old.locks.priorities old.procs.threads c.args.holder c.requires.kept.tied)
 
 pub returns : goal.returns
 returns g c =
@@ -18,5 +19,5 @@ returns g c =
     record {
       state = c.close.ensures.state ∙ rw (c.lose_slot.ensures, c.threads_lose.ensures, c.note_lost.ensures, c.link_of-link.ensures, duties_lost old.cleanup c.args.holder, agree) refl;
       counts = rw (c.close.ensures.counts, ← agree) (counts-less old.objects.counts c.args.object c.args.holder (count == 1) (rw agree known));
-      uses = c.close.ensures.uses;
+      tied = c.close.ensures.tied;
     }

@@ -3,11 +3,12 @@ use Rattle.std.specs.Prelude.{slice_index, slice_set}
 use Rattle.sym_base.specs.declared.number.ObjNo.{ObjNo}
 use Rattle.kernel_tables.specs.StateOf.{state_of}
 use Rattle.kernel_tables.proofs.FirstCount.{counts-first}
-use Rattle.kernel_tables.proofs.Noting.{may_use, noted_gained, duties_gained}
+use Rattle.kernel_tables.proofs.Noting.{may_use, duties_gained}
+use Rattle.kernel_tables.proofs.Tying.{tied_gained}
 use Rattle.kernel_tables.proofs.moves.make.Goals as goal
 
 pub note_gain-requires : goal.note_gain-requires
-note_gain-requires g c = may_use c.args.tables.now.cleanup (state_of c.args.tables.now) c.args.holder c.requires.kept.uses c.requires.can.3
+note_gain-requires g c = may_use c.args.tables.now.cleanup (state_of c.args.tables.now) c.args.holder c.requires.kept.tied.uses c.requires.can.3
 
 -- the object that is made has the next number, which nothing refers to
 pub returns : goal.returns
@@ -24,5 +25,5 @@ returns g c =
     λ t. record {
       state = rw (c.gain_slot.ensures, c.threads_gain.ensures, c.make-object.ensures.rows, c.note_gain.ensures, is, duties_gained tables.cleanup c.args.holder next) refl;
       counts = rw c.make-object.ensures.counts (counts-first old next c.args.holder none one);
-      uses = rw (c.threads_gain.ensures, c.note_gain.ensures, is) (noted_gained tables.cleanup (state_of tables) c.args.holder next c.requires.can.3 c.requires.kept.uses);
+      tied = rw (c.threads_gain.ensures, c.note_gain.ensures, is) (tied_gained tables.cleanup tables.locks.priorities (state_of tables) c.args.holder next c.requires.can.3 c.requires.kept.tied);
     }

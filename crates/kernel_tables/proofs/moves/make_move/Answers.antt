@@ -1,7 +1,7 @@
 use Rattle.std.proofs.Common.{refl}
-use Rattle.machine.specs.Moves.{with_found, with_part, with_register, with_waiting, with_priority}
+use Rattle.machine.specs.Moves.{with_found, with_part, with_register, with_waiting}
 use Rattle.state_rows.specs.declared.thread.Waiting.TheVariants as waiting
-use Rattle.kernel_tables.proofs.Noting.{noted_row}
+use Rattle.kernel_tables.proofs.Tying.{tied_row}
 use Rattle.kernel_tables.proofs.FirstCount.{nano_counts, request_counts}
 use Rattle.kernel_tables.proofs.moves.make_move.Goals as goal
 
@@ -20,7 +20,7 @@ returns-in-Find g c =
     rw c.in-Find.is (record {
       state = rw c.threads_find.ensures refl;
       counts = λ o. refl;
-      uses = rw c.threads_find.ensures (noted_row old.cleanup old.threads c.in-Find.other (with_found c.in-Find.object) (λ r. refl) c.requires.kept.uses);
+      tied = rw c.threads_find.ensures (tied_row old.cleanup old.locks.priorities old.procs.threads c.in-Find.other (with_found c.in-Find.object) (λ r. refl) (λ r. refl) c.requires.kept.tied);
     })
 
 pub returns-in-GoOn : goal.returns-in-GoOn
@@ -29,7 +29,7 @@ returns-in-GoOn g c =
     rw c.in-GoOn.is (record {
       state = rw c.threads_go_on.ensures refl;
       counts = λ o. refl;
-      uses = rw c.threads_go_on.ensures (noted_row old.cleanup old.threads c.in-GoOn.other (with_part c.in-GoOn.part) (λ r. refl) c.requires.kept.uses);
+      tied = rw c.threads_go_on.ensures (tied_row old.cleanup old.locks.priorities old.procs.threads c.in-GoOn.other (with_part c.in-GoOn.part) (λ r. refl) (λ r. refl) c.requires.kept.tied);
     })
 
 pub returns-in-Write : goal.returns-in-Write
@@ -38,7 +38,7 @@ returns-in-Write g c =
     rw c.in-Write.is (record {
       state = rw c.threads_write.ensures refl;
       counts = λ o. refl;
-      uses = rw c.threads_write.ensures (noted_row old.cleanup old.threads c.in-Write.other (with_register c.in-Write.register c.in-Write.value) (λ r. refl) c.requires.kept.uses);
+      tied = rw c.threads_write.ensures (tied_row old.cleanup old.locks.priorities old.procs.threads c.in-Write.other (with_register c.in-Write.register c.in-Write.value) (λ r. refl) (λ r. refl) c.requires.kept.tied);
     })
 
 pub returns-in-Wait : goal.returns-in-Wait
@@ -47,7 +47,7 @@ returns-in-Wait g c =
     rw c.in-Wait.is (record {
       state = rw c.threads_wait.ensures refl;
       counts = λ o. refl;
-      uses = rw c.threads_wait.ensures (noted_row old.cleanup old.threads c.in-Wait.other (with_waiting c.in-Wait.what) (λ r. refl) c.requires.kept.uses);
+      tied = rw c.threads_wait.ensures (tied_row old.cleanup old.locks.priorities old.procs.threads c.in-Wait.other (with_waiting c.in-Wait.what) (λ r. refl) (λ r. refl) c.requires.kept.tied);
     })
 
 pub returns-in-Wake : goal.returns-in-Wake
@@ -56,33 +56,33 @@ returns-in-Wake g c =
     rw c.in-Wake.is (record {
       state = rw c.threads_wait-in-Wake.ensures refl;
       counts = λ o. refl;
-      uses = rw c.threads_wait-in-Wake.ensures (noted_row old.cleanup old.threads c.in-Wake.other (with_waiting waiting.Nothing) (λ r. refl) c.requires.kept.uses);
+      tied = rw c.threads_wait-in-Wake.ensures (tied_row old.cleanup old.locks.priorities old.procs.threads c.in-Wake.other (with_waiting waiting.Nothing) (λ r. refl) (λ r. refl) c.requires.kept.tied);
     })
 
 pub returns-in-SetPriority : goal.returns-in-SetPriority
-returns-in-SetPriority g c =
-    let old = c.args.tables.now in
-    rw c.in-SetPriority.is (record {
-      state = rw c.threads_set_priority.ensures refl;
-      counts = λ o. refl;
-      uses = rw c.threads_set_priority.ensures (noted_row old.cleanup old.threads c.in-SetPriority.other (with_priority c.in-SetPriority.priority) (λ r. refl) c.requires.kept.uses);
-    })
+returns-in-SetPriority g c = rw c.in-SetPriority.is (c.set_priority.ensures c.args.thread)
+
+pub returns-in-Locks : goal.returns-in-Locks
+returns-in-Locks g c = rw c.in-Locks.is (c.move_lock.ensures c.args.thread)
+
+pub returns-in-Fill : goal.returns-in-Fill
+returns-in-Fill g c = rw c.in-Fill.is (record { state = rw c.fill.ensures refl; counts = λ o. refl; tied = rw c.fill.ensures c.requires.kept.tied })
 
 pub returns-in-Nano : goal.returns-in-Nano
 returns-in-Nano g c =
     rw c.in-Nano.is (record {
       state = rw c.move_nano.ensures refl;
       counts = nano_counts c.args.tables.now.objects.counts c.in-Nano.change;
-      uses = c.requires.kept.uses;
+      tied = c.requires.kept.tied;
     })
 
 pub returns-in-Deferred : goal.returns-in-Deferred
-returns-in-Deferred g c = rw c.in-Deferred.is (record { state = rw c.change.ensures refl; counts = λ o. refl; uses = c.requires.kept.uses })
+returns-in-Deferred g c = rw c.in-Deferred.is (record { state = rw c.change.ensures refl; counts = λ o. refl; tied = c.requires.kept.tied })
 
 pub returns-in-Requests : goal.returns-in-Requests
 returns-in-Requests g c =
     rw c.in-Requests.is (record {
       state = rw c.move_request.ensures refl;
       counts = request_counts c.args.tables.now.objects.counts c.in-Requests.change;
-      uses = c.requires.kept.uses;
+      tied = c.requires.kept.tied;
     })

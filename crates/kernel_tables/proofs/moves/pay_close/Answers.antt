@@ -12,5 +12,5 @@ returns g c =
     record {
       state = c.close.ensures.state ∙ rw (c.drop_first_owed.ensures, c.link_of-link.ensures, agree) refl;
       counts = rw (c.close.ensures.counts, ← agree) (counts-less old.objects.counts c.args.object c.args.holder (count == 1) (rw agree known));
-      uses = c.close.ensures.uses;
+      tied = c.close.ensures.tied;
     }

@@ -1,4 +1,4 @@
-use Rattle.std.proofs.Common.{◌∙◌, ◌++◌, ◌∷◌, [], sym, ap, true, false, ◌≡◌}
+use Rattle.std.proofs.Common.{rules, ◌∙◌, ◌++◌, ◌∷◌, [], sym, ap, true, false, ◌≡◌}
 use Rattle.state_rows.specs.Locks.{waiters_at}
 use Rattle.kern_sync.specs.KernelLocks.{with_rows}
 use Rattle.kern_sync.specs.Kept.{locks_of}
@@ -8,7 +8,8 @@ use Rattle.kern_sync.proofs.sync.KernSync.lock.Goals as goal
 
 pub push_back-requires-clause-free : goal.push_back-requires-clause-free
 push_back-requires-clause-free c =
-    let fresh = rw (← c.self.view_is) at c.requires.waits in
+    let may = rw (← c.self.view_is) at c.requires.waits in
+    let fresh = may (search rules) in
     λ linked. let no : true ≡ false = sym linked ∙ sym (any_thread c.args.t c.self.inside.links.lists) ∙ fresh in absurd (cc)
 
 pub returns-in-Some-2-clause-after : goal.returns-in-Some-2-clause-after

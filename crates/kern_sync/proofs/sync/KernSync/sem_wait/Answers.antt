@@ -8,7 +8,10 @@ use Rattle.kern_sync.proofs.sync.KernSync.sem_wait.Goals as goal
 
 pub push_back-requires-clause-free : goal.push_back-requires-clause-free
 push_back-requires-clause-free c =
-    let fresh = rw (← c.self.view_is) at c.requires.waits in
+    let known = rw (← c.self.view_is) at c.requires.object in
+    let read = get_or_read c.self.inside.counts.items c.args.o.0 c.index-count.result.now (omega (arith, known, c.self.invariant.counted)) c.index-count.ensures 0 in
+    let may = rw (← c.self.view_is) at c.requires.waits in
+    let fresh = may (sym read ∙ c.if-count-eq0.true) in
     λ linked. let no : true ≡ false = sym linked ∙ sym (any_thread c.args.t c.self.inside.links.lists) ∙ fresh in absurd (cc)
 
 pub returns-then-count-eq0-clause-after : goal.returns-then-count-eq0-clause-after

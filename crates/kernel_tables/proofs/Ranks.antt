@@ -1,0 +1,44 @@
+-- Priorities follow the rows of threads.
+use Rattle.std.proofs.Common.{◌≡◌, ◌∙◌, inl, inr, ℕ, zero, suc, List, [], ◌∷◌, get_or, refl, sym, ap, Bool, true, false}
+use Rattle.std.specs.Prelude.{Option, Some, None, option_map, slice_set}
+use Rattle.std.proofs.lemmas.Bool.{cases_eq}
+use Rattle.sym_base.specs.declared.number.ObjNo.{ObjNo}
+use Rattle.entry_log.specs.declared.effect.Holder.{Holder}
+use Rattle.entry_log.specs.declared.effect.Holder.TheVariants.{Temp}
+use Rattle.state_rows.specs.declared.thread.ThreadRow.{ThreadRow}
+use Rattle.machine.specs.Choice.{priority_of_row}
+use Rattle.machine.specs.Moves.{threads_gain, threads_lose, threads_closed, with_use, unlinked}
+use Rattle.machine.specs.Rows.{with_row}
+use Rattle.machine.proofs.Holders.ThreadRows.{row-here, row-other}
+
+-- a change of a row that leaves its priority leaves all priorities
+rank_row : (row : Option ThreadRow) (f : ThreadRow → ThreadRow) → ((r : ThreadRow) → (f r).priority ≡ r.priority) → priority_of_row (option_map f row) ≡ priority_of_row row
+rank_row None f keeps = refl
+rank_row (Some r) f keeps = keeps r
+
+pub rank-with_row : (threads : List (Option ThreadRow)) (t : ObjNo) (f : ThreadRow → ThreadRow) (u : ObjNo) → ((r : ThreadRow) → (f r).priority ≡ r.priority) → priority_of_row (get_or (with_row threads t f) u.0 None) ≡ priority_of_row (get_or threads u.0 None)
+rank-with_row threads t f u keeps = elim (cases_eq t.0 u.0) [
+  | inl at ↦ ap priority_of_row (row-here threads t f u.0 at) ∙ (rank_row (get_or threads t.0 None) f keeps ∙ ap (λ (n : ℕ). priority_of_row (get_or threads n None)) at)
+  | inr apart ↦ ap priority_of_row (row-other threads t f u.0 apart)
+]
+
+pub rank-gain : (threads : List (Option ThreadRow)) (h : Holder) (o u : ObjNo) → priority_of_row (get_or (threads_gain h o threads) u.0 None) ≡ priority_of_row (get_or threads u.0 None)
+rank-gain threads (Temp t) o u = rank-with_row threads t (with_use (Some o)) u (λ r. refl)
+rank-gain threads _ o u = refl
+
+pub rank-lose : (threads : List (Option ThreadRow)) (h : Holder) (u : ObjNo) → priority_of_row (get_or (threads_lose h threads) u.0 None) ≡ priority_of_row (get_or threads u.0 None)
+rank-lose threads (Temp t) u = rank-with_row threads t (with_use None) u (λ r. refl)
+rank-lose threads _ u = refl
+
+pub rank-closed : (threads : List (Option ThreadRow)) (last : Bool) (o u : ObjNo) → priority_of_row (get_or (threads_closed last o threads) u.0 None) ≡ priority_of_row (get_or threads u.0 None)
+rank-closed threads true o u = rank-with_row threads o unlinked u (λ r. refl)
+rank-closed threads false o u = refl
+
+-- a number without a row has none after it is taken away
+pub rank-none : (threads : List (Option ThreadRow)) (o u : ObjNo) → get_or threads o.0 None ≡ None → priority_of_row (get_or (slice_set threads o.0 None) u.0 None) ≡ priority_of_row (get_or threads u.0 None)
+rank-none threads o u none = ap (λ (l : List (Option ThreadRow)). priority_of_row (get_or l u.0 None)) (set_none threads o.0 none)
+  where
+    set_none : (threads : List (Option ThreadRow)) (i : ℕ) → get_or threads i None ≡ None → slice_set threads i None ≡ threads
+    set_none [] i none = refl
+    set_none (x ∷ xs) zero none = ap (λ y. y ∷ xs) (sym none)
+    set_none (x ∷ xs) (suc i) none = ap (λ l. x ∷ l) (set_none xs i none)
