@@ -1,7 +1,7 @@
 -- The tables at boot stand for the state at boot, field by field.
-use Rattle.std.proofs.Common.{◌≡◌, ℕ, ◌≤◌, List, [], length, take, map, replicate, arith, refl, sym, ap, subst, ◌∙◌, Option, Some, None}
+use Rattle.std.proofs.Common.{◌≡◌, ℕ, ◌≤◌, List, [], ◌∷◌, length, take, map, replicate, arith, refl, sym, ap, subst, ◌∙◌, Option, Some, None}
 use Rattle.std.proofs.lemmas.List.{length-map, take_all}
-use Rattle.sym_base.specs.declared.limits.TheConstants.Limits.{DEVICES, HANDLES}
+use Rattle.sym_base.specs.declared.limits.TheConstants.Limits.{DEVICES, HANDLES, OBJECTS}
 use Rattle.sym_base.specs.declared.number.ObjNo.{ObjNo}
 use Rattle.script_types.specs.declared.script.Script.{Script}
 use Rattle.state_rows.specs.declared.deferred.DeferredRows.{DeferredRows}
@@ -15,7 +15,9 @@ use Rattle.machine.specs.declared.boot.Born.{Born}
 use Rattle.state_rows.specs.declared.handle_slot.HandleSlot.{HandleSlot}
 use Rattle.machine.specs.declared.state.State.{State}
 use Rattle.state_rows.specs.declared.thread.ThreadRow.{ThreadRow}
-use Rattle.machine.specs.Boot.{boot, boot_of, born, nano_of}
+use Rattle.state_rows.specs.declared.locks.LockRows.{LockRows}
+use Rattle.state_rows.specs.LockChanges.{new_rows as lock_rows}
+use Rattle.machine.specs.Boot.{boot, boot_of, born, memory_of, memory_of_row, nano_of}
 use Rattle.state_rows.specs.HandleSlots.{fresh_slot}
 
 objects_at_boot : (script : Script) → (boot script).objects ≡ map (λ (b : Born). Some b.object) (born script)
@@ -46,19 +48,38 @@ requests_at_boot : (script : Script) → (boot script).requests ≡ new_rows (le
 unfolding boot_of
 requests_at_boot script = refl
 
+locks_at_boot : (script : Script) → (boot script).locks ≡ lock_rows OBJECTS
+unfolding boot_of
+locks_at_boot script = refl
+
+mutexes_at_boot : (script : Script) → (boot script).mutexes ≡ map (λ (_ : Born). []) (born script)
+unfolding boot_of
+mutexes_at_boot script = refl
+
+memories_each : (bs : List Born) → map memory_of bs ≡ map memory_of_row (map (λ (b : Born). b.thread) bs)
+memories_each [] = refl
+memories_each (b ∷ bs) = ap (λ (l : List (Option (List ℕ))). memory_of b ∷ l) (memories_each bs)
+
+memories_at_boot : (script : Script) → (boot script).memories ≡ map memory_of_row (boot script).threads
+unfolding boot_of
+memories_at_boot script = memories_each (born script)
+
 -- a state is its fields
-all_fields : (S : State) (objects : List (Option ObjectRow)) (handles : List (List HandleSlot)) (threads : List (Option ThreadRow)) (owed : List (List Owed)) (nano : NanoRows) (deferred : DeferredRows) (requests : RequestRows) → objects ≡ S.objects → handles ≡ S.handles → threads ≡ S.threads → owed ≡ S.owed → nano ≡ S.nano → deferred ≡ S.deferred → requests ≡ S.requests → record { objects = objects; handles = handles; threads = threads; ready = S.ready; owed = owed; nano = nano; deferred = deferred; requests = requests } ≡ S
-all_fields S objects handles threads owed nano deferred requests o h t w n d r = rw (o, h, t, w, n, d, r) refl
+all_fields : (S : State) (objects : List (Option ObjectRow)) (handles : List (List HandleSlot)) (threads : List (Option ThreadRow)) (owed : List (List Owed)) (nano : NanoRows) (deferred : DeferredRows) (requests : RequestRows) (locks : LockRows) (mutexes : List (List ObjNo)) (memories : List (Option (List ℕ))) → objects ≡ S.objects → handles ≡ S.handles → threads ≡ S.threads → owed ≡ S.owed → nano ≡ S.nano → deferred ≡ S.deferred → requests ≡ S.requests → locks ≡ S.locks → mutexes ≡ S.mutexes → memories ≡ S.memories → record { objects = objects; handles = handles; threads = threads; ready = S.ready; owed = owed; nano = nano; deferred = deferred; requests = requests; locks = locks; mutexes = mutexes; memories = memories } ≡ S
+all_fields S objects handles threads owed nano deferred requests locks mutexes memories o h t w n d r l m b = rw (o, h, t, w, n, d, r, l, m, b) refl
 
 -- the tables that are made for what stands at boot
-pub fields_at_boot : (script : Script) (all : List Born) (state : State) (objects : List (Option ObjectRow)) (handles : List (List HandleSlot)) (threads : List (Option ThreadRow)) (owed : List (List Owed)) (nano : NanoRows) (deferred : DeferredRows) (requests : RequestRows) → all ≡ born script → state ≡ boot script → objects ≡ take (length all) (map (λ (b : Born). Some b.object) all) → handles ≡ map (λ (_ : Born). replicate HANDLES fresh_slot) all → threads ≡ state.threads → owed ≡ map (λ (_ : Born). []) all → nano ≡ nano_of script.fast all → deferred ≡ calls_of script → requests ≡ new_rows (length all) DEVICES → record { objects = objects; handles = handles; threads = threads; ready = (boot script).ready; owed = owed; nano = nano; deferred = deferred; requests = requests } ≡ boot script
-fields_at_boot script all state objects handles threads owed nano deferred requests born_are state_is o h t w n d r =
+pub fields_at_boot : (script : Script) (all : List Born) (state : State) (objects : List (Option ObjectRow)) (handles : List (List HandleSlot)) (threads : List (Option ThreadRow)) (owed : List (List Owed)) (nano : NanoRows) (deferred : DeferredRows) (requests : RequestRows) (locks : LockRows) (mutexes : List (List ObjNo)) (memories : List (Option (List ℕ))) → all ≡ born script → state ≡ boot script → objects ≡ take (length all) (map (λ (b : Born). Some b.object) all) → handles ≡ map (λ (_ : Born). replicate HANDLES fresh_slot) all → threads ≡ state.threads → owed ≡ map (λ (_ : Born). []) all → nano ≡ nano_of script.fast all → deferred ≡ calls_of script → requests ≡ new_rows (length all) DEVICES → locks ≡ lock_rows OBJECTS → mutexes ≡ map (λ (_ : Born). []) all → memories ≡ map memory_of_row state.threads → record { objects = objects; handles = handles; threads = threads; ready = (boot script).ready; owed = owed; nano = nano; deferred = deferred; requests = requests; locks = locks; mutexes = mutexes; memories = memories } ≡ boot script
+fields_at_boot script all state objects handles threads owed nano deferred requests locks mutexes memories born_are state_is o h t w n d r l m b =
     let long : length (map (λ (b : Born). Some b.object) all) ≤ length all = let e = length-map all (λ (b : Born). Some b.object) in omega arith in
     let rows : objects ≡ (boot script).objects = o ∙ (take_all (length all) (map (λ (b : Born). Some b.object) all) long ∙ (ap (map (λ (b : Born). Some b.object)) born_are ∙ sym (objects_at_boot script))) in
-    all_fields (boot script) objects handles threads owed nano deferred requests rows
+    all_fields (boot script) objects handles threads owed nano deferred requests locks mutexes memories rows
     (h ∙ (ap (map (λ (_ : Born). replicate HANDLES fresh_slot)) born_are ∙ sym (handles_at_boot script)))
     (t ∙ ap (λ (S : State). S.threads) state_is)
     (w ∙ (ap (map (λ (_ : Born). [])) born_are ∙ sym (owed_at_boot script)))
     (n ∙ (ap (nano_of script.fast) born_are ∙ sym (nano_at_boot script)))
     (d ∙ sym (deferred_at_boot script))
     (r ∙ (ap (λ (bs : List Born). new_rows (length bs) DEVICES) born_are ∙ sym (requests_at_boot script)))
+    (l ∙ sym (locks_at_boot script))
+    (m ∙ (ap (map (λ (_ : Born). [])) born_are ∙ sym (mutexes_at_boot script)))
+    (b ∙ (ap (λ (S : State). map memory_of_row S.threads) state_is ∙ sym (memories_at_boot script)))

@@ -24,6 +24,10 @@ pub none_owed : (bs : List Born) → replicate {A = List Owed} (length bs) [] �
 none_owed [] = refl
 none_owed (b ∷ bs) = ap (λ (l : List (List Owed)). [] ∷ l) (none_owed bs)
 
+pub none_listed : (bs : List Born) → replicate {A = List ObjNo} (length bs) [] ≡ map (λ (b : Born). []) bs
+none_listed [] = refl
+none_listed (b ∷ bs) = ap (λ (l : List (List ObjNo)). [] ∷ l) (none_listed bs)
+
 -- where a call succeeded with this, it did with what follows from it
 pub if_ok : {A E : Type 0} (r : Result A E) (P Q : A → Type 0) → ((x : A) → P x → Q x) → IfOk r P → IfOk r Q
 if_ok (Ok x) P Q follows h = follows x h

@@ -50,6 +50,8 @@ rows_apart script S qs h = record {
   nano = h.nano;
   deferred = h.deferred;
   requests = h.requests;
+  locks = h.locks;
+  memories = h.memories;
   lives = record { alive = h.lives.alive; counted = h.lives.counted; sweeps = h.lives.sweeps };
 }
 

@@ -2,6 +2,7 @@ mod ActionsDone
 mod BodiesApart
 mod BootFields
 mod BootNano
+mod BootProcs
 mod BootReady
 mod BootTables
 mod BootUses

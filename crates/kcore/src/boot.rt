@@ -8,7 +8,8 @@ ghost use Rattle.state_rows.specs.DeclaredCalls.{calls_of};
 ghost use Rattle.ref_words.specs.Words.{NoneCreated};
 ghost use Rattle.state_rows.specs.ObjectRows.{is_session, is_taken};
 ghost use Rattle.machine.specs.Arrivals.{is_listed};
-ghost use Rattle.machine.specs.Boot.{boot, nano_of};
+ghost use Rattle.machine.specs.Boot.{boot, memory_of_row, nano_of};
+ghost use Rattle.state_rows.specs.LockChanges.{new_rows as lock_rows};
 ghost use Rattle.machine.specs.Choice.{priority_of};
 ghost use Rattle.state_rows.specs.HandleSlots.{fresh_slot};
 ghost use Rattle.machine.specs.References.{count_of};
@@ -16,17 +17,16 @@ ghost use Rattle.machine.specs.WellFormed.{AreApart};
 ghost use Rattle.state_rows.specs.Nano.{suspend_count};
 ghost use Rattle.state_rows.specs.RequestChanges.{new_rows as request_rows};
 ghost use Rattle.kcore.specs.BootTable.{AreNew, FirstStand};
-ghost use Rattle.kernel_tables.specs.Noted.{AreKept};
+ghost use Rattle.kernel_tables.specs.Noted.{AreKept, AreRanked};
 ghost use Rattle.kernel_tables.specs.ReadyQueues.{AreReady};
-ghost use Rattle.kernel_tables.specs.StateOf.{state_of, with_ready};
+ghost use Rattle.kernel_tables.specs.StateOf.{slots_of, state_of, with_ready};
 
+use crate::boot_tables::{locks_of, priority_of, procs_of};
 use cleanup::Cleanup;
 use handles::Handles;
-use kern_sync::KernSync;
 use kernel_tables::{CallQueues, ObjectTable, Tables};
-use machine::{Born, State, ThreadRow, all_born, count_of, row_of, state_at_boot};
+use machine::{Born, State, all_born, count_of, state_at_boot};
 use nano_sync::NanoSync;
-use procs::Procs;
 use ready_list::ReadyList;
 use ref_words::RefWords;
 use requests::Requests;
@@ -77,7 +77,7 @@ fn counted<W: RefWords + Drop>(
 
 /// An empty handle table for each.
 fn fresh_handles(alloc: Global, all: &[Born]) -> Result<Items<Handles>, NoMemory>
-    ensures { IfOk result (λ tables. tables ≡ map (λ _. replicate HANDLES fresh_slot) all.now) }
+    ensures { IfOk result (λ tables. slots_of tables ≡ map (λ _. replicate HANDLES fresh_slot) all.now) }
 {
     let mut tables = Vec::new(alloc);
     for born in all {
@@ -91,41 +91,10 @@ fn empty_lists(alloc: Global, all: &[Born]) -> Result<Cleanup, NoMemory>
     requires { length all.now < 65536 }
     ensures owed { IfOk result (λ lists. lists.duties ≡ map (λ _. []) all.now) }
     ensures uses { IfOk result (λ lists. lists.temporary ≡ replicate (length all.now) None) }
+    ensures mutexes { IfOk result (λ lists. lists.mutexes ≡ map (λ _. []) all.now) }
+    ensures objects { IfOk result (λ lists. lists.objects ≡ OBJECTS) }
 {
     Cleanup::new(alloc, all.len() as u16, Limits::OBJECTS as u16)
-}
-
-/// Adds a thread with its row, or a process.
-fn add(procs: &mut Procs, number: ObjNo, row: Option<ThreadRow>) {
-    match row {
-        Some(row) => procs.add_row(number, row),
-        None => procs.add_process(number),
-    }
-}
-
-/// The threads' rows, and the processes' memories.
-fn procs_of(alloc: Global, threads: &[Option<ThreadRow>]) -> Result<Procs, NoMemory> {
-    let mut procs = Procs::new(alloc, threads.len() as u16)?;
-    for (number, row) in threads.iter().enumerate() {
-        add(&mut procs, ObjNo(number as u16), *row);
-    }
-    Ok(procs)
-}
-
-/// A thread has its priority among waiters too.
-fn rank(locks: &mut KernSync, thread: ThreadNo, row: &Option<ThreadRow>) {
-    if let Some(row) = row {
-        locks.set_priority(thread, row.priority);
-    }
-}
-
-/// Nobody owns or waits for anything, and each thread has its priority.
-fn locks_of(alloc: Global, threads: &[Option<ThreadRow>]) -> Result<KernSync, NoMemory> {
-    let mut locks = KernSync::new(alloc, Limits::OBJECTS as u16, Limits::BOOT_OBJECTS as u16)?;
-    for (number, row) in threads.iter().enumerate() {
-        rank(&mut locks, ObjNo(number as u16), row);
-    }
-    Ok(locks)
 }
 
 /// Suspends a thread once, where it is declared as held.
@@ -159,16 +128,6 @@ fn requests_of(alloc: Global, all: &[Born]) -> Result<Requests, NoMemory>
     Requests::new(alloc, all.len() as u16, Limits::DEVICES as u8)
 }
 
-/// The priority of a thread, 0 where there is none.
-fn priority_of(state: &State, thread: ThreadNo) -> u8
-    ensures { result ≡ priority_of state.now thread }
-{
-    match row_of(&state.threads, thread) {
-        Some(row) => row.priority,
-        None => 0,
-    }
-}
-
 /// The queues of a state's ready threads.
 fn queues_of(alloc: Global, state: &State) -> Result<ReadyList, NoMemory>
     requires once { AreApart state.now.ready }
@@ -189,13 +148,19 @@ fn tables_of<W: RefWords + Drop>(
     script: &Script,
     all: &[Born],
     objects: ObjectTable<W>,
-    threads: &[Option<ThreadRow>],
+    state: &State,
 ) -> Result<Tables<W>, NoMemory>
     requires shaped { IsShaped script.now }
     requires few { length all.now < 65536 }
+    requires known { length state.now.threads ≤ BOOT_OBJECTS }
     ensures objects { IfOk result (λ tables. tables.objects ≡ objects) }
-    ensures threads { IfOk result (λ tables. tables.threads ≡ threads) }
-    ensures handles { IfOk result (λ tables. tables.handles ≡ map (λ _. replicate HANDLES fresh_slot) all.now) }
+    ensures procs { IfOk result (λ tables. tables.procs ≡ record { threads = state.now.threads; processes = map memory_of_row state.now.threads }) }
+    ensures handles { IfOk result (λ tables. slots_of tables.handles ≡ map (λ _. replicate HANDLES fresh_slot) all.now) }
+    ensures locks { IfOk result (λ tables. tables.locks.rows ≡ lock_rows OBJECTS) }
+    ensures ranks { IfOk result (λ tables. AreRanked tables.locks.priorities state.now.threads) }
+    ensures ranked { IfOk result (λ tables. length tables.locks.priorities ≡ BOOT_OBJECTS) }
+    ensures mutexes { IfOk result (λ tables. tables.cleanup.mutexes ≡ map (λ _. []) all.now) }
+    ensures listed { IfOk result (λ tables. tables.cleanup.objects ≡ OBJECTS) }
     ensures owed { IfOk result (λ tables. tables.cleanup.duties ≡ map (λ _. []) all.now) }
     ensures uses { IfOk result (λ tables. tables.cleanup.temporary ≡ replicate (length all.now) None) }
     ensures nano { IfOk result (λ tables. tables.nano ≡ nano_of script.now.fast all.now) }
@@ -207,8 +172,8 @@ fn tables_of<W: RefWords + Drop>(
     let nano = nano_of(alloc, script.fast, all)?;
     let deferred = CallQueues::new(alloc, script)?;
     let requests = requests_of(alloc, all)?;
-    let procs = procs_of(alloc, threads)?;
-    let locks = locks_of(alloc, threads)?;
+    let procs = procs_of(alloc, state.threads.as_slice())?;
+    let locks = locks_of(alloc, state)?;
     Ok(Tables {
         objects,
         handles,
@@ -238,6 +203,6 @@ pub fn boot<W: RefWords + Drop>(
     let state = state_at_boot(alloc, script)?;
     let objects = counted(alloc, words, all.as_slice(), &state)?;
     let ready = queues_of(alloc, &state)?;
-    let tables = tables_of(alloc, script, all.as_slice(), objects, state.threads.as_slice())?;
+    let tables = tables_of(alloc, script, all.as_slice(), objects, &state)?;
     Ok((tables, ready))
 }

@@ -4,6 +4,7 @@
 mod act;
 mod bodies;
 mod boot;
+mod boot_tables;
 mod interrupts;
 mod kernel;
 mod made;

@@ -1,4 +1,4 @@
-use Rattle.std.proofs.Common.{◌≡◌, ◌<◌, ◌∙◌, List, sym, ap, subst, length, arith, true, map, take, replicate, ℕ, Some, None}
+use Rattle.std.proofs.Common.{◌≡◌, ◌<◌, ◌≤◌, ◌∙◌, List, get_or, sym, ap, subst, length, arith, true, map, take, replicate, ℕ, Some, None}
 use Rattle.std.specs.Prelude.{slice_index}
 use Rattle.sym_base.specs.declared.limits.TheConstants.Limits.{BOOT_OBJECTS}
 use Rattle.sym_base.specs.declared.number.ObjNo.{ObjNo}
@@ -8,7 +8,7 @@ use Rattle.machine.specs.declared.state.State.{State}
 use Rattle.state_rows.specs.declared.thread.ThreadRow.{ThreadRow}
 use Rattle.machine.specs.Arrivals.{is_listed}
 use Rattle.machine.specs.Boot.{boot, born}
-use Rattle.machine.specs.Choice.{priority_of}
+use Rattle.machine.specs.Choice.{priority_of, priority_of_row}
 use Rattle.machine.specs.References.{count_of}
 use Rattle.machine.specs.WellFormed.{AreApart}
 use Rattle.machine.specs.Moves.{use_of_row}
@@ -18,6 +18,7 @@ use Rattle.machine.proofs.Numbers.CountSmall.{count_small}
 use Rattle.kcore.specs.BootTable.{AreNew, FirstStand}
 use Rattle.kernel_tables.specs.Counts.{Agrees}
 use Rattle.kernel_tables.specs.ReadyQueues.{AreReady}
+use Rattle.kernel_tables.specs.StateOf.{slots_of}
 use Rattle.kcore.proofs.BootFields.{fields_at_boot, threads_at_boot}
 use Rattle.kcore.proofs.BootReady.{listed_known, listed_ranged}
 use Rattle.kcore.proofs.BootTables.{new_at_boot, agrees_at_boot}
@@ -70,6 +71,11 @@ tables_of-requires-clause-few g c =
     let e = ap length (c.as_slice-2.ensures ∙ c.in_ok-all.ensures) in
     omega arith
 
+pub tables_of-requires-clause-known : goal.tables_of-requires-clause-known
+tables_of-requires-clause-known g c =
+    let script = c.args.script.now in
+    subst (λ (S : State). length S.threads ≤ BOOT_OBJECTS) (sym c.in_ok-state.ensures) (rows-boot script c.requires.valid).sized.threads_few
+
 pub returns-clause-state : goal.returns-clause-state
 returns-clause-state g c =
     let script = c.args.script.now in
@@ -77,8 +83,8 @@ returns-clause-state g c =
     let made = c.in_ok-tables.ensures in
     let all : c.as_slice-2.result.now ≡ c.as_slice.result.now = c.as_slice-2.ensures ∙ sym c.as_slice.ensures in
     let rows = subst (λ (bs : List Born). tables.objects.rows ≡ take (length bs) (map (λ (b : Born). Some b.object) bs)) (sym all) (ap (λ o. o.rows) made.objects ∙ c.in_ok-objects.ensures.rows_are) in
-    fields_at_boot script c.as_slice-2.result.now c.in_ok-state.state tables.objects.rows tables.handles tables.threads tables.cleanup.duties tables.nano tables.deferred tables.requests
-    (c.as_slice-2.ensures ∙ c.in_ok-all.ensures) c.in_ok-state.ensures rows made.handles made.threads made.owed made.nano made.deferred made.requests
+    fields_at_boot script c.as_slice-2.result.now c.in_ok-state.state tables.objects.rows (slots_of tables.handles) tables.procs.threads tables.cleanup.duties tables.nano tables.deferred tables.requests tables.locks.rows tables.cleanup.mutexes tables.procs.processes
+    (c.as_slice-2.ensures ∙ c.in_ok-all.ensures) c.in_ok-state.ensures rows made.handles (ap (λ p. p.threads) made.procs) made.owed made.nano made.deferred made.requests made.locks made.mutexes (ap (λ p. p.processes) made.procs)
 
 pub returns-clause-kept : goal.returns-clause-kept
 returns-clause-kept g c =
@@ -89,11 +95,16 @@ returns-clause-kept g c =
     let all : c.as_slice.result.now ≡ born script = c.as_slice.ensures ∙ c.in_ok-all.ensures in
     let long : length c.as_slice-2.result.now ≡ length (born script) = ap length (c.as_slice-2.ensures ∙ c.in_ok-all.ensures) in
     let agree : Agrees objects.counts (boot script) = agrees_at_boot script c.requires.valid c.as_slice.result.now objects.rows objects.counts all (subst (λ (S : State). FirstStand c.as_slice.result.now S objects.rows objects.counts (length c.as_slice.result.now)) c.in_ok-state.ensures c.in_ok-objects.ensures) in
-    let threads : tables.threads ≡ map (λ (b : Born). b.thread) (born script) = made.threads ∙ (ap (λ (S : State). S.threads) c.in_ok-state.ensures ∙ threads_at_boot script) in
+    let threads : tables.procs.threads ≡ map (λ (b : Born). b.thread) (born script) = ap (λ p. p.threads) made.procs ∙ (ap (λ (S : State). S.threads) c.in_ok-state.ensures ∙ threads_at_boot script) in
     let state = returns-clause-state g c in
     record {
       counts = λ o. ap (λ (counts : List ℕ). slice_index counts o.0) (ap (λ t. t.counts) made.objects) ∙ (agree o ∙ sym (ap (λ (S : State). count_of S o) state));
-      uses = made.uses ∙ (ap (λ (n : ℕ). replicate n None) long ∙ (none_used script (length (born script)) (born script) (each_born script (valid_is_shaped script c.requires.valid)) ∙ sym (ap (map use_of_row) threads)));
+      tied = record {
+        uses = made.uses ∙ (ap (λ (n : ℕ). replicate n None) long ∙ (none_used script (length (born script)) (born script) (each_born script (valid_is_shaped script c.requires.valid)) ∙ sym (ap (map use_of_row) threads)));
+        ranks = λ u. made.ranks u ∙ sym (ap (λ p. priority_of_row (get_or p.threads u.0 None)) made.procs);
+        listed = made.listed;
+        ranked = made.ranked;
+      };
     }
 
 pub returns-clause-queues : goal.returns-clause-queues

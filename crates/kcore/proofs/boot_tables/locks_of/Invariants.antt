@@ -1,0 +1,5 @@
+use Rattle.kcore.proofs.BootProcs.{RankedTo}
+use Rattle.kcore.proofs.boot_tables.locks_of.Given as goal
+
+abbrev pub invariant-loop-number : goal.invariant-loop-number
+invariant-loop-number l = RankedTo l.locks l.state.threads l.number

@@ -1,0 +1,61 @@
+//! The tables of threads, processes and locks at boot.
+ghost use Rattle.std.specs.Prelude.{◌≡◌, ◌<◌, ◌≤◌, length, map, IfOk, slice_set};
+ghost use Rattle.sym_base.specs.declared.limits.TheConstants.Limits.{BOOT_OBJECTS, OBJECTS};
+ghost use Rattle.state_rows.specs.LockChanges.{new_rows as lock_rows};
+ghost use Rattle.machine.specs.Boot.{memory_of_row};
+ghost use Rattle.machine.specs.Choice.{priority_of};
+ghost use Rattle.procs.specs.Rows.{IsFresh};
+ghost use Rattle.kernel_tables.specs.Noted.{AreRanked};
+
+use kern_sync::KernSync;
+use machine::{State, ThreadRow, row_of};
+use procs::Procs;
+use std::alloc::Global;
+use sym_base::{Limits, NoMemory, ObjNo, ThreadNo};
+
+/// Adds a thread with its row, or a process.
+fn add(procs: &mut Procs, number: ObjNo, row: Option<ThreadRow>)
+    requires { IsFresh procs.old number }
+    ensures { procs.new ≡ record procs.old { threads = slice_set procs.old.threads number.0 row; processes = slice_set procs.old.processes number.0 (memory_of_row row) } }
+{
+    match row {
+        Some(row) => procs.add_row(number, row),
+        None => procs.add_process(number),
+    }
+}
+
+/// The threads' rows, and the processes' memories.
+pub fn procs_of(alloc: Global, threads: &[Option<ThreadRow>]) -> Result<Procs, NoMemory>
+    requires { length threads.now < 65536 }
+    ensures { IfOk result (λ procs. procs ≡ record { threads = threads.now; processes = map memory_of_row threads.now }) }
+{
+    let mut procs = Procs::new(alloc, threads.len() as u16)?;
+    for (number, row) in threads.iter().enumerate() {
+        add(&mut procs, ObjNo(number as u16), *row);
+    }
+    Ok(procs)
+}
+
+/// The priority of a thread, 0 where there is none.
+pub fn priority_of(state: &State, thread: ThreadNo) -> u8
+    ensures { result ≡ priority_of state.now thread }
+{
+    match row_of(&state.threads, thread) {
+        Some(row) => row.priority,
+        None => 0,
+    }
+}
+
+/// Nobody owns or waits for anything, and each thread has its priority.
+pub fn locks_of(alloc: Global, state: &State) -> Result<KernSync, NoMemory>
+    requires { length state.now.threads ≤ BOOT_OBJECTS }
+    ensures rows { IfOk result (λ locks. locks.rows ≡ lock_rows OBJECTS) }
+    ensures ranks { IfOk result (λ locks. AreRanked locks.priorities state.now.threads) }
+    ensures sized { IfOk result (λ locks. length locks.priorities ≡ BOOT_OBJECTS) }
+{
+    let mut locks = KernSync::new(alloc, Limits::OBJECTS as u16, Limits::BOOT_OBJECTS as u16)?;
+    for number in 0..state.threads.len() as u16 {
+        locks.set_priority(ObjNo(number), priority_of(state, ObjNo(number)));
+    }
+    Ok(locks)
+}
