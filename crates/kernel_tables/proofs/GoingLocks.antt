@@ -48,11 +48,11 @@ waits_nowhere S t nowhere = none_waits S.locks.waiters t (λ k. nowhere (record 
 -- what is in some list of threads is held by a thread
 held_one : (o : ObjNo) (held : List ObjNo) → list_any (is_object o) held ≡ true → 0 < total (mutex_names o) held
 held_one o [] some = absurd (cc)
-held_one o (x ∷ rest) some = by (x.0 == o.0) refl some
+held_one o (x ∷ rest) some = by (x.0 == o.0) refl some (held_one o rest)
   where
-    by : (b : Bool) → (x.0 == o.0) ≡ b → (b || list_any (is_object o) rest) ≡ true → 0 < total (mutex_names o) (x ∷ rest)
-    by true at some = let one : same x o ≡ 1 = ap (λ (b : Bool). if b then 1 else 0) at in omega arith
-    by false at some = let more = held_one o rest some in omega arith
+    by : (b : Bool) → (x.0 == o.0) ≡ b → (b || list_any (is_object o) rest) ≡ true → (list_any (is_object o) rest ≡ true → 0 < total (mutex_names o) rest) → 0 < total (mutex_names o) (x ∷ rest)
+    by true at some later = let one : same x o ≡ 1 = ap (λ (b : Bool). if b then 1 else 0) at in omega arith
+    by false at some later = let more = later some in omega arith
 
 pub record HeldBySome (mutexes : List (List ObjNo)) (o : ObjNo) : Type 0 where
   pub thread : ObjNo
@@ -60,11 +60,11 @@ pub record HeldBySome (mutexes : List (List ObjNo)) (o : ObjNo) : Type 0 where
 
 held_some : (o : ObjNo) (mutexes : List (List ObjNo)) → list_any (list_any (is_object o)) mutexes ≡ true → HeldBySome mutexes o
 held_some o [] some = absurd (cc)
-held_some o (held ∷ rest) some = by (list_any (is_object o) held) refl some
+held_some o (held ∷ rest) some = by (list_any (is_object o) held) refl some (held_some o rest)
   where
-    by : (b : Bool) → list_any (is_object o) held ≡ b → (b || list_any (list_any (is_object o)) rest) ≡ true → HeldBySome (held ∷ rest) o
-    by true here some = record { thread = record { 0 = 0 }; held = held_one o held here }
-    by false here some = let more = held_some o rest some in record { thread = record { 0 = suc more.thread.0 }; held = more.held }
+    by : (b : Bool) → list_any (is_object o) held ≡ b → (b || list_any (list_any (is_object o)) rest) ≡ true → (list_any (list_any (is_object o)) rest ≡ true → HeldBySome rest o) → HeldBySome (held ∷ rest) o
+    by true here some later = record { thread = record { 0 = 0 }; held = held_one o held here }
+    by false here some later = let more = later some in record { thread = record { 0 = suc more.thread.0 }; held = more.held }
 
 none_has : (o : ObjNo) (mutexes : List (List ObjNo)) → ((t : ObjNo) → times_held mutexes t o ≡ 0) → HasSome (is_object o) mutexes → ⊥
 none_has o mutexes none some = let v = held_some o mutexes some in let no = none v.thread in let yes = v.held in omega arith
@@ -151,13 +151,15 @@ module _ (script : Script) (S : State) (rows : AreRows script S) (known : AreKno
       let there = in_mutexes u may.thread in
       let once = held_once (length S.objects) S.threads (parts S) rows.locks rows.sized.objects_few o may.object u own.own own.is own.thread there (may.nowhere o) in
       let none = given_none (length S.objects) S.threads (parts S) rows.locks rows.sized.objects_few o may.object u own.own own.is own.thread there (may.nowhere o) in
-      let counted : 0 < count_of S o = let at = total_at_least (total (mutex_names o)) S.mutexes u.0 [] there in omega arith in
-      (gives o u (Passed w) may, record {
-        thread = let a = inside S.threads w.0 awaits.row awaits.is in let b = rows.sized.duties in omega arith;
-        object = small o may.object;
-        free = none_has o (not_holding S.mutexes u o) none;
-        referred = referred o counted;
-      })
+      let counted : 0 < count_of S o = let at = total_at_least (total (mutex_names o)) S.mutexes u.0 [] there in omega arith in (
+        gives o u (Passed w) may,
+        record {
+          thread = let a = inside S.threads w.0 awaits.row awaits.is in let b = rows.sized.duties in omega arith;
+          object = small o may.object;
+          free = none_has o (not_holding S.mutexes u o) none;
+          referred = referred o counted;
+        },
+      )
 
   pub can_lock : (t : ObjNo) (m : LockMove) → FitsLocks t m S → CanLock m S
   can_lock t (Start o count) fits = (placed o fits.object, fits.few, fits.free, fits.alone)

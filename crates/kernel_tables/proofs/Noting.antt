@@ -85,7 +85,7 @@ noted_lost s threads Kernel noted = noted
 pub noted_ended : (s : Lists) (threads : List (Option ThreadRow)) (t : ObjNo) → AreNoted s threads → AreNoted (with_use s t None) (with_row threads t advanced)
 noted_ended s threads t noted = noted_set s threads t (option_map advanced (get_or threads t.0 None)) None (ended_row (get_or threads t.0 None)) noted
 
--- duties stay where uses change
+-- duties and mutexes stay where uses change
 pub duties_gained : (s : Lists) (h : Holder) (o : ObjNo) → (use_gained h o s).duties ≡ s.duties
 duties_gained s (Temp t) o = refl
 duties_gained s (InProcess p i) o = refl
@@ -94,6 +94,24 @@ duties_gained s (Own t) o = refl
 duties_gained s (Link x) o = refl
 duties_gained s (Message m) o = refl
 duties_gained s Kernel o = refl
+
+pub mutexes_gained : (s : Lists) (h : Holder) (o : ObjNo) → (use_gained h o s).mutexes ≡ s.mutexes
+mutexes_gained s (Temp t) o = refl
+mutexes_gained s (InProcess p i) o = refl
+mutexes_gained s (InThread t i) o = refl
+mutexes_gained s (Own t) o = refl
+mutexes_gained s (Link x) o = refl
+mutexes_gained s (Message m) o = refl
+mutexes_gained s Kernel o = refl
+
+pub mutexes_lost : (s : Lists) (h : Holder) → (use_lost h s).mutexes ≡ s.mutexes
+mutexes_lost s (Temp t) = refl
+mutexes_lost s (InProcess p i) = refl
+mutexes_lost s (InThread t i) = refl
+mutexes_lost s (Own t) = refl
+mutexes_lost s (Link x) = refl
+mutexes_lost s (Message m) = refl
+mutexes_lost s Kernel = refl
 
 pub duties_lost : (s : Lists) (h : Holder) → (use_lost h s).duties ≡ s.duties
 duties_lost s (Temp t) = refl

@@ -29,3 +29,12 @@ row_none rows t f none = by_row (get_or rows.threads t.0 None) refl
     by_row (Some row) is = let clash : true ≡ false = ap (λ (x : Option ThreadRow). is_some x) (sym is) ∙ none in absurd (cc)
     by_row None is =
         ap (with_threads rows) (sym (ap (λ (x : Option ThreadRow). set rows.threads t.0 (option_map f x)) is ∙ (ap (set rows.threads t.0) (sym is) ∙ set-get_or rows.threads t.0 None)))
+
+-- a thread that is there has a row
+pub record HasRow (x : Option ThreadRow) : Type 0 where
+  pub row : ThreadRow
+  pub is : x ≡ Some row
+
+pub has_row : (x : Option ThreadRow) → is_some x ≡ true → HasRow x
+has_row None there = absurd (cc)
+has_row (Some row) there = record { row = row; is = refl }

@@ -1,12 +1,12 @@
 -- Handle tables as the lists of their places.
-use Rattle.std.proofs.Common.{◌≡◌, ◌∙◌, ℕ, zero, suc, ◌<◌, List, [], ◌∷◌, length, get_or, set, refl, sym, ap, arith}
-use Rattle.std.specs.Prelude.{is_some, if◌then◌else◌, Bool, true, false, Option, Some, None, slice_get}
-use Rattle.std.proofs.lemmas.Bool.{ne_eqb}
-use Rattle.std.proofs.lemmas.List.{map-set, set-get_or}
+use Rattle.std.proofs.Common.{◌≡◌, ◌∙◌, inl, inr, ℕ, zero, suc, ◌<◌, ◌≤◌, List, [], ◌∷◌, length, get_or, set, refl, sym, ap, arith}
+use Rattle.std.specs.Prelude.{◌==◌, IfSome, is_some, if◌then◌else◌, Bool, true, false, Option, Some, None, slice_get}
+use Rattle.std.proofs.lemmas.Bool.{cases_lt, ne_eqb}
+use Rattle.std.proofs.lemmas.List.{get_or_past, map-set, set-get_or}
 use Rattle.sym_base.specs.declared.number.ObjNo.{ObjNo}
 use Rattle.state_rows.specs.declared.handle_slot.HandleSlot.{HandleSlot}
-use Rattle.state_rows.specs.HandleNumbers.{index_of}
-use Rattle.state_rows.specs.HandleSlots.{fresh_slot, free_index, is_full, look, slot_at}
+use Rattle.state_rows.specs.HandleNumbers.{handle_number, index_of}
+use Rattle.state_rows.specs.HandleSlots.{fresh_slot, free_index, is_full, look, object_of, slot_at}
 use Rattle.handles.specs.HandleTable.{HandleTable}
 use Rattle.handles.specs.Table.{slots_added, slots_removed, table_added, table_removed}
 use Rattle.machine.specs.Handles.{taken_slot, freed_slot}
@@ -39,3 +39,21 @@ slots_freed T i h at found = by_object (slot_at T.slots i).object refl
         ap (λ (x : Option ObjNo). if is_some x then slots_removed T.slots (index_of h) else T.slots) (found ∙ is) ∙ (sym (set-get_or T.slots i fresh_slot) ∙ ap (set T.slots i) (sym same))
     by_object (Some o) is =
         ap (λ (x : Option ObjNo). if is_some x then slots_removed T.slots (index_of h) else T.slots) (found ∙ is) ∙ ap (slots_removed T.slots) at
+
+-- a handle that names an object has an index of the table
+pub look_inside : (local : Bool) (slots : List HandleSlot) (h : ℕ) (o : ObjNo) → look local slots h ≡ Some o → index_of h < length slots
+look_inside local slots h o is = elim (cases_lt (index_of h) (length slots)) [
+  | inl lt ↦ lt
+  | inr past ↦
+      let fresh : slot_at slots (index_of h) ≡ fresh_slot = get_or_past slots (index_of h) fresh_slot past in
+      let none : look local slots h ≡ None = ap (λ (slot : HandleSlot). object_of local slot h) fresh ∙ by (handle_number local (index_of h) 0 == h) in
+      absurd (cc)
+]
+  where
+    by : (b : Bool) → (if b then (let x : Option ObjNo = None in x) else None) ≡ None
+    by true = refl
+    by false = refl
+
+pub index_few : (local : Bool) (slots : List HandleSlot) (h : ℕ) (found : Option ObjNo) → found ≡ look local slots h → length slots ≤ 256 → IfSome found (λ o. index_of h < 256)
+index_few local slots h None is few = tt
+index_few local slots h (Some o) is few = let lt = look_inside local slots h o (sym is) in omega arith

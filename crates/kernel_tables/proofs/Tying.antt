@@ -98,7 +98,7 @@ module _ (s : Lists) (priorities : List ℕ) where
     ranks = λ u. elim (cases_eq t.0 u.0) [
       | inl at ↦
           ap (λ (i : ℕ). get_or (set priorities t.0 p) i 0) (sym at) ∙ (get_or-set_same priorities t.0 p 0 inside
-              ∙ sym (ap priority_of_row (row-here threads t (with_priority p) u.0 at) ∙ ap (λ (x : Option ThreadRow). priority_of_row (option_map (with_priority p) x)) is))
+          ∙ sym (ap priority_of_row (row-here threads t (with_priority p) u.0 at) ∙ ap (λ (x : Option ThreadRow). priority_of_row (option_map (with_priority p) x)) is))
       | inr apart ↦ get_or-set_other priorities t.0 u.0 p 0 (λ q. apart (sym q)) ∙ (tied.ranks u ∙ sym (ap priority_of_row (row-other threads t (with_priority p) u.0 apart)))
     ];
     listed = tied.listed;

@@ -8,12 +8,14 @@ ghost use Rattle.cleanup.specs.Lists.{HasSome, is_object, list_of};
 ghost use Rattle.machine.specs.declared.lock_move.LockMove.{LockMove};
 ghost use Rattle.machine.specs.declared.moves.Move.TheVariants as Move;
 ghost use Rattle.machine.specs.Rows.{owing};
-ghost use Rattle.kernel_tables.specs.LockMoved.{CanGive, CanLock, CanTake};
+ghost use Rattle.kernel_tables.specs.LockMoved.{CanLock};
 ghost use Rattle.kernel_tables.specs.Moved.{IsMoved};
 ghost use Rattle.kernel_tables.specs.Noted.{AreKept};
+ghost use Rattle.kernel_tables.specs.ObjectsView.{IsHeld};
 ghost use Rattle.kernel_tables.specs.StateOf.{state_of};
 
 use crate::duties::owe;
+use crate::object_table::ObjectTable;
 use crate::tables::Tables;
 use cleanup::{Cleanup, Held};
 use entry_log::Holder;
@@ -35,16 +37,22 @@ fn hold(cleanup: &mut Cleanup, thread: ThreadNo, mutex: ObjNo)
 }
 
 /// A thread takes a mutex, and owns it.
-fn take<W: RefWords + Drop>(tables: &mut Tables<W>, thread: ThreadNo, mutex: ObjNo)
-    requires can { CanTake (state_of tables.old) tables.old.cleanup.mutexes thread mutex }
-    requires kept { AreKept tables.old }
-    ensures lists { tables.new.cleanup ≡ record tables.old.cleanup { mutexes = holding tables.old.cleanup.mutexes thread mutex } }
-    ensures rows { tables.new.objects.rows ≡ tables.old.objects.rows }
-    ensures counts { tables.new.objects.counts ≡ slice_set tables.old.objects.counts mutex.0 (slice_index tables.old.objects.counts mutex.0 + 1) }
-    ensures rest { tables.new ≡ record tables.old { cleanup = tables.new.cleanup; objects = tables.new.objects } }
+fn take<W: RefWords + Drop>(
+    cleanup: &mut Cleanup,
+    objects: &mut ObjectTable<W>,
+    thread: ThreadNo,
+    mutex: ObjNo,
+)
+    requires thread { thread.0 < length cleanup.old.duties }
+    requires object { mutex.0 < cleanup.old.objects }
+    requires free { HasSome (is_object mutex) cleanup.old.mutexes → ⊥ }
+    requires held { IsHeld objects.old mutex }
+    ensures lists { cleanup.new ≡ record cleanup.old { mutexes = holding cleanup.old.mutexes thread mutex } }
+    ensures rows { objects.new.rows ≡ objects.old.rows }
+    ensures counts { objects.new.counts ≡ slice_set objects.old.counts mutex.0 (slice_index objects.old.counts mutex.0 + 1) }
 {
-    hold(&mut tables.cleanup, thread, mutex);
-    tables.objects.add_ref(mutex);
+    hold(cleanup, thread, mutex);
+    objects.add_ref(mutex);
 }
 
 /// A thread gives a mutex up, and owes the close of its ownership.
@@ -68,7 +76,7 @@ fn lock<W: RefWords + Drop>(tables: &mut Tables<W>, mutex: ObjNo, thread: Thread
     ensures { (t : ObjNo) → IsMoved t (Move.Locks (LockMove.Lock mutex thread locked)) tables.old tables.new }
 {
     if tables.locks.lock(mutex, thread) == Locked::Taken {
-        take(tables, thread, mutex);
+        take(&mut tables.cleanup, &mut tables.objects, thread, mutex);
     }
 }
 
@@ -87,7 +95,7 @@ fn unlock<W: RefWords + Drop>(
         Unlocked::Freed => give(&mut tables.cleanup, thread, mutex),
         Unlocked::Passed(waiter) => {
             give(&mut tables.cleanup, thread, mutex);
-            take(tables, waiter, mutex);
+            take(&mut tables.cleanup, &mut tables.objects, waiter, mutex);
         }
         Unlocked::Level | Unlocked::NotOwner => {}
     }

@@ -1,7 +1,7 @@
 //! What decisions read of the kernel's tables.
-ghost use Rattle.std.specs.Prelude.{◌≡◌, ◌<◌, ◌≤◌, [], None, IfSome};
+ghost use Rattle.std.specs.Prelude.{◌≡◌, ℕ, ◌<◌, ◌≤◌, [], None, length, IfSome};
 ghost use Rattle.std.specs.List.{slice_index_or};
-ghost use Rattle.state_rows.specs.HandleSlots.{free_index};
+ghost use Rattle.state_rows.specs.HandleSlots.{free_index, slot_at};
 ghost use Rattle.kernel_tables.specs.Noted.{AreKept};
 ghost use Rattle.kernel_tables.specs.StateOf.{slots_of, state_of};
 
@@ -16,7 +16,9 @@ use sym_base::{Items, Kind, Name, ObjNo, ThreadNo};
 
 /// The places of the handle table of a process or a thread, none where there is no such table.
 fn slots_of(handles: &Items<Handles>, owner: ObjNo) -> &[HandleSlot]
-    ensures { result.now ≡ slice_index_or (slots_of handles.now) owner.0 [] }
+    ensures slots { result.now ≡ slice_index_or (slots_of handles.now) owner.0 [] }
+    ensures few { length result.now ≤ 256 }
+    ensures instances { (i : ℕ) → (slot_at result.now i).instance ≤ 16383 }
 {
     match handles.as_slice().get(owner.0 as usize) {
         Some(table) => table.slots(),
@@ -26,7 +28,8 @@ fn slots_of(handles: &Items<Handles>, owner: ObjNo) -> &[HandleSlot]
 
 /// The least free index of the handle table of a process or a thread, the number of its places where none is free.
 fn free_index_of(handles: &Items<Handles>, owner: ObjNo) -> usize
-    ensures { result ≡ free_index (slice_index_or (slots_of handles.now) owner.0 []) }
+    ensures least { result ≡ free_index (slice_index_or (slots_of handles.now) owner.0 []) }
+    ensures inside { result ≤ length (slice_index_or (slots_of handles.now) owner.0 []) }
 {
     match handles.as_slice().get(owner.0 as usize) {
         Some(table) => table.free_index(),

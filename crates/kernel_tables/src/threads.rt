@@ -80,14 +80,9 @@ pub fn threads_advance(procs: &mut Procs, thread: ThreadNo)
     requires { MayAdvance 1 procs.old.threads }
     ensures { procs.new ≡ with_threads procs.old (with_row procs.old.threads thread advanced) }
 {
-    let Some(row) = procs.thread(thread) else {
-        return;
-    };
-    let next = row.next_instruction + 1;
-    procs.set_place(thread, next);
-    procs.set_part(thread, None);
-    procs.set_found(thread, 0);
-    procs.set_uses(thread, None);
+    if procs.is_thread(thread) {
+        procs.advance(thread);
+    }
 }
 
 /// A thread waits for this from now on.

@@ -1,5 +1,5 @@
 //! Writing the row of a thread, field by field.
-ghost use Rattle.std.specs.Prelude.{◌≡◌, ◌<◌, IsTrue, slice_set};
+ghost use Rattle.std.specs.Prelude.{◌≡◌, ◌+◌, ◌<◌, IsTrue, None, slice_set};
 ghost use Rattle.procs.specs.Rows.{is_thread, row_of, with_row};
 
 use crate::Procs;
@@ -85,6 +85,20 @@ impl Procs {
     {
         if let Some(row) = &mut self.threads[t.0 as usize] {
             row.next_instruction = to;
+        }
+    }
+
+    /// A thread goes on to its next instruction, of which nothing is found and used yet, and changes nothing else.
+    pub fn advance(&mut self, t: ThreadNo)
+        requires thread { IsTrue (is_thread self.old t) }
+        requires place { (row_of self.old t).next_instruction < 4294967295 }
+        ensures { self.new ≡ with_row self.old t (record (row_of self.old t) { next_instruction = (row_of self.old t).next_instruction + 1; part = None; found = 0; uses = None }) }
+    {
+        if let Some(row) = &mut self.threads[t.0 as usize] {
+            row.next_instruction += 1;
+            row.part = None;
+            row.found = 0;
+            row.uses = None;
         }
     }
 

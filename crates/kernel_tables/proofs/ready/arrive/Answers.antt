@@ -23,20 +23,3 @@ returns-then-not-is_ready-clause-queues g c =
     let S = state_of c.args.tables.now in
     rw c.in-Some.is (stays_unready c.args.script.now S (priority_of S) c.args.ready.now c.in-Some.thread (sym c.is_ready.ensures ∙ c.if-not-is_ready.true))
 
-pub returns-in-Some-row_of-clause-queues : goal.returns-in-Some-row_of-clause-queues
-returns-in-Some-row_of-clause-queues g c =
-    let S = state_of c.args.tables.now in
-    let t = c.in-Some.thread in
-    let row = c.in-Some-row_of.row in
-    let there : thread_of S t ≡ Some row = sym c.row_of.ensures ∙ c.in-Some-row_of.is in
-    let known = c.requires.known t row there in
-    let own : priority_of S t ≡ row.priority = ap priority_of_row there in
-    let none : is_some c.priority_of.result ≡ false = sym c.is_some.ensures ∙ c.if-is_some.false in
-    rw (c.in-Some.is, c.add.ensures) (comes c.args.script.now S (priority_of S) c.args.ready.now t row.priority (sym c.is_ready.ensures ∙ c.if-not-is_ready.false) (c.priority_of.ensures.none.0 none) known.0 own known.1)
-
-pub returns-in_default-row_of-clause-queues : goal.returns-in_default-row_of-clause-queues
-returns-in_default-row_of-clause-queues g c =
-    let S = state_of c.args.tables.now in
-    let t = c.in-Some.thread in
-    let none : thread_of S t ≡ None = sym c.row_of.ensures ∙ c.in_default-row_of.is in
-    rw c.in-Some.is (stays_rowless c.args.script.now S (priority_of S) c.args.ready.now t none)

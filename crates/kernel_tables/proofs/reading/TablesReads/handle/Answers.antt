@@ -1,0 +1,6 @@
+use Rattle.state_rows.specs.HandleNumbers.{is_local}
+use Rattle.kernel_tables.proofs.Slots.{index_few}
+use Rattle.kernel_tables.proofs.reading.TablesReads.handle.Goals as goal
+
+pub returns-clause-index : goal.returns-clause-index
+returns-clause-index g c = index_few c.is_local.result c.slots_of.result.now c.args.handle c.look.result c.look.ensures c.slots_of.ensures.few
