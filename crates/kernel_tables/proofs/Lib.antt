@@ -1,3 +1,4 @@
+mod Filling
 mod Finds
 pub mod FirstCount
 pub mod GoingActions

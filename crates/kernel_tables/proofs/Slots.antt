@@ -1,6 +1,6 @@
 -- Handle tables as the lists of their places.
 use Rattle.std.proofs.Common.{◌≡◌, ◌∙◌, inl, inr, ℕ, zero, suc, ◌<◌, ◌≤◌, List, [], ◌∷◌, length, get_or, set, refl, sym, ap, arith}
-use Rattle.std.specs.Prelude.{◌==◌, IfSome, is_some, if◌then◌else◌, Bool, true, false, Option, Some, None, slice_get}
+use Rattle.std.specs.Prelude.{◌==◌, ◌+◌, IfSome, is_none, is_some, if◌then◌else◌, Bool, true, false, Option, Some, None, slice_get}
 use Rattle.std.proofs.lemmas.Bool.{cases_lt, ne_eqb}
 use Rattle.std.proofs.lemmas.List.{get_or_past, map-set, set-get_or}
 use Rattle.sym_base.specs.declared.number.ObjNo.{ObjNo}
@@ -57,3 +57,12 @@ look_inside local slots h o is = elim (cases_lt (index_of h) (length slots)) [
 pub index_few : (local : Bool) (slots : List HandleSlot) (h : ℕ) (found : Option ObjNo) → found ≡ look local slots h → length slots ≤ 256 → IfSome found (λ o. index_of h < 256)
 index_few local slots h None is few = tt
 index_few local slots h (Some o) is few = let lt = look_inside local slots h o (sym is) in omega arith
+
+-- the least free place isn't past the end
+pub free_inside : (slots : List HandleSlot) → free_index slots ≤ length slots
+free_inside [] = omega arith
+free_inside (slot ∷ slots) = by (is_none slot.object) (free_inside slots)
+  where
+    by : (free : Bool) → free_index slots ≤ length slots → (if free then 0 else free_index slots + 1) ≤ length (slot ∷ slots)
+    by true later = omega arith
+    by false later = omega arith

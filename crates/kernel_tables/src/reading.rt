@@ -28,8 +28,7 @@ fn slots_of(handles: &Items<Handles>, owner: ObjNo) -> &[HandleSlot]
 
 /// The least free index of the handle table of a process or a thread, the number of its places where none is free.
 fn free_index_of(handles: &Items<Handles>, owner: ObjNo) -> usize
-    ensures least { result ≡ free_index (slice_index_or (slots_of handles.now) owner.0 []) }
-    ensures inside { result ≤ length (slice_index_or (slots_of handles.now) owner.0 []) }
+    ensures { result ≡ free_index (slice_index_or (slots_of handles.now) owner.0 []) }
 {
     match handles.as_slice().get(owner.0 as usize) {
         Some(table) => table.free_index(),

@@ -151,7 +151,8 @@ impl Procs {
     pub fn set_byte(&mut self, p: ObjNo, at: u16, to: u8)
         requires process { IsTrue (is_process self.old p) }
         requires inside { at < 1024 }
-        ensures { self.new ≡ with_process self.old p (slice_set (bytes_of self.old p) at to) }
+        ensures after { self.new ≡ with_process self.old p (slice_set (bytes_of self.old p) at to) }
+        ensures size { length (bytes_of self.old p) ≡ 1024 }
     {
         if let Some(bytes) = &mut self.processes[p.0 as usize] {
             bytes.set(at as usize, to);
