@@ -31,7 +31,7 @@ fn make_with_handle(
     next: Option<NewHandle>,
 )
     requires { IfSome next (λ handle. handle.number < 2147483648) }
-    ensures { decision.new ≡ make_with_handle thread kind name.now (start_moves start) register next }
+    ensures { decision.new ≡ make_with_handle thread kind name.now start register next }
 {
     let Some(handle) = next else {
         return refuse(decision, thread, STEP, Error::Overflow);
@@ -54,7 +54,7 @@ fn create_do<R: Reads>(
     register: u8,
 )
     requires { R.is_readable reads.now }
-    ensures { decision.new ≡ create_do (R.state reads.now) thread row.now kind name.now (start_moves start) register }
+    ensures { decision.new ≡ create_do (R.state reads.now) thread row.now kind name.now start register }
 {
     if reads.is_taken(kind, name) {
         return refuse(decision, thread, STEP, Error::AlreadyExists);

@@ -9,7 +9,7 @@ use Rattle.state_rows.specs.declared.duty.Owed.TheVariants.{Close, Sweep}
 use Rattle.state_rows.specs.declared.object.ObjectRow.{ObjectRow}
 use Rattle.state_rows.specs.ObjectRows.{dead_row}
 use Rattle.machine.specs.declared.moves.Move.{Move}
-use Rattle.machine.specs.declared.moves.Move.TheVariants.{Make, Gain, Lose, Find, Miss, GoOn, Write, Advance, Wait, Wake, SetPriority, Nano, Deferred, Requests, Pay}
+use Rattle.machine.specs.declared.moves.Move.TheVariants.{Make, Gain, Lose, Find, Miss, GoOn, Write, Advance, Wait, Wake, SetPriority, Nano, Deferred, Requests, Locks, Fill, Pay}
 use Rattle.state_rows.specs.declared.handle_slot.HandleSlot.{HandleSlot}
 use Rattle.state_rows.specs.declared.thread.Waiting.TheVariants.{Nothing}
 use Rattle.state_rows.specs.declared.thread.ThreadRow.{ThreadRow}
@@ -21,7 +21,7 @@ use Rattle.machine.specs.References.{is_last}
 use Rattle.machine.specs.Room.{HasRoom, IsSmallTable, AreSmallTables, MayAdvance}
 use Rattle.machine.specs.Rows.{with_row}
 use Rattle.machine.proofs.Lists.Sets.{set_keeps}
-use Rattle.machine.proofs.RowLaws.Tables.{KeepsInstances, taken_keeps, freed_keeps}
+use Rattle.machine.proofs.RowLaws.Tables.{taken_keeps}
 
 -- a row may still go on by so many instructions
 abbrev pub CanGo : ℕ → Option ThreadRow → Type 0
@@ -49,6 +49,16 @@ threads_less m n le threads h k = goes_less m n le (get_or threads k None) (h k)
 row_goes : (f : ThreadRow → ThreadRow) → GoesOn f → (n : ℕ) (threads : List (Option ThreadRow)) (t : ObjNo) → MayAdvance (n + 1) threads → MayAdvance n (with_row threads t f)
 row_goes f goes n threads t h = set_keeps (CanGo n) threads t.0 (option_map f (get_or threads t.0 None)) None (map_goes f goes n (get_or threads t.0 None) (h t.0)) (threads_less n (n + 1) (omega arith) threads h)
 
+-- a change of a slot that leaves its instance small
+abbrev KeepsInstances : (HandleSlot → HandleSlot) → Type 0
+KeepsInstances f = (slot : HandleSlot) → slot.instance ≤ 16383 → (f slot).instance ≤ 16383
+
+taken_small : (o : ObjNo) → KeepsInstances (taken_slot o)
+taken_small o slot few = (taken_keeps o (freed_slot slot) (record { few = few; counted = λ x e. absurd (cc) })).few
+
+freed_small : KeepsInstances freed_slot
+freed_small slot few = few
+
 -- a change of a slot keeps tables small
 small_table : (table : List HandleSlot) (i : ℕ) (f : HandleSlot → HandleSlot) → KeepsInstances f → IsSmallTable table → IsSmallTable (slice_set table i (f (slot_at table i)))
 small_table table i f keeps h = record {
@@ -60,13 +70,13 @@ small_tables : (tables : List (List HandleSlot)) (owner : ObjNo) (i : ℕ) (f : 
 small_tables tables owner i f keeps h = set_keeps IsSmallTable tables owner.0 (slice_set (get_or tables owner.0 []) i (f (slot_at (get_or tables owner.0 []) i))) [] (small_table (get_or tables owner.0 []) i f keeps (h owner.0)) h
 
 tables_gained : (h : Holder) (o : ObjNo) (tables : List (List HandleSlot)) → AreSmallTables tables → AreSmallTables (tables_gain h o tables)
-tables_gained (holder.InProcess p i) o tables small = small_tables tables p i (taken_slot o) (taken_keeps o) small
-tables_gained (holder.InThread t i) o tables small = small_tables tables t i (taken_slot o) (taken_keeps o) small
+tables_gained (holder.InProcess p i) o tables small = small_tables tables p i (taken_slot o) (taken_small o) small
+tables_gained (holder.InThread t i) o tables small = small_tables tables t i (taken_slot o) (taken_small o) small
 tables_gained _ o tables small = small
 
 tables_lost : (h : Holder) (tables : List (List HandleSlot)) → AreSmallTables tables → AreSmallTables (tables_lose h tables)
-tables_lost (holder.InProcess p i) tables small = small_tables tables p i freed_slot freed_keeps small
-tables_lost (holder.InThread t i) tables small = small_tables tables t i freed_slot freed_keeps small
+tables_lost (holder.InProcess p i) tables small = small_tables tables p i freed_slot freed_small small
+tables_lost (holder.InThread t i) tables small = small_tables tables t i freed_slot freed_small small
 tables_lost _ tables small = small
 
 -- changes of a row that stay at the instruction
@@ -145,6 +155,8 @@ room_moved t (SetPriority u priority) n S room = with_threads n S (moved t (SetP
 room_moved t (Nano m) n S room = with_threads n S (moved t (Nano m) S) refl refl (threads_less n (n + 1) (omega arith) S.threads room.instructions) room
 room_moved t (Deferred m) n S room = with_threads n S (moved t (Deferred m) S) refl refl (threads_less n (n + 1) (omega arith) S.threads room.instructions) room
 room_moved t (Requests m) n S room = with_threads n S (moved t (Requests m) S) refl refl (threads_less n (n + 1) (omega arith) S.threads room.instructions) room
+room_moved t (Locks m) n S room = with_threads n S (moved t (Locks m) S) refl refl (threads_less n (n + 1) (omega arith) S.threads room.instructions) room
+room_moved t (Fill p at long byte) n S room = with_threads n S (moved t (Fill p at long byte) S) refl refl (threads_less n (n + 1) (omega arith) S.threads room.instructions) room
 room_moved t (Pay (Close h o)) n S room = record {
   objects = let few = room.objects in let long = length_closed (is_last S o) o S.objects in omega arith;
   instructions = threads_unlinked (is_last S o) o n S.threads (threads_less n (n + 1) (omega arith) S.threads room.instructions);

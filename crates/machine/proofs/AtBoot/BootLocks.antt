@@ -8,16 +8,15 @@ use Rattle.script_types.specs.declared.script.Script.{Script}
 use Rattle.script_types.specs.Shape.{IsShaped}
 use Rattle.state_rows.specs.Locks.{is_among}
 use Rattle.state_rows.specs.LockChanges.{new_rows}
-use Rattle.state_rows.specs.declared.duty.Owed.{Owed}
 use Rattle.state_rows.specs.declared.locks.Owner.{Owner}
 use Rattle.state_rows.specs.declared.thread.ThreadRow.{ThreadRow}
 use Rattle.machine.specs.declared.boot.Born.{Born}
 use Rattle.machine.specs.Boot.{born, memory_of, memory_of_row}
 use Rattle.machine.specs.References.{total, mutex_names}
-use Rattle.machine.specs.WellFormed.{AreLocks, AreMemories, times_held}
+use Rattle.machine.specs.WellFormed.{AreLocks, AreMemories}
 use Rattle.machine.proofs.Lists.Copies.{copy_at}
 use Rattle.machine.proofs.AtBoot.BootLinks.{each_linked, linked_at}
-use Rattle.machine.proofs.AtBoot.Born.{EachBorn, each_born, born_row}
+use Rattle.machine.proofs.AtBoot.Born.{each_born, born_row}
 
 -- each has nothing
 pub nothing_at : {A : Type 0} (bs : List Born) (P : List A → Type 0) (k : ℕ) → P [] → P (get_or (map (λ _. []) bs) k [])

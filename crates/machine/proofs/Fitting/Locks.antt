@@ -1,5 +1,5 @@
 -- The steps of mutexes and semaphores.
-use Rattle.std.proofs.Common.{◌≡◌, ℕ, arith, refl, sym, ap, ◌∙◌, Option, Some, None, true, false}
+use Rattle.std.proofs.Common.{◌≡◌, ℕ, arith, refl, sym, ap, ◌∙◌, Option, Some, None, false}
 use Rattle.std.specs.Prelude.{pos, ◌==◌, [], ◌∷◌, is_some, option_map}
 use Rattle.std.proofs.lemmas.Bool.{eq-eqb}
 use Rattle.sym_base.specs.declared.error.Error.TheVariants as error
@@ -38,10 +38,11 @@ use Rattle.machine.specs.Task.{is_returning}
 use Rattle.machine.specs.WellFormed.{IsAlive, is_before_use, part_of}
 use Rattle.machine.proofs.Holders.ThreadRows.{row-here}
 use Rattle.machine.proofs.Lists.Cases.{if_cases}
+use Rattle.machine.proofs.Readiness.FirstReady.{greatest_listed}
 use Rattle.machine.proofs.Fitting.KernelThreads.{fits-answer, fits-look_kind, fits-unless}
 use Rattle.machine.proofs.Fitting.Living.{alive_inside, use_is_alive}
 use Rattle.machine.proofs.Fitting.Stepping.{FitsDecision, IsStepping, fits-answers, fits-nothing, fits-refuse, at_instruction, at-with_row}
-use Rattle.machine.proofs.Fitting.Waiters.{best_among, passed_is, stepping_nowhere, struck_nowhere, woke_is}
+use Rattle.machine.proofs.Fitting.Waiters.{passed_is, stepping_nowhere, struck_nowhere, woke_is}
 
 -- an answer after a move in the rows of mutexes and semaphores, and where a waiter goes on after it
 fits-locked : {script : Script} {S : State} {t : ObjNo} {row : ThreadRow} {instr : Instr} (told : Step) (m : LockMove) → IsStepping script S t row instr → FitsLocks t m S → FitsDecision script t S (answer t told (move.Locks m ∷ []) (pos 0))
@@ -89,15 +90,15 @@ fits-lock x (Some _) h at = fits-answer (Of word.Lock part.Done) (pos 0) h
 fits-unlock_by : {script : Script} {S : State} {t : ObjNo} {row : ThreadRow} {instr : Instr} (o : ObjNo) (unlocked : Unlocked) → IsStepping script S t row instr → is_returning row.part ≡ false → IsAlive (object_of S o)
     → unlocked ≡ unlock_answer (owner_at S.locks o) t (best_waiter (priority_of S) S.locks o) → FitsDecision script t S (unlock_by t o unlocked)
 fits-unlock_by {script = script} {S = S} {t = t} {row = row} o unlocked h going alive e = by unlocked (
-    refl,
-    record {
-      object = alive_inside S.objects o.0 alive;
-      thread = ap is_some h.is;
-      nowhere = stepping_nowhere h;
-      going = ap (λ (r : Option ThreadRow). is_returning (part_of r)) h.is ∙ going;
-      answer = e;
-    },
-  )
+  refl,
+  record {
+    object = alive_inside S.objects o.0 alive;
+    thread = ap is_some h.is;
+    nowhere = stepping_nowhere h;
+    going = ap (λ (r : Option ThreadRow). is_returning (part_of r)) h.is ∙ going;
+    answer = e;
+  },
+)
   where
     by : (u : Unlocked) → FitsLocks t (Unlock o t u) S → FitsDecision script t S (unlock_by t o u)
     by NotOwner fits = fits-refuse (Of word.Unlock part.Do) error.General h
@@ -105,7 +106,7 @@ fits-unlock_by {script = script} {S = S} {t = t} {row = row} o unlocked h going 
     by Freed fits = fits-locked (Of word.Unlock part.Do) (Unlock o t Freed) h fits
     by (Passed w) fits =
         let best = passed_is (owner_at S.locks o) t (best_waiter (priority_of S) S.locks o) w (sym fits.1.answer) in
-        fits-woken (Of word.Unlock part.Do) (Unlock o t (Passed w)) w h fits (struck_nowhere script S o w h.rows (best_among (priority_of S) (waiters_at S.locks o) w best))
+        fits-woken (Of word.Unlock part.Do) (Unlock o t (Passed w)) w h fits (struck_nowhere script S o w h.rows (greatest_listed (priority_of S) (waiters_at S.locks o) w best))
 
 fits-unlock_do : {script : Script} {S : State} {t : ObjNo} {row : ThreadRow} {instr : Instr} (uses : Option ObjNo) → IsStepping script S t row instr → is_returning row.part ≡ false → row.uses ≡ uses → FitsDecision script t S (unlock_do S t uses)
 fits-unlock_do {script = script} {S = S} {t = t} None h going e = fits-nothing script S t
@@ -140,7 +141,7 @@ fits-signal_by {script = script} {S = S} {t = t} o answer h alive e = by answer 
     by signalled.Counted fits = fits-locked (Of word.Signal part.Do) (Signal o signalled.Counted) h fits
     by (signalled.Woke w) fits =
         let best = woke_is (best_waiter (priority_of S) S.locks o) (count_at S.locks o) w (sym fits.answer) in
-        fits-woken (Of word.Signal part.Do) (Signal o (signalled.Woke w)) w h fits (struck_nowhere script S o w h.rows (best_among (priority_of S) (waiters_at S.locks o) w best))
+        fits-woken (Of word.Signal part.Do) (Signal o (signalled.Woke w)) w h fits (struck_nowhere script S o w h.rows (greatest_listed (priority_of S) (waiters_at S.locks o) w best))
 
 fits-signal_do : {script : Script} {S : State} {t : ObjNo} {row : ThreadRow} {instr : Instr} (uses : Option ObjNo) → IsStepping script S t row instr → row.uses ≡ uses → FitsDecision script t S (signal_do S t uses)
 fits-signal_do {script = script} {S = S} {t = t} None h e = fits-nothing script S t

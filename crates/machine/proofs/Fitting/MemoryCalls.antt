@@ -1,5 +1,5 @@
 -- The steps of `fill` and `peek`.
-use Rattle.std.proofs.Common.{◌≡◌, ℕ, ◌+◌, ◌≤◌, arith, refl, false}
+use Rattle.std.proofs.Common.{ℕ, ◌+◌, arith}
 use Rattle.std.specs.Prelude.{pos, nat_lt, [], ◌∷◌}
 use Rattle.std.proofs.lemmas.Bool.{ltb-false}
 use Rattle.sym_base.specs.declared.error.Error.TheVariants.{Argument}

@@ -1,5 +1,5 @@
 -- The steps of each instruction.
-use Rattle.std.proofs.Common.{◌≡◌, ◌≢◌, ℕ, ◌<◌, ◌≤◌, List, [], ◌∷◌, length, get_or, arith, refl, ap, ◌∙◌, Option, Some, None, Bool, true, false}
+use Rattle.std.proofs.Common.{◌≡◌, ◌≢◌, ℕ, ◌<◌, ◌≤◌, List, ◌∷◌, length, get_or, arith, refl, ap, ◌∙◌, Option, Some, None, Bool, true, false}
 use Rattle.std.proofs.lemmas.Bool.{eq-eqb}
 use Rattle.std.proofs.lemmas.List.{length_push}
 use Rattle.std.specs.Prelude.{◌==◌, if◌then◌else◌, is_some, slice_index}
@@ -80,12 +80,15 @@ fits-create_mutex name x h = fits-create Mutex name None x h h.registers refl (�
 
 pub fits-create_semaphore : {script : Script} {S : State} {t : ObjNo} {row : ThreadRow} (name : List ℕ) (count x : ℕ) → IsStepping script S t row (instr.CreateSemaphore name count x) → FitsDecision script t S (create_semaphore_do S t row name count x)
 fits-create_semaphore {S = S} name count x h = fits-create Semaphore name (Some (Start (next_object S) count)) x h h.registers refl (λ i. record {
-  each = (record {
-    object = let longer = length_push S.objects (Some (new_object Semaphore name)) in omega arith;
-    few = count_few name count x h.ranges;
-    free = h.rows.locks.owners_made (next_object S) (omega arith);
-    alone = h.rows.locks.waiters_made (next_object S) (omega arith);
-  }, tt);
+  each = (
+    record {
+      object = let longer = length_push S.objects (Some (new_object Semaphore name)) in omega arith;
+      few = count_few name count x h.ranges;
+      free = h.rows.locks.owners_made (next_object S) (omega arith);
+      alone = h.rows.locks.waiters_made (next_object S) (omega arith);
+    },
+    tt,
+  );
   threads = refl;
 })
 

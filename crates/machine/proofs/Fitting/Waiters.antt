@@ -1,18 +1,16 @@
 -- Who may come to stand among waiters, and who stands nowhere once it is struck.
-use Rattle.std.proofs.Common.{◌≡◌, inl, inr, ℕ, suc, zero, ◌<◌, List, [], ◌∷◌, length, get_or, arith, refl, sym, ap, subst, ◌∙◌, Option, Some, None, Bool, true, false}
-use Rattle.std.specs.Prelude.{not, ◌==◌, if◌then◌else◌, nat_lt, slice_get, slice_set}
-use Rattle.std.proofs.lemmas.Bool.{cases_eq, cases_lt, eq-eqb, or_from, or_left, or_right}
+use Rattle.std.proofs.Common.{◌≡◌, inl, inr, ℕ, ◌<◌, List, [], ◌∷◌, length, get_or, refl, sym, ap, subst, ◌∙◌, Option, Some, None, Bool, true, false}
+use Rattle.std.specs.Prelude.{not, ◌==◌, if◌then◌else◌, nat_lt, slice_set}
+use Rattle.std.proofs.lemmas.Bool.{cases_eq, cases_lt, or_from}
 use Rattle.std.proofs.lemmas.List.{get_or-set_same, get_or-set_other, get_or_past}
-use Rattle.sym_base.specs.Greatest.{first_of_greatest}
 use Rattle.sym_base.specs.declared.number.ObjNo.{ObjNo}
-use Rattle.sym_base.proofs.Greatest.{is_first_of_greatest}
 use Rattle.script_types.specs.declared.script.Script.{Script}
 use Rattle.script_types.specs.declared.instruction.Instr.{Instr}
 use Rattle.state_rows.specs.Locks.{is_among, waiters_at, without}
 use Rattle.state_rows.specs.LockChanges.{passed, signal_answer, unlock_answer}
 use Rattle.state_rows.specs.declared.locks.Owner.{Owner}
 use Rattle.state_rows.specs.declared.locks.Signalled.TheVariants.{Counted, Woke, Overflow}
-use Rattle.state_rows.specs.declared.locks.Unlocked.TheVariants.{Level, Freed, Passed, NotOwner}
+use Rattle.state_rows.specs.declared.locks.Unlocked.TheVariants.{Level, Passed, NotOwner}
 use Rattle.state_rows.specs.declared.thread.Waiting.TheVariants as waiting
 use Rattle.state_rows.specs.declared.thread.ThreadRow.{ThreadRow}
 use Rattle.machine.specs.declared.state.State.{State}
@@ -35,15 +33,6 @@ waits_nowhere script S u row rows is not_for o = not_true (is_among u (waiters_a
 
 pub stepping_nowhere : {script : Script} {S : State} {t : ObjNo} {row : ThreadRow} {instr : Instr} → IsStepping script S t row instr → WaitsNowhere S t
 stepping_nowhere {script = script} {S = S} {t = t} {row = row} h = waits_nowhere script S t row h.rows h.is (λ o e. let nothing = h.waits in absurd (cc))
-
--- the best waiter is among the waiters
-among_at : (queue : List ObjNo) (k : ℕ) (w : ObjNo) → slice_get queue k ≡ Some w → is_among w queue ≡ true
-among_at [] k w at = absurd (cc)
-among_at (x ∷ xs) zero w at = let same : x ≡ w = cc in or_left (x.0 == w.0) (is_among w xs) (eq-eqb x.0 w.0 (ap (λ (o : ObjNo). o.0) same))
-among_at (x ∷ xs) (suc k) w at = or_right (x.0 == w.0) (is_among w xs) (among_at xs k w at)
-
-pub best_among : (weight : ObjNo → ℕ) (queue : List ObjNo) (w : ObjNo) → first_of_greatest weight queue ≡ Some w → is_among w queue ≡ true
-best_among weight queue w best = let first = is_first_of_greatest weight queue w best in among_at queue first.place w first.at
 
 -- a mutex is passed to the best waiter, and a signal wakes it
 pub passed_is : (owner : Option Owner) (t : ObjNo) (best : Option ObjNo) (w : ObjNo) → unlock_answer owner t best ≡ Passed w → best ≡ Some w

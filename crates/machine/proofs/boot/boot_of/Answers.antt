@@ -13,7 +13,6 @@ use Rattle.state_rows.specs.declared.object.ObjectRow.{ObjectRow}
 use Rattle.state_rows.specs.declared.requests.RequestRows.{RequestRows}
 use Rattle.state_rows.specs.declared.thread.ThreadRow.{ThreadRow}
 use Rattle.machine.specs.declared.boot.Born.{Born}
-use Rattle.machine.specs.declared.state.State.{State}
 use Rattle.machine.specs.Boot.{boot_of, memory_of, nano_of, ready_from}
 use Rattle.machine.proofs.boot.boot_of.Goals as goal
 
