@@ -90,12 +90,12 @@ fn tell_lock(effects: &mut Effects, change: LockMove)
 }
 
 /// Tells a move, from the state before it, behind the effects so far.
-pub fn tell<R: Reads>(effects: &mut Effects, reads: &R, change: Move)
+pub fn tell<R: Reads>(effects: &mut Effects, reads: &R, change: &Move)
     requires readable { R.is_readable reads.now }
-    requires few { length effects.old + length (told change (R.state reads.now)) ≤ 4 }
-    ensures { effects.new ≡ effects.old ++ told change (R.state reads.now) }
+    requires few { length effects.old + length (told change.now (R.state reads.now)) ≤ 4 }
+    ensures { effects.new ≡ effects.old ++ told change.now (R.state reads.now) }
 {
-    match change {
+    match *change {
         Move::Make(_, _, holder) => {
             let object = ObjNo(reads.objects_made() as u16);
             effects.push(Effect::Plus(holder, object));

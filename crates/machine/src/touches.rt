@@ -32,10 +32,10 @@ pub fn thread_of_queue(queue: u8) -> ThreadNo
 }
 
 /// The threads whose readiness a move in an action of a thread may change.
-pub fn touched(thread: ThreadNo, change: Move) -> TouchedThreads
-    ensures { threads_of result ≡ touched thread change }
+pub fn touched(thread: ThreadNo, change: &Move) -> TouchedThreads
+    ensures { threads_of result ≡ touched thread change.now }
 {
-    match change {
+    match *change {
         Move::Lose(_, _) | Move::Pay(Owed::Close(_, _)) => one(thread),
         Move::GoOn(other, _)
         | Move::Advance(other)

@@ -6,7 +6,7 @@ use Rattle.script_types.specs.declared.declaration.Op.{Op}
 use Rattle.script_types.specs.declared.script.Script.{Script}
 use Rattle.machine.specs.declared.moves.Move.{Move}
 use Rattle.machine.specs.declared.state.State.{State}
-use Rattle.readings.specs.Readable.{AreSmallRows, IsReadable}
+use Rattle.readings.specs.Readable.{AreSmallRows}
 use Rattle.machine.specs.Arrivals.{arrive, arrivals, touched, taken_out}
 use Rattle.machine.specs.Bodies.{op_moves, ops_moves}
 use Rattle.machine.specs.Moves.{moved, told, perform, tell}

@@ -18,7 +18,7 @@ use Rattle.state_rows.specs.declared.handle_slot.HandleSlot.{HandleSlot}
 use Rattle.state_rows.specs.declared.thread.Role.{Role}
 use Rattle.state_rows.specs.declared.thread.Role.TheVariants.{Supervisor, Queue, Declared}
 use Rattle.machine.specs.declared.state.State.{State}
-use Rattle.machine.specs.History.{transition, entry_of, IsNext, CanAct, after}
+use Rattle.machine.specs.History.{transition, entry_of, IsNext, CanAct}
 use Rattle.plain_machine.specs.PlainView.{IsPlain}
 use Rattle.plain_machine.specs.Allowed.{TellsFew, AllowsAction}
 use Rattle.state_rows.specs.Deferred.{next_immediate}

@@ -35,10 +35,10 @@ fn make_moves(
     ensures course { OnOk result (course.new ≡ course_after script.now thread moves.now state.old course.old) }
 {
     for change in moves {
-        tell(&mut course.effects, state, *change);
+        tell(&mut course.effects, state, change);
         make_move(alloc, state, thread, *change)?;
         take_out(alloc, *change, &mut course.ready)?;
-        arrive_touched(script, state, touched(thread, *change), &mut course.ready)?;
+        arrive_touched(script, state, touched(thread, change), &mut course.ready)?;
     }
     Ok(())
 }

@@ -1,5 +1,5 @@
 //! The memory of processes, on the plain machine's lists.
-ghost use Rattle.std.specs.Prelude.{◌≡◌, ◌++◌, IfOk, OnOk, replicate};
+ghost use Rattle.std.specs.Prelude.{◌≡◌, ◌+◌, ◌≤◌, ◌++◌, IfOk, OnOk, replicate};
 ghost use Rattle.std.specs.List.{slice_index_or};
 ghost use Rattle.machine.specs.Memory.{filled, with_memory};
 

@@ -13,7 +13,7 @@ use crate::requests::make_request_move;
 use entry_log::Holder;
 use machine::{
     HandleSlot, Move, Owed, State, Waiting, drop_first_owed, is_last, object_of, owe_close,
-    owe_use, set_row, set_slot, table_of, thread_of, threads_advance, threads_closed, threads_find,
+    owe_use, set_row, set_slot, table_of, thread_in, threads_advance, threads_closed, threads_find,
     threads_gain, threads_go_on, threads_lose, threads_set_priority, threads_wait, threads_write,
 };
 use state_rows::{ObjectRow, dead_row, next_instance, slot_at};
@@ -81,14 +81,14 @@ fn close_object(state: &mut State, last: bool, object: ObjNo)
 fn link_of(state: &State, object: ObjNo) -> Option<ObjNo>
     ensures { result ≡ link_of state.now object }
 {
-    thread_of(state, object)?.link
+    thread_in(&state.threads, object)?.link
 }
 
 /// The object that a thread's instruction uses.
 fn use_of(state: &State, thread: ThreadNo) -> Option<ObjNo>
     ensures { result ≡ use_of state.now thread }
 {
-    thread_of(state, thread)?.uses
+    thread_in(&state.threads, thread)?.uses
 }
 
 /// Makes an object, whose first reference is the holder's.

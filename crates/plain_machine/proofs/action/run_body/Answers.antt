@@ -1,4 +1,4 @@
-use Rattle.std.proofs.Common.{◌≤◌, List, length, ap, subst, sym, arith, ◌∙◌}
+use Rattle.std.proofs.Common.{◌≤◌, List, length, ap, subst, sym, arith}
 use Rattle.script_types.specs.declared.declaration.Op.{Op}
 use Rattle.machine.specs.declared.moves.Move.{Move}
 use Rattle.machine.proofs.Fitting.Bodies.{short_body}

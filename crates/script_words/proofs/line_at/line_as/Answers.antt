@@ -3,7 +3,7 @@ use Rattle.script_words.specs.Pieces.{pieces}
 use Rattle.script_words.specs.Signs.{has_form, is_in_range}
 use Rattle.script_words.proofs.Tested.{tested}
 use Rattle.script_words.proofs.WordFaults.{passed}
-use Rattle.script_words.proofs.line_as.line_as.Goals as goal
+use Rattle.script_words.proofs.line_at.line_as.Goals as goal
 
 pub tested_line-requires : goal.tested_line-requires
 tested_line-requires c =

@@ -1,7 +1,7 @@
 use Rattle.std.proofs.Common.{rules, tests}
 use Rattle.script_types.specs.declared.keyword.Keyword.TheVariants as key
 use Rattle.script_words.proofs.FormPlaces.{at_keyword}
-use Rattle.script_words.proofs.line_as.tested_line.Goals as goal
+use Rattle.script_words.proofs.line_at.tested_line.Goals as goal
 
 pub returns-in-Pool : goal.returns-in-Pool
 returns-in-Pool c = at_keyword key.Pool _ _ c.in-Pool.is (search (rules, tests))
