@@ -31,8 +31,8 @@ all_made f (x ∷ xs) = ap (λ l. f x ∷ l) (all_made f xs)
 
 pub made_long : {A : Type 0} (f : Option ThreadRow → Option A) (xs : List (Option ThreadRow)) (n : ℕ) → length (made_so_far f xs n) ≡ length xs
 made_long f [] n = refl
-made_long f (x ∷ xs) zero = ap (λ k. k + 1) (made_long f xs zero)
-made_long f (x ∷ xs) (suc n) = ap (λ k. k + 1) (made_long f xs n)
+made_long f (x ∷ xs) zero = ap suc (made_long f xs zero)
+made_long f (x ∷ xs) (suc n) = ap suc (made_long f xs n)
 
 -- the next isn't made yet
 pub not_made : {A : Type 0} (f : Option ThreadRow → Option A) (xs : List (Option ThreadRow)) (n : ℕ) → get_or (made_so_far f xs n) n None ≡ None
@@ -60,7 +60,7 @@ pub record RankedTo (locks : KernelLocks) (threads : List (Option ThreadRow)) (n
   pub done : (k : ℕ) → k < n → get_or locks.priorities k 0 ≡ priority_of_row (get_or threads k None)
   pub later : (k : ℕ) → n ≤ k → get_or locks.priorities k 0 ≡ 0
 
-zeros : (n k : ℕ) → get_or (replicate n 0) k 0 ≡ 0
+zeros : (n k : ℕ) → let none : ℕ = 0 in get_or (replicate n none) k none ≡ none
 zeros zero k = refl
 zeros (suc n) zero = refl
 zeros (suc n) (suc k) = zeros n k
@@ -68,7 +68,7 @@ zeros (suc n) (suc k) = zeros n k
 pub none_ranked : (locks : KernelLocks) (threads : List (Option ThreadRow)) → locks ≡ new_locks OBJECTS BOOT_OBJECTS → RankedTo locks threads 0
 none_ranked locks threads is = record {
   rows = ap (λ (l : KernelLocks). l.rows) is;
-  long = ap (λ (l : KernelLocks). length l.priorities) is ∙ length-replicate {A = ℕ};
+  long = ap (λ (l : KernelLocks). length l.priorities) is ∙ length-replicate {A = ℕ} BOOT_OBJECTS 0;
   done = λ k lt. absurd (omega arith);
   later = λ k past. ap (λ (l : KernelLocks). get_or l.priorities k 0) is ∙ zeros BOOT_OBJECTS k;
 }

@@ -1,5 +1,16 @@
--- The table of objects at boot.
-use Rattle.std.specs.Prelude.{◌≡◌, ℕ, ◌<◌, ◌≤◌, false, List, length, map, take, Option, Some, slice_get, slice_index}
+-- The tables at boot.
+use Rattle.std.specs.Prelude.{◌≡◌, ℕ, ◌<◌, ◌≤◌, false, List, [], length, map, replicate, take, Option, Some, None, slice_get, slice_index}
+use Rattle.sym_base.specs.declared.limits.TheConstants.Limits.{BOOT_OBJECTS, DEVICES, HANDLES, OBJECTS}
+use Rattle.script_types.specs.declared.script.Script.{Script}
+use Rattle.state_rows.specs.DeclaredCalls.{calls_of}
+use Rattle.state_rows.specs.HandleSlots.{fresh_slot}
+use Rattle.state_rows.specs.LockChanges.{new_rows as lock_rows}
+use Rattle.state_rows.specs.RequestChanges.{new_rows as request_rows}
+use Rattle.machine.specs.Boot.{memory_of_row, nano_of}
+use Rattle.kernel_tables.specs.declared.tables.Tables.{Tables}
+use Rattle.kernel_tables.specs.Noted.{AreRanked}
+use Rattle.kernel_tables.specs.ObjectsView.{ObjectsView}
+use Rattle.kernel_tables.specs.StateOf.{slots_of}
 use Rattle.state_rows.specs.declared.object.ObjectRow.{ObjectRow}
 use Rattle.state_rows.specs.ObjectRows.{is_session, is_taken}
 use Rattle.machine.specs.declared.boot.Born.{Born}
@@ -18,3 +29,19 @@ pub record FirstStand (all : List Born) (S : State) (rows : List (Option ObjectR
   pub rows_are : rows ≡ take n (map (λ (b : Born). Some b.object) all)
   pub counted : (k : ℕ) → k < n → slice_index counts k ≡ count_of S (record { 0 = k })
   pub none : (k : ℕ) → n ≤ k → slice_index counts k ≡ 0
+
+-- the tables of what stands at boot, over its objects: nothing is owed, held, queued or waited for
+pub record AreTables {W N : Type 0} (script : Script) (all : List Born) (S : State) (made : ObjectsView) (tables : Tables W N) : Type 0 where
+  pub objects : tables.objects ≡ made
+  pub procs : tables.procs ≡ record { threads = S.threads; processes = map memory_of_row S.threads }
+  pub handles : slots_of tables.handles ≡ map (λ _. replicate HANDLES fresh_slot) all
+  pub locks : tables.locks.rows ≡ lock_rows OBJECTS
+  pub ranks : AreRanked tables.locks.priorities S.threads
+  pub ranked : length tables.locks.priorities ≡ BOOT_OBJECTS
+  pub owed : tables.cleanup.duties ≡ map (λ _. []) all
+  pub uses : tables.cleanup.temporary ≡ replicate (length all) None
+  pub mutexes : tables.cleanup.mutexes ≡ map (λ _. []) all
+  pub listed : tables.cleanup.objects ≡ OBJECTS
+  pub nano : tables.nano ≡ nano_of script.fast all
+  pub deferred : tables.deferred ≡ calls_of script
+  pub requests : tables.requests ≡ request_rows (length all) DEVICES

@@ -16,7 +16,7 @@ ghost use Rattle.machine.specs.References.{count_of};
 ghost use Rattle.machine.specs.WellFormed.{AreApart};
 ghost use Rattle.state_rows.specs.Nano.{suspend_count};
 ghost use Rattle.state_rows.specs.RequestChanges.{new_rows as request_rows};
-ghost use Rattle.kcore.specs.BootTable.{AreNew, FirstStand};
+ghost use Rattle.kcore.specs.BootTable.{AreNew, AreTables, FirstStand};
 ghost use Rattle.kernel_tables.specs.Noted.{AreKept, AreRanked};
 ghost use Rattle.kernel_tables.specs.ReadyQueues.{AreReady};
 ghost use Rattle.kernel_tables.specs.StateOf.{slots_of, state_of, with_ready};
@@ -153,19 +153,7 @@ fn tables_of<W: RefWords + Drop>(
     requires shaped { IsShaped script.now }
     requires few { length all.now < 65536 }
     requires known { length state.now.threads ≤ BOOT_OBJECTS }
-    ensures objects { IfOk result (λ tables. tables.objects ≡ objects) }
-    ensures procs { IfOk result (λ tables. tables.procs ≡ record { threads = state.now.threads; processes = map memory_of_row state.now.threads }) }
-    ensures handles { IfOk result (λ tables. slots_of tables.handles ≡ map (λ _. replicate HANDLES fresh_slot) all.now) }
-    ensures locks { IfOk result (λ tables. tables.locks.rows ≡ lock_rows OBJECTS) }
-    ensures ranks { IfOk result (λ tables. AreRanked tables.locks.priorities state.now.threads) }
-    ensures ranked { IfOk result (λ tables. length tables.locks.priorities ≡ BOOT_OBJECTS) }
-    ensures mutexes { IfOk result (λ tables. tables.cleanup.mutexes ≡ map (λ _. []) all.now) }
-    ensures listed { IfOk result (λ tables. tables.cleanup.objects ≡ OBJECTS) }
-    ensures owed { IfOk result (λ tables. tables.cleanup.duties ≡ map (λ _. []) all.now) }
-    ensures uses { IfOk result (λ tables. tables.cleanup.temporary ≡ replicate (length all.now) None) }
-    ensures nano { IfOk result (λ tables. tables.nano ≡ nano_of script.now.fast all.now) }
-    ensures deferred { IfOk result (λ tables. tables.deferred ≡ calls_of script.now) }
-    ensures requests { IfOk result (λ tables. tables.requests ≡ request_rows (length all.now) DEVICES) }
+    ensures { IfOk result (λ tables. AreTables script.now all.now state.now objects tables) }
 {
     let handles = fresh_handles(alloc, all)?;
     let cleanup = empty_lists(alloc, all)?;

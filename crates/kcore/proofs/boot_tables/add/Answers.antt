@@ -3,6 +3,7 @@ use Rattle.std.specs.Prelude.{is_some}
 use Rattle.std.proofs.lemmas.List.{set-get_or}
 use Rattle.state_rows.specs.declared.thread.ThreadRow.{ThreadRow}
 use Rattle.procs.specs.ProcsRows.{ProcsRows}
+use Rattle.procs.specs.Rows.{no_bytes}
 use Rattle.kcore.proofs.BootProcs.{none_of}
 use Rattle.kcore.proofs.boot_tables.add.Goals as goal
 
@@ -18,4 +19,4 @@ returns-in-None c =
     let old = c.args.procs.now in
     let n = c.args.number.0 in
     let none = none_of (get_or old.threads n None) c.requires.no_thread in
-    rw c.in-None.is (c.add_process.ensures ∙ ap (λ (l : List (Option ThreadRow)). let rows : ProcsRows = record { threads = l; processes = c.add_process.new.procs.processes } in rows) (sym (ap (set old.threads n) (sym none) ∙ set-get_or old.threads n None)))
+    rw c.in-None.is (c.add_process.ensures ∙ ap (λ (l : List (Option ThreadRow)). let rows : ProcsRows = record { threads = l; processes = set old.processes n (Some no_bytes) } in rows) (sym (ap (set old.threads n) (sym none) ∙ set-get_or old.threads n None)))

@@ -1,4 +1,4 @@
-use Rattle.std.proofs.Common.{◌≤◌, length, arith, subst, sym}
+use Rattle.std.proofs.Common.{◌+◌, ◌≤◌, length, arith, subst, sym}
 use Rattle.kern_sync.specs.KernelLocks.{KernelLocks}
 use Rattle.kcore.proofs.BootProcs.{RankedTo, none_ranked, one_ranked, all_ranked}
 use Rattle.kcore.proofs.boot_tables.locks_of.Goals as goal
@@ -17,7 +17,7 @@ loop-number-preserved c =
     let lt = c.loop-number-test.true in
     let few = c.requires in
     let long = c.loop-number.invariant.long in
-    subst (λ (l : KernelLocks). RankedTo l c.args.state.now.threads _) (sym c.set_priority.ensures) (one_ranked c.loop-number.locks c.args.state.now.threads c.loop-number.number c.priority_of.result (omega arith) c.priority_of.ensures c.loop-number.invariant)
+    subst (λ (l : KernelLocks). RankedTo l c.args.state.now.threads (c.loop-number.number + 1)) (sym c.set_priority.ensures) (one_ranked c.loop-number.locks c.args.state.now.threads c.loop-number.number c.priority_of.result (omega arith) c.priority_of.ensures c.loop-number.invariant)
 
 pub returns-clause-rows : goal.returns-clause-rows
 returns-clause-rows c = c.loop-number.invariant.rows
