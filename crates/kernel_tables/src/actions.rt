@@ -35,9 +35,9 @@ pub fn perform<W: RefWords + Drop>(
     ensures performed { IsPerformed script.now thread moves.now tables.old tables.new ready.old ready.new effects.old effects.new }
 {
     for change in moves {
-        tell(effects, tables, *change);
-        make_move(tables, thread, *change);
-        take_out(ready, *change);
-        arrive_touched(script, tables, ready, touched(thread, *change));
+        tell(effects, tables, change);
+        make_move(tables, thread, change);
+        take_out(ready, change);
+        arrive_touched(script, tables, ready, touched(thread, change));
     }
 }

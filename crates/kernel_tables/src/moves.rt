@@ -200,12 +200,12 @@ fn pay<W: RefWords + Drop>(tables: &mut Tables<W>, thread: ThreadNo, what: Owed)
 }
 
 /// One move in an action of a thread.
-pub fn make_move<W: RefWords + Drop>(tables: &mut Tables<W>, thread: ThreadNo, change: Move)
-    requires can { CanMove thread change (state_of tables.old) }
+pub fn make_move<W: RefWords + Drop>(tables: &mut Tables<W>, thread: ThreadNo, change: &Move)
+    requires can { CanMove thread change.now (state_of tables.old) }
     requires kept { AreKept tables.old }
-    ensures { IsMoved thread change tables.old tables.new }
+    ensures { IsMoved thread change.now tables.old tables.new }
 {
-    match change {
+    match *change {
         Move::Make(kind, name, holder) => make(tables, kind, name, holder),
         Move::Gain(holder, object) => gain(tables, holder, object),
         Move::Lose(holder, object) => lose(tables, thread, holder, object),

@@ -84,12 +84,12 @@ fn take_off(ready: &mut ReadyList, thread: ThreadNo)
 }
 
 /// A thread whose priority a move sets leaves, and so comes anew.
-pub fn take_out(ready: &mut ReadyList, change: Move)
+pub fn take_out(ready: &mut ReadyList, change: &Move)
     requires { ready.old.threads ≡ BOOT_OBJECTS }
     ensures size { ready.new.threads ≡ BOOT_OBJECTS }
-    ensures queues { (rank : ObjNo → ℕ) → Follow rank (taken_out change) ready.old ready.new }
+    ensures queues { (rank : ObjNo → ℕ) → Follow rank (taken_out change.now) ready.old ready.new }
 {
-    if let Move::SetPriority(thread, _) = change {
+    if let Move::SetPriority(thread, _) = *change {
         take_off(ready, thread);
     }
 }
@@ -141,7 +141,7 @@ pub fn leave_along<W: RefWords + Drop>(
     ensures queues { (rank : ObjNo → ℕ) → Follow rank (leave_along script.now (state_of tables.now) thread moves.now) ready.old ready.new }
 {
     for change in moves {
-        leave_touched(script, tables, ready, touched(thread, *change));
+        leave_touched(script, tables, ready, touched(thread, change));
     }
 }
 
