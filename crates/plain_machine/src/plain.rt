@@ -96,6 +96,3 @@ impl Plain {
         final_rows::next_row(&self.state, from)
     }
 }
-
-#[cfg(test)]
-mod tests;
