@@ -5,6 +5,7 @@ use Rattle.script_types.specs.declared.script.Script.{Script}
 use Rattle.state_rows.specs.DeclaredCalls.{calls_of}
 use Rattle.state_rows.specs.HandleSlots.{fresh_slot}
 use Rattle.state_rows.specs.LockChanges.{new_rows as lock_rows}
+use Rattle.state_rows.specs.declared.locks.LockRows.{LockRows}
 use Rattle.state_rows.specs.RequestChanges.{new_rows as request_rows}
 use Rattle.machine.specs.Boot.{memory_of_row, nano_of}
 use Rattle.kernel_tables.specs.declared.tables.Tables.{Tables}
@@ -30,12 +31,16 @@ pub record FirstStand (all : List Born) (S : State) (rows : List (Option ObjectR
   pub counted : (k : ℕ) → k < n → slice_index counts k ≡ count_of S (record { 0 = k })
   pub none : (k : ℕ) → n ≤ k → slice_index counts k ≡ 0
 
+-- nobody owns or waits for anything, of all objects that may be made
+unfoldable pub no_locks : LockRows
+no_locks = lock_rows OBJECTS
+
 -- the tables of what stands at boot, over its objects: nothing is owed, held, queued or waited for
 pub record AreTables {W N : Type 0} (script : Script) (all : List Born) (S : State) (made : ObjectsView) (tables : Tables W N) : Type 0 where
   pub objects : tables.objects ≡ made
   pub procs : tables.procs ≡ record { threads = S.threads; processes = map memory_of_row S.threads }
   pub handles : slots_of tables.handles ≡ map (λ _. replicate HANDLES fresh_slot) all
-  pub locks : tables.locks.rows ≡ lock_rows OBJECTS
+  pub locks : tables.locks.rows ≡ no_locks
   pub ranks : AreRanked tables.locks.priorities S.threads
   pub ranked : length tables.locks.priorities ≡ BOOT_OBJECTS
   pub owed : tables.cleanup.duties ≡ map (λ _. []) all

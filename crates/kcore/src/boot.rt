@@ -9,14 +9,13 @@ ghost use Rattle.ref_words.specs.Words.{NoneCreated};
 ghost use Rattle.state_rows.specs.ObjectRows.{is_session, is_taken};
 ghost use Rattle.machine.specs.Arrivals.{is_listed};
 ghost use Rattle.machine.specs.Boot.{boot, memory_of_row, nano_of};
-ghost use Rattle.state_rows.specs.LockChanges.{new_rows as lock_rows};
 ghost use Rattle.machine.specs.Choice.{priority_of};
 ghost use Rattle.state_rows.specs.HandleSlots.{fresh_slot};
 ghost use Rattle.machine.specs.References.{count_of};
 ghost use Rattle.machine.specs.WellFormed.{AreApart};
 ghost use Rattle.state_rows.specs.Nano.{suspend_count};
 ghost use Rattle.state_rows.specs.RequestChanges.{new_rows as request_rows};
-ghost use Rattle.kcore.specs.BootTable.{AreNew, AreTables, FirstStand};
+ghost use Rattle.kcore.specs.BootTable.{AreNew, AreTables, FirstStand, no_locks};
 ghost use Rattle.kernel_tables.specs.Noted.{AreKept, AreRanked};
 ghost use Rattle.kernel_tables.specs.ReadyQueues.{AreReady};
 ghost use Rattle.kernel_tables.specs.StateOf.{slots_of, state_of, with_ready};
@@ -24,9 +23,11 @@ ghost use Rattle.kernel_tables.specs.StateOf.{slots_of, state_of, with_ready};
 use crate::boot_tables::{locks_of, priority_of, procs_of};
 use cleanup::Cleanup;
 use handles::Handles;
+use kern_sync::KernSync;
 use kernel_tables::{CallQueues, ObjectTable, Tables};
 use machine::{Born, State, all_born, count_of, state_at_boot};
 use nano_sync::NanoSync;
+use procs::Procs;
 use ready_list::ReadyList;
 use ref_words::RefWords;
 use requests::Requests;
@@ -142,6 +143,33 @@ fn queues_of(alloc: Global, state: &State) -> Result<ReadyList, NoMemory>
     Ok(list)
 }
 
+/// The handle tables, which are empty, and the lists of what each owes and has, which have nothing.
+fn empty_tables(alloc: Global, all: &[Born]) -> Result<(Items<Handles>, Cleanup), NoMemory>
+    requires { length all.now < 65536 }
+    ensures handles { IfOk result (λ made. slots_of made.0 ≡ map (λ _. replicate HANDLES fresh_slot) all.now) }
+    ensures owed { IfOk result (λ made. made.1.duties ≡ map (λ _. []) all.now) }
+    ensures uses { IfOk result (λ made. made.1.temporary ≡ replicate (length all.now) None) }
+    ensures mutexes { IfOk result (λ made. made.1.mutexes ≡ map (λ _. []) all.now) }
+    ensures objects { IfOk result (λ made. made.1.objects ≡ OBJECTS) }
+{
+    let handles = fresh_handles(alloc, all)?;
+    let cleanup = empty_lists(alloc, all)?;
+    Ok((handles, cleanup))
+}
+
+/// The threads' rows with the processes' memories, and the locks, which nobody owns or waits for.
+fn thread_tables(alloc: Global, state: &State) -> Result<(Procs, KernSync), NoMemory>
+    requires { length state.now.threads ≤ BOOT_OBJECTS }
+    ensures procs { IfOk result (λ made. made.0 ≡ record { threads = state.now.threads; processes = map memory_of_row state.now.threads }) }
+    ensures rows { IfOk result (λ made. made.1.rows ≡ no_locks) }
+    ensures ranks { IfOk result (λ made. AreRanked made.1.priorities state.now.threads) }
+    ensures sized { IfOk result (λ made. length made.1.priorities ≡ BOOT_OBJECTS) }
+{
+    let procs = procs_of(alloc, state.threads.as_slice())?;
+    let locks = locks_of(alloc, state)?;
+    Ok((procs, locks))
+}
+
 /// The tables of what stands at boot, over its objects and its threads' rows.
 fn tables_of<W: RefWords + Drop>(
     alloc: Global,
@@ -155,19 +183,17 @@ fn tables_of<W: RefWords + Drop>(
     requires known { length state.now.threads ≤ BOOT_OBJECTS }
     ensures { IfOk result (λ tables. AreTables script.now all.now state.now objects tables) }
 {
-    let handles = fresh_handles(alloc, all)?;
-    let cleanup = empty_lists(alloc, all)?;
+    let empty = empty_tables(alloc, all)?;
+    let threads = thread_tables(alloc, state)?;
     let nano = nano_of(alloc, script.fast, all)?;
     let deferred = CallQueues::new(alloc, script)?;
     let requests = requests_of(alloc, all)?;
-    let procs = procs_of(alloc, state.threads.as_slice())?;
-    let locks = locks_of(alloc, state)?;
     Ok(Tables {
         objects,
-        handles,
-        procs,
-        locks,
-        cleanup,
+        handles: empty.0,
+        procs: threads.0,
+        locks: threads.1,
+        cleanup: empty.1,
         nano,
         deferred,
         requests,
