@@ -15,7 +15,7 @@ ghost use Rattle.machine.specs.References.{count_of};
 ghost use Rattle.machine.specs.WellFormed.{AreApart};
 ghost use Rattle.state_rows.specs.Nano.{suspend_count};
 ghost use Rattle.state_rows.specs.RequestChanges.{new_rows as request_rows};
-ghost use Rattle.kcore.specs.BootTable.{AreNew, AreTables, FirstStand, no_locks};
+ghost use Rattle.kcore.specs.BootTable.{AreNew, AreOver, AreTables, FirstStand, no_locks};
 ghost use Rattle.kernel_tables.specs.Noted.{AreKept, AreRanked};
 ghost use Rattle.kernel_tables.specs.ReadyQueues.{AreReady};
 ghost use Rattle.kernel_tables.specs.StateOf.{slots_of, state_of, with_ready};
@@ -170,7 +170,52 @@ fn thread_tables(alloc: Global, state: &State) -> Result<(Procs, KernSync), NoMe
     Ok((procs, locks))
 }
 
-/// The tables of what stands at boot, over its objects and its threads' rows.
+/// The tables of threads that synchronize, of deferred function calls, and of requests: nothing is queued or asked for.
+fn call_tables(
+    alloc: Global,
+    script: &Script,
+    all: &[Born],
+) -> Result<(NanoSync, CallQueues, Requests), NoMemory>
+    requires shaped { IsShaped script.now }
+    requires few { length all.now < 65536 }
+    ensures nano { IfOk result (λ made. made.0 ≡ nano_of script.now.fast all.now) }
+    ensures deferred { IfOk result (λ made. made.1 ≡ calls_of script.now) }
+    ensures requests { IfOk result (λ made. made.2 ≡ request_rows (length all.now) DEVICES) }
+{
+    let nano = nano_of(alloc, script.fast, all)?;
+    let deferred = CallQueues::new(alloc, script)?;
+    let requests = requests_of(alloc, all)?;
+    Ok((nano, deferred, requests))
+}
+
+/// The tables of what stands at boot, over its objects, its threads' rows and its locks.
+fn tables_over<W: RefWords + Drop>(
+    alloc: Global,
+    script: &Script,
+    all: &[Born],
+    objects: ObjectTable<W>,
+    procs: Procs,
+    locks: KernSync,
+) -> Result<Tables<W>, NoMemory>
+    requires shaped { IsShaped script.now }
+    requires few { length all.now < 65536 }
+    ensures { IfOk result (λ tables. AreOver script.now all.now objects procs locks tables) }
+{
+    let empty = empty_tables(alloc, all)?;
+    let calls = call_tables(alloc, script, all)?;
+    Ok(Tables {
+        objects,
+        handles: empty.0,
+        procs,
+        locks,
+        cleanup: empty.1,
+        nano: calls.0,
+        deferred: calls.1,
+        requests: calls.2,
+    })
+}
+
+/// The tables of what stands at boot, over its objects.
 fn tables_of<W: RefWords + Drop>(
     alloc: Global,
     script: &Script,
@@ -183,21 +228,9 @@ fn tables_of<W: RefWords + Drop>(
     requires known { length state.now.threads ≤ BOOT_OBJECTS }
     ensures { IfOk result (λ tables. AreTables script.now all.now state.now objects tables) }
 {
-    let empty = empty_tables(alloc, all)?;
     let threads = thread_tables(alloc, state)?;
-    let nano = nano_of(alloc, script.fast, all)?;
-    let deferred = CallQueues::new(alloc, script)?;
-    let requests = requests_of(alloc, all)?;
-    Ok(Tables {
-        objects,
-        handles: empty.0,
-        procs: threads.0,
-        locks: threads.1,
-        cleanup: empty.1,
-        nano,
-        deferred,
-        requests,
-    })
+    let tables = tables_over(alloc, script, all, objects, threads.0, threads.1)?;
+    Ok(tables)
 }
 
 /// The tables and the queues of ready threads at boot.
