@@ -17,6 +17,7 @@ use Rattle.machine.specs.declared.state.State.{State}
 use Rattle.state_rows.specs.declared.thread.ThreadRow.{ThreadRow}
 use Rattle.state_rows.specs.declared.locks.LockRows.{LockRows}
 use Rattle.state_rows.specs.LockChanges.{new_rows as lock_rows}
+use Rattle.kcore.specs.BootTable.{no_locks}
 use Rattle.machine.specs.Boot.{boot, boot_of, born, memory_of, memory_of_row, nano_of}
 use Rattle.state_rows.specs.HandleSlots.{fresh_slot}
 
@@ -47,6 +48,10 @@ deferred_at_boot script = refl
 requests_at_boot : (script : Script) → (boot script).requests ≡ new_rows (length (born script)) DEVICES
 unfolding boot_of
 requests_at_boot script = refl
+
+pub no_locks_are : (r : LockRows) → r ≡ no_locks → r ≡ lock_rows OBJECTS
+unfolding no_locks
+no_locks_are r e = e
 
 locks_at_boot : (script : Script) → (boot script).locks ≡ lock_rows OBJECTS
 unfolding boot_of

@@ -3,6 +3,7 @@ use Rattle.std.proofs.Common.{◌≡◌, ℕ, Bool, true, false, List, refl}
 use Rattle.std.specs.Prelude.{Option, Some, None}
 use Rattle.sym_base.specs.declared.number.ObjNo.{ObjNo}
 use Rattle.entry_log.specs.declared.step.Part.{Part}
+use Rattle.entry_log.specs.declared.step.Part.TheVariants as part
 use Rattle.script_types.specs.declared.instruction.Instr.{Instr}
 use Rattle.script_types.specs.declared.instruction.Instr.TheVariants as instr
 use Rattle.script_types.specs.declared.script.Script.{Script}
@@ -21,7 +22,9 @@ use Rattle.machine.specs.declared.plan.Body.TheVariants.{Immediate, Deferred}
 use Rattle.state_rows.specs.DeclaredCalls.{dfc_named}
 use Rattle.machine.specs.Bodies.{decision_by}
 use Rattle.machine.specs.Interrupts.{immediate_plan, supervisor}
+use Rattle.machine.specs.MutexCalls.{lock_do, lock_step, unlock_do, unlock_step}
 use Rattle.machine.specs.Queueing.{queue_named}
+use Rattle.machine.specs.SemaphoreCalls.{signal_do, signal_step, wait_do, wait_step}
 use Rattle.kernel_tables.specs.StateOf.{with_ready}
 use Rattle.kcore.proofs.BodiesApart.{body_apart}
 
@@ -29,8 +32,64 @@ queue_apart : (S : State) (qs : List ObjNo) (t : ObjNo) (dfc : Option ℕ) → q
 queue_apart S qs t None = refl
 queue_apart S qs t (Some dfc) = refl
 
+-- steps of mutexes and semaphores
+locks_apart : (S : State) (qs : List ObjNo) (t : ObjNo) (uses : Option ObjNo) → lock_do (with_ready S qs) t uses ≡ lock_do S t uses
+locks_apart S qs t None = refl
+locks_apart S qs t (Some o) = refl
+
+lock_apart : (S : State) (qs : List ObjNo) (t : ObjNo) (row : ThreadRow) (x : ℕ) (p : Option Part) → lock_step (with_ready S qs) t row x p ≡ lock_step S t row x p
+lock_apart S qs t row x None = refl
+lock_apart S qs t row x (Some part.Do) = locks_apart S qs t row.uses
+lock_apart S qs t row x (Some part.Seek) = refl
+lock_apart S qs t row x (Some part.Return) = refl
+lock_apart S qs t row x (Some part.Look) = refl
+lock_apart S qs t row x (Some part.Make) = refl
+lock_apart S qs t row x (Some part.Send) = refl
+lock_apart S qs t row x (Some part.Done) = refl
+lock_apart S qs t row x (Some part.Piece) = refl
+
+unlocks_apart : (S : State) (qs : List ObjNo) (t : ObjNo) (uses : Option ObjNo) → unlock_do (with_ready S qs) t uses ≡ unlock_do S t uses
+unlocks_apart S qs t None = refl
+unlocks_apart S qs t (Some o) = refl
+
+unlock_apart : (S : State) (qs : List ObjNo) (t : ObjNo) (row : ThreadRow) (x : ℕ) (p : Option Part) → unlock_step (with_ready S qs) t row x p ≡ unlock_step S t row x p
+unlock_apart S qs t row x None = refl
+unlock_apart S qs t row x (Some part) = unlocks_apart S qs t row.uses
+
+waits_apart : (S : State) (qs : List ObjNo) (t : ObjNo) (uses : Option ObjNo) → wait_do (with_ready S qs) t uses ≡ wait_do S t uses
+waits_apart S qs t None = refl
+waits_apart S qs t (Some o) = refl
+
+wait_apart : (S : State) (qs : List ObjNo) (t : ObjNo) (row : ThreadRow) (x : ℕ) (p : Option Part) → wait_step (with_ready S qs) t row x p ≡ wait_step S t row x p
+wait_apart S qs t row x None = refl
+wait_apart S qs t row x (Some part.Do) = waits_apart S qs t row.uses
+wait_apart S qs t row x (Some part.Seek) = refl
+wait_apart S qs t row x (Some part.Return) = refl
+wait_apart S qs t row x (Some part.Look) = refl
+wait_apart S qs t row x (Some part.Make) = refl
+wait_apart S qs t row x (Some part.Send) = refl
+wait_apart S qs t row x (Some part.Done) = refl
+wait_apart S qs t row x (Some part.Piece) = refl
+
+signals_apart : (S : State) (qs : List ObjNo) (t : ObjNo) (uses : Option ObjNo) → signal_do (with_ready S qs) t uses ≡ signal_do S t uses
+signals_apart S qs t None = refl
+signals_apart S qs t (Some o) = refl
+
+signal_apart : (S : State) (qs : List ObjNo) (t : ObjNo) (row : ThreadRow) (x : ℕ) (p : Option Part) → signal_step (with_ready S qs) t row x p ≡ signal_step S t row x p
+signal_apart S qs t row x None = refl
+signal_apart S qs t row x (Some part) = signals_apart S qs t row.uses
+
 step_apart : (script : Script) (S : State) (qs : List ObjNo) (t : ObjNo) (row : ThreadRow) (i : Instr) (p : Option Part) → step_of script (with_ready S qs) t row i p ≡ step_of script S t row i p
 step_apart script S qs t row (instr.CreateMutex name x) p = refl
+step_apart script S qs t row (instr.CreateSemaphore name count x) p = refl
+step_apart script S qs t row (instr.DupLocal x y) None = refl
+step_apart script S qs t row (instr.DupLocal x y) (Some part) = refl
+step_apart script S qs t row (instr.Lock x) p = lock_apart S qs t row x p
+step_apart script S qs t row (instr.Unlock x) p = unlock_apart S qs t row x p
+step_apart script S qs t row (instr.Wait x) p = wait_apart S qs t row x p
+step_apart script S qs t row (instr.Signal x) p = signal_apart S qs t row x p
+step_apart script S qs t row (instr.Fill at size byte) p = refl
+step_apart script S qs t row (instr.Peek at) p = refl
 step_apart script S qs t row (instr.Open kind name x) None = refl
 step_apart script S qs t row (instr.Open kind name x) (Some part) = refl
 step_apart script S qs t row (instr.Dup x y) None = refl

@@ -5,8 +5,11 @@ use Rattle.script_types.specs.declared.script.Script.{Script}
 use Rattle.state_rows.specs.DeclaredCalls.{calls_of}
 use Rattle.state_rows.specs.HandleSlots.{fresh_slot}
 use Rattle.state_rows.specs.LockChanges.{new_rows as lock_rows}
+use Rattle.state_rows.specs.declared.locks.LockRows.{LockRows}
 use Rattle.state_rows.specs.RequestChanges.{new_rows as request_rows}
 use Rattle.machine.specs.Boot.{memory_of_row, nano_of}
+use Rattle.procs.specs.ProcsRows.{ProcsRows}
+use Rattle.kern_sync.specs.KernelLocks.{KernelLocks}
 use Rattle.kernel_tables.specs.declared.tables.Tables.{Tables}
 use Rattle.kernel_tables.specs.Noted.{AreRanked}
 use Rattle.kernel_tables.specs.ObjectsView.{ObjectsView}
@@ -30,12 +33,30 @@ pub record FirstStand (all : List Born) (S : State) (rows : List (Option ObjectR
   pub counted : (k : ℕ) → k < n → slice_index counts k ≡ count_of S (record { 0 = k })
   pub none : (k : ℕ) → n ≤ k → slice_index counts k ≡ 0
 
+-- nobody owns or waits for anything, of all objects that may be made
+unfoldable pub no_locks : LockRows
+no_locks = lock_rows OBJECTS
+
+-- the tables over those of objects, of threads and of locks: nothing is owed, held, queued or asked for
+pub record AreOver {W N : Type 0} (script : Script) (all : List Born) (o : ObjectsView) (p : ProcsRows) (l : KernelLocks) (tables : Tables W N) : Type 0 where
+  pub objects : tables.objects ≡ o
+  pub procs : tables.procs ≡ p
+  pub locks : tables.locks ≡ l
+  pub handles : slots_of tables.handles ≡ map (λ _. replicate HANDLES fresh_slot) all
+  pub owed : tables.cleanup.duties ≡ map (λ _. []) all
+  pub uses : tables.cleanup.temporary ≡ replicate (length all) None
+  pub mutexes : tables.cleanup.mutexes ≡ map (λ _. []) all
+  pub listed : tables.cleanup.objects ≡ OBJECTS
+  pub nano : tables.nano ≡ nano_of script.fast all
+  pub deferred : tables.deferred ≡ calls_of script
+  pub requests : tables.requests ≡ request_rows (length all) DEVICES
+
 -- the tables of what stands at boot, over its objects: nothing is owed, held, queued or waited for
 pub record AreTables {W N : Type 0} (script : Script) (all : List Born) (S : State) (made : ObjectsView) (tables : Tables W N) : Type 0 where
   pub objects : tables.objects ≡ made
   pub procs : tables.procs ≡ record { threads = S.threads; processes = map memory_of_row S.threads }
   pub handles : slots_of tables.handles ≡ map (λ _. replicate HANDLES fresh_slot) all
-  pub locks : tables.locks.rows ≡ lock_rows OBJECTS
+  pub locks : tables.locks.rows ≡ no_locks
   pub ranks : AreRanked tables.locks.priorities S.threads
   pub ranked : length tables.locks.priorities ≡ BOOT_OBJECTS
   pub owed : tables.cleanup.duties ≡ map (λ _. []) all

@@ -9,14 +9,13 @@ ghost use Rattle.ref_words.specs.Words.{NoneCreated};
 ghost use Rattle.state_rows.specs.ObjectRows.{is_session, is_taken};
 ghost use Rattle.machine.specs.Arrivals.{is_listed};
 ghost use Rattle.machine.specs.Boot.{boot, memory_of_row, nano_of};
-ghost use Rattle.state_rows.specs.LockChanges.{new_rows as lock_rows};
 ghost use Rattle.machine.specs.Choice.{priority_of};
 ghost use Rattle.state_rows.specs.HandleSlots.{fresh_slot};
 ghost use Rattle.machine.specs.References.{count_of};
 ghost use Rattle.machine.specs.WellFormed.{AreApart};
 ghost use Rattle.state_rows.specs.Nano.{suspend_count};
 ghost use Rattle.state_rows.specs.RequestChanges.{new_rows as request_rows};
-ghost use Rattle.kcore.specs.BootTable.{AreNew, AreTables, FirstStand};
+ghost use Rattle.kcore.specs.BootTable.{AreNew, AreOver, AreTables, FirstStand, no_locks};
 ghost use Rattle.kernel_tables.specs.Noted.{AreKept, AreRanked};
 ghost use Rattle.kernel_tables.specs.ReadyQueues.{AreReady};
 ghost use Rattle.kernel_tables.specs.StateOf.{slots_of, state_of, with_ready};
@@ -24,9 +23,11 @@ ghost use Rattle.kernel_tables.specs.StateOf.{slots_of, state_of, with_ready};
 use crate::boot_tables::{locks_of, priority_of, procs_of};
 use cleanup::Cleanup;
 use handles::Handles;
+use kern_sync::KernSync;
 use kernel_tables::{CallQueues, ObjectTable, Tables};
 use machine::{Born, State, all_born, count_of, state_at_boot};
 use nano_sync::NanoSync;
+use procs::Procs;
 use ready_list::ReadyList;
 use ref_words::RefWords;
 use requests::Requests;
@@ -142,7 +143,79 @@ fn queues_of(alloc: Global, state: &State) -> Result<ReadyList, NoMemory>
     Ok(list)
 }
 
-/// The tables of what stands at boot, over its objects and its threads' rows.
+/// The handle tables, which are empty, and the lists of what each owes and has, which have nothing.
+fn empty_tables(alloc: Global, all: &[Born]) -> Result<(Items<Handles>, Cleanup), NoMemory>
+    requires { length all.now < 65536 }
+    ensures handles { IfOk result (λ made. slots_of made.0 ≡ map (λ _. replicate HANDLES fresh_slot) all.now) }
+    ensures owed { IfOk result (λ made. made.1.duties ≡ map (λ _. []) all.now) }
+    ensures uses { IfOk result (λ made. made.1.temporary ≡ replicate (length all.now) None) }
+    ensures mutexes { IfOk result (λ made. made.1.mutexes ≡ map (λ _. []) all.now) }
+    ensures objects { IfOk result (λ made. made.1.objects ≡ OBJECTS) }
+{
+    let handles = fresh_handles(alloc, all)?;
+    let cleanup = empty_lists(alloc, all)?;
+    Ok((handles, cleanup))
+}
+
+/// The threads' rows with the processes' memories, and the locks, which nobody owns or waits for.
+fn thread_tables(alloc: Global, state: &State) -> Result<(Procs, KernSync), NoMemory>
+    requires { length state.now.threads ≤ BOOT_OBJECTS }
+    ensures procs { IfOk result (λ made. made.0 ≡ record { threads = state.now.threads; processes = map memory_of_row state.now.threads }) }
+    ensures rows { IfOk result (λ made. made.1.rows ≡ no_locks) }
+    ensures ranks { IfOk result (λ made. AreRanked made.1.priorities state.now.threads) }
+    ensures sized { IfOk result (λ made. length made.1.priorities ≡ BOOT_OBJECTS) }
+{
+    let procs = procs_of(alloc, state.threads.as_slice())?;
+    let locks = locks_of(alloc, state)?;
+    Ok((procs, locks))
+}
+
+/// The tables of threads that synchronize, of deferred function calls, and of requests: nothing is queued or asked for.
+fn call_tables(
+    alloc: Global,
+    script: &Script,
+    all: &[Born],
+) -> Result<(NanoSync, CallQueues, Requests), NoMemory>
+    requires shaped { IsShaped script.now }
+    requires few { length all.now < 65536 }
+    ensures nano { IfOk result (λ made. made.0 ≡ nano_of script.now.fast all.now) }
+    ensures deferred { IfOk result (λ made. made.1 ≡ calls_of script.now) }
+    ensures requests { IfOk result (λ made. made.2 ≡ request_rows (length all.now) DEVICES) }
+{
+    let nano = nano_of(alloc, script.fast, all)?;
+    let deferred = CallQueues::new(alloc, script)?;
+    let requests = requests_of(alloc, all)?;
+    Ok((nano, deferred, requests))
+}
+
+/// The tables of what stands at boot, over its objects, its threads' rows and its locks.
+fn tables_over<W: RefWords + Drop>(
+    alloc: Global,
+    script: &Script,
+    all: &[Born],
+    objects: ObjectTable<W>,
+    procs: Procs,
+    locks: KernSync,
+) -> Result<Tables<W>, NoMemory>
+    requires shaped { IsShaped script.now }
+    requires few { length all.now < 65536 }
+    ensures { IfOk result (λ tables. AreOver script.now all.now objects procs locks tables) }
+{
+    let empty = empty_tables(alloc, all)?;
+    let calls = call_tables(alloc, script, all)?;
+    Ok(Tables {
+        objects,
+        handles: empty.0,
+        procs,
+        locks,
+        cleanup: empty.1,
+        nano: calls.0,
+        deferred: calls.1,
+        requests: calls.2,
+    })
+}
+
+/// The tables of what stands at boot, over its objects.
 fn tables_of<W: RefWords + Drop>(
     alloc: Global,
     script: &Script,
@@ -155,23 +228,9 @@ fn tables_of<W: RefWords + Drop>(
     requires known { length state.now.threads ≤ BOOT_OBJECTS }
     ensures { IfOk result (λ tables. AreTables script.now all.now state.now objects tables) }
 {
-    let handles = fresh_handles(alloc, all)?;
-    let cleanup = empty_lists(alloc, all)?;
-    let nano = nano_of(alloc, script.fast, all)?;
-    let deferred = CallQueues::new(alloc, script)?;
-    let requests = requests_of(alloc, all)?;
-    let procs = procs_of(alloc, state.threads.as_slice())?;
-    let locks = locks_of(alloc, state)?;
-    Ok(Tables {
-        objects,
-        handles,
-        procs,
-        locks,
-        cleanup,
-        nano,
-        deferred,
-        requests,
-    })
+    let threads = thread_tables(alloc, state)?;
+    let tables = tables_over(alloc, script, all, objects, threads.0, threads.1)?;
+    Ok(tables)
 }
 
 /// The tables and the queues of ready threads at boot.

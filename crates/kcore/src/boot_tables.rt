@@ -1,7 +1,7 @@
 //! The tables of threads, processes and locks at boot.
 ghost use Rattle.std.specs.Prelude.{◌≡◌, ◌<◌, ◌≤◌, length, map, IfOk, slice_set};
-ghost use Rattle.sym_base.specs.declared.limits.TheConstants.Limits.{BOOT_OBJECTS, OBJECTS};
-ghost use Rattle.state_rows.specs.LockChanges.{new_rows as lock_rows};
+ghost use Rattle.sym_base.specs.declared.limits.TheConstants.Limits.{BOOT_OBJECTS};
+ghost use Rattle.kcore.specs.BootTable.{no_locks};
 ghost use Rattle.machine.specs.Boot.{memory_of_row};
 ghost use Rattle.machine.specs.Choice.{priority_of};
 ghost use Rattle.procs.specs.Rows.{IsFresh};
@@ -49,7 +49,7 @@ pub fn priority_of(state: &State, thread: ThreadNo) -> u8
 /// Nobody owns or waits for anything, and each thread has its priority.
 pub fn locks_of(alloc: Global, state: &State) -> Result<KernSync, NoMemory>
     requires { length state.now.threads ≤ BOOT_OBJECTS }
-    ensures rows { IfOk result (λ locks. locks.rows ≡ lock_rows OBJECTS) }
+    ensures rows { IfOk result (λ locks. locks.rows ≡ no_locks) }
     ensures ranks { IfOk result (λ locks. AreRanked locks.priorities state.now.threads) }
     ensures sized { IfOk result (λ locks. length locks.priorities ≡ BOOT_OBJECTS) }
 {

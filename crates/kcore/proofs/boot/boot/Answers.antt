@@ -19,7 +19,7 @@ use Rattle.kcore.specs.BootTable.{AreNew, FirstStand}
 use Rattle.kernel_tables.specs.Counts.{Agrees}
 use Rattle.kernel_tables.specs.ReadyQueues.{AreReady}
 use Rattle.kernel_tables.specs.StateOf.{slots_of}
-use Rattle.kcore.proofs.BootFields.{fields_at_boot, threads_at_boot}
+use Rattle.kcore.proofs.BootFields.{fields_at_boot, no_locks_are, threads_at_boot}
 use Rattle.kcore.proofs.BootReady.{listed_known, listed_ranged}
 use Rattle.kcore.proofs.BootTables.{new_at_boot, agrees_at_boot}
 use Rattle.kcore.proofs.BootUses.{none_used}
@@ -84,7 +84,7 @@ returns-clause-state g c =
     let all : c.as_slice-2.result.now ≡ c.as_slice.result.now = c.as_slice-2.ensures ∙ sym c.as_slice.ensures in
     let rows = subst (λ (bs : List Born). tables.objects.rows ≡ take (length bs) (map (λ (b : Born). Some b.object) bs)) (sym all) (ap (λ o. o.rows) made.objects ∙ c.in_ok-objects.ensures.rows_are) in
     fields_at_boot script c.as_slice-2.result.now c.in_ok-state.state tables.objects.rows (slots_of tables.handles) tables.procs.threads tables.cleanup.duties tables.nano tables.deferred tables.requests tables.locks.rows tables.cleanup.mutexes tables.procs.processes
-    (c.as_slice-2.ensures ∙ c.in_ok-all.ensures) c.in_ok-state.ensures rows made.handles (ap (λ p. p.threads) made.procs) made.owed made.nano made.deferred made.requests made.locks made.mutexes (ap (λ p. p.processes) made.procs)
+    (c.as_slice-2.ensures ∙ c.in_ok-all.ensures) c.in_ok-state.ensures rows made.handles (ap (λ p. p.threads) made.procs) made.owed made.nano made.deferred made.requests (no_locks_are tables.locks.rows made.locks) made.mutexes (ap (λ p. p.processes) made.procs)
 
 pub returns-clause-kept : goal.returns-clause-kept
 returns-clause-kept g c =

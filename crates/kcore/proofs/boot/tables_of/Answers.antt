@@ -1,19 +1,25 @@
-use Rattle.std.proofs.Common.{refl}
+use Rattle.std.proofs.Common.{◌∙◌, ap, subst, sym, length, List, ℕ}
+use Rattle.kern_sync.specs.KernelLocks.{KernelLocks}
+use Rattle.sym_base.specs.declared.limits.TheConstants.Limits.{BOOT_OBJECTS}
+use Rattle.kernel_tables.specs.Noted.{AreRanked}
 use Rattle.kcore.proofs.boot.tables_of.Goals as goal
 
 pub returns : goal.returns
-returns g c = record {
-  objects = refl;
-  procs = c.in_ok-procs.ensures;
-  handles = c.in_ok-handles.ensures;
-  locks = c.in_ok-locks.ensures.rows;
-  ranks = c.in_ok-locks.ensures.ranks;
-  ranked = c.in_ok-locks.ensures.sized;
-  owed = c.in_ok-cleanup.ensures.owed;
-  uses = c.in_ok-cleanup.ensures.uses;
-  mutexes = c.in_ok-cleanup.ensures.mutexes;
-  listed = c.in_ok-cleanup.ensures.objects;
-  nano = c.in_ok-nano.ensures;
-  deferred = c.in_ok-deferred.ensures;
-  requests = c.in_ok-requests.ensures;
-}
+returns g c =
+    let over = c.in_ok-tables.ensures in
+    let threads = c.in_ok-threads.ensures in
+    record {
+      objects = over.objects;
+      procs = over.procs ∙ threads.procs;
+      handles = over.handles;
+      locks = ap (λ (l : KernelLocks). l.rows) over.locks ∙ threads.rows;
+      ranks = subst (λ (l : KernelLocks). AreRanked l.priorities c.args.state.now.threads) (sym over.locks) threads.ranks;
+      ranked = ap (λ (l : KernelLocks). length l.priorities) over.locks ∙ threads.sized;
+      owed = over.owed;
+      uses = over.uses;
+      mutexes = over.mutexes;
+      listed = over.listed;
+      nano = over.nano;
+      deferred = over.deferred;
+      requests = over.requests;
+    }

@@ -1,5 +1,6 @@
 use Rattle.std.proofs.Common.{◌+◌, ◌≤◌, length, arith, subst, sym}
 use Rattle.kern_sync.specs.KernelLocks.{KernelLocks}
+use Rattle.kcore.specs.BootTable.{no_locks}
 use Rattle.kcore.proofs.BootProcs.{RankedTo, none_ranked, one_ranked, all_ranked}
 use Rattle.kcore.proofs.boot_tables.locks_of.Goals as goal
 
@@ -20,6 +21,7 @@ loop-number-preserved c =
     subst (λ (l : KernelLocks). RankedTo l c.args.state.now.threads (c.loop-number.number + 1)) (sym c.set_priority.ensures) (one_ranked c.loop-number.locks c.args.state.now.threads c.loop-number.number c.priority_of.result (omega arith) c.priority_of.ensures c.loop-number.invariant)
 
 pub returns-clause-rows : goal.returns-clause-rows
+unfolding no_locks
 returns-clause-rows c = c.loop-number.invariant.rows
 
 pub returns-clause-ranks : goal.returns-clause-ranks

@@ -41,4 +41,4 @@ returns c =
     let all = c.args.threads.now in
     let end : c.loop-number.number ≡ length all = omega (arith, c.loop-number.auto.number-end, c.loop-number-test.false) in
     c.loop-number.invariant ∙ (ap (λ (n : ℕ). rows (made_so_far (λ x. x) all n) (made_so_far memory_of_row all n)) end
-        ∙ (ap (λ l. rows l (made_so_far memory_of_row all (length all))) (all_made (λ x. x) all ∙ same_rows all) ∙ ap (rows all) (all_made memory_of_row all)))
+    ∙ (ap (λ l. rows l (made_so_far memory_of_row all (length all))) (all_made (λ x. x) all ∙ same_rows all) ∙ ap (rows all) (all_made memory_of_row all)))
