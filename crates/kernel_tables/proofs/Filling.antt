@@ -24,11 +24,11 @@ next_byte at k byte bytes inside =
     let seam : at + k - (at + k) ≡ 0 = omega arith in
     let on : at + k + 1 ≡ at + (k + 1) = omega arith in
     set-append_right front (drop (at + k) bytes) (at + k) (at + k) byte size (omega arith)
-      ∙ (ap (λ (l : List ℕ). front ++ set l (at + k - (at + k)) byte) (drop_more bytes (at + k) 0 inside)
-      ∙ (ap (λ (i : ℕ). front ++ set (get_or bytes (at + k) 0 ∷ drop (at + k + 1) bytes) i byte) seam
-      ∙ (sym (append_assoc front (byte ∷ []) (drop (at + k + 1) bytes))
-      ∙ (ap (λ (l : List ℕ). l ++ drop (at + k + 1) bytes) (append_assoc (take at bytes) (replicate k byte) (byte ∷ []) ∙ ap (λ (l : List ℕ). take at bytes ++ l) (replicate_more k byte))
-      ∙ ap (λ (i : ℕ). take at bytes ++ replicate (k + 1) byte ++ drop i bytes) on))))
+    ∙ (ap (λ (l : List ℕ). front ++ set l (at + k - (at + k)) byte) (drop_more bytes (at + k) 0 inside)
+    ∙ (ap (λ (i : ℕ). front ++ set (get_or bytes (at + k) 0 ∷ drop (at + k + 1) bytes) i byte) seam
+    ∙ (sym (append_assoc front (byte ∷ []) (drop (at + k + 1) bytes))
+    ∙ (ap (λ (l : List ℕ). l ++ drop (at + k + 1) bytes) (append_assoc (take at bytes) (replicate k byte) (byte ∷ []) ∙ ap (λ (l : List ℕ). take at bytes ++ l) (replicate_more k byte))
+    ∙ ap (λ (i : ℕ). take at bytes ++ replicate (k + 1) byte ++ drop i bytes) on))))
 
 -- no byte is filled
 none_filled : (at byte : ℕ) (bytes : List ℕ) → filled at 0 byte bytes ≡ bytes
@@ -41,6 +41,7 @@ fill_begins rows p at byte = by_memory (get_or rows.processes p.0 None) refl
   where
     put : Option (List ℕ) → ProcsRows
     put x = record rows { processes = set rows.processes p.0 x }
+
     by_memory : (x : Option (List ℕ)) → get_or rows.processes p.0 None ≡ x → rows ≡ with_filled rows p (filled at 0 byte)
     by_memory None is = sym (ap (λ (x : Option (List ℕ)). put (option_map (filled at 0 byte) x)) is ∙ (ap put (sym is) ∙ ap (λ l. record rows { processes = l }) (set-get_or rows.processes p.0 None)))
     by_memory (Some bytes) is = sym (ap (λ (x : Option (List ℕ)). put (option_map (filled at 0 byte) x)) is ∙ (ap (λ (l : List ℕ). put (Some l)) (none_filled at byte bytes) ∙ (ap put (sym is) ∙ ap (λ l. record rows { processes = l }) (set-get_or rows.processes p.0 None))))
@@ -57,6 +58,7 @@ fill_goes_on rows now new p at offset byte there from low before after size = by
   where
     put : Option (List ℕ) → ProcsRows
     put x = record rows { processes = set rows.processes p.0 x }
+
     by_memory : (x : Option (List ℕ)) → get_or rows.processes p.0 None ≡ x → new ≡ with_filled rows p (filled at (offset + 1 - at) byte)
     by_memory None is = let clash : false ≡ true = ap (λ (x : Option (List ℕ)). is_some x) (sym is) ∙ there in absurd (cc)
     by_memory (Some bytes) is =
@@ -70,8 +72,8 @@ fill_goes_on rows now new p at offset byte there from low before after size = by
         let inside : at + k < length bytes = reach at k byte bytes (omega (arith, long, on, low)) in
         let next : set (bytes_of now p) offset byte ≡ filled at (k + 1) byte bytes = ap (λ (l : List ℕ). set l offset byte) read ∙ (ap (λ (i : ℕ). set done i byte) (sym on) ∙ next_byte at k byte bytes inside) in
         after
-          ∙ (ap (with_process now p) next
-          ∙ (ap (λ (s : ProcsRows). with_process s p (filled at (k + 1) byte bytes)) was
-          ∙ (ap (λ l. record rows { processes = l }) (set-set rows.processes p.0 (Some done) (Some (filled at (k + 1) byte bytes)))
-          ∙ (ap (λ (n : ℕ). put (Some (filled at n byte bytes))) more
-          ∙ ap (λ (x : Option (List ℕ)). put (option_map (filled at (offset + 1 - at) byte) x)) (sym is)))))
+        ∙ (ap (with_process now p) next
+        ∙ (ap (λ (s : ProcsRows). with_process s p (filled at (k + 1) byte bytes)) was
+        ∙ (ap (λ l. record rows { processes = l }) (set-set rows.processes p.0 (Some done) (Some (filled at (k + 1) byte bytes)))
+        ∙ (ap (λ (n : ℕ). put (Some (filled at n byte bytes))) more
+        ∙ ap (λ (x : Option (List ℕ)). put (option_map (filled at (offset + 1 - at) byte) x)) (sym is)))))
