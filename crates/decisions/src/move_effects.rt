@@ -25,6 +25,15 @@ fn tell_close(effects: &mut Effects, last: bool, holder: Holder, object: ObjNo)
     }
 }
 
+/// Tells a reference that is given up, from the state before it.
+fn tell_loss<R: Reads>(effects: &mut Effects, reads: &R, holder: Holder, object: ObjNo)
+    requires readable { R.is_readable reads.now }
+    requires few { length effects.old + length (told (Move.Lose holder object) (R.state reads.now)) ≤ 4 }
+    ensures { effects.new ≡ effects.old ++ told (Move.Lose holder object) (R.state reads.now) }
+{
+    tell_close(effects, reads.is_last(object), holder, object);
+}
+
 /// Tells the payment of an item, from the state before it.
 fn tell_payment<R: Reads>(effects: &mut Effects, reads: &R, what: Owed)
     requires readable { R.is_readable reads.now }
@@ -101,7 +110,7 @@ pub fn tell<R: Reads>(effects: &mut Effects, reads: &R, change: &Move)
             effects.push(Effect::Plus(holder, object));
         }
         Move::Gain(holder, object) => effects.push(Effect::Plus(holder, object)),
-        Move::Lose(holder, object) => tell_close(effects, reads.is_last(object), holder, object),
+        Move::Lose(holder, object) => tell_loss(effects, reads, holder, object),
         Move::Find(_, object) => effects.push(Effect::Seek(object)),
         Move::Miss(object) => effects.push(Effect::Missed(object)),
         Move::Nano(change) => tell_nano(effects, change),
