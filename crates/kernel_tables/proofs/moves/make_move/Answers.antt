@@ -5,6 +5,12 @@ use Rattle.kernel_tables.proofs.Tying.{tied_row}
 use Rattle.kernel_tables.proofs.FirstCount.{nano_counts, request_counts}
 use Rattle.kernel_tables.proofs.moves.make_move.Goals as goal
 
+pub gain-requires-clause-can : goal.gain-requires-clause-can
+gain-requires-clause-can g c = rw c.in-Gain.is at c.requires.can
+
+pub lose-requires-clause-can : goal.lose-requires-clause-can
+lose-requires-clause-can g c = rw c.in-Lose.is at c.requires.can
+
 pub returns-in-Make : goal.returns-in-Make
 returns-in-Make g c = rw c.in-Make.is (c.make.ensures c.args.thread)
 
