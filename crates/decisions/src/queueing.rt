@@ -1,18 +1,25 @@
 //! `queue`: a deferred function call joins its queue (Symbian OS Internals, the chapter on interrupts).
 ghost use Rattle.std.specs.Prelude.{◌≡◌};
 ghost use Rattle.script_types.specs.Shape.{IsShaped};
+ghost use Rattle.machine.specs.Bodies.{add_call};
 ghost use Rattle.machine.specs.Queueing.{queue_named, queue_do};
 
-use crate::bodies::add_call;
 use crate::decide::{answer_after, answer_at_once, nothing};
 use entry_log::{Part, Step, Word};
-use machine::Decision;
+use machine::{Decision, DeferredMove, Move};
 use readings::Reads;
 use script_types::Script;
 use state_rows::dfc_named;
 use sym_base::{Name, ThreadNo};
 
 const STEP: Step = Step::Of(Word::Queue, Part::Do);
+
+/// A deferred function call joins its own queue.
+pub fn add_call<R: Reads>(reads: &R, dfc: u8) -> Move
+    ensures { result ≡ add_call (R.state reads.now) dfc }
+{
+    Move::Deferred(DeferredMove::Add(dfc, reads.queue_of(dfc)))
+}
 
 /// The call joins its queue, unless it is queued already.
 fn queue_named<R: Reads>(decision: &mut Decision, reads: &R, thread: ThreadNo, dfc: Option<u8>)

@@ -11,7 +11,8 @@ ghost use Rattle.exec_user.specs.Phases.{next_of, phase_at};
 ghost use Rattle.exec_user.specs.Stepping.{IsAtStep, step_at};
 
 use crate::next::{Next, next_of, phase_of};
-use decisions::{Reads, decide_step};
+use decisions::decide_step;
+use readings::Reads;
 use entry_log::Effects;
 use kernel_tables::{Tables, perform};
 use machine::Decision;

@@ -22,7 +22,7 @@ ghost use Rattle.kernel_tables.specs.StateOf.{state_of};
 use crate::bodies::run_body;
 use crate::interrupts::{immediate, interrupt};
 use crate::plans::carry_out;
-use decisions::{NextAction, next_action};
+use next_actions::{NextAction, next_action};
 use entry_log::{Actor, Entry, Step};
 use exec_user::{ExecUser, phase_at};
 use kernel_tables::{Tables, leave_along, turn};

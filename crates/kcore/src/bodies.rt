@@ -14,7 +14,7 @@ ghost use Rattle.kernel_tables.specs.Performed.{ActionGoes, IsPerformed};
 ghost use Rattle.kernel_tables.specs.StateOf.{state_of};
 
 use crate::made::{Made, add_moves};
-use decisions::{leave_queue, op_moves, ops_of, step_of_body};
+use next_actions::{leave_queue, op_moves, ops_of, step_of_body};
 use entry_log::{Effects, Entry};
 use kernel_tables::{Tables, leave_along, perform};
 use machine::{Body, Moves};

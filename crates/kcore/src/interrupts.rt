@@ -11,7 +11,7 @@ ghost use Rattle.kernel_tables.specs.StateOf.{state_of};
 
 use crate::bodies::run_body;
 use crate::plans::follow;
-use decisions::immediate_action;
+use next_actions::immediate_action;
 use entry_log::Entry;
 use kernel_tables::Tables;
 use machine::{Body, Decision};

@@ -20,7 +20,7 @@ ghost use Rattle.kernel_tables.specs.StateOf.{state_of, with_ready};
 
 use crate::act::transition;
 use crate::boot;
-use decisions::is_able;
+use readings::is_able;
 use entry_log::{Actor, Effects, Entry, FinalRow, Step};
 use kernel_tables::{Tables, chosen};
 use machine::Decision;

@@ -2,7 +2,7 @@
 ghost use Rattle.std.specs.Prelude.{◌≡◌, []};
 ghost use Rattle.sym_base.specs.declared.limits.TheConstants.Limits.{BOOT_OBJECTS};
 ghost use Rattle.script_types.specs.Shape.{IsShaped};
-ghost use Rattle.decisions.specs.Planned.{planned};
+ghost use Rattle.next_actions.specs.Planned.{planned};
 ghost use Rattle.machine.specs.Bodies.{decision_by};
 ghost use Rattle.machine.specs.Transition.{carried_out};
 ghost use Rattle.kernel_tables.specs.Noted.{AreKept};

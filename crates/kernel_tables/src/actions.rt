@@ -10,7 +10,7 @@ ghost use Rattle.kernel_tables.specs.StateOf.{state_of};
 use crate::moves::make_move;
 use crate::ready::{arrive_touched, take_out};
 use crate::tables::Tables;
-use decisions::tell;
+use readings::tell;
 use entry_log::Effects;
 use machine::{Move, touched};
 use ready_list::ReadyList;

@@ -7,7 +7,7 @@ ghost use Rattle.kernel_tables.specs.StateOf.{slots_of, state_of};
 
 use crate::duties::first_owed;
 use crate::tables::Tables;
-use decisions::Reads;
+use readings::Reads;
 use handles::Handles;
 use machine::{NewHandle, Owed, ThreadRow};
 use ref_words::RefWords;

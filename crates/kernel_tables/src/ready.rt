@@ -15,7 +15,7 @@ ghost use Rattle.kernel_tables.specs.ReadyQueues.{Follow, SomeReady, pairs, leav
 ghost use Rattle.kernel_tables.specs.StateOf.{state_of};
 
 use crate::tables::Tables;
-use decisions::{is_ready, wanted_holder};
+use readings::{is_ready, wanted_holder};
 use entry_log::Actor;
 use machine::{Move, TouchedThreads, touched};
 use nano_sync::NanoSync;

@@ -6,7 +6,6 @@ mod boot;
 mod count;
 mod decision;
 mod deferred_move;
-mod duties;
 mod handles;
 mod lock_move;
 mod moves;
@@ -17,14 +16,12 @@ mod request_move;
 mod rows;
 mod state;
 mod task;
-mod thread_rows;
 mod touches;
 
 pub use boot::{Born, all_born, boot_of, state_at_boot};
 pub use count::{count_of, is_counted, is_last};
 pub use decision::{Decision, Outcome, entry_of};
 pub use deferred_move::DeferredMove;
-pub use duties::{drop_first_owed, owe_close, owe_use};
 pub use handles::{NewHandle, holder_of, owner_of, process_handle, thread_handle};
 pub use lock_move::LockMove;
 pub use moves::{MAX_MOVES, Move, Moves};
@@ -41,8 +38,4 @@ pub use state_rows::{
     DeferredRows, HandleSlot, LockRows, NanoRows, Owed, RequestRows, Role, ThreadRow, Waiting,
 };
 pub use task::Task;
-pub use thread_rows::{
-    threads_advance, threads_closed, threads_find, threads_gain, threads_go_on, threads_lose,
-    threads_set_priority, threads_wait, threads_write,
-};
 pub use touches::{TouchedThreads, thread_of_queue, touched};

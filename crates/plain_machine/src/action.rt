@@ -2,7 +2,7 @@
 ghost use Rattle.std.specs.Prelude.{◌≡◌, ◌+◌, ◌*◌, ◌≤◌, length, IfOk, OnOk};
 ghost use Rattle.script_types.specs.Shape.{IsShaped};
 ghost use Rattle.readings.specs.Readable.{AreSmallRows};
-ghost use Rattle.decisions.specs.Planned.{planned};
+ghost use Rattle.next_actions.specs.Planned.{planned};
 ghost use Rattle.machine.specs.Bodies.{ops_moves, run_body, decision_by};
 ghost use Rattle.machine.specs.Moves.{perform, tell};
 ghost use Rattle.machine.specs.Room.{HasRoom};
@@ -13,7 +13,8 @@ ghost use Rattle.plain_machine.specs.Courses.{course_after};
 use crate::arrivals::{arrive_touched, take_out};
 use crate::course::Course;
 use crate::perform::make_move;
-use decisions::{leave_queue, op_moves, ops_of, step_of_body, tell};
+use next_actions::{leave_queue, op_moves, ops_of, step_of_body};
+use readings::tell;
 use machine::{Body, Decision, Move, Moves, Outcome, State, touched};
 use script_types::{Op, Script};
 use std::alloc::Global;

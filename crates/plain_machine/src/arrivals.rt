@@ -3,7 +3,7 @@ ghost use Rattle.std.specs.Prelude.{◌≡◌, IfOk, OnOk, filter};
 ghost use Rattle.machine.specs.Arrivals.{is_listed, unlisted, taken_out, one_of, threads_of, arrive};
 ghost use Rattle.machine.specs.Task.{is_ready};
 
-use decisions::is_ready;
+use readings::is_ready;
 use machine::{Move, State, TouchedThreads};
 use script_types::Script;
 use std::alloc::Global;

@@ -4,9 +4,8 @@ ghost use Rattle.std.specs.List.{slice_index_or};
 ghost use Rattle.machine.specs.DeferredMoves.{deferred_moved};
 ghost use Rattle.state_rows.specs.DeferredChanges.{after_add_idfc, after_add_from_irq, after_add, after_next_idfc, after_next_dfc, without, left};
 
-use decisions::Reads;
 use machine::{DeferredMove, State};
-use readings::is_queued;
+use readings::{Reads, is_queued};
 use state_rows::Item;
 use std::alloc::Global;
 use sym_base::{Items, NoMemory};

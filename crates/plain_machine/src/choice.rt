@@ -3,10 +3,9 @@ ghost use Rattle.state_rows.specs.Nano.{in_place_of};
 ghost use Rattle.std.specs.Prelude.{◌≡◌};
 ghost use Rattle.machine.specs.Choice.{first_ready, chosen_thread, chosen};
 
-use decisions::{Reads, wanted_holder};
 use entry_log::Actor;
 use machine::State;
-use readings::first_of_greatest;
+use readings::{Reads, first_of_greatest, wanted_holder};
 use sym_base::ThreadNo;
 
 /// The ready thread of greatest priority that has been ready longest.

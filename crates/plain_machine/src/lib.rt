@@ -8,7 +8,6 @@ mod choice;
 mod course;
 mod final_rows;
 mod locks;
-mod memory;
 mod mutexes;
 mod nano;
 mod perform;

@@ -7,14 +7,17 @@ ghost use Rattle.machine.specs.Room.{HasRoom, AreSmallTables};
 
 use crate::calls::make_deferred_move;
 use crate::locks::make_lock_move;
-use crate::memory::fill_memory;
 use crate::nano::make_nano_move;
 use crate::requests::make_request_move;
 use entry_log::Holder;
 use machine::{
-    HandleSlot, Move, Owed, State, Waiting, drop_first_owed, is_last, object_of, owe_close,
-    owe_use, set_row, set_slot, table_of, thread_in, threads_advance, threads_closed, threads_find,
-    threads_gain, threads_go_on, threads_lose, threads_set_priority, threads_wait, threads_write,
+    HandleSlot, Move, Owed, State, Waiting, is_last, object_of, set_row, set_slot, table_of,
+    thread_in,
+};
+use plain_rows::{
+    drop_first_owed, fill_memory, owe_close, owe_use, threads_advance, threads_closed,
+    threads_find, threads_gain, threads_go_on, threads_lose, threads_set_priority, threads_wait,
+    threads_write,
 };
 use state_rows::{ObjectRow, dead_row, next_instance, slot_at};
 use std::alloc::Global;

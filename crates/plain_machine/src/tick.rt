@@ -6,7 +6,7 @@ ghost use Rattle.machine.specs.Transition.{left};
 
 use crate::arrivals::unlisted;
 use crate::choice::first_ready;
-use decisions::Reads;
+use readings::Reads;
 use entry_log::{Effects, Step};
 use machine::{Outcome, State};
 use std::alloc::Global;

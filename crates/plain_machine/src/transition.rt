@@ -8,7 +8,7 @@ ghost use Rattle.plain_machine.specs.Allowed.{AllowsAction};
 
 use crate::action::{follow, run_body};
 use crate::tick::tick;
-use decisions::{decide_action, immediate_action};
+use next_actions::{decide_action, immediate_action};
 use entry_log::{Actor, Effects, Step};
 use machine::{Body, Decision, Outcome, State};
 use script_types::Script;

@@ -1,6 +1,8 @@
-//! What decisions read of a state, and who is ready and able to act: for the plain machine and for the kernel.
+//! What decisions read of a state, who is ready and able to act, and what moves tell: for the plain machine and
+//! for the kernel.
 #![tactic(auto)]
 
+mod move_effects;
 mod plain_calls;
 mod plain_choice;
 mod plain_locks;
@@ -9,6 +11,7 @@ mod plain_requests;
 mod reads;
 mod task;
 
+pub use move_effects::tell;
 pub use plain_calls::is_queued;
 pub use plain_choice::first_of_greatest;
 pub use reads::Reads;

@@ -2,16 +2,14 @@
 ghost use Rattle.std.specs.Prelude.{◌≡◌, true, IsTrue, Some, option_copied};
 ghost use Rattle.script_types.specs.Shape.{IsShaped};
 ghost use Rattle.state_rows.specs.Nano.{is_protected};
-ghost use Rattle.decisions.specs.Planned.{planned};
-ghost use Rattle.decisions.specs.NextActions.{IsStepOf, decided_by};
+ghost use Rattle.next_actions.specs.Planned.{planned};
+ghost use Rattle.next_actions.specs.NextActions.{IsStepOf, decided_by};
 ghost use Rattle.machine.specs.Bodies.{decision_by};
 ghost use Rattle.machine.specs.Rows.{first_owed, thread_of};
 ghost use Rattle.machine.specs.Task.{end_task, step_or_end, next_call, run_or, pay_or, task_of_row, task_of, is_able};
 ghost use Rattle.machine.specs.Steps.{pay_step, pay, decision_of_row, decision_of};
 
-use crate::critical_section::flush;
-use crate::decide::nothing;
-use crate::steps::{decide_step, return_of};
+use decisions::{decide_step, flush, nothing, return_of};
 use entry_log::Step;
 use machine::{Body, Decision, Move, Owed, ThreadRow};
 use readings::{Reads, instruction, is_able, is_returning, next_call};

@@ -6,7 +6,7 @@ ghost use Rattle.machine.specs.Room.{MayAdvance};
 ghost use Rattle.machine.specs.Rows.{with_row};
 ghost use Rattle.state_rows.specs.declared.thread.ThreadRow.{ThreadRow};
 
-use crate::{ThreadRow, Waiting};
+use machine::{ThreadRow, Waiting};
 use entry_log::{Holder, Part};
 use sym_base::{Items, ObjNo, ThreadNo};
 

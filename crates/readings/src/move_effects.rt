@@ -10,7 +10,7 @@ ghost use Rattle.entry_log.specs.declared.effect.LockNo.TheVariants.{Object};
 
 use entry_log::{Effect, Effects, Holder, LockNo, StatusNo};
 use machine::{LockMove, Move, NanoMove, Owed, RequestMove};
-use readings::Reads;
+use crate::reads::Reads;
 use state_rows::{Locked, Unlocked};
 use sym_base::{ObjNo, ThreadNo};
 

@@ -3,7 +3,7 @@ ghost use Rattle.std.specs.Prelude.{◌≡◌, ◌++◌, OnOk};
 ghost use Rattle.machine.specs.Moves.{owed_by_close, owed_use};
 ghost use Rattle.machine.specs.Rows.{owing, without_first};
 
-use crate::Owed;
+use machine::Owed;
 use entry_log::Holder;
 use sym_base::{Items, NoMemory, ObjNo, ThreadNo};
 

@@ -9,8 +9,8 @@ use Rattle.machine.specs.declared.task.Task.{Task}
 use Rattle.machine.specs.declared.task.Task.TheVariants.{Step}
 use Rattle.machine.specs.Bodies.{run_body}
 use Rattle.machine.specs.Steps.{decision_of_row}
-use Rattle.decisions.specs.declared.tasks.NextAction.{NextAction}
-use Rattle.decisions.specs.declared.tasks.NextAction.TheVariants.{Decided, Runs, Steps}
+use Rattle.next_actions.specs.declared.tasks.NextAction.{NextAction}
+use Rattle.next_actions.specs.declared.tasks.NextAction.TheVariants.{Decided, Runs, Steps}
 
 -- what it comes to: what was decided, the body, or the step of the instruction
 abbrev pub decided_by : Script → ObjNo → State → Option ThreadRow → Decision → NextAction → Decision

@@ -2,7 +2,7 @@ use Rattle.std.proofs.Common.{◌≡◌, ◌∙◌, ap, sym, arith, Some, None, 
 use Rattle.std.specs.List.{slice_index_or}
 use Rattle.std.proofs.lemmas.Option.{get_or_from_slice_get}
 use Rattle.machine.specs.Moves.{advanced}
-use Rattle.machine.proofs.thread_rows.threads_advance.Goals as goal
+use Rattle.plain_rows.proofs.thread_rows.threads_advance.Goals as goal
 
 pub advanced-requires : goal.advanced-requires
 advanced-requires c r is =

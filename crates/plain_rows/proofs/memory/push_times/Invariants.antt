@@ -1,5 +1,5 @@
 use Rattle.std.proofs.Common.{◌≡◌, ◌++◌, replicate}
-use Rattle.plain_machine.proofs.memory.push_times.Given as goal
+use Rattle.plain_rows.proofs.memory.push_times.Given as goal
 
 abbrev pub invariant-loop-time : goal.invariant-loop-time
 invariant-loop-time l = l.all.items ≡ l.initial.all.items ++ replicate l._time l.byte

@@ -1,11 +1,10 @@
 //! What the oldest item of the immediate queue does: its body runs, or it moves to its own queue.
 ghost use Rattle.std.specs.Prelude.{◌≡◌, slice_get};
-ghost use Rattle.decisions.specs.Planned.{planned};
+ghost use Rattle.next_actions.specs.Planned.{planned};
 ghost use Rattle.machine.specs.Interrupts.{step_of_move, move_call, item_plan, immediate_plan};
 ghost use Rattle.state_rows.specs.Deferred.{next_immediate};
 
-use crate::bodies::add_call;
-use crate::decide::nothing;
+use decisions::{add_call, nothing};
 use entry_log::Step;
 use machine::{Body, Decision, DeferredMove, Move};
 use readings::Reads;

@@ -6,21 +6,13 @@ ghost use Rattle.machine.specs.declared.moves.Move.TheVariants.{Wake};
 ghost use Rattle.script_types.specs.Shape.{IsShaped};
 ghost use Rattle.script_types.specs.declared.declaration.IrqBody.{IrqBody};
 
-use crate::fast_semaphore::signal_move;
-use crate::request_calls::is_pending;
+use decisions::{add_call, is_pending, signal_move};
 use entry_log::Step;
 use machine::{Body, DeferredMove, Move, Moves, RequestMove, ThreadRow, Waiting};
 use readings::Reads;
 use script_types::{IrqBody, Op, Script};
 use state_rows::{Request, dfc_named, idfc_named};
 use sym_base::{Kind, ObjNo, ThreadNo};
-
-/// A deferred function call joins its own queue.
-pub fn add_call<R: Reads>(reads: &R, dfc: u8) -> Move
-    ensures { result ≡ add_call (R.state reads.now) dfc }
-{
-    Move::Deferred(DeferredMove::Add(dfc, reads.queue_of(dfc)))
-}
 
 /// An immediate deferred function call joins the immediate queue.
 fn queue_immediate(moves: &mut Moves, item: Option<u8>)

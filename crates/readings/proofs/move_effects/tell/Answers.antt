@@ -1,4 +1,4 @@
-use Rattle.decisions.proofs.move_effects.tell.Goals as goal
+use Rattle.readings.proofs.move_effects.tell.Goals as goal
 
 pub tell_loss-requires-clause-few : goal.tell_loss-requires-clause-few
 tell_loss-requires-clause-few g c = rw c.in-Lose.is at c.requires.few
