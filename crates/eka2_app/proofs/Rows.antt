@@ -3,7 +3,7 @@ use Rattle.std.proofs.Common.{◌≡◌, ℕ, ◌+◌, ◌<◌, List, [], ◌∷
 use Rattle.std.proofs.lemmas.List.{length-drop}
 use Rattle.entry_log.specs.declared.entry.Entry.{Entry}
 use Rattle.entry_log.specs.declared.entry.FinalRow.{FinalRow}
-use Rattle.machine.proofs.Reached.AfterHistory.{well_formed-after}
+use Rattle.machine_laws.proofs.Reached.AfterHistory.{well_formed-after}
 use Rattle.machine.specs.FinalRows.{final_row, rows_of, rows_from}
 use Rattle.machine.specs.History.{after}
 use Rattle.state_rows.specs.declared.object.ObjectRow.{ObjectRow}

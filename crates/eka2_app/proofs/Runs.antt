@@ -2,7 +2,7 @@
 use Rattle.std.proofs.Common.{◌≡◌, ℕ, ◌+◌, ◌<◌, List, [], ◌∷◌, ◌++◌, length, drop, get_or, ap, ◌∙◌, append_assoc}
 use Rattle.std.proofs.lemmas.List.{drop_more, length-append}
 use Rattle.entry_log.specs.declared.entry.Entry.{Entry}
-use Rattle.machine.proofs.Reached.Histories.{after-push}
+use Rattle.machine_laws.proofs.Reached.Histories.{after-push}
 use Rattle.machine.specs.History.{after, entry_by}
 use Rattle.machine.specs.Run.{run_from, slot_actor}
 use Rattle.script_types.specs.declared.script.Script.{Script}

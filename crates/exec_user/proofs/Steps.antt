@@ -13,7 +13,7 @@ use Rattle.machine.specs.Rows.{first_owed, thread_of}
 use Rattle.machine.specs.Steps.{decision_of, decision_where}
 use Rattle.machine.specs.Task.{task_of}
 use Rattle.machine.specs.WellFormed.{AreRows}
-use Rattle.machine.proofs.Numbers.Registers.{task_has_registers}
+use Rattle.move_laws.proofs.Numbers.Registers.{task_has_registers}
 use Rattle.kernel_tables.specs.Performed.{ActionGoes}
 use Rattle.kernel_tables.proofs.GoingActions.{action_goes}
 use Rattle.exec_user.specs.Stepping.{IsAtStep, step_at}

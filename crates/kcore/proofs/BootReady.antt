@@ -14,7 +14,7 @@ use Rattle.machine.specs.Arrivals.{is_listed}
 use Rattle.machine.specs.Choice.{priority_of, priority_of_row}
 use Rattle.machine.specs.Rows.{thread_of}
 use Rattle.machine.specs.WellFormed.{AreApart, IsWellFormed}
-use Rattle.machine.proofs.Lists.Totals.{inside}
+use Rattle.move_laws.proofs.Lists.Totals.{inside}
 use Rattle.kernel_tables.specs.ReadyQueues.{AreReady}
 use Rattle.kcore.proofs.BootTables.{take_get}
 use Rattle.kernel_tables.proofs.ReadyChanges.{ready_behind}

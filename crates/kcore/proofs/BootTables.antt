@@ -17,10 +17,10 @@ use Rattle.machine.specs.declared.state.State.{State}
 use Rattle.machine.specs.Boot.{boot, boot_of, born}
 use Rattle.machine.specs.References.{count_of}
 use Rattle.machine.specs.WellFormed.{IsAlive}
-use Rattle.machine.proofs.AtBoot.BootCounts.{counted-boot}
+use Rattle.machine_laws.proofs.AtBoot.BootCounts.{counted-boot}
 use Rattle.machine.specs.Rows.{object_of}
-use Rattle.machine.proofs.AtBoot.BootNames.{boot_rows, boot_names_new, boot_kinds, boot_no_session}
-use Rattle.machine.proofs.AtBoot.BootRows.{boot_count_inside}
+use Rattle.machine_laws.proofs.AtBoot.BootNames.{boot_rows, boot_names_new, boot_kinds, boot_no_session}
+use Rattle.machine_laws.proofs.AtBoot.BootRows.{boot_count_inside}
 use Rattle.kcore.specs.BootTable.{AreNew, FirstStand}
 use Rattle.kernel_tables.specs.Counts.{Agrees}
 use Rattle.kernel_tables.proofs.FirstCount.{inside_of}

@@ -7,7 +7,7 @@ use Rattle.state_rows.specs.declared.duty.Owed.{Owed}
 use Rattle.machine.specs.declared.boot.Born.{Born}
 use Rattle.state_rows.specs.declared.thread.ThreadRow.{ThreadRow}
 use Rattle.machine.specs.Moves.{use_of_row}
-use Rattle.machine.proofs.AtBoot.Born.{IsNewThread, EachBorn}
+use Rattle.machine_laws.proofs.AtBoot.Born.{IsNewThread, EachBorn}
 
 unused : (n : ℕ) (x : Option ThreadRow) → ((row : ThreadRow) → x ≡ Some row → IsNewThread n row) → use_of_row x ≡ None
 unused n None new = refl

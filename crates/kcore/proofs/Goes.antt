@@ -28,8 +28,8 @@ use Rattle.machine.specs.Task.{is_ready, is_able}
 use Rattle.state_rows.specs.Nano.{wanted_holder}
 use Rattle.machine.specs.Transition.{Transition}
 use Rattle.machine.specs.WellFormed.{AreRows}
-use Rattle.machine.proofs.Reached.AfterHistory.{well_formed-after}
-use Rattle.machine.proofs.Reached.Histories.{after-push, legal-push, slot_can}
+use Rattle.machine_laws.proofs.Reached.AfterHistory.{well_formed-after}
+use Rattle.machine_laws.proofs.Reached.Histories.{after-push, legal-push, slot_can}
 use Rattle.machine_safe.specs.SafeReferences.{IsSafeReferences}
 use Rattle.machine_safe.proofs.SafeHistories.{legal_safe}
 use Rattle.ready_list.specs.Ready.{Ready}

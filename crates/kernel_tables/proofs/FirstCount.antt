@@ -14,7 +14,7 @@ use Rattle.machine.specs.Moves.{closed_effects}
 use Rattle.machine.specs.NanoMoves.{nano_told}
 use Rattle.machine.specs.RequestMoves.{request_told}
 use Rattle.machine.specs.References.{same}
-use Rattle.machine.proofs.References.Same.{same_self, same_other, same_object}
+use Rattle.move_laws.proofs.References.Same.{same_self, same_other, same_object}
 use Rattle.kernel_tables.specs.Counts.{CountsMove}
 
 -- a count that changes moves only at its object

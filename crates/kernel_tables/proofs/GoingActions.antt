@@ -15,10 +15,10 @@ use Rattle.machine.specs.Interrupts.{immediate_plan, supervisor}
 use Rattle.machine.specs.Moves.{tell}
 use Rattle.machine.specs.Steps.{decision_of}
 use Rattle.machine.specs.WellFormed.{AreRows}
-use Rattle.machine.proofs.Fitting.Actions.{of_action}
-use Rattle.machine.proofs.Fitting.Bodies.{Goes}
-use Rattle.machine.proofs.Fitting.Interrupts.{goes-immediate, goes-interrupt, sane-supervisor}
-use Rattle.machine.proofs.Numbers.FewEffects.{tell_few}
+use Rattle.machine_laws.proofs.Fitting.Actions.{of_action}
+use Rattle.machine_laws.proofs.Fitting.Bodies.{Goes}
+use Rattle.machine_laws.proofs.Fitting.Interrupts.{goes-immediate, goes-interrupt, sane-supervisor}
+use Rattle.move_laws.proofs.Numbers.FewEffects.{tell_few}
 use Rattle.kernel_tables.specs.Performed.{ActionGoes}
 use Rattle.kernel_tables.proofs.GoingMoves.{each_goes, pay_goes}
 

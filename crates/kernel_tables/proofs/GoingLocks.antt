@@ -23,12 +23,12 @@ use Rattle.machine.specs.LockMoves.{not_holding}
 use Rattle.machine.specs.References.{mutex_names, same, total, count_of}
 use Rattle.machine.specs.Rows.{object_of, thread_of}
 use Rattle.machine.specs.WellFormed.{AreRows, IsAlive, times_held}
-use Rattle.machine.proofs.Lists.Totals.{inside, total_at_least}
-use Rattle.machine.proofs.Lives.Bits.{alive_not_gone}
-use Rattle.machine.proofs.Readiness.FirstReady.{greatest_listed}
-use Rattle.machine.proofs.RowLaws.LockChanges.{LockParts}
-use Rattle.machine.proofs.RowLaws.LockMoves.{given_none, held_once, none_held}
-use Rattle.machine.proofs.RowLaws.Locks.{thread_inside}
+use Rattle.move_laws.proofs.Lists.Totals.{inside, total_at_least}
+use Rattle.move_laws.proofs.Lives.Bits.{alive_not_gone}
+use Rattle.move_laws.proofs.Readiness.FirstReady.{greatest_listed}
+use Rattle.move_laws.proofs.RowLaws.LockChanges.{LockParts}
+use Rattle.move_laws.proofs.RowLaws.LockMoves.{given_none, held_once, none_held}
+use Rattle.move_laws.proofs.RowLaws.Locks.{thread_inside}
 use Rattle.kernel_tables.specs.LockMoved.{CanGive, CanJoin, CanLock, CanTake, IsPlaced, LocksMay, UnlocksMay}
 use Rattle.kernel_tables.specs.Moved.{AreKnown}
 use Rattle.kernel_tables.specs.Referred.{HasPlaces, IsReferred}

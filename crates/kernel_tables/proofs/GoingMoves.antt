@@ -34,13 +34,13 @@ use Rattle.machine.specs.Moves.{moved, told, tell, closed_effects, threads_gain,
 use Rattle.machine.specs.References.{total, same, count_of, kernel_names, pluses, minuses, RefsMove}
 use Rattle.machine.specs.Rows.{object_of, thread_of, owed_of, with_row}
 use Rattle.machine.specs.WellFormed.{IsAlive, AreRows, AreRequests, is_dead, dead_bit, owed_sweeps, weight}
-use Rattle.machine.proofs.Holders.ThreadRows.{row-here, row-other}
-use Rattle.machine.proofs.Lists.Totals.{inside, total_at_least}
-use Rattle.machine.proofs.MoveLaws.Run.{sound-move, sound-pay, sane-after, refs-of, weight-move}
-use Rattle.machine.proofs.Numbers.CountSmall.{count_small}
-use Rattle.machine.proofs.Readiness.ReadyActions.{joins_own}
-use Rattle.machine.proofs.Readiness.Touched.{untouched}
-use Rattle.machine.proofs.References.Same.{same_self}
+use Rattle.move_laws.proofs.Holders.ThreadRows.{row-here, row-other}
+use Rattle.move_laws.proofs.Lists.Totals.{inside, total_at_least}
+use Rattle.move_laws.proofs.MoveLaws.Run.{sound-move, sound-pay, sane-after, refs-of, weight-move}
+use Rattle.move_laws.proofs.Numbers.CountSmall.{count_small}
+use Rattle.move_laws.proofs.Readiness.ReadyActions.{joins_own}
+use Rattle.move_laws.proofs.Readiness.Touched.{untouched}
+use Rattle.move_laws.proofs.References.Same.{same_self}
 use Rattle.kernel_tables.specs.Moved.{CanMove, MayGain, TakesLeast, AreKnown, MoveGoes, MovesGo, is_set}
 use Rattle.kernel_tables.specs.Referred.{HasPlaces, IsReferred}
 use Rattle.kernel_tables.proofs.GoingLocks.{can_lock}

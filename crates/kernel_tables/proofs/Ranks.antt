@@ -9,7 +9,7 @@ use Rattle.state_rows.specs.declared.thread.ThreadRow.{ThreadRow}
 use Rattle.machine.specs.Choice.{priority_of_row}
 use Rattle.machine.specs.Moves.{threads_gain, threads_lose, threads_closed, with_use, unlinked}
 use Rattle.machine.specs.Rows.{with_row}
-use Rattle.machine.proofs.Holders.ThreadRows.{row-here, row-other}
+use Rattle.move_laws.proofs.Holders.ThreadRows.{row-here, row-other}
 
 -- a change of a row that leaves its priority leaves all priorities
 rank_row : (row : Option ThreadRow) (f : ThreadRow → ThreadRow) → ((r : ThreadRow) → (f r).priority ≡ r.priority) → priority_of_row (option_map f row) ≡ priority_of_row row

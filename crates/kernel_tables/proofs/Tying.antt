@@ -12,7 +12,7 @@ use Rattle.machine.specs.declared.state.State.{State}
 use Rattle.machine.specs.Choice.{priority_of_row}
 use Rattle.machine.specs.Moves.{threads_gain, threads_lose, threads_closed, advanced, with_priority}
 use Rattle.machine.specs.Rows.{with_row}
-use Rattle.machine.proofs.Holders.ThreadRows.{row-here, row-other}
+use Rattle.move_laws.proofs.Holders.ThreadRows.{row-here, row-other}
 use Rattle.kernel_tables.specs.Moved.{MayGain}
 use Rattle.kernel_tables.specs.Noted.{AreTied, use_gained, use_lost, with_use}
 use Rattle.kernel_tables.proofs.Noting.{noted_row, noted_closed, noted_none, noted_gained, noted_lost, noted_ended}

@@ -11,10 +11,10 @@ use Rattle.machine.specs.History.{next, after, after_from, IsLegal}
 use Rattle.machine.specs.References.{count_of}
 use Rattle.machine.specs.Told.{finds}
 use Rattle.machine.specs.WellFormed.{AreLives}
-use Rattle.machine.proofs.Lives.Bits.{gone, gone_le, not_gone_alive}
-use Rattle.machine.proofs.Reached.AfterHistory.{well_formed-after}
-use Rattle.machine.proofs.References.Effects.{finds-append}
-use Rattle.machine.proofs.References.Same.{if_le}
+use Rattle.move_laws.proofs.Lives.Bits.{gone, gone_le, not_gone_alive}
+use Rattle.machine_laws.proofs.Reached.AfterHistory.{well_formed-after}
+use Rattle.move_laws.proofs.References.Effects.{finds-append}
+use Rattle.move_laws.proofs.References.Same.{if_le}
 use Rattle.machine_safe.specs.CountAfter.{effects_of, count_after, finds_to_open, opens_later}
 use Rattle.machine_safe.specs.Laws.{TellsZero}
 use Rattle.machine_safe.proofs.FindsToOpen.{no_find_to_open}

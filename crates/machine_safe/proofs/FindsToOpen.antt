@@ -12,8 +12,8 @@ use Rattle.entry_log.specs.declared.entry.Entry.{Entry}
 use Rattle.machine.specs.Holding.{is_holder}
 use Rattle.machine.specs.References.{same, pluses}
 use Rattle.machine.specs.Told.{finds}
-use Rattle.machine.proofs.References.Effects.{pluses-append}
-use Rattle.machine.proofs.References.Same.{if_le}
+use Rattle.move_laws.proofs.References.Effects.{pluses-append}
+use Rattle.move_laws.proofs.References.Same.{if_le}
 use Rattle.machine_safe.specs.CountAfter.{effects_of, is_by, first_by, pluses_by, opens, opens_later, finds_to_open}
 
 pluses_by_le : (effects : List Effect) (g : Holder) (x : ObjNo) → pluses_by effects g x ≤ pluses effects x

@@ -20,9 +20,9 @@ use Rattle.machine.specs.History.{next, after, after_from, IsLegal}
 use Rattle.machine.specs.Holding.{is_holder, held_after, held_after_all, FitsHolders, EachFitsHolders, held_at_boot, link_names}
 use Rattle.machine.specs.References.{same, option_names}
 use Rattle.machine.specs.Rows.{thread_of}
-use Rattle.machine.proofs.AtBoot.BootHolders.{held-boot}
-use Rattle.machine.proofs.References.Effects.{after_all-append, after_all-same}
-use Rattle.machine.proofs.References.Same.{same_object, same_le, same_is, if_le}
+use Rattle.machine_laws.proofs.AtBoot.BootHolders.{held-boot}
+use Rattle.move_laws.proofs.References.Effects.{after_all-append, after_all-same}
+use Rattle.move_laws.proofs.References.Same.{same_object, same_le, same_is, if_le}
 use Rattle.machine_safe.specs.CountAfter.{effects_of}
 use Rattle.machine_safe.proofs.Runs.{IsSoundRun}
 use Rattle.machine_safe.proofs.SafeHistories.{legal_run, legal_safe}

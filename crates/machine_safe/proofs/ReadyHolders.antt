@@ -5,9 +5,9 @@ use Rattle.script_types.specs.Source.{IsValid}
 use Rattle.entry_log.specs.declared.entry.Entry.{Entry}
 use Rattle.machine.specs.Choice.{chosen}
 use Rattle.machine.specs.History.{after, CanAct}
-use Rattle.machine.proofs.Reached.AfterHistory.{well_formed-after}
-use Rattle.machine.proofs.Reached.Histories.{can_act_chosen}
-use Rattle.machine.proofs.Readiness.ReadyHolders.{holder_ready}
+use Rattle.machine_laws.proofs.Reached.AfterHistory.{well_formed-after}
+use Rattle.machine_laws.proofs.Reached.Histories.{can_act_chosen}
+use Rattle.move_laws.proofs.Readiness.ReadyHolders.{holder_ready}
 use Rattle.machine_safe.specs.ReadyHolders.{AreHoldersReady}
 
 pub holders_ready : (script : Script) (history : List Entry) → IsValid script → AreHoldersReady script history

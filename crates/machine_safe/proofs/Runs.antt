@@ -12,12 +12,12 @@ use Rattle.machine.specs.Holding.{EachFitsHolders, held_after_all}
 use Rattle.machine.specs.References.{count_of, pluses, minuses}
 use Rattle.machine.specs.Told.{deaths, removals}
 use Rattle.machine.specs.WellFormed.{AreRows}
-use Rattle.machine.proofs.Lives.Bits.{gone, swept, gone_le}
-use Rattle.machine.proofs.Lives.LivesMove.{zero_or}
-use Rattle.machine.proofs.MoveLaws.Sound.{Sound}
-use Rattle.machine.proofs.Reached.Histories.{after_from-push}
-use Rattle.machine.proofs.Reached.NextState.{sound-next}
-use Rattle.machine.proofs.References.Effects.{pluses-append, minuses-append, deaths-append, removals-append, fits-append, fits-same}
+use Rattle.move_laws.proofs.Lives.Bits.{gone, swept, gone_le}
+use Rattle.move_laws.proofs.Lives.LivesMove.{zero_or}
+use Rattle.move_laws.proofs.MoveLaws.Sound.{Sound}
+use Rattle.machine_laws.proofs.Reached.Histories.{after_from-push}
+use Rattle.machine_laws.proofs.Reached.NextState.{sound-next}
+use Rattle.move_laws.proofs.References.Effects.{pluses-append, minuses-append, deaths-append, removals-append, fits-append, fits-same}
 use Rattle.machine_safe.specs.CountAfter.{effects_of}
 
 -- each entry of a run tells what its actor did

@@ -13,11 +13,11 @@ use Rattle.machine.specs.History.{after_from, IsLegal}
 use Rattle.machine.specs.Holding.{held_at_boot}
 use Rattle.machine.specs.References.{count_of}
 use Rattle.machine.specs.Told.{deaths}
-use Rattle.machine.proofs.AtBoot.BootHolders.{held-boot, not_gone-boot}
-use Rattle.machine.proofs.AtBoot.BootRows.{rows-boot}
-use Rattle.machine.proofs.Lives.Bits.{gone, gone_le, swept_le}
-use Rattle.machine.proofs.MoveLaws.Sound.{Sound}
-use Rattle.machine.proofs.References.Effects.{fits-same}
+use Rattle.machine_laws.proofs.AtBoot.BootHolders.{held-boot, not_gone-boot}
+use Rattle.machine_laws.proofs.AtBoot.BootRows.{rows-boot}
+use Rattle.move_laws.proofs.Lives.Bits.{gone, gone_le, swept_le}
+use Rattle.move_laws.proofs.MoveLaws.Sound.{Sound}
+use Rattle.move_laws.proofs.References.Effects.{fits-same}
 use Rattle.machine_safe.specs.CountAfter.{effects_of, count_after, finds_to_open}
 use Rattle.machine_safe.specs.SafeReferences.{IsSafeReferences, IsOver, DiesOnlyAtZero, DiesAtZero}
 use Rattle.machine_safe.proofs.FindsToOpen.{no_find_to_open}

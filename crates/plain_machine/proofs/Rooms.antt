@@ -20,8 +20,8 @@ use Rattle.machine.specs.Moves.{moved, with_use, unlinked, with_found, with_part
 use Rattle.machine.specs.References.{is_last}
 use Rattle.machine.specs.Room.{HasRoom, IsSmallTable, AreSmallTables, MayAdvance}
 use Rattle.machine.specs.Rows.{with_row}
-use Rattle.machine.proofs.Lists.Sets.{set_keeps}
-use Rattle.machine.proofs.RowLaws.Tables.{taken_keeps}
+use Rattle.move_laws.proofs.Lists.Sets.{set_keeps}
+use Rattle.move_laws.proofs.RowLaws.Tables.{taken_keeps}
 
 -- a row may still go on by so many instructions
 abbrev pub CanGo : ℕ → Option ThreadRow → Type 0

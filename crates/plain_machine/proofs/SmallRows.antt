@@ -15,7 +15,7 @@ use Rattle.machine.specs.declared.nano_move.NanoMove.TheVariants.{Take, Give, Wa
 use Rattle.machine.specs.declared.state.State.{State}
 use Rattle.machine.specs.Moves.{moved}
 use Rattle.machine.specs.NanoMoves.{nano_moved}
-use Rattle.machine.proofs.Lists.Sets.{set_keeps}
+use Rattle.move_laws.proofs.Lists.Sets.{set_keeps}
 
 length_where : {A : Type 0} (changes : Bool) (xs : List A) (k : ℕ) (x : A) → length (if changes then slice_set xs k x else xs) ≡ length xs
 length_where true xs k x = length-set xs k x

@@ -34,12 +34,12 @@ use Rattle.machine.specs.Steps.{decision_of}
 use Rattle.machine.specs.Task.{declared_of, instructions_in}
 use Rattle.machine.specs.Transition.{Transition, left}
 use Rattle.machine.specs.WellFormed.{AreRows, AreTables, IsWellFormed}
-use Rattle.machine.proofs.Fitting.Actions.{fits-action}
-use Rattle.machine.proofs.Fitting.Bodies.{Goes}
-use Rattle.machine.proofs.Fitting.Interrupts.{goes-immediate, goes-interrupt}
-use Rattle.machine.proofs.Numbers.FewEffects.{tell_few}
-use Rattle.machine.proofs.Reached.AfterHistory.{well_formed-after}
-use Rattle.machine.proofs.Reached.Histories.{after-push, legal-push, slot_can}
+use Rattle.machine_laws.proofs.Fitting.Actions.{fits-action}
+use Rattle.machine_laws.proofs.Fitting.Bodies.{Goes}
+use Rattle.machine_laws.proofs.Fitting.Interrupts.{goes-immediate, goes-interrupt}
+use Rattle.move_laws.proofs.Numbers.FewEffects.{tell_few}
+use Rattle.machine_laws.proofs.Reached.AfterHistory.{well_formed-after}
+use Rattle.machine_laws.proofs.Reached.Histories.{after-push, legal-push, slot_can}
 
 -- a table of a well-formed state is small, also the one that isn't there
 small_table : (tables : List (List HandleSlot)) → AreTables tables → (k : ℕ) → IsSmallTable (get_or tables k [])

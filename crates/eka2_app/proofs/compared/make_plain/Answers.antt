@@ -1,5 +1,5 @@
 use Rattle.std.proofs.Common.{◌∙◌, ◌+◌, ap, arith}
-use Rattle.machine.proofs.ValidSlots.{valid_slot_is_declared, valid_slots_few}
+use Rattle.machine_laws.proofs.ValidSlots.{valid_slot_is_declared, valid_slots_few}
 use Rattle.eka2_app.proofs.Runs.{run_longer}
 use Rattle.eka2_app.proofs.compared.make_plain.Goals as goal
 

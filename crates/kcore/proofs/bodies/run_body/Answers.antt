@@ -5,7 +5,7 @@ use Rattle.machine.specs.declared.moves.Move.{Move}
 use Rattle.machine.specs.declared.state.State.{State}
 use Rattle.machine.specs.Bodies.{leave_queue, ops_moves, ops_of, run_body}
 use Rattle.machine.specs.Moves.{perform, tell}
-use Rattle.machine.proofs.Fitting.Bodies.{short_body}
+use Rattle.machine_laws.proofs.Fitting.Bodies.{short_body}
 use Rattle.kernel_tables.specs.Moved.{MovesGo}
 use Rattle.kernel_tables.specs.Performed.{IsPerformed}
 use Rattle.kernel_tables.specs.ReadyQueues.{Follow, leave_along}

@@ -12,9 +12,9 @@ use Rattle.machine.specs.Choice.{priority_of, priority_of_row}
 use Rattle.machine.specs.References.{count_of}
 use Rattle.machine.specs.WellFormed.{AreApart}
 use Rattle.machine.specs.Moves.{use_of_row}
-use Rattle.machine.proofs.AtBoot.Born.{born_few, each_born}
-use Rattle.machine.proofs.AtBoot.BootRows.{rows-boot, well_formed-boot}
-use Rattle.machine.proofs.Numbers.CountSmall.{count_small}
+use Rattle.machine_laws.proofs.AtBoot.Born.{born_few, each_born}
+use Rattle.machine_laws.proofs.AtBoot.BootRows.{rows-boot, well_formed-boot}
+use Rattle.move_laws.proofs.Numbers.CountSmall.{count_small}
 use Rattle.kcore.specs.BootTable.{AreNew, FirstStand}
 use Rattle.kernel_tables.specs.Counts.{Agrees}
 use Rattle.kernel_tables.specs.ReadyQueues.{AreReady}

@@ -1,5 +1,5 @@
 use Rattle.std.proofs.Common.{◌∙◌, sym, ap, ℕ, None, ◌∷◌, ◌+◌}
-use Rattle.machine.proofs.Reached.LeftRows.{rows_from_left}
+use Rattle.machine_laws.proofs.Reached.LeftRows.{rows_from_left}
 use Rattle.machine.specs.FinalRows.{rows_from}
 use Rattle.kernel_tables.specs.StateOf.{state_of}
 use Rattle.kcore.proofs.ListSteps.{slice_get_row}

@@ -1,4 +1,4 @@
-use Rattle.machine.proofs.Reached.AfterHistory.{well_formed-after}
+use Rattle.machine_laws.proofs.Reached.AfterHistory.{well_formed-after}
 use Rattle.machine_safe.proofs.told.state_is_well_formed.Goals as goal
 
 pub returns : goal.returns

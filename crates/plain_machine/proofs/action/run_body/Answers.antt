@@ -1,7 +1,7 @@
 use Rattle.std.proofs.Common.{◌≤◌, List, length, ap, subst, sym, arith}
 use Rattle.script_types.specs.declared.declaration.Op.{Op}
 use Rattle.machine.specs.declared.moves.Move.{Move}
-use Rattle.machine.proofs.Fitting.Bodies.{short_body}
+use Rattle.machine_laws.proofs.Fitting.Bodies.{short_body}
 use Rattle.plain_machine.proofs.Performing.{room_for_body}
 use Rattle.plain_machine.proofs.action.run_body.Goals as goal
 

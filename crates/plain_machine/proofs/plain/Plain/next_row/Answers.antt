@@ -1,4 +1,4 @@
-use Rattle.machine.proofs.Numbers.CountSmall.{count_small}
+use Rattle.move_laws.proofs.Numbers.CountSmall.{count_small}
 use Rattle.plain_machine.proofs.Steps.{formed_plain}
 use Rattle.plain_machine.proofs.plain.Plain.next_row.Goals as goal
 

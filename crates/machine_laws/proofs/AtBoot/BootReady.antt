@@ -1,0 +1,95 @@
+-- The ready list at boot.
+use Rattle.std.proofs.Common.{◌≡◌, ℕ, suc, zero, ◌+◌, ◌<◌, List, [], ◌∷◌, length, get_or, arith, refl, sym, ap, ◌∙◌, Option, Some, None, Bool, true, false, map}
+use Rattle.std.specs.Prelude.{◌||◌, ◌&&◌, not, is_some, if◌then◌else◌}
+use Rattle.std.proofs.lemmas.Bool.{eq-eqb}
+use Rattle.sym_base.specs.declared.number.ObjNo.{ObjNo}
+use Rattle.script_types.specs.declared.script.Script.{Script}
+use Rattle.script_types.specs.Shape.{IsShaped}
+use Rattle.state_rows.specs.declared.duty.Owed.{Owed}
+use Rattle.machine.specs.declared.boot.Born.{Born}
+use Rattle.state_rows.specs.declared.thread.ThreadRow.{ThreadRow}
+use Rattle.machine.specs.Arrivals.{is_listed}
+use Rattle.state_rows.specs.DeclaredCalls.{calls_of}
+use Rattle.machine.specs.Boot.{boot, boot_of, born, ready_from}
+use Rattle.machine.specs.Rows.{first_of}
+use Rattle.machine.specs.Task.{task_of, task_of_row, is_wait, is_waiting, is_waiting_row, is_stopped}
+use Rattle.machine.specs.WellFormed.{AreApart, IsReadyList}
+use Rattle.machine_laws.proofs.AtBoot.Born.{IsNewThread, EachBorn, each_born}
+use Rattle.machine_laws.proofs.AtBoot.BootNano.{is_held_at, unprotected, stopped-boot}
+use Rattle.move_laws.proofs.References.Same.{eqb_apart}
+
+-- whether the one at a place works
+abbrev works_at : List Born → ℕ → Bool
+works_at [] i = false
+works_at (b ∷ bs) zero = b.works
+works_at (b ∷ bs) (suc i) = works_at bs i
+
+-- a thread before or behind the first of a list stands in it where it stands in the rest
+listed_later : (n : ℕ) (rest : List ObjNo) (works : Bool) (u : ObjNo) → (n ≡ u.0 → ⊥) → is_listed (if works then record { 0 = n } ∷ rest else rest) u ≡ is_listed rest u
+listed_later n rest true u apart = ap (λ (b : Bool). b || is_listed rest u) (eqb_apart n u.0 apart)
+listed_later n rest false u apart = refl
+
+listed_below : (n : ℕ) (bs : List Born) (u : ObjNo) → u.0 < n → is_listed (ready_from n bs) u ≡ false
+listed_below n [] u lt = refl
+listed_below n (b ∷ bs) u lt = listed_later n (ready_from (n + 1) bs) b.works u (λ e. absurd (omega arith)) ∙ listed_below (n + 1) bs u (omega arith)
+
+listed_first : (n : ℕ) (rest : List ObjNo) (works : Bool) (u : ObjNo) → n ≡ u.0 → is_listed rest u ≡ false → is_listed (if works then record { 0 = n } ∷ rest else rest) u ≡ works
+listed_first n rest true u at out = ap (λ (b : Bool). b || is_listed rest u) (eq-eqb n u.0 at)
+listed_first n rest false u at out = out
+
+listed_at : (n : ℕ) (bs : List Born) (i : ℕ) (u : ObjNo) → u.0 ≡ n + i → is_listed (ready_from n bs) u ≡ works_at bs i
+listed_at n [] i u at = refl
+listed_at n (b ∷ bs) zero u at = listed_first n (ready_from (n + 1) bs) b.works u (omega arith) (listed_below (n + 1) bs u (omega arith))
+listed_at n (b ∷ bs) (suc i) u at = listed_later n (ready_from (n + 1) bs) b.works u (λ e. absurd (omega arith)) ∙ listed_at (n + 1) bs i u (omega arith)
+
+-- who works isn't held and has something to do
+works_is : (script : Script) (n : ℕ) (bs : List Born) (i : ℕ) → EachBorn script n bs → works_at bs i ≡ (not (is_held_at bs i) && is_some (task_of_row script (calls_of script) false None (get_or (map (λ b. b.thread) bs) i None)))
+works_is script n [] i h = refl
+works_is script n (b ∷ bs) zero h = h.0.works
+works_is script n (b ∷ bs) (suc i) h = works_is script n bs i h.1
+
+-- nobody waits
+row_goes_on : (n : ℕ) (thread : Option ThreadRow) → ((row : ThreadRow) → thread ≡ Some row → IsNewThread n row) → is_waiting_row thread ≡ false
+row_goes_on n None rows = refl
+row_goes_on n (Some row) rows = ap is_wait (rows row refl).waiting
+
+goes_on : (script : Script) (n : ℕ) (bs : List Born) (i : ℕ) → EachBorn script n bs → is_waiting_row (get_or (map (λ b. b.thread) bs) i None) ≡ false
+goes_on script n [] i h = refl
+goes_on script n (b ∷ bs) zero h = row_goes_on n b.thread h.0.row
+goes_on script n (b ∷ bs) (suc i) h = goes_on script n bs i h.1
+
+owes_nothing : (bs : List Born) (i : ℕ) → ◌≡◌ {A = Option Owed} None (first_of (get_or (map (λ _. []) bs) i []))
+owes_nothing [] i = refl
+owes_nothing (b ∷ bs) zero = refl
+owes_nothing (b ∷ bs) (suc i) = owes_nothing bs i
+
+apart_step : (n : ℕ) (rest : List ObjNo) (works : Bool) → is_listed rest (record { 0 = n }) ≡ false → AreApart rest → AreApart (if works then record { 0 = n } ∷ rest else rest)
+apart_step n rest true out h = (out, h)
+apart_step n rest false out h = h
+
+ready_apart : (n : ℕ) (bs : List Born) → AreApart (ready_from n bs)
+ready_apart n [] = tt
+ready_apart n (b ∷ bs) = apart_step n (ready_from (n + 1) bs) b.works (listed_below (n + 1) bs (record { 0 = n }) (omega arith)) (ready_apart (n + 1) bs)
+
+task-boot : (script : Script) (u : ObjNo) → ◌≡◌ {A = Bool} (is_some (task_of script (boot script) u)) (is_some (task_of_row script (calls_of script) false None (get_or (map (λ b. b.thread) (born script)) u.0 None)))
+unfolding boot_of
+task-boot script u =
+    let bs = born script in
+    ap (λ (protected : Bool). is_some (task_of_row script (calls_of script) protected (first_of (get_or (map (λ _. []) bs) u.0 [])) (get_or (map (λ b. b.thread) bs) u.0 None))) (unprotected script.fast bs u)
+    ∙ ap (λ (first : Option Owed). is_some (task_of_row script (calls_of script) false first (get_or (map (λ b. b.thread) bs) u.0 None))) (sym (owes_nothing bs u.0))
+
+ready_is : (waits stopped task held work : Bool) → waits ≡ false → stopped ≡ held → task ≡ work → (not waits && not stopped && task) ≡ (not held && work)
+ready_is waits stopped task held work a b c = ap (λ x. not x && not stopped && task) a ∙ (ap (λ x. not x && task) b ∙ ap (λ x. not held && x) c)
+
+-- exactly the threads that have something to do and aren't held are listed, once
+pub ready-boot : (script : Script) → IsShaped script → IsReadyList script (boot script) (boot script).ready
+unfolding boot_of
+ready-boot script shaped =
+    let bs = born script in
+    let each = each_born script shaped in
+    record {
+      exact = λ u. listed_at 0 bs u.0 u (omega arith) ∙ works_is script (length bs) bs u.0 each
+          ∙ sym (ready_is (is_waiting (boot script) u) (is_stopped (boot script) u) (is_some (task_of script (boot script) u)) (is_held_at bs u.0) _
+          (goes_on script (length bs) bs u.0 each) (stopped-boot script.fast (calls_of script) bs u) (task-boot script u));
+      once = ready_apart 0 bs;
+    }

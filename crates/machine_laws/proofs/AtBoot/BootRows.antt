@@ -1,0 +1,154 @@
+-- The state at boot is well-formed.
+use Rattle.std.proofs.Common.{◌≡◌, ◌⊎◌, inl, inr, ℕ, suc, zero, ◌+◌, ◌<◌, ◌≤◌, List, [], ◌∷◌, length, get_or, arith, refl, sym, subst, ap, ◌∙◌, Option, Some, None, map, replicate}
+use Rattle.std.specs.Prelude.{is_some, if◌then◌else◌}
+use Rattle.std.proofs.lemmas.List.{length-map, length-replicate, get_or_past}
+use Rattle.std.proofs.lemmas.Bool.{cases_lt}
+use Rattle.sym_base.specs.declared.number.ObjNo.{ObjNo}
+use Rattle.script_types.specs.declared.script.Script.{Script}
+use Rattle.script_types.specs.Shape.{IsShaped}
+use Rattle.script_types.specs.Source.{IsValid}
+use Rattle.script_types.proofs.ShapeLaws.{valid_is_shaped}
+use Rattle.sym_base.specs.declared.limits.TheConstants.Limits.{DEVICES, OBJECTS}
+use Rattle.state_rows.specs.RequestChanges.{new_rows as request_rows}
+use Rattle.state_rows.specs.declared.duty.Owed.{Owed}
+use Rattle.machine.specs.declared.boot.Born.{Born}
+use Rattle.state_rows.specs.declared.handle_slot.HandleSlot.{HandleSlot}
+use Rattle.state_rows.specs.declared.thread.ThreadRow.{ThreadRow}
+use Rattle.machine.specs.Boot.{boot, boot_of, born}
+use Rattle.state_rows.specs.HandleSlots.{fresh_slot, slot_at}
+use Rattle.machine.specs.References.{total, option_names, slot_names, thread_names, kernel_names, owed_names, mutex_names, count_of}
+use Rattle.machine.specs.Rows.{thread_of}
+use Rattle.state_rows.specs.HandleSlots.{IsTable}
+use Rattle.machine.specs.WellFormed.{EachMayOwe, AreRequests, AreRows, IsWellFormed, IsAlive, is_dead, dead_bit, owed_sweeps, weight}
+use Rattle.machine_laws.proofs.AtBoot.BootCounts.{counted-boot}
+use Rattle.machine_laws.proofs.AtBoot.BootLinks.{each_linked, linked_at}
+use Rattle.machine_laws.proofs.AtBoot.BootLocks.{locks-boot, memories-boot, nothing_at}
+use Rattle.machine_laws.proofs.AtBoot.BootNano.{synchronized-boot}
+use Rattle.machine_laws.proofs.AtBoot.BootReady.{ready-boot}
+use Rattle.machine_laws.proofs.AtBoot.BootRequests.{requests-boot}
+use Rattle.machine_laws.proofs.AtBoot.BootServers.{servers-boot}
+use Rattle.machine_laws.proofs.AtBoot.Born.{IsNewThread, EachBorn, each_born, born_few, born_row}
+use Rattle.move_laws.proofs.Lists.Copies.{copy_at}
+use Rattle.move_laws.proofs.References.Same.{same_other}
+
+total-replicate : {A : Type 0} (f : A → ℕ) (x : A) (n : ℕ) → f x ≡ 0 → total f (replicate n x) ≡ 0
+total-replicate f x zero h = refl
+total-replicate f x (suc n) h = let r = total-replicate f x n h in omega arith
+
+pub total-const : {A B : Type 0} (f : B → ℕ) (y : B) (xs : List A) → f y ≡ 0 → total f (map (λ _. y) xs) ≡ 0
+total-const f y [] h = refl
+total-const f y (x ∷ xs) h = let r = total-const f y xs h in omega arith
+
+pub const_either : {A B : Type 0} (y d : B) (xs : List A) (i : ℕ) → (get_or (map (λ _. y) xs) i d ≡ y) ⊎ (get_or (map (λ _. y) xs) i d ≡ d)
+const_either y d [] i = inr refl
+const_either y d (x ∷ xs) zero = inl refl
+const_either y d (x ∷ xs) (suc i) = const_either y d xs i
+
+const_at : {A B : Type 0} (y d : B) (xs : List A) (i : ℕ) → i < length xs → get_or (map (λ _. y) xs) i d ≡ y
+const_at y d [] i h = absurd (omega arith)
+const_at y d (x ∷ xs) zero h = refl
+const_at y d (x ∷ xs) (suc i) h = const_at y d xs i (omega arith)
+
+-- nothing is dead at boot, and each object is alive
+born_dead : (script : Script) (n : ℕ) (bs : List Born) (i : ℕ) → EachBorn script n bs → is_dead (get_or (map (λ b. Some b.object) bs) i None) ≡ 0
+born_dead script n [] i h = refl
+born_dead script n (b ∷ bs) zero h = ap dead_bit h.0.alive
+born_dead script n (b ∷ bs) (suc i) h = born_dead script n bs i h.1
+
+born_alive : (script : Script) (n : ℕ) (bs : List Born) (i : ℕ) → EachBorn script n bs → i < length bs → IsAlive (get_or (map (λ b. Some b.object) bs) i None)
+born_alive script n [] i h lt = absurd (omega arith)
+born_alive script n (b ∷ bs) zero h lt = h.0.alive
+born_alive script n (b ∷ bs) (suc i) h lt = born_alive script n bs i h.1 (omega arith)
+
+-- no row names an object past those at boot
+thread_names_past : (n : ℕ) (o : ObjNo) (thread : Option ThreadRow) → n ≤ o.0 → ((row : ThreadRow) → thread ≡ Some row → IsNewThread n row) → thread_names o thread ≡ 0
+thread_names_past n o None le rows = refl
+thread_names_past n o (Some row) le rows =
+    let new = rows row refl in
+    let before = new.process in
+    let link : option_names o row.link ≡ 0 = ap (option_names o) new.link ∙ same_other row.process o (λ e. absurd (omega arith)) in
+    let used : option_names o row.uses ≡ 0 = ap (option_names o) new.uses in
+    omega arith
+
+born_threads_past : (script : Script) (n : ℕ) (o : ObjNo) (bs : List Born) → n ≤ o.0 → EachBorn script n bs → total (thread_names o) (map (λ b. b.thread) bs) ≡ 0
+born_threads_past script n o [] le h = refl
+born_threads_past script n o (b ∷ bs) le h =
+    let a = thread_names_past n o b.thread le h.0.row in
+    let r = born_threads_past script n o bs le h.1 in omega arith
+
+-- a count at boot is of an object that stands there
+pub boot_count_inside : (script : Script) → IsShaped script → (o : ObjNo) → length (born script) ≤ o.0 → count_of (boot script) o ≡ 0
+unfolding boot_of
+boot_count_inside script shaped o le =
+    let handles = total-const (total (slot_names o)) (replicate 256 fresh_slot) (born script) (total-replicate (slot_names o) fresh_slot 256 refl) in
+    let threads = born_threads_past script (length (born script)) o (born script) le (each_born script shaped) in
+    let none : thread_of (boot script) o ≡ None = get_or_past (map (λ b. b.thread) (born script)) o.0 None (simp length-map le) in
+    let kernel : kernel_names (boot script) o ≡ 0 = ap (λ x. if is_some x then 1 else 0) none in
+    let owed = total-const (total (owed_names o)) [] (born script) refl in
+    let mutexes = total-const (total (mutex_names o)) [] (born script) refl in
+    omega arith
+
+fresh_instances : (n i : ℕ) → (slot_at (replicate n fresh_slot) i).instance ≤ 16383
+fresh_instances zero i = omega arith
+fresh_instances (suc n) zero = omega arith
+fresh_instances (suc n) (suc i) = fresh_instances n i
+
+fresh_table : IsTable (replicate 256 fresh_slot)
+fresh_table = record { size = length-replicate 256 fresh_slot; instances = fresh_instances 256; counted = λ i o is. let none = copy_at fresh_slot 256 i in let object = ap (λ (slot : HandleSlot). slot.object) none in absurd (cc) }
+
+pub rows-boot : (script : Script) → IsValid script → AreRows script (boot script)
+unfolding boot_of
+rows-boot script valid =
+    let shaped = valid_is_shaped script valid in
+    let bs = born script in
+    let few = born_few script shaped in
+    let each = each_born script shaped in
+    let objects = length-map bs (λ b. Some b.object) in
+    let threads = length-map bs (λ b. b.thread) in
+    record {
+      sized = record {
+        tables = length-map bs (λ _. replicate 256 fresh_slot) ∙ sym threads;
+        duties = length-map bs (λ _. []) ∙ sym threads;
+        first = omega arith;
+        supervised = omega arith;
+        threads_few = omega arith;
+        objects_few = omega arith;
+      };
+      tables = λ k inside. subst IsTable (sym (const_at (replicate 256 fresh_slot) [] bs k (let a = length-map bs (λ _. replicate 256 fresh_slot) in omega arith))) fresh_table;
+      threads = record {
+        rows = λ k row is. let new = born_row script (length bs) bs k row each is in
+            let process = new.process in
+            let next = new.next_instruction in
+            record {
+              process = omega arith;
+              link = λ p at. let same : Some row.process ≡ Some p = sym new.link ∙ at in let e : row.process ≡ p = cc in ap (λ (x : ObjNo). x.0) (sym e);
+              priority = new.priority;
+              next_instruction = omega arith;
+              unused = λ _. new.uses;
+              registers = new.registers;
+            };
+        processes = λ k row is. linked_at bs bs k row (each_linked script) is;
+        servers = λ k queue row is serves. servers-boot script k queue row is serves;
+      };
+      duties = record {
+        own = λ k. nothing_at bs (EachMayOwe (map (λ b. b.thread) bs) k) k tt;
+        few = λ k. nothing_at bs (λ (l : List Owed). total weight l ≤ 12) k (omega arith);
+        returns = λ k _. nothing_at bs (λ (l : List Owed). l ≡ []) k refl;
+      };
+      nano = synchronized-boot script shaped;
+      deferred = record { idfcs = refl; places = refl; queues = length-replicate {A = List ℕ} (1 + length script.queues) []; known = tt };
+      requests = subst (λ (n : ℕ). AreRequests n (request_rows (length bs) DEVICES)) (sym threads) (requests-boot (length bs));
+      locks = locks-boot (length (map (λ b. Some b.object) bs)) OBJECTS bs refl;
+      memories = memories-boot script shaped;
+      lives = record {
+        alive = λ o c. elim (cases_lt o.0 (length bs)) [
+          | inl lt ↦ born_alive script (length bs) bs o.0 each lt
+          | inr le ↦ let z = boot_count_inside script shaped o le in absurd (omega arith)
+        ];
+        counted = counted-boot script valid;
+        sweeps = λ o. total-const (total (owed_sweeps o)) [] bs refl ∙ sym (born_dead script (length bs) bs o.0 each);
+      };
+    }
+
+pub well_formed-boot : (script : Script) → IsValid script → IsWellFormed script (boot script)
+well_formed-boot script valid = record { rows = rows-boot script valid; ready = ready-boot script (valid_is_shaped script valid) }

@@ -1,0 +1,220 @@
+-- What holds of each that stands at boot.
+use Rattle.std.proofs.Common.{◌≡◌, ℕ, suc, zero, ◌+◌, ◌<◌, ◌≤◌, List, [], ◌∷◌, ◌++◌, length, get_or, map, arith, refl, sym, subst, ap, ◌∙◌, Option, Some, None, Bool, true, false}
+use Rattle.std.specs.Prelude.{codes, slice_get, is_some, not, ◌&&◌, if◌then◌else◌, nat_le, IsTrue}
+use Rattle.std.specs.List.{list_all}
+use Rattle.std.proofs.lemmas.Bool.{and_parts, leb-true}
+use Rattle.std.proofs.lemmas.List.{length-append, append_assoc}
+use Rattle.script_types.specs.declared.script.Script.{Script}
+use Rattle.script_types.specs.declared.declaration.ThreadDecl.{ThreadDecl}
+use Rattle.script_types.specs.declared.declaration.ProcessDecl.{ProcessDecl}
+use Rattle.script_types.specs.declared.declaration.QueueDecl.{QueueDecl}
+use Rattle.script_types.specs.declared.instruction.Instr.{Instr}
+use Rattle.script_types.specs.Shape.{IsShaped}
+use Rattle.state_rows.specs.Deferred.{next_of, priority_of}
+use Rattle.sym_base.specs.Greatest.{first_of_greatest}
+use Rattle.machine.specs.declared.boot.Born.{Born}
+use Rattle.state_rows.specs.declared.thread.Role.{Role}
+use Rattle.state_rows.specs.declared.thread.Role.TheVariants.{Supervisor, Queue, Declared}
+use Rattle.state_rows.specs.declared.thread.ThreadRow.{ThreadRow}
+use Rattle.state_rows.specs.declared.thread.Waiting.TheVariants as waiting
+use Rattle.state_rows.specs.DeclaredCalls.{calls_of}
+use Rattle.machine.specs.Boot.{born, born_kernel, born_process, born_queues, born_thread, born_threads, born_processes, new_thread, has_any, is_of}
+use Rattle.machine.specs.Task.{instructions_in, run_or, step_or_end, task_of_row}
+use Rattle.move_laws.proofs.Lists.Copies.{copy_at}
+
+-- a thread's row, n being the number of those that stand at boot: it has made no step, and is linked to its process
+pub record IsNewThread (n : ℕ) (row : ThreadRow) : Type 0 where
+  pub process : row.process.0 < n
+  pub link : row.link ≡ Some row.process
+  pub priority : row.priority ≤ 63
+  pub waiting : row.waiting ≡ waiting.Nothing
+  pub next_instruction : row.next_instruction ≡ 0
+  pub part : row.part ≡ None
+  pub uses : row.uses ≡ None
+  pub registers : length row.registers ≡ 8
+
+-- an object is alive, and works exactly where it isn't held and is a thread that has something to do
+pub record IsBorn (script : Script) (n : ℕ) (b : Born) : Type 0 where
+  pub alive : b.object.dead ≡ false
+  pub row : (row : ThreadRow) → b.thread ≡ Some row → IsNewThread n row
+  pub works : b.works ≡ (not b.held && is_some (task_of_row script (calls_of script) false None b.thread))
+
+abbrev pub EachBorn : Script → ℕ → List Born → Type 0
+EachBorn script n [] = Unit {0}
+EachBorn script n (b ∷ bs) = IsBorn script n b × EachBorn script n bs
+
+each_born-append : (script : Script) (n : ℕ) (xs ys : List Born) → EachBorn script n xs → EachBorn script n ys → EachBorn script n (xs ++ ys)
+each_born-append script n [] ys h k = k
+each_born-append script n (x ∷ xs) ys h k = (h.0, each_born-append script n xs ys h.1 k)
+
+works_has_first : (instrs : List Instr) → has_any instrs ≡ is_some (step_or_end false (slice_get instrs 0))
+works_has_first [] = refl
+works_has_first (x ∷ xs) = refl
+
+both_ways : (a b c : Bool) → a ≡ c → (a && b) ≡ (b && c)
+both_ways true true c e = e
+both_ways true false c e = refl
+both_ways false true c e = e
+both_ways false false c e = refl
+
+slice_get-behind : (pre : List ThreadDecl) (d : ThreadDecl) (ds : List ThreadDecl) → slice_get (pre ++ d ∷ ds) (length pre) ≡ Some d
+slice_get-behind [] d ds = refl
+slice_get-behind (x ∷ xs) d ds = slice_get-behind xs d ds
+
+is_new_thread : (n p : ℕ) (role : Role) (priority : ℕ) → p < n → priority ≤ 63 → (row : ThreadRow) → Some (new_thread p role priority) ≡ Some row → IsNewThread n row
+is_new_thread n p role priority lt few row is =
+    let e : new_thread p role priority ≡ row = cc in
+    subst (λ (r : ThreadRow). IsNewThread n r) e (record { process = lt; link = refl; priority = few; waiting = refl; next_instruction = refl; part = refl; uses = refl; registers = refl })
+
+is_born_thread : (script : Script) (n p k : ℕ) (d : ThreadDecl) → p < n → d.priority ≤ 63 → slice_get script.threads k ≡ Some d → IsBorn script n (born_thread p k d)
+is_born_thread script n p k d lt few at = record {
+  alive = refl;
+  row = λ row is. is_new_thread n p (Declared k) d.priority lt few row is;
+  works = both_ways (has_any d.instrs) (not d.held) _ (works_has_first d.instrs ∙ ap (λ (x : Option ThreadDecl). is_some (step_or_end false (slice_get (instructions_in x) 0))) (sym at));
+}
+
+each_born_threads_step : (script : Script) (n p : ℕ) (k : ℕ) (d : ThreadDecl) (rest : List Born) (b : Bool) → IsBorn script n (born_thread p k d) → EachBorn script n rest → EachBorn script n (if b then born_thread p k d ∷ rest else rest)
+each_born_threads_step script n p k d rest true one more = (one, more)
+each_born_threads_step script n p k d rest false one more = more
+
+each_born_threads : (script : Script) → IsShaped script → (n : ℕ) (j : Option ℕ) (p : ℕ) (pre ds : List ThreadDecl) → p < n → script.threads ≡ pre ++ ds → EachBorn script n (born_threads j p (length pre) ds)
+each_born_threads script shaped n j p pre [] lt e = tt
+each_born_threads script shaped n j p pre (d ∷ ds) lt e =
+    let more : EachBorn script n (born_threads j p (length (pre ++ d ∷ [])) ds) = each_born_threads script shaped n j p (pre ++ d ∷ []) ds lt (e ∙ sym (append_assoc pre (d ∷ []) ds)) in
+    let long : length (pre ++ d ∷ []) ≡ length pre + 1 = length-append pre (d ∷ []) in
+    let at : slice_get script.threads (length pre) ≡ Some d = ap (λ l. slice_get l (length pre)) e ∙ slice_get-behind pre d ds in
+    each_born_threads_step script n p (length pre) d (born_threads j p (length pre + 1) ds) (is_of j d.process)
+    (is_born_thread script n p (length pre) d lt (shaped.threads (length pre) d at).priority at)
+    (subst (λ (k : ℕ). EachBorn script n (born_threads j p k ds)) long more)
+
+none_some : (x : Option ThreadRow) (row : ThreadRow) → x ≡ None → x ≡ Some row → ⊥
+none_some x row e h = cc
+
+is_born_process : (script : Script) (n : ℕ) (name : List ℕ) → IsBorn script n (born_process name)
+is_born_process script n name = record { alive = refl; row = λ row is. absurd (none_some None row refl is); works = refl }
+
+each_born_processes : (script : Script) → IsShaped script → (n j p : ℕ) (ds : List ProcessDecl) → p + length (born_processes script.threads j p ds) ≤ n → EachBorn script n (born_processes script.threads j p ds)
+each_born_processes script shaped n j p [] le = tt
+each_born_processes script shaped n j p (d ∷ ds) le =
+    let threads = born_threads (Some j) p 0 script.threads in
+    let rest = born_processes script.threads (j + 1) (p + 1 + length threads) ds in
+    let long = length-append threads rest in (
+      is_born_process script n d.name,
+      each_born-append script n threads rest
+          (each_born_threads script shaped n (Some j) p [] script.threads (omega arith) refl)
+          (each_born_processes script shaped n (j + 1) (p + 1 + length threads) ds (omega arith)),
+    )
+
+-- no call is queued
+no_call : (script : Script) (q : ℕ) → next_of (calls_of script) q ≡ None
+no_call script q = ap (first_of_greatest (priority_of (calls_of script))) (copy_at {A = List ℕ} [] (1 + length script.queues) q)
+
+no_work : (script : Script) (q : ℕ) → false ≡ is_some (run_or (next_of (calls_of script) q) None)
+no_work script q = ap (λ (call : Option ℕ). is_some (run_or call None)) (sym (no_call script q))
+
+each_born_queues : (script : Script) (n q : ℕ) (ds : List QueueDecl) → 0 < n → IsTrue (list_all (λ (d : QueueDecl). nat_le d.priority 63) ds) → EachBorn script n (born_queues q ds)
+each_born_queues script n q [] lt few = tt
+each_born_queues script n q (d ∷ ds) lt few =
+    let parts = and_parts (nat_le d.priority 63) (list_all (λ (x : QueueDecl). nat_le x.priority 63) ds) few in (
+      record { alive = refl; row = λ row is. is_new_thread n 0 (Queue q) d.priority lt (leb-true d.priority 63 parts.0) row is; works = no_work script q },
+      each_born_queues script n (q + 1) ds lt parts.1,
+    )
+
+each_born_kernel : (script : Script) → IsShaped script → (n : ℕ) → 0 < n → EachBorn script n (born_kernel script)
+each_born_kernel script shaped n some = (
+  is_born_process script n (codes "kernel"),
+  (
+    record { alive = refl; row = λ row is. is_new_thread n 0 Supervisor 48 some (omega arith) row is; works = no_work script 0 },
+    each_born-append script n (born_queues 1 script.queues) (born_threads None 0 0 script.threads)
+        (each_born_queues script n 1 script.queues some shaped.numbers.queues)
+        (each_born_threads script shaped n None 0 [] script.threads some refl),
+  ),
+)
+
+length_queues : (q : ℕ) (ds : List QueueDecl) → length (born_queues q ds) ≡ length ds
+length_queues q [] = refl
+length_queues q (d ∷ ds) = let r = length_queues (q + 1) ds in omega arith
+
+pub each_born : (script : Script) → IsShaped script → EachBorn script (length (born script)) (born script)
+each_born script shaped =
+    let n = length (born script) in
+    let first = length (born_kernel script) in
+    let rest = born_processes script.threads 0 first script.processes in
+    let long = length-append (born_kernel script) rest in
+    each_born-append script n (born_kernel script) rest (each_born_kernel script shaped n (omega arith)) (each_born_processes script shaped n 0 first script.processes (omega arith))
+
+-- Threads stand in groups: the kernel threads, and then those of each process. This is the number of the process
+-- whose threads are the group behind one
+next : Option ℕ → ℕ
+next None = 0
+next (Some j) = j + 1
+
+-- 1 where a thread is of this group or a later one
+from_group : Option ℕ → Option ℕ → ℕ
+from_group None process = 1
+from_group (Some j) None = 0
+from_group (Some j) (Some i) = if nat_le j i then 1 else 0
+
+count_from : Option ℕ → List ThreadDecl → ℕ
+count_from j [] = 0
+count_from j (d ∷ ds) = from_group j d.process + count_from j ds
+
+one_of_step : (j process : Option ℕ) → (if is_of j process then 1 else 0) + from_group (Some (next j)) process ≤ from_group j process
+unfolding from_group next
+one_of_step None None = omega arith
+one_of_step None (Some i) = grind arith
+one_of_step (Some j) None = omega arith
+one_of_step (Some j) (Some i) = grind arith
+
+length_if : (b : Bool) (x : Born) (rest : List Born) → length (if b then x ∷ rest else rest) ≡ (if b then 1 else 0) + length rest
+length_if true x rest = omega arith
+length_if false x rest = omega arith
+
+threads_of_group : (j : Option ℕ) (p k : ℕ) (ds : List ThreadDecl) → length (born_threads j p k ds) + count_from (Some (next j)) ds ≤ count_from j ds
+unfolding count_from
+threads_of_group j p k [] = omega arith
+threads_of_group j p k (d ∷ ds) =
+    let r = threads_of_group j p (k + 1) ds in
+    let one = one_of_step j d.process in
+    let e = length_if (is_of j d.process) (born_thread p k d) (born_threads j p (k + 1) ds) in omega arith
+
+threads_of_process : (j p : ℕ) (ds : List ThreadDecl) → length (born_threads (Some j) p 0 ds) + count_from (Some (j + 1)) ds ≤ count_from (Some j) ds
+unfolding next
+threads_of_process j p ds = threads_of_group (Some j) p 0 ds
+
+kernel_threads : (ds : List ThreadDecl) → length (born_threads None 0 0 ds) + count_from (Some 0) ds ≤ count_from None ds
+unfolding next
+kernel_threads ds = threads_of_group None 0 0 ds
+
+processes_length : (threads : List ThreadDecl) (j p : ℕ) (ds : List ProcessDecl) → length (born_processes threads j p ds) ≤ length ds + count_from (Some j) threads
+processes_length threads j p [] = omega arith
+processes_length threads j p (d ∷ ds) =
+    let own = born_threads (Some j) p 0 threads in
+    let r = processes_length threads (j + 1) (p + 1 + length own) ds in
+    let t = threads_of_process j p threads in
+    let e = length-append own (born_processes threads (j + 1) (p + 1 + length own) ds) in
+    omega arith
+
+count_from_all : (ds : List ThreadDecl) → count_from None ds ≡ length ds
+unfolding count_from from_group
+count_from_all [] = refl
+count_from_all (d ∷ ds) = let r = count_from_all ds in omega arith
+
+-- at most 81 stand at boot
+pub born_few : (script : Script) → IsShaped script → length (born script) ≤ 81
+born_few script h =
+    let first = length (born_kernel script) in
+    let a = processes_length script.threads 0 first script.processes in
+    let b = kernel_threads script.threads in
+    let c = h.processes in
+    let d = h.count in
+    let e = count_from_all script.threads in
+    let f = length-append (born_kernel script) (born_processes script.threads 0 first script.processes) in
+    let g = length-append (born_queues 1 script.queues) (born_threads None 0 0 script.threads) in
+    let i = length_queues 1 script.queues in omega arith
+
+-- each row at boot is a new thread's
+pub born_row : (script : Script) (n : ℕ) (bs : List Born) (i : ℕ) (row : ThreadRow) → EachBorn script n bs → get_or (map (λ b. b.thread) bs) i None ≡ Some row → IsNewThread n row
+born_row script n [] i row h is = cc
+born_row script n (b ∷ bs) zero row h is = h.0.row row is
+born_row script n (b ∷ bs) (suc i) row h is = born_row script n bs i row h.1 is

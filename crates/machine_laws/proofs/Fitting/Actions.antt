@@ -1,0 +1,205 @@
+-- What a thread does in an action: moves that fit, or it pays the oldest of what it owes.
+use Rattle.std.proofs.Common.{◌≡◌, ◌⊎◌, inl, inr, ℕ, ◌<◌, List, [], ◌∷◌, length, arith, refl, sym, subst, ap, ◌∙◌, Option, Some, None, Bool, true, false}
+use Rattle.std.specs.Prelude.{not, ◌&&◌, is_some, is_none, slice_get}
+use Rattle.std.proofs.lemmas.Bool.{cases_lt}
+use Rattle.std.proofs.lemmas.List.{append-nil, get_or_past}
+use Rattle.std.proofs.lemmas.Option.{slice_get_past}
+use Rattle.sym_base.specs.declared.number.ObjNo.{ObjNo}
+use Rattle.script_types.specs.declared.script.Script.{Script}
+use Rattle.script_types.specs.declared.instruction.Instr.{Instr}
+use Rattle.script_types.specs.declared.instruction.Instr.TheVariants as instr
+use Rattle.script_types.specs.Shape.{IsShaped}
+use Rattle.script_types.proofs.LimitLaws.{both}
+use Rattle.entry_log.specs.declared.step.Part.{Part}
+use Rattle.entry_log.specs.declared.step.Part.TheVariants as part
+use Rattle.state_rows.specs.Nano.{is_protected, wanted_holder}
+use Rattle.state_rows.specs.declared.duty.Owed.{Owed}
+use Rattle.machine.specs.declared.decision.Decision.{Decision}
+use Rattle.machine.specs.declared.moves.Move.{Move}
+use Rattle.machine.specs.declared.moves.Move.TheVariants as move
+use Rattle.machine.specs.declared.plan.Body.TheVariants.{Deferred}
+use Rattle.state_rows.specs.declared.thread.Waiting.{Waiting}
+use Rattle.state_rows.specs.declared.thread.Waiting.TheVariants as waiting
+use Rattle.state_rows.specs.declared.thread.ThreadRow.{ThreadRow}
+use Rattle.machine.specs.declared.state.State.{State}
+use Rattle.machine.specs.Rows.{thread_of, owed_of, first_of, first_owed}
+use Rattle.machine.specs.Moves.{moved, told, perform, tell}
+use Rattle.machine.specs.References.{total}
+use Rattle.machine.specs.CriticalSection.{flush}
+use Rattle.machine.specs.Steps.{step_of, return_of, decision_of_row, decision_where, decision_of}
+use Rattle.machine.specs.Task.{instruction, instructions_of, is_returning, end_task, next_call, pay_or, return_or, run_or, step_or_end, task_of_row, task_of, is_wait, is_waiting_row, is_waiting, is_stopped, is_ready, is_able}
+use Rattle.machine.specs.Fits.{Fits, Sane}
+use Rattle.machine.specs.WellFormed.{AreRows, is_before_use, part_of, weight}
+use Rattle.move_laws.proofs.Lists.Totals.{inside}
+use Rattle.move_laws.proofs.Numbers.FewEffects.{tell_few}
+use Rattle.move_laws.proofs.Numbers.Registers.{has_registers, has_names, has_ranges}
+use Rattle.move_laws.proofs.MoveLaws.Sound.{Sound, sound-none}
+use Rattle.move_laws.proofs.MoveLaws.Run.{each-sound, sound-pay}
+use Rattle.machine_laws.proofs.Fitting.Stepping.{FitsDecision, IsStepping, fits-nothing}
+use Rattle.machine_laws.proofs.Fitting.KernelThreads.{none_is, fits-flock, fits-funlock, fits-fswait, fits-fssignal, fits-enter, fits-leave, fits-flush, fits-suspend, fits-resume, fits-priority}
+use Rattle.machine_laws.proofs.Fitting.Bodies.{Goes, goes-body}
+use Rattle.machine_laws.proofs.Fitting.Requests.{fits-queue, fits-request, fits-cancel, fits-waitany, fits-waitfor, fits-status}
+use Rattle.machine_laws.proofs.Fitting.Locks.{fits-lock, fits-unlock, fits-wait, fits-signal}
+use Rattle.machine_laws.proofs.Fitting.MemoryCalls.{fits-fill, fits-peek}
+use Rattle.machine_laws.proofs.Fitting.Steps.{fits-create_mutex, fits-create_semaphore, fits-dup, fits-duplocal, fits-open, fits-open_return, fits-close}
+
+-- the steps of instructions fit
+fits-step : (script : Script) (S : State) (t : ObjNo) (row : ThreadRow) (instr : Instr) (p : Option Part) → IsStepping script S t row instr → is_returning row.part ≡ false → row.part ≡ p → FitsDecision script t S (step_of script S t row instr p)
+fits-step script S t row (instr.CreateMutex name x) p h going at = fits-create_mutex name x h
+fits-step script S t row (instr.CreateSemaphore name count x) p h going at = fits-create_semaphore name count x h
+fits-step script S t row (instr.Open kind name x) p h going at = fits-open kind name x p h h.registers at
+fits-step script S t row (instr.Dup x y) p h going at = fits-dup x y p h h.registers.1 at
+fits-step script S t row (instr.DupLocal x y) p h going at = fits-duplocal x y p h h.registers.1 at
+fits-step script S t row (instr.Close x) p h going at = fits-close x h going
+fits-step script S t row (instr.Lock x) p h going at = fits-lock x p h at
+fits-step script S t row (instr.Unlock x) p h going at = fits-unlock x p h going at
+fits-step script S t row (instr.Wait x) p h going at = fits-wait x p h at
+fits-step script S t row (instr.Signal x) p h going at = fits-signal x p h at
+fits-step script S t row (instr.Flock f) p h going at = fits-flock f p h
+fits-step script S t row (instr.Funlock f) p h going at = fits-funlock f h
+fits-step script S t row instr.Fswait p h going at = fits-fswait p h
+fits-step script S t row (instr.Fssignal name) p h going at = fits-fssignal name h
+fits-step script S t row instr.Enter p h going at = fits-enter h
+fits-step script S t row instr.Leave p h going at = fits-leave h
+fits-step script S t row (instr.Suspend x) p h going at = fits-suspend x p h at
+fits-step script S t row (instr.Resume x) p h going at = fits-resume x p h at
+fits-step script S t row (instr.Priority x priority) p h going at = fits-priority x priority p h at
+fits-step script S t row (instr.Queue name) p h going at = fits-queue name h
+fits-step script S t row (instr.Request d s) p h going at = fits-request d s h
+fits-step script S t row (instr.Cancel d) p h going at = fits-cancel d h
+fits-step script S t row instr.WaitAny p h going at = fits-waitany p h
+fits-step script S t row (instr.WaitFor s) p h going at = fits-waitfor s p h
+fits-step script S t row (instr.Status s) p h going at = fits-status s h
+fits-step script S t row (instr.Fill at length byte) p h going is = fits-fill at length byte h
+fits-step script S t row (instr.Peek at) p h going is = fits-peek at h
+fits-step script S t row _ p h going at = fits-nothing script S t
+
+-- and so do their returns
+fits-returning : (script : Script) (S : State) (t : ObjNo) (row : ThreadRow) (instr : Instr) → IsStepping script S t row instr → is_before_use row.part ≡ true → FitsDecision script t S (return_of S t row instr)
+fits-returning script S t row (instr.Open kind name x) h before = fits-open_return h before
+fits-returning script S t row _ h before = fits-nothing script S t
+
+returning_before : (p : Option Part) → is_returning p ≡ true → is_before_use p ≡ true
+returning_before None e = refl
+returning_before (Some part.Return) e = refl
+returning_before (Some _) e = cc
+
+-- the thread pays the oldest of what it owes, and does nothing else
+pub record Pays (S : State) (t : ObjNo) (ms : List Move) : Type 0 where
+  pub what : Owed
+  pub rest : List Owed
+  pub moves : ms ≡ move.Pay what ∷ []
+  pub owes : owed_of S t ≡ what ∷ rest
+
+goes_by : (script : Script) (S : State) (t : ObjNo) (d : Decision) → owed_of S t ≡ [] → FitsDecision script t S d → Goes script t S d.moves
+goes_by script S t d nothing fits = record { each = fits.each; few = let a : total weight (owed_of S t) ≡ 0 = ap (total weight) nothing in let b = fits.light in omega arith; told = fits.told }
+
+idles : (script : Script) (S : State) (t : ObjNo) → AreRows script S → Goes script t S []
+idles script S t rows = record { each = tt; few = let a = rows.duties.few t.0 in omega arith; told = omega arith }
+
+-- a number at which a list has something is inside the list
+pub slice_get_inside : {A : Type 0} (xs : List A) (i : ℕ) (x : A) → slice_get xs i ≡ Some x → i < length xs
+slice_get_inside xs i x h = elim (cases_lt i (length xs)) [ inl lt ↦ lt | inr le ↦ let past = slice_get_past xs i le in cc ]
+
+-- what is known of a thread that is able
+record IsAble (S : State) (t : ObjNo) (row : ThreadRow) : Type 0 where
+  pub waits : row.waiting ≡ waiting.Nothing
+  pub free : wanted_holder S.nano t ≡ None
+
+waits_not : (what : Waiting) → not (is_wait what) ≡ true → what ≡ waiting.Nothing
+waits_not waiting.Nothing e = refl
+waits_not _ e = absurd (cc)
+
+able_is : (script : Script) (S : State) (t : ObjNo) (row : ThreadRow) → thread_of S t ≡ Some row → is_able script S t ≡ true → IsAble S t row
+able_is script S t row is able =
+    let parts = both (is_ready script S t) (is_none (wanted_holder S.nano t)) able in
+    let ready = both (not (is_waiting S t) && not (is_stopped S t)) (is_some (task_of script S t)) parts.0 in
+    let still = both (not (is_waiting S t)) (not (is_stopped S t)) ready.0 in
+    record {
+      waits = waits_not row.waiting (sym (ap (λ (r : Option ThreadRow). not (is_waiting_row r)) is) ∙ still.0);
+      free = none_is (wanted_holder S.nano t) parts.1;
+    }
+
+stepping : (script : Script) (S : State) (t : ObjNo) (row : ThreadRow) (instr : Instr) → IsShaped script → AreRows script S → thread_of S t ≡ Some row → IsAble S t row → instruction script row ≡ Some instr → owed_of S t ≡ [] → IsStepping script S t row instr
+stepping script S t row instr shaped rows is able at nothing = record {
+  rows = rows;
+  is = is;
+  next = slice_get_inside (instructions_of script row.role) row.next_instruction instr at;
+  paid = nothing;
+  registers = has_registers script row instr shaped at;
+  names = has_names script row instr shaped at;
+  ranges = has_ranges script row instr shaped at;
+  waits = able.waits;
+  free = able.free;
+}
+
+-- a thread that is there may act
+pub sane-of : (script : Script) (S : State) (t : ObjNo) (row : ThreadRow) → AreRows script S → thread_of S t ≡ Some row → Sane script t S
+sane-of script S t row rows is = record { rows = rows; inside = inside S.threads t.0 row is }
+
+-- at its list's end
+end-acts : (script : Script) (S : State) (t : ObjNo) (row : ThreadRow) (protected : Bool) → AreRows script S → thread_of S t ≡ Some row → owed_of S t ≡ [] → Goes script t S (decision_of_row script S t (Some row) (end_task protected)).moves
+end-acts script S t row true rows is o = goes_by script S t (flush S t) o (fits-flush script S t row rows is)
+end-acts script S t row false rows is o = idles script S t rows
+
+row-acts : (script : Script) (S : State) (t : ObjNo) (row : ThreadRow) (protected returns : Bool) (at : Option Instr) (owed : List Owed) (call : Option ℕ) → IsShaped script → AreRows script S → thread_of S t ≡ Some row → IsAble S t row → is_returning row.part ≡ returns → instruction script row ≡ at → owed_of S t ≡ owed
+    → let d = decision_of_row script S t (Some row) (return_or returns at (pay_or (first_of owed) (run_or call (step_or_end protected at)))) in Goes script t S d.moves ⊎ Pays S t d.moves
+row-acts script S t row protected true (Some instr) owed call shaped rows is able r e o =
+    let nothing = rows.duties.returns t.0 (ap (λ (x : Option ThreadRow). is_returning (part_of x)) is ∙ r) in
+    inl (goes_by script S t (return_of S t row instr) nothing (fits-returning script S t row instr (stepping script S t row instr shaped rows is able e nothing) (returning_before row.part r)))
+row-acts script S t row protected true None (what ∷ rest) call shaped rows is able r e o = inr (record { what = what; rest = rest; moves = refl; owes = o })
+row-acts script S t row protected true None [] (Some dfc) shaped rows is able r e o = inl (goes-body script S t (Deferred dfc) shaped (sane-of script S t row rows is))
+row-acts script S t row protected true None [] None shaped rows is able r e o = inl (end-acts script S t row protected rows is o)
+row-acts script S t row protected false at (what ∷ rest) call shaped rows is able r e o = inr (record { what = what; rest = rest; moves = refl; owes = o })
+row-acts script S t row protected false at [] (Some dfc) shaped rows is able r e o = inl (goes-body script S t (Deferred dfc) shaped (sane-of script S t row rows is))
+row-acts script S t row protected false None [] None shaped rows is able r e o = inl (end-acts script S t row protected rows is o)
+row-acts script S t row protected false (Some instr) [] None shaped rows is able r e o = inl (goes_by script S t (step_of script S t row instr row.part) o (fits-step script S t row instr row.part (stepping script S t row instr shaped rows is able e o) r refl))
+
+-- the thread of this row, if there is one
+able-acts : (script : Script) (S : State) (t : ObjNo) (row : Option ThreadRow) → IsShaped script → AreRows script S → thread_of S t ≡ row → is_able script S t ≡ true
+    → let d = decision_of_row script S t row (task_of_row script S.deferred (is_protected S.nano t) (first_owed S t) row) in Goes script t S d.moves ⊎ Pays S t d.moves
+able-acts script S t None shaped rows is able = inl (idles script S t rows)
+able-acts script S t (Some row) shaped rows is able =
+    row-acts script S t row (is_protected S.nano t) (is_returning row.part) (instruction script row) (owed_of S t) (next_call S.deferred row.role) shaped rows is (able_is script S t row is able) refl refl refl
+
+-- one that isn't able does nothing
+acts : (script : Script) (S : State) (t : ObjNo) (able : Bool) → IsShaped script → AreRows script S → is_able script S t ≡ able → let d = decision_where script able S t (task_of script S t) in Goes script t S d.moves ⊎ Pays S t d.moves
+acts script S t false shaped rows able = inl (idles script S t rows)
+acts script S t true shaped rows able = able-acts script S t (thread_of S t) shaped rows refl able
+
+-- such moves fit, and tell four effects at most
+pub fits_goes : (script : Script) (S : State) (t : ObjNo) (ms : List Move) → Goes script t S ms → Fits script t ms S
+fits_goes script S t ms goes = record { each = goes.each; few = goes.few; told = let a = tell_few t ms S in let b = goes.told in omega arith }
+
+-- what a thread does in its next action: moves that fit, or it pays the oldest of what it owes
+pub fits-action : (script : Script) (S : State) (t : ObjNo) → IsShaped script → AreRows script S → Fits script t (decision_of script S t).moves S ⊎ Pays S t (decision_of script S t).moves
+fits-action script S t shaped rows = elim (acts script S t (is_able script S t) shaped rows refl) as (λ _. Fits script t (decision_of script S t).moves S ⊎ Pays S t (decision_of script S t).moves) [
+  | inl goes ↦ inl (fits_goes script S t (decision_of script S t).moves goes)
+  | inr pays ↦ inr pays
+]
+
+-- What a thread does in its next action, by what it is: moves that fit, a payment of the oldest of what it owes, or nothing at a number past the
+-- threads.
+pub of_action : (script : Script) (S : State) (t : ObjNo) (P : List Move → Type 0) → IsShaped script → AreRows script S
+    → ((ms : List Move) → Sane script t S → Goes script t S ms → P ms) → ((what : Owed) (rest : List Owed) → Sane script t S → owed_of S t ≡ what ∷ rest → P (move.Pay what ∷ [])) → P [] → P (decision_of script S t).moves
+of_action script S t P shaped rows goes pays none = elim (cases_lt t.0 (length S.threads)) as (λ _. P (decision_of script S t).moves) [
+  | inl within ↦
+      let sane : Sane script t S = record { rows = rows; inside = within } in
+      elim (acts script S t (is_able script S t) shaped rows refl) as (λ _. P (decision_of script S t).moves) [
+        | inl fits ↦ goes (decision_of script S t).moves sane fits
+        | inr paid ↦ subst P (sym paid.moves) (pays paid.what paid.rest sane paid.owes)
+      ]
+  | inr past ↦ subst P (sym (no_thread script S t (get_or_past S.threads t.0 None past) (is_able script S t))) none
+]
+  where
+    no_thread : (script : Script) (S : State) (t : ObjNo) → thread_of S t ≡ None → (able : Bool) → (decision_where script able S t (task_of script S t)).moves ≡ []
+    no_thread script S t none false = refl
+    no_thread script S t none true = rw none refl
+
+pub sound-pays : (script : Script) (S : State) (t : ObjNo) (what : Owed) (rest : List Owed) → Sane script t S → owed_of S t ≡ what ∷ rest → Sound script S (perform t (move.Pay what ∷ []) S) (tell t (move.Pay what ∷ []) S)
+sound-pays script S t what rest sane owes = subst (Sound script S (moved t (move.Pay what) S)) (sym (append-nil (told (move.Pay what) S))) (sound-pay script S t what rest owes sane)
+
+-- what an action of a thread does
+pub sound-action : (script : Script) (S : State) (t : ObjNo) → IsShaped script → AreRows script S → Sound script S (perform t (decision_of script S t).moves S) (tell t (decision_of script S t).moves S)
+sound-action script S t shaped rows = of_action script S t (λ (ms : List Move). Sound script S (perform t ms S) (tell t ms S)) shaped rows
+    (λ ms sane goes. each-sound script S t ms goes.each goes.few sane) (λ what rest sane owes. sound-pays script S t what rest sane owes) (sound-none script S rows)

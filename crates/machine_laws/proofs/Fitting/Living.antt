@@ -1,0 +1,74 @@
+-- Objects that are referred to are alive.
+use Rattle.std.proofs.Common.{◌≡◌, ℕ, suc, zero, ◌<◌, List, [], ◌∷◌, length, get_or, arith, refl, ap, Option, Some, None, Bool, true, false}
+use Rattle.std.specs.Prelude.{not, position, nat_lt, ◌||◌, if◌then◌else◌}
+use Rattle.std.proofs.lemmas.List.Quantifiers.{position-Some}
+use Rattle.sym_base.specs.declared.number.ObjNo.{ObjNo}
+use Rattle.sym_base.specs.declared.kind.Kind.{Kind}
+use Rattle.state_rows.specs.ObjectRows.{has_name, is_dead_row, is_session, named, numbered}
+use Rattle.state_rows.specs.declared.object.ObjectRow.{ObjectRow}
+use Rattle.state_rows.specs.declared.thread.ThreadRow.{ThreadRow}
+use Rattle.machine.specs.declared.state.State.{State}
+use Rattle.machine.specs.Rows.{object_of, table_of, thread_of}
+use Rattle.state_rows.specs.HandleSlots.{slot_at, fresh_slot}
+use Rattle.machine.specs.References.{total, same, option_names, slot_names, thread_names, count_of}
+use Rattle.machine.specs.Find.{find_object, findable, is_open}
+use Rattle.machine.specs.WellFormed.{IsAlive, AreLives}
+use Rattle.move_laws.proofs.Lists.Totals.{inside, total_at_least}
+use Rattle.move_laws.proofs.References.Same.{same_self}
+use Rattle.move_laws.proofs.RowLaws.Tables.{slot_inside, table_inside}
+
+-- an object with a handle is alive
+pub handle_is_alive : (S : State) (owner : ObjNo) (i : ℕ) (o : ObjNo) → AreLives S → (slot_at (table_of S owner) i).object ≡ Some o → IsAlive (object_of S o)
+handle_is_alive S owner i o lives is =
+    let within = slot_inside (table_of S owner) i o is in
+    let named : slot_names o (slot_at (table_of S owner) i) ≡ same o o = ap (option_names o) is in
+    let self = same_self o in
+    let inner = total_at_least (slot_names o) (table_of S owner) i fresh_slot within in
+    let outer = total_at_least (total (slot_names o)) S.handles owner.0 [] (table_inside S.handles owner.0 i within) in
+    lives.alive o (omega arith)
+
+-- what a thread uses is alive
+pub use_is_alive : (S : State) (t : ObjNo) (row : ThreadRow) (o : ObjNo) → AreLives S → thread_of S t ≡ Some row → row.uses ≡ Some o → IsAlive (object_of S o)
+use_is_alive S t row o lives is uses =
+    let at = total_at_least (thread_names o) S.threads t.0 None (inside S.threads t.0 row is) in
+    let was : thread_names o (thread_of S t) ≡ thread_names o (Some row) = ap (thread_names o) is in
+    let used : option_names o row.uses ≡ same o o = ap (option_names o) uses in
+    let self = same_self o in
+    lives.alive o (omega arith)
+
+-- what is alive was made
+pub alive_inside : (objects : List (Option ObjectRow)) (i : ℕ) → IsAlive (get_or objects i None) → i < length objects
+alive_inside [] i h = absurd h
+alive_inside (x ∷ xs) zero h = omega arith
+alive_inside (x ∷ xs) (suc i) h = let r = alive_inside xs i h in omega arith
+
+not_dead : (dead : Bool) → not dead ≡ true → dead ≡ false
+not_dead true e = cc
+not_dead false e = refl
+
+-- what may be opened is alive
+pub open_is_alive : (row : Option ObjectRow) → is_open row ≡ true → IsAlive row
+open_is_alive None e = cc
+open_is_alive (Some row) e = not_dead row.dead e
+
+number_inside : (rows : List (Option ObjectRow)) (p : Option ℕ) (o : ObjNo) → ((n : ℕ) → p ≡ Some n → n < length rows) → numbered p ≡ Some o → o.0 < length rows
+number_inside rows None o within e = cc
+number_inside rows (Some n) o within e = let at : n ≡ o.0 = cc in let lt = within n refl in omega arith
+
+guard_step : (b : Bool) (x : Option ObjNo) (o : ObjNo) → (if b then None else x) ≡ Some o → x ≡ Some o
+guard_step true x o e = cc
+guard_step false x o e = e
+
+seen_step : (b : Bool) (x o : ObjNo) → (if b then Some x else None) ≡ Some o → Some x ≡ Some o
+seen_step true x o e = e
+seen_step false x o e = cc
+
+findable_is : (S : State) (x : Option ObjNo) (o : ObjNo) → findable S x ≡ Some o → x ≡ Some o
+findable_is S None o e = cc
+findable_is S (Some x) o e = seen_step (is_dead_row (object_of S x) || nat_lt 0 (count_of S x)) x o e
+
+-- what is found by name was made
+pub found_inside : (S : State) (kind : Kind) (name : List ℕ) (o : ObjNo) → find_object S kind name ≡ Some o → o.0 < length S.objects
+found_inside S kind name o e =
+    number_inside S.objects (position (has_name kind name) S.objects) o (λ n at. (position-Some (has_name kind name) S.objects n None at).0)
+    (findable_is S (named kind name S.objects) o (guard_step (is_session kind) (findable S (named kind name S.objects)) o e))

@@ -1,0 +1,152 @@
+-- The steps of mutexes and semaphores.
+use Rattle.std.proofs.Common.{◌≡◌, ℕ, arith, refl, sym, ap, ◌∙◌, Option, Some, None, false}
+use Rattle.std.specs.Prelude.{pos, ◌==◌, [], ◌∷◌, is_some, option_map}
+use Rattle.std.proofs.lemmas.Bool.{eq-eqb}
+use Rattle.sym_base.specs.declared.error.Error.TheVariants as error
+use Rattle.sym_base.specs.declared.kind.Kind.TheVariants.{Mutex, Semaphore}
+use Rattle.sym_base.specs.declared.number.ObjNo.{ObjNo}
+use Rattle.sym_base.specs.declared.word.Word.TheVariants as word
+use Rattle.script_types.specs.declared.script.Script.{Script}
+use Rattle.script_types.specs.declared.instruction.Instr.{Instr}
+use Rattle.entry_log.specs.declared.step.Part.{Part}
+use Rattle.entry_log.specs.declared.step.Part.TheVariants as part
+use Rattle.entry_log.specs.declared.step.Step.{Step}
+use Rattle.entry_log.specs.declared.step.Step.TheVariants.{Of}
+use Rattle.state_rows.specs.Locks.{owner_at, count_at, waiters_at, best_waiter}
+use Rattle.state_rows.specs.LockChanges.{lock_answer, unlock_answer, signal_answer}
+use Rattle.state_rows.specs.Nano.{held_by}
+use Rattle.state_rows.specs.declared.locks.Locked.{Locked}
+use Rattle.state_rows.specs.declared.locks.Locked.TheVariants.{Taken, Again, Waits}
+use Rattle.state_rows.specs.declared.locks.Signalled.{Signalled}
+use Rattle.state_rows.specs.declared.locks.Signalled.TheVariants as signalled
+use Rattle.state_rows.specs.declared.locks.Unlocked.{Unlocked}
+use Rattle.state_rows.specs.declared.locks.Unlocked.TheVariants.{Level, Freed, Passed, NotOwner}
+use Rattle.state_rows.specs.declared.thread.Waiting.TheVariants as waiting
+use Rattle.state_rows.specs.declared.thread.ThreadRow.{ThreadRow}
+use Rattle.machine.specs.declared.lock_move.LockMove.{LockMove}
+use Rattle.machine.specs.declared.lock_move.LockMove.TheVariants.{Lock, Unlock, WaitOn, Signal}
+use Rattle.machine.specs.declared.moves.Move.TheVariants as move
+use Rattle.machine.specs.declared.state.State.{State}
+use Rattle.machine.specs.Choice.{priority_of}
+use Rattle.machine.specs.Decide.{answer, wait_at}
+use Rattle.machine.specs.Fits.{FitsLocks, MayJoin, WaitsNowhere}
+use Rattle.machine.specs.Moves.{moved, with_part, with_waiting}
+use Rattle.machine.specs.MutexCalls.{lock_by, lock_do, lock_step, unlock_by, unlock_do, unlock_step}
+use Rattle.machine.specs.Rows.{object_of, thread_of}
+use Rattle.machine.specs.SemaphoreCalls.{wait_on, wait_do, wait_step, signal_by, signal_do, signal_step}
+use Rattle.machine.specs.Task.{is_returning}
+use Rattle.machine.specs.WellFormed.{IsAlive, is_before_use, part_of}
+use Rattle.move_laws.proofs.Holders.ThreadRows.{row-here}
+use Rattle.move_laws.proofs.Lists.Cases.{if_cases}
+use Rattle.move_laws.proofs.Readiness.FirstReady.{greatest_listed}
+use Rattle.machine_laws.proofs.Fitting.KernelThreads.{fits-answer, fits-look_kind, fits-unless}
+use Rattle.machine_laws.proofs.Fitting.Living.{alive_inside, use_is_alive}
+use Rattle.machine_laws.proofs.Fitting.Stepping.{FitsDecision, IsStepping, fits-answers, fits-nothing, fits-refuse, at_instruction, at-with_row}
+use Rattle.machine_laws.proofs.Fitting.Waiters.{passed_is, stepping_nowhere, struck_nowhere, woke_is}
+
+-- an answer after a move in the rows of mutexes and semaphores, and where a waiter goes on after it
+fits-locked : {script : Script} {S : State} {t : ObjNo} {row : ThreadRow} {instr : Instr} (told : Step) (m : LockMove) → IsStepping script S t row instr → FitsLocks t m S → FitsDecision script t S (answer t told (move.Locks m ∷ []) (pos 0))
+fits-locked {row = row} told m h fits = fits-answers told (move.Locks m ∷ []) (pos 0) (fits, tt) (record { row = row; is = h.is; next = h.next }) (omega arith) (omega arith)
+
+fits-woken : {script : Script} {S : State} {t : ObjNo} {row : ThreadRow} {instr : Instr} (told : Step) (m : LockMove) (w : ObjNo) → IsStepping script S t row instr → FitsLocks t m S → WaitsNowhere (moved t (move.Locks m) S) w → FitsDecision script t S (answer t told (move.Locks m ∷ move.Wake w ∷ []) (pos 0))
+fits-woken {script = script} {S = S} {t = t} told m w h fits nowhere = fits-answers told (move.Locks m ∷ move.Wake w ∷ []) (pos 0) (fits, (nowhere, tt))
+    (at-with_row script S _ t w (with_waiting waiting.Nothing) (record { role = λ r. refl; next = λ r. refl }) refl (at_instruction h)) (omega arith) (omega arith)
+
+-- the state in which the thread waits for an object, and comes to stand among its waiters
+abbrev waiting_at : State → ObjNo → ObjNo → State
+waiting_at S t o = moved t (move.Wait t (waiting.Lock o)) (moved t (move.GoOn t part.Done) S)
+
+waits_there : {script : Script} {S : State} {t : ObjNo} {row : ThreadRow} {instr : Instr} (o : ObjNo) → IsStepping script S t row instr → thread_of (waiting_at S t o) t ≡ Some (with_waiting (waiting.Lock o) (with_part part.Done row))
+waits_there {S = S} {t = t} o h =
+    let goes_on = row-here S.threads t (with_part part.Done) t.0 refl ∙ ap (option_map (with_part part.Done)) h.is in
+    row-here (moved t (move.GoOn t part.Done) S).threads t (with_waiting (waiting.Lock o)) t.0 refl ∙ ap (option_map (with_waiting (waiting.Lock o))) goes_on
+
+fits-wait_at : {script : Script} {S : State} {t : ObjNo} {row : ThreadRow} {instr : Instr} (told : Step) (o : ObjNo) (m : LockMove) → IsStepping script S t row instr → held_by S.nano t ≡ None → (MayJoin (waiting_at S t o) o t → FitsLocks t m (waiting_at S t o)) → FitsDecision script t S (wait_at t told o m)
+fits-wait_at {row = row} told o m h none fits = record {
+  each = (
+    record { unused = λ r is e. absurd (cc); paid = λ e. absurd (cc) },
+    ((none, stepping_nowhere h), (fits (record { waits = record { row = with_waiting (waiting.Lock o) (with_part part.Done row); is = waits_there o h; waits = refl }; nowhere = stepping_nowhere h; paid = h.paid }), tt)),
+  );
+  told = omega arith;
+  light = omega arith;
+}
+
+-- `lock`
+fits-lock_by : {script : Script} {S : State} {t : ObjNo} {row : ThreadRow} {instr : Instr} (o : ObjNo) (locked : Locked) → IsStepping script S t row instr → held_by S.nano t ≡ None → IsAlive (object_of S o) → locked ≡ lock_answer (owner_at S.locks o) t → FitsDecision script t S (lock_by t o locked)
+fits-lock_by o Waits h none alive e = fits-wait_at (Of word.Lock part.Do) o (Lock o _ Waits) h none (λ joins. record { alive = alive; thread = ap is_some joins.waits.is; paid = h.paid; answer = e; joins = λ _. joins })
+fits-lock_by o Taken h none alive e = fits-locked (Of word.Lock part.Do) (Lock o _ Taken) h (record { alive = alive; thread = ap is_some h.is; paid = h.paid; answer = e; joins = λ e. absurd (cc) })
+fits-lock_by o Again h none alive e = fits-locked (Of word.Lock part.Do) (Lock o _ Again) h (record { alive = alive; thread = ap is_some h.is; paid = h.paid; answer = e; joins = λ e. absurd (cc) })
+
+fits-lock_do : {script : Script} {S : State} {t : ObjNo} {row : ThreadRow} {instr : Instr} (uses : Option ObjNo) → IsStepping script S t row instr → row.uses ≡ uses → FitsDecision script t S (lock_do S t uses)
+fits-lock_do {script = script} {S = S} {t = t} None h e = fits-nothing script S t
+fits-lock_do {S = S} {t = t} {row = row} (Some o) h e = fits-unless (Of word.Lock part.Do) _ h (λ none. fits-lock_by o _ h none (use_is_alive S t row o h.rows.lives h.is e) refl)
+
+pub fits-lock : {script : Script} {S : State} {t : ObjNo} {row : ThreadRow} {instr : Instr} (x : ℕ) (p : Option Part) → IsStepping script S t row instr → row.part ≡ p → FitsDecision script t S (lock_step S t row x p)
+fits-lock x None h at = fits-unless (Of word.Lock part.Look) _ h (λ _. fits-look_kind Mutex word.Lock x h (ap is_before_use at))
+fits-lock {row = row} x (Some part.Do) h at = fits-lock_do row.uses h refl
+fits-lock x (Some _) h at = fits-answer (Of word.Lock part.Done) (pos 0) h
+
+-- `unlock`
+fits-unlock_by : {script : Script} {S : State} {t : ObjNo} {row : ThreadRow} {instr : Instr} (o : ObjNo) (unlocked : Unlocked) → IsStepping script S t row instr → is_returning row.part ≡ false → IsAlive (object_of S o)
+    → unlocked ≡ unlock_answer (owner_at S.locks o) t (best_waiter (priority_of S) S.locks o) → FitsDecision script t S (unlock_by t o unlocked)
+fits-unlock_by {script = script} {S = S} {t = t} {row = row} o unlocked h going alive e = by unlocked (
+  refl,
+  record {
+    object = alive_inside S.objects o.0 alive;
+    thread = ap is_some h.is;
+    nowhere = stepping_nowhere h;
+    going = ap (λ (r : Option ThreadRow). is_returning (part_of r)) h.is ∙ going;
+    answer = e;
+  },
+)
+  where
+    by : (u : Unlocked) → FitsLocks t (Unlock o t u) S → FitsDecision script t S (unlock_by t o u)
+    by NotOwner fits = fits-refuse (Of word.Unlock part.Do) error.General h
+    by Level fits = fits-locked (Of word.Unlock part.Do) (Unlock o t Level) h fits
+    by Freed fits = fits-locked (Of word.Unlock part.Do) (Unlock o t Freed) h fits
+    by (Passed w) fits =
+        let best = passed_is (owner_at S.locks o) t (best_waiter (priority_of S) S.locks o) w (sym fits.1.answer) in
+        fits-woken (Of word.Unlock part.Do) (Unlock o t (Passed w)) w h fits (struck_nowhere script S o w h.rows (greatest_listed (priority_of S) (waiters_at S.locks o) w best))
+
+fits-unlock_do : {script : Script} {S : State} {t : ObjNo} {row : ThreadRow} {instr : Instr} (uses : Option ObjNo) → IsStepping script S t row instr → is_returning row.part ≡ false → row.uses ≡ uses → FitsDecision script t S (unlock_do S t uses)
+fits-unlock_do {script = script} {S = S} {t = t} None h going e = fits-nothing script S t
+fits-unlock_do {S = S} {t = t} {row = row} (Some o) h going e = fits-unlock_by o _ h going (use_is_alive S t row o h.rows.lives h.is e) refl
+
+pub fits-unlock : {script : Script} {S : State} {t : ObjNo} {row : ThreadRow} {instr : Instr} (x : ℕ) (p : Option Part) → IsStepping script S t row instr → is_returning row.part ≡ false → row.part ≡ p → FitsDecision script t S (unlock_step S t row x p)
+fits-unlock x None h going at = fits-look_kind Mutex word.Unlock x h (ap is_before_use at)
+fits-unlock {row = row} x (Some p) h going at = fits-unlock_do row.uses h going refl
+
+-- `wait`
+fits-wait_on : {script : Script} {S : State} {t : ObjNo} {row : ThreadRow} {instr : Instr} (o : ObjNo) → IsStepping script S t row instr → held_by S.nano t ≡ None → IsAlive (object_of S o) → FitsDecision script t S (wait_on t o (count_at S.locks o))
+fits-wait_on {script = script} {S = S} {t = t} o h none alive =
+    if_cases (FitsDecision script t S) (count_at S.locks o == 0) _ _
+    (λ _. fits-wait_at (Of word.Wait part.Do) o (WaitOn o t) h none (λ joins. record { alive = alive; joins = λ _. joins }))
+    (λ some. fits-locked (Of word.Wait part.Do) (WaitOn o t) h (record { alive = alive; joins = λ empty. absurd (cc (eq-eqb (count_at S.locks o) 0 empty)) }))
+
+fits-wait_do : {script : Script} {S : State} {t : ObjNo} {row : ThreadRow} {instr : Instr} (uses : Option ObjNo) → IsStepping script S t row instr → row.uses ≡ uses → FitsDecision script t S (wait_do S t uses)
+fits-wait_do {script = script} {S = S} {t = t} None h e = fits-nothing script S t
+fits-wait_do {S = S} {t = t} {row = row} (Some o) h e = fits-unless (Of word.Wait part.Do) _ h (λ none. fits-wait_on o h none (use_is_alive S t row o h.rows.lives h.is e))
+
+pub fits-wait : {script : Script} {S : State} {t : ObjNo} {row : ThreadRow} {instr : Instr} (x : ℕ) (p : Option Part) → IsStepping script S t row instr → row.part ≡ p → FitsDecision script t S (wait_step S t row x p)
+fits-wait x None h at = fits-unless (Of word.Wait part.Look) _ h (λ _. fits-look_kind Semaphore word.Wait x h (ap is_before_use at))
+fits-wait {row = row} x (Some part.Do) h at = fits-wait_do row.uses h refl
+fits-wait x (Some _) h at = fits-answer (Of word.Wait part.Done) (pos 0) h
+
+-- `signal`
+fits-signal_by : {script : Script} {S : State} {t : ObjNo} {row : ThreadRow} {instr : Instr} (o : ObjNo) (answer : Signalled) → IsStepping script S t row instr → IsAlive (object_of S o) → answer ≡ signal_answer (best_waiter (priority_of S) S.locks o) (count_at S.locks o) → FitsDecision script t S (signal_by t o answer)
+fits-signal_by {script = script} {S = S} {t = t} o answer h alive e = by answer (record { object = alive_inside S.objects o.0 alive; answer = e })
+  where
+    by : (s : Signalled) → FitsLocks t (Signal o s) S → FitsDecision script t S (signal_by t o s)
+    by signalled.Overflow fits = fits-refuse (Of word.Signal part.Do) error.Overflow h
+    by signalled.Counted fits = fits-locked (Of word.Signal part.Do) (Signal o signalled.Counted) h fits
+    by (signalled.Woke w) fits =
+        let best = woke_is (best_waiter (priority_of S) S.locks o) (count_at S.locks o) w (sym fits.answer) in
+        fits-woken (Of word.Signal part.Do) (Signal o (signalled.Woke w)) w h fits (struck_nowhere script S o w h.rows (greatest_listed (priority_of S) (waiters_at S.locks o) w best))
+
+fits-signal_do : {script : Script} {S : State} {t : ObjNo} {row : ThreadRow} {instr : Instr} (uses : Option ObjNo) → IsStepping script S t row instr → row.uses ≡ uses → FitsDecision script t S (signal_do S t uses)
+fits-signal_do {script = script} {S = S} {t = t} None h e = fits-nothing script S t
+fits-signal_do {S = S} {t = t} {row = row} (Some o) h e = fits-signal_by o _ h (use_is_alive S t row o h.rows.lives h.is e) refl
+
+pub fits-signal : {script : Script} {S : State} {t : ObjNo} {row : ThreadRow} {instr : Instr} (x : ℕ) (p : Option Part) → IsStepping script S t row instr → row.part ≡ p → FitsDecision script t S (signal_step S t row x p)
+fits-signal x None h at = fits-look_kind Semaphore word.Signal x h (ap is_before_use at)
+fits-signal {row = row} x (Some p) h at = fits-signal_do row.uses h refl

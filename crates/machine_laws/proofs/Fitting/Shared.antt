@@ -1,0 +1,83 @@
+-- Steps that several instructions share: a look, a find and its return, and a new handle.
+use Rattle.std.proofs.Common.{◌≡◌, ℕ, ◌<◌, ◌≤◌, List, [], ◌∷◌, arith, refl, ap, Option, Some, None, true, false}
+use Rattle.std.specs.Prelude.{is_some, slice_index}
+use Rattle.sym_base.specs.declared.kind.Kind.{Kind}
+use Rattle.sym_base.specs.declared.number.ObjNo.{ObjNo}
+use Rattle.sym_base.specs.declared.word.Word.{Word}
+use Rattle.sym_base.specs.declared.error.Error.TheVariants.{NotFound, BadHandle, Overflow}
+use Rattle.script_types.specs.declared.script.Script.{Script}
+use Rattle.script_types.specs.declared.instruction.Instr.{Instr}
+use Rattle.entry_log.specs.declared.effect.Holder.TheVariants.{InProcess, InThread}
+use Rattle.entry_log.specs.declared.step.Part.{Part}
+use Rattle.entry_log.specs.declared.step.Part.TheVariants.{Look, Seek, Return, Do}
+use Rattle.entry_log.specs.declared.step.Step.{Step}
+use Rattle.entry_log.specs.declared.step.Step.TheVariants.{Of}
+use Rattle.machine.specs.declared.handles.NewHandle.{NewHandle}
+use Rattle.machine.specs.declared.moves.Move.{Move}
+use Rattle.machine.specs.declared.moves.Move.TheVariants.{Gain}
+use Rattle.state_rows.specs.declared.thread.ThreadRow.{ThreadRow}
+use Rattle.machine.specs.declared.state.State.{State}
+use Rattle.machine.specs.Rows.{object_of, table_of}
+use Rattle.state_rows.specs.HandleSlots.{free_index, is_full, new_handle}
+use Rattle.machine.specs.Handles.{object_at, process_handle, thread_handle}
+use Rattle.machine.specs.Decide.{give_handle}
+use Rattle.machine.specs.Find.{seek, seek_object, find_object, return_to, is_open}
+use Rattle.machine.specs.Look.{look, look_at}
+use Rattle.machine.specs.Fits.{IsFree, most_told, most_owed}
+use Rattle.machine.specs.WellFormed.{IsAlive, is_before_use}
+use Rattle.move_laws.proofs.Lists.Cases.{if_cases}
+use Rattle.move_laws.proofs.RowLaws.Tables.{free_index_inside, object_of_is}
+use Rattle.machine_laws.proofs.Fitting.Living.{handle_is_alive, open_is_alive, found_inside}
+use Rattle.machine_laws.proofs.Fitting.Stepping.{FitsDecision, IsStepping, fits-refuse, fits-use, fits-handle, may_go_on, at_instruction}
+
+-- a look at a handle
+pub fits-look : {script : Script} {S : State} {t : ObjNo} {row : ThreadRow} {instr : Instr} (word : Word) (x : ℕ) → IsStepping script S t row instr → is_before_use row.part ≡ true → FitsDecision script t S (look S t row word x)
+fits-look {script = script} {S = S} {t = t} {row = row} word x h before = found (object_at S t row (slice_index row.registers x)) refl
+  where
+    found : (named : Option ObjNo) → object_at S t row (slice_index row.registers x) ≡ named → FitsDecision script t S (look_at t word named)
+    found None e = fits-refuse (Of word Look) BadHandle h
+    found (Some o) e = fits-use (Of word Look) o Do h before refl (handle_is_alive S _ _ o h.rows.lives (object_of_is _ _ _ o e))
+
+-- a find by name
+pub fits-seek : {script : Script} {S : State} {t : ObjNo} {row : ThreadRow} {instr : Instr} (word : Word) (kind : Kind) (name : List ℕ) → IsStepping script S t row instr → is_before_use row.part ≡ true → FitsDecision script t S (seek S t word kind name)
+fits-seek {script = script} {S = S} {t = t} word kind name h before = found (find_object S kind name) refl
+  where
+    found : (named : Option ObjNo) → find_object S kind name ≡ named → FitsDecision script t S (seek_object t word named)
+    found None e = fits-refuse (Of word Seek) NotFound h
+    found (Some o) e = record { each = (may_go_on Return h before, (found_inside S kind name o e, tt)); told = omega arith; light = omega arith }
+
+-- and its return
+pub fits-return : {script : Script} {S : State} {t : ObjNo} {row : ThreadRow} {instr : Instr} (word : Word) (part : Part) (o : ObjNo) → IsStepping script S t row instr → is_before_use row.part ≡ true → is_before_use (Some part) ≡ false → FitsDecision script t S (return_to S t word part o)
+fits-return {script = script} {S = S} {t = t} word part o h before later =
+    if_cases (FitsDecision script t S) (is_open (object_of S o)) _ _
+    (λ e. fits-use (Of word Return) o part h before later (open_is_alive (object_of S o) e))
+    (λ _. record { each = (tt, ((refl, at_instruction h), tt)); told = omega arith; light = omega arith })
+
+-- the handle that a table gives next stands in a free slot, of the process or of the thread
+pub of_process_handle : {script : Script} {S : State} {t : ObjNo} {row : ThreadRow} {instr : Instr} (P : Option NewHandle → Type 0) → IsStepping script S t row instr → P None
+    → ((i number : ℕ) → IsFree S (InProcess row.process i) → P (Some (record { holder = InProcess row.process i; number = number }))) → P (process_handle S row.process)
+of_process_handle {S = S} {t = t} {row = row} P h none some =
+    let table = table_of S row.process in
+    if_cases P (is_full table) _ _ (λ _. none) (λ room. some (free_index table) (new_handle false table) (h.rows.threads.processes t.0 row h.is, record { inside = free_index_inside table room; least = refl }))
+
+pub of_thread_handle : {script : Script} {S : State} {t : ObjNo} {row : ThreadRow} {instr : Instr} (P : Option NewHandle → Type 0) → IsStepping script S t row instr → P None
+    → ((i number : ℕ) → IsFree S (InThread t i) → P (Some (record { holder = InThread t i; number = number }))) → P (thread_handle S t)
+of_thread_handle {S = S} {t = t} P h none some =
+    let table = table_of S t in
+    if_cases P (is_full table) _ _ (λ _. none) (λ room. some (free_index table) (new_handle true table) (ap is_some h.is, record { inside = free_index_inside table room; least = refl }))
+
+-- a handle of a living object
+pub fits-give : {script : Script} {S : State} {t : ObjNo} {row : ThreadRow} {instr : Instr} (told : Step) (o : ObjNo) (x : ℕ) → IsStepping script S t row instr → x < 8 → IsAlive (object_of S o) → FitsDecision script t S (give_handle t told o x (process_handle S row.process))
+fits-give {script = script} {S = S} {t = t} {row = row} told o x h register alive =
+    of_process_handle (λ handle. FitsDecision script t S (give_handle t told o x handle)) h (fits-refuse told Overflow h)
+    (λ i number free. fits-handle told (Gain (InProcess row.process i) o ∷ []) x number h register ((free, alive), tt) refl (omega arith) (omega arith))
+
+pub fits-give_own : {script : Script} {S : State} {t : ObjNo} {row : ThreadRow} {instr : Instr} (told : Step) (o : ObjNo) (x : ℕ) → IsStepping script S t row instr → x < 8 → IsAlive (object_of S o) → FitsDecision script t S (give_handle t told o x (thread_handle S t))
+fits-give_own {script = script} {S = S} {t = t} told o x h register alive =
+    of_thread_handle (λ handle. FitsDecision script t S (give_handle t told o x handle)) h (fits-refuse told Overflow h)
+    (λ i number free. fits-handle told (Gain (InThread t i) o ∷ []) x number h register ((free, alive), tt) refl (omega arith) (omega arith))
+
+-- a move that tells one effect at most, and owes nothing
+pub record IsCheap (m : Move) : Type 0 where
+  pub told : most_told m ≤ 1
+  pub light : most_owed m ≡ 0

@@ -1,0 +1,121 @@
+-- What is known where a thread makes a step of an instruction, and how its answers fit.
+use Rattle.state_rows.specs.Nano.{wanted_holder}
+use Rattle.std.proofs.Common.{◌≡◌, ℕ, ℤ, ◌<◌, ◌≤◌, List, [], ◌∷◌, ◌++◌, length, get_or, arith, refl, sym, ap, subst, ◌∙◌, Option, Some, None, true, false}
+use Rattle.std.specs.Prelude.{option_map}
+use Rattle.sym_base.specs.declared.error.Error.{Error}
+use Rattle.sym_base.specs.declared.number.ObjNo.{ObjNo}
+use Rattle.script_types.specs.declared.script.Script.{Script}
+use Rattle.script_types.specs.declared.instruction.Instr.{Instr}
+use Rattle.script_types.specs.declared.source_line.SourceLine.TheVariants as line
+use Rattle.script_types.specs.Ranges.{is_source_line}
+use Rattle.script_types.specs.Resolves.{instr_resolves}
+use Rattle.script_types.specs.Shape.{HasRegisters}
+use Rattle.entry_log.specs.declared.effect.Holder.TheVariants.{Temp}
+use Rattle.entry_log.specs.declared.step.Part.{Part}
+use Rattle.entry_log.specs.declared.step.Step.{Step}
+use Rattle.machine.specs.declared.decision.Decision.{Decision}
+use Rattle.machine.specs.declared.moves.Move.{Move}
+use Rattle.machine.specs.declared.moves.Move.TheVariants.{GoOn, Gain, Write, Advance}
+use Rattle.state_rows.specs.declared.thread.Waiting.TheVariants as waiting
+use Rattle.state_rows.specs.declared.thread.ThreadRow.{ThreadRow}
+use Rattle.machine.specs.declared.state.State.{State}
+use Rattle.machine.specs.Rows.{object_of, thread_of, owed_of, with_row}
+use Rattle.machine.specs.Moves.{moved, perform, with_part, with_register}
+use Rattle.machine.specs.Decide.{nothing, answer, answer_handle, refuse, go_on}
+use Rattle.machine.specs.References.{total}
+use Rattle.machine.specs.HeldIn.{owed_by}
+use Rattle.machine.specs.Task.{instructions_of}
+use Rattle.machine.specs.Fits.{EachFits, most_told, most_owed, IsAtInstruction, MayGoOn, IsFree}
+use Rattle.machine.specs.WellFormed.{IsAlive, AreRows, is_before_use}
+use Rattle.move_laws.proofs.Holders.ThreadRows.{row-here}
+use Rattle.move_laws.proofs.Lists.Totals.{total-append}
+use Rattle.move_laws.proofs.RowLaws.Threads.{row-kept}
+
+-- the moves of a decision fit, and what they tell and owe is little
+pub record FitsDecision (script : Script) (t : ObjNo) (S : State) (d : Decision) : Type 0 where
+  pub each : EachFits script t d.moves S
+  pub told : total most_told d.moves ≤ 4
+  pub light : total most_owed d.moves ≤ 12
+
+-- thread t is about to make a step of this instruction: it owes nothing, doesn't wait, and wants no fast mutex that is
+-- held; and the instruction is one of a valid script
+pub record IsStepping (script : Script) (S : State) (t : ObjNo) (row : ThreadRow) (instr : Instr) : Type 0 where
+  pub rows : AreRows script S
+  pub is : thread_of S t ≡ Some row
+  pub next : row.next_instruction < length (instructions_of script row.role)
+  pub paid : owed_of S t ≡ []
+  pub registers : HasRegisters instr
+  pub names : instr_resolves script instr ≡ true
+  pub ranges : is_source_line (line.Instr instr) ≡ true
+  pub waits : row.waiting ≡ waiting.Nothing
+  pub free : wanted_holder S.nano t ≡ None
+
+pub fits-nothing : (script : Script) (S : State) (t : ObjNo) → FitsDecision script t S nothing
+fits-nothing script S t = record { each = tt; told = omega arith; light = omega arith }
+
+pub at_instruction : {script : Script} {S : State} {t : ObjNo} {row : ThreadRow} {instr : Instr} → IsStepping script S t row instr → IsAtInstruction script S t
+at_instruction {row = row} h = record { row = row; is = h.is; next = h.next }
+
+-- a change of a row that leaves the thread at its instruction
+pub record KeepsInstruction (f : ThreadRow → ThreadRow) : Type 0 where
+  pub role : (row : ThreadRow) → (f row).role ≡ row.role
+  pub next : (row : ThreadRow) → (f row).next_instruction ≡ row.next_instruction
+
+-- a thread is at its instruction still
+pub at-with_row : (script : Script) (S T : State) (t u : ObjNo) (f : ThreadRow → ThreadRow) → KeepsInstruction f → T.threads ≡ with_row S.threads u f → IsAtInstruction script S t → IsAtInstruction script T t
+at-with_row script S T t u f keeps threads at =
+    let r = row-kept S.threads u f t.0 at.row (λ (row : ThreadRow). row.next_instruction < length (instructions_of script row.role))
+    (λ row h. rw (keeps.role row, keeps.next row) h) at.is at.next in
+    record { row = r.0; is = ap (λ (threads : List (Option ThreadRow)). get_or threads t.0 None) threads ∙ r.1; next = r.2 }
+
+pub fits-refuse : {script : Script} {S : State} {t : ObjNo} {row : ThreadRow} {instr : Instr} (told : Step) (error : Error) → IsStepping script S t row instr → FitsDecision script t S (refuse t told error)
+fits-refuse told error h = record { each = ((refl, at_instruction h), tt); told = omega arith; light = omega arith }
+
+-- a thread that made no step but a find goes on to a step
+pub may_go_on : {script : Script} {S : State} {t : ObjNo} {row : ThreadRow} {instr : Instr} (part : Part) → IsStepping script S t row instr → is_before_use row.part ≡ true → MayGoOn S t (Some part)
+may_go_on {S = S} {t = t} {row = row} part h before = record {
+  unused = λ r is _. let same_row : row ≡ r = let a = h.is in cc in subst (λ (x : ThreadRow). x.uses ≡ None) same_row ((h.rows.threads.rows t.0 row h.is).unused before);
+  paid = λ _. h.paid;
+}
+
+-- and uses an object from then on
+pub fits-use : {script : Script} {S : State} {t : ObjNo} {row : ThreadRow} {instr : Instr} (told : Step) (o : ObjNo) (part : Part) → IsStepping script S t row instr → is_before_use row.part ≡ true → is_before_use (Some part) ≡ false → IsAlive (object_of S o) → FitsDecision script t S (go_on t told (Gain (Temp t) o) part)
+fits-use {script = script} {S = S} {t = t} {row = row} told o part h before later alive = record {
+  each = (may_go_on part h before, ((free, alive), tt));
+  told = omega arith;
+  light = omega arith;
+}
+  where
+    free : IsFree (moved t (GoOn t part) S) (Temp t)
+    free = record {
+      row = with_part part row;
+      is = row-here S.threads t (with_part part) t.0 refl ∙ ap (option_map (with_part part)) h.is;
+      later = later;
+      unused = (h.rows.threads.rows t.0 row h.is).unused before;
+      paid = λ x. ap (total (owed_by (Temp t) x)) h.paid;
+    }
+
+-- moves fit behind others, in the state that those leave
+pub fits-both : (script : Script) (S : State) (t : ObjNo) (xs ys : List Move) → EachFits script t xs S → EachFits script t ys (perform t xs S) → EachFits script t (xs ++ ys) S
+fits-both script S t [] ys h more = more
+fits-both script S t (m ∷ xs) ys h more = (h.0, fits-both script (moved t m S) t xs ys h.1 more)
+
+perform-append : (t : ObjNo) (xs ys : List Move) (S : State) → perform t (xs ++ ys) S ≡ perform t ys (perform t xs S)
+perform-append t [] ys S = refl
+perform-append t (m ∷ xs) ys S = perform-append t xs ys (moved t m S)
+
+-- an answer after moves that fit and leave the thread at its instruction
+pub fits-answers : {script : Script} {S : State} {t : ObjNo} (told : Step) (ms : List Move) (code : ℤ) → EachFits script t ms S → IsAtInstruction script (perform t ms S) t → total most_told ms ≤ 4 → total most_owed ms ≤ 8 → FitsDecision script t S (answer t told ms code)
+fits-answers {script = script} {S = S} {t = t} told ms code each at few light =
+    let all_told = total-append most_told ms (Advance t ∷ []) in
+    let all_owed = total-append most_owed ms (Advance t ∷ []) in
+    record { each = fits-both script S t ms (Advance t ∷ []) each ((refl, at), tt); told = omega arith; light = omega arith }
+
+-- a new handle's number, after moves that fit and leave the threads
+pub fits-handle : {script : Script} {S : State} {t : ObjNo} {row : ThreadRow} {instr : Instr} (told : Step) (ms : List Move) (x number : ℕ) → IsStepping script S t row instr → x < 8 → EachFits script t ms S → (perform t ms S).threads ≡ S.threads → total most_told ms ≤ 4 → total most_owed ms ≤ 8 → FitsDecision script t S (answer_handle t told ms x number)
+fits-handle {script = script} {S = S} {t = t} told ms x number h register each stays few light =
+    let more = Write t x number ∷ [] in
+    let all_told = total-append most_told ms more in
+    let all_owed = total-append most_owed ms more in
+    let at = at-with_row script S (perform t more (perform t ms S)) t t (with_register x number) (record { role = λ r. refl; next = λ r. refl }) (ap (λ (threads : List (Option ThreadRow)). with_row threads t (with_register x number)) stays) (at_instruction h) in
+    fits-answers told (ms ++ more) _ (fits-both script S t ms more each (register, tt)) (subst (λ (T : State). IsAtInstruction script T t) (sym (perform-append t ms more S)) at) (omega arith) (omega arith)

@@ -1,0 +1,149 @@
+-- The steps of each instruction.
+use Rattle.std.proofs.Common.{◌≡◌, ◌≢◌, ℕ, ◌<◌, ◌≤◌, List, ◌∷◌, length, get_or, arith, refl, ap, ◌∙◌, Option, Some, None, Bool, true, false}
+use Rattle.std.proofs.lemmas.Bool.{eq-eqb}
+use Rattle.std.proofs.lemmas.List.{length_push}
+use Rattle.std.specs.Prelude.{◌==◌, if◌then◌else◌, is_some, slice_index}
+use Rattle.sym_base.specs.declared.error.Error.TheVariants.{AlreadyExists, Overflow, PermissionDenied, BadHandle}
+use Rattle.sym_base.specs.declared.kind.Kind.{Kind}
+use Rattle.sym_base.specs.declared.kind.Kind.TheVariants.{Mutex, Semaphore}
+use Rattle.sym_base.specs.declared.limits.TheConstants.Limits.{OBJECTS}
+use Rattle.sym_base.specs.declared.number.ObjNo.{ObjNo}
+use Rattle.sym_base.specs.declared.word.Word.{Word}
+use Rattle.sym_base.specs.declared.word.Word.TheVariants as word
+use Rattle.script_types.specs.declared.script.Script.{Script}
+use Rattle.script_types.specs.declared.instruction.Instr.{Instr}
+use Rattle.script_types.specs.declared.instruction.Instr.TheVariants as instr
+use Rattle.state_rows.specs.ObjectRows.{is_taken, is_session}
+use Rattle.entry_log.specs.declared.effect.Holder.TheVariants.{InProcess, InThread}
+use Rattle.entry_log.specs.declared.step.Part.{Part}
+use Rattle.entry_log.specs.declared.step.Part.TheVariants as part
+use Rattle.entry_log.specs.declared.step.Step.TheVariants.{Of}
+use Rattle.machine.specs.declared.handles.NewHandle.{NewHandle}
+use Rattle.machine.specs.declared.lock_move.LockMove.{LockMove}
+use Rattle.machine.specs.declared.lock_move.LockMove.TheVariants.{Start}
+use Rattle.machine.specs.declared.moves.Move.TheVariants.{Make, Lose}
+use Rattle.state_rows.specs.declared.thread.ThreadRow.{ThreadRow}
+use Rattle.machine.specs.declared.state.State.{State}
+use Rattle.machine.specs.Rows.{object_of, table_of}
+use Rattle.machine.specs.Handles.{object_at, holder_of}
+use Rattle.state_rows.specs.HandleSlots.{slot_at}
+use Rattle.state_rows.specs.HandleNumbers.{index_of, is_local}
+use Rattle.machine.specs.Moves.{moved, perform, next_object, new_object, unlinked, threads_closed, threads_lose}
+use Rattle.machine.specs.References.{total, is_last}
+use Rattle.machine.specs.Close.{close_do, close_handle}
+use Rattle.machine.specs.Create.{start_moves, create_do, create_mutex_do, create_semaphore_do, make_with_handle}
+use Rattle.machine.specs.Decide.{give_handle}
+use Rattle.machine.specs.Dup.{dup_do, dup_step, duplocal_step, stays_with_thread}
+use Rattle.machine.specs.Find.{found_object}
+use Rattle.machine.specs.Open.{open_do, open_step, open_return}
+use Rattle.machine.specs.Task.{is_returning}
+use Rattle.machine.specs.Fits.{EachFits, Holds, IsAtInstruction, IsFree, most_told, most_owed}
+use Rattle.machine.specs.WellFormed.{IsAlive, is_before_use, part_of}
+use Rattle.move_laws.proofs.Lists.Cases.{if_cases}
+use Rattle.move_laws.proofs.Numbers.Registers.{count_few}
+use Rattle.move_laws.proofs.RowLaws.Tables.{object_of_is}
+use Rattle.machine_laws.proofs.Fitting.Living.{use_is_alive}
+use Rattle.machine_laws.proofs.Fitting.KernelThreads.{fits-unless}
+use Rattle.machine_laws.proofs.Fitting.Stepping.{FitsDecision, IsStepping, fits-nothing, fits-refuse, fits-handle, at_instruction, at-with_row}
+use Rattle.machine_laws.proofs.Fitting.Shared.{fits-look, fits-seek, fits-return, fits-give, fits-give_own, of_process_handle}
+
+-- what follows the making of an object fits then, and leaves the threads
+record Begins (script : Script) (t : ObjNo) (start : Option LockMove) (T : State) : Type 0 where
+  pub each : EachFits script t (start_moves start) T
+  pub threads : (perform t (start_moves start) T).threads ≡ T.threads
+
+start_told : (start : Option LockMove) → total most_told (start_moves start) ≤ 3
+start_told None = omega arith
+start_told (Some m) = omega arith
+
+start_owed : (start : Option LockMove) → total most_owed (start_moves start) ≤ 4
+start_owed None = omega arith
+start_owed (Some m) = omega arith
+
+-- `create`
+fits-create : {script : Script} {S : State} {t : ObjNo} {row : ThreadRow} {instr : Instr} (kind : Kind) (name : List ℕ) (start : Option LockMove) (x : ℕ) → IsStepping script S t row instr → x < 8 → is_session kind ≡ false
+    → ((i : ℕ) → Begins script t start (moved t (Make kind name (InProcess row.process i)) S)) → FitsDecision script t S (create_do S t row kind name start x)
+fits-create {script = script} {S = S} {t = t} {row = row} kind name start x h register named begins =
+    if_cases (FitsDecision script t S) (is_taken kind name S.objects) _ _ (λ _. fits-refuse (Of word.Create part.Do) AlreadyExists h)
+    (λ new. if_cases (FitsDecision script t S) (length S.objects == OBJECTS) _ _ (λ _. fits-refuse (Of word.Create part.Do) Overflow h)
+    (λ room. of_process_handle (λ handle. FitsDecision script t S (make_with_handle t kind name start x handle)) h (fits-refuse (Of word.Create part.Do) Overflow h) (made new
+    (let few = h.rows.sized.objects_few in let apart : length S.objects ≢ OBJECTS = λ e. cc (eq-eqb (length S.objects) OBJECTS e) in omega arith))))
+  where
+    made : is_taken kind name S.objects ≡ false → length S.objects < OBJECTS → (i number : ℕ) → IsFree S (InProcess row.process i) → FitsDecision script t S (make_with_handle t kind name start x (Some (record { holder = InProcess row.process i; number = number })))
+    made new room i number free =
+        let told = start_told start in
+        let owed = start_owed start in
+        fits-handle (Of word.Create part.Do) (Make kind name (InProcess row.process i) ∷ start_moves start) x number h register ((record { room = room; new = new; named = named }, free), (begins i).each) (begins i).threads (omega arith) (omega arith)
+
+pub fits-create_mutex : {script : Script} {S : State} {t : ObjNo} {row : ThreadRow} (name : List ℕ) (x : ℕ) → IsStepping script S t row (instr.CreateMutex name x) → FitsDecision script t S (create_mutex_do S t row name x)
+fits-create_mutex name x h = fits-create Mutex name None x h h.registers refl (λ i. record { each = tt; threads = refl })
+
+pub fits-create_semaphore : {script : Script} {S : State} {t : ObjNo} {row : ThreadRow} (name : List ℕ) (count x : ℕ) → IsStepping script S t row (instr.CreateSemaphore name count x) → FitsDecision script t S (create_semaphore_do S t row name count x)
+fits-create_semaphore {S = S} name count x h = fits-create Semaphore name (Some (Start (next_object S) count)) x h h.registers refl (λ i. record {
+  each = (
+    record {
+      object = let longer = length_push S.objects (Some (new_object Semaphore name)) in omega arith;
+      few = count_few name count x h.ranges;
+      free = h.rows.locks.owners_made (next_object S) (omega arith);
+      alone = h.rows.locks.waiters_made (next_object S) (omega arith);
+    },
+    tt,
+  );
+  threads = refl;
+})
+
+-- `dup` and `duplocal`
+fits-dup_do : {script : Script} {S : State} {t : ObjNo} {row : ThreadRow} {instr : Instr} (word : Word) (y : ℕ) (handle : Option NewHandle) (uses : Option ObjNo) → IsStepping script S t row instr → row.uses ≡ uses
+    → ((o : ObjNo) → IsAlive (object_of S o) → FitsDecision script t S (give_handle t (Of word part.Do) o y handle)) → FitsDecision script t S (dup_do S t word y handle uses)
+fits-dup_do {script = script} {S = S} {t = t} word y handle None h e given = fits-nothing script S t
+fits-dup_do {script = script} {S = S} {t = t} {row = row} word y handle (Some o) h e given =
+    if_cases (FitsDecision script t S) (stays_with_thread (object_of S o)) _ _ (λ _. fits-refuse (Of word part.Do) PermissionDenied h)
+    (λ _. given o (use_is_alive S t row o h.rows.lives h.is e))
+
+pub fits-dup : {script : Script} {S : State} {t : ObjNo} {row : ThreadRow} {instr : Instr} (x y : ℕ) (p : Option Part) → IsStepping script S t row instr → y < 8 → row.part ≡ p → FitsDecision script t S (dup_step S t row x y p)
+fits-dup x y None h register at = fits-look word.Dup x h (ap is_before_use at)
+fits-dup {row = row} x y (Some p) h register at = fits-dup_do word.Dup y _ row.uses h refl (λ o alive. fits-give (Of word.Dup part.Do) o y h register alive)
+
+pub fits-duplocal : {script : Script} {S : State} {t : ObjNo} {row : ThreadRow} {instr : Instr} (x y : ℕ) (p : Option Part) → IsStepping script S t row instr → y < 8 → row.part ≡ p → FitsDecision script t S (duplocal_step S t row x y p)
+fits-duplocal x y None h register at = fits-look word.Duplocal x h (ap is_before_use at)
+fits-duplocal {row = row} x y (Some p) h register at = fits-dup_do word.Duplocal y _ row.uses h refl (λ o alive. fits-give_own (Of word.Duplocal part.Do) o y h register alive)
+
+-- `open`
+fits-open_do : {script : Script} {S : State} {t : ObjNo} {row : ThreadRow} {instr : Instr} (x : ℕ) (uses : Option ObjNo) → IsStepping script S t row instr → x < 8 → row.uses ≡ uses → FitsDecision script t S (open_do S t row x uses)
+fits-open_do {script = script} {S = S} {t = t} x None h register e = fits-nothing script S t
+fits-open_do {S = S} {t = t} {row = row} x (Some o) h register e = fits-give (Of word.Open part.Do) o x h register (use_is_alive S t row o h.rows.lives h.is e)
+
+pub fits-open : {script : Script} {S : State} {t : ObjNo} {row : ThreadRow} {instr : Instr} (kind : Kind) (name : List ℕ) (x : ℕ) (p : Option Part) → IsStepping script S t row instr → x < 8 → row.part ≡ p → FitsDecision script t S (open_step S t row kind name x p)
+fits-open kind name x None h register at = fits-unless (Of word.Open part.Seek) _ h (λ _. fits-seek word.Open kind name h (ap is_before_use at))
+fits-open {row = row} kind name x (Some p) h register at = fits-open_do x row.uses h register refl
+
+pub fits-open_return : {script : Script} {S : State} {t : ObjNo} {row : ThreadRow} {instr : Instr} → IsStepping script S t row instr → is_before_use row.part ≡ true → FitsDecision script t S (open_return S t row)
+fits-open_return {row = row} h before = fits-return word.Open part.Do (found_object row) h before refl
+
+-- the holder of a handle holds its object, and the thread is at its instruction still once that is lost
+handle_holds : {script : Script} {S : State} {t : ObjNo} {row : ThreadRow} {instr : Instr} (local : Bool) (i : ℕ) (o : ObjNo) → IsStepping script S t row instr → (slot_at (table_of S (if local then t else row.process)) i).object ≡ Some o → Holds S (if local then InThread t i else InProcess row.process i) o
+handle_holds true i o h e = (ap is_some h.is, e)
+handle_holds {t = t} {row = row} false i o h e = (h.rows.threads.processes t.0 row h.is, e)
+
+kept-lose : (local : Bool) (p t : ObjNo) (i : ℕ) (threads : List (Option ThreadRow)) → threads_lose (if local then InThread t i else InProcess p i) threads ≡ threads
+kept-lose true p t i threads = refl
+kept-lose false p t i threads = refl
+
+at-closed : {script : Script} {S : State} {t : ObjNo} {row : ThreadRow} {instr : Instr} (local last : Bool) (i : ℕ) (o : ObjNo) (T : State) → IsStepping script S t row instr → T.threads ≡ threads_closed last o (threads_lose (if local then InThread t i else InProcess row.process i) S.threads) → IsAtInstruction script T t
+at-closed {script = script} {S = S} {t = t} {row = row} local true i o T h e = at-with_row script S T t o unlinked (record { role = λ r. refl; next = λ r. refl }) (e ∙ ap (threads_closed true o) (kept-lose local row.process t i S.threads)) (at_instruction h)
+at-closed {script = script} {S = S} {t = t} {row = row} local false i o T h e = record { row = row; is = ap (λ (threads : List (Option ThreadRow)). get_or threads t.0 None) (e ∙ kept-lose local row.process t i S.threads) ∙ h.is; next = h.next }
+
+-- `close`
+pub fits-close : {script : Script} {S : State} {t : ObjNo} {row : ThreadRow} {instr : Instr} (x : ℕ) → IsStepping script S t row instr → is_returning row.part ≡ false → FitsDecision script t S (close_do S t row x)
+fits-close {script = script} {S = S} {t = t} {row = row} x h going = closed (slice_index row.registers x) (object_at S t row (slice_index row.registers x)) refl
+  where
+    closed : (handle : ℕ) (named : Option ObjNo) → object_at S t row handle ≡ named → FitsDecision script t S (close_handle t row handle named)
+    closed handle None e = fits-refuse (Of word.Close part.Do) BadHandle h
+    closed handle (Some o) e = record {
+      each = (
+        (ap (λ (r : Option ThreadRow). is_returning (part_of r)) h.is ∙ going, handle_holds (is_local handle) (index_of handle) o h (object_of_is _ _ _ o e)),
+        ((refl, at-closed (is_local handle) (is_last S o) (index_of handle) o (moved t (Lose (holder_of t row handle) o) S) h refl), tt),
+      );
+      told = omega arith;
+      light = omega arith;
+    }

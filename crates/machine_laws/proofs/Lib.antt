@@ -1,0 +1,5 @@
+pub mod AtBoot
+pub mod Fitting
+pub mod Reached
+pub mod ValidSlots
+pub mod WorkedExample

@@ -1,0 +1,57 @@
+-- Histories, one entry longer.
+use Rattle.state_rows.specs.Deferred.{next_immediate}
+use Rattle.state_rows.specs.Nano.{in_place_of, actor_of, item_or}
+use Rattle.state_rows.specs.declared.deferred.Item.{Item}
+use Rattle.std.proofs.Common.{◌≡◌, ℕ, ◌+◌, List, [], ◌∷◌, ◌++◌, length, arith, refl, subst, ap, sym, ◌∙◌, Option, Some, None, Bool, true}
+use Rattle.std.specs.Prelude.{IsTrue, is_some, option_map}
+use Rattle.sym_base.specs.declared.number.ObjNo.{ObjNo}
+use Rattle.script_types.specs.declared.script.Script.{Script}
+use Rattle.script_types.specs.declared.script.Slot.{Slot}
+use Rattle.script_types.specs.declared.script.Slot.TheVariants.{Go, Irq, Tick}
+use Rattle.entry_log.specs.declared.entry.Entry.{Entry}
+use Rattle.machine.specs.declared.state.State.{State}
+use Rattle.machine.specs.Boot.{boot}
+use Rattle.machine.specs.Choice.{chosen, chosen_thread, first_ready}
+use Rattle.machine.specs.History.{next, after, after_from, CanAct, IsNext, IsLegal, IsLegalFrom}
+use Rattle.machine.specs.Run.{slot_actor}
+use Rattle.machine.specs.Slots.{IsDeclared}
+use Rattle.machine.specs.WellFormed.{IsWellFormed}
+use Rattle.move_laws.proofs.Readiness.FirstReady.{first_listed}
+use Rattle.move_laws.proofs.Readiness.ReadyHolders.{place_able}
+
+-- the state after one more entry
+pub after_from-push : (script : Script) (S : State) (es : List Entry) (e : Entry) → after_from script S (es ++ e ∷ []) ≡ next script (after_from script S es) e.actor
+after_from-push script S [] e = refl
+after_from-push script S (x ∷ xs) e = after_from-push script (next script S x.actor) xs e
+
+pub after-push : (script : Script) (history : List Entry) (e : Entry) → after script (history ++ e ∷ []) ≡ next script (after script history) e.actor
+after-push script history e = after_from-push script (boot script) history e
+
+-- a legal history goes on by one entry that may stand there
+legal_from-push : (script : Script) (S : State) (place : ℕ) (es : List Entry) (e : Entry) → IsLegalFrom script S place es → IsNext script (after_from script S es) (place + length es) e → IsLegalFrom script S place (es ++ e ∷ [])
+legal_from-push script S place [] e h n = (subst (λ (p : ℕ). IsNext script S p e) (omega arith) n, tt)
+legal_from-push script S place (x ∷ xs) e h n = (h.0, legal_from-push script (next script S x.actor) (place + 1) xs e h.1 (subst (λ (p : ℕ). IsNext script (after_from script (next script S x.actor) xs) p e) (omega arith) n))
+
+pub legal-push : (script : Script) (history : List Entry) (e : Entry) → IsLegal script history → IsNext script (after script history) (length history + 1) e → IsLegal script (history ++ e ∷ [])
+legal-push script history e h n = legal_from-push script (boot script) 1 history e h (subst (λ (p : ℕ). IsNext script (after script history) p e) (omega arith) n)
+
+true-is : {b : Bool} → b ≡ true → IsTrue b
+true-is h = h
+
+-- the chosen actor may act
+pub can_act_chosen : (script : Script) (S : State) → IsWellFormed script S → CanAct script S (chosen S)
+can_act_chosen script S formed = by (next_immediate S.deferred) refl
+  where
+    thread : next_immediate S.deferred ≡ None → (found : Option ObjNo) → first_ready S ≡ found → CanAct script S (actor_of (option_map (in_place_of S.nano) found))
+    thread none None e = ap (λ (item : Option Item). item_or item (chosen_thread S)) none ∙ ap (λ (found : Option ObjNo). actor_of (option_map (in_place_of S.nano) found)) e
+    thread none (Some t) e = true-is (place_able script S t formed.rows (sym (formed.ready.exact t) ∙ first_listed S t e))
+
+    by : (item : Option Item) → next_immediate S.deferred ≡ item → CanAct script S (item_or item (chosen_thread S))
+    by (Some item) e = true-is (ap is_some e)
+    by None e = thread e (first_ready S) refl
+
+-- so may that of a slot
+pub slot_can : (script : Script) (S : State) (slot : Slot) → IsDeclared script slot → IsWellFormed script S → CanAct script S (slot_actor S slot)
+slot_can script S Go declared formed = can_act_chosen script S formed
+slot_can script S (Irq k) declared formed = declared
+slot_can script S Tick declared formed = tt

@@ -1,0 +1,150 @@
+-- A holder gets a reference: to an object that there is, or to a new one.
+use Rattle.std.proofs.Common.{◌≡◌, inr, ℕ, ◌+◌, List, length, arith, refl, ap, ◌∙◌, Option, Some, None, Bool, true, false}
+use Rattle.std.specs.Prelude.{option_map, is_some, if◌then◌else◌}
+use Rattle.std.proofs.lemmas.List.{length_push}
+use Rattle.sym_base.specs.declared.number.ObjNo.{ObjNo}
+use Rattle.sym_base.specs.declared.kind.Kind.{Kind}
+use Rattle.script_types.specs.declared.script.Script.{Script}
+use Rattle.entry_log.specs.declared.effect.Holder.{Holder}
+use Rattle.entry_log.specs.declared.effect.Holder.TheVariants.{InProcess, InThread, Temp, Link}
+use Rattle.machine.specs.declared.moves.Move.TheVariants.{Gain, Make}
+use Rattle.state_rows.specs.declared.handle_slot.HandleSlot.{HandleSlot}
+use Rattle.state_rows.specs.declared.thread.ThreadRow.{ThreadRow}
+use Rattle.machine.specs.declared.state.State.{State}
+use Rattle.machine.specs.Rows.{table_of, thread_of, with_row}
+use Rattle.state_rows.specs.HandleSlots.{slot_at}
+use Rattle.machine.specs.Handles.{taken_slot, with_slot}
+use Rattle.machine.specs.Moves.{moved, told, tables_gain, threads_gain, next_object, new_object}
+use Rattle.machine.specs.References.{same, thread_names, option_names, slot_names, count_of}
+use Rattle.machine.specs.Holding.{is_holder, same_pair}
+use Rattle.machine.specs.HeldIn.{held_in, use_names, own_slot, rows_hold}
+use Rattle.machine.specs.Fits.{FitsMove, IsFree, IsFreeSlot, UsesNothing}
+use Rattle.machine.specs.WellFormed.{AreTables, AreThreads, AreDuties, AreSynchronized, AreMemories, AreRows, MayOwe}
+use Rattle.move_laws.proofs.Lives.Kinds.{lives-plus, lives-made}
+use Rattle.move_laws.proofs.Holders.HoldersMove.{holders-plus}
+use Rattle.move_laws.proofs.Holders.SlotRows.{slot_holder, rows-with_slot}
+use Rattle.move_laws.proofs.Holders.ThreadRows.{row_holds, rows-with_row}
+use Rattle.move_laws.proofs.References.Counts.{count-with_slot, count-with_row, kernel-with_row}
+use Rattle.move_laws.proofs.References.Same.{if_zero}
+use Rattle.move_laws.proofs.RowLaws.Tables.{free_index_is_free, length-with_slot, tables-with_slot, taken_keeps, table_inside}
+use Rattle.move_laws.proofs.RowLaws.Threads.{length-with_row, threads-with_row}
+use Rattle.move_laws.proofs.RowLaws.Duties.{paid-with_row, duties-threads, none_owed, none_owed_by}
+use Rattle.move_laws.proofs.RowLaws.Synchronized.{synchronized-with_row}
+use Rattle.move_laws.proofs.RowLaws.Locks.{LeavesLocks, leaves-none, leaves-with_row, locks-left}
+use Rattle.move_laws.proofs.RowLaws.Memories.{memories-with_row}
+use Rattle.move_laws.proofs.MoveLaws.Sound.{Sound, sound-of}
+
+-- the tables and threads where a holder got a reference
+pub record HasGained (script : Script) (S : State) (h : Holder) (o : ObjNo) (handles : List (List HandleSlot)) (threads : List (Option ThreadRow)) : Type 0 where
+  pub counts : (p : ObjNo) → count_of (record S { handles = handles; threads = threads }) p ≡ count_of S p + same o p
+  pub none : held_in S h o ≡ 0
+  pub held : (g : Holder) (x : ObjNo) → held_in (record S { handles = handles; threads = threads }) g x ≡ held_in S g x + same_pair h o g x
+  pub handles_long : length handles ≡ length S.handles
+  pub threads_long : length threads ≡ length S.threads
+  pub tables : AreTables handles
+  pub threads_are : AreThreads script threads
+  pub duties : AreDuties threads S.owed
+  pub nano : AreSynchronized script threads S.nano
+  pub locks : LeavesLocks S.threads threads S.owed S.owed S.locks
+  pub memories : AreMemories threads S.memories
+
+empty_slot : (c : Bool) (x : ObjNo) (slot : HandleSlot) → slot.object ≡ None → own_slot c x slot ≡ 0
+empty_slot true x slot e = refl
+empty_slot false x slot e = ap (option_names x) e
+
+empty_holder : (thread : Bool) (S : State) (owner : ObjNo) (i : ℕ) (x : ObjNo) → (slot_at (table_of S owner) i).object ≡ None → rows_hold S.handles S.threads S.mutexes (slot_holder thread owner i) x ≡ 0
+empty_holder true S owner i x e = empty_slot _ x (slot_at (table_of S owner) i) e
+empty_holder false S owner i x e = empty_slot _ x (slot_at (table_of S owner) i) e
+
+unowed : (thread : Bool) (threads : List (Option ThreadRow)) (owner : ObjNo) (i k : ℕ) (y : ObjNo) → MayOwe threads k (slot_holder thread owner i) y → ⊥
+unowed true threads owner i k y own = own
+unowed false threads owner i k y own = own
+
+gained-slot : (script : Script) (S : State) (thread : Bool) (owner : ObjNo) (i : ℕ) (o : ObjNo) → is_some (thread_of S owner) ≡ thread → IsFreeSlot S owner i → AreRows script S → HasGained script S (slot_holder thread owner i) o (with_slot S.handles owner i (taken_slot o)) S.threads
+gained-slot script S thread owner i o is fits rows =
+    let h = slot_holder thread owner i in
+    let there = table_inside S.handles owner.0 i fits.inside in
+    let old = slot_at (table_of S owner) i in
+    let free : old.object ≡ None = ap (λ (n : ℕ). (slot_at (table_of S owner) n).object) fits.least ∙ free_index_is_free (table_of S owner) in
+    record {
+      counts = λ p. let a = count-with_slot S.handles owner i (taken_slot o) p there fits.inside in let b : slot_names p old ≡ 0 = ap (option_names p) free in omega arith;
+      none = let a = empty_holder thread S owner i o free in let b = none_owed S.threads S.owed h o rows.duties (unowed thread S.threads owner i) in omega arith;
+      held = λ g x.
+          let a = rows-with_slot S.handles S.threads S.mutexes owner i (taken_slot o) thread is there fits.inside g x in
+          let b = if_zero (is_holder h g) (slot_names x old) (ap (option_names x) free) in omega arith;
+      handles_long = length-with_slot S.handles owner i (taken_slot o);
+      threads_long = refl;
+      tables = tables-with_slot S.handles owner i (taken_slot o) (taken_keeps o) rows.tables;
+      threads_are = rows.threads;
+      duties = rows.duties;
+      nano = rows.nano;
+      locks = leaves-none S.threads S.owed S.locks;
+      memories = rows.memories;
+    }
+
+gained-use : (script : Script) (S : State) (u o : ObjNo) → UsesNothing S u → AreRows script S → HasGained script S (Temp u) o S.handles (with_row S.threads u (λ row. record row { uses = Some o }))
+gained-use script S u o fits rows =
+    let f : ThreadRow → ThreadRow = λ row. record row { uses = Some o } in
+    let row = fits.row in
+    let unused : (x : ObjNo) → option_names x row.uses ≡ 0 = λ x. ap (option_names x) fits.unused in
+    record {
+      counts = λ p.
+          let a = count-with_row S.threads u f p in
+          let b = kernel-with_row S.threads u f p in
+          let c : thread_names p (thread_of S u) ≡ option_names p row.link + option_names p row.uses = ap (thread_names p) fits.is in
+          let d : thread_names p (option_map f (thread_of S u)) ≡ option_names p row.link + same o p = ap (λ (x : Option ThreadRow). thread_names p (option_map f x)) fits.is in
+          let e = unused p in omega arith;
+      none = let a : use_names o (thread_of S u) ≡ option_names o row.uses = ap (use_names o) fits.is in let b = unused o in let c = none_owed_by S.threads S.owed u (Temp u) o rows.duties (λ k y own. own) (fits.paid o) in omega arith;
+      held = λ g x.
+          let a = rows-with_row S.handles S.threads S.mutexes u f g x in
+          let b : row_holds u (thread_of S u) g x ≡ (if is_holder (Temp u) g then option_names x row.uses else 0) + (if is_holder (Link u) g then option_names x row.link else 0) = ap (λ (y : Option ThreadRow). row_holds u y g x) fits.is in
+          let c : row_holds u (option_map f (thread_of S u)) g x ≡ same_pair (Temp u) o g x + (if is_holder (Link u) g then option_names x row.link else 0) = ap (λ (y : Option ThreadRow). row_holds u (option_map f y) g x) fits.is in
+          let d = if_zero (is_holder (Temp u) g) (option_names x row.uses) (unused x) in omega arith;
+      handles_long = refl;
+      threads_long = length-with_row S.threads u f;
+      tables = rows.tables;
+      threads_are = threads-with_row script S.threads u f (λ r is h. record {
+        thread = record {
+          process = h.process;
+          link = h.link;
+          priority = h.priority;
+          next_instruction = h.next_instruction;
+          unused = λ before. let same_row : row ≡ r = cc in let later = fits.later in absurd (cc);
+          registers = h.registers;
+        };
+        process = refl;
+        role = refl;
+      }) rows.threads;
+      duties = duties-threads S.threads (with_row S.threads u f) S.owed (λ k. inr (paid-with_row S.threads u f (λ r h. h) k)) rows.duties;
+      nano = synchronized-with_row script S.threads u f S.nano (λ r h. h) rows.nano;
+      locks = leaves-with_row S.threads u f S.owed S.locks (λ r. refl);
+      memories = memories-with_row S.threads u f S.memories (λ r is. refl) rows.memories;
+    }
+
+is_some_of : (x : Option ThreadRow) → x ≡ None → is_some x ≡ false
+is_some_of x e = ap is_some e
+
+pub gained : (script : Script) (S : State) (h : Holder) (o : ObjNo) → IsFree S h → AreRows script S → HasGained script S h o (tables_gain h o S.handles) (threads_gain h o S.threads)
+gained script S (InProcess p i) o fits rows = gained-slot script S false p i o (ap is_some fits.0) fits.1 rows
+gained script S (InThread u i) o fits rows = gained-slot script S true u i o fits.0 fits.1 rows
+gained script S (Temp u) o fits rows = gained-use script S u o fits rows
+gained script S _ o fits rows = absurd fits
+
+pub sound-gain : (script : Script) (S : State) (t : ObjNo) (h : Holder) (o : ObjNo) → FitsMove script t (Gain h o) S → AreRows script S → Sound script S (moved t (Gain h o) S) (told (Gain h o) S)
+sound-gain script S t h o fits rows =
+    let T = moved t (Gain h o) S in
+    let g = gained script S h o fits.0 rows in
+    sound-of script S T (told (Gain h o) S) rows
+    (record { handles_long = g.handles_long; threads_long = g.threads_long; owed_long = refl; objects_few = rows.sized.objects_few; tables = g.tables; threads = g.threads_are; duties = g.duties; nano = g.nano; deferred = rows.deferred; requests = rows.requests; locks = locks-left (length S.objects) (length S.objects) S.threads (threads_gain h o S.threads) S.mutexes S.owed S.owed S.locks (omega arith) g.locks rows.locks; memories = g.memories })
+    (lives-plus S T h o refl g.counts (λ p. refl) fits.1) (holders-plus S T h o g.none g.held)
+
+pub sound-make : (script : Script) (S : State) (t : ObjNo) (kind : Kind) (name : List ℕ) (h : Holder) → FitsMove script t (Make kind name h) S → AreRows script S → Sound script S (moved t (Make kind name h) S) (told (Make kind name h) S)
+sound-make script S t kind name h fits rows =
+    let T = moved t (Make kind name h) S in
+    let o = next_object S in
+    let g = gained script S h o fits.1 rows in
+    let room = fits.0.room in
+    let long = length_push S.objects (Some (new_object kind name)) in
+    sound-of script S T (told (Make kind name h) S) rows
+    (record { handles_long = g.handles_long; threads_long = g.threads_long; owed_long = refl; objects_few = omega arith; tables = g.tables; threads = g.threads_are; duties = g.duties; nano = g.nano; deferred = rows.deferred; requests = rows.requests; locks = locks-left (length S.objects) (length T.objects) S.threads (threads_gain h o S.threads) S.mutexes S.owed S.owed S.locks (omega arith) g.locks rows.locks; memories = g.memories })
+    (lives-made S T (new_object kind name) h o refl refl refl g.counts (λ p. refl)) (holders-plus S T h o g.none g.held)

@@ -1,0 +1,118 @@
+-- A holder gives its reference up.
+use Rattle.std.proofs.Common.{◌≡◌, inr, ℕ, ◌+◌, ◌<◌, ◌≤◌, List, length, get_or, arith, refl, ap, ◌∙◌, inl, Option, Some, None, Bool, true, false}
+use Rattle.std.specs.Prelude.{option_map, is_some, if◌then◌else◌}
+use Rattle.std.proofs.lemmas.Bool.{cases_eq}
+use Rattle.sym_base.specs.declared.number.ObjNo.{ObjNo}
+use Rattle.script_types.specs.declared.script.Script.{Script}
+use Rattle.entry_log.specs.declared.effect.Holder.{Holder}
+use Rattle.entry_log.specs.declared.effect.Holder.TheVariants.{InProcess, InThread, Temp, Link}
+use Rattle.machine.specs.declared.moves.Move.TheVariants.{Lose}
+use Rattle.state_rows.specs.declared.thread.ThreadRow.{ThreadRow}
+use Rattle.machine.specs.declared.state.State.{State}
+use Rattle.machine.specs.Rows.{table_of, thread_of, owed_of, with_row}
+use Rattle.state_rows.specs.HandleSlots.{slot_at}
+use Rattle.machine.specs.Handles.{freed_slot, with_slot}
+use Rattle.machine.specs.Moves.{moved, told, tables_lose, threads_lose, link_of, link_of_row}
+use Rattle.machine.specs.References.{total, thread_names, option_names, slot_names, is_last, same}
+use Rattle.machine.specs.Holding.{is_holder, same_pair}
+use Rattle.machine.specs.Fits.{FitsMove, Holds, Uses}
+use Rattle.machine.specs.Task.{is_returning}
+use Rattle.machine.specs.WellFormed.{AreRows, weight, part_of}
+use Rattle.move_laws.proofs.Holders.SlotRows.{slot_holder, rows-with_slot}
+use Rattle.move_laws.proofs.Holders.ThreadRows.{row_holds, rows-with_row, row-here, row-other}
+use Rattle.move_laws.proofs.References.Counts.{count-with_slot, count-with_row, kernel-with_row}
+use Rattle.move_laws.proofs.References.Same.{if_zero}
+use Rattle.move_laws.proofs.RowLaws.Tables.{length-with_slot, tables-with_slot, freed_keeps, slot_inside, table_inside}
+use Rattle.move_laws.proofs.RowLaws.Threads.{length-with_row, threads-with_row}
+use Rattle.move_laws.proofs.RowLaws.Duties.{paid-with_row, duties-threads}
+use Rattle.move_laws.proofs.RowLaws.Synchronized.{synchronized-with_row}
+use Rattle.move_laws.proofs.RowLaws.Locks.{leaves-none, leaves-with_row}
+use Rattle.move_laws.proofs.RowLaws.Memories.{memories-with_row}
+use Rattle.move_laws.proofs.MoveLaws.Closes.{HasLost, sound-closed, close_weight}
+use Rattle.move_laws.proofs.MoveLaws.Sound.{Sound}
+
+lost-slot : (script : Script) (S : State) (t : ObjNo) (thread : Bool) (owner : ObjNo) (i : ℕ) (o : ObjNo) → is_some (thread_of S owner) ≡ thread → (slot_at (table_of S owner) i).object ≡ Some o → is_returning (part_of (thread_of S t)) ≡ false → total weight (owed_of S t) + 3 ≤ 12 → AreRows script S → HasLost script S t (slot_holder thread owner i) o (with_slot S.handles owner i freed_slot) S.threads S.owed
+lost-slot script S t thread owner i o is there going few rows =
+    let h = slot_holder thread owner i in
+    let slot = slot_at (table_of S owner) i in
+    let inside = slot_inside (table_of S owner) i o there in
+    let outside = table_inside S.handles owner.0 i inside in
+    let light = close_weight (is_last S o) o (link_of S o) in
+    record {
+      counts = λ p. let a = count-with_slot S.handles owner i freed_slot p outside inside in let b : slot_names p slot ≡ same o p = ap (option_names p) there in omega arith;
+      held = λ g x.
+          let a = rows-with_slot S.handles S.threads S.mutexes owner i freed_slot thread is outside inside g x in
+          let b = if_zero (is_holder h g) (slot_names x (freed_slot slot)) refl in
+          let c : (if is_holder h g then slot_names x slot else 0) ≡ same_pair h o g x = ap (λ (y : Option ObjNo). if is_holder h g then option_names x y else 0) there in omega arith;
+      sweeps = λ p. refl;
+      link = refl;
+      handles_long = length-with_slot S.handles owner i freed_slot;
+      threads_long = refl;
+      owed_long = refl;
+      tables = tables-with_slot S.handles owner i freed_slot freed_keeps rows.tables;
+      threads_are = rows.threads;
+      duties = rows.duties;
+      nano = rows.nano;
+      locks = leaves-none S.threads S.owed S.locks;
+      memories = rows.memories;
+      going = going;
+      few = omega arith;
+    }
+
+same_link : (f : ThreadRow → ThreadRow) (x : Option ThreadRow) → ((row : ThreadRow) → (f row).link ≡ row.link) → link_of_row (option_map f x) ≡ link_of_row x
+same_link f None keeps = refl
+same_link f (Some row) keeps = keeps row
+
+-- a change of a row that leaves its link leaves all
+link-with_row : (threads : List (Option ThreadRow)) (u : ObjNo) (f : ThreadRow → ThreadRow) (k : ℕ) → ((row : ThreadRow) → (f row).link ≡ row.link) → link_of_row (get_or (with_row threads u f) k None) ≡ link_of_row (get_or threads k None)
+link-with_row threads u f k keeps = elim (cases_eq u.0 k) [
+  | inl at ↦ ap link_of_row (row-here threads u f k at) ∙ same_link f (get_or threads u.0 None) keeps ∙ ap (λ (n : ℕ). link_of_row (get_or threads n None)) at
+  | inr apart ↦ ap link_of_row (row-other threads u f k apart)
+]
+
+lost-use : (script : Script) (S : State) (t u o : ObjNo) → Uses S u o → is_returning (part_of (thread_of S t)) ≡ false → total weight (owed_of S t) + 3 ≤ 12 → AreRows script S → HasLost script S t (Temp u) o S.handles (with_row S.threads u (λ row. record row { uses = None })) S.owed
+lost-use script S t u o uses going few rows =
+    let f : ThreadRow → ThreadRow = λ row. record row { uses = None } in
+    let row = uses.row in
+    let light = close_weight (is_last S o) o (link_of S o) in
+    let named : (p : ObjNo) → option_names p row.uses ≡ same o p = λ p. ap (option_names p) uses.uses in
+    record {
+      counts = λ p.
+          let a = count-with_row S.threads u f p in
+          let b = kernel-with_row S.threads u f p in
+          let c : thread_names p (thread_of S u) ≡ option_names p row.link + option_names p row.uses = ap (thread_names p) uses.is in
+          let d : thread_names p (option_map f (thread_of S u)) ≡ option_names p row.link + 0 = ap (λ (x : Option ThreadRow). thread_names p (option_map f x)) uses.is in
+          let e = named p in omega arith;
+      held = λ g x.
+          let a = rows-with_row S.handles S.threads S.mutexes u f g x in
+          let b : row_holds u (thread_of S u) g x ≡ (if is_holder (Temp u) g then option_names x row.uses else 0) + (if is_holder (Link u) g then option_names x row.link else 0) = ap (λ (y : Option ThreadRow). row_holds u y g x) uses.is in
+          let c : row_holds u (option_map f (thread_of S u)) g x ≡ (if is_holder (Temp u) g then 0 else 0) + (if is_holder (Link u) g then option_names x row.link else 0) = ap (λ (y : Option ThreadRow). row_holds u (option_map f y) g x) uses.is in
+          let d : (if is_holder (Temp u) g then option_names x row.uses else 0) ≡ same_pair (Temp u) o g x = ap (λ (y : ℕ). if is_holder (Temp u) g then y else 0) (named x) in
+          let e = if_zero (is_holder (Temp u) g) 0 refl in omega arith;
+      sweeps = λ p. refl;
+      link = link-with_row S.threads u f o.0 (λ r. refl);
+      handles_long = refl;
+      threads_long = length-with_row S.threads u f;
+      owed_long = refl;
+      tables = rows.tables;
+      threads_are = threads-with_row script S.threads u f (λ r is h. record {
+        thread = record { process = h.process; link = h.link; priority = h.priority; next_instruction = h.next_instruction; unused = λ before. refl; registers = h.registers };
+        process = refl;
+        role = refl;
+      }) rows.threads;
+      duties = duties-threads S.threads (with_row S.threads u f) S.owed (λ k. inr (paid-with_row S.threads u f (λ r h. h) k)) rows.duties;
+      nano = synchronized-with_row script S.threads u f S.nano (λ r h. h) rows.nano;
+      locks = leaves-with_row S.threads u f S.owed S.locks (λ r. refl);
+      memories = memories-with_row S.threads u f S.memories (λ r is. refl) rows.memories;
+      going = (paid-with_row S.threads u f (λ r h. h) t.0).going going;
+      few = omega arith;
+    }
+
+lost : (script : Script) (S : State) (t : ObjNo) (h : Holder) (o : ObjNo) → Holds S h o → is_returning (part_of (thread_of S t)) ≡ false → total weight (owed_of S t) + 3 ≤ 12 → AreRows script S → HasLost script S t h o (tables_lose h S.handles) (threads_lose h S.threads) S.owed
+lost script S t (InProcess p i) o holds going few rows = lost-slot script S t false p i o (ap is_some holds.0) holds.1 going few rows
+lost script S t (InThread u i) o holds going few rows = lost-slot script S t true u i o holds.0 holds.1 going few rows
+lost script S t (Temp u) o holds going few rows = lost-use script S t u o holds going few rows
+lost script S t _ o holds going few rows = absurd holds
+
+pub sound-lose : (script : Script) (S : State) (t : ObjNo) (h : Holder) (o : ObjNo) → FitsMove script t (Lose h o) S → total weight (owed_of S t) + 3 ≤ 12 → t.0 < length S.threads → AreRows script S → Sound script S (moved t (Lose h o) S) (told (Lose h o) S)
+sound-lose script S t h o fits few inside rows = sound-closed (is_last S o) script S t h o (tables_lose h S.handles) (threads_lose h S.threads) S.owed refl inside (lost script S t h o fits.1 fits.0 few rows) rows

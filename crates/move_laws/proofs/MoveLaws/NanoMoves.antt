@@ -1,0 +1,50 @@
+-- Moves in the rows of threads that synchronize.
+use Rattle.std.proofs.Common.{◌≡◌, ℕ, set, arith, refl, Some, None}
+use Rattle.std.proofs.lemmas.List.{length-set}
+use Rattle.sym_base.specs.declared.number.ObjNo.{ObjNo}
+use Rattle.script_types.specs.declared.script.Script.{Script}
+use Rattle.state_rows.proofs.Soundness.{held_none}
+use Rattle.state_rows.proofs.SoundChanges.{sound-signals, sound-sections, sound-suspend, sound-resume}
+use Rattle.machine.specs.declared.moves.Move.TheVariants.{Nano}
+use Rattle.machine.specs.declared.nano_move.NanoMove.{NanoMove}
+use Rattle.machine.specs.declared.nano_move.NanoMove.TheVariants.{Take, Give, Want, Enter, Leave, LeaveAll, Suspend, Resume, Raise, Lower}
+use Rattle.machine.specs.declared.state.State.{State}
+use Rattle.machine.specs.Fits.{FitsMove, FitsNano}
+use Rattle.machine.specs.Moves.{moved, told}
+use Rattle.machine.specs.NanoMoves.{nano_moved, nano_told}
+use Rattle.machine.specs.WellFormed.{AreRows, AreSynchronized}
+use Rattle.move_laws.proofs.RowLaws.Synchronized.{synchronized-counts, synchronized-take, synchronized-give, synchronized-want}
+use Rattle.move_laws.proofs.MoveLaws.RowMoves.{IsSilent, silent, sound-rest}
+use Rattle.move_laws.proofs.MoveLaws.Sound.{Sound}
+
+in_sections : (script : Script) (S : State) (t : ObjNo) (n : ℕ) → AreSynchronized script S.threads S.nano → AreSynchronized script S.threads (record S.nano { sections = set S.nano.sections t.0 n })
+in_sections script S t n h = synchronized-counts script S.threads S.nano S.nano.signals S.nano.suspensions (set S.nano.sections t.0 n) refl (sound-sections S.nano _ (length-set S.nano.sections t.0 n) h.rows) h
+
+signalled : (script : Script) (S : State) (t : ObjNo) (n : ℕ) → AreSynchronized script S.threads S.nano → AreSynchronized script S.threads (record S.nano { signals = set S.nano.signals t.0 n })
+signalled script S t n h =
+    let long = length-set S.nano.signals t.0 n in synchronized-counts script S.threads S.nano (set S.nano.signals t.0 n) S.nano.suspensions S.nano.sections long (sound-signals S.nano _ long h.rows) h
+
+-- a move that fits keeps them
+synchronized-nano : (script : Script) (S : State) (m : NanoMove) → FitsNano m S → AreSynchronized script S.threads S.nano → AreSynchronized script S.threads (nano_moved m S.nano)
+synchronized-nano script S (Take t f) fits h =
+    let may = fits.2 in
+    synchronized-take script S.threads S.nano t f may.row fits.0 fits.1 may.holds may.is may.waits h
+synchronized-nano script S (Give t f) fits h = synchronized-give script S.threads S.nano t f h
+synchronized-nano script S (Want t None) fits h = synchronized-want script S.threads S.nano t None (λ f is. absurd (cc)) (λ f is. refl) h
+synchronized-nano script S (Want t (Some f)) fits h = synchronized-want script S.threads S.nano t (Some f) (λ g is. let same : f ≡ g = cc in let below = fits.0 in omega arith) (λ g is. absurd (held_none S.nano t g fits.1 is)) h
+synchronized-nano script S (Enter t) fits h = in_sections script S t _ h
+synchronized-nano script S (Leave t) fits h = in_sections script S t _ h
+synchronized-nano script S (LeaveAll t) fits h = in_sections script S t _ h
+synchronized-nano script S (Suspend t) fits h = synchronized-counts script S.threads S.nano S.nano.signals _ S.nano.sections refl (sound-suspend S.nano t fits h.rows) h
+synchronized-nano script S (Resume t) fits h = synchronized-counts script S.threads S.nano S.nano.signals _ S.nano.sections refl (sound-resume S.nano t h.rows) h
+synchronized-nano script S (Raise t) fits h = signalled script S t _ h
+synchronized-nano script S (Lower t) fits h = signalled script S t _ h
+
+-- a take and a give of a fast mutex tell of no reference and no death
+pub nano_silent : (S : State) (m : NanoMove) → IsSilent S (nano_told m)
+nano_silent S (Take t f) = record { quiet = record { minuses = λ p. refl; deaths = λ p. refl; removals = λ p. refl }; pluses = λ p. refl; found = λ p h. absurd (omega arith); fits = (tt, tt); after = λ g x. refl }
+nano_silent S (Give t f) = record { quiet = record { minuses = λ p. refl; deaths = λ p. refl; removals = λ p. refl }; pluses = λ p. refl; found = λ p h. absurd (omega arith); fits = (tt, tt); after = λ g x. refl }
+nano_silent S _ = silent S
+
+pub sound-nano : (script : Script) (S : State) (t : ObjNo) (m : NanoMove) → FitsMove script t (Nano m) S → AreRows script S → Sound script S (moved t (Nano m) S) (told (Nano m) S)
+sound-nano script S t m fits rows = sound-rest script S (nano_moved m S.nano) S.deferred S.requests S.memories (nano_told m) (nano_silent S m) (synchronized-nano script S m fits.1 rows.nano) rows.deferred rows.requests rows.memories rows

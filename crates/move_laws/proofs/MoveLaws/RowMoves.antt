@@ -1,0 +1,155 @@
+-- Moves that change a thread's row, and no reference: a find, another step, a register, a wait and its end, a priority; and a
+-- miss and a fill.
+use Rattle.std.proofs.Common.{◌≡◌, ◌⊎◌, inl, inr, ℕ, ◌+◌, ◌<◌, List, [], ◌∷◌, length, get_or, arith, refl, sym, subst, ap, ◌∙◌, Option, Some, None}
+use Rattle.std.specs.Prelude.{option_map, if◌then◌else◌, slice_set}
+use Rattle.std.proofs.lemmas.Bool.{cases_Bool, cases_eq}
+use Rattle.std.proofs.lemmas.List.{length-set}
+use Rattle.sym_base.specs.declared.number.ObjNo.{ObjNo}
+use Rattle.script_types.specs.declared.script.Script.{Script}
+use Rattle.entry_log.specs.declared.effect.Holder.{Holder}
+use Rattle.entry_log.specs.declared.effect.Holder.TheVariants.{Temp, Link}
+use Rattle.entry_log.specs.declared.effect.Effect.{Effect}
+use Rattle.entry_log.specs.declared.effect.Effect.TheVariants.{Seek, Missed}
+use Rattle.entry_log.specs.declared.step.Part.{Part}
+use Rattle.state_rows.specs.declared.deferred.DeferredRows.{DeferredRows}
+use Rattle.state_rows.specs.declared.nano.NanoRows.{NanoRows}
+use Rattle.state_rows.specs.declared.requests.RequestRows.{RequestRows}
+use Rattle.machine.specs.declared.moves.Move.TheVariants.{Find, Miss, GoOn, Write, Wait, Wake, SetPriority, Fill}
+use Rattle.state_rows.specs.declared.thread.Waiting.{Waiting}
+use Rattle.state_rows.specs.declared.thread.Waiting.TheVariants as waiting
+use Rattle.state_rows.specs.declared.thread.ThreadRow.{ThreadRow}
+use Rattle.machine.specs.declared.state.State.{State}
+use Rattle.machine.specs.Rows.{thread_of, with_row}
+use Rattle.machine.specs.Memory.{filled, with_memory}
+use Rattle.machine.specs.Moves.{moved, told, with_found, with_waiting, with_priority}
+use Rattle.machine.specs.References.{thread_names, count_of, pluses}
+use Rattle.machine.specs.Told.{finds}
+use Rattle.machine.specs.Holding.{is_holder, held_after_all, EachFitsHolders, link_names}
+use Rattle.machine.specs.HeldIn.{held_in, use_names}
+use Rattle.machine.specs.Task.{is_returning}
+use Rattle.machine.specs.Fits.{FitsMove, WaitsNowhere}
+use Rattle.machine.specs.WellFormed.{IsThread, AreSynchronized, AreCalls, AreMemories, AreRequests, AreRows, part_of}
+use Rattle.move_laws.proofs.Lives.Kinds.{IsQuiet, lives-quiet}
+use Rattle.move_laws.proofs.Holders.ThreadRows.{row_holds, rows-with_row, row-other}
+use Rattle.move_laws.proofs.References.Counts.{count-with_row, kernel-with_row}
+use Rattle.move_laws.proofs.References.Same.{same_is}
+use Rattle.move_laws.proofs.RowLaws.Threads.{KeepsThread, length-with_row, threads-with_row, none-with_row}
+use Rattle.move_laws.proofs.RowLaws.Duties.{IsPaidIn, paid-with_row, duties-threads}
+use Rattle.move_laws.proofs.RowLaws.Locks.{LeavesLocks, leaves-nowhere, leaves-with_row, locks-left}
+use Rattle.move_laws.proofs.RowLaws.Memories.{memories-filled, memories-with_row}
+use Rattle.move_laws.proofs.RowLaws.Synchronized.{synchronized-with_row, synchronized-unheld}
+use Rattle.move_laws.proofs.MoveLaws.Sound.{Sound, sound-of}
+
+-- effects that tell of no reference and no death
+pub record IsSilent (S : State) (effects : List Effect) : Type 0 where
+  pub quiet : IsQuiet effects
+  pub pluses : (o : ObjNo) → pluses effects o ≡ 0
+  pub found : (o : ObjNo) → 0 < finds effects o → o.0 < length S.objects
+  pub fits : EachFitsHolders (held_in S) effects
+  pub after : (g : Holder) (x : ObjNo) → held_after_all (held_in S) effects g x ≡ held_in S g x
+
+-- such are none
+pub silent : (S : State) → IsSilent S []
+silent S = record { quiet = record { minuses = λ o. refl; deaths = λ o. refl; removals = λ o. refl }; pluses = λ o. refl; found = λ o h. absurd (omega arith); fits = tt; after = λ g x. refl }
+
+-- a change of a row that leaves its references
+pub record KeepsReferences (f : ThreadRow → ThreadRow) : Type 0 where
+  pub link : (row : ThreadRow) → (f row).link ≡ row.link
+  pub uses : (row : ThreadRow) → (f row).uses ≡ row.uses
+
+names-map : (f : ThreadRow → ThreadRow) (x : Option ThreadRow) (o : ObjNo) → KeepsReferences f → (use_names o (option_map f x) ≡ use_names o x) × (link_names o (option_map f x) ≡ link_names o x) × (thread_names o (option_map f x) ≡ thread_names o x)
+names-map f None o h = (refl, refl, refl)
+names-map f (Some row) o h = let a = h.uses row in let b = h.link row in (cc, cc, cc)
+
+pub sound-row : (script : Script) (S : State) (u : ObjNo) (f : ThreadRow → ThreadRow) (effects : List Effect) → KeepsReferences f → ((row : ThreadRow) → thread_of S u ≡ Some row → IsThread script (length S.threads) row → KeepsThread script (length S.threads) row (f row)) → ((k : ℕ) → (get_or S.owed k [] ≡ []) ⊎ IsPaidIn S.threads (with_row S.threads u f) k) → IsSilent S effects → AreSynchronized script (with_row S.threads u f) S.nano → LeavesLocks S.threads (with_row S.threads u f) S.owed S.owed S.locks → AreRows script S → Sound script S (record S { threads = with_row S.threads u f }) effects
+sound-row script S u f effects keeps thread paid quiet nano leaves rows =
+    let T : State = record S { threads = with_row S.threads u f } in
+    let old = thread_of S u in
+    let counts : (o : ObjNo) → count_of T o ≡ count_of S o = λ o.
+    let a = count-with_row S.threads u f o in
+    let b = kernel-with_row S.threads u f o in
+    let c = (names-map f old o keeps).2 in omega arith in
+    let held : (g : Holder) (x : ObjNo) → held_in T g x ≡ held_in S g x = λ g x.
+    let a = rows-with_row S.handles S.threads S.mutexes u f g x in
+    let n = names-map f old x keeps in
+    let b : row_holds u (option_map f old) g x ≡ row_holds u old g x = ap (λ (y : ℕ). (if is_holder (Temp u) g then y else 0) + (if is_holder (Link u) g then link_names x (option_map f old) else 0)) n.0 ∙ ap (λ (y : ℕ). (if is_holder (Temp u) g then use_names x old else 0) + (if is_holder (Link u) g then y else 0)) n.1 in omega arith in
+    sound-of script S T effects rows (record {
+      handles_long = refl;
+      threads_long = length-with_row S.threads u f;
+      owed_long = refl;
+      objects_few = rows.sized.objects_few;
+      tables = rows.tables;
+      threads = threads-with_row script S.threads u f thread rows.threads;
+      duties = duties-threads S.threads (with_row S.threads u f) S.owed paid rows.duties;
+      nano = nano;
+      deferred = rows.deferred;
+      requests = rows.requests;
+      locks = locks-left (length S.objects) (length S.objects) S.threads (with_row S.threads u f) S.mutexes S.owed S.owed S.locks (omega arith) leaves rows.locks;
+      memories = memories-with_row S.threads u f S.memories (λ row is. (thread row is (rows.threads.rows u.0 row is)).process) rows.memories;
+    })
+    (lives-quiet S T effects refl quiet.quiet (λ o. let a = counts o in let b = quiet.pluses o in let c = quiet.quiet.minuses o in omega arith) (λ o. refl) (λ o h. let b = quiet.pluses o in absurd (omega arith)) quiet.found)
+    (record { fits = quiet.fits; moves = λ g x. quiet.after g x ∙ sym (held g x) })
+
+pub sound-find : (script : Script) (S : State) (t u o : ObjNo) → FitsMove script t (Find u o) S → AreRows script S → Sound script S (moved t (Find u o) S) (told (Find u o) S)
+sound-find script S t u o fits rows = sound-row script S u (with_found o) (Seek o ∷ []) (record { link = λ row. refl; uses = λ row. refl })
+    (λ row is h. record { thread = record { process = h.process; link = h.link; priority = h.priority; next_instruction = h.next_instruction; unused = h.unused; registers = h.registers }; process = refl; role = refl })
+    (λ k. inr (paid-with_row S.threads u (with_found o) (λ row h. h) k))
+    (record {
+      quiet = record { minuses = λ p. refl; deaths = λ p. refl; removals = λ p. refl };
+      pluses = λ p. refl;
+      found = λ p h. subst (λ (y : ObjNo). y.0 < length S.objects) (same_is o p (omega arith)) fits;
+      fits = (tt, tt);
+      after = λ g x. refl;
+    }) (synchronized-with_row script S.threads u (with_found o) S.nano (λ row h. h) rows.nano) (leaves-with_row S.threads u (with_found o) S.owed S.locks (λ row. refl)) rows
+
+pub sound-write : (script : Script) (S : State) (t u : ObjNo) (x value : ℕ) → FitsMove script t (Write u x value) S → AreRows script S → Sound script S (moved t (Write u x value) S) (told (Write u x value) S)
+sound-write script S t u x value fits rows = sound-row script S u (λ row. record row { registers = slice_set row.registers x value }) [] (record { link = λ row. refl; uses = λ row. refl })
+    (λ row is h. record { thread = record { process = h.process; link = h.link; priority = h.priority; next_instruction = h.next_instruction; unused = h.unused; registers = length-set row.registers x value ∙ h.registers }; process = refl; role = refl })
+    (λ k. inr (paid-with_row S.threads u (λ row. record row { registers = slice_set row.registers x value }) (λ row h. h) k)) (silent S) (synchronized-with_row script S.threads u (λ row. record row { registers = slice_set row.registers x value }) S.nano (λ row h. h) rows.nano) (leaves-with_row S.threads u (λ row. record row { registers = slice_set row.registers x value }) S.owed S.locks (λ row. refl)) rows
+
+pub sound-go_on : (script : Script) (S : State) (t u : ObjNo) (part : Part) → FitsMove script t (GoOn u part) S → AreRows script S → Sound script S (moved t (GoOn u part) S) (told (GoOn u part) S)
+sound-go_on script S t u part fits rows =
+    let f : ThreadRow → ThreadRow = λ row. record row { part = Some part } in
+    sound-row script S u f [] (record { link = λ row. refl; uses = λ row. refl })
+    (λ row is h. record { thread = record { process = h.process; link = h.link; priority = h.priority; next_instruction = h.next_instruction; unused = fits.unused row is; registers = h.registers }; process = refl; role = refl })
+    (λ k. elim (cases_Bool (is_returning (Some part))) as (λ _. (get_or S.owed k [] ≡ []) ⊎ IsPaidIn S.threads (with_row S.threads u f) k) [
+      | inr going ↦ inr (paid-with_row S.threads u f (λ row h. going) k)
+      | inl returns ↦ elim (cases_eq u.0 k) as (λ _. (get_or S.owed k [] ≡ []) ⊎ IsPaidIn S.threads (with_row S.threads u f) k) [
+        | inl at ↦ inl (ap (λ (n : ℕ). get_or S.owed n []) (sym at) ∙ fits.paid returns)
+        | inr apart ↦ inr (record {
+          none = none-with_row S.threads u f;
+          going = λ h. ap (λ (y : Option ThreadRow). is_returning (part_of y)) (row-other S.threads u f k apart) ∙ h;
+        })
+      ]
+    ]) (silent S) (synchronized-with_row script S.threads u f S.nano (λ row h. h) rows.nano) (leaves-with_row S.threads u f S.owed S.locks (λ row. refl)) rows
+
+-- a change of what a thread waits for that stands among no waiters
+sound-waiting : (script : Script) (S : State) (u : ObjNo) (what : Waiting) → WaitsNowhere S u → AreSynchronized script (with_row S.threads u (with_waiting what)) S.nano → AreRows script S → Sound script S (record S { threads = with_row S.threads u (with_waiting what) }) []
+sound-waiting script S u what nowhere nano rows = sound-row script S u (with_waiting what) [] (record { link = λ row. refl; uses = λ row. refl })
+    (λ row is h. record { thread = record { process = h.process; link = h.link; priority = h.priority; next_instruction = h.next_instruction; unused = h.unused; registers = h.registers }; process = refl; role = refl })
+    (λ k. inr (paid-with_row S.threads u (with_waiting what) (λ row h. h) k)) (silent S) nano (leaves-nowhere S.threads u (with_waiting what) S.owed S.locks nowhere) rows
+
+pub sound-wait : (script : Script) (S : State) (t u : ObjNo) (what : Waiting) → FitsMove script t (Wait u what) S → AreRows script S → Sound script S (moved t (Wait u what) S) (told (Wait u what) S)
+sound-wait script S t u what fits rows = sound-waiting script S u what fits.1 (synchronized-unheld script S.threads u (with_waiting what) S.nano fits.0 rows.nano) rows
+
+pub sound-wake : (script : Script) (S : State) (t u : ObjNo) → FitsMove script t (Wake u) S → AreRows script S → Sound script S (moved t (Wake u) S) (told (Wake u) S)
+sound-wake script S t u fits rows = sound-waiting script S u waiting.Nothing fits (synchronized-with_row script S.threads u (with_waiting waiting.Nothing) S.nano (λ row h. refl) rows.nano) rows
+
+pub sound-priority : (script : Script) (S : State) (t u : ObjNo) (priority : ℕ) → FitsMove script t (SetPriority u priority) S → AreRows script S → Sound script S (moved t (SetPriority u priority) S) (told (SetPriority u priority) S)
+sound-priority script S t u priority fits rows = sound-row script S u (with_priority priority) [] (record { link = λ row. refl; uses = λ row. refl })
+    (λ row is h. record { thread = record { process = h.process; link = h.link; priority = fits; next_instruction = h.next_instruction; unused = h.unused; registers = h.registers }; process = refl; role = refl })
+    (λ k. inr (paid-with_row S.threads u (with_priority priority) (λ row h. h) k)) (silent S) (synchronized-with_row script S.threads u (with_priority priority) S.nano (λ row h. h) rows.nano) (leaves-with_row S.threads u (with_priority priority) S.owed S.locks (λ row. refl)) rows
+
+-- a change of the rows of threads that synchronize, of deferred function calls, of requests and of memories leaves all else
+pub sound-rest : (script : Script) (S : State) (nano : NanoRows) (calls : DeferredRows) (requests : RequestRows) (memories : List (Option (List ℕ))) (effects : List Effect) → IsSilent S effects → AreSynchronized script S.threads nano → AreCalls script calls → AreRequests (length S.threads) requests → AreMemories S.threads memories → AreRows script S → Sound script S (record S { nano = nano; deferred = calls; requests = requests; memories = memories }) effects
+sound-rest script S nano calls requests memories effects quiet sound called requested kept rows =
+    let T : State = record S { nano = nano; deferred = calls; requests = requests; memories = memories } in
+    sound-of script S T effects rows (record { handles_long = refl; threads_long = refl; owed_long = refl; objects_few = rows.sized.objects_few; tables = rows.tables; threads = rows.threads; duties = rows.duties; nano = sound; deferred = called; requests = requested; locks = rows.locks; memories = kept })
+    (lives-quiet S T effects refl quiet.quiet (λ o. let b = quiet.pluses o in let c = quiet.quiet.minuses o in omega arith) (λ o. refl) (λ o h. let b = quiet.pluses o in absurd (omega arith)) quiet.found)
+    (record { fits = quiet.fits; moves = quiet.after })
+
+pub sound-miss : (script : Script) (S : State) (t o : ObjNo) → AreRows script S → Sound script S (moved t (Miss o) S) (told (Miss o) S)
+sound-miss script S t o rows = sound-rest script S S.nano S.deferred S.requests S.memories (Missed o ∷ []) (record { quiet = record { minuses = λ p. refl; deaths = λ p. refl; removals = λ p. refl }; pluses = λ p. refl; found = λ p h. absurd (omega arith); fits = (tt, tt); after = λ g x. refl }) rows.nano rows.deferred rows.requests rows.memories rows
+
+pub sound-fill : (script : Script) (S : State) (t p : ObjNo) (at long byte : ℕ) → FitsMove script t (Fill p at long byte) S → AreRows script S → Sound script S (moved t (Fill p at long byte) S) (told (Fill p at long byte) S)
+sound-fill script S t p at long byte fits rows = sound-rest script S S.nano S.deferred S.requests (with_memory S.memories p (filled at long byte)) [] (silent S) rows.nano rows.deferred rows.requests (memories-filled S.threads S.memories p at long byte fits rows.memories) rows

@@ -1,0 +1,187 @@
+-- A move changes the readiness of no other threads than those that it touches.
+use Rattle.std.proofs.Common.{◌≡◌, ◌≢◌, inl, inr, ℕ, ◌+◌, arith, List, [], ◌∷◌, get_or, refl, sym, ap, ◌∙◌, Option, Some, None, Bool, true, false}
+use Rattle.std.specs.Prelude.{option_and_then, option_map, is_some, not, ◌&&◌, ◌==◌, if◌then◌else◌, slice_set}
+use Rattle.std.proofs.lemmas.Bool.{cases_eq, eqb-false, or_parts}
+use Rattle.std.proofs.lemmas.List.{get_or-set_other}
+use Rattle.sym_base.specs.Greatest.{first_of_greatest}
+use Rattle.sym_base.specs.declared.number.ObjNo.{ObjNo}
+use Rattle.script_types.specs.declared.script.Script.{Script}
+use Rattle.entry_log.specs.declared.effect.Holder.{Holder}
+use Rattle.entry_log.specs.declared.effect.Holder.TheVariants.{Temp}
+use Rattle.state_rows.specs.Deferred.{is_queued, next_of, priority_of, queue_of}
+use Rattle.state_rows.specs.declared.deferred.DeferredRows.{DeferredRows}
+use Rattle.state_rows.specs.declared.deferred.Item.TheVariants as item
+use Rattle.state_rows.specs.declared.duty.Owed.{Owed}
+use Rattle.state_rows.specs.declared.duty.Owed.TheVariants.{Close, Sweep}
+use Rattle.state_rows.specs.declared.nano.NanoRows.{NanoRows}
+use Rattle.state_rows.specs.Nano.{suspend_count, critical_count, held_by, is_protected}
+use Rattle.state_rows.specs.NanoChanges.{after_suspend}
+use Rattle.state_rows.proofs.OtherThreads.{held_by-after_take, held_by-after_give, count-other}
+use Rattle.machine.specs.declared.moves.Move.{Move}
+use Rattle.machine.specs.declared.moves.Move.TheVariants.{Make, Gain, Lose, Find, Miss, GoOn, Write, Advance, Wait, Wake, SetPriority, Nano, Deferred, Requests, Locks, Fill, Pay}
+use Rattle.machine.specs.declared.deferred_move.DeferredMove.{DeferredMove}
+use Rattle.machine.specs.declared.deferred_move.DeferredMove.TheVariants.{Add, Take as TakeCall}
+use Rattle.machine.specs.declared.lock_move.LockMove.{LockMove}
+use Rattle.machine.specs.declared.lock_move.LockMove.TheVariants.{Unlock}
+use Rattle.machine.specs.declared.nano_move.NanoMove.{NanoMove}
+use Rattle.machine.specs.declared.nano_move.NanoMove.TheVariants.{Take, Give, Enter, Leave, LeaveAll, Suspend, Resume}
+use Rattle.state_rows.specs.declared.thread.Waiting.TheVariants as waiting
+use Rattle.state_rows.specs.declared.thread.ThreadRow.{ThreadRow}
+use Rattle.state_rows.specs.declared.locks.Unlocked.TheVariants.{Freed, Level, NotOwner, Passed}
+use Rattle.machine.specs.declared.state.State.{State}
+use Rattle.machine.specs.Rows.{thread_of, first_of, first_owed, with_row}
+use Rattle.machine.specs.Moves.{moved, threads_gain, threads_lose, threads_closed, next_object, with_use, unlinked, with_found, with_part, with_register, with_waiting, with_priority, advanced}
+use Rattle.machine.specs.LockMoves.{owed_moved}
+use Rattle.machine.specs.NanoMoves.{nano_moved, nano_thread}
+use Rattle.machine.specs.DeferredMoves.{deferred_moved, deferred_threads, thread_of_queue}
+use Rattle.machine.specs.References.{is_last}
+use Rattle.machine.specs.Arrivals.{is_listed, touched}
+use Rattle.machine.specs.Task.{instruction, is_returning, is_waiting_row, is_ready, next_call, pay_or, return_or, run_or, served_queue, step_or_end, task_of_row}
+use Rattle.machine.specs.WellFormed.{AreThreads}
+use Rattle.move_laws.proofs.Holders.ThreadRows.{row-here, row-other}
+
+-- whether a thread of this row would be ready, with these rows of deferred function calls and of threads that synchronize, and owing this first
+abbrev ready_row : Script → DeferredRows → NanoRows → ObjNo → Option Owed → Option ThreadRow → Bool
+ready_row script calls r u first row = not (is_waiting_row row) && not (not (suspend_count r u == 0) && not (is_protected r u)) && is_some (task_of_row script calls (is_protected r u) first row)
+
+-- a change of a row that leaves what the thread waits for and where its instruction is
+record KeepsTask (f : ThreadRow → ThreadRow) : Type 0 where
+  pub waiting : (row : ThreadRow) → (f row).waiting ≡ row.waiting
+  pub task : (script : Script) (calls : DeferredRows) (protected : Bool) (first : Option Owed) (row : ThreadRow) → task_of_row script calls protected first (Some (f row)) ≡ task_of_row script calls protected first (Some row)
+
+same_ready : (script : Script) (calls : DeferredRows) (r : NanoRows) (u : ObjNo) (first : Option Owed) (f : ThreadRow → ThreadRow) (x : Option ThreadRow) → KeepsTask f → ready_row script calls r u first (option_map f x) ≡ ready_row script calls r u first x
+same_ready script calls r u first f None keeps = refl
+same_ready script calls r u first f (Some row) keeps = rw (keeps.waiting row, keeps.task script calls (is_protected r u) first row) refl
+
+-- the row of any thread, where that of one changes
+ready-with_row : (script : Script) (calls : DeferredRows) (r : NanoRows) (first : Option Owed) (threads : List (Option ThreadRow)) (v : ObjNo) (f : ThreadRow → ThreadRow) (u : ObjNo) → KeepsTask f → ready_row script calls r u first (get_or (with_row threads v f) u.0 None) ≡ ready_row script calls r u first (get_or threads u.0 None)
+ready-with_row script calls r first threads v f u keeps = elim (cases_eq v.0 u.0) [
+  | inl at ↦ ap (ready_row script calls r u first) (row-here threads v f u.0 at) ∙ same_ready script calls r u first f (get_or threads v.0 None) keeps ∙ ap (λ (n : ℕ). ready_row script calls r u first (get_or threads n None)) at
+  | inr apart ↦ ap (ready_row script calls r u first) (row-other threads v f u.0 apart)
+]
+
+keeps_use : (uses : Option ObjNo) → KeepsTask (with_use uses)
+keeps_use uses = record { waiting = λ row. refl; task = λ script calls protected first row. refl }
+
+ready-gain : (script : Script) (calls : DeferredRows) (r : NanoRows) (first : Option Owed) (threads : List (Option ThreadRow)) (h : Holder) (o u : ObjNo) → ready_row script calls r u first (get_or (threads_gain h o threads) u.0 None) ≡ ready_row script calls r u first (get_or threads u.0 None)
+ready-gain script calls r first threads (Temp v) o u = ready-with_row script calls r first threads v (with_use (Some o)) u (keeps_use (Some o))
+ready-gain script calls r first threads _ o u = refl
+
+ready-lose : (script : Script) (calls : DeferredRows) (r : NanoRows) (first : Option Owed) (threads : List (Option ThreadRow)) (h : Holder) (u : ObjNo) → ready_row script calls r u first (get_or (threads_lose h threads) u.0 None) ≡ ready_row script calls r u first (get_or threads u.0 None)
+ready-lose script calls r first threads (Temp v) u = ready-with_row script calls r first threads v (with_use None) u (keeps_use None)
+ready-lose script calls r first threads _ u = refl
+
+ready-closed : (script : Script) (calls : DeferredRows) (r : NanoRows) (first : Option Owed) (threads : List (Option ThreadRow)) (last : Bool) (o u : ObjNo) → ready_row script calls r u first (get_or (threads_closed last o threads) u.0 None) ≡ ready_row script calls r u first (get_or threads u.0 None)
+ready-closed script calls r first threads true o u = ready-with_row script calls r first threads o unlinked u (record { waiting = λ row. refl; task = λ script calls protected first row. refl })
+ready-closed script calls r first threads false o u = refl
+
+-- what another thread owes
+owed-other : (owed : List (List Owed)) (t u : ObjNo) (what : List Owed) → (t.0 ≡ u.0 → ⊥) → get_or (slice_set owed t.0 what) u.0 [] ≡ get_or owed u.0 []
+owed-other owed t u what apart = get_or-set_other owed t.0 u.0 what [] (λ e. apart (sym e))
+
+apart_of : (t u : ObjNo) → is_listed (t ∷ []) u ≡ false → t.0 ≡ u.0 → ⊥
+apart_of t u none = eqb-false t.0 u.0 (or_parts (t.0 == u.0) false none).0
+
+-- also where a mutex is given up
+owed-locks : (owed : List (List Owed)) (t : ObjNo) (m : LockMove) (u : ObjNo) → is_listed (touched t (Locks m)) u ≡ false → get_or (owed_moved m owed) u.0 [] ≡ get_or owed u.0 []
+owed-locks owed t (Unlock o v Freed) u none = owed-other owed v u _ (apart_of v u none)
+owed-locks owed t (Unlock o v (Passed w)) u none = owed-other owed v u _ (apart_of v u none)
+owed-locks owed t (Unlock o v Level) u none = refl
+owed-locks owed t (Unlock o v NotOwner) u none = refl
+owed-locks owed t _ u none = refl
+
+-- the same duties of a thread, and a row with which it is as ready
+ready-by : (script : Script) (S T : State) (u : ObjNo) → T.deferred ≡ S.deferred → T.nano ≡ S.nano → get_or T.owed u.0 [] ≡ get_or S.owed u.0 [] → ready_row script S.deferred S.nano u (first_owed S u) (thread_of T u) ≡ ready_row script S.deferred S.nano u (first_owed S u) (thread_of S u) → is_ready script T u ≡ is_ready script S u
+ready-by script S T u calls nano owed threads = ap (λ (c : DeferredRows). ready_row script c T.nano u (first_owed T u) (thread_of T u)) calls ∙ ap (λ (r : NanoRows). ready_row script S.deferred r u (first_owed T u) (thread_of T u)) nano ∙ ap (λ (what : List Owed). ready_row script S.deferred S.nano u (first_of what) (thread_of T u)) owed ∙ threads
+
+-- what other threads hold, and how often they are suspended and in a critical section
+record SameRows (r new : NanoRows) (u : ObjNo) : Type 0 where
+  pub suspensions : suspend_count new u ≡ suspend_count r u
+  pub sections : critical_count new u ≡ critical_count r u
+  pub holds : held_by new u ≡ held_by r u
+
+suspensions-other : (r : NanoRows) (t u : ObjNo) → u ≢ t → suspend_count (after_suspend r t) u ≡ suspend_count r u
+suspensions-other r t u apart = by (suspend_count r t == 127)
+  where
+    by : (b : Bool) → get_or (if b then r.suspensions else slice_set r.suspensions t.0 (suspend_count r t + 1)) u.0 0 ≡ suspend_count r u
+    by true = refl
+    by false = count-other r.suspensions t u _ apart
+
+nano-other : (r : NanoRows) (m : NanoMove) (u : ObjNo) → u ≢ nano_thread m → SameRows r (nano_moved m r) u
+nano-other r (Take t f) u apart = record { suspensions = refl; sections = refl; holds = held_by-after_take r t u f apart }
+nano-other r (Give t f) u apart = record { suspensions = refl; sections = refl; holds = held_by-after_give r t u f apart }
+nano-other r (Enter t) u apart = record { suspensions = refl; sections = count-other r.sections t u _ apart; holds = refl }
+nano-other r (Leave t) u apart = record { suspensions = refl; sections = count-other r.sections t u _ apart; holds = refl }
+nano-other r (LeaveAll t) u apart = record { suspensions = refl; sections = count-other r.sections t u _ apart; holds = refl }
+nano-other r (Suspend t) u apart = record { suspensions = suspensions-other r t u apart; sections = refl; holds = refl }
+nano-other r (Resume t) u apart = record { suspensions = count-other r.suspensions t u _ apart; sections = refl; holds = refl }
+nano-other r _ u apart = record { suspensions = refl; sections = refl; holds = refl }
+
+ready-nano : (script : Script) (S : State) (m : NanoMove) (u : ObjNo) → u ≢ nano_thread m → ready_row script S.deferred (nano_moved m S.nano) u (first_owed S u) (thread_of S u) ≡ ready_row script S.deferred S.nano u (first_owed S u) (thread_of S u)
+ready-nano script S m u apart =
+    let same = nano-other S.nano m u apart in
+    let protected : is_protected (nano_moved m S.nano) u ≡ is_protected S.nano u = rw (same.holds, same.sections) refl in
+    rw (same.suspensions, protected) refl
+
+-- a call joins its own queue
+abbrev pub JoinsOwnQueue : Move → State → Type 0
+JoinsOwnQueue (Deferred (Add dfc queue)) S = queue ≡ queue_of S.deferred dfc
+JoinsOwnQueue _ S = Unit {0}
+
+-- another queue, where one changes
+queue-other : (queues : List (List ℕ)) (i q : ℕ) (x : List ℕ) (same : Bool) → q ≢ i → get_or (if same then queues else slice_set queues i x) q [] ≡ get_or queues q []
+queue-other queues i q x true apart = refl
+queue-other queues i q x false apart = get_or-set_other queues i q x [] apart
+
+-- the call that comes next in the queue of a thread that a move doesn't touch
+next-other : (S : State) (t : ObjNo) (m : DeferredMove) (u : ObjNo) (q : ℕ) → JoinsOwnQueue (Deferred m) S → u.0 ≡ 1 + q → is_listed (deferred_threads m) u ≡ false → next_of (deferred_moved m S.deferred) q ≡ next_of S.deferred q
+next-other S t (Add dfc queue) u q joins own none =
+    let apart = apart_of (thread_of_queue queue) u none in
+    ap (first_of_greatest (priority_of S.deferred)) (queue-other S.deferred.queues (queue_of S.deferred dfc) q _ (is_queued S.deferred (item.Move dfc)) (λ e. apart (omega arith)))
+next-other S t (TakeCall queue) u q joins own none =
+    let apart = apart_of (thread_of_queue queue) u none in
+    ap (first_of_greatest (priority_of S.deferred)) (get_or-set_other S.deferred.queues queue q _ [] (λ e. apart (omega arith)))
+next-other S t _ u q joins own none = refl
+
+ready-deferred : (script : Script) (S : State) (t : ObjNo) (m : DeferredMove) (u : ObjNo) → AreThreads script S.threads → JoinsOwnQueue (Deferred m) S → is_listed (deferred_threads m) u ≡ false → is_ready script (moved t (Deferred m) S) u ≡ is_ready script S u
+ready-deferred script S t m u threads joins none = by (thread_of S u) refl
+  where
+    next : (served : Option ℕ) → ((q : ℕ) → served ≡ Some q → u.0 ≡ 1 + q) → option_and_then (next_of (deferred_moved m S.deferred)) served ≡ option_and_then (next_of S.deferred) served
+    next None own = refl
+    next (Some q) own = next-other S t m u q joins (own q refl) none
+
+    by : (row : Option ThreadRow) → thread_of S u ≡ row → ready_row script (deferred_moved m S.deferred) S.nano u (first_owed S u) row ≡ ready_row script S.deferred S.nano u (first_owed S u) row
+    by None is = refl
+    by (Some row) is =
+        let same : next_call (deferred_moved m S.deferred) row.role ≡ next_call S.deferred row.role = next (served_queue row.role) (λ q serves. threads.servers u.0 q row is serves) in
+        ap (λ (call : Option ℕ). not (is_waiting_row (Some row)) && not (not (suspend_count S.nano u == 0) && not (is_protected S.nano u)) && is_some (return_or (is_returning row.part) (instruction script row) (pay_or (first_owed S u) (run_or call (step_or_end (is_protected S.nano u) (instruction script row)))))) same
+
+pub untouched : (script : Script) (S : State) (t : ObjNo) (m : Move) (u : ObjNo) → AreThreads script S.threads → JoinsOwnQueue m S → is_listed (touched t m) u ≡ false → is_ready script (moved t m S) u ≡ is_ready script S u
+untouched script S t (Make kind name h) u threads joins none = ready-gain script S.deferred S.nano (first_owed S u) S.threads h (next_object S) u
+untouched script S t (Gain h o) u threads joins none = ready-gain script S.deferred S.nano (first_owed S u) S.threads h o u
+untouched script S t (Lose h o) u threads joins none =
+    ready-by script S (moved t (Lose h o) S) u refl refl (owed-other S.owed t u _ (apart_of t u none))
+    (ready-closed script S.deferred S.nano (first_owed S u) (threads_lose h S.threads) (is_last S o) o u ∙ ready-lose script S.deferred S.nano (first_owed S u) S.threads h u)
+untouched script S t (Find v o) u threads joins none = ready-with_row script S.deferred S.nano (first_owed S u) S.threads v (with_found o) u (record { waiting = λ row. refl; task = λ script calls protected first row. refl })
+untouched script S t (Miss o) u threads joins none = refl
+untouched script S t (GoOn v part) u threads joins none = ap (ready_row script S.deferred S.nano u (first_owed S u)) (row-other S.threads v (with_part part) u.0 (apart_of v u none))
+untouched script S t (Write v x value) u threads joins none = ready-with_row script S.deferred S.nano (first_owed S u) S.threads v (with_register x value) u (record { waiting = λ row. refl; task = λ script calls protected first row. refl })
+untouched script S t (Advance v) u threads joins none =
+    ready-by script S (moved t (Advance v) S) u refl refl (owed-other S.owed v u _ (apart_of v u none))
+    (ap (ready_row script S.deferred S.nano u (first_owed S u)) (row-other S.threads v advanced u.0 (apart_of v u none)))
+untouched script S t (Wait v what) u threads joins none = ap (ready_row script S.deferred S.nano u (first_owed S u)) (row-other S.threads v (with_waiting what) u.0 (apart_of v u none))
+untouched script S t (Wake v) u threads joins none = ap (ready_row script S.deferred S.nano u (first_owed S u)) (row-other S.threads v (with_waiting waiting.Nothing) u.0 (apart_of v u none))
+untouched script S t (SetPriority v priority) u threads joins none = ap (ready_row script S.deferred S.nano u (first_owed S u)) (row-other S.threads v (with_priority priority) u.0 (apart_of v u none))
+untouched script S t (Nano m) u threads joins none = ready-nano script S m u (λ at. apart_of (nano_thread m) u none (ap (λ (v : ObjNo). v.0) (sym at)))
+untouched script S t (Deferred m) u threads joins none = ready-deferred script S t m u threads joins none
+untouched script S t (Requests m) u threads joins none = refl
+untouched script S t (Locks m) u threads joins none = ready-by script S (moved t (Locks m) S) u refl refl (owed-locks S.owed t m u none) refl
+untouched script S t (Fill p at long byte) u threads joins none = refl
+untouched script S t (Pay (Close h o)) u threads joins none =
+    let apart = apart_of t u none in
+    ready-by script S (moved t (Pay (Close h o)) S) u refl refl (get_or-set_other _ t.0 u.0 _ [] (λ e. apart (sym e)) ∙ owed-other S.owed t u _ apart)
+    (ready-closed script S.deferred S.nano (first_owed S u) S.threads (is_last S o) o u)
+untouched script S t (Pay (Sweep o)) u threads joins none =
+    let parts = or_parts (t.0 == u.0) (is_listed (o ∷ []) u) none in
+    ready-by script S (moved t (Pay (Sweep o)) S) u refl refl (owed-other S.owed t u _ (eqb-false t.0 u.0 parts.0))
+    (ap (ready_row script S.deferred S.nano u (first_owed S u)) (get_or-set_other S.threads o.0 u.0 None None (λ e. apart_of o u parts.1 (sym e))))
