@@ -1,0 +1,2 @@
+pub mod BornFew
+pub mod Capped

@@ -1,13 +1,14 @@
 //! What stands at boot.
 ghost use Rattle.std.specs.Prelude.{◌≡◌, ℕ, ◌+◌, ◌<◌, ◌≤◌, ◌++◌, [], ◌∷◌, codes, false, IfOk, OnOk, length, map, pos, replicate, vec_len};
 ghost use Rattle.script_types.specs.Shape.{IsShaped};
-ghost use Rattle.sym_base.specs.declared.limits.TheConstants.Limits.{DEVICES};
+ghost use Rattle.sym_base.specs.declared.limits.TheConstants.Limits.{DEVICES, OBJECTS};
 ghost use Rattle.state_rows.specs.RequestChanges.{new_rows as request_rows};
 ghost use Rattle.state_rows.specs.LockChanges.{new_rows as lock_rows};
 ghost use Rattle.machine.specs.Boot.{boot_object, born_process, new_thread, born_thread, born_queue, born_queues, is_of, has_any, born_threads, born_supervisor, born_kernel, born, ready_from, held_count, nano_of, memory_of, boot_of, boot};
 ghost use Rattle.state_rows.specs.HandleSlots.{fresh_slot};
 ghost use Rattle.state_rows.specs.declared.thread.Role.TheVariants as role;
 
+use crate::state_parts::{Holdings, Standing, Synchronizing, join};
 use crate::{
     DeferredRows, HandleSlot, LockRows, NanoRows, Owed, RequestRows, Role, State, ThreadRow,
 };
@@ -359,6 +360,58 @@ fn no_mutexes(alloc: Global, all: &[Born]) -> Result<Items<Items<ObjNo>>, NoMemo
     Ok(Items::new(mutexes))
 }
 
+/// What stands at boot, each with an empty table.
+fn standing_of(alloc: Global, all: &[Born]) -> Result<Standing, NoMemory>
+    requires { length all.now ≤ 65536 }
+    ensures objects { IfOk result (λ s. s.objects ≡ map (λ b. Some b.object) all.now) }
+    ensures handles { IfOk result (λ s. s.handles ≡ map (λ _. replicate 256 fresh_slot) all.now) }
+    ensures threads { IfOk result (λ s. s.threads ≡ map (λ b. b.thread) all.now) }
+    ensures ready { IfOk result (λ s. s.ready ≡ ready_from 0 all.now) }
+{
+    let objects = objects_of(alloc, all)?;
+    let handles = fresh_tables(alloc, all)?;
+    let threads = threads_of(alloc, all)?;
+    let ready = ready_from(alloc, all)?;
+    Ok(Standing {
+        objects,
+        handles,
+        threads,
+        ready,
+    })
+}
+
+/// Nobody owes or holds anything at boot, and each byte is 0.
+fn no_holdings(alloc: Global, all: &[Born]) -> Result<Holdings, NoMemory>
+    ensures owed { IfOk result (λ h. h.owed ≡ map (λ _. []) all.now) }
+    ensures mutexes { IfOk result (λ h. h.mutexes ≡ map (λ _. []) all.now) }
+    ensures memories { IfOk result (λ h. h.memories ≡ map memory_of all.now) }
+{
+    let owed = no_duties(alloc, all)?;
+    let mutexes = no_mutexes(alloc, all)?;
+    let memories = memories_of(alloc, all)?;
+    Ok(Holdings {
+        owed,
+        mutexes,
+        memories,
+    })
+}
+
+/// Nobody synchronizes, asks for anything, or locks.
+fn synchronizing_of(alloc: Global, fast: u8, all: &[Born]) -> Result<Synchronizing, NoMemory>
+    ensures nano { IfOk result (λ s. s.nano ≡ nano_of fast all.now) }
+    ensures requests { IfOk result (λ s. s.requests ≡ request_rows (length all.now) DEVICES) }
+    ensures locks { IfOk result (λ s. s.locks ≡ lock_rows OBJECTS) }
+{
+    let nano = nano_of(alloc, fast, all)?;
+    let requests = no_requests(alloc, all.len())?;
+    let locks = no_locks(alloc, Limits::OBJECTS)?;
+    Ok(Synchronizing {
+        nano,
+        requests,
+        locks,
+    })
+}
+
 /// The state in which these stand, each with an empty table and nothing that it owes or holds, and no device with a request.
 #[tactic(auto, unfolding(crate::specs::Boot::boot_of))]
 pub fn boot_of(
@@ -370,23 +423,14 @@ pub fn boot_of(
     requires { length all.now ≤ 65536 }
     ensures { IfOk result (λ state. state ≡ boot_of fast calls all.now) }
 {
-    Ok(State {
-        objects: objects_of(alloc, all)?,
-        handles: fresh_tables(alloc, all)?,
-        threads: threads_of(alloc, all)?,
-        ready: ready_from(alloc, all)?,
-        owed: no_duties(alloc, all)?,
-        nano: nano_of(alloc, fast, all)?,
-        deferred: calls,
-        requests: no_requests(alloc, all.len())?,
-        locks: no_locks(alloc, Limits::OBJECTS)?,
-        mutexes: no_mutexes(alloc, all)?,
-        memories: memories_of(alloc, all)?,
-    })
+    let standing = standing_of(alloc, all)?;
+    let holdings = no_holdings(alloc, all)?;
+    let synchronizing = synchronizing_of(alloc, fast, all)?;
+    Ok(join(standing, calls, holdings, synchronizing))
 }
 
 /// The state at boot.
-#[tactic(auto, using(crate::proofs::AtBoot::Born::born_few))]
+#[tactic(auto, using(crate::proofs::BornFew::born_few))]
 pub fn state_at_boot(alloc: Global, script: &Script) -> Result<State, NoMemory>
     requires { IsShaped script.now }
     ensures { IfOk result (λ state. state ≡ boot script.now) }

@@ -157,7 +157,7 @@ pub fn count_of(state: &State, object: ObjNo) -> u32
 }
 
 /// Whether an object has a reference.
-#[tactic(auto, using(crate::proofs::Numbers::Capped::capped_above_none))]
+#[tactic(auto, using(crate::proofs::Capped::capped_above_none))]
 pub fn is_counted(state: &State, object: ObjNo) -> bool
     ensures { result ≡ nat_lt 0 (count_of state.now object) }
 {
@@ -165,7 +165,7 @@ pub fn is_counted(state: &State, object: ObjNo) -> bool
 }
 
 /// Whether an object has one reference.
-#[tactic(auto, using(crate::proofs::Numbers::Capped::capped_is_one))]
+#[tactic(auto, using(crate::proofs::Capped::capped_is_one))]
 pub fn is_last(state: &State, object: ObjNo) -> bool
     ensures { result ≡ is_last state.now object }
 {

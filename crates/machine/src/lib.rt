@@ -15,6 +15,7 @@ mod plan;
 mod request_move;
 mod rows;
 mod state;
+mod state_parts;
 mod task;
 mod touches;
 

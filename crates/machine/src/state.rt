@@ -1,6 +1,7 @@
 //! The kernel's state as plain lists of rows, indexed by number.
 ghost use Rattle.std.specs.Prelude.{◌≡◌, IfOk};
 
+use crate::state_parts::{Holdings, Standing, Synchronizing, join};
 use state_rows::{
     DeferredRows, HandleSlot, LockRows, NanoRows, ObjectRow, Owed, RequestRows, ThreadRow,
 };
@@ -117,23 +118,66 @@ fn copied_memories(
     Ok(Items::new(copies))
 }
 
+/// The same objects, tables, rows of threads and ready threads, a second time.
+fn copied_standing(alloc: Global, state: &State) -> Result<Standing, AllocError>
+    ensures objects { IfOk result (λ s. s.objects ≡ state.now.objects) }
+    ensures handles { IfOk result (λ s. s.handles ≡ state.now.handles) }
+    ensures threads { IfOk result (λ s. s.threads ≡ state.now.threads) }
+    ensures ready { IfOk result (λ s. s.ready ≡ state.now.ready) }
+{
+    let objects = state.objects.copied(alloc)?;
+    let handles = copied_lists(alloc, state.handles.as_slice())?;
+    let threads = state.threads.copied(alloc)?;
+    let ready = state.ready.copied(alloc)?;
+    Ok(Standing {
+        objects,
+        handles,
+        threads,
+        ready,
+    })
+}
+
+/// The same duties, held mutexes and memories, a second time.
+fn copied_holdings(alloc: Global, state: &State) -> Result<Holdings, AllocError>
+    ensures owed { IfOk result (λ h. h.owed ≡ state.now.owed) }
+    ensures mutexes { IfOk result (λ h. h.mutexes ≡ state.now.mutexes) }
+    ensures memories { IfOk result (λ h. h.memories ≡ state.now.memories) }
+{
+    let owed = copied_lists(alloc, state.owed.as_slice())?;
+    let mutexes = copied_lists(alloc, state.mutexes.as_slice())?;
+    let memories = copied_memories(alloc, state.memories.as_slice())?;
+    Ok(Holdings {
+        owed,
+        mutexes,
+        memories,
+    })
+}
+
+/// The same rows of what threads synchronize by, ask devices for, and lock, a second time.
+fn copied_synchronizing(alloc: Global, state: &State) -> Result<Synchronizing, AllocError>
+    ensures nano { IfOk result (λ s. s.nano ≡ state.now.nano) }
+    ensures requests { IfOk result (λ s. s.requests ≡ state.now.requests) }
+    ensures locks { IfOk result (λ s. s.locks ≡ state.now.locks) }
+{
+    let nano = copied_nano(alloc, &state.nano)?;
+    let requests = copied_requests(alloc, &state.requests)?;
+    let locks = copied_locks(alloc, &state.locks)?;
+    Ok(Synchronizing {
+        nano,
+        requests,
+        locks,
+    })
+}
+
 impl State {
     /// A second state that is the same.
     pub fn copied(&self, alloc: Global) -> Result<State, AllocError>
         ensures { IfOk result (λ copy. copy ≡ self.now) }
     {
-        Ok(State {
-            objects: self.objects.copied(alloc)?,
-            handles: copied_lists(alloc, self.handles.as_slice())?,
-            threads: self.threads.copied(alloc)?,
-            ready: self.ready.copied(alloc)?,
-            owed: copied_lists(alloc, self.owed.as_slice())?,
-            nano: copied_nano(alloc, &self.nano)?,
-            deferred: copied_deferred(alloc, &self.deferred)?,
-            requests: copied_requests(alloc, &self.requests)?,
-            locks: copied_locks(alloc, &self.locks)?,
-            mutexes: copied_lists(alloc, self.mutexes.as_slice())?,
-            memories: copied_memories(alloc, self.memories.as_slice())?,
-        })
+        let standing = copied_standing(alloc, self)?;
+        let deferred = copied_deferred(alloc, &self.deferred)?;
+        let holdings = copied_holdings(alloc, self)?;
+        let synchronizing = copied_synchronizing(alloc, self)?;
+        Ok(join(standing, deferred, holdings, synchronizing))
     }
 }

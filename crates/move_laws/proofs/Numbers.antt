@@ -1,5 +1,4 @@
 -- The numbers of a state and of an action fit their types.
-pub mod Capped
 pub mod CountSmall
 pub mod FewEffects
 pub mod Registers

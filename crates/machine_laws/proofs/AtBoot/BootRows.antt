@@ -27,7 +27,8 @@ use Rattle.machine_laws.proofs.AtBoot.BootNano.{synchronized-boot}
 use Rattle.machine_laws.proofs.AtBoot.BootReady.{ready-boot}
 use Rattle.machine_laws.proofs.AtBoot.BootRequests.{requests-boot}
 use Rattle.machine_laws.proofs.AtBoot.BootServers.{servers-boot}
-use Rattle.machine_laws.proofs.AtBoot.Born.{IsNewThread, EachBorn, each_born, born_few, born_row}
+use Rattle.machine.proofs.BornFew.{born_few}
+use Rattle.machine_laws.proofs.AtBoot.Born.{IsNewThread, EachBorn, each_born, born_row}
 use Rattle.move_laws.proofs.Lists.Copies.{copy_at}
 use Rattle.move_laws.proofs.References.Same.{same_other}
 

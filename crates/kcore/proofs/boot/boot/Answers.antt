@@ -12,7 +12,8 @@ use Rattle.machine.specs.Choice.{priority_of, priority_of_row}
 use Rattle.machine.specs.References.{count_of}
 use Rattle.machine.specs.WellFormed.{AreApart}
 use Rattle.machine.specs.Moves.{use_of_row}
-use Rattle.machine_laws.proofs.AtBoot.Born.{born_few, each_born}
+use Rattle.machine.proofs.BornFew.{born_few}
+use Rattle.machine_laws.proofs.AtBoot.Born.{each_born}
 use Rattle.machine_laws.proofs.AtBoot.BootRows.{rows-boot, well_formed-boot}
 use Rattle.move_laws.proofs.Numbers.CountSmall.{count_small}
 use Rattle.kcore.specs.BootTable.{AreNew, FirstStand}

@@ -1,0 +1,57 @@
+//! The state in parts, each of which is made by a function of its own.
+ghost use Rattle.std.specs.Prelude.{◌≡◌};
+
+use crate::State;
+use state_rows::{
+    DeferredRows, HandleSlot, LockRows, NanoRows, ObjectRow, Owed, RequestRows, ThreadRow,
+};
+use sym_base::{Items, ObjNo, ThreadNo};
+
+/// The objects, their handle tables, the threads' rows, and the ready threads.
+#[derive(Drop)]
+pub struct Standing {
+    pub objects: Items<Option<ObjectRow>>,
+    pub handles: Items<Items<HandleSlot>>,
+    pub threads: Items<Option<ThreadRow>>,
+    pub ready: Items<ThreadNo>,
+}
+
+/// What each owes and holds, and the memories of processes.
+#[derive(Drop)]
+pub struct Holdings {
+    pub owed: Items<Items<Owed>>,
+    pub mutexes: Items<Items<ObjNo>>,
+    pub memories: Items<Option<Items<u8>>>,
+}
+
+/// The rows of what threads synchronize by, ask devices for, and lock.
+#[derive(Drop)]
+pub struct Synchronizing {
+    pub nano: NanoRows,
+    pub requests: RequestRows,
+    pub locks: LockRows,
+}
+
+/// The state of these parts and of deferred function calls.
+pub fn join(
+    standing: Standing,
+    deferred: DeferredRows,
+    holdings: Holdings,
+    synchronizing: Synchronizing,
+) -> State
+    ensures { result ≡ record { objects = standing.objects; handles = standing.handles; threads = standing.threads; ready = standing.ready; owed = holdings.owed; nano = synchronizing.nano; deferred = deferred; requests = synchronizing.requests; locks = synchronizing.locks; mutexes = holdings.mutexes; memories = holdings.memories } }
+{
+    State {
+        objects: standing.objects,
+        handles: standing.handles,
+        threads: standing.threads,
+        ready: standing.ready,
+        owed: holdings.owed,
+        nano: synchronizing.nano,
+        deferred,
+        requests: synchronizing.requests,
+        locks: synchronizing.locks,
+        mutexes: holdings.mutexes,
+        memories: holdings.memories,
+    }
+}
