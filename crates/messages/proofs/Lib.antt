@@ -1,0 +1,4 @@
+pub mod Lists
+pub mod Queueing
+pub mod Seen
+pub mod Storing
