@@ -14,8 +14,8 @@ pub struct Draws {
 }
 
 impl Draws {
-    #[tactic(auto, using(crate::proofs::Wrapping::next_wraps), unfolding(crate::specs::Draws::number_of))]
     /// The next number: the upper 31 bits of the next state.
+    #[tactic(auto, using(crate::proofs::Wrapping::next_wraps), unfolding(crate::specs::Draws::number_of))]
     pub fn draw(&mut self) -> u64
         ensures state { self.new.state ≡ next self.old.state }
         ensures number { result ≡ number_of self.new.state }

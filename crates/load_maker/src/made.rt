@@ -53,9 +53,8 @@ fn threads(alloc: Global, seed: u64, size: u32) -> Result<Vec<ThreadDecl>, NoMem
 }
 
 /// The script of a seed and a size, which is the number of each client's rounds, 1 to 500: a file server with four
-/// clients that send it messages, make mutexes and fill memory, in rounds drawn from the seed, and a schedule that
-/// suffices for all of it. The same seed and size give the same script. `Err` comes only for want of memory. The
-/// script is this project's own.
+/// clients that send it messages, make mutexes and fill memory, in rounds drawn from the seed, and a schedule of
+/// 200 slots and 60 for each round. `Err` comes only for want of memory. The script is this project's own.
 pub fn make_script(alloc: Global, seed: u64, size: u32) -> Result<Script, NoMemory>
     requires some { 1 ≤ size }
     requires few { size ≤ 500 }

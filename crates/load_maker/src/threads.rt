@@ -67,8 +67,8 @@ pub struct Client {
     pub messages: u32,
 }
 
-#[tactic(auto, unfolding(crate::specs::Rounds::slots_drawn))]
 /// The next client: a draw gives the slots of its session, and each further one a round.
+#[tactic(auto, unfolding(crate::specs::Rounds::slots_drawn))]
 pub fn next_client(
     alloc: Global,
     draws: &mut Draws,
