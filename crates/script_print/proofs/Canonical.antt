@@ -124,6 +124,12 @@ run_built : (lines : List SourceLine) → AreRun false lines → AllByRecursion 
 run_built [] run = tt
 run_built (l ∷ ls) run = (built_or (is_built_line l) run.0, run_built ls run.1)
 
+-- lines that may stand, in a file of just these, spell the script that they make
+pub lines_spelled : (lines : List SourceLine) (made : Context) → AllStand (twos lines) start lines → after_all start lines ≡ made → is_ended made ≡ true → IsSpelled (flat_map source_text lines) made.script
+lines_spelled lines made stand makes ended =
+    let taken = lines_taken true lines made (record { stand = stand; built = any_run lines; makes = makes }) ended in
+    taken.spelled
+
 pub canonical_spelled : (bytes : List ℕ) (script : Script) → IsSpelled bytes script → IsSpelled (canonical_text script) script
 canonical_spelled bytes script s = let taken = canonical_taken true bytes script s (any_run s.lines) in taken.spelled
 

@@ -48,7 +48,7 @@ known_append : (any : Bool) (file : List Declared) (xs ys : List Slot) → AreKn
 known_append any file [] ys all more = more
 known_append any file (x ∷ xs) ys all more = (all.0, known_append any file xs ys all.1 more)
 
-known_run : (any : Bool) (file : List Declared) (count : ℕ) → AreKnown any file (replicate count slot.Go)
+pub known_run : (any : Bool) (file : List Declared) (count : ℕ) → AreKnown any file (replicate count slot.Go)
 known_run any file zero = tt
 known_run any file (suc n) = (tt, known_run any file n)
 

@@ -80,7 +80,7 @@ thread_grows : (t : ThreadDecl) (what : Instr) → thread_lines (grown t what) �
 thread_grows t what =
     ap (λ (l : SourceLine). l ∷ map line.Instr (t.instrs ++ what ∷ [])) (line_stays t.process t what) ∙ ap (λ (ls : List SourceLine). thread_line t.process t ∷ ls) (map-append line.Instr t.instrs (what ∷ []))
 
-instr_last : (ts : List ThreadDecl) (t : ThreadDecl) (what : Instr) → with_instr (ts ++ t ∷ []) what ≡ ts ++ grown t what ∷ []
+pub instr_last : (ts : List ThreadDecl) (t : ThreadDecl) (what : Instr) → with_instr (ts ++ t ∷ []) what ≡ ts ++ grown t what ∷ []
 instr_last [] t what = refl
 instr_last (u ∷ []) t what = refl
 instr_last (u ∷ v ∷ us) t what = ap (λ (ds : List ThreadDecl). u ∷ ds) (instr_last (v ∷ us) t what)

@@ -1,0 +1,4 @@
+pub mod Allowed
+pub mod Blocks
+pub mod Valid
+pub mod Wrapping

@@ -1,0 +1,11 @@
+//! Makes scripts from a number: a file server with four clients, whose rounds are drawn.
+#![tactic(auto)]
+
+mod draws;
+mod made;
+mod round;
+#[cfg(test)]
+mod tests;
+mod threads;
+
+pub use made::make_script;
