@@ -48,6 +48,43 @@ pub struct ExecUser<'a, W: RefWords> {
 }
 
 impl<'a, W: RefWords + Drop> ExecUser<'a, W> {
+    /// One step of the instruction that an able thread is at, in the phase that it is in, as `step` makes it. Its effects
+    /// come into an empty list of the caller's, and its answer is handed back.
+    pub fn tell_step(
+        &mut self,
+        script: &Script,
+        t: ThreadNo,
+        instr: &Instr,
+        phase: u8,
+        effects: &mut Effects,
+    ) -> Option<i32>
+        requires shaped { IsShaped script.now }
+        requires rows { AreRows script.now (state_of self.old.tables.now) }
+        requires kept { AreKept self.old.tables.now }
+        requires size { self.old.ready.now.threads ≡ BOOT_OBJECTS }
+        requires at { IsAtStep script.now (state_of self.old.tables.now) t instr.now phase }
+        requires empty { effects.old ≡ [] }
+        ensures same_tables { self.new.tables.ghost_name ≡ self.old.tables.ghost_name }
+        ensures same_ready { self.new.ready.ghost_name ≡ self.old.ready.ghost_name }
+        ensures same_decision { self.new.decision.ghost_name ≡ self.old.decision.ghost_name }
+        ensures size { self.new.ready.now.threads ≡ BOOT_OBJECTS }
+        ensures decided { self.new.decision.now ≡ step_at script.now (state_of self.old.tables.now) t instr.now }
+        ensures performed { IsPerformed script.now t (step_at script.now (state_of self.old.tables.now) t instr.now).moves self.old.tables.now self.new.tables.now self.old.ready.now self.new.ready.now [] effects.new }
+        ensures answer { result ≡ (step_at script.now (state_of self.old.tables.now) t instr.now).answer }
+    {
+        prove_eq!(phase, phase_at(self.tables, t));
+        decide_step(self.decision, script, self.tables, t, instr);
+        perform(
+            script,
+            self.tables,
+            self.ready,
+            t,
+            self.decision.moves.as_slice(),
+            effects,
+        );
+        self.decision.answer
+    }
+
     /// One step of the instruction that an able thread is at, in the phase that it is in. All its moves are made, and
     /// whom they make ready comes; whoever isn't ready any more stays in the queues until the entry's end.
     pub fn step(&mut self, script: &Script, t: ThreadNo, instr: &Instr, phase: u8) -> Outcome
@@ -65,18 +102,8 @@ impl<'a, W: RefWords + Drop> ExecUser<'a, W> {
         ensures answer { result.answer ≡ (step_at script.now (state_of self.old.tables.now) t instr.now).answer }
         ensures next { result.next ≡ next_of result.answer (thread_of (state_of self.new.tables.now) t) }
     {
-        prove_eq!(phase, phase_at(self.tables, t));
-        decide_step(self.decision, script, self.tables, t, instr);
         let mut effects = Effects::new();
-        perform(
-            script,
-            self.tables,
-            self.ready,
-            t,
-            self.decision.moves.as_slice(),
-            &mut effects,
-        );
-        let answer = self.decision.answer;
+        let answer = self.tell_step(script, t, instr, phase, &mut effects);
         Outcome {
             effects,
             answer,

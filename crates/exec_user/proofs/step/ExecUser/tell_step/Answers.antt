@@ -3,7 +3,7 @@ use Rattle.machine.specs.Moves.{tell}
 use Rattle.kernel_tables.specs.Performed.{ActionGoes}
 use Rattle.kernel_tables.specs.StateOf.{state_of}
 use Rattle.exec_user.proofs.Steps.{step_goes}
-use Rattle.exec_user.proofs.step.ExecUser.step.Goals as goal
+use Rattle.exec_user.proofs.step.ExecUser.tell_step.Goals as goal
 
 pub perform-requires-clause-go : goal.perform-requires-clause-go
 perform-requires-clause-go g c =
@@ -14,4 +14,4 @@ pub perform-requires-clause-few : goal.perform-requires-clause-few
 perform-requires-clause-few g c =
     let goes = step_goes c.args.script.now (state_of c.args.self.now.tables.now) c.args.t c.args.instr.now c.args.phase c.requires.shaped c.requires.rows c.requires.at in
     let few = goes.few in
-    rw (c.as_slice.ensures.moves, c.decide_step.ensures, c.new-effects.ensures) (omega arith)
+    rw (c.as_slice.ensures.moves, c.decide_step.ensures, c.requires.empty) (omega arith)
