@@ -12,10 +12,10 @@ ghost use Rattle.exec_user.specs.Stepping.{IsAtStep, step_at};
 
 use crate::next::{Next, next_of, phase_of};
 use decisions::decide_step;
-use readings::Reads;
 use entry_log::Effects;
 use kernel_tables::{Tables, perform};
 use machine::Decision;
+use readings::Reads;
 use ready_list::ReadyList;
 use ref_words::RefWords;
 use script_types::{Instr, Script};

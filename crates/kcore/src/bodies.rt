@@ -14,10 +14,10 @@ ghost use Rattle.kernel_tables.specs.Performed.{ActionGoes, IsPerformed};
 ghost use Rattle.kernel_tables.specs.StateOf.{state_of};
 
 use crate::made::{Made, add_moves};
-use next_actions::{leave_queue, op_moves, ops_of, step_of_body};
 use entry_log::{Effects, Entry};
 use kernel_tables::{Tables, leave_along, perform};
 use machine::{Body, Moves};
+use next_actions::{leave_queue, op_moves, ops_of, step_of_body};
 use ready_list::ReadyList;
 use ref_words::RefWords;
 use script_types::{Op, Script};

@@ -11,10 +11,10 @@ ghost use Rattle.kernel_tables.specs.StateOf.{state_of};
 
 use crate::bodies::run_body;
 use crate::plans::follow;
-use next_actions::immediate_action;
 use entry_log::Entry;
 use kernel_tables::Tables;
 use machine::{Body, Decision};
+use next_actions::immediate_action;
 use ready_list::ReadyList;
 use ref_words::RefWords;
 use script_types::Script;

@@ -20,10 +20,10 @@ ghost use Rattle.kernel_tables.specs.StateOf.{state_of, with_ready};
 
 use crate::act::transition;
 use crate::boot;
-use readings::is_able;
 use entry_log::{Actor, Effects, Entry, FinalRow, Step};
 use kernel_tables::{Tables, chosen};
 use machine::Decision;
+use readings::is_able;
 use ready_list::ReadyList;
 use ref_words::{PlainWords, RefWords};
 use script_types::{Script, Slot};

@@ -7,9 +7,9 @@ ghost use Rattle.kernel_tables.specs.StateOf.{slots_of, state_of};
 
 use crate::duties::first_owed;
 use crate::tables::Tables;
-use readings::Reads;
 use handles::Handles;
 use machine::{NewHandle, Owed, ThreadRow};
+use readings::Reads;
 use ref_words::RefWords;
 use state_rows::{HandleSlot, Item, ObjectRow, Owner, Request, is_local, look};
 use sym_base::{Items, Kind, Name, ObjNo, ThreadNo};

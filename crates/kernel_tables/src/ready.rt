@@ -15,10 +15,10 @@ ghost use Rattle.kernel_tables.specs.ReadyQueues.{Follow, SomeReady, pairs, leav
 ghost use Rattle.kernel_tables.specs.StateOf.{state_of};
 
 use crate::tables::Tables;
-use readings::{is_ready, wanted_holder};
 use entry_log::Actor;
 use machine::{Move, TouchedThreads, touched};
 use nano_sync::NanoSync;
+use readings::{is_ready, wanted_holder};
 use ready_list::ReadyList;
 use ref_words::RefWords;
 use script_types::Script;

@@ -3,8 +3,8 @@ ghost use Rattle.std.specs.Prelude.{◌≡◌, IfOk, OnOk, filter};
 ghost use Rattle.machine.specs.Arrivals.{is_listed, unlisted, taken_out, one_of, threads_of, arrive};
 ghost use Rattle.machine.specs.Task.{is_ready};
 
-use readings::is_ready;
 use machine::{Move, State, TouchedThreads};
+use readings::is_ready;
 use script_types::Script;
 use std::alloc::Global;
 use sym_base::{Items, NoMemory, ThreadNo};

@@ -4,8 +4,8 @@ ghost use Rattle.machine.specs.RequestMoves.{request_moved};
 ghost use Rattle.state_rows.specs.RequestChanges.{after_begin, after_finish, after_set_pending, after_signal, after_take, with_status};
 
 use crate::nano::{one_more, set_count};
-use readings::Reads;
 use machine::{RequestMove, State, set_row};
+use readings::Reads;
 use state_rows::{PENDING, Request, STATUSES};
 use sym_base::{Items, ObjNo, ThreadNo};
 

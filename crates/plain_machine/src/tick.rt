@@ -6,9 +6,9 @@ ghost use Rattle.machine.specs.Transition.{left};
 
 use crate::arrivals::unlisted;
 use crate::choice::first_ready;
-use readings::Reads;
 use entry_log::{Effects, Step};
 use machine::{Outcome, State};
+use readings::Reads;
 use std::alloc::Global;
 use sym_base::{Items, NoMemory, ThreadNo};
 

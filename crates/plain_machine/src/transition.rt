@@ -8,9 +8,9 @@ ghost use Rattle.plain_machine.specs.Allowed.{AllowsAction};
 
 use crate::action::{follow, run_body};
 use crate::tick::tick;
-use next_actions::{decide_action, immediate_action};
 use entry_log::{Actor, Effects, Step};
 use machine::{Body, Decision, Outcome, State};
+use next_actions::{decide_action, immediate_action};
 use script_types::Script;
 use std::alloc::Global;
 use sym_base::{NoMemory, ObjNo, ThreadNo};

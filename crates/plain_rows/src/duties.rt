@@ -3,8 +3,8 @@ ghost use Rattle.std.specs.Prelude.{◌≡◌, ◌++◌, OnOk};
 ghost use Rattle.machine.specs.Moves.{owed_by_close, owed_use};
 ghost use Rattle.machine.specs.Rows.{owing, without_first};
 
-use machine::Owed;
 use entry_log::Holder;
+use machine::Owed;
 use sym_base::{Items, NoMemory, ObjNo, ThreadNo};
 
 /// Adds what a close leaves to do: where it was of the last reference, the close of the object's own link,

@@ -6,8 +6,8 @@ ghost use Rattle.machine.specs.Room.{MayAdvance};
 ghost use Rattle.machine.specs.Rows.{with_row};
 ghost use Rattle.state_rows.specs.declared.thread.ThreadRow.{ThreadRow};
 
-use machine::{ThreadRow, Waiting};
 use entry_log::{Holder, Part};
+use machine::{ThreadRow, Waiting};
 use sym_base::{Items, ObjNo, ThreadNo};
 
 /// The row has another use.

@@ -8,9 +8,9 @@ ghost use Rattle.entry_log.specs.declared.effect.Effect.TheVariants.{Plus, Take}
 ghost use Rattle.entry_log.specs.declared.effect.Holder.TheVariants.{Own};
 ghost use Rattle.entry_log.specs.declared.effect.LockNo.TheVariants.{Object};
 
+use crate::reads::Reads;
 use entry_log::{Effect, Effects, Holder, LockNo, StatusNo};
 use machine::{LockMove, Move, NanoMove, Owed, RequestMove};
-use crate::reads::Reads;
 use state_rows::{Locked, Unlocked};
 use sym_base::{ObjNo, ThreadNo};
 
