@@ -22,7 +22,7 @@ ghost use Rattle.kernel_tables.specs.StateOf.{state_of};
 use crate::bodies::run_body;
 use crate::interrupts::{immediate, interrupt};
 use crate::plans::carry_out;
-use entry_log::{Actor, Entry, Step};
+use entry_log::{Actor, Effects, Entry, Step};
 use exec_user::{ExecUser, phase_at};
 use kernel_tables::{Tables, leave_along, turn};
 use machine::Decision;
@@ -33,7 +33,8 @@ use ref_words::RefWords;
 use script_types::{Instr, Script};
 use sym_base::ThreadNo;
 
-/// A step of the instruction that a thread is at. Whoever isn't ready any more stays in the queues.
+/// A step of the instruction that a thread is at, whose effects come into an empty list. Whoever isn't ready any more
+/// stays in the queues.
 fn make_step<W: RefWords + Drop>(
     script: &Script,
     tables: &mut Tables<W>,
@@ -41,17 +42,19 @@ fn make_step<W: RefWords + Drop>(
     decision: &mut Decision,
     thread: ThreadNo,
     instr: &Instr,
-) -> exec_user::Outcome
+    effects: &mut Effects,
+) -> Option<i32>
     requires shaped { IsShaped script.now }
     requires rows { AreRows script.now (state_of tables.old) }
     requires kept { AreKept tables.old }
     requires size { ready.old.threads ≡ BOOT_OBJECTS }
     requires able { IsTrue (is_able script.now (state_of tables.old) thread) }
     requires next { task_of script.now (state_of tables.old) thread ≡ Some (task.Step instr.now) }
+    requires empty { effects.old ≡ [] }
     ensures size { ready.new.threads ≡ BOOT_OBJECTS }
     ensures decided { decision.new ≡ step_at script.now (state_of tables.old) thread instr.now }
-    ensures performed { IsPerformed script.now thread (step_at script.now (state_of tables.old) thread instr.now).moves tables.old tables.new ready.old ready.new [] result.effects }
-    ensures answer { result.answer ≡ (step_at script.now (state_of tables.old) thread instr.now).answer }
+    ensures performed { IsPerformed script.now thread (step_at script.now (state_of tables.old) thread instr.now).moves tables.old tables.new ready.old ready.new [] effects.new }
+    ensures answer { result ≡ (step_at script.now (state_of tables.old) thread instr.now).answer }
 {
     let phase = phase_at(tables, thread);
     let mut user = ExecUser {
@@ -59,7 +62,7 @@ fn make_step<W: RefWords + Drop>(
         ready,
         decision,
     };
-    user.step(script, thread, instr, phase)
+    user.tell_step(script, thread, instr, phase, effects)
 }
 
 /// A step of the instruction that a thread is at.
@@ -78,15 +81,23 @@ fn step<W: RefWords + Drop>(
     requires size { ready.old.threads ≡ BOOT_OBJECTS }
     requires able { IsTrue (is_able script.now (state_of tables.old) thread) }
     requires next { task_of script.now (state_of tables.old) thread ≡ Some (task.Step instr.now) }
+    requires empty { entry.old.effects ≡ [] }
     ensures told { IsTold entry.old entry.new }
     ensures does { Does script.now tables.old ready.old tables.new ready.new (told_in entry.new) (λ S. carried_out script.now thread S (step_at script.now (state_of tables.old) thread instr.now)) }
 {
-    let made = make_step(script, tables, ready, decision, thread, instr);
+    let answer = make_step(
+        script,
+        tables,
+        ready,
+        decision,
+        thread,
+        instr,
+        &mut entry.effects,
+    );
     let moves = decision.moves.as_slice();
     leave_along(script, tables, ready, thread, moves);
     entry.step = decision.step;
-    entry.effects = made.effects;
-    entry.answer = made.answer;
+    entry.answer = answer;
 }
 
 /// The next action of an able thread, decided in the place of the decision before it.

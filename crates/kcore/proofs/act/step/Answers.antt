@@ -16,5 +16,5 @@ returns-clause-does g c =
     let d = step_at script X t c.args.instr.now in
     let at : IsAtStep script X t c.args.instr.now (phase_at X t) = record { able = c.requires.able; next = c.requires.next; phase = refl } in
     let goes = step_goes script X t c.args.instr.now (phase_at X t) c.requires.shaped c.requires.rows at in
-    let follow = rw (c.as_slice-moves.ensures.moves, c.make_step-made.ensures.decided) at c.leave_along.ensures.queues in
-    carried_does script t d c.args.tables.now c.make_step-made.new.tables c.args.ready.now c.make_step-made.new.ready c.leave_along.new.ready _ c.make_step-made.result.effects goes.each c.make_step-made.ensures.performed follow (rw (c.make_step-made.ensures.decided, c.make_step-made.ensures.answer) refl)
+    let follow = rw (c.as_slice-moves.ensures.moves, c.make_step-answer.ensures.decided) at c.leave_along.ensures.queues in
+    carried_does script t d c.args.tables.now c.make_step-answer.new.tables c.args.ready.now c.make_step-answer.new.ready c.leave_along.new.ready _ c.make_step-answer.new.effects goes.each c.make_step-answer.ensures.performed follow (rw (c.make_step-answer.ensures.decided, c.make_step-answer.ensures.answer) refl)
