@@ -28,7 +28,7 @@ use sym_base::{Limits, NoMemory};
 pub const PLACES: u32 = Limits::OBJECTS as u32;
 
 /// Makes the whole history of a script: each slot of its schedule makes one entry.
-#[tactic(auto, using(machine::proofs::ValidSlots::valid_slots_few))]
+#[tactic(auto, using(machine_laws::proofs::ValidSlots::valid_slots_few))]
 pub fn make_history(alloc: Global, script: Script) -> Result<Kernel<PlainWords>, NoMemory>
     requires { IsValid script }
     ensures { IfOk result (λ kernel. HasRun script kernel) }

@@ -170,7 +170,7 @@ pub fn next_action<'a, R: Reads>(
 }
 
 /// What an able thread does next, with its instruction's step decided.
-#[tactic(auto, using(machine::proofs::Numbers::Registers::task_has_registers))]
+#[tactic(auto, using(move_laws::proofs::Numbers::Registers::task_has_registers))]
 fn decide_able<R: Reads>(
     decision: &mut Decision,
     script: &Script,

@@ -9,7 +9,7 @@ use machine::{State, count_of};
 use sym_base::ObjNo;
 
 /// The first object that isn't swept of the numbers from `from` on, with its count.
-#[tactic(auto, using(machine::proofs::Reached::LeftRows::rows_from_swept, machine::proofs::Reached::LeftRows::rows_from_left))]
+#[tactic(auto, using(machine_laws::proofs::Reached::LeftRows::rows_from_swept, machine_laws::proofs::Reached::LeftRows::rows_from_left))]
 pub fn next_row(state: &State, from: u16) -> Option<FinalRow>
     requires few { length state.now.objects ≤ 4096 }
     requires counts { (object : ObjNo) → count_of state.now object < 65536 }
