@@ -1,10 +1,9 @@
 -- Lists of numbers and what they are seen as, with one number less.
-use Rattle.std.proofs.Common.{◌≡◌, ◌≢◌, ℕ, zero, suc, ◌+◌, ◌<◌, Bool, true, false, not, eqb, List, [], ◌∷◌, length, get_or, map, cond, refl, sym, ap, ◌∙◌, arith, inl, inr, eq-eqb}
-use Rattle.std.specs.Prelude.{Some, None, is_some, All, filter, count_by, option_map, replicate}
+use Rattle.std.proofs.Common.{◌≡◌, ◌≢◌, ℕ, zero, suc, ◌<◌, Bool, true, false, not, eqb, List, [], ◌∷◌, length, get_or, map, refl, sym, ap, ◌∙◌, arith, inl, inr, eq-eqb}
+use Rattle.std.specs.Prelude.{Some, None, is_some, All, filter, option_map}
 use Rattle.std.specs.List.{find, remove}
 use Rattle.std.proofs.lemmas.Bool.{cases_Bool, ne_eqb}
 use Rattle.std.proofs.lemmas.List.Elements.{All-cons, All-head, All-tail}
-use Rattle.std.proofs.lemmas.List.Sums.{sum_by-cons}
 
 -- a list without the element at a place is the list without that element, where it stands once
 pub removed_alone : (x : ℕ) (xs : List ℕ) (i : ℕ) → i < length xs → get_or xs i 0 ≡ x → ((k : ℕ) → k < length xs → k ≢ i → get_or xs k 0 ≢ x) → remove xs i ≡ filter (λ y. not (eqb y x)) xs
@@ -75,19 +74,7 @@ module _ {X : Type 0} where
   all_stay p (x ∷ xs) all =
       rw (All-head (λ y. p y ≡ false) x xs all) (ap (λ (rest : List X). x ∷ rest) (all_stay p xs (All-tail (λ y. p y ≡ false) x xs all)))
 
-  -- each element of a list of one value is that value
-  pub replicated : (n k : ℕ) (x : X) → get_or (replicate n x) k x ≡ x
-  replicated zero k x = refl
-  replicated (suc n) zero x = refl
-  replicated (suc n) (suc k) x = replicated n k x
-
 module _ {X Y : Type 0} where
-  -- how many are seen to pass a test
-  pub count_seen : (p : Y → Bool) (f : X → Y) (xs : List X) → count_by p (map f xs) ≡ count_by (λ x. p (f x)) xs
-  count_seen p f [] = refl
-  count_seen p f (x ∷ xs) =
-      sum_by-cons (λ y. cond (p y) 1 0) (f x) (map f xs) ∙ ap (λ n. cond (p (f x)) 1 0 + n) (count_seen p f xs) ∙ sym (sum_by-cons (λ y. cond (p (f y)) 1 0) x xs)
-
   -- those that are seen to pass a test
   pub filter_seen : (p : Y → Bool) (f : X → Y) (xs : List X) → filter p (map f xs) ≡ map f (filter (λ x. p (f x)) xs)
   filter_seen p f [] = refl

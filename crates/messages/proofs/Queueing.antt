@@ -1,13 +1,13 @@
 -- The queues of keys, as messages come, change and go.
-use Rattle.std.proofs.Common.{◌≡◌, ◌≢◌, ◌⊎◌, ℕ, ◌+◌, ◌<◌, ◌≤◌, Bool, true, false, not, ◌&&◌, eqb, List, [], ◌∷◌, ◌++◌, length, get_or, map, refl, sym, ap, ◌∙◌, arith, inl, inr, eq-eqb, get_or-set_same, get_or-set_other, length-set}
+use Rattle.std.proofs.Common.{◌≡◌, ℕ, ◌≤◌, Bool, true, false, not, ◌&&◌, eqb, List, [], ◌∷◌, length, get_or, map, refl, sym, ap, ◌∙◌, inl, inr, eq-eqb}
 use Rattle.std.specs.Prelude.{Some, is_some, All, filter, slice_get}
 use Rattle.std.specs.List.{find, list_any}
 use Rattle.std.proofs.Math.ListN.{get_or-map}
-use Rattle.std.proofs.lemmas.Bool.{cases_Bool, cases_eq, eqb-true, ne_eqb}
-use Rattle.std.proofs.lemmas.List.{length-map, length-replicate}
-use Rattle.std.proofs.lemmas.List.Elements.{All-cons, All-filter, All-append, All-head, All-map, All-tail}
+use Rattle.std.proofs.lemmas.Bool.{cases_Bool, eqb-true}
+use Rattle.std.proofs.lemmas.List.{length-map}
+use Rattle.std.proofs.lemmas.List.Elements.{All-filter, All-head, All-map, All-tail}
 use Rattle.std.proofs.lemmas.Option.{slice_get_within, get_or_from_slice_get}
-use Rattle.links.specs.Linked.{Linked, empty_lists, holds, list_at, pushed_back, unlinked, without}
+use Rattle.links.specs.Linked.{Linked, holds, unlinked, without}
 use Rattle.links.proofs.Marks.{place_of}
 use Rattle.messages.specs.declared.rows.MsgRow.{MsgRow}
 use Rattle.messages.specs.declared.rows.Message.{Message}
@@ -16,26 +16,8 @@ use Rattle.sym_base.specs.declared.number.MsgNo.{MsgNo}
 use Rattle.messages.specs.MessageRows.{is_at, waits_at}
 use Rattle.messages.specs.Kept.{Store, has_key, is_numbered, with_row}
 use Rattle.messages.specs.Queued.{AreMessages, AreQueued, keys_where}
-use Rattle.messages.proofs.Lists.{replicated}
 
 module _ (test : Message → Bool) where
-  -- a message that comes last comes last among those that pass a test, where it passes
-  where_yes : (stored : List Stored) (one : Stored) → test one.message ≡ true → keys_where test (stored ++ one ∷ []) ≡ keys_where test stored ++ one.key ∷ []
-  where_yes [] one told = rw told refl
-  where_yes (x ∷ xs) one told =
-      elim (cases_Bool (test x.message)) [
-        | inl passes ↦ rw passes (ap (λ (rest : List ℕ). x.key ∷ rest) (where_yes xs one told))
-        | inr fails ↦ rw fails (where_yes xs one told)
-      ]
-
-  where_no : (stored : List Stored) (one : Stored) → test one.message ≡ false → keys_where test (stored ++ one ∷ []) ≡ keys_where test stored
-  where_no [] one told = rw told refl
-  where_no (x ∷ xs) one told =
-      elim (cases_Bool (test x.message)) [
-        | inl passes ↦ rw passes (ap (λ (rest : List ℕ). x.key ∷ rest) (where_no xs one told))
-        | inr fails ↦ rw fails (where_no xs one told)
-      ]
-
   -- a message that goes is gone among them
   pub where_gone : (key : ℕ) (gone : Stored → Bool) (stored : List Stored) → All (λ other. has_key key other ≡ gone other) stored → keys_where test (filter (λ one. not (gone one)) stored) ≡ without key (keys_where test stored)
   where_gone key gone [] told = refl
@@ -113,34 +95,12 @@ module _ (test : Message → Bool) where
       ]
 
 module _ (test : ℕ → Message → Bool) where
-  -- no queue has a key at first
-  pub queued_none : (keys objects : ℕ) → AreQueued test (record { keys = keys; stored = [] }) objects (empty_lists keys objects)
-  queued_none keys objects = record {
-    nodes = refl;
-    lists = length-replicate {A = List ℕ} objects [];
-    listed = λ server. replicated {X = List ℕ} objects server [];
-  }
-
   module _ (store : Store) (objects : ℕ) (links : Linked) (queued : AreQueued test store objects links) where
     -- a key that is no message's stands on no list
     pub queued_free : (key : ℕ) → All (λ one. has_key key one ≡ false) store.stored → list_any (holds key) links.lists ≡ true → ⊥
     queued_free key fresh held =
         let place = place_of links.lists key held in
         where_fresh (test place.0) key store.stored fresh place.1 (rw (queued.listed place.0) at place.3)
-
-    -- a message comes to its server's queue
-    pub queued_added : (one : Stored) (server : ℕ) → server < objects → ((v : ℕ) → test v one.message ≡ eqb server v) → AreQueued test (record store { stored = store.stored ++ one ∷ [] }) objects (pushed_back links server one.key)
-    queued_added one server inside told = record {
-      nodes = queued.nodes;
-      lists = rw length-set queued.lists;
-      listed = λ v. pushed v (cases_eq v server);
-    }
-      where
-        pushed : (v : ℕ) → (v ≡ server) ⊎ (v ≢ server) → list_at (pushed_back links server one.key) v ≡ keys_where (test v) (store.stored ++ one ∷ [])
-        pushed v (inl same) =
-            rw same (get_or-set_same links.lists server (list_at links server ++ one.key ∷ []) [] (omega (arith, inside, queued.lists)) ∙ ap (λ (list : List ℕ). list ++ one.key ∷ []) (queued.listed server) ∙ sym (where_yes (test server) store.stored one (told server ∙ eq-eqb server server refl)))
-        pushed v (inr other) =
-            get_or-set_other links.lists server v (list_at links server ++ one.key ∷ []) [] other ∙ queued.listed v ∙ sym (where_no (test v) store.stored one (told v ∙ ne_eqb server v (λ e. other (sym e))))
 
     -- a key goes from its queue
     pub queued_gone : (stored : List Stored) (key : ℕ) → ((v : ℕ) → keys_where (test v) stored ≡ without key (keys_where (test v) store.stored)) → AreQueued test (record store { stored = stored }) objects (unlinked links key)
@@ -182,18 +142,6 @@ taken_fails true = refl
 taken_fails false = refl
 
 module _ (accepted : ℕ) (store : Store) (outstanding untaken : Linked) (are : AreMessages accepted store outstanding untaken) where
-  -- a message comes, and is untaken
-  pub messages_added : (one : Stored) → one.message.row.server.0 < length outstanding.lists → one.message.row.taken ≡ false → one.message.number.0 ≡ accepted + 1 → AreMessages (accepted + 1) (record store { stored = store.stored ++ one ∷ [] }) (pushed_back outstanding one.message.row.server.0 one.key) (pushed_back untaken one.message.row.server.0 one.key)
-  messages_added one inside not_taken number = record {
-    small = rw length-set are.small;
-    all = rw length-set (queued_added is_at store (length outstanding.lists) outstanding are.all one one.message.row.server.0 inside (λ v. refl));
-    waiting = rw length-set (queued_added waits_at store (length outstanding.lists) untaken are.waiting one one.message.row.server.0 inside waits);
-    numbers = All-append (λ other. other.message.number.0 ≤ accepted + 1) store.stored (one ∷ []) (λ k d within. omega (arith, are.numbers k d within)) (All-cons (λ other. other.message.number.0 ≤ accepted + 1) one [] (omega (arith, number)) (λ k d within. absurd (omega arith)));
-  }
-    where
-      waits : (v : ℕ) → waits_at v one.message ≡ eqb one.message.row.server.0 v
-      waits v = rw not_taken (elim (eqb one.message.row.server.0 v) as (λ b. (b && true) ≡ b) [ true ↦ refl | false ↦ refl ])
-
   -- a message goes
   pub messages_gone : (m : MsgNo) (key : ℕ) → All (λ other. has_key key other ≡ is_numbered m other) store.stored → AreMessages accepted (record store { stored = filter (λ one. not (is_numbered m one)) store.stored }) (unlinked outstanding key) (unlinked untaken key)
   messages_gone m key alike = record {

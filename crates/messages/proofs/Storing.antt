@@ -217,34 +217,9 @@ module _ (numbers keys : List ℕ) (slab : Slab Message) (kept : AreKept numbers
           | inr other ↦ rw (ne_eqb old key other, updates.others old other) refl
         ]
 
-    number_stays : (old : ℕ) → number_at after old ≡ number_at slab old
-    number_stays old =
-        elim (cases_eq old key) [
-          | inl same ↦ ap (number_at after) same ∙ ap (λ o. (message_or o).number.0) updates.changed ∙ sym (ap (λ o. (message_or o).number.0) was) ∙ ap (number_at slab) (sym same)
-          | inr other ↦ ap (λ o. (message_or o).number.0) (updates.others old other)
-        ]
-
-    there_stays : (old : ℕ) → is_some (get slab old) ≡ true → is_some (get after old) ≡ true
-    there_stays old some =
-        elim (cases_eq old key) [
-          | inl same ↦ rw (same, updates.changed) refl
-          | inr other ↦ rw (updates.others old other) some
-        ]
-
     seen_rows : (xs : List ℕ) → map (stored_at after) xs ≡ map (with_row key row) (map (stored_at slab) xs)
     seen_rows [] = refl
     seen_rows (x ∷ xs) = rw (row_at x, seen_rows xs) refl
 
     pub store_edited : store_of keys after ≡ record (store_of keys slab) { stored = map (with_row key row) (map (stored_at slab) keys) }
     store_edited = rw (room, seen_rows keys) refl
-
-    pub kept_edited : slab_len after ≡ slab_len slab → AreKept numbers keys after
-    kept_edited same = record {
-      small = rw room kept.small;
-      few = kept.few;
-      as_many = same ∙ kept.as_many;
-      numbered = kept.numbered ∙ map_alike (number_at slab) (number_at after) keys (λ k d inside. sym (number_stays (get_or keys k d)));
-      there = λ k d inside. there_stays (get_or keys k d) (kept.there k d inside);
-      below = rw room kept.below;
-      rising = kept.rising;
-    }

@@ -1,9 +1,11 @@
 -- What each call answers and leaves.
-use Rattle.std.specs.Prelude.{ℕ, ◌+◌, Bool, true, not, ◌&&◌, if◌then◌else◌, [], ◌∷◌, ◌++◌, Option, Some, None, filter, map, slice_get, slice_set, slice_index_or, pos}
+use Rattle.std.specs.Prelude.{ℕ, ℤ, ◌+◌, Bool, true, false, not, ◌&&◌, if◌then◌else◌, List, [], ◌∷◌, ◌++◌, Option, Some, None, filter, map, slice_get, slice_set, slice_index_or, pos}
 use Rattle.sym_base.specs.declared.number.ObjNo.{ObjNo}
 use Rattle.sym_base.specs.declared.number.MsgNo.{MsgNo}
 use Rattle.sym_base.specs.declared.kind.Slots.{Slots}
+use Rattle.sym_base.specs.declared.kind.Arg.{Arg}
 use Rattle.sym_base.specs.declared.kind.Arg.TheVariants.{Number}
+use Rattle.messages.specs.declared.rows.Way.{Way}
 use Rattle.messages.specs.declared.rows.MsgRow.{MsgRow}
 use Rattle.messages.specs.declared.rows.Message.{Message}
 use Rattle.messages.specs.declared.rows.Accepted.{Accepted}
@@ -13,6 +15,11 @@ use Rattle.messages.specs.MessageRows.{MessageRows, has_number, is_async, is_ful
 -- no message was accepted yet
 abbrev pub no_messages : ℕ → ℕ → MessageRows
 no_messages objects pool = record { objects = objects; pool = pool; accepted = 0; outstanding = [] }
+
+-- the row of a message that comes now
+abbrev pub new_row : ObjNo → ObjNo → ObjNo → ℤ → List Arg → Way → MsgRow
+new_row s server client function args way =
+    record { session = s; server = server; client = client; function = function; args = args; way = way; taken = false }
 
 -- whether a message is turned away: it would take a slot, and all of them are used
 abbrev pub is_busy : MessageRows → Slots → MsgRow → Bool

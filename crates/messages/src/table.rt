@@ -1,7 +1,7 @@
 //! The table of messages, and its calls.
 ghost use Rattle.std.specs.Prelude.{◌≡◌, ℕ, ◌+◌, ◌<◌, ◌↔◌, [], ◌∷◌, ◌++◌, length, count_by, slice_get, map, IsNone, IsSome, IfOk, IfSome, Some, false};
 ghost use Rattle.messages.specs.MessageRows.{MessageRows, most_messages, message_of, IsOutstanding, row_of, is_taken, messages_at, untaken_at, used_slots, all_slots, is_full, finished_of, takes_slot};
-ghost use Rattle.messages.specs.Calls.{no_messages, accept_answer, after_accept, added, next_number, next_of, number_of, after_take, after_finish, HasRoomAt, after_set_length};
+ghost use Rattle.messages.specs.Calls.{no_messages, new_row, accept_answer, after_accept, added, next_number, next_of, number_of, after_take, after_finish, HasRoomAt, after_set_length};
 ghost use Rattle.links.specs.Linked.{unlinked};
 
 use crate::records::Records;
@@ -58,7 +58,8 @@ impl Messages {
 
     /// Accepts a message of a session at a server, under the next number, or turns it away: Busy exactly
     /// where it is sent without waiting and the used slots that its session may use equal all of them.
-    /// Both are told then, and nothing changes.
+    /// Both are told then, and nothing changes. Fewer than 5,184 messages are outstanding before, and fewer
+    /// than 4,294,967,295 were accepted: a kernel has no more.
     pub fn accept(
         &mut self,
         s: ObjNo,
@@ -72,8 +73,8 @@ impl Messages {
         requires server { server.0 < self.old.objects }
         requires room { length self.old.outstanding < most_messages }
         requires number { self.old.accepted < 4294967295 }
-        ensures answer { result ≡ accept_answer self.old slots (record { session = s; server = server; client = client; function = function; args = args; way = way; taken = false }) }
-        ensures accepted { self.new ≡ after_accept self.old slots (record { session = s; server = server; client = client; function = function; args = args; way = way; taken = false }) }
+        ensures answer { result ≡ accept_answer self.old slots (new_row s server client function args way) }
+        ensures accepted { self.new ≡ after_accept self.old slots (new_row s server client function args way) }
     {
         if way.is_async() && self.is_full(s, slots) {
             return Accepted::Busy {
