@@ -192,6 +192,7 @@ impl<'a> FileNames<'a> {
         requires { AreKnown self.old }
         ensures asked { OnOk result (IsTrue are_asked → Knows self.new.declarations (file_declares (text_lines self.old.text.now))) }
         ensures known { AreKnown self.new }
+        ensures read { OnOk result (self.new.are_read ≡ (are_asked || self.old.are_read)) }
         ensures text { self.new.text.now ≡ self.old.text.now }
     {
         if !are_asked || self.are_read {

@@ -62,6 +62,11 @@ impl Reason {
 }
 
 impl fmt::Display for Reason {
+    ghost use Rattle.std.specs.Prelude.{Some};
+    ghost use Rattle.script_read.specs.Refusal.{reason_word};
+
+    ghost output = { λ reason. Some (reason_word reason) };
+
     fn fmt<W: fmt::Write>(&self, f: &mut fmt::Formatter<W>) -> fmt::Result {
         f.write_str(self.word())
     }
