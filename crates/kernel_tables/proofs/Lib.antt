@@ -1,3 +1,4 @@
+mod DyingRows
 mod Filling
 mod Finds
 pub mod FirstCount

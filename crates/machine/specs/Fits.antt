@@ -9,7 +9,9 @@ use Rattle.entry_log.specs.declared.effect.Holder.{Holder}
 use Rattle.entry_log.specs.declared.effect.Holder.TheVariants.{InProcess, InThread, Temp}
 use Rattle.entry_log.specs.declared.step.Part.{Part}
 use Rattle.machine.specs.declared.moves.Move.{Move}
-use Rattle.machine.specs.declared.moves.Move.TheVariants.{Make, Gain, Lose, Find, Miss, GoOn, Write, Advance, Wait, Wake, SetPriority, Nano, Deferred, Requests, Locks, Fill, Pay}
+use Rattle.machine.specs.declared.moves.Move.TheVariants.{Make, Gain, Lose, Find, Miss, GoOn, Write, Advance, Wait, Wake, SetPriority, Nano, Deferred, Requests, Locks, Death, Fill, Pay}
+use Rattle.machine.specs.declared.death_move.DeathMove.{DeathMove}
+use Rattle.machine.specs.declared.death_move.DeathMove.TheVariants.{Doom}
 use Rattle.machine.specs.declared.nano_move.NanoMove.{NanoMove}
 use Rattle.machine.specs.declared.nano_move.NanoMove.TheVariants.{Take, Give, Want, Suspend}
 use Rattle.machine.specs.declared.deferred_move.DeferredMove.{DeferredMove}
@@ -185,6 +187,11 @@ FitsLocks t (Unlock o u unlocked) S = (u ≡ t) × MayUnlock S o u unlocked
 FitsLocks t (WaitOn o u) S = MayWaitOn S o u
 FitsLocks t (Signal o signalled) S = MaySignal S o signalled
 
+-- A move in the row of a thread that dies fits the state: who is doomed stands among no waiters.
+abbrev pub FitsDeath : DeathMove → State → Type 0
+FitsDeath (Doom u exit) S = WaitsNowhere S u
+FitsDeath _ S = Unit {0}
+
 -- A move in an action of thread t fits the state. What is owed is paid by an action of its own.
 abbrev pub FitsMove : Script → ObjNo → Move → State → Type 0
 FitsMove script t (Make kind name h) S = MayMake S kind name × IsFree S h
@@ -202,6 +209,7 @@ FitsMove script t (Nano m) S = (is_some (thread_of S (nano_thread m)) ≡ true) 
 FitsMove script t (Deferred m) S = FitsDeferred m S.deferred
 FitsMove script t (Requests m) S = FitsRequests m S.requests
 FitsMove script t (Locks m) S = FitsLocks t m S
+FitsMove script t (Death m) S = FitsDeath m S
 FitsMove script t (Fill p at length byte) S = at + length ≤ 1024
 FitsMove script t (Pay what) S = ⊥
 

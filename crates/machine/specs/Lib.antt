@@ -5,9 +5,12 @@ pub mod Choice
 pub mod Close
 pub mod Create
 pub mod CriticalSection
+pub mod DeathMoves
 pub mod Decide
 pub mod DeferredMoves
+pub mod Dooms
 pub mod Dup
+pub mod ExitCalls
 pub mod FastMutex
 pub mod FastSemaphore
 pub mod FinalRows
@@ -15,10 +18,13 @@ pub mod Find
 pub mod Fits
 pub mod Handles
 pub mod HeldIn
+pub mod Holdings
 pub mod History
 pub mod Holding
 pub mod Interrupts
 pub mod LockMoves
+pub mod LogonCalls
+pub mod LogonMoves
 pub mod Look
 pub mod Memory
 pub mod MemoryCalls
@@ -27,6 +33,7 @@ pub mod MutexCalls
 pub mod NanoMoves
 pub mod Open
 pub mod Queueing
+pub mod Reaping
 pub mod References
 pub mod RequestCalls
 pub mod RequestMoves

@@ -4,11 +4,14 @@
 
 mod boot;
 mod count;
+mod death_move;
 mod decision;
 mod deferred_move;
 mod duties;
 mod handles;
+mod holding;
 mod lock_move;
+mod logon_move;
 mod moves;
 mod nano_move;
 mod nano_rows;
@@ -22,11 +25,14 @@ mod touches;
 
 pub use boot::{Born, all_born, boot_of, state_at_boot};
 pub use count::{count_of, is_counted, is_last};
+pub use death_move::DeathMove;
 pub use decision::{Decision, Outcome, entry_of};
 pub use deferred_move::DeferredMove;
 pub use duties::{drop_first_owed, owe_close, owe_use};
 pub use handles::{NewHandle, holder_of, owner_of, process_handle, thread_handle};
+pub use holding::Holding;
 pub use lock_move::LockMove;
+pub use logon_move::LogonMove;
 pub use moves::{MAX_MOVES, Move, Moves};
 pub use nano_move::NanoMove;
 pub use nano_rows::{

@@ -5,7 +5,7 @@ ghost use Rattle.state_rows.specs.declared.locks.Unlocked.TheVariants.{Level};
 ghost use Rattle.machine.specs.Moves.{moved};
 ghost use Rattle.machine.specs.LockMoves.{lock_moved, mutexes_moved, owed_moved};
 ghost use Rattle.state_rows.specs.Locks.{count_at, waiters_at, without};
-ghost use Rattle.state_rows.specs.LockChanges.{after_new_row, after_lock, after_unlock, after_wait, after_signal, owner_after_lock, owner_after_unlock, once, counted};
+ghost use Rattle.state_rows.specs.LockChanges.{after_new_row, after_lock, after_free, after_remove, after_unlock, after_wait, after_signal, owner_after_lock, owner_after_unlock, once, counted};
 
 use crate::arrivals::unlisted;
 use crate::mutexes::{owe_own, set_holding, set_not_holding};
@@ -124,6 +124,32 @@ fn unlock(
     Ok(())
 }
 
+/// A thread stands among no waiters any more.
+fn leave_all(alloc: Global, rows: &mut LockRows, thread: ThreadNo) -> Result<(), NoMemory>
+    ensures { OnOk result (rows.new ≡ after_remove rows.old thread) }
+{
+    for at in 0..rows.waiters.len() {
+        let waiters = rows.waiters.get_mut(at);
+        *waiters = Items::new(unlisted(alloc, thread, waiters.as_slice())?);
+    }
+    Ok(())
+}
+
+/// A mutex goes to this waiter, where there is one, and else it is free.
+fn free(
+    alloc: Global,
+    rows: &mut LockRows,
+    object: ObjNo,
+    best: Option<ThreadNo>,
+) -> Result<(), NoMemory>
+    ensures { OnOk result (rows.new ≡ after_free rows.old object best) }
+{
+    match best {
+        Some(waiter) => unlock(alloc, rows, object, Unlocked::Passed(waiter)),
+        None => unlock(alloc, rows, object, Unlocked::Freed),
+    }
+}
+
 /// A thread waits on a semaphore.
 fn wait_on(rows: &mut LockRows, object: ObjNo, thread: ThreadNo) -> Result<(), NoMemory>
     ensures { OnOk result (rows.new ≡ after_wait rows.old object thread) }
@@ -171,6 +197,8 @@ fn move_rows(alloc: Global, rows: &mut LockRows, change: LockMove) -> Result<(),
         LockMove::Start(object, count) => set_count(&mut rows.counts, object, count),
         LockMove::Lock(object, thread, locked) => return lock(rows, object, thread, locked),
         LockMove::Unlock(object, _, unlocked) => return unlock(alloc, rows, object, unlocked),
+        LockMove::Free(object, _, best) => return free(alloc, rows, object, best),
+        LockMove::Leave(thread) => return leave_all(alloc, rows, thread),
         LockMove::WaitOn(object, thread) => return wait_on(rows, object, thread),
         LockMove::Signal(object, signalled) => return signal(alloc, rows, object, signalled),
     }
@@ -194,6 +222,13 @@ fn move_mutexes(
             set_not_holding(alloc, mutexes, thread, object)?;
             set_holding(mutexes, waiter, object)
         }
+        LockMove::Free(object, thread, best) => {
+            set_not_holding(alloc, mutexes, thread, object)?;
+            match best {
+                Some(waiter) => set_holding(mutexes, waiter, object),
+                None => Ok(()),
+            }
+        }
         _ => Ok(()),
     }
 }
@@ -203,9 +238,8 @@ fn move_owed(owed: &mut Items<Items<Owed>>, change: LockMove) -> Result<(), NoMe
     ensures { OnOk result (owed.new ≡ owed_moved change owed.old) }
 {
     match change {
-        LockMove::Unlock(object, thread, Unlocked::Freed | Unlocked::Passed(_)) => {
-            owe_own(owed, thread, object)
-        }
+        LockMove::Unlock(object, thread, Unlocked::Freed | Unlocked::Passed(_))
+        | LockMove::Free(object, thread, _) => { owe_own(owed, thread, object) }
         _ => Ok(()),
     }
 }

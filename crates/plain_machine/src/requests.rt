@@ -1,5 +1,5 @@
 //! Moves in the rows of requests, made on the plain machine's lists.
-ghost use Rattle.std.specs.Prelude.{◌≡◌, slice_set};
+ghost use Rattle.std.specs.Prelude.{◌≡◌, OnOk, slice_set};
 ghost use Rattle.machine.specs.RequestMoves.{request_moved};
 ghost use Rattle.state_rows.specs.RequestChanges.{after_begin, after_finish, after_set_pending, after_signal, after_take, with_status};
 
@@ -7,7 +7,8 @@ use crate::nano::{one_more, set_count};
 use decisions::Reads;
 use machine::{RequestMove, State, set_row};
 use state_rows::{PENDING, Request, STATUSES};
-use sym_base::{Items, ObjNo, ThreadNo};
+use std::alloc::Global;
+use sym_base::{Items, NoMemory, ObjNo, ThreadNo};
 
 /// The values of a thread's statuses, of which one is another.
 fn with_value(values: [i32; STATUSES], status: u8, value: i32) -> [i32; STATUSES]
@@ -67,9 +68,39 @@ fn take_signal(state: &mut State, thread: ThreadNo)
     set_count(&mut state.requests.signals, thread, count);
 }
 
+/// Whether a request is the thread's.
+fn is_of(thread: ThreadNo, request: Option<Request>) -> bool {
+    match request {
+        Some(request) => request.thread.0 == thread.0,
+        None => false,
+    }
+}
+
+/// The devices' requests but for those of the thread.
+fn without(
+    alloc: Global,
+    devices: &[Option<Request>],
+    thread: ThreadNo,
+) -> Result<Items<Option<Request>>, NoMemory> {
+    let mut rest = Vec::new(alloc);
+    for request in devices {
+        let left = if is_of(thread, *request) {
+            None
+        } else {
+            *request
+        };
+        rest.push(left)?;
+    }
+    Ok(Items::new(rest))
+}
+
 /// One move in the rows of requests.
-pub fn make_request_move(state: &mut State, change: RequestMove)
-    ensures { state.new ≡ record state.old { requests = request_moved change state.old.requests } }
+pub fn make_request_move(
+    alloc: Global,
+    state: &mut State,
+    change: RequestMove,
+) -> Result<(), NoMemory>
+    ensures { OnOk result (state.new ≡ record state.old { requests = request_moved change state.old.requests }) }
 {
     match change {
         RequestMove::Begin(device, thread, status) => begin(state, device, thread, status),
@@ -77,6 +108,14 @@ pub fn make_request_move(state: &mut State, change: RequestMove)
             finish(state, device);
             signal(state, thread, status, code);
         }
+        RequestMove::SetPending(thread, status) => {
+            set_status(&mut state.requests.statuses, thread, status, PENDING);
+        }
+        RequestMove::Signal(thread, status, code) => signal(state, thread, status, code),
+        RequestMove::DropAll(thread) => {
+            state.requests.devices = without(alloc, state.requests.devices.as_slice(), thread)?;
+        }
         RequestMove::TakeSignal(thread) => take_signal(state, thread),
     }
+    Ok(())
 }

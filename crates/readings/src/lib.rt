@@ -1,15 +1,20 @@
 //! What decisions read of a state, and who is ready and able to act: for the plain machine and for the kernel.
 #![tactic(auto)]
 
+mod burials;
 mod plain_calls;
 mod plain_choice;
+mod plain_holdings;
 mod plain_locks;
 mod plain_reads;
 mod plain_requests;
 mod reads;
 mod task;
 
+pub use burials::burial_of;
 pub use plain_calls::is_queued;
 pub use plain_choice::first_of_greatest;
 pub use reads::Reads;
-pub use task::{instruction, is_able, is_ready, is_returning, next_call, wanted_holder};
+pub use task::{
+    instruction, is_able, is_ready, is_returning, next_call, serves_queue, wanted_holder,
+};

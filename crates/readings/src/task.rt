@@ -8,6 +8,7 @@ use crate::Reads;
 use entry_log::Part;
 use machine::{Role, ThreadRow, Waiting};
 use script_types::{Instr, Script, ThreadDecl};
+use state_rows::Stage;
 use sym_base::ThreadNo;
 
 /// The declaration of a thread: the supervisor and the thread of a queue have none.
@@ -55,15 +56,30 @@ pub fn next_call<R: Reads>(reads: &R, role: Role) -> Option<u8>
     reads.next_call(queue)
 }
 
-/// Whether the thread of this row has something to do: an instruction, something that it owes, a call of its queue, or what
-/// protects it.
-fn has_task<R: Reads>(script: &Script, reads: &R, thread: ThreadNo, row: &ThreadRow) -> bool
-    ensures { let S = R.state reads.now in result ≡ is_some (task_of_row script.now S.deferred (is_protected S.nano thread) (first_owed S thread) (Some row.now)) }
+/// Whether a thread of this role serves a queue of deferred function calls.
+pub fn serves_queue(role: Role) -> bool
+    ensures { result ≡ is_some (served_queue role) }
 {
-    instruction(script, row).is_some()
+    served_queue(role).is_some()
+}
+
+/// Whether the thread of this row is in the middle of its life, or of its death, with something to do there: who serves a queue has a
+/// call of it, and any other thread has at least its end to come.
+fn is_active<R: Reads>(reads: &R, row: &ThreadRow) -> bool {
+    match row.stage {
+        Stage::Live => !serves_queue(row.role) || next_call(reads, row.role).is_some(),
+        Stage::Doomed => true,
+        Stage::Cleaned | Stage::Buried => false,
+    }
+}
+
+/// Whether the thread of this row has something to do: its return, something that it owes, or what its stage leaves to do.
+fn has_task<R: Reads>(script: &Script, reads: &R, thread: ThreadNo, row: &ThreadRow) -> bool
+    ensures { let S = R.state reads.now in result ≡ is_some (task_of_row script.now S thread (Some row.now)) }
+{
+    is_active(reads, row)
         || reads.first_owed(thread).is_some()
-        || next_call(reads, row.role).is_some()
-        || reads.is_protected(thread)
+        || is_returning(row.part) && instruction(script, row).is_some()
 }
 
 /// Whether a thread waits for something.

@@ -1,0 +1,88 @@
+//! Moves in the rows of threads that die, made on the plain machine's lists.
+ghost use Rattle.std.specs.Prelude.{◌≡◌, OnOk};
+ghost use Rattle.machine.specs.DeathMoves.{death_owed, death_row, death_thread, wait_ended};
+ghost use Rattle.machine.specs.Moves.{moved};
+ghost use Rattle.machine.specs.Rows.{with_row};
+
+use entry_log::Holder;
+use machine::{DeathMove, Move, Owed, State, ThreadRow, Waiting};
+use state_rows::Stage;
+use sym_base::{Items, NoMemory, ThreadNo};
+
+/// What a thread waits for whose wait a death ends.
+fn wait_ended(waiting: Waiting) -> Waiting
+    ensures { result ≡ wait_ended waiting }
+{
+    match waiting {
+        Waiting::Away => Waiting::Away,
+        _ => Waiting::Nothing,
+    }
+}
+
+/// The row of a thread after a move.
+fn changed(row: ThreadRow, change: DeathMove) -> ThreadRow
+    ensures { result ≡ death_row change row }
+{
+    match change {
+        DeathMove::Note(_, exit) => ThreadRow {
+            noted: Some(exit),
+            ..row
+        },
+        DeathMove::Doom(_, exit) => ThreadRow {
+            stage: Stage::Doomed,
+            exit: Some(exit),
+            waiting: wait_ended(row.waiting),
+            ..row
+        },
+        DeathMove::Clean(_) => ThreadRow {
+            stage: Stage::Cleaned,
+            ..row
+        },
+        DeathMove::Bury(_) => ThreadRow {
+            stage: Stage::Buried,
+            ..row
+        },
+    }
+}
+
+/// A row changes.
+fn change_row(threads: &mut Items<Option<ThreadRow>>, change: DeathMove)
+    ensures { threads.new ≡ with_row threads.old (death_thread change) (death_row change) }
+{
+    let at = change.thread().0 as usize;
+    if at >= threads.len() {
+        return;
+    }
+    if let Some(row) = threads.get(at) {
+        threads.set(at, Some(changed(row, change)));
+    }
+}
+
+/// Whoever buries a thread owes the close of the kernel's own reference to it.
+fn owe_burial(
+    owed: &mut Items<Items<Owed>>,
+    thread: ThreadNo,
+    change: DeathMove,
+) -> Result<(), NoMemory>
+    ensures { OnOk result (owed.new ≡ death_owed thread change owed.old) }
+{
+    let at = thread.0 as usize;
+    if let DeathMove::Bury(other) = change {
+        if at < owed.len() {
+            owed.get_mut(at).push(Owed::Close(Holder::Kernel, other))?;
+        }
+    }
+    Ok(())
+}
+
+/// One move in the rows of threads that die, in an action of a thread.
+pub fn make_death_move(
+    state: &mut State,
+    thread: ThreadNo,
+    change: DeathMove,
+) -> Result<(), NoMemory>
+    ensures { OnOk result (state.new ≡ moved thread (Move.Death change) state.old) }
+{
+    change_row(&mut state.threads, change);
+    owe_burial(&mut state.owed, thread, change)
+}
