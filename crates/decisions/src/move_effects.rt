@@ -65,7 +65,8 @@ fn tell_request(effects: &mut Effects, change: RequestMove)
     ensures { effects.new ≡ effects.old ++ request_told change }
 {
     match change {
-        RequestMove::Complete(_, thread, status, code) => {
+        RequestMove::Complete(_, thread, status, code)
+        | RequestMove::Signal(thread, status, code) => {
             effects.push(Effect::Signal(thread, StatusNo::Async(status), code))
         }
         RequestMove::Signal(thread, status, code) => {

@@ -180,6 +180,7 @@ can_nano script S m rows there fits =
     by_kind (nano.LeaveAll t) at fits = at
     by_kind (nano.Suspend t) at fits = at
     by_kind (nano.Resume t) at fits = at
+    by_kind (nano.Release t) at fits = at
     by_kind (nano.Raise t) at fits = at
     by_kind (nano.Lower t) at fits = at
 
@@ -189,6 +190,9 @@ can_request count r (request.Begin d t s) rows fits = (fits.device, fits.thread,
 can_request count r (request.Complete d t s code) rows fits =
     let known = rows.rows.requests_known d _ fits.1 in
     ((fits.0, known.0, known.1), rows.pending d _ fits.1)
+can_request count r (request.SetPending t s) rows fits = fits
+can_request count r (request.Signal t s code) rows fits = (fits.thread, fits.status, fits.waits)
+can_request count r (request.DropAll t) rows fits = fits
 can_request count r (request.TakeSignal t) rows fits = fits
 
 -- threads have the least numbers, and priorities in their range

@@ -1,7 +1,7 @@
 -- Moves in the rows of requests: what each changes, and what it tells.
 use Rattle.std.specs.Prelude.{List, [], ◌∷◌}
 use Rattle.entry_log.specs.declared.effect.Effect.{Effect}
-use Rattle.entry_log.specs.declared.effect.Effect.TheVariants.{Signal}
+use Rattle.entry_log.specs.declared.effect.Effect.TheVariants as effect
 use Rattle.entry_log.specs.declared.effect.StatusNo.TheVariants.{Async}
 use Rattle.state_rows.specs.declared.requests.RequestRows.{RequestRows}
 use Rattle.state_rows.specs.RequestChanges.{after_begin, after_drop, after_finish, after_set_pending, after_signal, after_take}

@@ -109,6 +109,6 @@ impl Moves {
         requires { length self.old < 8 }
         ensures { self.new ≡ self.old ++ step ∷ [] }
     {
-        self.moves.push(step);
+        let _ = self.moves.try_extend_from_slice(&[step]);
     }
 }

@@ -1,5 +1,5 @@
 //! Moves in the rows of mutexes and semaphores, made on the plain machine's lists.
-ghost use Rattle.std.specs.Prelude.{◌≡◌, [], ◌∷◌, ◌++◌, OnOk, slice_set};
+ghost use Rattle.std.specs.Prelude.{◌≡◌, [], ◌∷◌, ◌++◌, IfOk, OnOk, map, slice_set};
 ghost use Rattle.state_rows.specs.declared.locks.Locked.TheVariants.{Again};
 ghost use Rattle.state_rows.specs.declared.locks.Unlocked.TheVariants.{Level};
 ghost use Rattle.machine.specs.Moves.{moved};
@@ -8,7 +8,7 @@ ghost use Rattle.state_rows.specs.Locks.{count_at, waiters_at, without};
 ghost use Rattle.state_rows.specs.LockChanges.{after_new_row, after_lock, after_free, after_remove, after_unlock, after_wait, after_signal, owner_after_lock, owner_after_unlock, once, counted};
 
 use crate::arrivals::unlisted;
-use crate::mutexes::{owe_own, set_holding, set_not_holding};
+use crate::mutexes::{give_up, owe_own, set_holding};
 use crate::nano::{one_more, set_count};
 use machine::{LockMove, LockRows, Move, Owed, State, row_of, set_row};
 use state_rows::{Locked, MAX_COUNT, Owner, Signalled, Unlocked};
@@ -48,6 +48,29 @@ fn leave(
         let waiters = rows.waiters.get_mut(at);
         *waiters = Items::new(unlisted(alloc, thread, waiters.as_slice())?);
     }
+    Ok(())
+}
+
+/// The waiters of each object without a thread.
+fn left(
+    alloc: Global,
+    waiters: &[Items<ThreadNo>],
+    thread: ThreadNo,
+) -> Result<Items<Items<ThreadNo>>, NoMemory>
+    ensures { IfOk result (λ left. left ≡ map (without thread) waiters.now) }
+{
+    let mut left = Vec::new(alloc);
+    for queue in waiters {
+        left.push(Items::new(unlisted(alloc, thread, queue.as_slice())?))?;
+    }
+    Ok(Items::new(left))
+}
+
+/// A thread stands among no waiters any more.
+fn leave_all(alloc: Global, rows: &mut LockRows, thread: ThreadNo) -> Result<(), NoMemory>
+    ensures { OnOk result (rows.new ≡ after_remove rows.old thread) }
+{
+    rows.waiters = left(alloc, rows.waiters.as_slice(), thread)?;
     Ok(())
 }
 
@@ -216,11 +239,10 @@ fn move_mutexes(
     match change {
         LockMove::Lock(object, thread, Locked::Taken) => set_holding(mutexes, thread, object),
         LockMove::Unlock(object, thread, Unlocked::Freed) => {
-            set_not_holding(alloc, mutexes, thread, object)
+            give_up(alloc, mutexes, thread, object, None)
         }
         LockMove::Unlock(object, thread, Unlocked::Passed(waiter)) => {
-            set_not_holding(alloc, mutexes, thread, object)?;
-            set_holding(mutexes, waiter, object)
+            give_up(alloc, mutexes, thread, object, Some(waiter))
         }
         LockMove::Free(object, thread, best) => {
             set_not_holding(alloc, mutexes, thread, object)?;

@@ -1,7 +1,7 @@
 //! Moves in the rows of requests, made on the plain machine's lists.
 ghost use Rattle.std.specs.Prelude.{◌≡◌, OnOk, slice_set};
 ghost use Rattle.machine.specs.RequestMoves.{request_moved};
-ghost use Rattle.state_rows.specs.RequestChanges.{after_begin, after_finish, after_set_pending, after_signal, after_take, with_status};
+ghost use Rattle.state_rows.specs.RequestChanges.{after_begin, after_drop, after_finish, after_set_pending, after_signal, after_take, with_status, without};
 
 use crate::nano::{one_more, set_count};
 use decisions::Reads;

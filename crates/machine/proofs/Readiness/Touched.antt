@@ -22,9 +22,9 @@ use Rattle.machine.specs.declared.moves.Move.TheVariants.{Make, Gain, Lose, Find
 use Rattle.machine.specs.declared.deferred_move.DeferredMove.{DeferredMove}
 use Rattle.machine.specs.declared.deferred_move.DeferredMove.TheVariants.{Add, Take as TakeCall}
 use Rattle.machine.specs.declared.lock_move.LockMove.{LockMove}
-use Rattle.machine.specs.declared.lock_move.LockMove.TheVariants.{Unlock}
+use Rattle.machine.specs.declared.lock_move.LockMove.TheVariants.{Unlock, Free}
 use Rattle.machine.specs.declared.nano_move.NanoMove.{NanoMove}
-use Rattle.machine.specs.declared.nano_move.NanoMove.TheVariants.{Take, Give, Enter, Leave, LeaveAll, Suspend, Resume}
+use Rattle.machine.specs.declared.nano_move.NanoMove.TheVariants.{Take, Give, Enter, Leave, LeaveAll, Suspend, Resume, Release}
 use Rattle.state_rows.specs.declared.thread.Waiting.TheVariants as waiting
 use Rattle.state_rows.specs.declared.thread.ThreadRow.{ThreadRow}
 use Rattle.state_rows.specs.declared.locks.Unlocked.TheVariants.{Freed, Level, NotOwner, Passed}
@@ -89,6 +89,7 @@ owed-locks owed t (Unlock o v Freed) u none = owed-other owed v u _ (apart_of v 
 owed-locks owed t (Unlock o v (Passed w)) u none = owed-other owed v u _ (apart_of v u none)
 owed-locks owed t (Unlock o v Level) u none = refl
 owed-locks owed t (Unlock o v NotOwner) u none = refl
+owed-locks owed t (Free o v best) u none = owed-other owed v u _ (apart_of v u none)
 owed-locks owed t _ u none = refl
 
 -- the same duties of a thread, and a row with which it is as ready
@@ -116,6 +117,7 @@ nano-other r (Leave t) u apart = record { suspensions = refl; sections = count-o
 nano-other r (LeaveAll t) u apart = record { suspensions = refl; sections = count-other r.sections t u _ apart; holds = refl }
 nano-other r (Suspend t) u apart = record { suspensions = suspensions-other r t u apart; sections = refl; holds = refl }
 nano-other r (Resume t) u apart = record { suspensions = count-other r.suspensions t u _ apart; sections = refl; holds = refl }
+nano-other r (Release t) u apart = record { suspensions = count-other r.suspensions t u _ apart; sections = refl; holds = refl }
 nano-other r _ u apart = record { suspensions = refl; sections = refl; holds = refl }
 
 ready-nano : (script : Script) (S : State) (m : NanoMove) (u : ObjNo) → u ≢ nano_thread m → ready_row script S.deferred (nano_moved m S.nano) u (first_owed S u) (thread_of S u) ≡ ready_row script S.deferred S.nano u (first_owed S u) (thread_of S u)
