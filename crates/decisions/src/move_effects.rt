@@ -69,9 +69,6 @@ fn tell_request(effects: &mut Effects, change: RequestMove)
         | RequestMove::Signal(thread, status, code) => {
             effects.push(Effect::Signal(thread, StatusNo::Async(status), code))
         }
-        RequestMove::Signal(thread, status, code) => {
-            effects.push(Effect::Signal(thread, StatusNo::Async(status), code))
-        }
         RequestMove::Begin(_, _, _)
         | RequestMove::SetPending(_, _)
         | RequestMove::DropAll(_)

@@ -1,3 +1,4 @@
+mod Counted
 mod DyingRows
 mod Filling
 mod Finds

@@ -34,17 +34,17 @@ holding mutexes t o = slice_set mutexes t.0 (slice_index_or mutexes t.0 [] ++ o 
 abbrev pub not_holding : List (List ObjNo) → ObjNo → ObjNo → List (List ObjNo)
 not_holding mutexes t o = slice_set mutexes t.0 (without o (slice_index_or mutexes t.0 []))
 
--- the mutexes that threads hold where the owner gives one up to a waiter, where there is one
-abbrev pub held_by_next : Option ObjNo → ObjNo → List (List ObjNo) → List (List ObjNo)
-held_by_next None o mutexes = mutexes
-held_by_next (Some w) o mutexes = holding mutexes w o
+-- the mutexes that threads hold where a waiter takes one, if there is a waiter
+abbrev pub taken_by : Option ObjNo → ObjNo → List (List ObjNo) → List (List ObjNo)
+taken_by None o mutexes = mutexes
+taken_by (Some w) o mutexes = holding mutexes w o
 
 -- the mutexes that threads hold after a move: whoever takes one holds it, and whoever gives it up doesn't
 abbrev pub mutexes_moved : LockMove → List (List ObjNo) → List (List ObjNo)
 mutexes_moved (Lock o t Taken) mutexes = holding mutexes t o
 mutexes_moved (Unlock o t Freed) mutexes = not_holding mutexes t o
 mutexes_moved (Unlock o t (Passed w)) mutexes = holding (not_holding mutexes t o) w o
-mutexes_moved (Free o t best) mutexes = held_by_next best o (not_holding mutexes t o)
+mutexes_moved (Free o t best) mutexes = taken_by best o (not_holding mutexes t o)
 mutexes_moved _ mutexes = mutexes
 
 -- what threads owe after it: whoever gives a mutex up owes the close of its ownership
@@ -54,15 +54,15 @@ owed_moved (Unlock o t (Passed w)) owed = owing owed t (Close (Own t) o ∷ [])
 owed_moved (Free o t best) owed = owing owed t (Close (Own t) o ∷ [])
 owed_moved _ owed = owed
 
--- what is told of a waiter that takes a mutex, where there is one
-abbrev pub next_told : Option ObjNo → ObjNo → List Effect
-next_told None o = []
-next_told (Some w) o = Take w (Object o) ∷ Plus (Own w) o ∷ []
+-- what is told of a waiter that takes a mutex, if there is a waiter
+abbrev pub taker_told : Option ObjNo → ObjNo → List Effect
+taker_told None o = []
+taker_told (Some w) o = Take w (Object o) ∷ Plus (Own w) o ∷ []
 
 -- what it tells: who took and gave which mutex, and who owns it from now on
 abbrev pub lock_told : LockMove → List Effect
 lock_told (Lock o t Taken) = Take t (Object o) ∷ Plus (Own t) o ∷ []
 lock_told (Unlock o t Freed) = Give t (Object o) ∷ []
 lock_told (Unlock o t (Passed w)) = Give t (Object o) ∷ Take w (Object o) ∷ Plus (Own w) o ∷ []
-lock_told (Free o t best) = Give t (Object o) ∷ next_told best o
+lock_told (Free o t best) = Give t (Object o) ∷ taker_told best o
 lock_told _ = []

@@ -13,7 +13,8 @@ pub enum LockMove {
     /// The thread unlocks the mutex: it holds it once less, or gives it up. Then it owes the close of its ownership, and
     /// where somebody waits, the waiter takes the mutex and owns it.
     Unlock(ObjNo, ThreadNo, Unlocked),
-    /// The thread, which is its owner, gives the mutex up, all levels at once: as with the last level that is unlocked.
+    /// The thread, which owns the mutex, gives it up with all its levels, as with the last level that is unlocked: this
+    /// waiter takes it, where there is one.
     Free(ObjNo, ThreadNo, Option<ThreadNo>),
     /// The thread stands among no waiters any more.
     Leave(ThreadNo),

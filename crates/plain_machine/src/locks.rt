@@ -5,7 +5,7 @@ ghost use Rattle.state_rows.specs.declared.locks.Unlocked.TheVariants.{Level};
 ghost use Rattle.machine.specs.Moves.{moved};
 ghost use Rattle.machine.specs.LockMoves.{lock_moved, mutexes_moved, owed_moved};
 ghost use Rattle.state_rows.specs.Locks.{count_at, waiters_at, without};
-ghost use Rattle.state_rows.specs.LockChanges.{after_new_row, after_lock, after_free, after_remove, after_unlock, after_wait, after_signal, owner_after_lock, owner_after_unlock, once, counted};
+ghost use Rattle.state_rows.specs.LockChanges.{after_new_row, after_free, after_lock, after_remove, after_unlock, after_wait, after_signal, owner_after_lock, owner_after_unlock, once, counted};
 
 use crate::arrivals::unlisted;
 use crate::mutexes::{give_up, owe_own, set_holding};
@@ -147,18 +147,7 @@ fn unlock(
     Ok(())
 }
 
-/// A thread stands among no waiters any more.
-fn leave_all(alloc: Global, rows: &mut LockRows, thread: ThreadNo) -> Result<(), NoMemory>
-    ensures { OnOk result (rows.new ≡ after_remove rows.old thread) }
-{
-    for at in 0..rows.waiters.len() {
-        let waiters = rows.waiters.get_mut(at);
-        *waiters = Items::new(unlisted(alloc, thread, waiters.as_slice())?);
-    }
-    Ok(())
-}
-
-/// A mutex goes to this waiter, where there is one, and else it is free.
+/// A mutex goes to this waiter with all its levels, where there is one, and else it is free.
 fn free(
     alloc: Global,
     rows: &mut LockRows,
@@ -244,13 +233,7 @@ fn move_mutexes(
         LockMove::Unlock(object, thread, Unlocked::Passed(waiter)) => {
             give_up(alloc, mutexes, thread, object, Some(waiter))
         }
-        LockMove::Free(object, thread, best) => {
-            set_not_holding(alloc, mutexes, thread, object)?;
-            match best {
-                Some(waiter) => set_holding(mutexes, waiter, object),
-                None => Ok(()),
-            }
-        }
+        LockMove::Free(object, thread, best) => give_up(alloc, mutexes, thread, object, best),
         _ => Ok(()),
     }
 }
@@ -261,7 +244,7 @@ fn move_owed(owed: &mut Items<Items<Owed>>, change: LockMove) -> Result<(), NoMe
 {
     match change {
         LockMove::Unlock(object, thread, Unlocked::Freed | Unlocked::Passed(_))
-        | LockMove::Free(object, thread, _) => { owe_own(owed, thread, object) }
+        | LockMove::Free(object, thread, _) => owe_own(owed, thread, object),
         _ => Ok(()),
     }
 }

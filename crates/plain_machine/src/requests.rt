@@ -1,5 +1,5 @@
 //! Moves in the rows of requests, made on the plain machine's lists.
-ghost use Rattle.std.specs.Prelude.{◌≡◌, OnOk, slice_set};
+ghost use Rattle.std.specs.Prelude.{◌≡◌, IfOk, OnOk, map, slice_set};
 ghost use Rattle.machine.specs.RequestMoves.{request_moved};
 ghost use Rattle.state_rows.specs.RequestChanges.{after_begin, after_drop, after_finish, after_set_pending, after_signal, after_take, with_status, without};
 
@@ -68,30 +68,37 @@ fn take_signal(state: &mut State, thread: ThreadNo)
     set_count(&mut state.requests.signals, thread, count);
 }
 
-/// Whether a request is the thread's.
-fn is_of(thread: ThreadNo, request: Option<Request>) -> bool {
+/// A request, unless it is the thread's.
+fn unless_of(thread: ThreadNo, request: Option<Request>) -> Option<Request>
+    ensures { result ≡ without thread request }
+{
     match request {
-        Some(request) => request.thread.0 == thread.0,
-        None => false,
+        Some(request) if request.thread.0 == thread.0 => None,
+        _ => request,
     }
 }
 
 /// The devices' requests but for those of the thread.
-fn without(
+fn dropped(
     alloc: Global,
     devices: &[Option<Request>],
     thread: ThreadNo,
-) -> Result<Items<Option<Request>>, NoMemory> {
-    let mut rest = Vec::new(alloc);
+) -> Result<Items<Option<Request>>, NoMemory>
+    ensures { IfOk result (λ left. left ≡ map (without thread) devices.now) }
+{
+    let mut left = Vec::new(alloc);
     for request in devices {
-        let left = if is_of(thread, *request) {
-            None
-        } else {
-            *request
-        };
-        rest.push(left)?;
+        left.push(unless_of(thread, *request))?;
     }
-    Ok(Items::new(rest))
+    Ok(Items::new(left))
+}
+
+/// No device has a request of the thread any more.
+fn drop_all(alloc: Global, state: &mut State, thread: ThreadNo) -> Result<(), NoMemory>
+    ensures { OnOk result (state.new ≡ record state.old { requests = after_drop state.old.requests thread }) }
+{
+    state.requests.devices = dropped(alloc, state.requests.devices.as_slice(), thread)?;
+    Ok(())
 }
 
 /// One move in the rows of requests.
@@ -112,9 +119,7 @@ pub fn make_request_move(
             set_status(&mut state.requests.statuses, thread, status, PENDING);
         }
         RequestMove::Signal(thread, status, code) => signal(state, thread, status, code),
-        RequestMove::DropAll(thread) => {
-            state.requests.devices = without(alloc, state.requests.devices.as_slice(), thread)?;
-        }
+        RequestMove::DropAll(thread) => return drop_all(alloc, state, thread),
         RequestMove::TakeSignal(thread) => take_signal(state, thread),
     }
     Ok(())
