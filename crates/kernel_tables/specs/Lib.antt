@@ -4,6 +4,7 @@ pub mod StateOf
 pub mod Noted
 pub mod Referred
 pub mod LockMoved
+pub mod LogonMoved
 pub mod NanoMoved
 pub mod RequestMoved
 pub mod Moved

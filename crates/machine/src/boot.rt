@@ -370,7 +370,7 @@ fn no_logons(alloc: Global, all: &[Born]) -> Result<Items<Items<(ThreadNo, u8)>>
     Ok(Items::new(logons))
 }
 
-/// The state in which these stand, each with an empty table and nothing that it owes or holds, and no device with a request.
+/// The state in which these stand, each with an empty table, nothing that it owes or holds and no logon, and no device with a request.
 #[tactic(auto, unfolding(crate::specs::Boot::boot_of))]
 pub fn boot_of(
     alloc: Global,

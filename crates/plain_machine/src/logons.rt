@@ -1,29 +1,40 @@
 //! Moves in the rows of logons, made on the plain machine's lists.
-ghost use Rattle.std.specs.Prelude.{◌≡◌, filter, not, IfOk, OnOk};
-ghost use Rattle.machine.specs.LogonMoves.{is_logon, is_made_by, logons_moved};
+ghost use Rattle.std.specs.Prelude.{◌≡◌, ◌∷◌, ◌++◌, [], map, slice_set, IfOk, OnOk};
+ghost use Rattle.machine.specs.LogonMoves.{is_logon, is_made_by, logons_moved, logons_on, without_logon, without_maker};
 
 use machine::LogonMove;
 use std::alloc::Global;
 use sym_base::{Items, NoMemory, ThreadNo};
 
-/// Whether a logon is this one: of this thread, and, where a status is given, with that.
-fn is_of(logon: (ThreadNo, u8), thread: ThreadNo, status: Option<u8>) -> bool {
-    match status {
-        Some(status) => logon.0.0 == thread.0 && logon.1 == status,
-        None => logon.0.0 == thread.0,
-    }
+/// A logon: the thread that made it, and its status.
+type Logon = (ThreadNo, u8);
+
+/// Whether a logon was made by this thread.
+fn is_made_by(thread: ThreadNo, logon: Logon) -> bool
+    ensures { result ≡ is_made_by thread logon }
+{
+    logon.0.0 == thread.0
 }
 
-/// The logons of a list that aren't of this thread, or, where a status is given, not with that.
-fn without(
+/// Whether a logon was made by this thread with this status.
+fn is_logon(thread: ThreadNo, status: u8, logon: Logon) -> bool
+    ensures { result ≡ is_logon thread status logon }
+{
+    is_made_by(thread, logon) && logon.1 == status
+}
+
+/// Logons without one.
+fn without_logon(
     alloc: Global,
-    logons: &[(ThreadNo, u8)],
     thread: ThreadNo,
-    status: Option<u8>,
-) -> Result<Items<(ThreadNo, u8)>, NoMemory> {
+    status: u8,
+    logons: &[Logon],
+) -> Result<Items<Logon>, NoMemory>
+    ensures { IfOk result (λ rest. rest ≡ without_logon thread status logons.now) }
+{
     let mut rest = Vec::new(alloc);
     for logon in logons {
-        if is_of(*logon, thread, status) {
+        if is_logon(thread, status, *logon) {
             continue;
         }
         rest.push(*logon)?;
@@ -31,15 +42,64 @@ fn without(
     Ok(Items::new(rest))
 }
 
-/// No logon is left that the thread made.
-fn drop_all(
+/// Logons without those that a thread made.
+fn without_maker(
     alloc: Global,
-    logons: &mut Items<Items<(ThreadNo, u8)>>,
     thread: ThreadNo,
-) -> Result<(), NoMemory> {
-    for at in 0..logons.len() {
-        let list = logons.get_mut(at);
-        *list = without(alloc, list.as_slice(), thread, None)?;
+    logons: &[Logon],
+) -> Result<Items<Logon>, NoMemory>
+    ensures { IfOk result (λ rest. rest ≡ without_maker thread logons.now) }
+{
+    let mut rest = Vec::new(alloc);
+    for logon in logons {
+        if is_made_by(thread, *logon) {
+            continue;
+        }
+        rest.push(*logon)?;
+    }
+    Ok(Items::new(rest))
+}
+
+/// The logons on each thread without those that a thread made.
+fn without_maker_each(
+    alloc: Global,
+    thread: ThreadNo,
+    lists: &[Items<Logon>],
+) -> Result<Items<Items<Logon>>, NoMemory>
+    ensures { IfOk result (λ rest. rest ≡ map (without_maker thread) lists.now) }
+{
+    let mut rest = Vec::new(alloc);
+    for logons in lists {
+        rest.push(without_maker(alloc, thread, logons.as_slice())?)?;
+    }
+    Ok(Items::new(rest))
+}
+
+/// A thread logs on to another.
+fn add(lists: &mut Items<Items<Logon>>, on: ThreadNo, logon: Logon) -> Result<(), NoMemory>
+    ensures { OnOk result (lists.new ≡ slice_set lists.old on.0 (logons_on lists.old on ++ logon ∷ [])) }
+{
+    let at = on.0 as usize;
+    if at < lists.len() {
+        lists.get_mut(at).push(logon)?;
+    }
+    Ok(())
+}
+
+/// A logon on a thread goes.
+fn remove(
+    alloc: Global,
+    lists: &mut Items<Items<Logon>>,
+    on: ThreadNo,
+    by: ThreadNo,
+    status: u8,
+) -> Result<(), NoMemory>
+    ensures { OnOk result (lists.new ≡ slice_set lists.old on.0 (without_logon by status (logons_on lists.old on))) }
+{
+    let at = on.0 as usize;
+    if at < lists.len() {
+        let logons = lists.get_mut(at);
+        *logons = without_logon(alloc, by, status, logons.as_slice())?;
     }
     Ok(())
 }
@@ -47,26 +107,17 @@ fn drop_all(
 /// One move in the rows of logons.
 pub fn make_logon_move(
     alloc: Global,
-    logons: &mut Items<Items<(ThreadNo, u8)>>,
+    lists: &mut Items<Items<Logon>>,
     change: LogonMove,
 ) -> Result<(), NoMemory>
-    ensures { OnOk result (logons.new ≡ logons_moved change logons.old) }
+    ensures { OnOk result (lists.new ≡ logons_moved change lists.old) }
 {
     match change {
-        LogonMove::Add(on, by, status) => {
-            let at = on.0 as usize;
-            if at < logons.len() {
-                logons.get_mut(at).push((by, status))?;
-            }
+        LogonMove::Add(on, by, status) => add(lists, on, (by, status)),
+        LogonMove::Remove(on, by, status) => remove(alloc, lists, on, by, status),
+        LogonMove::Drop(by) => {
+            *lists = without_maker_each(alloc, by, lists.as_slice())?;
+            Ok(())
         }
-        LogonMove::Remove(on, by, status) => {
-            let at = on.0 as usize;
-            if at < logons.len() {
-                let list = logons.get_mut(at);
-                *list = without(alloc, list.as_slice(), by, Some(status))?;
-            }
-        }
-        LogonMove::Drop(by) => return drop_all(alloc, logons, by),
     }
-    Ok(())
 }
