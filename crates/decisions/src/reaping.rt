@@ -1,6 +1,6 @@
 //! How a doomed thread gives up what it has, one thing an action, and is cleaned and buried at last. The order is this
 //! project's own.
-ghost use Rattle.std.specs.Prelude.{◌≡◌, option_map};
+ghost use Rattle.std.specs.Prelude.{◌≡◌, slice_get};
 ghost use Rattle.machine.specs.Holdings.{holdings};
 ghost use Rattle.machine.specs.Reaping.{free_mutex, tell_logon, give_up, clean, bury};
 
@@ -12,6 +12,7 @@ use machine::{
 };
 use readings::{Reads, burial_of};
 use script_types::Script;
+use state_rows::Held;
 use sym_base::{ObjNo, ThreadNo};
 
 /// The first handle of a thread's table, or, where it is the only one of its process that isn't cleaned yet, of its
@@ -29,22 +30,24 @@ fn first_handle<R: Reads>(reads: &R, thread: ThreadNo, row: &ThreadRow) -> Optio
     Some(Holding::Handle(Holder::InProcess(row.process, index), object))
 }
 
-/// The first of what the thread of a row still has.
+/// The first of what the thread of a row still has: its handles come behind what its call uses, and before the logons on it.
 pub fn first_holding<R: Reads>(reads: &R, thread: ThreadNo, row: &ThreadRow) -> Option<Holding>
     requires { R.is_readable reads.now }
-    ensures { result ≡ Rattle.std.specs.Prelude.slice_get (holdings (R.state reads.now) thread row.now) 0 }
+    ensures { result ≡ slice_get (holdings (R.state reads.now) thread row.now) 0 }
 {
-    if let Some(mutex) = reads.first_mutex(thread) {
-        return Some(Holding::Mutex(mutex));
-    }
-    if let Some(object) = row.uses {
-        return Some(Holding::Use(object));
+    let held = reads.first_held(thread);
+    match held {
+        Some(Held::Mutex(mutex)) => return Some(Holding::Mutex(mutex)),
+        Some(Held::Temp(object)) => return Some(Holding::Use(object)),
+        _ => {}
     }
     if let Some(handle) = first_handle(reads, thread, row) {
         return Some(handle);
     }
-    let (other, status) = reads.first_logon(thread)?;
-    Some(Holding::Logon(other, status))
+    match held {
+        Some(Held::Logon(by, status)) => Some(Holding::Logon(by, status)),
+        _ => None,
+    }
 }
 
 /// A mutex goes, with all its levels at once, and the waiter that gets it waits no longer.

@@ -2,10 +2,16 @@
 ghost use Rattle.std.specs.Prelude.{◌≡◌, Some};
 ghost use Rattle.machine.specs.DeathMoves.{death_row, death_thread, wait_ended};
 ghost use Rattle.machine.specs.Rows.{with_row};
-ghost use Rattle.kernel_tables.specs.StateOf.{with_threads};
+ghost use Rattle.kernel_tables.specs.Moved.{CanMove, IsMoved};
+ghost use Rattle.kernel_tables.specs.Noted.{TiedTables};
+ghost use Rattle.kernel_tables.specs.StateOf.{state_of, with_threads};
 
-use machine::DeathMove;
+use crate::duties::owe;
+use crate::tables::Tables;
+use entry_log::Holder;
+use machine::{DeathMove, Move, Owed};
 use procs::Procs;
+use ref_words::RefWords;
 use state_rows::{Stage, Waiting};
 use sym_base::{Exit, ThreadNo};
 
@@ -49,13 +55,40 @@ fn clean(procs: &mut Procs, thread: ThreadNo)
     }
 }
 
-/// One move in the rows of threads that die.
-pub fn move_death(procs: &mut Procs, change: DeathMove)
+/// A thread's death is finished.
+fn bury(procs: &mut Procs, thread: ThreadNo)
+    ensures { procs.new ≡ with_threads procs.old (with_row procs.old.threads thread (death_row (DeathMove.Bury thread))) }
+{
+    if procs.is_thread(thread) {
+        procs.set_stage(thread, Stage::Buried);
+    }
+}
+
+/// The row of a thread that dies changes.
+fn move_row(procs: &mut Procs, change: DeathMove)
     ensures { procs.new ≡ with_threads procs.old (with_row procs.old.threads (death_thread change) (death_row change)) }
 {
     match change {
         DeathMove::Note(thread, exit) => note(procs, thread, exit),
         DeathMove::Doom(thread, exit) => doom(procs, thread, exit),
         DeathMove::Clean(thread) => clean(procs, thread),
+        DeathMove::Bury(thread) => bury(procs, thread),
+    }
+}
+
+/// One move in the rows of threads that die, in an action of a thread: whoever buries another owes the close of the
+/// kernel's own reference to that.
+pub fn move_death<W: RefWords + Drop>(tables: &mut Tables<W>, thread: ThreadNo, change: DeathMove)
+    requires can { CanMove thread (Move.Death change) (state_of tables.old) }
+    requires tied { TiedTables tables.old }
+    ensures { IsMoved thread (Move.Death change) tables.old tables.new }
+{
+    move_row(&mut tables.procs, change);
+    if let DeathMove::Bury(other) = change {
+        owe(
+            &mut tables.cleanup,
+            thread,
+            Owed::Close(Holder::Kernel, other),
+        );
     }
 }

@@ -185,6 +185,9 @@ fn pay_sweep<W: RefWords + Drop>(tables: &mut Tables<W>, thread: ThreadNo, objec
     ensures { IsMoved thread (Move.Pay (Owed.Sweep object)) tables.old tables.new }
 {
     tables.objects.sweep(object);
+    if tables.procs.is_thread(object) {
+        tables.locks.set_priority(object, 0);
+    }
     tables.procs.remove_thread(object);
     drop_first_owed(&mut tables.cleanup, thread);
 }
@@ -226,7 +229,7 @@ pub fn make_move<W: RefWords + Drop>(tables: &mut Tables<W>, thread: ThreadNo, c
         Move::Requests(change) => move_request(&mut tables.requests, change),
         Move::Locks(change) => move_lock(tables, change),
         Move::Logons(change) => move_logon(&mut tables.cleanup, change),
-        Move::Death(change) => move_death(&mut tables.procs, change),
+        Move::Death(change) => move_death(tables, thread, change),
         Move::Fill(process, at, length, byte) => {
             fill(&mut tables.procs, process, at, length, byte);
         }

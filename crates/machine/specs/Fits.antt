@@ -11,7 +11,7 @@ use Rattle.entry_log.specs.declared.step.Part.{Part}
 use Rattle.machine.specs.declared.moves.Move.{Move}
 use Rattle.machine.specs.declared.moves.Move.TheVariants.{Make, Gain, Lose, Find, Miss, GoOn, Write, Advance, Wait, Wake, SetPriority, Nano, Deferred, Requests, Locks, Logons, Death, Fill, Pay}
 use Rattle.machine.specs.declared.death_move.DeathMove.{DeathMove}
-use Rattle.machine.specs.declared.death_move.DeathMove.TheVariants.{Doom}
+use Rattle.machine.specs.declared.death_move.DeathMove.TheVariants.{Note, Doom, Clean, Bury}
 use Rattle.machine.specs.declared.nano_move.NanoMove.{NanoMove}
 use Rattle.machine.specs.declared.nano_move.NanoMove.TheVariants.{Take, Give, Want, Suspend}
 use Rattle.machine.specs.declared.deferred_move.DeferredMove.{DeferredMove}
@@ -24,6 +24,8 @@ use Rattle.state_rows.specs.declared.requests.RequestRows.{RequestRows}
 use Rattle.state_rows.specs.Requests.{request_at, is_pending}
 use Rattle.state_rows.specs.Nano.{suspend_count, holder_of, held_by}
 use Rattle.machine.specs.NanoMoves.{nano_thread}
+use Rattle.state_rows.specs.declared.thread.Stage.{Stage}
+use Rattle.state_rows.specs.declared.thread.Stage.TheVariants.{Live, Doomed, Cleaned}
 use Rattle.state_rows.specs.declared.thread.Waiting.TheVariants as waiting
 use Rattle.state_rows.specs.declared.thread.ThreadRow.{ThreadRow}
 use Rattle.machine.specs.declared.state.State.{State}
@@ -211,10 +213,19 @@ FitsLocks t (Leave u) S = is_some (thread_of S u) ≡ true
 FitsLocks t (WaitOn o u) S = MayWaitOn S o u
 FitsLocks t (Signal o signalled) S = MaySignal S o signalled
 
--- A move in the row of a thread that dies fits the state: who is doomed stands among no waiters.
-abbrev pub FitsDeath : DeathMove → State → Type 0
-FitsDeath (Doom u exit) S = WaitsNowhere S u
-FitsDeath _ S = Unit {0}
+-- a thread whose death is at this stage
+pub record IsAtStage (S : State) (u : ObjNo) (stage : Stage) : Type 0 where
+  pub row : ThreadRow
+  pub is : thread_of S u ≡ Some row
+  pub at : row.stage ≡ stage
+
+-- A move in the row of a thread that dies, in an action of thread t, fits the state: who is doomed is live and stands among no waiters, who is
+-- cleaned is doomed, and who is buried is cleaned; whoever buries it isn't between a find and its return.
+abbrev pub FitsDeath : ObjNo → DeathMove → State → Type 0
+FitsDeath t (Note u exit) S = Unit {0}
+FitsDeath t (Doom u exit) S = IsAtStage S u Live × WaitsNowhere S u
+FitsDeath t (Clean u) S = IsAtStage S u Doomed
+FitsDeath t (Bury u) S = IsAtStage S u Cleaned × (is_some (thread_of S t) ≡ true) × (is_returning (part_of (thread_of S t)) ≡ false)
 
 -- A move in an action of thread t fits the state. What is owed is paid by an action of its own.
 abbrev pub FitsMove : Script → ObjNo → Move → State → Type 0
@@ -234,7 +245,7 @@ FitsMove script t (Deferred m) S = FitsDeferred m S.deferred
 FitsMove script t (Requests m) S = FitsRequests m S.requests S.logons
 FitsMove script t (Locks m) S = FitsLocks t m S
 FitsMove script t (Logons m) S = FitsLogons m S
-FitsMove script t (Death m) S = FitsDeath m S
+FitsMove script t (Death m) S = FitsDeath t m S
 FitsMove script t (Fill p at length byte) S = at + length ≤ 1024
 FitsMove script t (Pay what) S = ⊥
 
@@ -265,6 +276,7 @@ abbrev pub most_owed : Move → ℕ
 most_owed (Lose h o) = 3
 most_owed (Advance u) = 4
 most_owed (Locks m) = 4
+most_owed (Death (Bury u)) = 4
 most_owed _ = 0
 
 -- The moves of an action fit: each when its turn comes; what the thread owes then weighs at most 12; and an entry has

@@ -4,6 +4,8 @@ use Rattle.std.specs.List.{slice_index_or}
 use Rattle.sym_base.specs.declared.number.ObjNo.{ObjNo}
 use Rattle.entry_log.specs.declared.effect.Holder.{Holder}
 use Rattle.entry_log.specs.declared.effect.Holder.TheVariants.{InProcess, InThread}
+use Rattle.state_rows.specs.declared.duty.Held.{Held}
+use Rattle.state_rows.specs.declared.duty.Held.TheVariants as held
 use Rattle.state_rows.specs.declared.handle_slot.HandleSlot.{HandleSlot}
 use Rattle.state_rows.specs.declared.thread.Stage.{Stage}
 use Rattle.state_rows.specs.declared.thread.Stage.TheVariants.{Live, Doomed, Cleaned, Buried}
@@ -13,7 +15,8 @@ use Rattle.machine.specs.declared.holding.Holding.TheVariants.{Mutex, Use, Handl
 use Rattle.machine.specs.declared.state.State.{State}
 use Rattle.machine.specs.References.{total}
 use Rattle.machine.specs.Rows.{table_of}
-use Rattle.machine.specs.LogonMoves.{logons_in}
+use Rattle.machine.specs.LogonMoves.{logons_on}
+use Rattle.machine.specs.Moves.{use_of}
 
 -- the mutexes that a thread holds, in order of taking
 abbrev pub held_mutexes : State → ObjNo → List Holding
@@ -62,7 +65,18 @@ process_handles S p = if has_one_left S p then held_handles (InProcess p) 0 (tab
 
 -- the logons on it, in order of making
 abbrev pub held_logons : State → ObjNo → List Holding
-held_logons S t = map (λ (logon : ObjNo × ℕ). Logon logon.0 logon.1) (logons_in S.logons t)
+held_logons S t = map (λ (logon : ObjNo × ℕ). Logon logon.0 logon.1) (logons_on S.logons t)
+
+-- what of it isn't a handle
+abbrev pub use_held : Option ObjNo → List Held
+use_held None = []
+use_held (Some o) = held.Temp o ∷ []
+
+abbrev pub held_of : State → ObjNo → List Held
+held_of S t =
+    map (λ o. held.Mutex o) (slice_index_or S.mutexes t.0 [])
+    ++ use_held (use_of S t)
+    ++ map (λ (logon : ObjNo × ℕ). held.Logon logon.0 logon.1) (logons_on S.logons t)
 
 -- what the thread of a row still has
 abbrev pub holdings : State → ObjNo → ThreadRow → List Holding

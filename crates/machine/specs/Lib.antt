@@ -23,6 +23,7 @@ pub mod History
 pub mod Holding
 pub mod Interrupts
 pub mod LockMoves
+pub mod LogonCalls
 pub mod LogonMoves
 pub mod Look
 pub mod Memory

@@ -1,5 +1,5 @@
 //! Burials: the calls of the supervisor's queue that finish the deaths of threads.
-ghost use Rattle.std.specs.Prelude.{◌≡◌, ◌≤◌, length, position};
+ghost use Rattle.std.specs.Prelude.{◌≡◌, Some};
 ghost use Rattle.machine.specs.Reaping.{burial_of, is_cleaned, is_buried_by, buried_by};
 
 use machine::{Role, State, ThreadRow};
@@ -22,11 +22,18 @@ pub fn burial_of(script: &Script, role: Role) -> usize
 }
 
 /// Whether this is the row of a cleaned thread whose burial a call is.
-fn is_buried_by(script: &Script, dfc: u8, row: &Option<ThreadRow>) -> bool
+pub fn is_buried_by(script: &Script, dfc: u8, row: &ThreadRow) -> bool
+    ensures { result ≡ is_buried_by script.now dfc (Some row.now) }
+{
+    burial_of(script, row.role) == dfc as usize && row.stage == Stage::Cleaned
+}
+
+/// Whether there is such a row.
+fn has_burial(script: &Script, dfc: u8, row: &Option<ThreadRow>) -> bool
     ensures { result ≡ is_buried_by script.now dfc row.now }
 {
     match row {
-        Some(row) => burial_of(script, row.role) == dfc as usize && row.stage == Stage::Cleaned,
+        Some(row) => is_buried_by(script, dfc, row),
         None => false,
     }
 }
@@ -36,6 +43,6 @@ pub fn buried_by(state: &State, script: &Script, dfc: u8) -> Option<ThreadNo>
     ensures { result ≡ buried_by script.now state.now dfc }
 {
     let rows = state.threads.as_slice();
-    let place = rows.iter().position(|row| is_buried_by(script, dfc, row))?;
+    let place = rows.iter().position(|row| has_burial(script, dfc, row))?;
     Some(ObjNo(place as u16))
 }

@@ -1,16 +1,16 @@
 //! What the plain machine's threads hold, read by decisions.
 ghost use Rattle.std.specs.Prelude.{◌≡◌, [], slice_get};
 ghost use Rattle.std.specs.List.{slice_index_or};
-ghost use Rattle.machine.specs.Holdings.{first_used, has_one_left, left_of};
-ghost use Rattle.machine.specs.LogonMoves.{logons_in};
+ghost use Rattle.machine.specs.Holdings.{first_used, has_one_left, held_of};
+ghost use Rattle.machine.specs.Moves.{use_of};
 ghost use Rattle.machine.specs.Rows.{table_of};
 
-use machine::{State, ThreadRow, table_of};
-use state_rows::Stage;
+use machine::{State, ThreadRow, table_of, thread_in};
+use state_rows::{Held, Stage};
 use sym_base::{Items, ObjNo, ThreadNo};
 
 /// The first of a thread's list, None where it is empty.
-pub fn first_in<T: Copy>(lists: &Items<Items<T>>, thread: ThreadNo) -> Option<T>
+fn first_in<T: Copy>(lists: &Items<Items<T>>, thread: ThreadNo) -> Option<T>
     ensures { result ≡ slice_get (slice_index_or lists.now thread.0 []) 0 }
 {
     let at = thread.0 as usize;
@@ -19,6 +19,27 @@ pub fn first_in<T: Copy>(lists: &Items<Items<T>>, thread: ThreadNo) -> Option<T>
     } else {
         None
     }
+}
+
+/// The object that a thread's call uses.
+fn use_of(state: &State, thread: ThreadNo) -> Option<ObjNo>
+    ensures { result ≡ use_of state.now thread }
+{
+    thread_in(&state.threads, thread)?.uses
+}
+
+/// The first of what a thread has beside its duties and its handles.
+pub fn first_held(state: &State, thread: ThreadNo) -> Option<Held>
+    ensures { result ≡ slice_get (held_of state.now thread) 0 }
+{
+    if let Some(mutex) = first_in(&state.mutexes, thread) {
+        return Some(Held::Mutex(mutex));
+    }
+    if let Some(object) = use_of(state, thread) {
+        return Some(Held::Temp(object));
+    }
+    let (by, status) = first_in(&state.logons, thread)?;
+    Some(Held::Logon(by, status))
 }
 
 /// The first handle of a table by index, and its object.
@@ -33,17 +54,9 @@ pub fn first_handle(state: &State, owner: ObjNo) -> Option<(u8, ObjNo)>
     None
 }
 
-/// 1 where this is the row of a thread of a process that isn't cleaned yet, else 0.
-fn left_of(process: ObjNo, row: &Option<ThreadRow>) -> usize
-    ensures { result ≡ left_of process row.now }
-{
-    match row {
-        Some(row) if row.process.0 == process.0 => match row.stage {
-            Stage::Live | Stage::Doomed => 1,
-            Stage::Cleaned | Stage::Buried => 0,
-        },
-        _ => 0,
-    }
+/// Whether this is the row of a thread of a process that isn't cleaned yet.
+pub fn is_left(process: ObjNo, row: &ThreadRow) -> bool {
+    row.process.0 == process.0 && matches!(row.stage, Stage::Live | Stage::Doomed)
 }
 
 /// Whether just one thread of a process isn't cleaned yet.
@@ -52,7 +65,9 @@ pub fn has_one_left(state: &State, process: ObjNo) -> bool
 {
     let mut left = 0usize;
     for row in state.threads.as_slice() {
-        left = left.saturating_add(left_of(process, row));
+        if let Some(row) = row {
+            left = left.saturating_add(is_left(process, row) as usize);
+        }
     }
     left == 1
 }

@@ -7,7 +7,7 @@ ghost use Rattle.state_rows.specs.ObjectRows.{has_name, named, is_taken};
 use crate::Reads;
 use crate::burials::buried_by;
 use crate::plain_calls::{is_queued, next_immediate, next_of, queue_of};
-use crate::plain_holdings::{first_handle, first_in, has_one_left};
+use crate::plain_holdings::{first_handle, first_held, has_one_left};
 use crate::plain_locks::{best_waiter, byte_of, lock_count};
 use crate::plain_requests::{request_at, request_signals, value_of};
 use machine::{
@@ -17,7 +17,8 @@ use machine::{
 };
 use script_types::Script;
 use state_rows::{
-    Item, ObjectRow, Owner, Request, free_index, has_name, is_dead_row, is_local, is_session, look,
+    Held, Item, ObjectRow, Owner, Request, free_index, has_name, is_dead_row, is_local, is_session,
+    look,
 };
 use sym_base::{Kind, Name, ObjNo, ThreadNo};
 
@@ -189,8 +190,8 @@ impl Reads for State {
         best_waiter(self, object)
     }
 
-    fn first_mutex(&self, thread: ThreadNo) -> Option<ObjNo> {
-        first_in(&self.mutexes, thread)
+    fn first_held(&self, thread: ThreadNo) -> Option<Held> {
+        first_held(self, thread)
     }
 
     fn first_handle(&self, owner: ObjNo) -> Option<(u8, ObjNo)> {
@@ -199,10 +200,6 @@ impl Reads for State {
 
     fn has_one_left(&self, process: ObjNo) -> bool {
         has_one_left(self, process)
-    }
-
-    fn first_logon(&self, thread: ThreadNo) -> Option<(ThreadNo, u8)> {
-        first_in(&self.logons, thread)
     }
 
     fn buried_by(&self, script: &Script, dfc: u8) -> Option<ThreadNo> {

@@ -1,10 +1,8 @@
 //! What decisions read of a state. The plain machine keeps it as lists and the kernel as tables of its own,
 //! and both decide by the same functions.
-ghost use Rattle.std.specs.Prelude.{◌≡◌, ◌<◌, ◌≤◌, length, IfSome, [], is_some, option_copied, slice_get};
-ghost use Rattle.std.specs.List.{slice_index_or};
+ghost use Rattle.std.specs.Prelude.{◌≡◌, ◌<◌, ◌≤◌, length, IfSome, is_some, option_copied, slice_get};
 ghost use Rattle.machine.specs.Find.{find_object};
-ghost use Rattle.machine.specs.Holdings.{first_used, has_one_left};
-ghost use Rattle.machine.specs.LogonMoves.{logons_in};
+ghost use Rattle.machine.specs.Holdings.{first_used, has_one_left, held_of};
 ghost use Rattle.machine.specs.Reaping.{buried_by};
 ghost use Rattle.state_rows.specs.HandleSlots.{look};
 ghost use Rattle.machine.specs.Choice.{priority_of};
@@ -22,7 +20,7 @@ ghost use Rattle.state_rows.specs.Requests.{request_at, value_of, signal_count a
 
 use machine::{NewHandle, Owed, ThreadRow};
 use script_types::Script;
-use state_rows::{Item, ObjectRow, Owner, Request};
+use state_rows::{Held, Item, ObjectRow, Owner, Request};
 use sym_base::{Kind, Name, ObjNo, ThreadNo};
 
 /// A state that can be read. A number without a row reads as none, and a count without one as 0.
@@ -160,9 +158,10 @@ pub trait Reads {
         requires { is_readable self.now }
         ensures { result ≡ best_waiter (priority_of (state self.now)) (state self.now).locks object };
 
-    /// The mutex that a thread took first of those that it holds.
-    fn first_mutex(&self, thread: ThreadNo) -> Option<ObjNo>
-        ensures { result ≡ slice_get (slice_index_or (state self.now).mutexes thread.0 []) 0 };
+    /// The first of what a thread has beside its duties and its handles: of its mutexes, of what its call uses, and of the
+    /// logons on it, in this order.
+    fn first_held(&self, thread: ThreadNo) -> Option<Held>
+        ensures { result ≡ slice_get (held_of (state self.now) thread) 0 };
 
     /// The first handle, by index, of the table of a process or a thread, and its object.
     fn first_handle(&self, owner: ObjNo) -> Option<(u8, ObjNo)>
@@ -173,10 +172,6 @@ pub trait Reads {
     fn has_one_left(&self, process: ObjNo) -> bool
         requires { is_readable self.now }
         ensures { result ≡ has_one_left (state self.now) process };
-
-    /// The oldest logon on a thread: the thread that made it, and its status.
-    fn first_logon(&self, thread: ThreadNo) -> Option<(ThreadNo, u8)>
-        ensures { result ≡ slice_get (logons_in (state self.now).logons thread) 0 };
 
     /// The cleaned thread whose burial a call is.
     fn buried_by(&self, script: &Script, dfc: u8) -> Option<ThreadNo>
