@@ -173,13 +173,13 @@ module _ (script : Script) (S : State) (rows : AreRows script S) (known : AreKno
 
   frees_may : (o u : ObjNo) (best : Option ObjNo) → MayFree S o u best → FreeMay S o u best
   frees_may o u None may = frees o u None may
-  frees_may o u (Some w) may = (frees o u (Some w) may, takes_passed o u w may.object may.thread may.nowhere (record { own = may.owns.owner; is = may.owns.is; thread = may.owns.thread }) (sym may.best))
+  frees_may o u (Some w) may = (frees o u (Some w) may, takes_passed o u w may.object may.thread may.nowhere (record { own = may.owns.owner; is = may.owns.is; thread = may.owns.thread }) (sym may.chosen))
 
   pub can_lock : (t : ObjNo) (m : LockMove) → FitsLocks t m S → CanLock m S
   can_lock t (Start o count) fits = (placed o fits.object, fits.few, fits.free, fits.alone)
   can_lock t (Lock o u locked) fits = (joins o u _ (alive_made o fits.alive) fits.joins, fits.answer, locks_may o u locked fits)
   can_lock t (Unlock o u unlocked) fits = (placed o fits.1.object, fits.1.answer, unlocks_may o u unlocked fits.1)
-  can_lock t (Free o u best) fits = (placed o fits.1.object, is_owned (owner_at S.locks o) fits.1.owns.owner fits.1.owns.is, fits.1.best, frees_may o u best fits.1)
+  can_lock t (Free o u best) fits = (placed o fits.1.object, is_owned (owner_at S.locks o) fits.1.owns.owner fits.1.owns.is, fits.1.chosen, frees_may o u best fits.1)
   can_lock t (Leave u) fits = let a = thread_inside S.threads u.0 fits in let b = rows.sized.threads_few in omega arith
   can_lock t (WaitOn o u) fits = joins o u _ (alive_made o fits.alive) fits.joins
   can_lock t (Signal o signalled) fits = (placed o fits.object, fits.answer)

@@ -190,7 +190,7 @@ pub record MayFree (S : State) (o t : ObjNo) (best : Option ObjNo) : Type 0 wher
   pub nowhere : WaitsNowhere S t
   pub going : is_returning (part_of (thread_of S t)) ≡ false
   pub owns : IsOwnerOf S.locks t o
-  pub best : best ≡ best_waiter (priority_of S) S.locks o
+  pub chosen : best ≡ best_waiter (priority_of S) S.locks o
 
 -- a thread that may wait on an object: it joins the waiters at count 0
 pub record MayWaitOn (S : State) (o t : ObjNo) : Type 0 where

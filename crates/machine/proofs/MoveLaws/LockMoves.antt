@@ -244,7 +244,7 @@ sound-unlock script S t o (Passed w) may few rows =
 -- all levels at once
 sound-free : (script : Script) (S : State) (t o : ObjNo) (best : Option ObjNo) → MayFree S o t best → total weight (owed_of S t) + 4 ≤ 12 → AreRows script S → Sound script S (moved t (Locks (Free o t best)) S) (lock_told (Free o t best))
 sound-free script S t o None may few rows = sound-freed script S t o (gives_all S o t None may) few rows
-sound-free script S t o (Some w) may few rows = sound-given script S t o w (gives_all S o t (Some w) may) (sym may.best) few rows
+sound-free script S t o (Some w) may few rows = sound-given script S t o w (gives_all S o t (Some w) may) (sym may.chosen) few rows
 
 pub sound-locks : (script : Script) (S : State) (t : ObjNo) (m : LockMove) → FitsMove script t (Locks m) S → total weight (owed_of S t) + 4 ≤ 12 → AreRows script S → Sound script S (moved t (Locks m) S) (told (Locks m) S)
 sound-locks script S t (Start o count) fits few rows = sound-alone script S _ (locks-start (length S.objects) S.threads (parts S) rows.locks rows.sized.objects_few o fits.object count fits.few) rows
