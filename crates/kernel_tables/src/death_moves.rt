@@ -2,6 +2,7 @@
 ghost use Rattle.std.specs.Prelude.{◌≡◌, Some};
 ghost use Rattle.machine.specs.DeathMoves.{death_row, death_thread, wait_ended};
 ghost use Rattle.machine.specs.Rows.{with_row};
+ghost use Rattle.kernel_tables.specs.Dying.{waited, with_exit, with_stage};
 ghost use Rattle.kernel_tables.specs.Moved.{CanMove, IsMoved};
 ghost use Rattle.kernel_tables.specs.Noted.{TiedTables};
 ghost use Rattle.kernel_tables.specs.StateOf.{state_of, with_threads};
@@ -34,34 +35,55 @@ fn note(procs: &mut Procs, thread: ThreadNo, exit: Exit)
     }
 }
 
-/// A thread is doomed with this exit.
-fn doom(procs: &mut Procs, thread: ThreadNo, exit: Exit)
-    ensures { procs.new ≡ with_threads procs.old (with_row procs.old.threads thread (death_row (DeathMove.Doom thread exit))) }
+/// A thread's wait is over.
+fn end_wait(procs: &mut Procs, thread: ThreadNo)
+    ensures { procs.new ≡ with_threads procs.old (with_row procs.old.threads thread waited) }
 {
     if procs.is_thread(thread) {
         let waiting = wait_ended(procs.waiting(thread));
         procs.set_waiting(thread, waiting);
-        procs.set_exit(thread, Some(exit));
-        procs.set_stage(thread, Stage::Doomed);
     }
+}
+
+/// A thread has this exit.
+fn set_exit(procs: &mut Procs, thread: ThreadNo, exit: Exit)
+    ensures { procs.new ≡ with_threads procs.old (with_row procs.old.threads thread (with_exit exit)) }
+{
+    if procs.is_thread(thread) {
+        procs.set_exit(thread, Some(exit));
+    }
+}
+
+/// A thread's death is at this stage.
+fn set_stage(procs: &mut Procs, thread: ThreadNo, stage: Stage)
+    ensures { procs.new ≡ with_threads procs.old (with_row procs.old.threads thread (with_stage stage)) }
+{
+    if procs.is_thread(thread) {
+        procs.set_stage(thread, stage);
+    }
+}
+
+/// A thread is doomed with this exit.
+fn doom(procs: &mut Procs, thread: ThreadNo, exit: Exit)
+    ensures { procs.new ≡ with_threads procs.old (with_row procs.old.threads thread (death_row (DeathMove.Doom thread exit))) }
+{
+    end_wait(procs, thread);
+    set_exit(procs, thread, exit);
+    set_stage(procs, thread, Stage::Doomed);
 }
 
 /// A thread has given up all that it had.
 fn clean(procs: &mut Procs, thread: ThreadNo)
     ensures { procs.new ≡ with_threads procs.old (with_row procs.old.threads thread (death_row (DeathMove.Clean thread))) }
 {
-    if procs.is_thread(thread) {
-        procs.set_stage(thread, Stage::Cleaned);
-    }
+    set_stage(procs, thread, Stage::Cleaned);
 }
 
 /// A thread's death is finished.
 fn bury(procs: &mut Procs, thread: ThreadNo)
     ensures { procs.new ≡ with_threads procs.old (with_row procs.old.threads thread (death_row (DeathMove.Bury thread))) }
 {
-    if procs.is_thread(thread) {
-        procs.set_stage(thread, Stage::Buried);
-    }
+    set_stage(procs, thread, Stage::Buried);
 }
 
 /// The row of a thread that dies changes.

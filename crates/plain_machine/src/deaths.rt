@@ -1,5 +1,5 @@
 //! Moves in the rows of threads that die, made on the plain machine's lists.
-ghost use Rattle.std.specs.Prelude.{◌≡◌, OnOk};
+ghost use Rattle.std.specs.Prelude.{◌≡◌, option_map, OnOk};
 ghost use Rattle.machine.specs.DeathMoves.{death_owed, death_row, death_thread, wait_ended};
 ghost use Rattle.machine.specs.Moves.{moved};
 ghost use Rattle.machine.specs.Rows.{with_row};
@@ -19,42 +19,38 @@ fn wait_ended(waiting: Waiting) -> Waiting
     }
 }
 
-/// The row of a thread after a move.
-fn changed(row: ThreadRow, change: DeathMove) -> ThreadRow
-    ensures { result ≡ death_row change row }
+/// The row of a thread changes.
+fn change_row(row: &mut ThreadRow, change: DeathMove)
+    ensures { row.new ≡ death_row change row.old }
 {
     match change {
-        DeathMove::Note(_, exit) => ThreadRow {
-            noted: Some(exit),
-            ..row
-        },
-        DeathMove::Doom(_, exit) => ThreadRow {
-            stage: Stage::Doomed,
-            exit: Some(exit),
-            waiting: wait_ended(row.waiting),
-            ..row
-        },
-        DeathMove::Clean(_) => ThreadRow {
-            stage: Stage::Cleaned,
-            ..row
-        },
-        DeathMove::Bury(_) => ThreadRow {
-            stage: Stage::Buried,
-            ..row
-        },
+        DeathMove::Note(_, exit) => row.noted = Some(exit),
+        DeathMove::Doom(_, exit) => {
+            row.stage = Stage::Doomed;
+            row.exit = Some(exit);
+            row.waiting = wait_ended(row.waiting);
+        }
+        DeathMove::Clean(_) => row.stage = Stage::Cleaned,
+        DeathMove::Bury(_) => row.stage = Stage::Buried,
     }
 }
 
-/// A row changes.
-fn change_row(threads: &mut Items<Option<ThreadRow>>, change: DeathMove)
+/// The row changes, where there is one.
+fn change_where(row: &mut Option<ThreadRow>, change: DeathMove)
+    ensures { row.new ≡ option_map (death_row change) row.old }
+{
+    if let Some(row) = row {
+        change_row(row, change);
+    }
+}
+
+/// The row of a thread that dies changes.
+fn change_threads(threads: &mut Items<Option<ThreadRow>>, change: DeathMove)
     ensures { threads.new ≡ with_row threads.old (death_thread change) (death_row change) }
 {
     let at = change.thread().0 as usize;
-    if at >= threads.len() {
-        return;
-    }
-    if let Some(row) = threads.get(at) {
-        threads.set(at, Some(changed(row, change)));
+    if at < threads.len() {
+        change_where(threads.get_mut(at), change);
     }
 }
 
@@ -83,6 +79,6 @@ pub fn make_death_move(
 ) -> Result<(), NoMemory>
     ensures { OnOk result (state.new ≡ moved thread (Move.Death change) state.old) }
 {
-    change_row(&mut state.threads, change);
+    change_threads(&mut state.threads, change);
     owe_burial(&mut state.owed, thread, change)
 }
