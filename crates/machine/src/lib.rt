@@ -4,6 +4,7 @@
 
 mod boot;
 mod count;
+mod death_move;
 mod decision;
 mod deferred_move;
 mod duties;
@@ -22,6 +23,7 @@ mod touches;
 
 pub use boot::{Born, all_born, boot_of, state_at_boot};
 pub use count::{count_of, is_counted, is_last};
+pub use death_move::DeathMove;
 pub use decision::{Decision, Outcome, entry_of};
 pub use deferred_move::DeferredMove;
 pub use duties::{drop_first_owed, owe_close, owe_use};
