@@ -5,6 +5,7 @@ mod Finds
 pub mod FirstCount
 pub mod GoingActions
 mod GoingLocks
+mod GoingLogons
 mod GoingMoves
 mod LockRows
 mod Noting

@@ -359,7 +359,18 @@ fn no_mutexes(alloc: Global, all: &[Born]) -> Result<Items<Items<ObjNo>>, NoMemo
     Ok(Items::new(mutexes))
 }
 
-/// The state in which these stand, each with an empty table and nothing that it owes or holds, and no device with a request.
+/// The logons on each: none.
+fn no_logons(alloc: Global, all: &[Born]) -> Result<Items<Items<(ThreadNo, u8)>>, NoMemory>
+    ensures { IfOk result (λ logons. logons ≡ map (λ _. []) all.now) }
+{
+    let mut logons = Vec::new(alloc);
+    for _born in all {
+        logons.push(Items::new(Vec::new(alloc)))?;
+    }
+    Ok(Items::new(logons))
+}
+
+/// The state in which these stand, each with an empty table, nothing that it owes or holds and no logon, and no device with a request.
 #[tactic(auto, unfolding(crate::specs::Boot::boot_of))]
 pub fn boot_of(
     alloc: Global,
@@ -381,6 +392,7 @@ pub fn boot_of(
         requests: no_requests(alloc, all.len())?,
         locks: no_locks(alloc, Limits::OBJECTS)?,
         mutexes: no_mutexes(alloc, all)?,
+        logons: no_logons(alloc, all)?,
         memories: memories_of(alloc, all)?,
     })
 }

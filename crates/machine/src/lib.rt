@@ -10,6 +10,7 @@ mod deferred_move;
 mod duties;
 mod handles;
 mod lock_move;
+mod logon_move;
 mod moves;
 mod nano_move;
 mod nano_rows;
@@ -29,6 +30,7 @@ pub use deferred_move::DeferredMove;
 pub use duties::{drop_first_owed, owe_close, owe_use};
 pub use handles::{NewHandle, holder_of, owner_of, process_handle, thread_handle};
 pub use lock_move::LockMove;
+pub use logon_move::LogonMove;
 pub use moves::{MAX_MOVES, Move, Moves};
 pub use nano_move::NanoMove;
 pub use nano_rows::{

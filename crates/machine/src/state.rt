@@ -30,6 +30,9 @@ pub struct State {
     pub locks: LockRows,
     /// The mutexes that each thread holds, in order of taking.
     pub mutexes: Items<Items<ObjNo>>,
+    /// The logons on each thread, in order of making: the thread that made each, and its status, 0 to 15, which is going to tell
+    /// the death.
+    pub logons: Items<Items<(ThreadNo, u8)>>,
     /// The 1,024 bytes of each process, None at the number of a thread.
     pub memories: Items<Option<Items<u8>>>,
 }
@@ -133,6 +136,7 @@ impl State {
             requests: copied_requests(alloc, &self.requests)?,
             locks: copied_locks(alloc, &self.locks)?,
             mutexes: copied_lists(alloc, self.mutexes.as_slice())?,
+            logons: copied_lists(alloc, self.logons.as_slice())?,
             memories: copied_memories(alloc, self.memories.as_slice())?,
         })
     }

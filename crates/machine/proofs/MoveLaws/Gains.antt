@@ -80,6 +80,7 @@ gained-slot script S thread owner i o is fits rows =
       nano = rows.nano;
       locks = leaves-none S.threads S.owed S.locks;
       memories = rows.memories;
+      logons = rows.logons;
     }
 
 gained-use : (script : Script) (S : State) (u o : ObjNo) → UsesNothing S u → AreRows script S → HasGained script S (Temp u) o S.handles (with_row S.threads u (λ row. record row { uses = Some o }))
@@ -119,6 +120,7 @@ gained-use script S u o fits rows =
       nano = synchronized-with_row script S.threads u f S.nano (λ r h. h) rows.nano;
       locks = leaves-with_row S.threads u f S.owed S.locks (λ r. refl);
       memories = memories-with_row S.threads u f S.memories (λ r is. refl) rows.memories;
+      logons = rows.logons;
     }
 
 is_some_of : (x : Option ThreadRow) → x ≡ None → is_some x ≡ false

@@ -55,6 +55,7 @@ lost-slot script S t thread owner i o is there going few rows =
       nano = rows.nano;
       locks = leaves-none S.threads S.owed S.locks;
       memories = rows.memories;
+      logons = rows.logons;
       going = going;
       few = omega arith;
     }
@@ -104,6 +105,7 @@ lost-use script S t u o uses going few rows =
       nano = synchronized-with_row script S.threads u f S.nano (λ r h. h) rows.nano;
       locks = leaves-with_row S.threads u f S.owed S.locks (λ r. refl);
       memories = memories-with_row S.threads u f S.memories (λ r is. refl) rows.memories;
+      logons = rows.logons;
       going = (paid-with_row S.threads u f (λ r h. h) t.0).going going;
       few = omega arith;
     }

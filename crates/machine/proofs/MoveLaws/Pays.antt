@@ -63,6 +63,7 @@ sound-pay_close script S t h o rest e inside rows =
       nano = rows.nano;
       locks = leaves-without_first S.threads S.owed t S.locks;
       memories = rows.memories;
+      logons = rows.logons;
       going = not_returning (is_returning (part_of (thread_of S t))) refl (owed_of S t) (Close h o) rest e (rows.duties.returns t.0);
       few = let a = ap (total weight) left in omega arith;
     }) rows
@@ -105,6 +106,7 @@ sound-pay_sweep script S t o rest e inside rows =
       requests = rows.requests;
       locks = locks-left (length S.objects) (length T.objects) S.threads S.threads S.mutexes S.owed (without_first S.owed t) S.locks (let a = length-set S.objects o.0 None in omega arith) (leaves-without_first S.threads S.owed t S.locks) rows.locks;
       memories = rows.memories;
+      logons = rows.logons;
     })
     (lives-swept S T o there dead refl counts (λ p. let a = paid p in omega arith))
     (record { fits = (tt, tt); moves = λ g x. let a = total-paying (owed_by g x) S.owed t (Sweep o) rest here e in omega arith }))
