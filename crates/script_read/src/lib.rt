@@ -4,25 +4,17 @@
 mod built;
 mod context;
 mod declarations;
-#[cfg(test)]
-mod every_form;
 mod fault;
 mod first_words;
-#[cfg(test)]
-mod form_tests;
 mod judge;
 mod known;
 mod law;
 mod limits;
 mod order;
-#[cfg(test)]
-mod print_tests;
 mod progress;
 mod read;
 mod reason;
 mod standing;
-#[cfg(test)]
-mod tests;
 
 pub use fault::RunFault;
 pub use law::accepted_or_bad;

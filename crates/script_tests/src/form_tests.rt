@@ -1,13 +1,8 @@
 //! Each form of line is read, whether the program runs it or not, and printed again; and the ends of ranges.
-use crate::context::{add_line, new_context};
 use crate::every_form::{EVERY_FORM, is_every_form};
-use crate::order::{is_in_order, is_scheduled};
-use crate::print_script;
-use script_types::{Context, Script};
-use script_words::{
-    Fault, is_counted, keyword_kind, keyword_of, line_as, line_fault, second_of, take_words,
-    word_at,
-};
+use crate::read_whole::read_whole;
+use script_print::print_script;
+use script_words::{Fault, is_counted, keyword_of, line_fault, second_of, take_words, word_at};
 use std::alloc::Global;
 use std::test::Fail;
 use sym_base::NoMemory;
@@ -63,49 +58,6 @@ const PAST_THE_ENDS: [&str; 47] = [
     "peek 1024",
 ];
 
-/// Adds a line, whether the program runs it or not. False where it is bad for another reason.
-fn add_text<'a>(
-    alloc: Global,
-    context: &mut Context,
-    words: &mut Vec<&'a [u8]>,
-    text: &'a [u8],
-) -> Result<bool, NoMemory> {
-    take_words(words, text)?;
-    let words = words.as_slice();
-    let Some(keyword) = keyword_of(word_at(words, 0)) else {
-        return Ok(false);
-    };
-    let scheduled = is_scheduled(context);
-    let second = second_of(scheduled, keyword, words);
-    if !is_in_order(context, keyword_kind(scheduled, keyword))
-        || !is_counted(keyword, second, words)
-    {
-        return Ok(false);
-    }
-    if line_fault(keyword, second, words).is_some() {
-        return Ok(false);
-    }
-    let line = line_as(alloc, keyword, second, words)?;
-    if context.script.processes.len() > 16 {
-        return Ok(false);
-    }
-    add_line(alloc, context, line)?;
-    Ok(true)
-}
-
-/// The script of the lines of a text. None where one of them is bad for another reason than that it isn't run.
-fn read_lines(alloc: Global, text: &str) -> Result<Option<Script>, NoMemory> {
-    let mut context = new_context(alloc);
-    let mut words = Vec::new(alloc);
-    for line in text.as_bytes().split(|byte| *byte == b'\n') {
-        if !line.is_empty() && !add_text(alloc, &mut context, &mut words, line)? {
-            return Ok(None);
-        }
-    }
-    let Context { script, .. } = context;
-    Ok(Some(script))
-}
-
 /// What is wrong with the words of a line. None where it has no first word of a line.
 fn fault_of(alloc: Global, text: &str) -> Result<Option<Fault>, NoMemory> {
     let mut words = Vec::new(alloc);
@@ -123,7 +75,7 @@ fn fault_of(alloc: Global, text: &str) -> Result<Option<Fault>, NoMemory> {
 
 #[test]
 fn reads_and_prints_every_form(rt: HostRuntime) -> Result<(), Fail> {
-    let Some(script) = read_lines(rt.alloc(), EVERY_FORM)? else {
+    let Some(script) = read_whole(rt.alloc(), EVERY_FORM)? else {
         return Err("a line is bad".into());
     };
     assert!(rt; is_every_form(&script));

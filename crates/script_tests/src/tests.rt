@@ -1,4 +1,5 @@
-use super::*;
+//! Reading scripts, and the reasons of refusals.
+use script_read::{ReadScript, Reason, RunFault, read_script};
 use script_types::{Instr, Script, Slot};
 use std::alloc::Global;
 use std::process::Abort;
@@ -94,7 +95,7 @@ const BAD_TEXTS: [BadText; 13] = [
 ];
 
 /// What reading a text answers. No text of the tests is too long.
-fn answer(alloc: Global, text: &[u8]) -> ReadScript {
+pub fn answer(alloc: Global, text: &[u8]) -> ReadScript {
     if text.len() > 1_000_000 {
         return ReadScript::NoMemory;
     }

@@ -1,5 +1,6 @@
 //! Printing what was read.
-use super::*;
+use script_print::print_script;
+use script_read::{ReadScript, read_script};
 use std::alloc::Global;
 use std::test::Fail;
 
