@@ -8,84 +8,104 @@ use crate::field::are_same;
 use script_types::{Keyword, LineKind};
 use sym_base::Word;
 
+const WITH_C: &[Keyword] = &[
+    Keyword::Instr(Word::Create),
+    Keyword::Instr(Word::Close),
+    Keyword::Instr(Word::Cancel),
+    Keyword::Instr(Word::Connect),
+    Keyword::Instr(Word::Call),
+    Keyword::Instr(Word::Complete),
+];
+
+const WITH_D: &[Keyword] = &[
+    Keyword::Instr(Word::Dup),
+    Keyword::Instr(Word::Duplocal),
+    Keyword::Dfcq,
+    Keyword::Dfc,
+];
+
+const WITH_E: &[Keyword] = &[
+    Keyword::Instr(Word::Exittype),
+    Keyword::Instr(Word::Exit),
+    Keyword::Instr(Word::Enter),
+    Keyword::Eka2,
+    Keyword::End,
+];
+
+const WITH_F: &[Keyword] = &[
+    Keyword::Instr(Word::Flock),
+    Keyword::Instr(Word::Funlock),
+    Keyword::Instr(Word::Fswait),
+    Keyword::Instr(Word::Fssignal),
+    Keyword::Instr(Word::Function),
+    Keyword::Instr(Word::Fill),
+    Keyword::Fast,
+];
+
+const WITH_L: &[Keyword] = &[
+    Keyword::Instr(Word::Lock),
+    Keyword::Instr(Word::Logon),
+    Keyword::Instr(Word::Leave),
+];
+
+const WITH_P: &[Keyword] = &[
+    Keyword::Instr(Word::Priority),
+    Keyword::Instr(Word::Panic),
+    Keyword::Instr(Word::Peek),
+    Keyword::Pool,
+    Keyword::Process,
+];
+
+const WITH_R: &[Keyword] = &[
+    Keyword::Instr(Word::Resume),
+    Keyword::Instr(Word::Request),
+    Keyword::Instr(Word::Receive),
+    Keyword::Instr(Word::Read),
+];
+
+const WITH_S: &[Keyword] = &[
+    Keyword::Instr(Word::Signal),
+    Keyword::Instr(Word::Suspend),
+    Keyword::Instr(Word::Status),
+    Keyword::Instr(Word::Server),
+    Keyword::Instr(Word::Send),
+    Keyword::Schedule,
+];
+
+const WITH_T: &[Keyword] = &[
+    Keyword::Instr(Word::Terminate),
+    Keyword::Thread,
+    Keyword::Tick,
+];
+
+const WITH_W: &[Keyword] = &[
+    Keyword::Instr(Word::Wait),
+    Keyword::Instr(Word::Waitany),
+    Keyword::Instr(Word::Waitfor),
+    Keyword::Instr(Word::Write),
+];
+
 /// The words that begin with a byte, in their order.
 fn keywords_with(first: u8) -> &'static [Keyword]
     ensures { (rest : List ℕ) → find (λ k. bytes_eq (first ∷ rest) (keyword_text k)) result.now ≡ find (λ k. bytes_eq (first ∷ rest) (keyword_text k)) keywords }
 {
     match first {
-        b'c' => &[
-            Keyword::Instr(Word::Create),
-            Keyword::Instr(Word::Close),
-            Keyword::Instr(Word::Cancel),
-            Keyword::Instr(Word::Connect),
-            Keyword::Instr(Word::Call),
-            Keyword::Instr(Word::Complete),
-        ],
-        b'd' => &[
-            Keyword::Instr(Word::Dup),
-            Keyword::Instr(Word::Duplocal),
-            Keyword::Dfcq,
-            Keyword::Dfc,
-        ],
-        b'e' => &[
-            Keyword::Instr(Word::Exittype),
-            Keyword::Instr(Word::Exit),
-            Keyword::Instr(Word::Enter),
-            Keyword::Eka2,
-            Keyword::End,
-        ],
-        b'f' => &[
-            Keyword::Instr(Word::Flock),
-            Keyword::Instr(Word::Funlock),
-            Keyword::Instr(Word::Fswait),
-            Keyword::Instr(Word::Fssignal),
-            Keyword::Instr(Word::Function),
-            Keyword::Instr(Word::Fill),
-            Keyword::Fast,
-        ],
+        b'c' => WITH_C,
+        b'd' => WITH_D,
+        b'e' => WITH_E,
+        b'f' => WITH_F,
         b'g' => &[Keyword::Go],
         b'i' => &[Keyword::Idfc, Keyword::Irq],
         b'k' => &[Keyword::Instr(Word::Kill), Keyword::Kthread],
-        b'l' => &[
-            Keyword::Instr(Word::Lock),
-            Keyword::Instr(Word::Logon),
-            Keyword::Instr(Word::Leave),
-        ],
+        b'l' => WITH_L,
         b'o' => &[Keyword::Instr(Word::Open)],
-        b'p' => &[
-            Keyword::Instr(Word::Priority),
-            Keyword::Instr(Word::Panic),
-            Keyword::Instr(Word::Peek),
-            Keyword::Pool,
-            Keyword::Process,
-        ],
+        b'p' => WITH_P,
         b'q' => &[Keyword::Instr(Word::Queue)],
-        b'r' => &[
-            Keyword::Instr(Word::Resume),
-            Keyword::Instr(Word::Request),
-            Keyword::Instr(Word::Receive),
-            Keyword::Instr(Word::Read),
-        ],
-        b's' => &[
-            Keyword::Instr(Word::Signal),
-            Keyword::Instr(Word::Suspend),
-            Keyword::Instr(Word::Status),
-            Keyword::Instr(Word::Server),
-            Keyword::Instr(Word::Send),
-            Keyword::Schedule,
-        ],
-        b't' => &[
-            Keyword::Instr(Word::Terminate),
-            Keyword::Thread,
-            Keyword::Tick,
-        ],
+        b'r' => WITH_R,
+        b's' => WITH_S,
+        b't' => WITH_T,
         b'u' => &[Keyword::Instr(Word::Unlock)],
-        b'w' => &[
-            Keyword::Instr(Word::Wait),
-            Keyword::Instr(Word::Waitany),
-            Keyword::Instr(Word::Waitfor),
-            Keyword::Instr(Word::Write),
-        ],
+        b'w' => WITH_W,
         _ => &[],
     }
 }
