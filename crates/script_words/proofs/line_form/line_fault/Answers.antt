@@ -1,10 +1,8 @@
 use Rattle.std.proofs.Common.{◌≡◌, ◌∙◌, drop, length, suc, sym, ap, add-one, List, Some}
-use Rattle.std.specs.List.{list_all}
 use Rattle.script_types.specs.Forms.{operands_of, body_of}
 use Rattle.script_types.specs.declared.operand.Operand.{Operand}
-use Rattle.script_words.specs.LineSigns.{body_part, is_op, operations}
+use Rattle.script_words.specs.LineSigns.{body_part}
 use Rattle.script_words.specs.Pieces.{pieces}
-use Rattle.script_words.specs.Signs.{has_form, is_in_range}
 use Rattle.script_words.proofs.WordFaults.{line_with}
 use Rattle.script_words.proofs.line_form.line_fault.Goals as goal
 
