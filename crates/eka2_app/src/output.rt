@@ -22,12 +22,23 @@ use script_read::Reason;
 /// The bytes of a line, its line feed among them.
 pub type Line = ArrayVec<u8, 512>;
 
+/// Room for any entry.
+const LONGEST: usize = 192;
+
 /// Puts the line of an entry into a buffer, in place of what it held.
-fn put_entry(line: &mut Line, entry: &Entry)
-    ensures { line.new.items ≡ entry_line entry.now }
+fn put_entry(line: &mut Line, entry: &Entry) -> usize
+    ensures { drop result line.new.items ≡ entry_line entry.now }
 {
+    if line.remaining_capacity() < LONGEST {
+        line.clear();
+    }
+    let from = line.as_slice().len();
+    if entry_text(entry, line) {
+        return from;
+    }
     line.clear();
     let _ = entry_text(entry, line);
+    0
 }
 
 /// Puts the line of an object that is left into a buffer, in place of what it held.
@@ -44,7 +55,7 @@ pub fn line_of_entry(entry: &Entry) -> Line
     ensures { result.items ≡ entry_line entry.now }
 {
     let mut line = Line::new();
-    put_entry(&mut line, entry);
+    let _ = put_entry(&mut line, entry);
     line
 }
 
@@ -81,8 +92,8 @@ fn write_entries<K: Sink>(sink: &mut K, line: &mut Line, entries: &[Entry]) -> R
     ensures never_falls { K.faults sink.old ≤ K.faults sink.new }
 {
     for entry in entries {
-        put_entry(line, entry);
-        write_whole(sink, line.as_slice())?;
+        let from = put_entry(line, entry);
+        write_whole(sink, &line.as_slice()[from..])?;
     }
     Ok(())
 }
@@ -126,6 +137,7 @@ pub fn write_history<K: Sink>(sink: &mut K, kernel: &Kernel<PlainWords>) -> Resu
 {
     let mut line = Line::new();
     write_entries(sink, &mut line, kernel.history())?;
+    line.clear();
     write_whole(sink, b"objects\n")?;
     write_rows(sink, &mut line, kernel)?;
     write_whole(sink, b"end\n")

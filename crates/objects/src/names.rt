@@ -120,9 +120,12 @@ fn order(row: &Option<ObjectRow>, kind: Kind, name: &Name) -> Ordering
     let Some(row) = row else {
         unreachable!();
     };
-    match (row.kind as u8).cmp(&(kind as u8)) {
-        Ordering::Less => Ordering::Less,
-        Ordering::Equal => row.name.as_slice().cmp(&name.as_slice()),
-        Ordering::Greater => Ordering::Greater,
+    let (listed, wanted) = (row.kind as u8, kind as u8);
+    if listed == wanted {
+        row.name.as_slice().cmp(&name.as_slice())
+    } else if listed < wanted {
+        Ordering::Less
+    } else {
+        Ordering::Greater
     }
 }
