@@ -50,7 +50,7 @@ pub enum Move {
 }
 
 impl Default for Move {
-    /// Some move: only the unused places of `Moves` hold it.
+    /// Some move: the unused places of `Moves` hold it.
     fn default() -> Self {
         Move::Miss(ObjNo(0))
     }
@@ -67,7 +67,7 @@ pub struct Moves {
 }
 
 impl Model for Moves {
-    ghost use Rattle.std.specs.Prelude.{List};
+    ghost use Rattle.std.specs.Prelude.{List, ◌≡◌, ◌≤◌, length, take};
     ghost use Rattle.machine.specs.declared.moves.Move.{Move};
 
     ghost Value = { List Move };
@@ -83,7 +83,7 @@ impl Moves {
         ensures { result ≡ [] }
     {
         Moves {
-            places: [Move::Miss(ObjNo(0)); MAX_MOVES],
+            places: [Move::default(); MAX_MOVES],
             count: 0,
         }
     }

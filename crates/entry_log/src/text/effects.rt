@@ -58,7 +58,6 @@ fn put_numbered<const N: usize>(line: &mut Line, name: &[u8; N], number: u32)
 }
 
 /// Adds `SIGN HOLDER:OBJECT`, without the space.
-#[inline(always)]
 fn put_reference(line: &mut Line, sign: u8, holder: &Holder, object: u16)
     requires { length line.old.items + 20 ≤ 512 }
     ensures text { line.new.items
