@@ -1,5 +1,5 @@
 //! Writing a history, or the line of a refusal. Each line goes out, with its line feed, as one piece.
-ghost use Rattle.std.specs.Prelude.{◌≡◌, ◌≤◌, is_some, OnOk, OnErr};
+ghost use Rattle.std.specs.Prelude.{◌≡◌, ◌≤◌, drop, is_some, length, OnOk, OnErr};
 ghost use Rattle.std.specs.List.{flat_map};
 ghost use Rattle.edge_io.specs.Faults.{Rose};
 ghost use Rattle.edge_io.specs.Written.{Wrote, WrotePrefix};
@@ -22,12 +22,25 @@ use script_read::Reason;
 /// The bytes of a line, its line feed among them.
 pub type Line = ArrayVec<u8, 512>;
 
-/// Puts the line of an entry into a buffer, in place of what it held.
-fn put_entry(line: &mut Line, entry: &Entry)
-    ensures { line.new.items ≡ entry_line entry.now }
+/// Where so much room is left, a buffer takes the line of any entry at once.
+const LONGEST: usize = 192;
+
+/// Puts the line of an entry behind what a buffer holds, or in its place, and says where it begins. A buffer is
+/// emptied by writing over what it held, so that one line after the other stands in it until it is nearly full.
+fn put_entry(line: &mut Line, entry: &Entry) -> usize
+    ensures begins { result ≤ length line.new.items }
+    ensures stands { drop result line.new.items ≡ entry_line entry.now }
 {
+    if line.remaining_capacity() < LONGEST {
+        line.clear();
+    }
+    let from = line.as_slice().len();
+    if entry_text(entry, line) {
+        return from;
+    }
     line.clear();
     let _ = entry_text(entry, line);
+    0
 }
 
 /// Puts the line of an object that is left into a buffer, in place of what it held.
@@ -44,7 +57,7 @@ pub fn line_of_entry(entry: &Entry) -> Line
     ensures { result.items ≡ entry_line entry.now }
 {
     let mut line = Line::new();
-    put_entry(&mut line, entry);
+    let _ = entry_text(entry, &mut line);
     line
 }
 
@@ -81,8 +94,8 @@ fn write_entries<K: Sink>(sink: &mut K, line: &mut Line, entries: &[Entry]) -> R
     ensures never_falls { K.faults sink.old ≤ K.faults sink.new }
 {
     for entry in entries {
-        put_entry(line, entry);
-        write_whole(sink, line.as_slice())?;
+        let from = put_entry(line, entry);
+        write_whole(sink, &line.as_slice()[from..])?;
     }
     Ok(())
 }

@@ -1,4 +1,5 @@
 mod Bytes
+mod Digits
 mod Joins
 mod Pieces
 mod ReadActor

@@ -6,5 +6,6 @@ pub mod HistoryText
 pub mod HolderText
 pub mod IsEntry
 pub mod Joined
+pub mod Pair
 pub mod PartText
 pub mod StepText

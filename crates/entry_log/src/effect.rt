@@ -72,6 +72,6 @@ pub enum Effect {
 impl Default for Effect {
     /// Some effect: only the unused places of `Effects` hold it.
     fn default() -> Self {
-        Effect::Dead(ObjNo(0))
+        Effect::Plus(Holder::InProcess(ObjNo(0), 0), ObjNo(0))
     }
 }

@@ -3,7 +3,6 @@
 ghost use Rattle.std.specs.Prelude.{◌≡◌, ◌<◌, ◌≤◌, [], ◌∷◌, ◌++◌, length};
 
 use crate::{DeferredMove, LockMove, NanoMove, RequestMove, Waiting};
-use arrayvec::ArrayVec;
 use entry_log::{Holder, Part};
 use state_rows::Owed;
 use std::marker::Model;
@@ -51,7 +50,7 @@ pub enum Move {
 }
 
 impl Default for Move {
-    /// Some move: only the unused places of `Moves` hold it.
+    /// Some move: the unused places of `Moves` hold it.
     fn default() -> Self {
         Move::Miss(ObjNo(0))
     }
@@ -63,16 +62,19 @@ pub const MAX_MOVES: usize = 8;
 /// The moves of an action in their order, at most eight. A contract sees the list.
 #[derive(Drop)]
 pub struct Moves {
-    moves: ArrayVec<Move, 8>,
+    places: [Move; MAX_MOVES],
+    count: usize,
 }
 
 impl Model for Moves {
-    ghost use Rattle.std.specs.Prelude.{List};
+    ghost use Rattle.std.specs.Prelude.{List, ◌≡◌, ◌≤◌, length, take};
     ghost use Rattle.machine.specs.declared.moves.Move.{Move};
 
     ghost Value = { List Move };
 
-    ghost view = { λ m. m.moves.items };
+    ghost view = { λ m. take m.count m.places };
+
+    ghost invariant = { λ m. (length m.places ≡ 8) × (m.count ≤ 8) };
 }
 
 impl Moves {
@@ -81,7 +83,8 @@ impl Moves {
         ensures { result ≡ [] }
     {
         Moves {
-            moves: ArrayVec::new(),
+            places: [Move::default(); MAX_MOVES],
+            count: 0,
         }
     }
 
@@ -90,14 +93,14 @@ impl Moves {
         ensures moves { result.now ≡ self.now }
         ensures few { length self.now ≤ 8 }
     {
-        self.moves.as_slice()
+        &self.places[..self.count]
     }
 
     /// There is no move any more.
     pub fn clear(&mut self)
         ensures { self.new ≡ [] }
     {
-        self.moves.clear();
+        self.count = 0;
     }
 
     /// Adds a move at the end.
@@ -105,6 +108,7 @@ impl Moves {
         requires { length self.old < 8 }
         ensures { self.new ≡ self.old ++ step ∷ [] }
     {
-        self.moves.push(step);
+        self.places[self.count] = step;
+        self.count += 1;
     }
 }

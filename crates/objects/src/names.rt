@@ -1,5 +1,6 @@
 //! The numbers of the objects that have names, in the order of the names.
-ghost use Rattle.std.specs.Prelude.{◌≡◌, ◌<◌, false, IfOk, IsTrue, length, slice_index, [], ◌∷◌, ◌++◌};
+ghost use Rattle.std.specs.Prelude.{◌≡◌, ◌<◌, false, IfOk, IsTrue, ◌≤◌, length, slice_index, vec_capacity, vec_len, [], ◌∷◌, ◌++◌};
+ghost use Rattle.std.specs.List.{insert, remove};
 ghost use Rattle.objects.specs.Rows.{row_at, is_there, kept_name};
 ghost use Rattle.objects.specs.Calls.{rows_swept};
 ghost use Rattle.objects.specs.Names.{key_order, key_of, is_named, AreListed, IsPlace, IsNewPlace};
@@ -90,7 +91,7 @@ impl Names {
         ensures { AreListed (rows.now ++ Some (record { kind = kind; name = kept_name kind name.now; dead = false }) ∷ []) self.new }
     {
         if !is_session(kind) {
-            self.numbers.insert(place, rows.len() as u16).unwrap();
+            insert_at(&mut self.numbers, place, rows.len() as u16);
         }
     }
 
@@ -107,8 +108,35 @@ impl Names {
             return;
         }
         if let Ok(place) = self.place_of(rows, row.kind, &row.name) {
-            self.numbers.remove(place);
+            remove_at(&mut self.numbers, place);
         }
+    }
+}
+
+/// Puts a number at a place of a list that has room. Where that is the end, no other moves.
+fn insert_at(numbers: &mut Vec<u16>, place: usize, number: u16)
+    requires within { place ≤ vec_len numbers.old }
+    requires room { vec_len numbers.old < vec_capacity numbers.old }
+    ensures items { numbers.new.items ≡ insert numbers.old.items place number }
+    ensures capacity { vec_capacity numbers.old ≤ vec_capacity numbers.new }
+{
+    if place == numbers.len() {
+        numbers.push_reserved(number);
+    } else {
+        numbers.insert(place, number).unwrap();
+    }
+}
+
+/// Takes the number at a place out of a list. Where it is the last, no other moves.
+fn remove_at(numbers: &mut Vec<u16>, place: usize)
+    requires { place < vec_len numbers.old }
+    ensures items { numbers.new.items ≡ remove numbers.old.items place }
+    ensures capacity { vec_capacity numbers.new ≡ vec_capacity numbers.old }
+{
+    if place + 1 == numbers.len() {
+        let _ = numbers.pop();
+    } else {
+        let _ = numbers.remove(place);
     }
 }
 
@@ -120,9 +148,12 @@ fn order(row: &Option<ObjectRow>, kind: Kind, name: &Name) -> Ordering
     let Some(row) = row else {
         unreachable!();
     };
-    match (row.kind as u8).cmp(&(kind as u8)) {
-        Ordering::Less => Ordering::Less,
-        Ordering::Equal => row.name.as_slice().cmp(&name.as_slice()),
-        Ordering::Greater => Ordering::Greater,
+    let (listed, wanted) = (row.kind as u8, kind as u8);
+    if listed == wanted {
+        row.name.as_slice().cmp(&name.as_slice())
+    } else if listed < wanted {
+        Ordering::Less
+    } else {
+        Ordering::Greater
     }
 }

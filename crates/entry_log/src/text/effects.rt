@@ -6,7 +6,7 @@ ghost use Rattle.entry_log.specs.HolderText.{holder_text};
 ghost use Rattle.entry_log.specs.Joined.{joined, preceded};
 
 use super::holders::put_holder;
-use super::line::{Line, put, put_byte};
+use super::line::{Line, put_byte, put_letters};
 use super::numbers::{put_code, put_u8, put_u16, put_u32};
 use crate::{Effect, Holder, LockNo, StatusNo};
 
@@ -19,7 +19,7 @@ fn put_status(line: &mut Line, status: StatusNo)
 {
     match status {
         StatusNo::Async(number) => put_u8(line, number),
-        StatusNo::Sync => put(line, b"w"),
+        StatusNo::Sync => put_byte(line, b'w'),
     }
 }
 
@@ -29,7 +29,7 @@ fn put_fast(line: &mut Line, number: u8)
     ensures text { line.new.items ≡ line.old.items ++ (102 ∷ decimal number) }
     ensures short { length line.new.items ≤ length line.old.items + 4 }
 {
-    put(line, b"f");
+    put_byte(line, b'f');
     put_u8(line, number);
 }
 
@@ -47,38 +47,38 @@ fn put_lock(line: &mut Line, lock: LockNo)
 }
 
 /// Adds `NAME:NUMBER`.
-fn put_numbered(line: &mut Line, name: &[u8], number: u32)
+fn put_numbered<const N: usize>(line: &mut Line, name: &[u8; N], number: u32)
     requires { length line.old.items + length name.now + 11 ≤ 512 }
     ensures text { line.new.items ≡ line.old.items ++ joined 58 (name.now ∷ decimal number ∷ []) }
     ensures short { length line.new.items ≤ length line.old.items + length name.now + 11 }
 {
-    put(line, name);
-    put(line, b":");
+    put_letters(line, name);
+    put_byte(line, b':');
     put_u32(line, number);
 }
 
 /// Adds `SIGN HOLDER:OBJECT`, without the space.
-fn put_reference(line: &mut Line, sign: u8, holder: Holder, object: u16)
+fn put_reference(line: &mut Line, sign: u8, holder: &Holder, object: u16)
     requires { length line.old.items + 20 ≤ 512 }
     ensures text { line.new.items
-        ≡ line.old.items ++ joined 58 ((sign ∷ holder_text holder) ∷ decimal object ∷ []) }
+        ≡ line.old.items ++ joined 58 ((sign ∷ holder_text holder.now) ∷ decimal object ∷ []) }
     ensures short { length line.new.items ≤ length line.old.items + 20 }
 {
     put_byte(line, sign);
     put_holder(line, holder);
-    put(line, b":");
+    put_byte(line, b':');
     put_u16(line, object);
 }
 
 /// Adds `NAME:THREAD:LOCK`.
-fn put_locking(line: &mut Line, name: &[u8], thread: u16, lock: LockNo)
+fn put_locking<const N: usize>(line: &mut Line, name: &[u8; N], thread: u16, lock: LockNo)
     requires { length line.old.items + length name.now + 17 ≤ 512 }
     ensures text { line.new.items
         ≡ line.old.items ++ joined 58 (name.now ∷ decimal thread ∷ lock_text lock ∷ []) }
     ensures short { length line.new.items ≤ length line.old.items + length name.now + 17 }
 {
     put_numbered(line, name, thread as u32);
-    put(line, b":");
+    put_byte(line, b':');
     put_lock(line, lock);
 }
 
@@ -90,7 +90,7 @@ fn put_finish(line: &mut Line, message: u32, code: i32)
     ensures short { length line.new.items ≤ length line.old.items + 29 }
 {
     put_numbered(line, b"finish", message);
-    put(line, b":");
+    put_byte(line, b':');
     put_code(line, code);
 }
 
@@ -102,17 +102,17 @@ fn put_signal(line: &mut Line, thread: u16, status: StatusNo, code: i32)
     ensures short { length line.new.items ≤ length line.old.items + 33 }
 {
     put_numbered(line, b"signal", thread as u32);
-    put(line, b":");
+    put_byte(line, b':');
     put_status(line, status);
-    put(line, b":");
+    put_byte(line, b':');
     put_code(line, code);
 }
 
 /// Adds an effect, at most 33 bytes.
 #[tactic(auto, unfolding(crate::specs::EffectText::effect_text, crate::specs::EffectText::effect_fields))]
-fn put_effect(line: &mut Line, effect: Effect)
+fn put_effect(line: &mut Line, effect: &Effect)
     requires { length line.old.items + 33 ≤ 512 }
-    ensures text { line.new.items ≡ line.old.items ++ effect_text effect }
+    ensures text { line.new.items ≡ line.old.items ++ effect_text effect.now }
     ensures short { length line.new.items ≤ length line.old.items + 33 }
 {
     match effect {
@@ -123,10 +123,10 @@ fn put_effect(line: &mut Line, effect: Effect)
         Effect::Seek(object) => put_numbered(line, b"seek", object.0 as u32),
         Effect::Missed(object) => put_numbered(line, b"missed", object.0 as u32),
         Effect::Accept(message) => put_numbered(line, b"accept", message.0),
-        Effect::Finish(message, code) => put_finish(line, message.0, code),
-        Effect::Signal(thread, status, code) => put_signal(line, thread.0, status, code),
-        Effect::Take(thread, lock) => put_locking(line, b"take", thread.0, lock),
-        Effect::Give(thread, lock) => put_locking(line, b"give", thread.0, lock),
+        Effect::Finish(message, code) => put_finish(line, message.0, *code),
+        Effect::Signal(thread, status, code) => put_signal(line, thread.0, *status, *code),
+        Effect::Take(thread, lock) => put_locking(line, b"take", thread.0, *lock),
+        Effect::Give(thread, lock) => put_locking(line, b"give", thread.0, *lock),
         Effect::Terminated(server) => put_numbered(line, b"ended", server.0 as u32),
         Effect::Doom(thread) => put_numbered(line, b"doom", thread.0 as u32),
         Effect::Bury(thread) => put_numbered(line, b"bury", thread.0 as u32),
@@ -140,7 +140,7 @@ pub fn put_effects(line: &mut Line, effects: &[Effect])
     ensures short { length line.new.items ≤ length line.old.items + 34 * length effects.now }
 {
     for effect in effects {
-        put(line, b" ");
-        put_effect(line, *effect);
+        put_byte(line, b' ');
+        put_effect(line, effect);
     }
 }

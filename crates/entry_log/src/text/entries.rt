@@ -7,7 +7,7 @@ ghost use Rattle.entry_log.specs.Joined.{preceded};
 ghost use Rattle.entry_log.specs.StepText.{step_text};
 
 use super::effects::put_effects;
-use super::line::{Line, put};
+use super::line::{Line, put_byte, put_letters};
 use super::numbers::{put_code, put_u16, put_u32};
 use super::steps::put_step;
 use crate::{Actor, Entry};
@@ -17,12 +17,12 @@ use arrayvec::ArrayVec;
 const LONGEST: usize = 192;
 
 /// Adds an actor's letters and number, at most 3 and 5 bytes.
-fn put_numbered(line: &mut Line, letters: &[u8], number: u16)
+fn put_numbered<const N: usize>(line: &mut Line, letters: &[u8; N], number: u16)
     requires { length line.old.items + length letters.now + 5 ≤ 512 }
     ensures text { line.new.items ≡ line.old.items ++ (letters.now ++ decimal number) }
     ensures short { length line.new.items ≤ length line.old.items + length letters.now + 5 }
 {
-    put(line, letters);
+    put_letters(line, letters);
     put_u16(line, number);
 }
 
@@ -36,9 +36,9 @@ fn put_actor(line: &mut Line, actor: Actor)
     match actor {
         Actor::Thread(thread) => put_numbered(line, b"t", thread.0),
         Actor::Irq(number) => put_numbered(line, b"irq", number as u16),
-        Actor::Idfc => put(line, b"idfc"),
-        Actor::Tick => put(line, b"tick"),
-        Actor::Idle => put(line, b"idle"),
+        Actor::Idfc => put_letters(line, b"idfc"),
+        Actor::Tick => put_letters(line, b"tick"),
+        Actor::Idle => put_letters(line, b"idle"),
     }
 }
 
@@ -48,7 +48,7 @@ fn put_number_answered(line: &mut Line, number: i32)
     ensures text { line.new.items ≡ line.old.items ++ preceded 32 (answer_words (Some number)) }
     ensures short { length line.new.items ≤ length line.old.items + 14 }
 {
-    put(line, b" = ");
+    put_letters(line, b" = ");
     put_code(line, number);
 }
 
@@ -72,9 +72,9 @@ fn put_head(line: &mut Line, entry: &Entry)
     ensures short { length line.new.items ≤ length line.old.items + 41 }
 {
     put_u32(line, entry.place);
-    put(line, b" ");
+    put_byte(line, b' ');
     put_actor(line, entry.actor);
-    put(line, b" ");
+    put_byte(line, b' ');
     put_step(line, &entry.step);
 }
 
@@ -87,7 +87,7 @@ fn put_entry(line: &mut Line, entry: &Entry)
     put_head(line, entry);
     put_effects(line, entry.effects.as_slice());
     put_answer(line, entry.answer);
-    put(line, b"\n");
+    put_byte(line, b'\n');
 }
 
 /// The line of an entry.

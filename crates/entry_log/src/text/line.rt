@@ -21,3 +21,13 @@ pub fn put(line: &mut Line, piece: &[u8])
 {
     let _ = line.try_extend_from_slice(piece);
 }
+
+/// Adds a few letters that fit.
+pub fn put_letters<const N: usize>(line: &mut Line, letters: &[u8; N])
+    requires { length line.old.items + length letters.now ≤ 512 }
+    ensures { line.new.items ≡ line.old.items ++ letters.now }
+{
+    for letter in letters {
+        line.push(*letter);
+    }
+}

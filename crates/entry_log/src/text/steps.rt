@@ -4,7 +4,7 @@ ghost use Rattle.entry_log.specs.Joined.{joined};
 ghost use Rattle.entry_log.specs.PartText.{part_text};
 ghost use Rattle.entry_log.specs.StepText.{step_text};
 
-use super::line::{Line, put};
+use super::line::{Line, put, put_byte, put_letters};
 use crate::{Part, Step};
 use sym_base::Name;
 
@@ -16,14 +16,14 @@ fn put_part(line: &mut Line, part: Part)
     ensures short { length line.new.items ≤ length line.old.items + 7 }
 {
     match part {
-        Part::Seek => put(line, b".seek"),
-        Part::Return => put(line, b".return"),
-        Part::Look => put(line, b".look"),
-        Part::Make => put(line, b".make"),
-        Part::Send => put(line, b".send"),
-        Part::Do => put(line, b".do"),
-        Part::Done => put(line, b".done"),
-        Part::Piece => put(line, b".piece"),
+        Part::Seek => put_letters(line, b".seek"),
+        Part::Return => put_letters(line, b".return"),
+        Part::Look => put_letters(line, b".look"),
+        Part::Make => put_letters(line, b".make"),
+        Part::Send => put_letters(line, b".send"),
+        Part::Do => put_letters(line, b".do"),
+        Part::Done => put_letters(line, b".done"),
+        Part::Piece => put_letters(line, b".piece"),
     }
 }
 
@@ -44,7 +44,7 @@ fn put_two(line: &mut Line, first: &[u8], second: &[u8])
     ensures short { length line.new.items ≤ length line.old.items + length first.now + 1 + length second.now }
 {
     put(line, first);
-    put(line, b".");
+    put_byte(line, b'.');
     put(line, second);
 }
 
@@ -59,20 +59,20 @@ pub fn put_step(line: &mut Line, step: &Step)
         Step::Of(word, part) => put_of(line, word.text(), *part),
         Step::RunOf(name) => put_two(line, name.as_slice(), b"run"),
         Step::MoveOf(name) => put_two(line, name.as_slice(), b"move"),
-        Step::Drop => put(line, b"drop"),
-        Step::Sweep => put(line, b"sweep"),
-        Step::Finish => put(line, b"finish"),
-        Step::Detach => put(line, b"detach"),
-        Step::Stop => put(line, b"stop"),
-        Step::Free => put(line, b"free"),
-        Step::Shut => put(line, b"shut"),
-        Step::Tell => put(line, b"tell"),
-        Step::Clean => put(line, b"clean"),
-        Step::Flush => put(line, b"flush"),
-        Step::End => put(line, b"end"),
-        Step::Bury => put(line, b"bury"),
-        Step::Run => put(line, b"run"),
-        Step::Turn => put(line, b"turn"),
-        Step::Wait => put(line, b"wait"),
+        Step::Drop => put_letters(line, b"drop"),
+        Step::Sweep => put_letters(line, b"sweep"),
+        Step::Finish => put_letters(line, b"finish"),
+        Step::Detach => put_letters(line, b"detach"),
+        Step::Stop => put_letters(line, b"stop"),
+        Step::Free => put_letters(line, b"free"),
+        Step::Shut => put_letters(line, b"shut"),
+        Step::Tell => put_letters(line, b"tell"),
+        Step::Clean => put_letters(line, b"clean"),
+        Step::Flush => put_letters(line, b"flush"),
+        Step::End => put_letters(line, b"end"),
+        Step::Bury => put_letters(line, b"bury"),
+        Step::Run => put_letters(line, b"run"),
+        Step::Turn => put_letters(line, b"turn"),
+        Step::Wait => put_letters(line, b"wait"),
     }
 }

@@ -21,7 +21,7 @@ returns-in-Ok c =
     let row : row_at c.args.rows.now c.args.number ≡ Some c.in-Some.row = sym (get_or_read c.args.rows.now c.args.number c.index-rows-number.result made c.index-rows-number.is None) ∙ c.in-Some.is in
     let named : is_named (row_at c.args.rows.now c.args.number) ≡ true = ap is_named row ∙ ap not (sym c.is_session.ensures ∙ c.if-is_session.false) in
     let found = c.in-Ok.ensures in
-    let items = rw c.self.view_is at c.remove.ensures.items in
+    let items = rw c.self.view_is at c.remove_at.ensures.items in
     rw items (listed_swept c.args.rows.now c.args.self.now c.args.number c.in-Ok.place c.requires.listed named found.0 (rw row found.1))
 
 pub returns-in_default-place_of : goal.returns-in_default-place_of
