@@ -1,8 +1,8 @@
 -- The moves of each action go through: they can be made in the tables, and keep priorities and the readiness of those that
 -- they don't touch.
-use Rattle.std.proofs.Common.{◌≡◌, inl, inr, ℕ, zero, suc, ◌+◌, ◌<◌, ◌≤◌, List, [], ◌∷◌, length, get_or, arith, refl, sym, ap, subst, ◌∙◌, Bool, true, false}
-use Rattle.std.specs.Prelude.{◌==◌, IsTrue, is_some, if◌then◌else◌, Option, Some, None, option_map, slice_set}
-use Rattle.std.proofs.lemmas.Bool.{cases_eq, cases_lt, eq-eqb}
+use Rattle.std.proofs.Common.{◌≡◌, inl, inr, ℕ, ◌+◌, ◌<◌, ◌≤◌, List, [], ◌∷◌, length, get_or, arith, refl, sym, ap, subst, ◌∙◌, Bool, true, false}
+use Rattle.std.specs.Prelude.{◌==◌, IsTrue, is_some, if◌then◌else◌, Option, Some, None}
+use Rattle.std.proofs.lemmas.Bool.{cases_lt, eq-eqb}
 use Rattle.std.proofs.lemmas.List.{get_or_past}
 use Rattle.sym_base.specs.declared.number.ObjNo.{ObjNo}
 use Rattle.script_types.specs.declared.script.Script.{Script}
@@ -30,12 +30,12 @@ use Rattle.state_rows.specs.declared.thread.ThreadRow.{ThreadRow}
 use Rattle.machine.specs.Choice.{priority_of, priority_of_row}
 use Rattle.machine.specs.DeathMoves.{death_row, death_thread}
 use Rattle.machine.specs.NanoMoves.{nano_thread}
-use Rattle.machine.specs.Fits.{FitsNano, FitsRequests, IsFree, FitsMove, EachFits, Sane, most_told, most_owed}
-use Rattle.machine.specs.Moves.{moved, told, tell, closed_effects, threads_gain, threads_lose, threads_closed, with_use, unlinked, with_found, with_part, with_register, with_waiting, with_priority, advanced, next_object}
+use Rattle.machine.specs.Fits.{FitsNano, FitsRequests, IsFree, FitsMove, EachFits, Sane, most_owed}
+use Rattle.machine.specs.Moves.{moved, told, closed_effects, threads_lose, with_found, with_part, with_register, with_waiting, with_priority, advanced, next_object}
 use Rattle.machine.specs.References.{total, same, count_of, kernel_names, pluses, minuses, RefsMove}
-use Rattle.machine.specs.Rows.{object_of, thread_of, owed_of, with_row}
+use Rattle.machine.specs.Rows.{object_of, thread_of, owed_of}
 use Rattle.machine.specs.WellFormed.{IsAlive, AreRows, AreRequests, is_dead, dead_bit, owed_sweeps, weight}
-use Rattle.move_laws.proofs.Holders.ThreadRows.{row-here, row-other}
+use Rattle.move_laws.proofs.Holders.ThreadRows.{row-other}
 use Rattle.move_laws.proofs.Lists.Totals.{inside, total_at_least}
 use Rattle.move_laws.proofs.MoveLaws.Run.{sound-move, sound-pay, sane-after, refs-of, weight-move}
 use Rattle.move_laws.proofs.Numbers.CountSmall.{count_small}

@@ -21,14 +21,13 @@ use Rattle.machine.specs.Fits.{FitsDeferred}
 use Rattle.machine.specs.Choice.{priority_of}
 use Rattle.machine.specs.References.{count_of, RefsMove}
 use Rattle.machine.specs.Room.{MayAdvance}
-use Rattle.machine.specs.Rows.{object_of, thread_of, owed_of, owing}
+use Rattle.machine.specs.Rows.{object_of, thread_of, owing}
 use Rattle.machine.specs.Task.{is_ready}
 use Rattle.kernel_tables.specs.declared.tables.Tables.{Tables}
 use Rattle.kernel_tables.specs.Counts.{CountsMove}
 use Rattle.kernel_tables.specs.NanoMoved.{CanNano}
 use Rattle.kernel_tables.specs.LockMoved.{CanLock}
 use Rattle.kernel_tables.specs.Noted.{TiedTables}
-use Rattle.kernel_tables.specs.ObjectsView.{IsThere}
 use Rattle.kernel_tables.specs.Referred.{HasPlaces, IsReferred}
 use Rattle.kernel_tables.specs.RequestMoved.{CanRequest}
 use Rattle.kernel_tables.specs.StateOf.{state_of}

@@ -1,4 +1,4 @@
-use Rattle.std.proofs.Common.{◌≡◌, ◌∙◌, List, ap}
+use Rattle.std.proofs.Common.{◌∙◌, List, ap}
 use Rattle.std.specs.Prelude.{Option}
 use Rattle.state_rows.specs.declared.thread.Stage.TheVariants.{Doomed}
 use Rattle.state_rows.specs.declared.thread.ThreadRow.{ThreadRow}
