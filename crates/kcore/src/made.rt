@@ -43,7 +43,7 @@ impl Made {
         requires { length self.old < 9 }
         ensures { self.new ≡ self.old ++ change ∷ [] }
     {
-        self.moves.push(change);
+        let _ = self.moves.try_extend_from_slice(&[change]);
     }
 }
 

@@ -58,6 +58,7 @@ nano_counts counts (nano.Leave t) o = refl
 nano_counts counts (nano.LeaveAll t) o = refl
 nano_counts counts (nano.Suspend t) o = refl
 nano_counts counts (nano.Resume t) o = refl
+nano_counts counts (nano.Release t) o = refl
 nano_counts counts (nano.Raise t) o = refl
 nano_counts counts (nano.Lower t) o = refl
 
@@ -65,4 +66,7 @@ nano_counts counts (nano.Lower t) o = refl
 pub request_counts : (counts : List ℕ) (m : RequestMove) → CountsMove counts counts (request_told m)
 request_counts counts (request.Begin d t s) o = refl
 request_counts counts (request.Complete d t s code) o = refl
+request_counts counts (request.SetPending t s) o = refl
+request_counts counts (request.Signal t s code) o = refl
+request_counts counts (request.DropAll t) o = refl
 request_counts counts (request.TakeSignal t) o = refl

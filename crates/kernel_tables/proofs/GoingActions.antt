@@ -1,5 +1,5 @@
 -- The moves of each action go through.
-use Rattle.std.proofs.Common.{◌≡◌, ◌≤◌, ℕ, List, [], ◌∷◌, length, arith, refl}
+use Rattle.std.proofs.Common.{ℕ, List, [], ◌∷◌, arith, refl}
 use Rattle.sym_base.specs.declared.number.ObjNo.{ObjNo}
 use Rattle.script_types.specs.declared.script.Script.{Script}
 use Rattle.script_types.specs.Shape.{IsShaped}
@@ -12,7 +12,6 @@ use Rattle.machine.specs.declared.state.State.{State}
 use Rattle.machine.specs.Bodies.{decision_by}
 use Rattle.machine.specs.Fits.{Sane}
 use Rattle.machine.specs.Interrupts.{immediate_plan, supervisor}
-use Rattle.machine.specs.Moves.{tell}
 use Rattle.machine.specs.Steps.{decision_of}
 use Rattle.machine.specs.WellFormed.{AreRows}
 use Rattle.machine_laws.proofs.Fitting.Actions.{of_action}

@@ -1,6 +1,6 @@
 -- When a move in the rows of mutexes and semaphores that fits can be made in the tables.
-use Rattle.std.proofs.Common.{◌≡◌, ◌∙◌, inl, inr, ℕ, zero, suc, ◌+◌, ◌<◌, ◌≤◌, List, [], ◌∷◌, length, get_or, arith, refl, sym, ap, subst, Bool, true, false}
-use Rattle.std.specs.Prelude.{◌==◌, ◌||◌, is_some, if◌then◌else◌, nat_lt, Option, Some, None}
+use Rattle.std.proofs.Common.{◌≡◌, ◌∙◌, ℕ, suc, ◌<◌, List, [], ◌∷◌, length, get_or, arith, refl, sym, ap, Bool, true, false}
+use Rattle.std.specs.Prelude.{◌==◌, ◌||◌, is_some, if◌then◌else◌, nat_lt, IsSome, Option, Some, None}
 use Rattle.std.specs.List.{list_any}
 use Rattle.std.proofs.lemmas.Bool.{eqb-true}
 use Rattle.sym_base.specs.declared.number.ObjNo.{ObjNo}
@@ -14,11 +14,10 @@ use Rattle.state_rows.specs.LockChanges.{lock_answer, passed, unlock_answer}
 use Rattle.state_rows.specs.Locks.{best_waiter, is_among, is_waiting, owner_at, waiters_at}
 use Rattle.cleanup.specs.Lists.{HasSome, is_object}
 use Rattle.machine.specs.declared.lock_move.LockMove.{LockMove}
-use Rattle.machine.specs.declared.lock_move.LockMove.TheVariants.{Start, Lock, Unlock, WaitOn, Signal}
+use Rattle.machine.specs.declared.lock_move.LockMove.TheVariants.{Start, Lock, Unlock, Free, Leave, WaitOn, Signal}
 use Rattle.machine.specs.declared.state.State.{State}
-use Rattle.state_rows.specs.declared.thread.ThreadRow.{ThreadRow}
 use Rattle.machine.specs.Choice.{priority_of}
-use Rattle.machine.specs.Fits.{FitsLocks, MayJoin, MayLock, MayUnlock, WaitsNowhere}
+use Rattle.machine.specs.Fits.{FitsLocks, MayFree, MayJoin, MayLock, MayUnlock, WaitsNowhere}
 use Rattle.machine.specs.LockMoves.{not_holding}
 use Rattle.machine.specs.References.{mutex_names, same, total, count_of}
 use Rattle.machine.specs.Rows.{object_of, thread_of}
@@ -29,7 +28,7 @@ use Rattle.move_laws.proofs.Readiness.FirstReady.{greatest_listed}
 use Rattle.move_laws.proofs.RowLaws.LockChanges.{LockParts}
 use Rattle.move_laws.proofs.RowLaws.LockMoves.{given_none, held_once, none_held}
 use Rattle.move_laws.proofs.RowLaws.Locks.{thread_inside}
-use Rattle.kernel_tables.specs.LockMoved.{CanGive, CanJoin, CanLock, CanTake, IsPlaced, LocksMay, UnlocksMay}
+use Rattle.kernel_tables.specs.LockMoved.{CanGive, CanJoin, CanLock, CanTake, FreeMay, IsPlaced, LocksMay, UnlocksMay}
 use Rattle.kernel_tables.specs.Moved.{AreKnown}
 use Rattle.kernel_tables.specs.Referred.{HasPlaces, IsReferred}
 
@@ -96,6 +95,10 @@ passed_by (Some v) t w best e = by (v.thread.0 == t.0) (nat_lt 1 v.level) refl e
     by true false at e = (record { own = v; is = refl; thread = eqb-true v.thread.0 t.0 at }, passed_best best w e)
     by false more at e = absurd (cc)
 
+is_owned : (owner : Option Owner) (w : Owner) → owner ≡ Some w → IsSome owner
+is_owned None w is = absurd (cc)
+is_owned (Some v) w is = refl
+
 module _ (script : Script) (S : State) (rows : AreRows script S) (known : AreKnown S) (referred : (o : ObjNo) → 0 < count_of S o → IsReferred S o) (places : (u : ObjNo) → HasPlaces 2 S u) where
   -- numbers are in range
   placed : (o : ObjNo) → o.0 < length S.objects → IsPlaced S o
@@ -139,31 +142,43 @@ module _ (script : Script) (S : State) (rows : AreRows script S) (known : AreKno
   gives : (o u : ObjNo) (unlocked : Unlocked) → MayUnlock S o u unlocked → CanGive S u o
   gives o u unlocked may = record { thread = owes_in u may.thread; object = small o may.object; places = let two = places u in omega arith }
 
+  -- the waiter to whom a mutex is passed may take it
+  takes_passed : (o u w : ObjNo) → o.0 < length S.objects → is_some (thread_of S u) ≡ true → WaitsNowhere S u → IsOwn (owner_at S.locks o) u → best_waiter (priority_of S) S.locks o ≡ Some w → CanTake S (not_holding S.mutexes u o) w o
+  takes_passed o u w object thread nowhere own best =
+      let among : is_among w (waiters_at S.locks o) ≡ true = greatest_listed (priority_of S) (waiters_at S.locks o) w best in
+      let awaits = rows.locks.waiters w o among in
+      let there = in_mutexes u thread in
+      let once = held_once (length S.objects) S.threads (parts S) rows.locks rows.sized.objects_few o object u own.own own.is own.thread there (nowhere o) in
+      let none = given_none (length S.objects) S.threads (parts S) rows.locks rows.sized.objects_few o object u own.own own.is own.thread there (nowhere o) in
+      let counted : 0 < count_of S o = let at = total_at_least (total (mutex_names o)) S.mutexes u.0 [] there in omega arith in
+      record {
+        thread = let a = inside S.threads w.0 awaits.row awaits.is in let b = rows.sized.duties in omega arith;
+        object = small o object;
+        free = none_has o (not_holding S.mutexes u o) none;
+        referred = referred o counted;
+      }
+
   unlocks_may : (o u : ObjNo) (unlocked : Unlocked) → MayUnlock S o u unlocked → UnlocksMay S o u unlocked
   unlocks_may o u Level may = tt
   unlocks_may o u NotOwner may = tt
   unlocks_may o u Freed may = gives o u Freed may
   unlocks_may o u (Passed w) may =
       let by = passed_by (owner_at S.locks o) u w (best_waiter (priority_of S) S.locks o) may.answer in
-      let own = by.0 in
-      let among : is_among w (waiters_at S.locks o) ≡ true = greatest_listed (priority_of S) (waiters_at S.locks o) w by.1 in
-      let awaits = rows.locks.waiters w o among in
-      let there = in_mutexes u may.thread in
-      let once = held_once (length S.objects) S.threads (parts S) rows.locks rows.sized.objects_few o may.object u own.own own.is own.thread there (may.nowhere o) in
-      let none = given_none (length S.objects) S.threads (parts S) rows.locks rows.sized.objects_few o may.object u own.own own.is own.thread there (may.nowhere o) in
-      let counted : 0 < count_of S o = let at = total_at_least (total (mutex_names o)) S.mutexes u.0 [] there in omega arith in (
-        gives o u (Passed w) may,
-        record {
-          thread = let a = inside S.threads w.0 awaits.row awaits.is in let b = rows.sized.duties in omega arith;
-          object = small o may.object;
-          free = none_has o (not_holding S.mutexes u o) none;
-          referred = referred o counted;
-        },
-      )
+      (gives o u (Passed w) may, takes_passed o u w may.object may.thread may.nowhere by.0 by.1)
+
+  -- and one that gives up all levels
+  frees : (o u : ObjNo) (best : Option ObjNo) → MayFree S o u best → CanGive S u o
+  frees o u best may = record { thread = owes_in u may.thread; object = small o may.object; places = let two = places u in omega arith }
+
+  frees_may : (o u : ObjNo) (best : Option ObjNo) → MayFree S o u best → FreeMay S o u best
+  frees_may o u None may = frees o u None may
+  frees_may o u (Some w) may = (frees o u (Some w) may, takes_passed o u w may.object may.thread may.nowhere (record { own = may.owns.owner; is = may.owns.is; thread = may.owns.thread }) (sym may.chosen))
 
   pub can_lock : (t : ObjNo) (m : LockMove) → FitsLocks t m S → CanLock m S
   can_lock t (Start o count) fits = (placed o fits.object, fits.few, fits.free, fits.alone)
   can_lock t (Lock o u locked) fits = (joins o u _ (alive_made o fits.alive) fits.joins, fits.answer, locks_may o u locked fits)
   can_lock t (Unlock o u unlocked) fits = (placed o fits.1.object, fits.1.answer, unlocks_may o u unlocked fits.1)
+  can_lock t (Free o u best) fits = (placed o fits.1.object, is_owned (owner_at S.locks o) fits.1.owns.owner fits.1.owns.is, fits.1.chosen, frees_may o u best fits.1)
+  can_lock t (Leave u) fits = let a = thread_inside S.threads u.0 fits in let b = rows.sized.threads_few in omega arith
   can_lock t (WaitOn o u) fits = joins o u _ (alive_made o fits.alive) fits.joins
   can_lock t (Signal o signalled) fits = (placed o fits.object, fits.answer)

@@ -1,8 +1,8 @@
 -- The moves of each action go through: they can be made in the tables, and keep priorities and the readiness of those that
 -- they don't touch.
-use Rattle.std.proofs.Common.{◌≡◌, inl, inr, ℕ, zero, suc, ◌+◌, ◌<◌, ◌≤◌, List, [], ◌∷◌, length, get_or, arith, refl, sym, ap, subst, ◌∙◌, Bool, true, false}
-use Rattle.std.specs.Prelude.{◌==◌, IsTrue, is_some, if◌then◌else◌, Option, Some, None, option_map, slice_set}
-use Rattle.std.proofs.lemmas.Bool.{cases_eq, cases_lt, eq-eqb}
+use Rattle.std.proofs.Common.{◌≡◌, inl, inr, ℕ, ◌+◌, ◌<◌, ◌≤◌, List, [], ◌∷◌, length, get_or, arith, refl, sym, ap, subst, ◌∙◌, Bool, true, false}
+use Rattle.std.specs.Prelude.{◌==◌, IsTrue, is_some, if◌then◌else◌, Option, Some, None}
+use Rattle.std.proofs.lemmas.Bool.{cases_lt, eq-eqb}
 use Rattle.std.proofs.lemmas.List.{get_or_past}
 use Rattle.sym_base.specs.declared.number.ObjNo.{ObjNo}
 use Rattle.script_types.specs.declared.script.Script.{Script}
@@ -14,7 +14,7 @@ use Rattle.state_rows.specs.declared.duty.Owed.TheVariants.{Close, Sweep}
 use Rattle.state_rows.specs.declared.object.ObjectRow.{ObjectRow}
 use Rattle.state_rows.specs.ObjectRows.{is_dead_row}
 use Rattle.machine.specs.declared.moves.Move.{Move}
-use Rattle.machine.specs.declared.moves.Move.TheVariants.{Make, Gain, Lose, Find, Miss, GoOn, Write, Advance, Wait, Wake, SetPriority, Nano, Deferred, Requests, Locks, Fill, Pay}
+use Rattle.machine.specs.declared.moves.Move.TheVariants.{Make, Gain, Lose, Find, Miss, GoOn, Write, Advance, Wait, Wake, SetPriority, Nano, Deferred, Requests, Locks, Death, Fill, Pay}
 use Rattle.machine.specs.declared.nano_move.NanoMove.{NanoMove}
 use Rattle.machine.specs.declared.nano_move.NanoMove.TheVariants as nano
 use Rattle.machine.specs.declared.request_move.RequestMove.{RequestMove}
@@ -28,13 +28,14 @@ use Rattle.script_types.specs.declared.declaration.ThreadDecl.{ThreadDecl}
 use Rattle.machine.specs.Task.{declared_of, instructions_in}
 use Rattle.state_rows.specs.declared.thread.ThreadRow.{ThreadRow}
 use Rattle.machine.specs.Choice.{priority_of, priority_of_row}
+use Rattle.machine.specs.DeathMoves.{death_row, death_thread}
 use Rattle.machine.specs.NanoMoves.{nano_thread}
-use Rattle.machine.specs.Fits.{FitsNano, FitsRequests, IsFree, FitsMove, EachFits, Sane, most_told, most_owed}
-use Rattle.machine.specs.Moves.{moved, told, tell, closed_effects, threads_gain, threads_lose, threads_closed, with_use, unlinked, with_found, with_part, with_register, with_waiting, with_priority, advanced, next_object}
+use Rattle.machine.specs.Fits.{FitsNano, FitsRequests, IsFree, FitsMove, EachFits, Sane, most_owed}
+use Rattle.machine.specs.Moves.{moved, told, closed_effects, threads_lose, with_found, with_part, with_register, with_waiting, with_priority, advanced, next_object}
 use Rattle.machine.specs.References.{total, same, count_of, kernel_names, pluses, minuses, RefsMove}
-use Rattle.machine.specs.Rows.{object_of, thread_of, owed_of, with_row}
+use Rattle.machine.specs.Rows.{object_of, thread_of, owed_of}
 use Rattle.machine.specs.WellFormed.{IsAlive, AreRows, AreRequests, is_dead, dead_bit, owed_sweeps, weight}
-use Rattle.move_laws.proofs.Holders.ThreadRows.{row-here, row-other}
+use Rattle.move_laws.proofs.Holders.ThreadRows.{row-other}
 use Rattle.move_laws.proofs.Lists.Totals.{inside, total_at_least}
 use Rattle.move_laws.proofs.MoveLaws.Run.{sound-move, sound-pay, sane-after, refs-of, weight-move}
 use Rattle.move_laws.proofs.Numbers.CountSmall.{count_small}
@@ -44,6 +45,7 @@ use Rattle.move_laws.proofs.References.Same.{same_self}
 use Rattle.kernel_tables.specs.Moved.{CanMove, MayGain, TakesLeast, AreKnown, MoveGoes, MovesGo, is_set}
 use Rattle.kernel_tables.specs.Referred.{HasPlaces, IsReferred}
 use Rattle.kernel_tables.proofs.GoingLocks.{can_lock}
+use Rattle.kernel_tables.proofs.DyingRows.{death_priority}
 use Rattle.kernel_tables.proofs.Ranks.{rank-with_row, rank-gain, rank-lose, rank-closed, rank-none}
 use Rattle.kernel_tables.specs.NanoMoved.{CanNano}
 use Rattle.kernel_tables.specs.ObjectsView.{IsThere}
@@ -178,6 +180,7 @@ can_nano script S m rows there fits =
     by_kind (nano.LeaveAll t) at fits = at
     by_kind (nano.Suspend t) at fits = at
     by_kind (nano.Resume t) at fits = at
+    by_kind (nano.Release t) at fits = at
     by_kind (nano.Raise t) at fits = at
     by_kind (nano.Lower t) at fits = at
 
@@ -187,6 +190,9 @@ can_request count r (request.Begin d t s) rows fits = (fits.device, fits.thread,
 can_request count r (request.Complete d t s code) rows fits =
     let known = rows.rows.requests_known d _ fits.1 in
     ((fits.0, known.0, known.1), rows.pending d _ fits.1)
+can_request count r (request.SetPending t s) rows fits = fits
+can_request count r (request.Signal t s code) rows fits = (fits.thread, fits.status, fits.waits)
+can_request count r (request.DropAll t) rows fits = fits
 can_request count r (request.TakeSignal t) rows fits = fits
 
 -- threads have the least numbers, and priorities in their range
@@ -217,6 +223,7 @@ can_move script S t (Nano m) shaped fits refs s = can_nano script S m s.rows fit
 can_move script S t (Deferred m) shaped fits refs s = fits
 can_move script S t (Requests m) shaped fits refs s = can_request (length S.threads) S.requests m s.rows.requests fits
 can_move script S t (Locks m) shaped fits refs s = can_lock script S s.rows (known script S s.rows) (λ o. referred script S o s.rows) (λ u. few_places script S u s.rows) t m fits
+can_move script S t (Death m) shaped fits refs s = tt
 can_move script S t (Fill p at size byte) shaped fits refs s = fits
 can_move script S t (Pay what) shaped fits refs s = absurd fits
 
@@ -232,6 +239,7 @@ ranks_move script S t (Nano m) u fits unset = refl
 ranks_move script S t (Deferred m) u fits unset = refl
 ranks_move script S t (Requests m) u fits unset = refl
 ranks_move script S t (Locks m) u fits unset = refl
+ranks_move script S t (Death m) u fits unset = rank-with_row S.threads (death_thread m) (death_row m) u (death_priority m)
 ranks_move script S t (Fill p at size byte) u fits unset = refl
 ranks_move script S t (Make kind name h) u fits unset = rank-gain S.threads h (next_object S) u
 ranks_move script S t (Gain h o) u fits unset = rank-gain S.threads h o u

@@ -1,3 +1,5 @@
+mod Counted
+mod DyingRows
 mod Filling
 mod Finds
 pub mod FirstCount

@@ -1,5 +1,5 @@
 -- The rows of mutexes and semaphores in the table.
-use Rattle.std.proofs.Common.{◌≡◌, ◌∙◌, ℕ, ◌<◌, List, [], ◌∷◌, refl, ap, arith}
+use Rattle.std.proofs.Common.{◌≡◌, ◌∙◌, ℕ, List, [], ◌∷◌, refl, ap, arith}
 use Rattle.std.specs.Prelude.{if◌then◌else◌, nat_lt, Option, Some, None}
 use Rattle.sym_base.specs.Greatest.{first_of_greatest, unless_greater}
 use Rattle.sym_base.specs.declared.number.ObjNo.{ObjNo}

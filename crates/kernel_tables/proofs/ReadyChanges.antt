@@ -8,7 +8,6 @@ use Rattle.sym_base.specs.declared.limits.TheConstants.Limits.{BOOT_OBJECTS}
 use Rattle.sym_base.specs.declared.number.ObjNo.{ObjNo}
 use Rattle.sym_base.specs.Greatest.{first_of_greatest}
 use Rattle.script_types.specs.declared.script.Script.{Script}
-use Rattle.entry_log.specs.declared.entry.Actor.TheVariants.{Thread, Idle}
 use Rattle.ready_list.specs.Queue.{holds}
 use Rattle.ready_list.specs.Ready.{Ready, added, removed, rotated, first_of_highest, priority_of}
 use Rattle.ready_list.specs.Arrival.{AreQueuesOf}
@@ -24,7 +23,7 @@ use Rattle.machine.specs.Task.{is_ready}
 use Rattle.machine.specs.Tick.{moved_behind}
 use Rattle.nano.specs.Choice.{chosen, after_tick, rotated_at}
 use Rattle.kernel_tables.specs.Moved.{AreKnown}
-use Rattle.kernel_tables.specs.ReadyQueues.{AreReady, SomeReady, Follow, pairs, leave}
+use Rattle.kernel_tables.specs.ReadyQueues.{AreReady, Follow, pairs, leave}
 use Rattle.kernel_tables.proofs.ReadyLists.{listed_behind, apart_behind, apart_filtered, filtered_listed, without_unlisted, itself_stays}
 use Rattle.kernel_tables.proofs.ReadyRows.{rowless_unready}
 use Rattle.kernel_tables.proofs.ReadyQueues.{picked_queued, turned_queued, removed_queued, added_queued, ready_queued, chosen_priority, chosen_listed}

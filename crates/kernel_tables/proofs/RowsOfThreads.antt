@@ -1,5 +1,5 @@
 -- Rows of threads in the table, one of which changes.
-use Rattle.std.proofs.Common.{◌≡◌, ◌∙◌, List, get_or, set, refl, sym, ap, false, true}
+use Rattle.std.proofs.Common.{◌≡◌, ◌∙◌, get_or, set, refl, sym, ap, false, true}
 use Rattle.std.specs.Prelude.{IsTrue, is_some, Option, Some, None, option_map, unwrap_or}
 use Rattle.std.proofs.lemmas.List.{set-get_or}
 use Rattle.sym_base.specs.declared.number.ObjNo.{ObjNo}

@@ -3,6 +3,7 @@ pub mod Counts
 pub mod StateOf
 pub mod Noted
 pub mod Referred
+pub mod Dying
 pub mod LockMoved
 pub mod NanoMoved
 pub mod RequestMoved

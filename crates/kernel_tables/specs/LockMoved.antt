@@ -1,5 +1,5 @@
 -- When a move in the table of mutexes and semaphores can be made.
-use Rattle.std.specs.Prelude.{◌≡◌, ℕ, ◌<◌, ◌≤◌, false, List, [], length, Option, None}
+use Rattle.std.specs.Prelude.{◌≡◌, ◌<◌, ◌≤◌, false, List, [], length, IsSome, Option, Some, None}
 use Rattle.sym_base.specs.declared.limits.TheConstants.Limits.{BOOT_OBJECTS, OBJECTS}
 use Rattle.sym_base.specs.declared.number.ObjNo.{ObjNo}
 use Rattle.state_rows.specs.declared.locks.Locked.TheVariants.{Taken, Waits}
@@ -10,7 +10,7 @@ use Rattle.state_rows.specs.LockChanges.{lock_answer, unlock_answer, signal_answ
 use Rattle.state_rows.specs.Locks.{best_waiter, count_at, is_waiting, owner_at, waiters_at}
 use Rattle.cleanup.specs.Lists.{HasSome, is_object}
 use Rattle.machine.specs.declared.lock_move.LockMove.{LockMove}
-use Rattle.machine.specs.declared.lock_move.LockMove.TheVariants.{Start, Lock, Unlock, WaitOn, Signal}
+use Rattle.machine.specs.declared.lock_move.LockMove.TheVariants.{Start, Lock, Unlock, Free, Leave, WaitOn, Signal}
 use Rattle.machine.specs.declared.state.State.{State}
 use Rattle.machine.specs.Choice.{priority_of}
 use Rattle.machine.specs.LockMoves.{not_holding}
@@ -49,10 +49,16 @@ UnlocksMay S o t Freed = CanGive S t o
 UnlocksMay S o t (Passed w) = CanGive S t o × CanTake S (not_holding S.mutexes t o) w o
 UnlocksMay S o t _ = Unit {0}
 
+abbrev pub FreeMay : State → ObjNo → ObjNo → Option ObjNo → Type 0
+FreeMay S o t None = CanGive S t o
+FreeMay S o t (Some w) = CanGive S t o × CanTake S (not_holding S.mutexes t o) w o
+
 -- the numbers are the table's, the answer is the one that the rows give, and what threads hold and owe then has a place
 abbrev pub CanLock : LockMove → State → Type 0
 CanLock (Start o count) S = IsPlaced S o × (count ≤ 2147483647) × (owner_at S.locks o ≡ None) × (waiters_at S.locks o ≡ [])
 CanLock (Lock o t answer) S = CanJoin S o t (answer ≡ Waits) × (answer ≡ lock_answer (owner_at S.locks o) t) × LocksMay S o t answer
 CanLock (Unlock o t answer) S = IsPlaced S o × (answer ≡ unlock_answer (owner_at S.locks o) t (best_waiter (priority_of S) S.locks o)) × UnlocksMay S o t answer
+CanLock (Free o t best) S = IsPlaced S o × IsSome (owner_at S.locks o) × (best ≡ best_waiter (priority_of S) S.locks o) × FreeMay S o t best
+CanLock (Leave t) S = t.0 < BOOT_OBJECTS
 CanLock (WaitOn o t) S = CanJoin S o t (count_at S.locks o ≡ 0)
 CanLock (Signal o answer) S = IsPlaced S o × (answer ≡ signal_answer (best_waiter (priority_of S) S.locks o) (count_at S.locks o))

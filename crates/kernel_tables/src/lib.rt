@@ -3,6 +3,7 @@
 
 mod actions;
 mod call_queues;
+mod death_moves;
 mod duties;
 mod lock_moves;
 mod moves;

@@ -101,6 +101,26 @@ fn unlock<W: RefWords + Drop>(
     }
 }
 
+/// A thread gives a mutex up with all its levels.
+fn free<W: RefWords + Drop>(
+    tables: &mut Tables<W>,
+    mutex: ObjNo,
+    thread: ThreadNo,
+    best: Option<ThreadNo>,
+)
+    requires can { CanLock (LockMove.Free mutex thread best) (state_of tables.old) }
+    requires kept { AreKept tables.old }
+    ensures { (t : ObjNo) → IsMoved t (Move.Locks (LockMove.Free mutex thread best)) tables.old tables.new }
+{
+    match tables.locks.free(mutex) {
+        None => give(&mut tables.cleanup, thread, mutex),
+        Some(next) => {
+            give(&mut tables.cleanup, thread, mutex);
+            take(&mut tables.cleanup, &mut tables.objects, next, mutex);
+        }
+    }
+}
+
 /// One move in the table.
 pub fn move_lock<W: RefWords + Drop>(tables: &mut Tables<W>, change: LockMove)
     requires can { CanLock change (state_of tables.old) }
@@ -113,6 +133,8 @@ pub fn move_lock<W: RefWords + Drop>(tables: &mut Tables<W>, change: LockMove)
         }
         LockMove::Lock(mutex, thread, locked) => lock(tables, mutex, thread, locked),
         LockMove::Unlock(mutex, thread, unlocked) => unlock(tables, mutex, thread, unlocked),
+        LockMove::Free(mutex, thread, best) => free(tables, mutex, thread, best),
+        LockMove::Leave(thread) => tables.locks.remove_waiter(thread),
         LockMove::WaitOn(semaphore, thread) => {
             let _ = tables.locks.sem_wait(semaphore, thread);
         }

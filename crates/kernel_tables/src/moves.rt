@@ -12,6 +12,7 @@ ghost use Rattle.kernel_tables.specs.Moved.{CanMake, CanGain, CanAdvance, CanMov
 ghost use Rattle.kernel_tables.specs.ObjectsView.{IsHeld};
 ghost use Rattle.kernel_tables.specs.StateOf.{slots_of, state_of};
 
+use crate::death_moves::move_death;
 use crate::duties::{drop_first_owed, owe_close, owe_use};
 use crate::lock_moves::move_lock;
 use crate::nano_moves::move_nano;
@@ -223,6 +224,7 @@ pub fn make_move<W: RefWords + Drop>(tables: &mut Tables<W>, thread: ThreadNo, c
         Move::Deferred(change) => tables.deferred.change(change),
         Move::Requests(change) => move_request(&mut tables.requests, change),
         Move::Locks(change) => move_lock(tables, change),
+        Move::Death(change) => move_death(&mut tables.procs, change),
         Move::Fill(process, at, length, byte) => {
             fill(&mut tables.procs, process, at, length, byte);
         }

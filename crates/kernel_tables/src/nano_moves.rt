@@ -1,7 +1,7 @@
 //! Moves in the table of threads that synchronize.
 ghost use Rattle.std.specs.Prelude.{◌≡◌, ◌<◌, length};
 ghost use Rattle.machine.specs.NanoMoves.{nano_moved};
-ghost use Rattle.state_rows.specs.NanoChanges.{after_leave_all};
+ghost use Rattle.state_rows.specs.NanoChanges.{after_leave_all, after_resume_all};
 ghost use Rattle.kernel_tables.specs.NanoMoved.{CanNano};
 
 use machine::NanoMove;
@@ -16,6 +16,25 @@ fn leave_all(nano: &mut NanoSync, thread: ThreadNo)
     for _left in 0..nano.critical_count(thread) {
         let _ = nano.leave(thread);
     }
+}
+
+/// No suspension of a thread is left.
+fn resume_all(nano: &mut NanoSync, thread: ThreadNo)
+    requires { thread.0 < length nano.old.signals }
+    ensures { nano.new ≡ after_resume_all nano.old thread }
+{
+    for _left in 0..nano.suspend_count(thread) {
+        let _ = nano.resume(thread);
+    }
+}
+
+/// A thread isn't suspended any more, and wants no fast mutex.
+fn release(nano: &mut NanoSync, thread: ThreadNo)
+    requires { thread.0 < length nano.old.signals }
+    ensures { nano.new ≡ nano_moved (NanoMove.Release thread) nano.old }
+{
+    resume_all(nano, thread);
+    nano.set_want(thread, None);
 }
 
 /// A thread takes a free fast mutex, and wants none any more.
@@ -49,6 +68,7 @@ pub fn move_nano(nano: &mut NanoSync, change: NanoMove)
         NanoMove::Resume(thread) => {
             let _ = nano.resume(thread);
         }
+        NanoMove::Release(thread) => release(nano, thread),
         NanoMove::Raise(thread) => nano.signal(thread),
         NanoMove::Lower(thread) => {
             let _ = nano.try_wait(thread);

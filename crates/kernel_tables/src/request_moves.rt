@@ -35,6 +35,11 @@ pub fn move_request(requests: &mut Requests, change: RequestMove)
         RequestMove::Complete(device, thread, status, code) => {
             complete(requests, device, thread, status, code);
         }
+        RequestMove::SetPending(thread, status) => {
+            let _ = requests.set_pending(thread, status);
+        }
+        RequestMove::Signal(thread, status, code) => requests.signal(thread, status, code),
+        RequestMove::DropAll(thread) => requests.drop_all(thread),
         RequestMove::TakeSignal(thread) => {
             let _ = requests.take_signal(thread);
         }

@@ -7,10 +7,11 @@ use Rattle.script_types.specs.declared.script.Script.{Script}
 use Rattle.state_rows.specs.declared.duty.Owed.TheVariants.{Close, Sweep}
 use Rattle.machine.specs.declared.touches.TouchedThreads.{TouchedThreads}
 use Rattle.machine.specs.declared.moves.Move.{Move}
-use Rattle.machine.specs.declared.moves.Move.TheVariants.{GoOn, Advance, Wait, Wake, SetPriority, Nano, Deferred, Locks, Lose, Pay}
-use Rattle.machine.specs.declared.lock_move.LockMove.TheVariants.{Unlock}
+use Rattle.machine.specs.declared.moves.Move.TheVariants.{GoOn, Advance, Wait, Wake, SetPriority, Nano, Deferred, Locks, Death, Lose, Pay}
+use Rattle.machine.specs.declared.lock_move.LockMove.TheVariants.{Unlock, Free}
 use Rattle.machine.specs.declared.state.State.{State}
 use Rattle.machine.specs.NanoMoves.{nano_thread}
+use Rattle.machine.specs.DeathMoves.{death_thread}
 use Rattle.machine.specs.DeferredMoves.{deferred_threads}
 use Rattle.machine.specs.Moves.{moved, perform}
 use Rattle.machine.specs.Task.{is_ready}
@@ -34,6 +35,8 @@ touched t (SetPriority u priority) = u ∷ []
 touched t (Nano m) = nano_thread m ∷ []
 touched t (Deferred m) = deferred_threads m
 touched t (Locks (Unlock o u unlocked)) = u ∷ []
+touched t (Locks (Free o u best)) = u ∷ []
+touched t (Death m) = death_thread m ∷ []
 touched t (Pay (Close h o)) = t ∷ []
 touched t (Pay (Sweep o)) = t ∷ o ∷ []
 touched t _ = []

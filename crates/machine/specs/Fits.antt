@@ -9,13 +9,15 @@ use Rattle.entry_log.specs.declared.effect.Holder.{Holder}
 use Rattle.entry_log.specs.declared.effect.Holder.TheVariants.{InProcess, InThread, Temp}
 use Rattle.entry_log.specs.declared.step.Part.{Part}
 use Rattle.machine.specs.declared.moves.Move.{Move}
-use Rattle.machine.specs.declared.moves.Move.TheVariants.{Make, Gain, Lose, Find, Miss, GoOn, Write, Advance, Wait, Wake, SetPriority, Nano, Deferred, Requests, Locks, Fill, Pay}
+use Rattle.machine.specs.declared.moves.Move.TheVariants.{Make, Gain, Lose, Find, Miss, GoOn, Write, Advance, Wait, Wake, SetPriority, Nano, Deferred, Requests, Locks, Death, Fill, Pay}
+use Rattle.machine.specs.declared.death_move.DeathMove.{DeathMove}
+use Rattle.machine.specs.declared.death_move.DeathMove.TheVariants.{Doom}
 use Rattle.machine.specs.declared.nano_move.NanoMove.{NanoMove}
 use Rattle.machine.specs.declared.nano_move.NanoMove.TheVariants.{Take, Give, Want, Suspend}
 use Rattle.machine.specs.declared.deferred_move.DeferredMove.{DeferredMove}
 use Rattle.machine.specs.declared.deferred_move.DeferredMove.TheVariants.{AddImmediate, AddFromInterrupt, Add, TakeImmediate, Take as TakeCall}
 use Rattle.machine.specs.declared.request_move.RequestMove.{RequestMove}
-use Rattle.machine.specs.declared.request_move.RequestMove.TheVariants.{Begin, Complete, TakeSignal}
+use Rattle.machine.specs.declared.request_move.RequestMove.TheVariants.{Begin, Complete, SetPending, Signal as SignalStatus, DropAll, TakeSignal}
 use Rattle.state_rows.specs.declared.deferred.DeferredRows.{DeferredRows}
 use Rattle.state_rows.specs.Deferred.{queue_of}
 use Rattle.state_rows.specs.declared.requests.RequestRows.{RequestRows}
@@ -31,7 +33,7 @@ use Rattle.machine.specs.References.{total}
 use Rattle.machine.specs.Moves.{moved, tell}
 use Rattle.machine.specs.Task.{instructions_of, is_returning}
 use Rattle.machine.specs.HeldIn.{owed_by}
-use Rattle.machine.specs.WellFormed.{IsAlive, AreRows, Awaits, is_before_use, part_of, weight}
+use Rattle.machine.specs.WellFormed.{IsAlive, AreRows, Awaits, IsOwnerOf, is_before_use, part_of, weight}
 use Rattle.machine.specs.Choice.{priority_of}
 use Rattle.state_rows.specs.declared.locks.Locked.{Locked}
 use Rattle.state_rows.specs.declared.locks.Locked.TheVariants.{Waits}
@@ -40,7 +42,7 @@ use Rattle.state_rows.specs.declared.locks.Signalled.{Signalled}
 use Rattle.state_rows.specs.Locks.{owner_at, count_at, waiters_at, best_waiter, is_among}
 use Rattle.state_rows.specs.LockChanges.{lock_answer, unlock_answer, signal_answer}
 use Rattle.machine.specs.declared.lock_move.LockMove.{LockMove}
-use Rattle.machine.specs.declared.lock_move.LockMove.TheVariants.{Start, Lock, Unlock, WaitOn, Signal}
+use Rattle.machine.specs.declared.lock_move.LockMove.TheVariants.{Start, Lock, Unlock, Free, Leave, WaitOn, Signal}
 
 -- the slot of a table that is taken next: the least that nothing stands in
 pub record IsFreeSlot (S : State) (owner : ObjNo) (i : ℕ) : Type 0 where
@@ -126,10 +128,21 @@ pub record MayBegin (r : RequestRows) (d : ℕ) (t : ObjNo) (s : ℕ) : Type 0 w
   pub free : request_at r d ≡ None
   pub done : is_pending r t s ≡ false
 
--- A move in the rows of requests fits them: what it names is there, a request begins where it may, and the device's own is completed.
+-- a status that may be completed: it is pending, and no device has its request
+pub record MayComplete (r : RequestRows) (t : ObjNo) (s : ℕ) : Type 0 where
+  pub thread : t.0 < length r.signals
+  pub status : s < 16
+  pub waits : is_pending r t s ≡ true
+  pub alone : (d : ℕ) → request_at r d ≡ Some (record { thread = t; status = s }) → ⊥
+
+-- A move in the rows of requests fits them: what it names is there, a request begins where it may, the device's own is completed, and so is a
+-- status that no device has.
 abbrev pub FitsRequests : RequestMove → RequestRows → Type 0
 FitsRequests (Begin d t s) r = MayBegin r d t s
 FitsRequests (Complete d t s code) r = (d < length r.devices) × (request_at r d ≡ Some (record { thread = t; status = s }))
+FitsRequests (SetPending t s) r = (t.0 < length r.signals) × (s < 16)
+FitsRequests (SignalStatus t s code) r = MayComplete r t s
+FitsRequests (DropAll t) r = t.0 < length r.signals
 FitsRequests (TakeSignal t) r = t.0 < length r.signals
 
 -- whether a thread stands among no waiters
@@ -166,6 +179,16 @@ pub record MayUnlock (S : State) (o t : ObjNo) (unlocked : Unlocked) : Type 0 wh
   pub going : is_returning (part_of (thread_of S t)) ≡ false
   pub answer : unlocked ≡ unlock_answer (owner_at S.locks o) t (best_waiter (priority_of S) S.locks o)
 
+-- a thread that may give a mutex up with all its levels, to this waiter where there is one: it owns it, stands among no waiters, and isn't
+-- between a find and its return
+pub record MayFree (S : State) (o t : ObjNo) (best : Option ObjNo) : Type 0 where
+  pub object : o.0 < length S.objects
+  pub thread : is_some (thread_of S t) ≡ true
+  pub nowhere : WaitsNowhere S t
+  pub going : is_returning (part_of (thread_of S t)) ≡ false
+  pub owns : IsOwnerOf S.locks t o
+  pub chosen : best ≡ best_waiter (priority_of S) S.locks o
+
 -- a thread that may wait on an object: it joins the waiters at count 0
 pub record MayWaitOn (S : State) (o t : ObjNo) : Type 0 where
   pub alive : IsAlive (object_of S o)
@@ -177,13 +200,20 @@ pub record MaySignal (S : State) (o : ObjNo) (signalled : Signalled) : Type 0 wh
   pub answer : signalled ≡ signal_answer (best_waiter (priority_of S) S.locks o) (count_at S.locks o)
 
 -- A move in the rows of mutexes and semaphores, in an action of thread t, fits the state: its answer is the one that they
--- give, and only the acting thread unlocks a mutex.
+-- give, and only the acting thread gives a mutex up.
 abbrev pub FitsLocks : ObjNo → LockMove → State → Type 0
 FitsLocks t (Start o count) S = MayStart S o count
 FitsLocks t (Lock o u locked) S = MayLock S o u locked
 FitsLocks t (Unlock o u unlocked) S = (u ≡ t) × MayUnlock S o u unlocked
+FitsLocks t (Free o u best) S = (u ≡ t) × MayFree S o u best
+FitsLocks t (Leave u) S = is_some (thread_of S u) ≡ true
 FitsLocks t (WaitOn o u) S = MayWaitOn S o u
 FitsLocks t (Signal o signalled) S = MaySignal S o signalled
+
+-- A move in the row of a thread that dies fits the state: who is doomed stands among no waiters.
+abbrev pub FitsDeath : DeathMove → State → Type 0
+FitsDeath (Doom u exit) S = WaitsNowhere S u
+FitsDeath _ S = Unit {0}
 
 -- A move in an action of thread t fits the state. What is owed is paid by an action of its own.
 abbrev pub FitsMove : Script → ObjNo → Move → State → Type 0
@@ -202,6 +232,7 @@ FitsMove script t (Nano m) S = (is_some (thread_of S (nano_thread m)) ≡ true) 
 FitsMove script t (Deferred m) S = FitsDeferred m S.deferred
 FitsMove script t (Requests m) S = FitsRequests m S.requests
 FitsMove script t (Locks m) S = FitsLocks t m S
+FitsMove script t (Death m) S = FitsDeath m S
 FitsMove script t (Fill p at length byte) S = at + length ≤ 1024
 FitsMove script t (Pay what) S = ⊥
 

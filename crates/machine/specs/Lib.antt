@@ -5,6 +5,7 @@ pub mod Choice
 pub mod Close
 pub mod Create
 pub mod CriticalSection
+pub mod DeathMoves
 pub mod Decide
 pub mod DeferredMoves
 pub mod Dup

@@ -5,9 +5,9 @@ use Rattle.entry_log.specs.declared.effect.Effect.{Effect}
 use Rattle.entry_log.specs.declared.effect.Effect.TheVariants as effect
 use Rattle.entry_log.specs.declared.effect.LockNo.TheVariants.{Fast}
 use Rattle.state_rows.specs.declared.nano.NanoRows.{NanoRows}
-use Rattle.state_rows.specs.NanoChanges.{after_take, after_give, after_want, after_enter, after_leave, after_leave_all, after_suspend, after_resume, after_signal, after_wait}
+use Rattle.state_rows.specs.NanoChanges.{after_take, after_give, after_want, after_enter, after_leave, after_leave_all, after_suspend, after_resume, after_resume_all, after_signal, after_wait}
 use Rattle.machine.specs.declared.nano_move.NanoMove.{NanoMove}
-use Rattle.machine.specs.declared.nano_move.NanoMove.TheVariants.{Take, Give, Want, Enter, Leave, LeaveAll, Suspend, Resume, Raise, Lower}
+use Rattle.machine.specs.declared.nano_move.NanoMove.TheVariants.{Take, Give, Want, Enter, Leave, LeaveAll, Suspend, Resume, Release, Raise, Lower}
 
 -- the rows after a move; a thread that takes a fast mutex wants none any more
 abbrev pub nano_moved : NanoMove → NanoRows → NanoRows
@@ -19,6 +19,7 @@ nano_moved (Leave t) r = after_leave r t
 nano_moved (LeaveAll t) r = after_leave_all r t
 nano_moved (Suspend t) r = after_suspend r t
 nano_moved (Resume t) r = after_resume r t
+nano_moved (Release t) r = after_want (after_resume_all r t) t None
 nano_moved (Raise t) r = after_signal r t
 nano_moved (Lower t) r = after_wait r t
 
@@ -38,5 +39,6 @@ nano_thread (Leave t) = t
 nano_thread (LeaveAll t) = t
 nano_thread (Suspend t) = t
 nano_thread (Resume t) = t
+nano_thread (Release t) = t
 nano_thread (Raise t) = t
 nano_thread (Lower t) = t

@@ -4,6 +4,7 @@
 
 mod boot;
 mod count;
+mod death_move;
 mod decision;
 mod deferred_move;
 mod handles;
@@ -21,6 +22,7 @@ mod touches;
 
 pub use boot::{Born, all_born, boot_of, state_at_boot};
 pub use count::{count_of, is_counted, is_last};
+pub use death_move::{DeathMove, wait_ended};
 pub use decision::{Decision, Outcome, entry_of};
 pub use deferred_move::DeferredMove;
 pub use handles::{NewHandle, holder_of, owner_of, process_handle, thread_handle};

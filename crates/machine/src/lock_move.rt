@@ -13,6 +13,11 @@ pub enum LockMove {
     /// The thread unlocks the mutex: it holds it once less, or gives it up. Then it owes the close of its ownership, and
     /// where somebody waits, the waiter takes the mutex and owns it.
     Unlock(ObjNo, ThreadNo, Unlocked),
+    /// The thread, which owns the mutex, gives it up with all its levels, as with the last level that is unlocked: this
+    /// waiter takes it, where there is one.
+    Free(ObjNo, ThreadNo, Option<ThreadNo>),
+    /// The thread stands among no waiters any more.
+    Leave(ThreadNo),
     /// The thread waits on the semaphore: the count falls, or at 0 the thread stands among the waiters.
     WaitOn(ObjNo, ThreadNo),
     /// The semaphore is signalled: its count rises, or a waiter goes on.

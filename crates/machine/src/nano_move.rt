@@ -24,6 +24,8 @@ pub enum NanoMove {
     Suspend(ThreadNo),
     /// One suspension of the thread is taken back.
     Resume(ThreadNo),
+    /// The thread isn't suspended any more, and wants no fast mutex.
+    Release(ThreadNo),
     /// The thread's fast semaphore gets a signal.
     Raise(ThreadNo),
     /// The thread takes a signal from its fast semaphore.
@@ -44,6 +46,7 @@ impl NanoMove {
             | NanoMove::LeaveAll(thread)
             | NanoMove::Suspend(thread)
             | NanoMove::Resume(thread)
+            | NanoMove::Release(thread)
             | NanoMove::Raise(thread)
             | NanoMove::Lower(thread) => thread,
         }

@@ -10,6 +10,12 @@ pub enum RequestMove {
     /// The device's request, of this thread and status, is completed with a code: the status has it, and the thread
     /// one signal more.
     Complete(u8, ThreadNo, u8, i32),
+    /// The thread's status is pending from now on.
+    SetPending(ThreadNo, u8),
+    /// The thread's status is completed with a code: it has that, and the thread one signal more.
+    Signal(ThreadNo, u8, i32),
+    /// No device has a request of the thread any more.
+    DropAll(ThreadNo),
     /// The thread takes a signal from its request semaphore.
     TakeSignal(ThreadNo),
 }

@@ -41,9 +41,10 @@ pub fn touched(thread: ThreadNo, change: &Move) -> TouchedThreads
         | Move::Advance(other)
         | Move::Wait(other, _)
         | Move::Wake(other)
-        | Move::Locks(LockMove::Unlock(_, other, _))
+        | Move::Locks(LockMove::Unlock(_, other, _) | LockMove::Free(_, other, _))
         | Move::SetPriority(other, _) => one(other),
         Move::Nano(change) => one(change.thread()),
+        Move::Death(change) => one(change.thread()),
         Move::Deferred(DeferredMove::Add(_, queue) | DeferredMove::Take(queue)) => {
             one(thread_of_queue(queue))
         }

@@ -2,6 +2,7 @@
 pub mod Sound
 pub mod RowMoves
 pub mod LockMoves
+pub mod DeathMoves
 pub mod NanoMoves
 pub mod CallMoves
 pub mod Advance

@@ -8,13 +8,16 @@ use Rattle.entry_log.specs.declared.effect.Holder.TheVariants as holder
 use Rattle.state_rows.specs.declared.duty.Owed.TheVariants.{Close, Sweep}
 use Rattle.state_rows.specs.declared.object.ObjectRow.{ObjectRow}
 use Rattle.state_rows.specs.ObjectRows.{dead_row}
+use Rattle.machine.specs.declared.death_move.DeathMove.{DeathMove}
+use Rattle.machine.specs.declared.death_move.DeathMove.TheVariants.{Note, Doom, Clean}
 use Rattle.machine.specs.declared.moves.Move.{Move}
-use Rattle.machine.specs.declared.moves.Move.TheVariants.{Make, Gain, Lose, Find, Miss, GoOn, Write, Advance, Wait, Wake, SetPriority, Nano, Deferred, Requests, Locks, Fill, Pay}
+use Rattle.machine.specs.declared.moves.Move.TheVariants.{Make, Gain, Lose, Find, Miss, GoOn, Write, Advance, Wait, Wake, SetPriority, Nano, Deferred, Requests, Locks, Death, Fill, Pay}
 use Rattle.state_rows.specs.declared.handle_slot.HandleSlot.{HandleSlot}
 use Rattle.state_rows.specs.declared.thread.Waiting.TheVariants.{Nothing}
 use Rattle.state_rows.specs.declared.thread.ThreadRow.{ThreadRow}
 use Rattle.machine.specs.declared.state.State.{State}
 use Rattle.state_rows.specs.HandleSlots.{slot_at, fresh_slot}
+use Rattle.machine.specs.DeathMoves.{death_row, death_thread}
 use Rattle.machine.specs.Handles.{with_slot, taken_slot, freed_slot}
 use Rattle.machine.specs.Moves.{moved, with_use, unlinked, with_found, with_part, with_register, advanced, with_waiting, with_priority, tables_gain, tables_lose, threads_gain, threads_lose, threads_closed, objects_closed, next_object, new_object}
 use Rattle.machine.specs.References.{is_last}
@@ -127,6 +130,12 @@ with_threads n S T same tables may room = record {
   tables = subst AreSmallTables (sym tables) room.tables;
 }
 
+-- a death stays at the instruction
+death_stays : (m : DeathMove) → StaysAt (death_row m)
+death_stays (Note t exit) row = refl
+death_stays (Doom t exit) row = refl
+death_stays (Clean t) row = refl
+
 -- a move takes one away
 pub room_moved : (t : ObjNo) (m : Move) (n : ℕ) (S : State) → HasRoom (n + 1) S → HasRoom n (moved t m S)
 room_moved t (Make kind name h) n S room = record {
@@ -156,6 +165,7 @@ room_moved t (Nano m) n S room = with_threads n S (moved t (Nano m) S) refl refl
 room_moved t (Deferred m) n S room = with_threads n S (moved t (Deferred m) S) refl refl (threads_less n (n + 1) (omega arith) S.threads room.instructions) room
 room_moved t (Requests m) n S room = with_threads n S (moved t (Requests m) S) refl refl (threads_less n (n + 1) (omega arith) S.threads room.instructions) room
 room_moved t (Locks m) n S room = with_threads n S (moved t (Locks m) S) refl refl (threads_less n (n + 1) (omega arith) S.threads room.instructions) room
+room_moved t (Death m) n S room = with_threads n S (moved t (Death m) S) refl refl (row_stays (death_row m) (death_stays m) n S.threads (death_thread m) (threads_less n (n + 1) (omega arith) S.threads room.instructions)) room
 room_moved t (Fill p at long byte) n S room = with_threads n S (moved t (Fill p at long byte) S) refl refl (threads_less n (n + 1) (omega arith) S.threads room.instructions) room
 room_moved t (Pay (Close h o)) n S room = record {
   objects = let few = room.objects in let long = length_closed (is_last S o) o S.objects in omega arith;

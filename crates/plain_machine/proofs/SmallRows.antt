@@ -9,9 +9,9 @@ use Rattle.state_rows.specs.declared.nano.NanoRows.{NanoRows}
 use Rattle.state_rows.specs.Nano.{suspend_count, is_free, is_holder}
 use Rattle.readings.specs.Readable.{AreSmallRows}
 use Rattle.machine.specs.declared.moves.Move.{Move}
-use Rattle.machine.specs.declared.moves.Move.TheVariants.{Make, Gain, Lose, Find, Miss, GoOn, Write, Advance, Wait, Wake, SetPriority, Nano, Deferred, Requests, Locks, Fill, Pay}
+use Rattle.machine.specs.declared.moves.Move.TheVariants.{Make, Gain, Lose, Find, Miss, GoOn, Write, Advance, Wait, Wake, SetPriority, Nano, Deferred, Requests, Locks, Death, Fill, Pay}
 use Rattle.machine.specs.declared.nano_move.NanoMove.{NanoMove}
-use Rattle.machine.specs.declared.nano_move.NanoMove.TheVariants.{Take, Give, Want, Enter, Leave, LeaveAll, Suspend, Resume, Raise, Lower}
+use Rattle.machine.specs.declared.nano_move.NanoMove.TheVariants.{Take, Give, Want, Enter, Leave, LeaveAll, Suspend, Resume, Release, Raise, Lower}
 use Rattle.machine.specs.declared.state.State.{State}
 use Rattle.machine.specs.Moves.{moved}
 use Rattle.machine.specs.NanoMoves.{nano_moved}
@@ -44,6 +44,7 @@ small_nano (Leave t) r small = record { mutexes = small.mutexes; suspensions = s
 small_nano (LeaveAll t) r small = record { mutexes = small.mutexes; suspensions = small.suspensions }
 small_nano (Suspend t) r small = record { mutexes = small.mutexes; suspensions = λ u. limited_more r.suspensions t.0 (suspend_count r t == 127) refl (by_number r small) u.0 }
 small_nano (Resume t) r small = record { mutexes = small.mutexes; suspensions = λ u. limited_set r.suspensions t.0 (suspend_count r t - 1) (let few = small.suspensions t in omega arith) (by_number r small) u.0 }
+small_nano (Release t) r small = record { mutexes = small.mutexes; suspensions = λ u. limited_set r.suspensions t.0 0 (omega arith) (by_number r small) u.0 }
 small_nano (Raise t) r small = record { mutexes = small.mutexes; suspensions = small.suspensions }
 small_nano (Lower t) r small = record { mutexes = small.mutexes; suspensions = small.suspensions }
 
@@ -66,4 +67,5 @@ small_moved t (SetPriority u priority) S small = small
 small_moved t (Deferred m) S small = small
 small_moved t (Requests m) S small = small
 small_moved t (Locks m) S small = small
+small_moved t (Death m) S small = small
 small_moved t (Fill p at long byte) S small = small

@@ -6,6 +6,7 @@ mod arrivals;
 mod calls;
 mod choice;
 mod course;
+mod deaths;
 mod final_rows;
 mod locks;
 mod mutexes;

@@ -1,14 +1,14 @@
 //! Moves in the rows of mutexes and semaphores, made on the plain machine's lists.
-ghost use Rattle.std.specs.Prelude.{◌≡◌, [], ◌∷◌, ◌++◌, OnOk, slice_set};
+ghost use Rattle.std.specs.Prelude.{◌≡◌, [], ◌∷◌, ◌++◌, IfOk, OnOk, map, slice_set};
 ghost use Rattle.state_rows.specs.declared.locks.Locked.TheVariants.{Again};
 ghost use Rattle.state_rows.specs.declared.locks.Unlocked.TheVariants.{Level};
 ghost use Rattle.machine.specs.Moves.{moved};
 ghost use Rattle.machine.specs.LockMoves.{lock_moved, mutexes_moved, owed_moved};
 ghost use Rattle.state_rows.specs.Locks.{count_at, waiters_at, without};
-ghost use Rattle.state_rows.specs.LockChanges.{after_new_row, after_lock, after_unlock, after_wait, after_signal, owner_after_lock, owner_after_unlock, once, counted};
+ghost use Rattle.state_rows.specs.LockChanges.{after_new_row, after_free, after_lock, after_remove, after_unlock, after_wait, after_signal, owner_after_lock, owner_after_unlock, once, counted};
 
 use crate::arrivals::unlisted;
-use crate::mutexes::{owe_own, set_holding, set_not_holding};
+use crate::mutexes::{give_up, owe_own, set_holding};
 use crate::nano::{one_more, set_count};
 use machine::{LockMove, LockRows, Move, Owed, State, row_of, set_row};
 use state_rows::{Locked, MAX_COUNT, Owner, Signalled, Unlocked};
@@ -48,6 +48,29 @@ fn leave(
         let waiters = rows.waiters.get_mut(at);
         *waiters = Items::new(unlisted(alloc, thread, waiters.as_slice())?);
     }
+    Ok(())
+}
+
+/// The waiters of each object without a thread.
+fn left(
+    alloc: Global,
+    waiters: &[Items<ThreadNo>],
+    thread: ThreadNo,
+) -> Result<Items<Items<ThreadNo>>, NoMemory>
+    ensures { IfOk result (λ left. left ≡ map (without thread) waiters.now) }
+{
+    let mut left = Vec::new(alloc);
+    for queue in waiters {
+        left.push(Items::new(unlisted(alloc, thread, queue.as_slice())?))?;
+    }
+    Ok(Items::new(left))
+}
+
+/// A thread stands among no waiters any more.
+fn leave_all(alloc: Global, rows: &mut LockRows, thread: ThreadNo) -> Result<(), NoMemory>
+    ensures { OnOk result (rows.new ≡ after_remove rows.old thread) }
+{
+    rows.waiters = left(alloc, rows.waiters.as_slice(), thread)?;
     Ok(())
 }
 
@@ -124,6 +147,21 @@ fn unlock(
     Ok(())
 }
 
+/// A mutex goes to this waiter with all its levels, where there is one, and else it is free.
+fn free(
+    alloc: Global,
+    rows: &mut LockRows,
+    object: ObjNo,
+    best: Option<ThreadNo>,
+) -> Result<(), NoMemory>
+    ensures { OnOk result (rows.new ≡ after_free rows.old object best) }
+{
+    match best {
+        Some(waiter) => unlock(alloc, rows, object, Unlocked::Passed(waiter)),
+        None => unlock(alloc, rows, object, Unlocked::Freed),
+    }
+}
+
 /// A thread waits on a semaphore.
 fn wait_on(rows: &mut LockRows, object: ObjNo, thread: ThreadNo) -> Result<(), NoMemory>
     ensures { OnOk result (rows.new ≡ after_wait rows.old object thread) }
@@ -171,6 +209,8 @@ fn move_rows(alloc: Global, rows: &mut LockRows, change: LockMove) -> Result<(),
         LockMove::Start(object, count) => set_count(&mut rows.counts, object, count),
         LockMove::Lock(object, thread, locked) => return lock(rows, object, thread, locked),
         LockMove::Unlock(object, _, unlocked) => return unlock(alloc, rows, object, unlocked),
+        LockMove::Free(object, _, best) => return free(alloc, rows, object, best),
+        LockMove::Leave(thread) => return leave_all(alloc, rows, thread),
         LockMove::WaitOn(object, thread) => return wait_on(rows, object, thread),
         LockMove::Signal(object, signalled) => return signal(alloc, rows, object, signalled),
     }
@@ -188,12 +228,12 @@ fn move_mutexes(
     match change {
         LockMove::Lock(object, thread, Locked::Taken) => set_holding(mutexes, thread, object),
         LockMove::Unlock(object, thread, Unlocked::Freed) => {
-            set_not_holding(alloc, mutexes, thread, object)
+            give_up(alloc, mutexes, thread, object, None)
         }
         LockMove::Unlock(object, thread, Unlocked::Passed(waiter)) => {
-            set_not_holding(alloc, mutexes, thread, object)?;
-            set_holding(mutexes, waiter, object)
+            give_up(alloc, mutexes, thread, object, Some(waiter))
         }
+        LockMove::Free(object, thread, best) => give_up(alloc, mutexes, thread, object, best),
         _ => Ok(()),
     }
 }
@@ -203,9 +243,8 @@ fn move_owed(owed: &mut Items<Items<Owed>>, change: LockMove) -> Result<(), NoMe
     ensures { OnOk result (owed.new ≡ owed_moved change owed.old) }
 {
     match change {
-        LockMove::Unlock(object, thread, Unlocked::Freed | Unlocked::Passed(_)) => {
-            owe_own(owed, thread, object)
-        }
+        LockMove::Unlock(object, thread, Unlocked::Freed | Unlocked::Passed(_))
+        | LockMove::Free(object, thread, _) => owe_own(owed, thread, object),
         _ => Ok(()),
     }
 }

@@ -1,6 +1,6 @@
 //! The mutexes that threads hold, in order of taking.
 ghost use Rattle.std.specs.Prelude.{◌≡◌, [], ◌∷◌, OnOk};
-ghost use Rattle.machine.specs.LockMoves.{holding, not_holding};
+ghost use Rattle.machine.specs.LockMoves.{holding, not_holding, taken_by};
 ghost use Rattle.machine.specs.Rows.{owing};
 ghost use Rattle.state_rows.specs.Locks.{without};
 ghost use Rattle.state_rows.specs.declared.duty.Owed.TheVariants.{Close};
@@ -28,7 +28,7 @@ pub fn set_holding(
 }
 
 /// A thread doesn't hold a mutex any more.
-pub fn set_not_holding(
+fn set_not_holding(
     alloc: Global,
     mutexes: &mut Items<Items<ObjNo>>,
     thread: ThreadNo,
@@ -58,4 +58,21 @@ pub fn owe_own(
             .push(Owed::Close(Holder::Own(thread), mutex))?;
     }
     Ok(())
+}
+
+/// A thread doesn't hold a mutex any more, and this waiter holds it, where there is one.
+pub fn give_up(
+    alloc: Global,
+    mutexes: &mut Items<Items<ObjNo>>,
+    thread: ThreadNo,
+    mutex: ObjNo,
+    waiter: Option<ThreadNo>,
+) -> Result<(), NoMemory>
+    ensures { OnOk result (mutexes.new ≡ taken_by waiter mutex (not_holding mutexes.old thread mutex)) }
+{
+    set_not_holding(alloc, mutexes, thread, mutex)?;
+    match waiter {
+        Some(waiter) => set_holding(mutexes, waiter, mutex),
+        None => Ok(()),
+    }
 }

@@ -2,7 +2,7 @@
 ghost use Rattle.std.specs.Prelude.{◌≡◌, None, slice_set};
 ghost use Rattle.readings.specs.Readable.{AreSmallRows};
 ghost use Rattle.machine.specs.NanoMoves.{nano_moved};
-ghost use Rattle.state_rows.specs.NanoChanges.{one_more, after_take, after_give, after_want, after_enter, after_leave, after_leave_all, after_suspend, after_resume, after_signal, after_wait};
+ghost use Rattle.state_rows.specs.NanoChanges.{one_more, after_take, after_give, after_want, after_enter, after_leave, after_leave_all, after_suspend, after_resume, after_resume_all, after_signal, after_wait};
 
 use machine::{
     NanoMove, NanoRows, critical_count, is_thread, mutex_holder, set_row, signal_count,
@@ -98,6 +98,14 @@ fn resume(rows: &mut NanoRows, thread: ThreadNo)
     set_count(&mut rows.suspensions, thread, count);
 }
 
+/// The thread isn't suspended any more, and wants no fast mutex.
+fn release(rows: &mut NanoRows, thread: ThreadNo)
+    ensures { rows.new ≡ after_want (after_resume_all rows.old thread) thread None }
+{
+    set_count(&mut rows.suspensions, thread, 0);
+    set_row(&mut rows.wants, thread, None);
+}
+
 /// The thread's fast semaphore gets a signal.
 fn raise(rows: &mut NanoRows, thread: ThreadNo)
     ensures { rows.new ≡ after_signal rows.old thread }
@@ -128,6 +136,7 @@ pub fn make_nano_move(rows: &mut NanoRows, change: NanoMove)
         NanoMove::LeaveAll(thread) => leave_all(rows, thread),
         NanoMove::Suspend(thread) => suspend(rows, thread),
         NanoMove::Resume(thread) => resume(rows, thread),
+        NanoMove::Release(thread) => release(rows, thread),
         NanoMove::Raise(thread) => raise(rows, thread),
         NanoMove::Lower(thread) => lower(rows, thread),
     }

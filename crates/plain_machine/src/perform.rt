@@ -6,6 +6,7 @@ ghost use Rattle.machine.specs.Moves.{tables_gain, threads_gain, tables_lose, th
 ghost use Rattle.machine.specs.Room.{HasRoom, AreSmallTables};
 
 use crate::calls::make_deferred_move;
+use crate::deaths::make_death_move;
 use crate::locks::make_lock_move;
 use crate::nano::make_nano_move;
 use crate::requests::make_request_move;
@@ -223,8 +224,9 @@ pub fn make_move(
         ),
         Move::Nano(change) => make_nano_move(&mut state.nano, change),
         Move::Deferred(change) => return make_deferred_move(alloc, state, change),
-        Move::Requests(change) => make_request_move(state, change),
+        Move::Requests(change) => return make_request_move(alloc, state, change),
         Move::Locks(change) => return make_lock_move(alloc, state, thread, change),
+        Move::Death(change) => make_death_move(&mut state.threads, &change),
         Move::Fill(process, at, length, byte) => {
             return fill_memory(alloc, &mut state.memories, process, at, length, byte);
         }

@@ -1,13 +1,14 @@
 //! Moves in the rows of requests, made on the plain machine's lists.
-ghost use Rattle.std.specs.Prelude.{◌≡◌, slice_set};
+ghost use Rattle.std.specs.Prelude.{◌≡◌, IfOk, OnOk, map, slice_set};
 ghost use Rattle.machine.specs.RequestMoves.{request_moved};
-ghost use Rattle.state_rows.specs.RequestChanges.{after_begin, after_finish, after_set_pending, after_signal, after_take, with_status};
+ghost use Rattle.state_rows.specs.RequestChanges.{after_begin, after_drop, after_finish, after_set_pending, after_signal, after_take, with_status, without};
 
 use crate::nano::{one_more, set_count};
 use machine::{RequestMove, State, set_row};
 use readings::Reads;
 use state_rows::{PENDING, Request, STATUSES};
-use sym_base::{Items, ObjNo, ThreadNo};
+use std::alloc::Global;
+use sym_base::{Items, NoMemory, ObjNo, ThreadNo};
 
 /// The values of a thread's statuses, of which one is another.
 fn with_value(values: [i32; STATUSES], status: u8, value: i32) -> [i32; STATUSES]
@@ -67,9 +68,46 @@ fn take_signal(state: &mut State, thread: ThreadNo)
     set_count(&mut state.requests.signals, thread, count);
 }
 
+/// A request, unless it is the thread's.
+fn unless_of(thread: ThreadNo, request: Option<Request>) -> Option<Request>
+    ensures { result ≡ without thread request }
+{
+    match request {
+        Some(request) if request.thread.0 == thread.0 => None,
+        _ => request,
+    }
+}
+
+/// The devices' requests but for those of the thread.
+fn dropped(
+    alloc: Global,
+    devices: &[Option<Request>],
+    thread: ThreadNo,
+) -> Result<Items<Option<Request>>, NoMemory>
+    ensures { IfOk result (λ left. left ≡ map (without thread) devices.now) }
+{
+    let mut left = Vec::new(alloc);
+    for request in devices {
+        left.push(unless_of(thread, *request))?;
+    }
+    Ok(Items::new(left))
+}
+
+/// No device has a request of the thread any more.
+fn drop_all(alloc: Global, state: &mut State, thread: ThreadNo) -> Result<(), NoMemory>
+    ensures { OnOk result (state.new ≡ record state.old { requests = after_drop state.old.requests thread }) }
+{
+    state.requests.devices = dropped(alloc, state.requests.devices.as_slice(), thread)?;
+    Ok(())
+}
+
 /// One move in the rows of requests.
-pub fn make_request_move(state: &mut State, change: RequestMove)
-    ensures { state.new ≡ record state.old { requests = request_moved change state.old.requests } }
+pub fn make_request_move(
+    alloc: Global,
+    state: &mut State,
+    change: RequestMove,
+) -> Result<(), NoMemory>
+    ensures { OnOk result (state.new ≡ record state.old { requests = request_moved change state.old.requests }) }
 {
     match change {
         RequestMove::Begin(device, thread, status) => begin(state, device, thread, status),
@@ -77,6 +115,12 @@ pub fn make_request_move(state: &mut State, change: RequestMove)
             finish(state, device);
             signal(state, thread, status, code);
         }
+        RequestMove::SetPending(thread, status) => {
+            set_status(&mut state.requests.statuses, thread, status, PENDING);
+        }
+        RequestMove::Signal(thread, status, code) => signal(state, thread, status, code),
+        RequestMove::DropAll(thread) => return drop_all(alloc, state, thread),
         RequestMove::TakeSignal(thread) => take_signal(state, thread),
     }
+    Ok(())
 }

@@ -3,6 +3,7 @@ ghost use Rattle.std.specs.Prelude.{◌≡◌, ◌+◌, ◌≤◌, [], ◌∷◌
 ghost use Rattle.machine.specs.Moves.{closed_effects, told};
 ghost use Rattle.machine.specs.NanoMoves.{nano_told};
 ghost use Rattle.machine.specs.RequestMoves.{request_told};
+ghost use Rattle.machine.specs.DeathMoves.{death_told};
 ghost use Rattle.machine.specs.LockMoves.{lock_told};
 ghost use Rattle.entry_log.specs.declared.effect.Effect.TheVariants.{Plus, Take};
 ghost use Rattle.entry_log.specs.declared.effect.Holder.TheVariants.{Own};
@@ -10,7 +11,7 @@ ghost use Rattle.entry_log.specs.declared.effect.LockNo.TheVariants.{Object};
 
 use crate::reads::Reads;
 use entry_log::{Effect, Effects, Holder, LockNo, StatusNo};
-use machine::{LockMove, Move, NanoMove, Owed, RequestMove};
+use machine::{DeathMove, LockMove, Move, NanoMove, Owed, RequestMove};
 use state_rows::{Locked, Unlocked};
 use sym_base::{ObjNo, ThreadNo};
 
@@ -65,9 +66,15 @@ fn tell_request(effects: &mut Effects, change: RequestMove)
 {
     match change {
         RequestMove::Complete(_, thread, status, code) => {
-            effects.push(Effect::Signal(thread, StatusNo::Async(status), code))
+            effects.push(Effect::Signal(thread, StatusNo::Async(status), code));
         }
-        RequestMove::Begin(_, _, _) | RequestMove::TakeSignal(_) => {}
+        RequestMove::Signal(thread, status, code) => {
+            effects.push(Effect::Signal(thread, StatusNo::Async(status), code));
+        }
+        RequestMove::Begin(_, _, _)
+        | RequestMove::SetPending(_, _)
+        | RequestMove::DropAll(_)
+        | RequestMove::TakeSignal(_) => {}
     }
 }
 
@@ -94,7 +101,24 @@ fn tell_lock(effects: &mut Effects, change: LockMove)
             effects.push(Effect::Give(thread, LockNo::Object(mutex)));
             tell_taken(effects, waiter, mutex);
         }
+        LockMove::Free(mutex, thread, best) => {
+            effects.push(Effect::Give(thread, LockNo::Object(mutex)));
+            if let Some(waiter) = best {
+                tell_taken(effects, waiter, mutex);
+            }
+        }
         _ => {}
+    }
+}
+
+/// Tells a move in the row of a thread that dies: who is doomed.
+fn tell_death(effects: &mut Effects, change: DeathMove)
+    requires { length effects.old + length (death_told change) ≤ 4 }
+    ensures { effects.new ≡ effects.old ++ death_told change }
+{
+    match change {
+        DeathMove::Doom(thread, _) => effects.push(Effect::Doom(thread)),
+        DeathMove::Note(_, _) | DeathMove::Clean(_) => {}
     }
 }
 
@@ -116,6 +140,7 @@ pub fn tell<R: Reads>(effects: &mut Effects, reads: &R, change: &Move)
         Move::Nano(change) => tell_nano(effects, change),
         Move::Requests(change) => tell_request(effects, change),
         Move::Locks(change) => tell_lock(effects, change),
+        Move::Death(change) => tell_death(effects, change),
         Move::GoOn(_, _)
         | Move::Write(_, _, _)
         | Move::Advance(_)

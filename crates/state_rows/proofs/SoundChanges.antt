@@ -4,7 +4,7 @@ use Rattle.std.specs.Prelude.{◌==◌, Option, Some, None, if◌then◌else◌}
 use Rattle.sym_base.specs.declared.number.ObjNo.{ObjNo}
 use Rattle.state_rows.specs.declared.nano.NanoRows.{NanoRows}
 use Rattle.state_rows.specs.Nano.{suspend_count, holder_of, held_by, is_holder}
-use Rattle.state_rows.specs.NanoChanges.{after_take, after_give, after_want, after_suspend, after_resume}
+use Rattle.state_rows.specs.NanoChanges.{after_take, after_give, after_want, after_suspend, after_resume, after_resume_all}
 use Rattle.state_rows.specs.NanoSound.{AreNanoRows}
 use Rattle.state_rows.proofs.Soundness.{sound_taken}
 
@@ -64,6 +64,9 @@ sound-suspend r t few sound = by (suspend_count r t == 127)
 
 pub sound-resume : (r : NanoRows) (t : ObjNo) → AreNanoRows r → AreNanoRows (after_resume r t)
 sound-resume r t sound = sound-suspensions r t (suspend_count r t - 1) (let few = sound.limited t in omega arith) sound
+
+pub sound-resume_all : (r : NanoRows) (t : ObjNo) → AreNanoRows r → AreNanoRows (after_resume_all r t)
+sound-resume_all r t sound = sound-suspensions r t 0 (omega arith) sound
 
 -- a fast mutex that a thread wants is one of the fast mutexes
 pub sound-want : (r : NanoRows) (t : ObjNo) (want : Option ℕ) → ((f : ℕ) → want ≡ Some f → f < length r.holders) → AreNanoRows r → AreNanoRows (after_want r t want)

@@ -48,6 +48,10 @@ after_suspend r t = record r { suspensions = if suspend_count r t == 127 then r.
 abbrev pub after_resume : NanoRows → ObjNo → NanoRows
 after_resume r t = record r { suspensions = slice_set r.suspensions t.0 (suspend_count r t - 1) }
 
+-- no suspension is left
+abbrev pub after_resume_all : NanoRows → ObjNo → NanoRows
+after_resume_all r t = record r { suspensions = slice_set r.suspensions t.0 0 }
+
 -- the thread wants this fast mutex, or none
 abbrev pub after_want : NanoRows → ObjNo → Option ℕ → NanoRows
 after_want r t f = record r { wants = slice_set r.wants t.0 f }

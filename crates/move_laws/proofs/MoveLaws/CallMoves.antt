@@ -5,7 +5,7 @@ use Rattle.script_types.specs.declared.script.Script.{Script}
 use Rattle.machine.specs.declared.deferred_move.DeferredMove.{DeferredMove}
 use Rattle.machine.specs.declared.moves.Move.TheVariants.{Deferred, Requests}
 use Rattle.machine.specs.declared.request_move.RequestMove.{RequestMove}
-use Rattle.machine.specs.declared.request_move.RequestMove.TheVariants.{Complete}
+use Rattle.machine.specs.declared.request_move.RequestMove.TheVariants.{Complete, Signal}
 use Rattle.machine.specs.declared.state.State.{State}
 use Rattle.machine.specs.DeferredMoves.{deferred_moved}
 use Rattle.machine.specs.Fits.{FitsMove}
@@ -23,6 +23,7 @@ sound-deferred script S t m fits rows = sound-rest script S S.nano (deferred_mov
 -- a signal tells of no reference and no death
 pub request_silent : (S : State) (m : RequestMove) → IsSilent S (request_told m)
 request_silent S (Complete d t s code) = record { quiet = record { minuses = λ p. refl; deaths = λ p. refl; removals = λ p. refl }; pluses = λ p. refl; found = λ p h. absurd (omega arith); fits = (tt, tt); after = λ g x. refl }
+request_silent S (Signal t s code) = record { quiet = record { minuses = λ p. refl; deaths = λ p. refl; removals = λ p. refl }; pluses = λ p. refl; found = λ p h. absurd (omega arith); fits = (tt, tt); after = λ g x. refl }
 request_silent S _ = silent S
 
 pub sound-requests : (script : Script) (S : State) (t : ObjNo) (m : RequestMove) → FitsMove script t (Requests m) S → AreRows script S → Sound script S (moved t (Requests m) S) (told (Requests m) S)

@@ -1,7 +1,7 @@
 -- Moves in the rows of mutexes and semaphores. Whoever takes a mutex owns it: that is a reference. Whoever gives it up owes the
 -- close of it.
 use Rattle.std.proofs.Common.{◌≡◌, ℕ, ◌+◌, ◌<◌, ◌≤◌, List, [], ◌∷◌, ◌++◌, length, get_or, arith, refl, sym, subst, ap, Option, Some, None, Bool, true, false}
-use Rattle.std.specs.Prelude.{◌==◌, if◌then◌else◌, nat_lt}
+use Rattle.std.specs.Prelude.{◌==◌, if◌then◌else◌, is_some, nat_lt}
 use Rattle.std.proofs.lemmas.Bool.{eqb-true}
 use Rattle.std.proofs.lemmas.List.{length-set}
 use Rattle.sym_base.specs.declared.number.ObjNo.{ObjNo}
@@ -21,18 +21,19 @@ use Rattle.state_rows.specs.declared.locks.Unlocked.TheVariants.{Level, Freed, P
 use Rattle.state_rows.specs.LockChanges.{after_lock, after_unlock, lock_answer, passed, unlock_answer}
 use Rattle.state_rows.specs.Locks.{best_waiter, is_among, owner_at, waiters_at, without}
 use Rattle.machine.specs.declared.lock_move.LockMove.{LockMove}
-use Rattle.machine.specs.declared.lock_move.LockMove.TheVariants.{Start, Lock, Unlock, WaitOn, Signal}
+use Rattle.machine.specs.declared.lock_move.LockMove.TheVariants.{Start, Lock, Unlock, Free, Leave, WaitOn, Signal}
 use Rattle.machine.specs.declared.moves.Move.TheVariants.{Locks}
 use Rattle.machine.specs.declared.state.State.{State}
 use Rattle.machine.specs.Choice.{priority_of}
-use Rattle.machine.specs.Fits.{FitsMove, MayJoin, MayLock, MayUnlock}
+use Rattle.machine.specs.Fits.{FitsMove, MayFree, MayJoin, MayLock, MayUnlock, WaitsNowhere}
 use Rattle.machine.specs.HeldIn.{held_in, owed_by}
 use Rattle.machine.specs.LockMoves.{holding, lock_told, not_holding, owed_moved}
 use Rattle.machine.specs.Moves.{moved, told}
 use Rattle.machine.specs.References.{mutex_names, owed_names, same, total}
-use Rattle.machine.specs.Rows.{object_of, owed_of, owing}
+use Rattle.machine.specs.Rows.{object_of, owed_of, owing, thread_of}
+use Rattle.machine.specs.Task.{is_returning}
 use Rattle.machine.specs.Told.{removals}
-use Rattle.machine.specs.WellFormed.{AreDuties, AreLocks, AreRows, IsAlive, owed_sweeps, sweeps_of, weight}
+use Rattle.machine.specs.WellFormed.{AreDuties, AreLocks, AreRows, IsAlive, owed_sweeps, part_of, sweeps_of, weight}
 use Rattle.move_laws.proofs.Holders.HoldersMove.{HoldersMove, holders-none, holders-plus}
 use Rattle.move_laws.proofs.Holders.MutexRows.{rows-holding, rows-not_holding}
 use Rattle.move_laws.proofs.Lists.Totals.{inside, total_at_least}
@@ -47,7 +48,7 @@ use Rattle.move_laws.proofs.References.Mutexes.{count-holding, count-not_holding
 use Rattle.move_laws.proofs.References.Same.{eqb_apart, if_not}
 use Rattle.move_laws.proofs.RowLaws.Duties.{duties-owing, none_owed_by, weight-owing}
 use Rattle.move_laws.proofs.RowLaws.LockChanges.{LockParts, MayStand}
-use Rattle.move_laws.proofs.RowLaws.LockMoves.{given_none, held_once, locks-again, locks-freed, locks-given, locks-level, locks-not_owner, locks-signal, locks-start, locks-taken, locks-wait, locks-waits, none_held}
+use Rattle.move_laws.proofs.RowLaws.LockMoves.{given_none, held_once, locks-again, locks-freed, locks-given, locks-leave, locks-level, locks-not_owner, locks-signal, locks-start, locks-taken, locks-wait, locks-waits, none_held}
 use Rattle.move_laws.proofs.RowLaws.Locks.{thread_inside}
 
 -- the parts of a state that such a move changes
@@ -116,6 +117,14 @@ record IsOwn (owner : Option Owner) (t : ObjNo) : Type 0 where
   pub is : owner ≡ Some own
   pub thread : own.thread.0 ≡ t.0
 
+-- what such a thread has to be
+record Gives (S : State) (o t : ObjNo) : Type 0 where
+  pub object : o.0 < length S.objects
+  pub thread : is_some (thread_of S t) ≡ true
+  pub nowhere : WaitsNowhere S t
+  pub going : is_returning (part_of (thread_of S t)) ≡ false
+  pub owns : IsOwn (owner_at S.locks o) t
+
 freed_by : (owner : Option Owner) (t : ObjNo) (best : Option ObjNo) → Freed ≡ unlock_answer owner t best → IsOwn owner t
 freed_by None t best e = absurd (cc)
 freed_by (Some w) t best e = by (w.thread.0 == t.0) refl e
@@ -162,12 +171,12 @@ sound-lock script S t o u Taken may rows =
     (holders-plus S T (Own u) o none (λ g x. let a = rows-holding S.handles S.threads S.mutexes u o there g x in omega arith)) rows)
 
 -- who gives a mutex up owes the close of its ownership
-duties-close : (script : Script) (S : State) (t o : ObjNo) (unlocked : Unlocked) → MayUnlock S o t unlocked → total weight (owed_of S t) + 4 ≤ 12 → AreRows script S → AreDuties S.threads (owing S.owed t (Close (Own t) o ∷ []))
-duties-close script S t o unlocked may few rows = duties-owing S.threads S.owed t (Close (Own t) o ∷ []) (refl, tt) (omega arith) may.going rows.duties
+duties-close : (script : Script) (S : State) (t o : ObjNo) → Gives S o t → total weight (owed_of S t) + 4 ≤ 12 → AreRows script S → AreDuties S.threads (owing S.owed t (Close (Own t) o ∷ []))
+duties-close script S t o may few rows = duties-owing S.threads S.owed t (Close (Own t) o ∷ []) (refl, tt) (omega arith) may.going rows.duties
 
-sound-freed : (script : Script) (S : State) (t o : ObjNo) → MayUnlock S o t Freed → total weight (owed_of S t) + 4 ≤ 12 → AreRows script S → Sound script S (moved t (Locks (Unlock o t Freed)) S) (lock_told (Unlock o t Freed))
+sound-freed : (script : Script) (S : State) (t o : ObjNo) → Gives S o t → total weight (owed_of S t) + 4 ≤ 12 → AreRows script S → Sound script S (moved t (Locks (Unlock o t Freed)) S) (lock_told (Unlock o t Freed))
 sound-freed script S t o may few rows =
-    let own = freed_by (owner_at S.locks o) t (best_waiter (priority_of S) S.locks o) may.answer in
+    let own = may.owns in
     let inside_threads = thread_inside S.threads t.0 may.thread in
     let there : t.0 < length S.mutexes = let b = rows.locks.mutexes_sized in omega arith in
     let owes : t.0 < length S.owed = let a = rows.sized.duties in omega arith in
@@ -180,15 +189,14 @@ sound-freed script S t o may few rows =
     let sweeps : (p : ObjNo) → total (total (owed_sweeps p)) owed ≡ sweeps_of S p = λ p. let a = total-owing (owed_sweeps p) S.owed t (Close (Own t) o ∷ []) owes in omega arith in
     sound-told script S T (Give t (Object o) ∷ []) [] (silent-give S t o) (λ p. refl) rows
     (sound-passed script S mutexes owed new []
-    (record { long = length-set S.owed t.0 _; duties = duties-close script S t o Freed may few rows; locks = locks-freed (length S.objects) S.threads (parts S) rows.locks small o may.object t own.own own.is own.thread there (may.nowhere o); sweeps = sweeps })
+    (record { long = length-set S.owed t.0 _; duties = duties-close script S t o may few rows; locks = locks-freed (length S.objects) S.threads (parts S) rows.locks small o may.object t own.own own.is own.thread there (may.nowhere o); sweeps = sweeps })
     (lives-none S T refl (λ p. let a = count-not_holding S.mutexes t o p there once in let b = total-owing (owed_names p) S.owed t (Close (Own t) o ∷ []) owes in omega arith) sweeps)
     (holders-none S T (λ g x. let a = rows-not_holding S.handles S.threads S.mutexes t o there once g x in let b = total-owing (owed_by g x) S.owed t (Close (Own t) o ∷ []) owes in omega arith)) rows)
 
-sound-given : (script : Script) (S : State) (t o w : ObjNo) → MayUnlock S o t (Passed w) → total weight (owed_of S t) + 4 ≤ 12 → AreRows script S → Sound script S (moved t (Locks (Unlock o t (Passed w))) S) (lock_told (Unlock o t (Passed w)))
-sound-given script S t o w may few rows =
-    let by = passed_by (owner_at S.locks o) t w (best_waiter (priority_of S) S.locks o) may.answer in
-    let own = by.0 in
-    let among : is_among w (waiters_at S.locks o) ≡ true = greatest_listed (priority_of S) (waiters_at S.locks o) w by.1 in
+sound-given : (script : Script) (S : State) (t o w : ObjNo) → Gives S o t → best_waiter (priority_of S) S.locks o ≡ Some w → total weight (owed_of S t) + 4 ≤ 12 → AreRows script S → Sound script S (moved t (Locks (Unlock o t (Passed w))) S) (lock_told (Unlock o t (Passed w)))
+sound-given script S t o w may best few rows =
+    let own = may.owns in
+    let among : is_among w (waiters_at S.locks o) ≡ true = greatest_listed (priority_of S) (waiters_at S.locks o) w best in
     let awaits = rows.locks.waiters w o among in
     let sized = rows.locks.mutexes_sized in
     let there : t.0 < length S.mutexes = let a = thread_inside S.threads t.0 may.thread in omega arith in
@@ -212,20 +220,37 @@ sound-given script S t o w may few rows =
     let sweeps : (p : ObjNo) → total (total (owed_sweeps p)) owed ≡ sweeps_of S p = λ p. let a = total-owing (owed_sweeps p) S.owed t (Close (Own t) o ∷ []) owes in omega arith in
     sound-told script S T (Give t (Object o) ∷ Take w (Object o) ∷ []) (Plus (Own w) o ∷ []) (silent-pass S t w o) (λ p. refl) rows
     (sound-passed script S mutexes owed new (Plus (Own w) o ∷ [])
-    (record { long = length-set S.owed t.0 _; duties = duties-close script S t o (Passed w) may few rows; locks = locks-given (length S.objects) S.threads (parts S) rows.locks small o may.object t own.own own.is own.thread there (may.nowhere o) w waiter; sweeps = sweeps })
+    (record { long = length-set S.owed t.0 _; duties = duties-close script S t o may few rows; locks = locks-given (length S.objects) S.threads (parts S) rows.locks small o may.object t own.own own.is own.thread there (may.nowhere o) w waiter; sweeps = sweeps })
     (lives-plus S T (Own w) o refl (λ p. let a = count-not_holding S.mutexes t o p there once in let b = count-holding left w o p behind in let c = total-owing (owed_names p) S.owed t (Close (Own t) o ∷ []) owes in omega arith) sweeps alive)
     (holders-plus S T (Own w) o none (λ g x. let a = rows-not_holding S.handles S.threads S.mutexes t o there once g x in let b = rows-holding S.handles S.threads left w o behind g x in let c = total-owing (owed_by g x) S.owed t (Close (Own t) o ∷ []) owes in omega arith)) rows)
+
+gives : (S : State) (o t : ObjNo) (unlocked : Unlocked) → MayUnlock S o t unlocked → IsOwn (owner_at S.locks o) t → Gives S o t
+gives S o t unlocked may owns = record { object = may.object; thread = may.thread; nowhere = may.nowhere; going = may.going; owns = owns }
+
+gives_all : (S : State) (o t : ObjNo) (best : Option ObjNo) → MayFree S o t best → Gives S o t
+gives_all S o t best may = record { object = may.object; thread = may.thread; nowhere = may.nowhere; going = may.going; owns = record { own = may.owns.owner; is = may.owns.is; thread = may.owns.thread } }
 
 sound-unlock : (script : Script) (S : State) (t o : ObjNo) (unlocked : Unlocked) → MayUnlock S o t unlocked → total weight (owed_of S t) + 4 ≤ 12 → AreRows script S → Sound script S (moved t (Locks (Unlock o t unlocked)) S) (lock_told (Unlock o t unlocked))
 sound-unlock script S t o Level may few rows = sound-alone script S _ (locks-level (length S.objects) S.threads (parts S) rows.locks rows.sized.objects_few o may.object) rows
 sound-unlock script S t o NotOwner may few rows = sound-alone script S _ (locks-not_owner (length S.objects) S.threads (parts S) rows.locks rows.sized.objects_few o may.object) rows
-sound-unlock script S t o Freed may few rows = sound-freed script S t o may few rows
-sound-unlock script S t o (Passed w) may few rows = sound-given script S t o w may few rows
+sound-unlock script S t o Freed may few rows =
+    let owns = freed_by (owner_at S.locks o) t (best_waiter (priority_of S) S.locks o) may.answer in
+    sound-freed script S t o (gives S o t Freed may owns) few rows
+sound-unlock script S t o (Passed w) may few rows =
+    let by = passed_by (owner_at S.locks o) t w (best_waiter (priority_of S) S.locks o) may.answer in
+    sound-given script S t o w (gives S o t (Passed w) may by.0) by.1 few rows
+
+-- all levels at once
+sound-free : (script : Script) (S : State) (t o : ObjNo) (best : Option ObjNo) → MayFree S o t best → total weight (owed_of S t) + 4 ≤ 12 → AreRows script S → Sound script S (moved t (Locks (Free o t best)) S) (lock_told (Free o t best))
+sound-free script S t o None may few rows = sound-freed script S t o (gives_all S o t None may) few rows
+sound-free script S t o (Some w) may few rows = sound-given script S t o w (gives_all S o t (Some w) may) (sym may.chosen) few rows
 
 pub sound-locks : (script : Script) (S : State) (t : ObjNo) (m : LockMove) → FitsMove script t (Locks m) S → total weight (owed_of S t) + 4 ≤ 12 → AreRows script S → Sound script S (moved t (Locks m) S) (told (Locks m) S)
 sound-locks script S t (Start o count) fits few rows = sound-alone script S _ (locks-start (length S.objects) S.threads (parts S) rows.locks rows.sized.objects_few o fits.object count fits.few) rows
 sound-locks script S t (Lock o u locked) fits few rows = sound-lock script S t o u locked fits rows
 sound-locks script S t (Unlock o u unlocked) fits few rows = subst (λ (y : ObjNo). Sound script S (moved t (Locks (Unlock o y unlocked)) S) (lock_told (Unlock o y unlocked))) (sym fits.0) (sound-unlock script S t o unlocked (subst (λ (y : ObjNo). MayUnlock S o y unlocked) fits.0 fits.1) few rows)
+sound-locks script S t (Free o u best) fits few rows = subst (λ (y : ObjNo). Sound script S (moved t (Locks (Free o y best)) S) (lock_told (Free o y best))) (sym fits.0) (sound-free script S t o best (subst (λ (y : ObjNo). MayFree S o y best) fits.0 fits.1) few rows)
+sound-locks script S t (Leave u) fits few rows = sound-alone script S _ (locks-leave (length S.objects) S.threads (parts S) u rows.locks) rows
 sound-locks script S t (WaitOn o u) fits few rows = sound-alone script S _ (locks-wait (length S.objects) S.threads (parts S) rows.locks rows.sized.objects_few o (alive_not_gone S.objects o fits.alive).1 u (λ zero. may_stand S u o (fits.joins zero))) rows
 sound-locks script S t (Signal o signalled) fits few rows = sound-alone script S _ (locks-signal (length S.objects) S.threads (parts S) rows.locks rows.sized.objects_few o fits.object signalled) rows
 
@@ -236,6 +261,7 @@ close_weight owed t u o is = subst (λ (y : ObjNo). total weight (get_or (owing 
 pub lock_weight : (script : Script) (S : State) (t : ObjNo) (m : LockMove) → FitsMove script t (Locks m) S → total weight (get_or (owed_moved m S.owed) t.0 []) ≤ total weight (get_or S.owed t.0 []) + 4
 lock_weight script S t (Unlock o u Freed) fits = close_weight S.owed t u o fits.0
 lock_weight script S t (Unlock o u (Passed w)) fits = close_weight S.owed t u o fits.0
+lock_weight script S t (Free o u best) fits = close_weight S.owed t u o fits.0
 lock_weight script S t _ fits = omega arith
 
 -- it sweeps nothing
@@ -243,4 +269,6 @@ pub lock_removes : (m : LockMove) (p : ObjNo) → removals (lock_told m) p ≡ 0
 lock_removes (Lock o t Taken) p = refl
 lock_removes (Unlock o t Freed) p = refl
 lock_removes (Unlock o t (Passed w)) p = refl
+lock_removes (Free o t None) p = refl
+lock_removes (Free o t (Some w)) p = refl
 lock_removes _ p = refl

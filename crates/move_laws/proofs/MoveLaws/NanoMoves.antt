@@ -3,11 +3,12 @@ use Rattle.std.proofs.Common.{◌≡◌, ℕ, set, arith, refl, Some, None}
 use Rattle.std.proofs.lemmas.List.{length-set}
 use Rattle.sym_base.specs.declared.number.ObjNo.{ObjNo}
 use Rattle.script_types.specs.declared.script.Script.{Script}
+use Rattle.state_rows.specs.NanoChanges.{after_resume_all}
 use Rattle.state_rows.proofs.Soundness.{held_none}
-use Rattle.state_rows.proofs.SoundChanges.{sound-signals, sound-sections, sound-suspend, sound-resume}
+use Rattle.state_rows.proofs.SoundChanges.{sound-signals, sound-sections, sound-suspend, sound-resume, sound-resume_all}
 use Rattle.machine.specs.declared.moves.Move.TheVariants.{Nano}
 use Rattle.machine.specs.declared.nano_move.NanoMove.{NanoMove}
-use Rattle.machine.specs.declared.nano_move.NanoMove.TheVariants.{Take, Give, Want, Enter, Leave, LeaveAll, Suspend, Resume, Raise, Lower}
+use Rattle.machine.specs.declared.nano_move.NanoMove.TheVariants.{Take, Give, Want, Enter, Leave, LeaveAll, Suspend, Resume, Release, Raise, Lower}
 use Rattle.machine.specs.declared.state.State.{State}
 use Rattle.machine.specs.Fits.{FitsMove, FitsNano}
 use Rattle.machine.specs.Moves.{moved, told}
@@ -37,6 +38,9 @@ synchronized-nano script S (Leave t) fits h = in_sections script S t _ h
 synchronized-nano script S (LeaveAll t) fits h = in_sections script S t _ h
 synchronized-nano script S (Suspend t) fits h = synchronized-counts script S.threads S.nano S.nano.signals _ S.nano.sections refl (sound-suspend S.nano t fits h.rows) h
 synchronized-nano script S (Resume t) fits h = synchronized-counts script S.threads S.nano S.nano.signals _ S.nano.sections refl (sound-resume S.nano t h.rows) h
+synchronized-nano script S (Release t) fits h =
+    let resumed = synchronized-counts script S.threads S.nano S.nano.signals _ S.nano.sections refl (sound-resume_all S.nano t h.rows) h in
+    synchronized-want script S.threads (after_resume_all S.nano t) t None (λ f is. absurd (cc)) (λ f is. refl) resumed
 synchronized-nano script S (Raise t) fits h = signalled script S t _ h
 synchronized-nano script S (Lower t) fits h = signalled script S t _ h
 

@@ -1,20 +1,23 @@
 -- Moves tell no more effects than each of them does at most.
-use Rattle.std.proofs.Common.{◌≡◌, ◌+◌, ◌≤◌, Bool, true, false, List, [], ◌∷◌, ◌++◌, length, length-append, arith}
+use Rattle.std.proofs.Common.{◌≡◌, ◌+◌, ◌≤◌, Bool, true, false, List, [], ◌∷◌, ◌++◌, length, length-append, arith, Some, None}
 use Rattle.entry_log.specs.declared.effect.Holder.{Holder}
 use Rattle.state_rows.specs.declared.duty.Owed.TheVariants.{Close, Sweep}
 use Rattle.sym_base.specs.declared.number.ObjNo.{ObjNo}
 use Rattle.state_rows.specs.declared.locks.Locked.TheVariants.{Taken}
 use Rattle.state_rows.specs.declared.locks.Unlocked.TheVariants.{Freed, Passed}
+use Rattle.machine.specs.declared.death_move.DeathMove.{DeathMove}
+use Rattle.machine.specs.declared.death_move.DeathMove.TheVariants.{Doom}
 use Rattle.machine.specs.declared.lock_move.LockMove.{LockMove}
-use Rattle.machine.specs.declared.lock_move.LockMove.TheVariants.{Lock, Unlock}
+use Rattle.machine.specs.declared.lock_move.LockMove.TheVariants.{Lock, Unlock, Free}
 use Rattle.machine.specs.declared.moves.Move.{Move}
-use Rattle.machine.specs.declared.moves.Move.TheVariants.{Lose, Nano, Requests, Locks, Pay}
+use Rattle.machine.specs.declared.moves.Move.TheVariants.{Lose, Nano, Requests, Locks, Death, Pay}
 use Rattle.machine.specs.declared.nano_move.NanoMove.{NanoMove}
 use Rattle.machine.specs.declared.nano_move.NanoMove.TheVariants.{Take, Give}
 use Rattle.machine.specs.declared.request_move.RequestMove.{RequestMove}
 use Rattle.machine.specs.declared.request_move.RequestMove.TheVariants.{Complete}
 use Rattle.machine.specs.declared.state.State.{State}
 use Rattle.machine.specs.Fits.{most_told}
+use Rattle.machine.specs.DeathMoves.{death_told}
 use Rattle.machine.specs.LockMoves.{lock_told}
 use Rattle.machine.specs.Moves.{moved, told, tell, closed_effects}
 use Rattle.machine.specs.NanoMoves.{nano_told}
@@ -38,7 +41,13 @@ lock_few : (m : LockMove) → length (lock_told m) ≤ 3
 lock_few (Lock o t Taken) = omega arith
 lock_few (Unlock o t Freed) = omega arith
 lock_few (Unlock o t (Passed w)) = omega arith
+lock_few (Free o t None) = omega arith
+lock_few (Free o t (Some w)) = omega arith
 lock_few _ = omega arith
+
+death_few : (m : DeathMove) → length (death_told m) ≤ 1
+death_few (Doom t exit) = omega arith
+death_few _ = omega arith
 
 told_few : (m : Move) (S : State) → length (told m S) ≤ most_told m
 told_few (Lose h o) S = closed_few (is_last S o) h o
@@ -47,6 +56,7 @@ told_few (Pay (Sweep o)) S = omega arith
 told_few (Nano m) S = nano_few m
 told_few (Requests m) S = request_few m
 told_few (Locks m) S = lock_few m
+told_few (Death m) S = death_few m
 told_few _ S = omega arith
 
 pub tell_few : (t : ObjNo) (ms : List Move) (S : State) → length (tell t ms S) ≤ total most_told ms

@@ -18,19 +18,20 @@ use Rattle.state_rows.specs.Nano.{suspend_count, critical_count, held_by, is_pro
 use Rattle.state_rows.specs.NanoChanges.{after_suspend}
 use Rattle.state_rows.proofs.OtherThreads.{held_by-after_take, held_by-after_give, count-other}
 use Rattle.machine.specs.declared.moves.Move.{Move}
-use Rattle.machine.specs.declared.moves.Move.TheVariants.{Make, Gain, Lose, Find, Miss, GoOn, Write, Advance, Wait, Wake, SetPriority, Nano, Deferred, Requests, Locks, Fill, Pay}
+use Rattle.machine.specs.declared.moves.Move.TheVariants.{Make, Gain, Lose, Find, Miss, GoOn, Write, Advance, Wait, Wake, SetPriority, Nano, Deferred, Requests, Locks, Death, Fill, Pay}
 use Rattle.machine.specs.declared.deferred_move.DeferredMove.{DeferredMove}
 use Rattle.machine.specs.declared.deferred_move.DeferredMove.TheVariants.{Add, Take as TakeCall}
 use Rattle.machine.specs.declared.lock_move.LockMove.{LockMove}
-use Rattle.machine.specs.declared.lock_move.LockMove.TheVariants.{Unlock}
+use Rattle.machine.specs.declared.lock_move.LockMove.TheVariants.{Unlock, Free}
 use Rattle.machine.specs.declared.nano_move.NanoMove.{NanoMove}
-use Rattle.machine.specs.declared.nano_move.NanoMove.TheVariants.{Take, Give, Enter, Leave, LeaveAll, Suspend, Resume}
+use Rattle.machine.specs.declared.nano_move.NanoMove.TheVariants.{Take, Give, Enter, Leave, LeaveAll, Suspend, Resume, Release}
 use Rattle.state_rows.specs.declared.thread.Waiting.TheVariants as waiting
 use Rattle.state_rows.specs.declared.thread.ThreadRow.{ThreadRow}
 use Rattle.state_rows.specs.declared.locks.Unlocked.TheVariants.{Freed, Level, NotOwner, Passed}
 use Rattle.machine.specs.declared.state.State.{State}
 use Rattle.machine.specs.Rows.{thread_of, first_of, first_owed, with_row}
 use Rattle.machine.specs.Moves.{moved, threads_gain, threads_lose, threads_closed, next_object, with_use, unlinked, with_found, with_part, with_register, with_waiting, with_priority, advanced}
+use Rattle.machine.specs.DeathMoves.{death_row, death_thread}
 use Rattle.machine.specs.LockMoves.{owed_moved}
 use Rattle.machine.specs.NanoMoves.{nano_moved, nano_thread}
 use Rattle.machine.specs.DeferredMoves.{deferred_moved, deferred_threads, thread_of_queue}
@@ -88,6 +89,7 @@ owed-locks owed t (Unlock o v Freed) u none = owed-other owed v u _ (apart_of v 
 owed-locks owed t (Unlock o v (Passed w)) u none = owed-other owed v u _ (apart_of v u none)
 owed-locks owed t (Unlock o v Level) u none = refl
 owed-locks owed t (Unlock o v NotOwner) u none = refl
+owed-locks owed t (Free o v best) u none = owed-other owed v u _ (apart_of v u none)
 owed-locks owed t _ u none = refl
 
 -- the same duties of a thread, and a row with which it is as ready
@@ -115,6 +117,7 @@ nano-other r (Leave t) u apart = record { suspensions = refl; sections = count-o
 nano-other r (LeaveAll t) u apart = record { suspensions = refl; sections = count-other r.sections t u _ apart; holds = refl }
 nano-other r (Suspend t) u apart = record { suspensions = suspensions-other r t u apart; sections = refl; holds = refl }
 nano-other r (Resume t) u apart = record { suspensions = count-other r.suspensions t u _ apart; sections = refl; holds = refl }
+nano-other r (Release t) u apart = record { suspensions = count-other r.suspensions t u _ apart; sections = refl; holds = refl }
 nano-other r _ u apart = record { suspensions = refl; sections = refl; holds = refl }
 
 ready-nano : (script : Script) (S : State) (m : NanoMove) (u : ObjNo) → u ≢ nano_thread m → ready_row script S.deferred (nano_moved m S.nano) u (first_owed S u) (thread_of S u) ≡ ready_row script S.deferred S.nano u (first_owed S u) (thread_of S u)
@@ -176,6 +179,7 @@ untouched script S t (Nano m) u threads joins none = ready-nano script S m u (λ
 untouched script S t (Deferred m) u threads joins none = ready-deferred script S t m u threads joins none
 untouched script S t (Requests m) u threads joins none = refl
 untouched script S t (Locks m) u threads joins none = ready-by script S (moved t (Locks m) S) u refl refl (owed-locks S.owed t m u none) refl
+untouched script S t (Death m) u threads joins none = ap (ready_row script S.deferred S.nano u (first_owed S u)) (row-other S.threads (death_thread m) (death_row m) u.0 (apart_of (death_thread m) u none))
 untouched script S t (Fill p at long byte) u threads joins none = refl
 untouched script S t (Pay (Close h o)) u threads joins none =
     let apart = apart_of t u none in

@@ -1,5 +1,5 @@
 -- Moves in the rows of mutexes and semaphores keep them, where they fit.
-use Rattle.std.proofs.Common.{◌≡◌, ◌≢◌, ◌⊎◌, inl, inr, ℕ, ◌+◌, ◌-◌, ◌<◌, ◌≤◌, List, [], ◌∷◌, ◌++◌, length, get_or, set, arith, refl, sym, ap, subst, ◌∙◌, Option, Some, None, Bool, true, false, ltb-true}
+use Rattle.std.proofs.Common.{◌≡◌, ◌≢◌, ◌⊎◌, inl, inr, ℕ, zero, suc, ◌+◌, ◌-◌, ◌<◌, ◌≤◌, List, [], ◌∷◌, ◌++◌, length, map, get_or, set, arith, refl, sym, ap, subst, ◌∙◌, Option, Some, None, Bool, true, false, ltb-true}
 use Rattle.std.specs.Prelude.{◌==◌, not, if◌then◌else◌, nat_lt, pos}
 use Rattle.std.proofs.lemmas.Bool.{and_parts, cases_Bool, cases_eq, eqb-true}
 use Rattle.std.proofs.lemmas.List.{get_or-set_other}
@@ -14,7 +14,7 @@ use Rattle.state_rows.specs.declared.locks.Signalled.{Signalled}
 use Rattle.state_rows.specs.declared.locks.Signalled.TheVariants.{Counted, Woke, Overflow}
 use Rattle.state_rows.specs.declared.locks.Unlocked.TheVariants.{Level, Freed, Passed, NotOwner}
 use Rattle.state_rows.specs.declared.thread.ThreadRow.{ThreadRow}
-use Rattle.state_rows.specs.LockChanges.{after_lock, after_new_row, after_signal, after_unlock, after_wait, count_after_signal, once, owner_after_lock, owner_after_unlock, waiters_after_signal}
+use Rattle.state_rows.specs.LockChanges.{after_lock, after_new_row, after_remove, after_signal, after_unlock, after_wait, count_after_signal, once, owner_after_lock, owner_after_unlock, waiters_after_signal}
 use Rattle.state_rows.specs.Locks.{count_at, is_among, owner_at, waiters_at, without}
 use Rattle.state_rows.proofs.SoundChanges.{set_item}
 use Rattle.machine.specs.HeldIn.{owed_by}
@@ -30,7 +30,7 @@ use Rattle.move_laws.proofs.References.Mutexes.{held-holding, held-not_holding}
 use Rattle.move_laws.proofs.References.Same.{eqb_apart, if_not, if_zero, same_object, same_other}
 use Rattle.move_laws.proofs.Readiness.ReadyLists.{listed-filter, unlisted-push}
 use Rattle.move_laws.proofs.RowLaws.LockChanges.{AreLockParts, LockParts, MayStand, locks-counted, locks-passed}
-use Rattle.std.proofs.lemmas.List.{length-set}
+use Rattle.std.proofs.lemmas.List.{length-map, length-set}
 
 -- whoever stands among waiters with one more behind them stood there, or is the one
 among-push : (queue : List ObjNo) (t u : ObjNo) → is_among u (queue ++ t ∷ []) ≡ true → (is_among u queue ≡ true) ⊎ (t ≡ u)
@@ -67,6 +67,29 @@ keeps-again (Some owner) t = keeps-level owner _
 keeps-unlevel : (owner : Option Owner) → KeepsOwner owner (owner_after_unlock owner Level)
 keeps-unlevel None = keeps-same None
 keeps-unlevel (Some owner) = keeps-level owner _
+
+-- the waiters of an object, where a thread stands nowhere any more
+left_at : (waiters : List (List ObjNo)) (t : ObjNo) (k : ℕ) → get_or (map (without t) waiters) k [] ≡ without t (get_or waiters k [])
+left_at [] t k = refl
+left_at (queue ∷ rest) t zero = refl
+left_at (queue ∷ rest) t (suc k) = left_at rest t k
+
+pub locks-leave : (objects : ℕ) (threads : List (Option ThreadRow)) (p : LockParts) (u : ObjNo) → AreLockParts objects threads p → AreLocks objects threads p.mutexes p.owed (after_remove p.rows u)
+locks-leave objects threads p u h =
+    let stood : (t o : ObjNo) → is_among t (waiters_at (after_remove p.rows u) o) ≡ true → is_among t (waiters_at p.rows o) ≡ true = λ t o among. among-without (waiters_at p.rows o) u t (ap (is_among t) (sym (left_at p.rows.waiters u o.0)) ∙ among) in
+    record {
+      owners_sized = h.owners_sized;
+      counts_sized = h.counts_sized;
+      waiters_sized = length-map p.rows.waiters (without u) ∙ h.waiters_sized;
+      mutexes_sized = h.mutexes_sized;
+      counts = h.counts;
+      owned = h.owned;
+      held = λ t o some. let was = h.held t o some in record { owner = was.owner; is = was.is; thread = was.thread };
+      waiters = λ t o among. h.waiters t o (stood t o among);
+      paid = λ t o among. h.paid t o (stood t o among);
+      owners_made = h.owners_made;
+      waiters_made = λ o past. left_at p.rows.waiters u o.0 ∙ ap (without u) (h.waiters_made o past);
+    }
 
 module _ (objects : ℕ) (threads : List (Option ThreadRow)) (p : LockParts) (h : AreLockParts objects threads p) (few : objects ≤ OBJECTS) (o : ObjNo) (made : o.0 < objects) where
   -- whoever stands among the waiters

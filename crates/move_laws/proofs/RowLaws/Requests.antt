@@ -1,19 +1,19 @@
 -- The rows of requests, where a request begins or is completed and where a signal is taken.
-use Rattle.std.proofs.Common.{◌≡◌, ◌≢◌, ◌⊎◌, inl, inr, ℕ, ℤ, ◌<◌, Bool, true, false, List, [], length, get_or, set, arith, refl, sym, subst, ap, ◌∙◌}
-use Rattle.std.specs.Prelude.{Option, Some, None, is_some, if◌then◌else◌}
+use Rattle.std.proofs.Common.{◌≡◌, ◌≢◌, ◌⊎◌, inl, inr, ℕ, ℤ, zero, suc, ◌<◌, Bool, true, false, List, [], ◌∷◌, length, map, get_or, set, arith, refl, sym, subst, ap, ◌∙◌}
+use Rattle.std.specs.Prelude.{Option, Some, None, is_some, ◌==◌, if◌then◌else◌}
 use Rattle.std.specs.Ordering.{int_eq}
 use Rattle.std.proofs.lemmas.Bool.{cases_eq}
-use Rattle.std.proofs.lemmas.List.{length-set, get_or-set_same, get_or-set_other}
+use Rattle.std.proofs.lemmas.List.{length-map, length-set, get_or-set_same, get_or-set_other}
 use Rattle.sym_base.specs.declared.number.ObjNo.{ObjNo}
 use Rattle.state_rows.specs.declared.requests.Request.{Request}
 use Rattle.state_rows.specs.declared.requests.RequestRows.{RequestRows}
-use Rattle.state_rows.specs.RequestChanges.{with_status}
+use Rattle.state_rows.specs.RequestChanges.{with_status, without}
 use Rattle.state_rows.specs.Requests.{pending, request_at, is_pending}
 use Rattle.state_rows.proofs.SoundRequests.{status_item, sixteen-with_status, sound-requests}
 use Rattle.machine.specs.declared.request_move.RequestMove.{RequestMove}
-use Rattle.machine.specs.declared.request_move.RequestMove.TheVariants.{Begin, Complete, TakeSignal}
+use Rattle.machine.specs.declared.request_move.RequestMove.TheVariants.{Begin, Complete, SetPending, Signal, DropAll, TakeSignal}
 use Rattle.machine.specs.RequestMoves.{request_moved}
-use Rattle.machine.specs.Fits.{FitsRequests, MayBegin}
+use Rattle.machine.specs.Fits.{FitsRequests, MayBegin, MayComplete}
 use Rattle.machine.specs.WellFormed.{AreRequests}
 use Rattle.move_laws.proofs.Lists.Sets.{set_either}
 use Rattle.move_laws.proofs.References.Same.{same_object}
@@ -101,10 +101,46 @@ completed count r d t s code signals long inside own h = record {
   apart = λ e f request at other. h.apart e f request (device_had r.devices d e request inside at).1 (device_had r.devices d f request inside other).1;
 }
 
+-- a status is written that no device has, or gets pending: the others stay as they were
+rewritten : (count : ℕ) (r : RequestRows) (t : ObjNo) (s : ℕ) (value : ℤ) (signals : List ℕ) → length signals ≡ length r.signals
+    → ((d : ℕ) (request : Request) → request_at r d ≡ Some request → request.thread.0 ≡ t.0 → request.status ≡ s → int_eq value pending ≡ true) → AreRequests count r
+    → AreRequests count (record r { statuses = with_status r.statuses t s value; signals = signals })
+rewritten count r t s value signals long own h = record {
+  rows = sound-requests r r.devices (with_status r.statuses t s value) signals (length-set r.statuses t.0 _) long (sixteen-with_status r t s value h.rows) h.rows.requests_known h.rows;
+  sized = long ∙ h.sized;
+  devices = h.devices;
+  pending = λ d request at. status_item (λ (value : ℤ). int_eq value pending ≡ true) r.statuses t s value request.thread request.status (own d request at) (h.pending d request at);
+  apart = h.apart;
+}
+
+-- what a device has then that has no request of a thread any more it had before
+kept_request : (t : ObjNo) (x : Option Request) (request : Request) → without t x ≡ Some request → x ≡ Some request
+kept_request t None request is = is
+kept_request t (Some own) request is = by (own.thread.0 == t.0) is
+  where
+    by : (b : Bool) → (if b then None else Some own) ≡ Some request → Some own ≡ Some request
+    by true e = absurd (cc)
+    by false e = e
+
+dropped : (t : ObjNo) (devices : List (Option Request)) (d : ℕ) (request : Request) → get_or (map (without t) devices) d None ≡ Some request → get_or devices d None ≡ Some request
+dropped t [] d request is = is
+dropped t (x ∷ rest) zero request is = kept_request t x request is
+dropped t (x ∷ rest) (suc d) request is = dropped t rest d request is
+
 -- a move that fits keeps them
 pub requests-moved : (count : ℕ) (m : RequestMove) (r : RequestRows) → FitsRequests m r → AreRequests count r → AreRequests count (request_moved m r)
 requests-moved count (Begin d t s) r fits h = began count r d t s (is_some (request_at r d)) (ap is_some fits.free) fits h
 requests-moved count (Complete d t s code) r fits h = completed count r d t s code _ (length-set r.signals t.0 _) fits.0 fits.1 h
+requests-moved count (SetPending t s) r fits h = rewritten count r t s pending r.signals refl (λ d request at thread status. refl) h
+requests-moved count (Signal t s code) r fits h =
+    rewritten count r t s code _ (length-set r.signals t.0 _) (λ d request at thread status. absurd (fits.alone d (at ∙ ap Some (ap (λ (u : ObjNo). of_status u request.status) (same_object request.thread t thread) ∙ ap (of_status t) status)))) h
+requests-moved count (DropAll t) r fits h = record {
+  rows = sound-requests r (map (without t) r.devices) r.statuses r.signals refl refl h.rows.sixteen (λ d request at. h.rows.requests_known d request (dropped t r.devices d request at)) h.rows;
+  sized = h.sized;
+  devices = length-map r.devices (without t) ∙ h.devices;
+  pending = λ d request at. h.pending d request (dropped t r.devices d request at);
+  apart = λ d e request at other. h.apart d e request (dropped t r.devices d request at) (dropped t r.devices e request other);
+}
 requests-moved count (TakeSignal t) r fits h =
     let long = length-set r.signals t.0 _ in record {
       rows = sound-requests r r.devices r.statuses _ refl long h.rows.sixteen h.rows.requests_known h.rows;

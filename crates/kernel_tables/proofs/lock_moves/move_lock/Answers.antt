@@ -12,6 +12,9 @@ returns-in-Lock g c = rw c.in-Lock.is c.lock.ensures
 pub returns-in-Unlock : goal.returns-in-Unlock
 returns-in-Unlock g c = rw c.in-Unlock.is c.unlock.ensures
 
+pub returns-in-Free : goal.returns-in-Free
+returns-in-Free g c = rw c.in-Free.is c.free.ensures
+
 pub returns-in-Signal : goal.returns-in-Signal
 returns-in-Signal g c =
     let old = c.args.tables.now in

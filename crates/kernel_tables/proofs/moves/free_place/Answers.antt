@@ -1,4 +1,4 @@
-use Rattle.std.proofs.Common.{◌∙◌, List, [], set, sym, ap}
+use Rattle.std.proofs.Common.{◌∙◌, List, set, sym, ap}
 use Rattle.state_rows.specs.declared.handle_slot.HandleSlot.{HandleSlot}
 use Rattle.state_rows.specs.HandleSlots.{slot_at}
 use Rattle.machine.specs.Handles.{freed_slot}

@@ -1,4 +1,4 @@
-use Rattle.std.proofs.Common.{◌∙◌, ◌<◌, List, [], get_or, length, refl, set, subst, sym, ap}
+use Rattle.std.proofs.Common.{◌∙◌, ◌<◌, List, length, refl, set, subst, sym, ap}
 use Rattle.state_rows.specs.declared.handle_slot.HandleSlot.{HandleSlot}
 use Rattle.state_rows.specs.HandleSlots.{free_index, slot_at}
 use Rattle.machine.specs.Handles.{taken_slot}

@@ -1,19 +1,10 @@
-use Rattle.std.proofs.Common.{◌≡◌, ◌+◌, ◌-◌, ◌≤◌, ◌∙◌, ℕ, List, length, get_or, set, arith, sym, ap, inl, inr}
-use Rattle.std.proofs.lemmas.Bool.{cases_lt}
-use Rattle.std.proofs.lemmas.List.{set-get_or, set-set, set_past, get_or-set_same, length-set}
+use Rattle.std.proofs.Common.{◌≡◌, ◌+◌, ◌-◌, ◌∙◌, ℕ, List, set, arith, sym, ap}
+use Rattle.std.proofs.lemmas.List.{set-get_or}
 use Rattle.state_rows.specs.declared.nano.NanoRows.{NanoRows}
 use Rattle.state_rows.specs.Nano.{critical_count}
 use Rattle.state_rows.specs.NanoChanges.{after_leave}
+use Rattle.kernel_tables.proofs.Counted.{one_less}
 use Rattle.kernel_tables.proofs.nano_moves.leave_all.Goals as goal
-
--- one critical section less of so many
-one_less : (sections : List ℕ) (t m : ℕ) → set (set sections t m) t (get_or (set sections t m) t 0 - 1) ≡ set sections t (m - 1)
-one_less sections t m = elim (cases_lt t (length sections)) [
-  | inl inside ↦ set-set sections t m _ ∙ ap (λ (k : ℕ). set sections t (k - 1)) (get_or-set_same sections t m 0 inside)
-  | inr past ↦
-      let long : length (set sections t m) ≤ t = omega (arith, length-set sections t m) in
-      set_past (set sections t m) t _ long ∙ (set_past sections t m past ∙ sym (set_past sections t (m - 1) past))
-]
 
 pub loop-left-init : goal.loop-left-init
 loop-left-init c =

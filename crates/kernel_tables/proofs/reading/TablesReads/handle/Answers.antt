@@ -1,4 +1,3 @@
-use Rattle.state_rows.specs.HandleNumbers.{is_local}
 use Rattle.kernel_tables.proofs.Slots.{index_few}
 use Rattle.kernel_tables.proofs.reading.TablesReads.handle.Goals as goal
 

@@ -1,0 +1,33 @@
+-- Moves in the rows of threads that die: what each changes, what it tells, and whose row it is.
+use Rattle.std.specs.Prelude.{List, [], ◌∷◌, Some}
+use Rattle.sym_base.specs.declared.number.ObjNo.{ObjNo}
+use Rattle.entry_log.specs.declared.effect.Effect.{Effect}
+use Rattle.entry_log.specs.declared.effect.Effect.TheVariants as effect
+use Rattle.state_rows.specs.declared.thread.Stage.TheVariants.{Doomed, Cleaned}
+use Rattle.state_rows.specs.declared.thread.Waiting.{Waiting}
+use Rattle.state_rows.specs.declared.thread.Waiting.TheVariants.{Nothing, Away}
+use Rattle.state_rows.specs.declared.thread.ThreadRow.{ThreadRow}
+use Rattle.machine.specs.declared.death_move.DeathMove.{DeathMove}
+use Rattle.machine.specs.declared.death_move.DeathMove.TheVariants.{Note, Doom, Clean}
+
+-- what a thread waits for whose wait a death ends: it comes back from an open that is made outside the kernel lock
+abbrev pub wait_ended : Waiting → Waiting
+wait_ended Away = Away
+wait_ended _ = Nothing
+
+-- the row after a move
+abbrev pub death_row : DeathMove → ThreadRow → ThreadRow
+death_row (Note t exit) row = record row { noted = Some exit }
+death_row (Doom t exit) row = record row { stage = Doomed; exit = Some exit; waiting = wait_ended row.waiting }
+death_row (Clean t) row = record row { stage = Cleaned }
+
+-- what it tells: who is doomed
+abbrev pub death_told : DeathMove → List Effect
+death_told (Doom t exit) = effect.Doom t ∷ []
+death_told _ = []
+
+-- the thread whose row changes
+abbrev pub death_thread : DeathMove → ObjNo
+death_thread (Note t exit) = t
+death_thread (Doom t exit) = t
+death_thread (Clean t) = t
