@@ -1,7 +1,7 @@
 -- The digits of numbers, two at a time.
 use Rattle.entry_log.specs.Pair.{pair_text}
 use Rattle.entry_log.specs.declared.text.numbers.TheConstants.{PAIRS}
-use Rattle.std.proofs.Common.{◌≡◌, ℕ, zero, suc, ◌+◌, ◌-◌, ◌*◌, ◌/◌, ◌%◌, ◌^◌, ◌<◌, ◌≤◌, Bool, true, ◌&&◌, T, eqb, [], ◌∷◌, ◌++◌, length, length-append, get_or, ◌∙◌, sym, ap, arith, inl, inr, eq-zero-or-pos, eqb→eq, refl, append_assoc}
+use Rattle.std.proofs.Common.{◌≡◌, ℕ, zero, suc, ◌+◌, ◌-◌, ◌*◌, ◌/◌, ◌%◌, ◌^◌, ◌<◌, ◌≤◌, Bool, true, ◌&&◌, T, eqb, ◌++◌, length, length-append, get_or, ◌∙◌, ap, arith, inl, inr, eq-zero-or-pos, eqb→eq, refl, append_assoc}
 use Rattle.std.proofs.lemmas.Fmt.{decimal_digit, decimal_step}
 use Rattle.std.specs.Fmt.{decimal}
 use lib.Ieee.Fits.{and_l, and_r}

@@ -8,7 +8,6 @@ use Rattle.script_types.specs.declared.declaration.ProcessDecl.{ProcessDecl}
 use Rattle.script_types.specs.declared.declaration.QueueDecl.{QueueDecl}
 use Rattle.script_types.specs.Shape.{IsShaped}
 use Rattle.machine.specs.declared.boot.Born.{Born}
-use Rattle.state_rows.specs.declared.thread.Waiting.TheVariants as waiting
 use Rattle.machine.specs.Boot.{born, born_kernel, born_queues, born_thread, born_threads, born_processes, is_of}
 
 length_queues : (q : ℕ) (ds : List QueueDecl) → length (born_queues q ds) ≡ length ds

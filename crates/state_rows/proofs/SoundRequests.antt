@@ -1,5 +1,5 @@
 -- Changes of statuses and of what devices have keep the rows of requests sound.
-use Rattle.std.proofs.Common.{◌≡◌, ℕ, ℤ, ◌<◌, List, [], length, get_or, set, refl, sym, ap, subst, ◌∙◌, arith, length-set}
+use Rattle.std.proofs.Common.{◌≡◌, ℕ, ℤ, ◌<◌, List, [], length, get_or, set, sym, ap, subst, ◌∙◌, arith, length-set}
 use Rattle.std.specs.Prelude.{pos, Option, Some, None}
 use Rattle.sym_base.specs.declared.number.ObjNo.{ObjNo}
 use Rattle.state_rows.specs.declared.requests.Request.{Request}

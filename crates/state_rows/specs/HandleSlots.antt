@@ -1,5 +1,5 @@
 -- The places of a handle table, in order of their indices.
-use Rattle.std.specs.Prelude.{◌≡◌, ℕ, ◌+◌, ◌≤◌, Bool, ◌==◌, is_none, is_some, if◌then◌else◌, List, [], ◌∷◌, length, drop, count_by, Option, Some, None}
+use Rattle.std.specs.Prelude.{◌≡◌, ℕ, ◌+◌, ◌≤◌, Bool, ◌==◌, is_none, is_some, if◌then◌else◌, List, [], ◌∷◌, length, count_by, Option, Some, None}
 use Rattle.std.specs.List.{slice_index_or}
 use Rattle.sym_base.specs.declared.number.ObjNo.{ObjNo}
 use Rattle.sym_base.specs.declared.limits.TheConstants.Limits.{HANDLES}

@@ -1,5 +1,5 @@
 -- Reading the rows of mutexes and semaphores.
-use Rattle.std.specs.Prelude.{ℕ, Bool, not, ◌==◌, List, [], Option, Some, None, filter, slice_index_or, IsTrue}
+use Rattle.std.specs.Prelude.{ℕ, Bool, not, ◌==◌, List, [], Option, Some, None, filter, slice_index_or}
 use Rattle.std.specs.List.{list_any}
 use Rattle.sym_base.specs.Greatest.{first_of_greatest}
 use Rattle.sym_base.specs.declared.number.ObjNo.{ObjNo}

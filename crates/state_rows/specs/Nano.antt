@@ -1,5 +1,5 @@
 -- Reading the rows of threads that synchronize.
-use Rattle.std.specs.Prelude.{ℕ, Bool, if◌then◌else◌, false, not, ◌==◌, ◌||◌, List, Option, Some, None, is_some, is_none, option_and_then, position, slice_index, slice_index_or}
+use Rattle.std.specs.Prelude.{ℕ, Bool, if◌then◌else◌, false, not, ◌==◌, ◌||◌, Option, Some, None, is_some, is_none, option_and_then, position, slice_index, slice_index_or}
 use Rattle.sym_base.specs.declared.number.ObjNo.{ObjNo}
 use Rattle.entry_log.specs.declared.entry.Actor.{Actor}
 use Rattle.entry_log.specs.declared.entry.Actor.TheVariants.{Thread, Idfc, Idle}

@@ -1,5 +1,5 @@
 -- Rows of threads.
-use Rattle.std.specs.Prelude.{Option, None, replicate}
+use Rattle.std.specs.Prelude.{None, replicate}
 use Rattle.sym_base.specs.declared.number.ObjNo.{ObjNo}
 use Rattle.state_rows.specs.declared.thread.Role.TheVariants.{Supervisor}
 use Rattle.state_rows.specs.declared.thread.Stage.TheVariants.{Live}

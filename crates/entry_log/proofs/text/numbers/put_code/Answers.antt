@@ -1,4 +1,4 @@
-use Rattle.std.proofs.Common.{◌≡◌, ◌≤◌, ◌+◌, arith, length, length-append, ap, w32, rules, FitsSigned}
+use Rattle.std.proofs.Common.{◌≤◌, arith, length, length-append, ap, w32, rules, FitsSigned}
 use Rattle.std.proofs.Math.Facts.{to_z-of_z}
 use Rattle.std.proofs.lemmas.Fmt.{length_signed_le}
 use Rattle.std.specs.Fmt.{signed_decimal}

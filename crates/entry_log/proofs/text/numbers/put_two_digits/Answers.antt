@@ -1,4 +1,4 @@
-use Rattle.std.proofs.Common.{◌≡◌, ap, arith, length}
+use Rattle.std.proofs.Common.{ap, arith, length}
 use Rattle.std.proofs.lemmas.Fmt.{decimal_digit}
 use Rattle.entry_log.proofs.Digits.{two_digits, length_two_digits}
 use Rattle.entry_log.proofs.text.numbers.put_two_digits.Goals as goal
