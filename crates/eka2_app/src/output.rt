@@ -43,6 +43,14 @@ fn put_entry(line: &mut Line, entry: &Entry) -> usize
     0
 }
 
+/// The bytes of a buffer from a place on.
+fn bytes_from(line: &Line, from: usize) -> &[u8]
+    requires { from ≤ length line.now.items }
+    ensures { result.now ≡ drop from line.now.items }
+{
+    &line.as_slice()[from..]
+}
+
 /// Puts the line of an object that is left into a buffer, in place of what it held.
 fn put_row(line: &mut Line, row: &FinalRow)
     ensures { line.new.items ≡ final_line row.now }
@@ -95,7 +103,7 @@ fn write_entries<K: Sink>(sink: &mut K, line: &mut Line, entries: &[Entry]) -> R
 {
     for entry in entries {
         let from = put_entry(line, entry);
-        write_whole(sink, &line.as_slice()[from..])?;
+        write_whole(sink, bytes_from(line, from))?;
     }
     Ok(())
 }

@@ -14,7 +14,7 @@ returns-in_err-write_whole-clause-front g c =
     let i = c.loop-entry.entry-index in
     let all = c.args.entries.now in
     let left = drop_more all i c.entry-item.result c.loop-entry-test.true ∙ ap (λ (e : Entry). e ∷ drop (i + 1) all) (sym c.entry-item.is) in
-    rw p.1 (all_but_prefix _ _ _ _ _ (flat_map entry_line (drop (i + 1) all)) _ c.loop-entry.invariant.all (next_line entry_line (drop i all) (drop (i + 1) all) c.entry-item.result c.index.result.now left (line_of_entry c)) c.in_err-write_whole.ensures.front)
+    rw p.1 (all_but_prefix _ _ _ _ _ (flat_map entry_line (drop (i + 1) all)) _ c.loop-entry.invariant.all (next_line entry_line (drop i all) (drop (i + 1) all) c.entry-item.result c.bytes_from.result.now left (c.bytes_from.ensures ∙ c.put_entry-from.ensures.stands)) c.in_err-write_whole.ensures.front)
 
 pub loop-entry-preserved : goal.loop-entry-preserved
 loop-entry-preserved g c =
@@ -22,7 +22,7 @@ loop-entry-preserved g c =
     let all = c.args.entries.now in
     let left = drop_more all i c.entry-item.result c.loop-entry-test.true ∙ ap (λ (e : Entry). e ∷ drop (i + 1) all) (sym c.entry-item.is) in
     record {
-      all = all_but_next _ _ _ _ _ _ _ c.loop-entry.invariant.all (next_line entry_line (drop i all) (drop (i + 1) all) c.entry-item.result c.index.result.now left (line_of_entry c)) c.in_ok-write_whole.ensures.whole;
+      all = all_but_next _ _ _ _ _ _ _ c.loop-entry.invariant.all (next_line entry_line (drop i all) (drop (i + 1) all) c.entry-item.result c.bytes_from.result.now left (c.bytes_from.ensures ∙ c.put_entry-from.ensures.stands)) c.in_ok-write_whole.ensures.whole;
       tells = search rules;
       never_falls = search rules;
     }
