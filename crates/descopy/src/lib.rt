@@ -1,0 +1,13 @@
+//! Copies between a server and its client, which are made in pieces.
+#![tactic(auto)]
+
+mod bytes;
+mod copies;
+mod ends;
+mod job;
+mod places;
+mod refusals;
+mod sizes;
+
+pub use copies::Descopy;
+pub use job::{Job, Piece};
