@@ -8,6 +8,8 @@ mod job;
 mod places;
 mod refusals;
 mod sizes;
+#[cfg(test)]
+mod tests;
 
 pub use copies::Descopy;
 pub use job::{Job, Piece};
