@@ -1,5 +1,5 @@
 -- The memory of a process while a piece is written to it, byte for byte.
-use Rattle.std.proofs.Common.{◌≡◌, ◌∙◌, ℕ, ◌+◌, ◌<◌, ◌≤◌, List, [], ◌∷◌, ◌++◌, length, get_or, set, take, drop, refl, sym, ap, arith, inl, inr, false, true}
+use Rattle.std.proofs.Common.{◌≡◌, ◌∙◌, ℕ, ◌+◌, ◌<◌, List, ◌++◌, length, get_or, set, take, drop, refl, sym, ap, arith, inl, inr, false, true}
 use Rattle.std.specs.Prelude.{IsTrue, is_some, Option, Some, None, option_map, unwrap_or}
 use Rattle.std.proofs.lemmas.Bool.{cases_lt}
 use Rattle.std.proofs.lemmas.List.{append_assoc, get_or-set_same, get_or_past, length-append, length-drop, length-take, set-get_or, set-set}
