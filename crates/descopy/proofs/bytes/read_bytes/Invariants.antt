@@ -1,0 +1,6 @@
+use Rattle.std.proofs.Common.{◌≡◌, length, take}
+use Rattle.descopy.specs.Memory.{bytes_from}
+use Rattle.descopy.proofs.bytes.read_bytes.Given as goal
+
+abbrev pub invariant-loop-k : goal.invariant-loop-k
+invariant-loop-k l = (take l.k l.piece ≡ bytes_from l.procs.processes l.from l.k) × (length l.piece ≡ 64)
