@@ -242,6 +242,26 @@ EachFits script t [] S = Unit {0}
 EachFits script t (m ∷ ms) S = FitsMove script t m S × EachFits script t ms (moved t m S)
 
 -- the most effects that a move tells
+abbrev pub nano_most : NanoMove → ℕ
+nano_most (Take t f) = 1
+nano_most (Give t f) = 1
+nano_most _ = 0
+
+abbrev pub request_most : RequestMove → ℕ
+request_most (Complete d t s code) = 1
+request_most (SignalStatus t s code) = 1
+request_most _ = 0
+
+abbrev pub lock_most : LockMove → ℕ
+lock_most (Lock o t locked) = 2
+lock_most (Unlock o t unlocked) = 3
+lock_most (Free o t best) = 3
+lock_most _ = 0
+
+abbrev pub death_most : DeathMove → ℕ
+death_most (Doom u exit) = 1
+death_most _ = 0
+
 abbrev pub most_told : Move → ℕ
 most_told (Lose h o) = 2
 most_told (Pay what) = 2
@@ -251,17 +271,26 @@ most_told (Advance u) = 0
 most_told (Wait u what) = 0
 most_told (Wake u) = 0
 most_told (SetPriority u priority) = 0
+most_told (Nano m) = nano_most m
 most_told (Deferred m) = 0
-most_told (Locks m) = 3
+most_told (Requests m) = request_most m
+most_told (Locks m) = lock_most m
+most_told (Death m) = death_most m
 most_told (Fill p at length byte) = 0
 most_told _ = 1
 
 -- the most that a move adds to the weight of what its thread owes: with a last reference the close of a link and a
--- sweep, with the end of an instruction the close of a temporary reference, and with a mutex the close of its ownership
+-- sweep, with the end of an instruction the close of a temporary reference, and with a mutex that is given up the close
+-- of its ownership
+abbrev pub lock_owes : LockMove → ℕ
+lock_owes (Unlock o t unlocked) = 4
+lock_owes (Free o t best) = 4
+lock_owes _ = 0
+
 abbrev pub most_owed : Move → ℕ
 most_owed (Lose h o) = 3
 most_owed (Advance u) = 4
-most_owed (Locks m) = 4
+most_owed (Locks m) = lock_owes m
 most_owed _ = 0
 
 -- The moves of an action fit: each when its turn comes; what the thread owes then weighs at most 12; and an entry has

@@ -44,6 +44,7 @@ use Rattle.machine.specs.CriticalSection.{enter_do, leave_do, give_held, flush}
 use Rattle.machine.specs.ThreadCalls.{refusal_of_role, refusal_of, suspend_move, resume_move, move_or_refuse, unless_refused, call_on, suspend_step, resume_step, priority_step}
 use Rattle.machine.specs.Fits.{FitsMove, FitsNano, MayTake, IsAtInstruction}
 use Rattle.machine.specs.WellFormed.{AreRows, is_before_use}
+use Rattle.move_laws.proofs.Numbers.FewEffects.{nano-tells}
 use Rattle.move_laws.proofs.Lists.Cases.{if_cases}
 use Rattle.move_laws.proofs.Numbers.Registers.{priority_small}
 use Rattle.move_laws.proofs.Holders.ThreadRows.{row-here}
@@ -86,7 +87,7 @@ fits-move told m code h cheap fits at = record {
 }
 
 cheap_nano : (m : NanoMove) → IsCheap (move.Nano m)
-cheap_nano m = record { told = omega arith; light = refl }
+cheap_nano m = record { told = let few = nano-tells m in omega arith; light = refl }
 
 -- where that is a change of the rows of threads that synchronize
 fits-nano : {script : Script} {S : State} {t : ObjNo} {row : ThreadRow} {instr : Instr} (told : Step) (m : NanoMove) (code : ℤ) → IsStepping script S t row instr → is_some (thread_of S (nano_thread m)) ≡ true → FitsNano m S → FitsDecision script t S (answer t told (move.Nano m ∷ []) code)

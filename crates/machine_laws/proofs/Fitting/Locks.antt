@@ -36,6 +36,7 @@ use Rattle.machine.specs.Rows.{object_of, thread_of}
 use Rattle.machine.specs.SemaphoreCalls.{wait_on, wait_do, wait_step, signal_by, signal_do, signal_step}
 use Rattle.machine.specs.Task.{is_returning}
 use Rattle.machine.specs.WellFormed.{IsAlive, is_before_use, part_of}
+use Rattle.move_laws.proofs.Numbers.FewEffects.{lock-tells, lock-owes}
 use Rattle.move_laws.proofs.Holders.ThreadRows.{row-here}
 use Rattle.move_laws.proofs.Lists.Cases.{if_cases}
 use Rattle.move_laws.proofs.Readiness.FirstReady.{greatest_listed}
@@ -46,11 +47,11 @@ use Rattle.machine_laws.proofs.Fitting.Waiters.{passed_is, stepping_nowhere, str
 
 -- an answer after a move in the rows of mutexes and semaphores, and where a waiter goes on after it
 fits-locked : {script : Script} {S : State} {t : ObjNo} {row : ThreadRow} {instr : Instr} (told : Step) (m : LockMove) → IsStepping script S t row instr → FitsLocks t m S → FitsDecision script t S (answer t told (move.Locks m ∷ []) (pos 0))
-fits-locked {row = row} told m h fits = fits-answers told (move.Locks m ∷ []) (pos 0) (fits, tt) (record { row = row; is = h.is; next = h.next }) (omega arith) (omega arith)
+fits-locked {row = row} told m h fits = fits-answers told (move.Locks m ∷ []) (pos 0) (fits, tt) (record { row = row; is = h.is; next = h.next }) (let few = lock-tells m in omega arith) (let few = lock-owes m in omega arith)
 
 fits-woken : {script : Script} {S : State} {t : ObjNo} {row : ThreadRow} {instr : Instr} (told : Step) (m : LockMove) (w : ObjNo) → IsStepping script S t row instr → FitsLocks t m S → WaitsNowhere (moved t (move.Locks m) S) w → FitsDecision script t S (answer t told (move.Locks m ∷ move.Wake w ∷ []) (pos 0))
 fits-woken {script = script} {S = S} {t = t} told m w h fits nowhere = fits-answers told (move.Locks m ∷ move.Wake w ∷ []) (pos 0) (fits, (nowhere, tt))
-    (at-with_row script S _ t w (with_waiting waiting.Nothing) (record { role = λ r. refl; next = λ r. refl }) refl (at_instruction h)) (omega arith) (omega arith)
+    (at-with_row script S _ t w (with_waiting waiting.Nothing) (record { role = λ r. refl; next = λ r. refl }) refl (at_instruction h)) (let few = lock-tells m in omega arith) (let few = lock-owes m in omega arith)
 
 -- the state in which the thread waits for an object, and comes to stand among its waiters
 abbrev waiting_at : State → ObjNo → ObjNo → State
@@ -67,8 +68,8 @@ fits-wait_at {row = row} told o m h none fits = record {
     record { unused = λ r is e. absurd (cc); paid = λ e. absurd (cc) },
     ((none, stepping_nowhere h), (fits (record { waits = record { row = with_waiting (waiting.Lock o) (with_part part.Done row); is = waits_there o h; waits = refl }; nowhere = stepping_nowhere h; paid = h.paid }), tt)),
   );
-  told = omega arith;
-  light = omega arith;
+  told = let few = lock-tells m in omega arith;
+  light = let few = lock-owes m in omega arith;
 }
 
 -- `lock`

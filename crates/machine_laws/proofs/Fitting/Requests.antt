@@ -30,6 +30,7 @@ use Rattle.machine.specs.Decide.{answer, unless_holding, wait_for}
 use Rattle.machine.specs.Fits.{FitsRequests}
 use Rattle.machine.specs.Queueing.{queue_do, queue_named}
 use Rattle.machine.specs.RequestCalls.{cancel_do, cancel_status, request_do, status_do, waitany_step, waitfor_step}
+use Rattle.move_laws.proofs.Numbers.FewEffects.{request-tells}
 use Rattle.move_laws.proofs.Lists.Cases.{if_cases, or_false_left, or_false_right}
 use Rattle.move_laws.proofs.Lists.Totals.{inside}
 use Rattle.move_laws.proofs.Numbers.Registers.{request_small}
@@ -51,7 +52,7 @@ fits-queue {script = script} {S = S} {t = t} {row = row} name h = named (dfc_nam
 
 -- an answer after a change of the rows of requests
 fits-changed : {script : Script} {S : State} {t : ObjNo} {row : ThreadRow} {instr : Instr} (told : Step) (m : RequestMove) (code : ℤ) → IsStepping script S t row instr → FitsRequests m S.requests → FitsDecision script t S (answer t told (move.Requests m ∷ []) code)
-fits-changed {row = row} told m code h fits = fits-move told (move.Requests m) code h (record { told = omega arith; light = refl }) fits (record { row = row; is = h.is; next = h.next })
+fits-changed {row = row} told m code h fits = fits-move told (move.Requests m) code h (record { told = let few = request-tells m in omega arith; light = refl }) fits (record { row = row; is = h.is; next = h.next })
 
 -- the thread has a request semaphore
 has_signals : {script : Script} {S : State} {t : ObjNo} {row : ThreadRow} {instr : Instr} → IsStepping script S t row instr → t.0 < length S.requests.signals

@@ -39,6 +39,7 @@ use Rattle.machine.specs.Open.{open_do, open_step, open_return}
 use Rattle.machine.specs.Task.{is_returning}
 use Rattle.machine.specs.Fits.{EachFits, Holds, IsAtInstruction, IsFree, most_told, most_owed}
 use Rattle.machine.specs.WellFormed.{IsAlive, is_before_use, part_of}
+use Rattle.move_laws.proofs.Numbers.FewEffects.{lock-tells, lock-owes}
 use Rattle.move_laws.proofs.Lists.Cases.{if_cases}
 use Rattle.move_laws.proofs.Numbers.Registers.{count_few}
 use Rattle.move_laws.proofs.RowLaws.Tables.{object_of_is}
@@ -54,11 +55,11 @@ record Begins (script : Script) (t : ObjNo) (start : Option LockMove) (T : State
 
 start_told : (start : Option LockMove) → total most_told (start_moves start) ≤ 3
 start_told None = omega arith
-start_told (Some m) = omega arith
+start_told (Some m) = let few = lock-tells m in omega arith
 
 start_owed : (start : Option LockMove) → total most_owed (start_moves start) ≤ 4
 start_owed None = omega arith
-start_owed (Some m) = omega arith
+start_owed (Some m) = let few = lock-owes m in omega arith
 
 -- `create`
 fits-create : {script : Script} {S : State} {t : ObjNo} {row : ThreadRow} {instr : Instr} (kind : Kind) (name : List ℕ) (start : Option LockMove) (x : ℕ) → IsStepping script S t row instr → x < 8 → is_session kind ≡ false

@@ -25,7 +25,7 @@ use Rattle.machine.specs.declared.lock_move.LockMove.TheVariants.{Start, Lock, U
 use Rattle.machine.specs.declared.moves.Move.TheVariants.{Locks}
 use Rattle.machine.specs.declared.state.State.{State}
 use Rattle.machine.specs.Choice.{priority_of}
-use Rattle.machine.specs.Fits.{FitsMove, MayFree, MayJoin, MayLock, MayUnlock, WaitsNowhere}
+use Rattle.machine.specs.Fits.{lock_owes, FitsMove, MayFree, MayJoin, MayLock, MayUnlock, WaitsNowhere}
 use Rattle.machine.specs.HeldIn.{held_in, owed_by}
 use Rattle.machine.specs.LockMoves.{holding, lock_told, not_holding, owed_moved}
 use Rattle.machine.specs.Moves.{moved, told}
@@ -245,7 +245,7 @@ sound-free : (script : Script) (S : State) (t o : ObjNo) (best : Option ObjNo) �
 sound-free script S t o None may few rows = sound-freed script S t o (gives_all S o t None may) few rows
 sound-free script S t o (Some w) may few rows = sound-given script S t o w (gives_all S o t (Some w) may) (sym may.chosen) few rows
 
-pub sound-locks : (script : Script) (S : State) (t : ObjNo) (m : LockMove) → FitsMove script t (Locks m) S → total weight (owed_of S t) + 4 ≤ 12 → AreRows script S → Sound script S (moved t (Locks m) S) (told (Locks m) S)
+pub sound-locks : (script : Script) (S : State) (t : ObjNo) (m : LockMove) → FitsMove script t (Locks m) S → total weight (owed_of S t) + lock_owes m ≤ 12 → AreRows script S → Sound script S (moved t (Locks m) S) (told (Locks m) S)
 sound-locks script S t (Start o count) fits few rows = sound-alone script S _ (locks-start (length S.objects) S.threads (parts S) rows.locks rows.sized.objects_few o fits.object count fits.few) rows
 sound-locks script S t (Lock o u locked) fits few rows = sound-lock script S t o u locked fits rows
 sound-locks script S t (Unlock o u unlocked) fits few rows = subst (λ (y : ObjNo). Sound script S (moved t (Locks (Unlock o y unlocked)) S) (lock_told (Unlock o y unlocked))) (sym fits.0) (sound-unlock script S t o unlocked (subst (λ (y : ObjNo). MayUnlock S o y unlocked) fits.0 fits.1) few rows)
@@ -258,7 +258,7 @@ sound-locks script S t (Signal o signalled) fits few rows = sound-alone script S
 close_weight : (owed : List (List Owed)) (t u o : ObjNo) → u ≡ t → total weight (get_or (owing owed u (Close (Own u) o ∷ [])) t.0 []) ≤ total weight (get_or owed t.0 []) + 4
 close_weight owed t u o is = subst (λ (y : ObjNo). total weight (get_or (owing owed u (Close (Own u) o ∷ [])) y.0 []) ≤ total weight (get_or owed y.0 []) + 4) is (let a = weight-owing owed u (Close (Own u) o ∷ []) in omega arith)
 
-pub lock_weight : (script : Script) (S : State) (t : ObjNo) (m : LockMove) → FitsMove script t (Locks m) S → total weight (get_or (owed_moved m S.owed) t.0 []) ≤ total weight (get_or S.owed t.0 []) + 4
+pub lock_weight : (script : Script) (S : State) (t : ObjNo) (m : LockMove) → FitsMove script t (Locks m) S → total weight (get_or (owed_moved m S.owed) t.0 []) ≤ total weight (get_or S.owed t.0 []) + lock_owes m
 lock_weight script S t (Unlock o u Freed) fits = close_weight S.owed t u o fits.0
 lock_weight script S t (Unlock o u (Passed w)) fits = close_weight S.owed t u o fits.0
 lock_weight script S t (Free o u best) fits = close_weight S.owed t u o fits.0

@@ -14,9 +14,9 @@ use Rattle.machine.specs.declared.moves.Move.TheVariants.{Lose, Nano, Requests, 
 use Rattle.machine.specs.declared.nano_move.NanoMove.{NanoMove}
 use Rattle.machine.specs.declared.nano_move.NanoMove.TheVariants.{Take, Give}
 use Rattle.machine.specs.declared.request_move.RequestMove.{RequestMove}
-use Rattle.machine.specs.declared.request_move.RequestMove.TheVariants.{Complete}
+use Rattle.machine.specs.declared.request_move.RequestMove.TheVariants.{Complete, Signal}
 use Rattle.machine.specs.declared.state.State.{State}
-use Rattle.machine.specs.Fits.{most_told}
+use Rattle.machine.specs.Fits.{nano_most, request_most, lock_most, death_most, lock_owes, most_told}
 use Rattle.machine.specs.DeathMoves.{death_told}
 use Rattle.machine.specs.LockMoves.{lock_told}
 use Rattle.machine.specs.Moves.{moved, told, tell, closed_effects}
@@ -28,16 +28,17 @@ closed_few : (last : Bool) (h : Holder) (o : ObjNo) → length (closed_effects l
 closed_few true h o = omega arith
 closed_few false h o = omega arith
 
-nano_few : (m : NanoMove) → length (nano_told m) ≤ 1
+nano_few : (m : NanoMove) → length (nano_told m) ≤ nano_most m
 nano_few (Take t f) = omega arith
 nano_few (Give t f) = omega arith
 nano_few _ = omega arith
 
-request_few : (m : RequestMove) → length (request_told m) ≤ 1
+request_few : (m : RequestMove) → length (request_told m) ≤ request_most m
 request_few (Complete d t s code) = omega arith
+request_few (Signal t s code) = omega arith
 request_few _ = omega arith
 
-lock_few : (m : LockMove) → length (lock_told m) ≤ 3
+lock_few : (m : LockMove) → length (lock_told m) ≤ lock_most m
 lock_few (Lock o t Taken) = omega arith
 lock_few (Unlock o t Freed) = omega arith
 lock_few (Unlock o t (Passed w)) = omega arith
@@ -45,7 +46,7 @@ lock_few (Free o t None) = omega arith
 lock_few (Free o t (Some w)) = omega arith
 lock_few _ = omega arith
 
-death_few : (m : DeathMove) → length (death_told m) ≤ 1
+death_few : (m : DeathMove) → length (death_told m) ≤ death_most m
 death_few (Doom t exit) = omega arith
 death_few _ = omega arith
 
@@ -66,3 +67,26 @@ tell_few t (m ∷ ms) S =
     let rest = tell_few t ms (moved t m S) in
     let e : length (told m S ++ tell t ms (moved t m S)) ≡ length (told m S) + length (tell t ms (moved t m S)) = length-append (told m S) (tell t ms (moved t m S)) in
     omega arith
+
+-- a move in the rows of threads that synchronize, of requests, or of mutexes and semaphores tells so many effects at most, whichever it is, and a
+-- move of these adds so much to what is owed
+pub nano-tells : (m : NanoMove) → nano_most m ≤ 1
+nano-tells (Take t f) = omega arith
+nano-tells (Give t f) = omega arith
+nano-tells _ = omega arith
+
+pub request-tells : (m : RequestMove) → request_most m ≤ 1
+request-tells (Complete d t s code) = omega arith
+request-tells (Signal t s code) = omega arith
+request-tells _ = omega arith
+
+pub lock-tells : (m : LockMove) → lock_most m ≤ 3
+lock-tells (Lock o t locked) = omega arith
+lock-tells (Unlock o t unlocked) = omega arith
+lock-tells (Free o t best) = omega arith
+lock-tells _ = omega arith
+
+pub lock-owes : (m : LockMove) → lock_owes m ≤ 4
+lock-owes (Unlock o t unlocked) = omega arith
+lock-owes (Free o t best) = omega arith
+lock-owes _ = omega arith

@@ -13,7 +13,7 @@ use Rattle.state_rows.proofs.SoundRequests.{status_item, sixteen-with_status, so
 use Rattle.machine.specs.declared.request_move.RequestMove.{RequestMove}
 use Rattle.machine.specs.declared.request_move.RequestMove.TheVariants.{Begin, Complete, SetPending, Signal, DropAll, TakeSignal}
 use Rattle.machine.specs.RequestMoves.{request_moved}
-use Rattle.machine.specs.Fits.{FitsRequests, MayBegin, MayComplete}
+use Rattle.machine.specs.Fits.{FitsRequests, MayBegin}
 use Rattle.machine.specs.WellFormed.{AreRequests}
 use Rattle.move_laws.proofs.Lists.Sets.{set_either}
 use Rattle.move_laws.proofs.References.Same.{same_object}
