@@ -61,6 +61,10 @@ mutexes_at_boot : (script : Script) → (boot script).mutexes ≡ map (λ (_ : B
 unfolding boot_of
 mutexes_at_boot script = refl
 
+logons_at_boot : (script : Script) → (boot script).logons ≡ map (λ (_ : Born). []) (born script)
+unfolding boot_of
+logons_at_boot script = refl
+
 memories_each : (bs : List Born) → map memory_of bs ≡ map memory_of_row (map (λ (b : Born). b.thread) bs)
 memories_each [] = refl
 memories_each (b ∷ bs) = ap (λ (l : List (Option (List ℕ))). memory_of b ∷ l) (memories_each bs)
@@ -70,15 +74,15 @@ unfolding boot_of
 memories_at_boot script = memories_each (born script)
 
 -- a state is its fields
-all_fields : (S : State) (objects : List (Option ObjectRow)) (handles : List (List HandleSlot)) (threads : List (Option ThreadRow)) (owed : List (List Owed)) (nano : NanoRows) (deferred : DeferredRows) (requests : RequestRows) (locks : LockRows) (mutexes : List (List ObjNo)) (memories : List (Option (List ℕ))) → objects ≡ S.objects → handles ≡ S.handles → threads ≡ S.threads → owed ≡ S.owed → nano ≡ S.nano → deferred ≡ S.deferred → requests ≡ S.requests → locks ≡ S.locks → mutexes ≡ S.mutexes → memories ≡ S.memories → record { objects = objects; handles = handles; threads = threads; ready = S.ready; owed = owed; nano = nano; deferred = deferred; requests = requests; locks = locks; mutexes = mutexes; memories = memories } ≡ S
-all_fields S objects handles threads owed nano deferred requests locks mutexes memories o h t w n d r l m b = rw (o, h, t, w, n, d, r, l, m, b) refl
+all_fields : (S : State) (objects : List (Option ObjectRow)) (handles : List (List HandleSlot)) (threads : List (Option ThreadRow)) (owed : List (List Owed)) (nano : NanoRows) (deferred : DeferredRows) (requests : RequestRows) (locks : LockRows) (mutexes : List (List ObjNo)) (logons : List (List (ObjNo × ℕ))) (memories : List (Option (List ℕ))) → objects ≡ S.objects → handles ≡ S.handles → threads ≡ S.threads → owed ≡ S.owed → nano ≡ S.nano → deferred ≡ S.deferred → requests ≡ S.requests → locks ≡ S.locks → mutexes ≡ S.mutexes → logons ≡ S.logons → memories ≡ S.memories → record { objects = objects; handles = handles; threads = threads; ready = S.ready; owed = owed; nano = nano; deferred = deferred; requests = requests; locks = locks; mutexes = mutexes; logons = logons; memories = memories } ≡ S
+all_fields S objects handles threads owed nano deferred requests locks mutexes logons memories o h t w n d r l m g b = rw (o, h, t, w, n, d, r, l, m, g, b) refl
 
 -- the tables that are made for what stands at boot
-pub fields_at_boot : (script : Script) (all : List Born) (state : State) (objects : List (Option ObjectRow)) (handles : List (List HandleSlot)) (threads : List (Option ThreadRow)) (owed : List (List Owed)) (nano : NanoRows) (deferred : DeferredRows) (requests : RequestRows) (locks : LockRows) (mutexes : List (List ObjNo)) (memories : List (Option (List ℕ))) → all ≡ born script → state ≡ boot script → objects ≡ take (length all) (map (λ (b : Born). Some b.object) all) → handles ≡ map (λ (_ : Born). replicate HANDLES fresh_slot) all → threads ≡ state.threads → owed ≡ map (λ (_ : Born). []) all → nano ≡ nano_of script.fast all → deferred ≡ calls_of script → requests ≡ new_rows (length all) DEVICES → locks ≡ lock_rows OBJECTS → mutexes ≡ map (λ (_ : Born). []) all → memories ≡ map memory_of_row state.threads → record { objects = objects; handles = handles; threads = threads; ready = (boot script).ready; owed = owed; nano = nano; deferred = deferred; requests = requests; locks = locks; mutexes = mutexes; memories = memories } ≡ boot script
-fields_at_boot script all state objects handles threads owed nano deferred requests locks mutexes memories born_are state_is o h t w n d r l m b =
+pub fields_at_boot : (script : Script) (all : List Born) (state : State) (objects : List (Option ObjectRow)) (handles : List (List HandleSlot)) (threads : List (Option ThreadRow)) (owed : List (List Owed)) (nano : NanoRows) (deferred : DeferredRows) (requests : RequestRows) (locks : LockRows) (mutexes : List (List ObjNo)) (logons : List (List (ObjNo × ℕ))) (memories : List (Option (List ℕ))) → all ≡ born script → state ≡ boot script → objects ≡ take (length all) (map (λ (b : Born). Some b.object) all) → handles ≡ map (λ (_ : Born). replicate HANDLES fresh_slot) all → threads ≡ state.threads → owed ≡ map (λ (_ : Born). []) all → nano ≡ nano_of script.fast all → deferred ≡ calls_of script → requests ≡ new_rows (length all) DEVICES → locks ≡ lock_rows OBJECTS → mutexes ≡ map (λ (_ : Born). []) all → logons ≡ map (λ (_ : Born). []) all → memories ≡ map memory_of_row state.threads → record { objects = objects; handles = handles; threads = threads; ready = (boot script).ready; owed = owed; nano = nano; deferred = deferred; requests = requests; locks = locks; mutexes = mutexes; logons = logons; memories = memories } ≡ boot script
+fields_at_boot script all state objects handles threads owed nano deferred requests locks mutexes logons memories born_are state_is o h t w n d r l m g b =
     let long : length (map (λ (b : Born). Some b.object) all) ≤ length all = let e = length-map all (λ (b : Born). Some b.object) in omega arith in
     let rows : objects ≡ (boot script).objects = o ∙ (take_all (length all) (map (λ (b : Born). Some b.object) all) long ∙ (ap (map (λ (b : Born). Some b.object)) born_are ∙ sym (objects_at_boot script))) in
-    all_fields (boot script) objects handles threads owed nano deferred requests locks mutexes memories rows
+    all_fields (boot script) objects handles threads owed nano deferred requests locks mutexes logons memories rows
     (h ∙ (ap (map (λ (_ : Born). replicate HANDLES fresh_slot)) born_are ∙ sym (handles_at_boot script)))
     (t ∙ ap (λ (S : State). S.threads) state_is)
     (w ∙ (ap (map (λ (_ : Born). [])) born_are ∙ sym (owed_at_boot script)))
@@ -87,4 +91,5 @@ fields_at_boot script all state objects handles threads owed nano deferred reque
     (r ∙ (ap (λ (bs : List Born). new_rows (length bs) DEVICES) born_are ∙ sym (requests_at_boot script)))
     (l ∙ sym (locks_at_boot script))
     (m ∙ (ap (map (λ (_ : Born). [])) born_are ∙ sym (mutexes_at_boot script)))
+    (g ∙ (ap (map (λ (_ : Born). [])) born_are ∙ sym (logons_at_boot script)))
     (b ∙ (ap (λ (S : State). map memory_of_row S.threads) state_is ∙ sym (memories_at_boot script)))

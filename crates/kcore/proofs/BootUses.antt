@@ -28,6 +28,10 @@ pub none_listed : (bs : List Born) → replicate {A = List ObjNo} (length bs) []
 none_listed [] = refl
 none_listed (b ∷ bs) = ap (λ (l : List (List ObjNo)). [] ∷ l) (none_listed bs)
 
+pub none_logged : (bs : List Born) → replicate {A = List (ObjNo × ℕ)} (length bs) [] ≡ map (λ (b : Born). []) bs
+none_logged [] = refl
+none_logged (b ∷ bs) = ap (λ (l : List (List (ObjNo × ℕ))). [] ∷ l) (none_logged bs)
+
 -- where a call succeeded with this, it did with what follows from it
 pub if_ok : {A E : Type 0} (r : Result A E) (P Q : A → Type 0) → ((x : A) → P x → Q x) → IfOk r P → IfOk r Q
 if_ok (Ok x) P Q follows h = follows x h

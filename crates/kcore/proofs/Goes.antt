@@ -52,6 +52,7 @@ rows_apart script S qs h = record {
   requests = h.requests;
   locks = h.locks;
   memories = h.memories;
+  logons = h.logons;
   lives = record { alive = h.lives.alive; counted = h.lives.counted; sweeps = h.lives.sweeps };
 }
 

@@ -6,7 +6,7 @@ use Rattle.script_types.specs.declared.script.Script.{Script}
 use Rattle.entry_log.specs.declared.effect.Effect.{Effect}
 use Rattle.state_rows.specs.declared.duty.Owed.TheVariants.{Close, Sweep}
 use Rattle.machine.specs.declared.moves.Move.{Move}
-use Rattle.machine.specs.declared.moves.Move.TheVariants.{Make, Gain, Lose, Find, Miss, GoOn, Write, Advance, Wake, SetPriority, Nano, Deferred, Requests, Locks, Death, Fill, Pay}
+use Rattle.machine.specs.declared.moves.Move.TheVariants.{Make, Gain, Lose, Find, Miss, GoOn, Write, Advance, Wake, SetPriority, Nano, Deferred, Requests, Locks, Logons, Death, Fill, Pay}
 use Rattle.machine.specs.declared.moves.Move.TheVariants as move
 use Rattle.machine.specs.declared.state.State.{State}
 use Rattle.machine.specs.Arrivals.{is_listed, touched, taken_out, arrive, arrivals}
@@ -31,6 +31,7 @@ moved_apart t (Nano m) S qs = refl
 moved_apart t (Deferred m) S qs = refl
 moved_apart t (Requests m) S qs = refl
 moved_apart t (Locks m) S qs = refl
+moved_apart t (Logons m) S qs = refl
 moved_apart t (Death m) S qs = refl
 moved_apart t (Fill p at size byte) S qs = refl
 moved_apart t (Pay (Close h o)) S qs = refl
@@ -52,6 +53,7 @@ told_apart (Nano m) S qs = refl
 told_apart (Deferred m) S qs = refl
 told_apart (Requests m) S qs = refl
 told_apart (Locks m) S qs = refl
+told_apart (Logons m) S qs = refl
 told_apart (Death m) S qs = refl
 told_apart (Fill p at size byte) S qs = refl
 told_apart (Pay (Close h o)) S qs = refl

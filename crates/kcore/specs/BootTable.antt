@@ -46,6 +46,7 @@ pub record AreOver {W N : Type 0} (script : Script) (all : List Born) (o : Objec
   pub owed : tables.cleanup.duties ≡ map (λ _. []) all
   pub uses : tables.cleanup.temporary ≡ replicate (length all) None
   pub mutexes : tables.cleanup.mutexes ≡ map (λ _. []) all
+  pub logons : tables.cleanup.logons ≡ map (λ _. []) all
   pub listed : tables.cleanup.objects ≡ OBJECTS
   pub nano : tables.nano ≡ nano_of script.fast all
   pub deferred : tables.deferred ≡ calls_of script
@@ -62,6 +63,7 @@ pub record AreTables {W N : Type 0} (script : Script) (all : List Born) (S : Sta
   pub owed : tables.cleanup.duties ≡ map (λ _. []) all
   pub uses : tables.cleanup.temporary ≡ replicate (length all) None
   pub mutexes : tables.cleanup.mutexes ≡ map (λ _. []) all
+  pub logons : tables.cleanup.logons ≡ map (λ _. []) all
   pub listed : tables.cleanup.objects ≡ OBJECTS
   pub nano : tables.nano ≡ nano_of script.fast all
   pub deferred : tables.deferred ≡ calls_of script

@@ -93,6 +93,7 @@ fn empty_lists(alloc: Global, all: &[Born]) -> Result<Cleanup, NoMemory>
     ensures owed { IfOk result (λ lists. lists.duties ≡ map (λ _. []) all.now) }
     ensures uses { IfOk result (λ lists. lists.temporary ≡ replicate (length all.now) None) }
     ensures mutexes { IfOk result (λ lists. lists.mutexes ≡ map (λ _. []) all.now) }
+    ensures logons { IfOk result (λ lists. lists.logons ≡ map (λ _. []) all.now) }
     ensures objects { IfOk result (λ lists. lists.objects ≡ OBJECTS) }
 {
     Cleanup::new(alloc, all.len() as u16, Limits::OBJECTS as u16)
@@ -150,6 +151,7 @@ fn empty_tables(alloc: Global, all: &[Born]) -> Result<(Items<Handles>, Cleanup)
     ensures owed { IfOk result (λ made. made.1.duties ≡ map (λ _. []) all.now) }
     ensures uses { IfOk result (λ made. made.1.temporary ≡ replicate (length all.now) None) }
     ensures mutexes { IfOk result (λ made. made.1.mutexes ≡ map (λ _. []) all.now) }
+    ensures logons { IfOk result (λ made. made.1.logons ≡ map (λ _. []) all.now) }
     ensures objects { IfOk result (λ made. made.1.objects ≡ OBJECTS) }
 {
     let handles = fresh_handles(alloc, all)?;

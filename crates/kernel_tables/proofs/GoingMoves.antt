@@ -14,7 +14,7 @@ use Rattle.state_rows.specs.declared.duty.Owed.TheVariants.{Close, Sweep}
 use Rattle.state_rows.specs.declared.object.ObjectRow.{ObjectRow}
 use Rattle.state_rows.specs.ObjectRows.{is_dead_row}
 use Rattle.machine.specs.declared.moves.Move.{Move}
-use Rattle.machine.specs.declared.moves.Move.TheVariants.{Make, Gain, Lose, Find, Miss, GoOn, Write, Advance, Wait, Wake, SetPriority, Nano, Deferred, Requests, Locks, Death, Fill, Pay}
+use Rattle.machine.specs.declared.moves.Move.TheVariants.{Make, Gain, Lose, Find, Miss, GoOn, Write, Advance, Wait, Wake, SetPriority, Nano, Deferred, Requests, Locks, Logons, Death, Fill, Pay}
 use Rattle.machine.specs.declared.nano_move.NanoMove.{NanoMove}
 use Rattle.machine.specs.declared.nano_move.NanoMove.TheVariants as nano
 use Rattle.machine.specs.declared.request_move.RequestMove.{RequestMove}
@@ -45,6 +45,7 @@ use Rattle.move_laws.proofs.References.Same.{same_self}
 use Rattle.kernel_tables.specs.Moved.{CanMove, MayGain, TakesLeast, AreKnown, MoveGoes, MovesGo, is_set}
 use Rattle.kernel_tables.specs.Referred.{HasPlaces, IsReferred}
 use Rattle.kernel_tables.proofs.GoingLocks.{can_lock}
+use Rattle.kernel_tables.proofs.GoingLogons.{can_logon}
 use Rattle.kernel_tables.proofs.DyingRows.{death_priority}
 use Rattle.kernel_tables.proofs.Ranks.{rank-with_row, rank-gain, rank-lose, rank-closed, rank-none}
 use Rattle.kernel_tables.specs.NanoMoved.{CanNano}
@@ -185,15 +186,15 @@ can_nano script S m rows there fits =
     by_kind (nano.Lower t) at fits = at
 
 -- a move in the rows of requests names what is there, and completes what is pending
-can_request : (count : ℕ) (r : RequestRows) (m : RequestMove) → AreRequests count r → FitsRequests m r → CanRequest m r
-can_request count r (request.Begin d t s) rows fits = (fits.device, fits.thread, fits.status)
-can_request count r (request.Complete d t s code) rows fits =
+can_request : (count : ℕ) (r : RequestRows) (m : RequestMove) (logons : List (List (ObjNo × ℕ))) → AreRequests count r → FitsRequests m r logons → CanRequest m r
+can_request count r (request.Begin d t s) logons rows fits = (fits.device, fits.thread, fits.status)
+can_request count r (request.Complete d t s code) logons rows fits =
     let known = rows.rows.requests_known d _ fits.1 in
     ((fits.0, known.0, known.1), rows.pending d _ fits.1)
-can_request count r (request.SetPending t s) rows fits = fits
-can_request count r (request.Signal t s code) rows fits = (fits.thread, fits.status, fits.waits)
-can_request count r (request.DropAll t) rows fits = fits
-can_request count r (request.TakeSignal t) rows fits = fits
+can_request count r (request.SetPending t s) logons rows fits = fits
+can_request count r (request.Signal t s code) logons rows fits = (fits.0.thread, fits.0.status, fits.0.waits)
+can_request count r (request.DropAll t) logons rows fits = fits
+can_request count r (request.TakeSignal t) logons rows fits = fits
 
 -- threads have the least numbers, and priorities in their range
 known : (script : Script) (S : State) → AreRows script S → AreKnown S
@@ -221,8 +222,9 @@ can_move script S t (Wake u) shaped fits refs s = tt
 can_move script S t (SetPriority u priority) shaped fits refs s = known script S s.rows
 can_move script S t (Nano m) shaped fits refs s = can_nano script S m s.rows fits.0 fits.1
 can_move script S t (Deferred m) shaped fits refs s = fits
-can_move script S t (Requests m) shaped fits refs s = can_request (length S.threads) S.requests m s.rows.requests fits
+can_move script S t (Requests m) shaped fits refs s = can_request (length S.threads) S.requests m S.logons s.rows.requests fits
 can_move script S t (Locks m) shaped fits refs s = can_lock script S s.rows (known script S s.rows) (λ o. referred script S o s.rows) (λ u. few_places script S u s.rows) t m fits
+can_move script S t (Logons m) shaped fits refs s = can_logon script S m s.rows fits
 can_move script S t (Death m) shaped fits refs s = tt
 can_move script S t (Fill p at size byte) shaped fits refs s = fits
 can_move script S t (Pay what) shaped fits refs s = absurd fits
@@ -239,6 +241,7 @@ ranks_move script S t (Nano m) u fits unset = refl
 ranks_move script S t (Deferred m) u fits unset = refl
 ranks_move script S t (Requests m) u fits unset = refl
 ranks_move script S t (Locks m) u fits unset = refl
+ranks_move script S t (Logons m) u fits unset = refl
 ranks_move script S t (Death m) u fits unset = rank-with_row S.threads (death_thread m) (death_row m) u (death_priority m)
 ranks_move script S t (Fill p at size byte) u fits unset = refl
 ranks_move script S t (Make kind name h) u fits unset = rank-gain S.threads h (next_object S) u

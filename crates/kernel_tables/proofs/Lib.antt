@@ -5,7 +5,9 @@ mod Finds
 pub mod FirstCount
 pub mod GoingActions
 mod GoingLocks
+mod GoingLogons
 mod GoingMoves
+pub mod GoneLogons
 mod LockRows
 mod Noting
 pub mod Performing

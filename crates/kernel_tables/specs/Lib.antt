@@ -5,6 +5,7 @@ pub mod Noted
 pub mod Referred
 pub mod Dying
 pub mod LockMoved
+pub mod LogonMoved
 pub mod NanoMoved
 pub mod RequestMoved
 pub mod Moved

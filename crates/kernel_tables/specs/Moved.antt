@@ -11,7 +11,7 @@ use Rattle.state_rows.specs.declared.handle_slot.HandleSlot.{HandleSlot}
 use Rattle.state_rows.specs.HandleSlots.{free_index}
 use Rattle.state_rows.specs.ObjectRows.{is_session, is_taken, is_dead_row}
 use Rattle.machine.specs.declared.moves.Move.{Move}
-use Rattle.machine.specs.declared.moves.Move.TheVariants.{Make, Gain, Lose, Find, Miss, GoOn, Write, Advance, Wait, Wake, SetPriority, Nano, Deferred, Requests, Locks, Death, Fill, Pay}
+use Rattle.machine.specs.declared.moves.Move.TheVariants.{Make, Gain, Lose, Find, Miss, GoOn, Write, Advance, Wait, Wake, SetPriority, Nano, Deferred, Requests, Locks, Logons, Death, Fill, Pay}
 use Rattle.machine.specs.declared.state.State.{State}
 use Rattle.state_rows.specs.declared.thread.ThreadRow.{ThreadRow}
 use Rattle.script_types.specs.declared.script.Script.{Script}
@@ -27,6 +27,7 @@ use Rattle.kernel_tables.specs.declared.tables.Tables.{Tables}
 use Rattle.kernel_tables.specs.Counts.{CountsMove}
 use Rattle.kernel_tables.specs.NanoMoved.{CanNano}
 use Rattle.kernel_tables.specs.LockMoved.{CanLock}
+use Rattle.kernel_tables.specs.LogonMoved.{CanLogon}
 use Rattle.kernel_tables.specs.Noted.{TiedTables}
 use Rattle.kernel_tables.specs.Referred.{HasPlaces, IsReferred}
 use Rattle.kernel_tables.specs.RequestMoved.{CanRequest}
@@ -90,6 +91,7 @@ CanMove t (Nano m) S = CanNano m S.nano
 CanMove t (Deferred m) S = FitsDeferred m S.deferred
 CanMove t (Requests m) S = CanRequest m S.requests
 CanMove t (Locks m) S = CanLock m S
+CanMove t (Logons m) S = CanLogon m (length S.owed) S.logons
 CanMove t (Death m) S = Unit {0}
 CanMove t (Fill p at length byte) S = at + length ≤ 1024
 CanMove t (Pay (Close h o)) S = IsReferred S o × HasPlaces 2 S t

@@ -30,6 +30,7 @@ state_of tables = record {
   requests = tables.requests;
   locks = tables.locks.rows;
   mutexes = tables.cleanup.mutexes;
+  logons = tables.cleanup.logons;
   memories = tables.procs.processes;
 }
 

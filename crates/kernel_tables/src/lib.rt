@@ -6,6 +6,7 @@ mod call_queues;
 mod death_moves;
 mod duties;
 mod lock_moves;
+mod logon_moves;
 mod moves;
 mod nano_moves;
 mod object_table;

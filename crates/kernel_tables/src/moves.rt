@@ -15,6 +15,7 @@ ghost use Rattle.kernel_tables.specs.StateOf.{slots_of, state_of};
 use crate::death_moves::move_death;
 use crate::duties::{drop_first_owed, owe_close, owe_use};
 use crate::lock_moves::move_lock;
+use crate::logon_moves::move_logon;
 use crate::nano_moves::move_nano;
 use crate::request_moves::move_request;
 use crate::tables::Tables;
@@ -224,6 +225,7 @@ pub fn make_move<W: RefWords + Drop>(tables: &mut Tables<W>, thread: ThreadNo, c
         Move::Deferred(change) => tables.deferred.change(change),
         Move::Requests(change) => move_request(&mut tables.requests, change),
         Move::Locks(change) => move_lock(tables, change),
+        Move::Logons(change) => move_logon(&mut tables.cleanup, change),
         Move::Death(change) => move_death(&mut tables.procs, change),
         Move::Fill(process, at, length, byte) => {
             fill(&mut tables.procs, process, at, length, byte);

@@ -121,6 +121,7 @@ boot_of fast calls bs = record {
   requests = request_rows (length bs) DEVICES;
   locks = lock_rows OBJECTS;
   mutexes = map (λ _. []) bs;
+  logons = map (λ _. []) bs;
   memories = map memory_of bs;
 }
 

@@ -9,7 +9,7 @@ use Rattle.entry_log.specs.declared.effect.Holder.{Holder}
 use Rattle.entry_log.specs.declared.effect.Holder.TheVariants.{InProcess, InThread, Temp}
 use Rattle.entry_log.specs.declared.step.Part.{Part}
 use Rattle.machine.specs.declared.moves.Move.{Move}
-use Rattle.machine.specs.declared.moves.Move.TheVariants.{Make, Gain, Lose, Find, Miss, GoOn, Write, Advance, Wait, Wake, SetPriority, Nano, Deferred, Requests, Locks, Death, Fill, Pay}
+use Rattle.machine.specs.declared.moves.Move.TheVariants.{Make, Gain, Lose, Find, Miss, GoOn, Write, Advance, Wait, Wake, SetPriority, Nano, Deferred, Requests, Locks, Logons, Death, Fill, Pay}
 use Rattle.machine.specs.declared.death_move.DeathMove.{DeathMove}
 use Rattle.machine.specs.declared.death_move.DeathMove.TheVariants.{Doom}
 use Rattle.machine.specs.declared.nano_move.NanoMove.{NanoMove}
@@ -33,7 +33,7 @@ use Rattle.machine.specs.References.{total}
 use Rattle.machine.specs.Moves.{moved, tell}
 use Rattle.machine.specs.Task.{instructions_of, is_returning}
 use Rattle.machine.specs.HeldIn.{owed_by}
-use Rattle.machine.specs.WellFormed.{IsAlive, AreRows, Awaits, IsOwnerOf, is_before_use, part_of, weight}
+use Rattle.machine.specs.WellFormed.{IsAlive, IsAwaited, AreRows, Awaits, IsOwnerOf, times_logged, is_before_use, part_of, weight}
 use Rattle.machine.specs.Choice.{priority_of}
 use Rattle.state_rows.specs.declared.locks.Locked.{Locked}
 use Rattle.state_rows.specs.declared.locks.Locked.TheVariants.{Waits}
@@ -41,6 +41,8 @@ use Rattle.state_rows.specs.declared.locks.Unlocked.{Unlocked}
 use Rattle.state_rows.specs.declared.locks.Signalled.{Signalled}
 use Rattle.state_rows.specs.Locks.{owner_at, count_at, waiters_at, best_waiter, is_among}
 use Rattle.state_rows.specs.LockChanges.{lock_answer, unlock_answer, signal_answer}
+use Rattle.machine.specs.declared.logon_move.LogonMove.{LogonMove}
+use Rattle.machine.specs.declared.logon_move.LogonMove.TheVariants.{Add as AddLogon, Remove as RemoveLogon, Drop as DropLogons}
 use Rattle.machine.specs.declared.lock_move.LockMove.{LockMove}
 use Rattle.machine.specs.declared.lock_move.LockMove.TheVariants.{Start, Lock, Unlock, Free, Leave, WaitOn, Signal}
 
@@ -128,22 +130,21 @@ pub record MayBegin (r : RequestRows) (d : ℕ) (t : ObjNo) (s : ℕ) : Type 0 w
   pub free : request_at r d ≡ None
   pub done : is_pending r t s ≡ false
 
--- a status that may be completed: it is pending, and no device has its request
-pub record MayComplete (r : RequestRows) (t : ObjNo) (s : ℕ) : Type 0 where
-  pub thread : t.0 < length r.signals
-  pub status : s < 16
-  pub waits : is_pending r t s ≡ true
-  pub alone : (d : ℕ) → request_at r d ≡ Some (record { thread = t; status = s }) → ⊥
-
 -- A move in the rows of requests fits them: what it names is there, a request begins where it may, the device's own is completed, and so is a
--- status that no device has.
-abbrev pub FitsRequests : RequestMove → RequestRows → Type 0
-FitsRequests (Begin d t s) r = MayBegin r d t s
-FitsRequests (Complete d t s code) r = (d < length r.devices) × (request_at r d ≡ Some (record { thread = t; status = s }))
-FitsRequests (SetPending t s) r = (t.0 < length r.signals) × (s < 16)
-FitsRequests (SignalStatus t s code) r = MayComplete r t s
-FitsRequests (DropAll t) r = t.0 < length r.signals
-FitsRequests (TakeSignal t) r = t.0 < length r.signals
+-- status that neither a device nor a logon has.
+abbrev pub FitsRequests : RequestMove → RequestRows → List (List (ObjNo × ℕ)) → Type 0
+FitsRequests (Begin d t s) r logons = MayBegin r d t s
+FitsRequests (Complete d t s code) r logons = (d < length r.devices) × (request_at r d ≡ Some (record { thread = t; status = s }))
+FitsRequests (SetPending t s) r logons = (t.0 < length r.signals) × (s < 16)
+FitsRequests (SignalStatus t s code) r logons = IsAwaited r t s × (times_logged logons t s ≡ 0)
+FitsRequests (DropAll t) r logons = t.0 < length r.signals
+FitsRequests (TakeSignal t) r logons = t.0 < length r.signals
+
+-- A move in the rows of logons fits the state: what it names is there, and a logon is made with a status that is awaited and that no other has.
+abbrev pub FitsLogons : LogonMove → State → Type 0
+FitsLogons (AddLogon t u s) S = (t.0 < length S.threads) × IsAwaited S.requests u s × (times_logged S.logons u s ≡ 0)
+FitsLogons (RemoveLogon t u s) S = (t.0 < length S.threads) × (u.0 < length S.threads) × (s < 16)
+FitsLogons (DropLogons u) S = u.0 < length S.threads
 
 -- whether a thread stands among no waiters
 abbrev pub WaitsNowhere : State → ObjNo → Type 0
@@ -230,8 +231,9 @@ FitsMove script t (Wake u) S = WaitsNowhere S u
 FitsMove script t (SetPriority u priority) S = priority ≤ 63
 FitsMove script t (Nano m) S = (is_some (thread_of S (nano_thread m)) ≡ true) × FitsNano m S
 FitsMove script t (Deferred m) S = FitsDeferred m S.deferred
-FitsMove script t (Requests m) S = FitsRequests m S.requests
+FitsMove script t (Requests m) S = FitsRequests m S.requests S.logons
 FitsMove script t (Locks m) S = FitsLocks t m S
+FitsMove script t (Logons m) S = FitsLogons m S
 FitsMove script t (Death m) S = FitsDeath m S
 FitsMove script t (Fill p at length byte) S = at + length ≤ 1024
 FitsMove script t (Pay what) S = ⊥
@@ -275,6 +277,7 @@ most_told (Nano m) = nano_most m
 most_told (Deferred m) = 0
 most_told (Requests m) = request_most m
 most_told (Locks m) = lock_most m
+most_told (Logons m) = 0
 most_told (Death m) = death_most m
 most_told (Fill p at length byte) = 0
 most_told _ = 1

@@ -20,6 +20,7 @@ pub mod History
 pub mod Holding
 pub mod Interrupts
 pub mod LockMoves
+pub mod LogonMoves
 pub mod Look
 pub mod Memory
 pub mod MemoryCalls

@@ -14,7 +14,7 @@ use Rattle.state_rows.specs.declared.duty.Owed.TheVariants.{Close, Sweep}
 use Rattle.state_rows.specs.declared.object.ObjectRow.{ObjectRow}
 use Rattle.state_rows.specs.ObjectRows.{dead_row}
 use Rattle.machine.specs.declared.moves.Move.{Move}
-use Rattle.machine.specs.declared.moves.Move.TheVariants.{Make, Gain, Lose, Find, Miss, GoOn, Write, Advance, Wait, Wake, SetPriority, Nano, Deferred, Requests, Locks, Death, Fill, Pay}
+use Rattle.machine.specs.declared.moves.Move.TheVariants.{Make, Gain, Lose, Find, Miss, GoOn, Write, Advance, Wait, Wake, SetPriority, Nano, Deferred, Requests, Locks, Logons, Death, Fill, Pay}
 use Rattle.state_rows.specs.declared.thread.Waiting.{Waiting}
 use Rattle.state_rows.specs.declared.thread.Waiting.TheVariants as waiting
 use Rattle.state_rows.specs.declared.handle_slot.HandleSlot.{HandleSlot}
@@ -26,6 +26,7 @@ use Rattle.machine.specs.References.{is_last}
 use Rattle.machine.specs.NanoMoves.{nano_moved, nano_told}
 use Rattle.machine.specs.DeferredMoves.{deferred_moved}
 use Rattle.machine.specs.RequestMoves.{request_moved, request_told}
+use Rattle.machine.specs.LogonMoves.{logons_moved}
 use Rattle.machine.specs.DeathMoves.{death_row, death_told, death_thread}
 use Rattle.machine.specs.LockMoves.{lock_moved, mutexes_moved, owed_moved, lock_told}
 use Rattle.machine.specs.Memory.{filled, with_memory}
@@ -160,6 +161,7 @@ moved t (Locks m) S = record S {
   mutexes = mutexes_moved m S.mutexes;
   owed = owed_moved m S.owed;
 }
+moved t (Logons m) S = record S { logons = logons_moved m S.logons }
 moved t (Death m) S = record S { threads = with_row S.threads (death_thread m) (death_row m) }
 moved t (Fill p at length byte) S = record S { memories = with_memory S.memories p (filled at length byte) }
 moved t (Pay (Close h o)) S = record S {
@@ -190,6 +192,7 @@ told (Nano m) S = nano_told m
 told (Deferred m) S = []
 told (Requests m) S = request_told m
 told (Locks m) S = lock_told m
+told (Logons m) S = []
 told (Death m) S = death_told m
 told (Fill p at length byte) S = []
 told (Pay (Close h o)) S = closed_effects (is_last S o) h o

@@ -1,5 +1,5 @@
 -- What holds of every state that a legal history leaves: a predicate for each part of the state.
-use Rattle.std.specs.Prelude.{◌≡◌, ℕ, ◌+◌, ◌<◌, ◌≤◌, Bool, true, false, List, [], ◌∷◌, length, Option, Some, None, is_some}
+use Rattle.std.specs.Prelude.{◌≡◌, ℕ, ◌+◌, ◌<◌, ◌≤◌, Bool, true, false, if◌then◌else◌, List, [], ◌∷◌, length, Option, Some, None, is_some}
 use Rattle.std.specs.List.{slice_index_or, AllByRecursion}
 use Rattle.sym_base.specs.declared.limits.TheConstants.Limits.{OBJECTS, BOOT_OBJECTS, DEVICES}
 use Rattle.sym_base.specs.declared.number.ObjNo.{ObjNo}
@@ -32,6 +32,7 @@ use Rattle.state_rows.specs.Locks.{owner_at, count_at, waiters_at, is_among}
 use Rattle.machine.specs.References.{total, same, mutex_names, count_of}
 use Rattle.machine.specs.HeldIn.{owed_by}
 use Rattle.machine.specs.Task.{instructions_of, served_queue, is_ready, is_returning}
+use Rattle.machine.specs.LogonMoves.{is_logon}
 use Rattle.machine.specs.Arrivals.{is_listed}
 use Rattle.state_rows.specs.DeclaredCalls.{calls_of}
 
@@ -131,6 +132,26 @@ pub record AreRequests (count : ℕ) (r : RequestRows) : Type 0 where
   pub pending : (d : ℕ) (request : Request) → request_at r d ≡ Some request → is_pending r request.thread request.status ≡ true
   pub apart : (d e : ℕ) (request : Request) → request_at r d ≡ Some request → request_at r e ≡ Some request → d ≡ e
 
+-- a status that may be completed: it is pending, and no device has its request
+pub record IsAwaited (r : RequestRows) (t : ObjNo) (s : ℕ) : Type 0 where
+  pub thread : t.0 < length r.signals
+  pub status : s < 16
+  pub waits : is_pending r t s ≡ true
+  pub alone : (d : ℕ) → request_at r d ≡ Some (record { thread = t; status = s }) → ⊥
+
+-- how often a thread is logged on with a status, on whichever threads
+abbrev pub logon_names : ObjNo → ℕ → ObjNo × ℕ → ℕ
+logon_names u s logon = if is_logon u s logon then 1 else 0
+
+abbrev pub times_logged : List (List (ObjNo × ℕ)) → ObjNo → ℕ → ℕ
+times_logged logons u s = total (total (logon_names u s)) logons
+
+-- logons: a list for each thread; and a status that a logon has is awaited, and no other logon has it
+pub record AreLogons (count : ℕ) (r : RequestRows) (logons : List (List (ObjNo × ℕ))) : Type 0 where
+  pub sized : length logons ≡ count
+  pub once : (u : ObjNo) (s : ℕ) → times_logged logons u s ≤ 1
+  pub waits : (u : ObjNo) (s : ℕ) → 0 < times_logged logons u s → IsAwaited r u s
+
 -- a thread that waits for an object
 pub record Awaits (threads : List (Option ThreadRow)) (t o : ObjNo) : Type 0 where
   pub row : ThreadRow
@@ -219,6 +240,7 @@ pub record AreRows (script : Script) (S : State) : Type 0 where
   pub requests : AreRequests (length S.threads) S.requests
   pub locks : AreLocks (length S.objects) S.threads S.mutexes S.owed S.locks
   pub memories : AreMemories S.threads S.memories
+  pub logons : AreLogons (length S.threads) S.requests S.logons
   pub lives : AreLives S
 
 pub record IsWellFormed (script : Script) (S : State) : Type 0 where

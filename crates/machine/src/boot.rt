@@ -360,6 +360,17 @@ fn no_mutexes(alloc: Global, all: &[Born]) -> Result<Items<Items<ObjNo>>, NoMemo
     Ok(Items::new(mutexes))
 }
 
+/// The logons on each: none.
+fn no_logons(alloc: Global, all: &[Born]) -> Result<Items<Items<(ThreadNo, u8)>>, NoMemory>
+    ensures { IfOk result (λ logons. logons ≡ map (λ _. []) all.now) }
+{
+    let mut logons = Vec::new(alloc);
+    for _born in all {
+        logons.push(Items::new(Vec::new(alloc)))?;
+    }
+    Ok(Items::new(logons))
+}
+
 /// What stands at boot, each with an empty table.
 fn standing_of(alloc: Global, all: &[Born]) -> Result<Standing, NoMemory>
     requires { length all.now ≤ 65536 }
@@ -380,18 +391,21 @@ fn standing_of(alloc: Global, all: &[Born]) -> Result<Standing, NoMemory>
     })
 }
 
-/// Nobody owes or holds anything at boot, and each byte is 0.
+/// Nobody owes or holds anything or is logged on to at boot, and each byte is 0.
 fn no_holdings(alloc: Global, all: &[Born]) -> Result<Holdings, NoMemory>
     ensures owed { IfOk result (λ h. h.owed ≡ map (λ _. []) all.now) }
     ensures mutexes { IfOk result (λ h. h.mutexes ≡ map (λ _. []) all.now) }
+    ensures logons { IfOk result (λ h. h.logons ≡ map (λ _. []) all.now) }
     ensures memories { IfOk result (λ h. h.memories ≡ map memory_of all.now) }
 {
     let owed = no_duties(alloc, all)?;
     let mutexes = no_mutexes(alloc, all)?;
+    let logons = no_logons(alloc, all)?;
     let memories = memories_of(alloc, all)?;
     Ok(Holdings {
         owed,
         mutexes,
+        logons,
         memories,
     })
 }
@@ -412,7 +426,7 @@ fn synchronizing_of(alloc: Global, fast: u8, all: &[Born]) -> Result<Synchronizi
     })
 }
 
-/// The state in which these stand, each with an empty table and nothing that it owes or holds, and no device with a request.
+/// The state in which these stand, each with an empty table, nothing that it owes or holds and no logon, and no device with a request.
 #[tactic(auto, unfolding(crate::specs::Boot::boot_of))]
 pub fn boot_of(
     alloc: Global,

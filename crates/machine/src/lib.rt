@@ -9,6 +9,7 @@ mod decision;
 mod deferred_move;
 mod handles;
 mod lock_move;
+mod logon_move;
 mod moves;
 mod nano_move;
 mod nano_rows;
@@ -27,6 +28,7 @@ pub use decision::{Decision, Outcome, entry_of};
 pub use deferred_move::DeferredMove;
 pub use handles::{NewHandle, holder_of, owner_of, process_handle, thread_handle};
 pub use lock_move::LockMove;
+pub use logon_move::LogonMove;
 pub use moves::{MAX_MOVES, Move, Moves};
 pub use nano_move::NanoMove;
 pub use nano_rows::{

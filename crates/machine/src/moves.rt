@@ -2,7 +2,7 @@
 //! a move of its own (the split is this project's own).
 ghost use Rattle.std.specs.Prelude.{◌≡◌, ◌<◌, ◌≤◌, [], ◌∷◌, ◌++◌, length};
 
-use crate::{DeathMove, DeferredMove, LockMove, NanoMove, RequestMove, Waiting};
+use crate::{DeathMove, DeferredMove, LockMove, LogonMove, NanoMove, RequestMove, Waiting};
 use entry_log::{Holder, Part};
 use state_rows::Owed;
 use std::marker::Model;
@@ -43,6 +43,8 @@ pub enum Move {
     Requests(RequestMove),
     /// What the kernel keeps of mutexes and semaphores changes, and with it who owns a mutex.
     Locks(LockMove),
+    /// What the kernel keeps of logons changes.
+    Logons(LogonMove),
     /// What the kernel keeps of a thread that dies changes.
     Death(DeathMove),
     /// Bytes of the process's memory, from an offset on and so many, get a value.

@@ -31,6 +31,9 @@ pub struct State {
     pub locks: LockRows,
     /// The mutexes that each thread holds, in order of taking.
     pub mutexes: Items<Items<ObjNo>>,
+    /// The logons on each thread, in order of making: the thread that made each, and its status, 0 to 15, which is going to tell
+    /// the death.
+    pub logons: Items<Items<(ThreadNo, u8)>>,
     /// The 1,024 bytes of each process, None at the number of a thread.
     pub memories: Items<Option<Items<u8>>>,
 }
@@ -137,18 +140,21 @@ fn copied_standing(alloc: Global, state: &State) -> Result<Standing, AllocError>
     })
 }
 
-/// The same duties, held mutexes and memories, a second time.
+/// The same duties, held mutexes, logons and memories, a second time.
 fn copied_holdings(alloc: Global, state: &State) -> Result<Holdings, AllocError>
     ensures owed { IfOk result (λ h. h.owed ≡ state.now.owed) }
     ensures mutexes { IfOk result (λ h. h.mutexes ≡ state.now.mutexes) }
+    ensures logons { IfOk result (λ h. h.logons ≡ state.now.logons) }
     ensures memories { IfOk result (λ h. h.memories ≡ state.now.memories) }
 {
     let owed = copied_lists(alloc, state.owed.as_slice())?;
     let mutexes = copied_lists(alloc, state.mutexes.as_slice())?;
+    let logons = copied_lists(alloc, state.logons.as_slice())?;
     let memories = copied_memories(alloc, state.memories.as_slice())?;
     Ok(Holdings {
         owed,
         mutexes,
+        logons,
         memories,
     })
 }

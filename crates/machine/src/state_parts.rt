@@ -16,11 +16,12 @@ pub struct Standing {
     pub ready: Items<ThreadNo>,
 }
 
-/// What each owes and holds, and the memories of processes.
+/// What each owes and holds, the logons on it, and the memories of processes.
 #[derive(Drop)]
 pub struct Holdings {
     pub owed: Items<Items<Owed>>,
     pub mutexes: Items<Items<ObjNo>>,
+    pub logons: Items<Items<(ThreadNo, u8)>>,
     pub memories: Items<Option<Items<u8>>>,
 }
 
@@ -39,7 +40,7 @@ pub fn join(
     holdings: Holdings,
     synchronizing: Synchronizing,
 ) -> State
-    ensures { result ≡ record { objects = standing.objects; handles = standing.handles; threads = standing.threads; ready = standing.ready; owed = holdings.owed; nano = synchronizing.nano; deferred = deferred; requests = synchronizing.requests; locks = synchronizing.locks; mutexes = holdings.mutexes; memories = holdings.memories } }
+    ensures { result ≡ record { objects = standing.objects; handles = standing.handles; threads = standing.threads; ready = standing.ready; owed = holdings.owed; nano = synchronizing.nano; deferred = deferred; requests = synchronizing.requests; locks = synchronizing.locks; mutexes = holdings.mutexes; logons = holdings.logons; memories = holdings.memories } }
 {
     State {
         objects: standing.objects,
@@ -52,6 +53,7 @@ pub fn join(
         requests: synchronizing.requests,
         locks: synchronizing.locks,
         mutexes: holdings.mutexes,
+        logons: holdings.logons,
         memories: holdings.memories,
     }
 }

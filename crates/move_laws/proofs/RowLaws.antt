@@ -5,6 +5,7 @@ pub mod Duties
 pub mod LockChanges
 pub mod LockMoves
 pub mod Locks
+pub mod Logons
 pub mod Memories
 pub mod Requests
 pub mod Synchronized

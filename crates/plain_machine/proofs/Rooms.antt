@@ -11,7 +11,7 @@ use Rattle.state_rows.specs.ObjectRows.{dead_row}
 use Rattle.machine.specs.declared.death_move.DeathMove.{DeathMove}
 use Rattle.machine.specs.declared.death_move.DeathMove.TheVariants.{Note, Doom, Clean}
 use Rattle.machine.specs.declared.moves.Move.{Move}
-use Rattle.machine.specs.declared.moves.Move.TheVariants.{Make, Gain, Lose, Find, Miss, GoOn, Write, Advance, Wait, Wake, SetPriority, Nano, Deferred, Requests, Locks, Death, Fill, Pay}
+use Rattle.machine.specs.declared.moves.Move.TheVariants.{Make, Gain, Lose, Find, Miss, GoOn, Write, Advance, Wait, Wake, SetPriority, Nano, Deferred, Requests, Locks, Logons, Death, Fill, Pay}
 use Rattle.state_rows.specs.declared.handle_slot.HandleSlot.{HandleSlot}
 use Rattle.state_rows.specs.declared.thread.Waiting.TheVariants.{Nothing}
 use Rattle.state_rows.specs.declared.thread.ThreadRow.{ThreadRow}
@@ -165,6 +165,7 @@ room_moved t (Nano m) n S room = with_threads n S (moved t (Nano m) S) refl refl
 room_moved t (Deferred m) n S room = with_threads n S (moved t (Deferred m) S) refl refl (threads_less n (n + 1) (omega arith) S.threads room.instructions) room
 room_moved t (Requests m) n S room = with_threads n S (moved t (Requests m) S) refl refl (threads_less n (n + 1) (omega arith) S.threads room.instructions) room
 room_moved t (Locks m) n S room = with_threads n S (moved t (Locks m) S) refl refl (threads_less n (n + 1) (omega arith) S.threads room.instructions) room
+room_moved t (Logons m) n S room = with_threads n S (moved t (Logons m) S) refl refl (threads_less n (n + 1) (omega arith) S.threads room.instructions) room
 room_moved t (Death m) n S room = with_threads n S (moved t (Death m) S) refl refl (row_stays (death_row m) (death_stays m) n S.threads (death_thread m) (threads_less n (n + 1) (omega arith) S.threads room.instructions)) room
 room_moved t (Fill p at long byte) n S room = with_threads n S (moved t (Fill p at long byte) S) refl refl (threads_less n (n + 1) (omega arith) S.threads room.instructions) room
 room_moved t (Pay (Close h o)) n S room = record {

@@ -9,7 +9,7 @@ use Rattle.state_rows.specs.declared.nano.NanoRows.{NanoRows}
 use Rattle.state_rows.specs.Nano.{suspend_count, is_free, is_holder}
 use Rattle.readings.specs.Readable.{AreSmallRows}
 use Rattle.machine.specs.declared.moves.Move.{Move}
-use Rattle.machine.specs.declared.moves.Move.TheVariants.{Make, Gain, Lose, Find, Miss, GoOn, Write, Advance, Wait, Wake, SetPriority, Nano, Deferred, Requests, Locks, Death, Fill, Pay}
+use Rattle.machine.specs.declared.moves.Move.TheVariants.{Make, Gain, Lose, Find, Miss, GoOn, Write, Advance, Wait, Wake, SetPriority, Nano, Deferred, Requests, Locks, Logons, Death, Fill, Pay}
 use Rattle.machine.specs.declared.nano_move.NanoMove.{NanoMove}
 use Rattle.machine.specs.declared.nano_move.NanoMove.TheVariants.{Take, Give, Want, Enter, Leave, LeaveAll, Suspend, Resume, Release, Raise, Lower}
 use Rattle.machine.specs.declared.state.State.{State}
@@ -67,5 +67,6 @@ small_moved t (SetPriority u priority) S small = small
 small_moved t (Deferred m) S small = small
 small_moved t (Requests m) S small = small
 small_moved t (Locks m) S small = small
+small_moved t (Logons m) S small = small
 small_moved t (Death m) S small = small
 small_moved t (Fill p at long byte) S small = small

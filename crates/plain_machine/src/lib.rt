@@ -9,6 +9,7 @@ mod course;
 mod deaths;
 mod final_rows;
 mod locks;
+mod logons;
 mod mutexes;
 mod nano;
 mod perform;

@@ -8,6 +8,7 @@ ghost use Rattle.machine.specs.Room.{HasRoom, AreSmallTables};
 use crate::calls::make_deferred_move;
 use crate::deaths::make_death_move;
 use crate::locks::make_lock_move;
+use crate::logons::make_logon_move;
 use crate::nano::make_nano_move;
 use crate::requests::make_request_move;
 use entry_log::Holder;
@@ -226,6 +227,7 @@ pub fn make_move(
         Move::Deferred(change) => return make_deferred_move(alloc, state, change),
         Move::Requests(change) => return make_request_move(alloc, state, change),
         Move::Locks(change) => return make_lock_move(alloc, state, thread, change),
+        Move::Logons(change) => return make_logon_move(alloc, &mut state.logons, change),
         Move::Death(change) => make_death_move(&mut state.threads, &change),
         Move::Fill(process, at, length, byte) => {
             return fill_memory(alloc, &mut state.memories, process, at, length, byte);

@@ -148,6 +148,7 @@ pub fn tell<R: Reads>(effects: &mut Effects, reads: &R, change: &Move)
         | Move::Wake(_)
         | Move::SetPriority(_, _)
         | Move::Deferred(_)
+        | Move::Logons(_)
         | Move::Fill(_, _, _, _) => {}
         Move::Pay(what) => tell_payment(effects, reads, what),
     }

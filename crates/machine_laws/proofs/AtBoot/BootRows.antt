@@ -19,7 +19,7 @@ use Rattle.state_rows.specs.HandleSlots.{fresh_slot, slot_at}
 use Rattle.machine.specs.References.{total, option_names, slot_names, thread_names, kernel_names, owed_names, mutex_names, count_of}
 use Rattle.machine.specs.Rows.{thread_of}
 use Rattle.state_rows.specs.HandleSlots.{IsTable}
-use Rattle.machine.specs.WellFormed.{EachMayOwe, AreRequests, AreRows, IsWellFormed, IsAlive, is_dead, dead_bit, owed_sweeps, weight}
+use Rattle.machine.specs.WellFormed.{EachMayOwe, AreLogons, AreRequests, AreRows, IsWellFormed, IsAlive, is_dead, dead_bit, owed_sweeps, weight}
 use Rattle.machine_laws.proofs.AtBoot.BootCounts.{counted-boot}
 use Rattle.machine_laws.proofs.AtBoot.BootLinks.{each_linked, linked_at}
 use Rattle.machine_laws.proofs.AtBoot.BootLocks.{locks-boot, memories-boot, nothing_at}
@@ -29,6 +29,7 @@ use Rattle.machine_laws.proofs.AtBoot.BootRequests.{requests-boot}
 use Rattle.machine_laws.proofs.AtBoot.BootServers.{servers-boot}
 use Rattle.machine.proofs.BornFew.{born_few}
 use Rattle.machine_laws.proofs.AtBoot.Born.{IsNewThread, EachBorn, each_born, born_row}
+use Rattle.move_laws.proofs.RowLaws.Logons.{logons-boot}
 use Rattle.move_laws.proofs.Lists.Copies.{copy_at}
 use Rattle.move_laws.proofs.References.Same.{same_other}
 
@@ -141,6 +142,7 @@ rows-boot script valid =
       requests = subst (λ (n : ℕ). AreRequests n (request_rows (length bs) DEVICES)) (sym threads) (requests-boot (length bs));
       locks = locks-boot (length (map (λ b. Some b.object) bs)) OBJECTS bs refl;
       memories = memories-boot script shaped;
+      logons = subst (λ (n : ℕ). AreLogons n (request_rows (length bs) DEVICES) (map (λ _. []) bs)) (sym threads) (logons-boot bs (length bs) (request_rows (length bs) DEVICES) refl);
       lives = record {
         alive = λ o c. elim (cases_lt o.0 (length bs)) [
           | inl lt ↦ born_alive script (length bs) bs o.0 each lt

@@ -51,7 +51,7 @@ fits-queue {script = script} {S = S} {t = t} {row = row} name h = named (dfc_nam
         (λ _. fits-move (step.Of word.Queue part.Do) (add_call S dfc) (pos 1) h (record { told = omega arith; light = refl }) (dfc_inside script S.deferred name dfc h.rows.deferred e, refl) (record { row = row; is = h.is; next = h.next }))
 
 -- an answer after a change of the rows of requests
-fits-changed : {script : Script} {S : State} {t : ObjNo} {row : ThreadRow} {instr : Instr} (told : Step) (m : RequestMove) (code : ℤ) → IsStepping script S t row instr → FitsRequests m S.requests → FitsDecision script t S (answer t told (move.Requests m ∷ []) code)
+fits-changed : {script : Script} {S : State} {t : ObjNo} {row : ThreadRow} {instr : Instr} (told : Step) (m : RequestMove) (code : ℤ) → IsStepping script S t row instr → FitsRequests m S.requests S.logons → FitsDecision script t S (answer t told (move.Requests m ∷ []) code)
 fits-changed {row = row} told m code h fits = fits-move told (move.Requests m) code h (record { told = let few = request-tells m in omega arith; light = refl }) fits (record { row = row; is = h.is; next = h.next })
 
 -- the thread has a request semaphore

@@ -46,6 +46,7 @@ rows-ready script S qs h = record {
   requests = h.requests;
   locks = h.locks;
   memories = h.memories;
+  logons = h.logons;
   lives = record { alive = h.lives.alive; counted = h.lives.counted; sweeps = h.lives.sweeps };
 }
 

@@ -118,4 +118,5 @@ sound-advance script S t u fits few inside rows =
           (leaves-then S.threads (with_row S.threads u advanced) (with_row S.threads u advanced) S.owed S.owed (owing S.owed u (owed_use u used)) S.locks (leaves-with_row S.threads u advanced S.owed S.locks (λ row. refl))
           (leaves-owing (with_row S.threads u advanced) S.owed u (owed_use u used) S.locks (use_unowned u used))) rows.locks;
       memories = memories-with_row S.threads u advanced S.memories (λ row is. refl) rows.memories;
+      logons = rows.logons;
     }) (lives-none S T refl counts sweeps) (holders-none S T held)

@@ -103,6 +103,7 @@ sound-closed false script S t h o handles threads owed e inside lost rows =
       locks = locks-left (length S.objects) (length S.objects) S.threads threads S.mutexes S.owed (owing owed t []) S.locks (omega arith)
           (leaves-then S.threads threads threads S.owed owed (owing owed t []) S.locks lost.locks (leaves-owing threads owed t [] S.locks (λ u x. refl))) rows.locks;
       memories = lost.memories;
+      logons = rows.logons;
     })
     (lives-closed false S T h o e alive refl
     (λ p. let a = total-owing (owed_names p) owed t [] here in let b = lost.counts p in omega arith)
@@ -138,6 +139,7 @@ sound-closed true script S t h o handles threads owed e inside lost rows =
       locks = locks-left (length S.objects) (length T.objects) S.threads other S.mutexes S.owed (owing owed t more) S.locks (let a = length-set S.objects o.0 (dead_row (get_or S.objects o.0 None)) in omega arith)
           (leaves-then S.threads threads other S.owed owed (owing owed t more) S.locks lost.locks (leaves-then threads other other owed owed (owing owed t more) S.locks (leaves-with_row threads o f owed S.locks (λ row. refl)) (leaves-owing other owed t more S.locks (link_unowned o link)))) rows.locks;
       memories = memories-with_row threads o f S.memories (λ row is. refl) lost.memories;
+      logons = rows.logons;
     })
     (lives-closed true S T h o e alive refl
     (λ p.

@@ -135,7 +135,7 @@ sound-gain script S t h o fits rows =
     let T = moved t (Gain h o) S in
     let g = gained script S h o fits.0 rows in
     sound-of script S T (told (Gain h o) S) rows
-    (record { handles_long = g.handles_long; threads_long = g.threads_long; owed_long = refl; objects_few = rows.sized.objects_few; tables = g.tables; threads = g.threads_are; duties = g.duties; nano = g.nano; deferred = rows.deferred; requests = rows.requests; locks = locks-left (length S.objects) (length S.objects) S.threads (threads_gain h o S.threads) S.mutexes S.owed S.owed S.locks (omega arith) g.locks rows.locks; memories = g.memories })
+    (record { handles_long = g.handles_long; threads_long = g.threads_long; owed_long = refl; objects_few = rows.sized.objects_few; tables = g.tables; threads = g.threads_are; duties = g.duties; nano = g.nano; deferred = rows.deferred; requests = rows.requests; locks = locks-left (length S.objects) (length S.objects) S.threads (threads_gain h o S.threads) S.mutexes S.owed S.owed S.locks (omega arith) g.locks rows.locks; memories = g.memories; logons = rows.logons })
     (lives-plus S T h o refl g.counts (λ p. refl) fits.1) (holders-plus S T h o g.none g.held)
 
 pub sound-make : (script : Script) (S : State) (t : ObjNo) (kind : Kind) (name : List ℕ) (h : Holder) → FitsMove script t (Make kind name h) S → AreRows script S → Sound script S (moved t (Make kind name h) S) (told (Make kind name h) S)
@@ -146,5 +146,5 @@ sound-make script S t kind name h fits rows =
     let room = fits.0.room in
     let long = length_push S.objects (Some (new_object kind name)) in
     sound-of script S T (told (Make kind name h) S) rows
-    (record { handles_long = g.handles_long; threads_long = g.threads_long; owed_long = refl; objects_few = omega arith; tables = g.tables; threads = g.threads_are; duties = g.duties; nano = g.nano; deferred = rows.deferred; requests = rows.requests; locks = locks-left (length S.objects) (length T.objects) S.threads (threads_gain h o S.threads) S.mutexes S.owed S.owed S.locks (omega arith) g.locks rows.locks; memories = g.memories })
+    (record { handles_long = g.handles_long; threads_long = g.threads_long; owed_long = refl; objects_few = omega arith; tables = g.tables; threads = g.threads_are; duties = g.duties; nano = g.nano; deferred = rows.deferred; requests = rows.requests; locks = locks-left (length S.objects) (length T.objects) S.threads (threads_gain h o S.threads) S.mutexes S.owed S.owed S.locks (omega arith) g.locks rows.locks; memories = g.memories; logons = rows.logons })
     (lives-made S T (new_object kind name) h o refl refl refl g.counts (λ p. refl)) (holders-plus S T h o g.none g.held)

@@ -59,7 +59,7 @@ parts S = record { rows = S.locks; mutexes = S.mutexes; owed = S.owed }
 sound-alone : (script : Script) (S : State) (new : LockRows) → AreLocks (length S.objects) S.threads S.mutexes S.owed new → AreRows script S → Sound script S (record S { locks = new }) []
 sound-alone script S new locks rows =
     let T : State = record S { locks = new } in
-    sound-of script S T [] rows (record { handles_long = refl; threads_long = refl; owed_long = refl; objects_few = rows.sized.objects_few; tables = rows.tables; threads = rows.threads; duties = rows.duties; nano = rows.nano; deferred = rows.deferred; requests = rows.requests; locks = locks; memories = rows.memories })
+    sound-of script S T [] rows (record { handles_long = refl; threads_long = refl; owed_long = refl; objects_few = rows.sized.objects_few; tables = rows.tables; threads = rows.threads; duties = rows.duties; nano = rows.nano; deferred = rows.deferred; requests = rows.requests; locks = locks; memories = rows.memories; logons = rows.logons })
     (lives-none S T refl (λ o. refl) (λ o. refl)) (holders-none S T (λ g x. refl))
 
 -- that a thread takes or gives a mutex tells of no reference and no death
@@ -74,7 +74,7 @@ silent-pass S t w o = record { quiet = record { minuses = λ p. refl; deaths = �
 
 -- it is told before a change
 sound-told : (script : Script) (S T : State) (es fs : List Effect) → IsSilent S es → ((p : ObjNo) → removals fs p ≡ 0) → AreRows script S → Sound script S T fs → Sound script S T (es ++ fs)
-sound-told script S T es fs quiet none rows sound = sound-then script S S T es fs (sound-rest script S S.nano S.deferred S.requests S.memories es quiet rows.nano rows.deferred rows.requests rows.memories rows) sound none
+sound-told script S T es fs quiet none rows sound = sound-then script S S T es fs (sound-rest script S S.nano S.deferred S.requests S.logons S.memories es quiet rows.nano rows.deferred rows.requests rows.logons rows.memories rows) sound none
 
 -- mutexes, duties and the rows of mutexes and semaphores change
 record ArePassed (script : Script) (S : State) (mutexes : List (List ObjNo)) (owed : List (List Owed)) (new : LockRows) : Type 0 where
@@ -100,6 +100,7 @@ sound-passed script S mutexes owed new effects h lives holders rows = sound-of s
   requests = rows.requests;
   locks = h.locks;
   memories = rows.memories;
+  logons = rows.logons;
 }) lives holders
 
 -- a mutex is taken exactly where it is free

@@ -105,6 +105,7 @@ sound-pay_sweep script S t o rest e inside rows =
       requests = rows.requests;
       locks = locks-left (length S.objects) (length T.objects) S.threads S.threads S.mutexes S.owed (without_first S.owed t) S.locks (let a = length-set S.objects o.0 None in omega arith) (leaves-without_first S.threads S.owed t S.locks) rows.locks;
       memories = rows.memories;
+      logons = rows.logons;
     })
     (lives-swept S T o there dead refl counts (λ p. let a = paid p in omega arith))
     (record { fits = (tt, tt); moves = λ g x. let a = total-paying (owed_by g x) S.owed t (Sweep o) rest here e in omega arith }))

@@ -28,7 +28,7 @@ use Rattle.machine.specs.Holding.{is_holder, held_after_all, EachFitsHolders, li
 use Rattle.machine.specs.HeldIn.{held_in, use_names}
 use Rattle.machine.specs.Task.{is_returning}
 use Rattle.machine.specs.Fits.{FitsMove, WaitsNowhere}
-use Rattle.machine.specs.WellFormed.{IsThread, AreSynchronized, AreCalls, AreMemories, AreRequests, AreRows, part_of}
+use Rattle.machine.specs.WellFormed.{IsThread, AreSynchronized, AreCalls, AreLogons, AreMemories, AreRequests, AreRows, part_of}
 use Rattle.move_laws.proofs.Lives.Kinds.{IsQuiet, lives-quiet}
 use Rattle.move_laws.proofs.Holders.ThreadRows.{row_holds, rows-with_row, row-other}
 use Rattle.move_laws.proofs.References.Counts.{count-with_row, kernel-with_row}
@@ -86,6 +86,7 @@ sound-row script S u f effects keeps thread paid quiet nano leaves rows =
       requests = rows.requests;
       locks = locks-left (length S.objects) (length S.objects) S.threads (with_row S.threads u f) S.mutexes S.owed S.owed S.locks (omega arith) leaves rows.locks;
       memories = memories-with_row S.threads u f S.memories (λ row is. (thread row is (rows.threads.rows u.0 row is)).process) rows.memories;
+      logons = rows.logons;
     })
     (lives-quiet S T effects refl quiet.quiet (λ o. let a = counts o in let b = quiet.pluses o in let c = quiet.quiet.minuses o in omega arith) (λ o. refl) (λ o h. let b = quiet.pluses o in absurd (omega arith)) quiet.found)
     (record { fits = quiet.fits; moves = λ g x. quiet.after g x ∙ sym (held g x) })
@@ -141,15 +142,15 @@ sound-priority script S t u priority fits rows = sound-row script S u (with_prio
     (λ k. inr (paid-with_row S.threads u (with_priority priority) (λ row h. h) k)) (silent S) (synchronized-with_row script S.threads u (with_priority priority) S.nano (λ row h. h) rows.nano) (leaves-with_row S.threads u (with_priority priority) S.owed S.locks (λ row. refl)) rows
 
 -- a change of the rows of threads that synchronize, of deferred function calls, of requests and of memories leaves all else
-pub sound-rest : (script : Script) (S : State) (nano : NanoRows) (calls : DeferredRows) (requests : RequestRows) (memories : List (Option (List ℕ))) (effects : List Effect) → IsSilent S effects → AreSynchronized script S.threads nano → AreCalls script calls → AreRequests (length S.threads) requests → AreMemories S.threads memories → AreRows script S → Sound script S (record S { nano = nano; deferred = calls; requests = requests; memories = memories }) effects
-sound-rest script S nano calls requests memories effects quiet sound called requested kept rows =
-    let T : State = record S { nano = nano; deferred = calls; requests = requests; memories = memories } in
-    sound-of script S T effects rows (record { handles_long = refl; threads_long = refl; owed_long = refl; objects_few = rows.sized.objects_few; tables = rows.tables; threads = rows.threads; duties = rows.duties; nano = sound; deferred = called; requests = requested; locks = rows.locks; memories = kept })
+pub sound-rest : (script : Script) (S : State) (nano : NanoRows) (calls : DeferredRows) (requests : RequestRows) (logons : List (List (ObjNo × ℕ))) (memories : List (Option (List ℕ))) (effects : List Effect) → IsSilent S effects → AreSynchronized script S.threads nano → AreCalls script calls → AreRequests (length S.threads) requests → AreLogons (length S.threads) requests logons → AreMemories S.threads memories → AreRows script S → Sound script S (record S { nano = nano; deferred = calls; requests = requests; logons = logons; memories = memories }) effects
+sound-rest script S nano calls requests logons memories effects quiet sound called requested logged kept rows =
+    let T : State = record S { nano = nano; deferred = calls; requests = requests; logons = logons; memories = memories } in
+    sound-of script S T effects rows (record { handles_long = refl; threads_long = refl; owed_long = refl; objects_few = rows.sized.objects_few; tables = rows.tables; threads = rows.threads; duties = rows.duties; nano = sound; deferred = called; requests = requested; locks = rows.locks; logons = logged; memories = kept })
     (lives-quiet S T effects refl quiet.quiet (λ o. let b = quiet.pluses o in let c = quiet.quiet.minuses o in omega arith) (λ o. refl) (λ o h. let b = quiet.pluses o in absurd (omega arith)) quiet.found)
     (record { fits = quiet.fits; moves = quiet.after })
 
 pub sound-miss : (script : Script) (S : State) (t o : ObjNo) → AreRows script S → Sound script S (moved t (Miss o) S) (told (Miss o) S)
-sound-miss script S t o rows = sound-rest script S S.nano S.deferred S.requests S.memories (Missed o ∷ []) (record { quiet = record { minuses = λ p. refl; deaths = λ p. refl; removals = λ p. refl }; pluses = λ p. refl; found = λ p h. absurd (omega arith); fits = (tt, tt); after = λ g x. refl }) rows.nano rows.deferred rows.requests rows.memories rows
+sound-miss script S t o rows = sound-rest script S S.nano S.deferred S.requests S.logons S.memories (Missed o ∷ []) (record { quiet = record { minuses = λ p. refl; deaths = λ p. refl; removals = λ p. refl }; pluses = λ p. refl; found = λ p h. absurd (omega arith); fits = (tt, tt); after = λ g x. refl }) rows.nano rows.deferred rows.requests rows.logons rows.memories rows
 
 pub sound-fill : (script : Script) (S : State) (t p : ObjNo) (at long byte : ℕ) → FitsMove script t (Fill p at long byte) S → AreRows script S → Sound script S (moved t (Fill p at long byte) S) (told (Fill p at long byte) S)
-sound-fill script S t p at long byte fits rows = sound-rest script S S.nano S.deferred S.requests (with_memory S.memories p (filled at long byte)) [] (silent S) rows.nano rows.deferred rows.requests (memories-filled S.threads S.memories p at long byte fits rows.memories) rows
+sound-fill script S t p at long byte fits rows = sound-rest script S S.nano S.deferred S.requests S.logons (with_memory S.memories p (filled at long byte)) [] (silent S) rows.nano rows.deferred rows.requests rows.logons (memories-filled S.threads S.memories p at long byte fits rows.memories) rows

@@ -7,7 +7,7 @@ use Rattle.entry_log.specs.declared.effect.Effect.{Effect}
 use Rattle.state_rows.specs.declared.duty.Owed.{Owed}
 use Rattle.state_rows.specs.declared.duty.Owed.TheVariants.{Close, Sweep}
 use Rattle.machine.specs.declared.moves.Move.{Move}
-use Rattle.machine.specs.declared.moves.Move.TheVariants.{Make, Gain, Lose, Find, Miss, GoOn, Write, Advance, Wait, Wake, SetPriority, Nano, Deferred, Requests, Locks, Death, Fill, Pay}
+use Rattle.machine.specs.declared.moves.Move.TheVariants.{Make, Gain, Lose, Find, Miss, GoOn, Write, Advance, Wait, Wake, SetPriority, Nano, Deferred, Requests, Locks, Logons, Death, Fill, Pay}
 use Rattle.machine.specs.declared.state.State.{State}
 use Rattle.machine.specs.Rows.{owed_of}
 use Rattle.machine.specs.Moves.{moved, told, perform, tell, closed_effects, link_of, owed_by_close, owed_use, use_of}
@@ -19,7 +19,7 @@ use Rattle.move_laws.proofs.References.Effects.{removals-append}
 use Rattle.move_laws.proofs.RowLaws.Duties.{weight-owing}
 use Rattle.move_laws.proofs.MoveLaws.Sound.{Sound, sound-then, sound-none}
 use Rattle.move_laws.proofs.MoveLaws.NanoMoves.{sound-nano, nano_silent}
-use Rattle.move_laws.proofs.MoveLaws.CallMoves.{sound-deferred, request_silent, sound-requests}
+use Rattle.move_laws.proofs.MoveLaws.CallMoves.{sound-deferred, request_silent, sound-requests, sound-logons}
 use Rattle.move_laws.proofs.MoveLaws.DeathMoves.{death_silent, sound-death}
 use Rattle.move_laws.proofs.MoveLaws.LockMoves.{lock_removes, lock_weight, sound-locks}
 use Rattle.move_laws.proofs.MoveLaws.RowMoves.{sound-fill, sound-find, sound-miss, sound-go_on, sound-write, sound-wait, sound-wake, sound-priority}
@@ -46,6 +46,7 @@ sound-move script S t (Nano m) fits few s = sound-nano script S t m fits s.rows
 sound-move script S t (Deferred m) fits few s = sound-deferred script S t m fits s.rows
 sound-move script S t (Requests m) fits few s = sound-requests script S t m fits s.rows
 sound-move script S t (Locks m) fits few s = sound-locks script S t m fits few s.rows
+sound-move script S t (Logons m) fits few s = sound-logons script S t m fits s.rows
 sound-move script S t (Death m) fits few s = sound-death script S t m fits s.rows
 sound-move script S t (Fill p at long byte) fits few s = sound-fill script S t p at long byte fits s.rows
 sound-move script S t (Pay what) fits few s = absurd fits

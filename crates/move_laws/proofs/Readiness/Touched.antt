@@ -18,7 +18,7 @@ use Rattle.state_rows.specs.Nano.{suspend_count, critical_count, held_by, is_pro
 use Rattle.state_rows.specs.NanoChanges.{after_suspend}
 use Rattle.state_rows.proofs.OtherThreads.{held_by-after_take, held_by-after_give, count-other}
 use Rattle.machine.specs.declared.moves.Move.{Move}
-use Rattle.machine.specs.declared.moves.Move.TheVariants.{Make, Gain, Lose, Find, Miss, GoOn, Write, Advance, Wait, Wake, SetPriority, Nano, Deferred, Requests, Locks, Death, Fill, Pay}
+use Rattle.machine.specs.declared.moves.Move.TheVariants.{Make, Gain, Lose, Find, Miss, GoOn, Write, Advance, Wait, Wake, SetPriority, Nano, Deferred, Requests, Locks, Logons, Death, Fill, Pay}
 use Rattle.machine.specs.declared.deferred_move.DeferredMove.{DeferredMove}
 use Rattle.machine.specs.declared.deferred_move.DeferredMove.TheVariants.{Add, Take as TakeCall}
 use Rattle.machine.specs.declared.lock_move.LockMove.{LockMove}
@@ -179,6 +179,7 @@ untouched script S t (Nano m) u threads joins none = ready-nano script S m u (λ
 untouched script S t (Deferred m) u threads joins none = ready-deferred script S t m u threads joins none
 untouched script S t (Requests m) u threads joins none = refl
 untouched script S t (Locks m) u threads joins none = ready-by script S (moved t (Locks m) S) u refl refl (owed-locks S.owed t m u none) refl
+untouched script S t (Logons m) u threads joins none = refl
 untouched script S t (Death m) u threads joins none = ap (ready_row script S.deferred S.nano u (first_owed S u)) (row-other S.threads (death_thread m) (death_row m) u.0 (apart_of (death_thread m) u none))
 untouched script S t (Fill p at long byte) u threads joins none = refl
 untouched script S t (Pay (Close h o)) u threads joins none =

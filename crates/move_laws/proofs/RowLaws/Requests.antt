@@ -19,18 +19,18 @@ use Rattle.move_laws.proofs.Lists.Sets.{set_either}
 use Rattle.move_laws.proofs.References.Same.{same_object}
 
 -- the request of a thread's status
-abbrev of_status : ObjNo → ℕ → Request
+abbrev pub of_status : ObjNo → ℕ → Request
 of_status t s = record { thread = t; status = s }
 
 -- what a device has then is what it is given, or what it had
-device_is : (devices : List (Option Request)) (d : ℕ) (new : Option Request) (e : ℕ) (request : Request) → get_or (set devices d new) e None ≡ Some request → ((e ≡ d) × (new ≡ Some request)) ⊎ (get_or devices e None ≡ Some request)
+pub device_is : (devices : List (Option Request)) (d : ℕ) (new : Option Request) (e : ℕ) (request : Request) → get_or (set devices d new) e None ≡ Some request → ((e ≡ d) × (new ≡ Some request)) ⊎ (get_or devices e None ≡ Some request)
 device_is devices d new e request is = elim (set_either devices d new e None) [
   | inl at ↦ inl (at.0, sym at.1 ∙ is)
   | inr other ↦ inr (sym other ∙ is)
 ]
 
 -- a device that has a request after another has none had it before
-device_had : (devices : List (Option Request)) (d e : ℕ) (request : Request) → d < length devices → get_or (set devices d None) e None ≡ Some request → (e ≢ d) × (get_or devices e None ≡ Some request)
+pub device_had : (devices : List (Option Request)) (d e : ℕ) (request : Request) → d < length devices → get_or (set devices d None) e None ≡ Some request → (e ≢ d) × (get_or devices e None ≡ Some request)
 device_had devices d e request inside is = elim (cases_eq e d) as (λ _. (e ≢ d) × (get_or devices e None ≡ Some request)) [
   | inl at ↦ let none : get_or (set devices d None) e None ≡ None = ap (λ (n : ℕ). get_or (set devices d None) n None) at ∙ get_or-set_same devices d None None inside in absurd (cc)
   | inr apart ↦ (apart, sym (get_or-set_other devices d e None None apart) ∙ is)
@@ -122,26 +122,26 @@ kept_request t (Some own) request is = by (own.thread.0 == t.0) is
     by true e = absurd (cc)
     by false e = e
 
-dropped : (t : ObjNo) (devices : List (Option Request)) (d : ℕ) (request : Request) → get_or (map (without t) devices) d None ≡ Some request → get_or devices d None ≡ Some request
+pub dropped : (t : ObjNo) (devices : List (Option Request)) (d : ℕ) (request : Request) → get_or (map (without t) devices) d None ≡ Some request → get_or devices d None ≡ Some request
 dropped t [] d request is = is
 dropped t (x ∷ rest) zero request is = kept_request t x request is
 dropped t (x ∷ rest) (suc d) request is = dropped t rest d request is
 
 -- a move that fits keeps them
-pub requests-moved : (count : ℕ) (m : RequestMove) (r : RequestRows) → FitsRequests m r → AreRequests count r → AreRequests count (request_moved m r)
-requests-moved count (Begin d t s) r fits h = began count r d t s (is_some (request_at r d)) (ap is_some fits.free) fits h
-requests-moved count (Complete d t s code) r fits h = completed count r d t s code _ (length-set r.signals t.0 _) fits.0 fits.1 h
-requests-moved count (SetPending t s) r fits h = rewritten count r t s pending r.signals refl (λ d request at thread status. refl) h
-requests-moved count (Signal t s code) r fits h =
-    rewritten count r t s code _ (length-set r.signals t.0 _) (λ d request at thread status. absurd (fits.alone d (at ∙ ap Some (ap (λ (u : ObjNo). of_status u request.status) (same_object request.thread t thread) ∙ ap (of_status t) status)))) h
-requests-moved count (DropAll t) r fits h = record {
+pub requests-moved : (count : ℕ) (m : RequestMove) (r : RequestRows) (logons : List (List (ObjNo × ℕ))) → FitsRequests m r logons → AreRequests count r → AreRequests count (request_moved m r)
+requests-moved count (Begin d t s) r logons fits h = began count r d t s (is_some (request_at r d)) (ap is_some fits.free) fits h
+requests-moved count (Complete d t s code) r logons fits h = completed count r d t s code _ (length-set r.signals t.0 _) fits.0 fits.1 h
+requests-moved count (SetPending t s) r logons fits h = rewritten count r t s pending r.signals refl (λ d request at thread status. refl) h
+requests-moved count (Signal t s code) r logons fits h =
+    rewritten count r t s code _ (length-set r.signals t.0 _) (λ d request at thread status. absurd (fits.0.alone d (at ∙ ap Some (ap (λ (u : ObjNo). of_status u request.status) (same_object request.thread t thread) ∙ ap (of_status t) status)))) h
+requests-moved count (DropAll t) r logons fits h = record {
   rows = sound-requests r (map (without t) r.devices) r.statuses r.signals refl refl h.rows.sixteen (λ d request at. h.rows.requests_known d request (dropped t r.devices d request at)) h.rows;
   sized = h.sized;
   devices = length-map r.devices (without t) ∙ h.devices;
   pending = λ d request at. h.pending d request (dropped t r.devices d request at);
   apart = λ d e request at other. h.apart d e request (dropped t r.devices d request at) (dropped t r.devices e request other);
 }
-requests-moved count (TakeSignal t) r fits h =
+requests-moved count (TakeSignal t) r logons fits h =
     let long = length-set r.signals t.0 _ in record {
       rows = sound-requests r r.devices r.statuses _ refl long h.rows.sixteen h.rows.requests_known h.rows;
       sized = long ∙ h.sized;

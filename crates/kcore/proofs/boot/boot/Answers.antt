@@ -84,8 +84,8 @@ returns-clause-state g c =
     let made = c.in_ok-tables.ensures in
     let all : c.as_slice-2.result.now ≡ c.as_slice.result.now = c.as_slice-2.ensures ∙ sym c.as_slice.ensures in
     let rows = subst (λ (bs : List Born). tables.objects.rows ≡ take (length bs) (map (λ (b : Born). Some b.object) bs)) (sym all) (ap (λ o. o.rows) made.objects ∙ c.in_ok-objects.ensures.rows_are) in
-    fields_at_boot script c.as_slice-2.result.now c.in_ok-state.state tables.objects.rows (slots_of tables.handles) tables.procs.threads tables.cleanup.duties tables.nano tables.deferred tables.requests tables.locks.rows tables.cleanup.mutexes tables.procs.processes
-    (c.as_slice-2.ensures ∙ c.in_ok-all.ensures) c.in_ok-state.ensures rows made.handles (ap (λ p. p.threads) made.procs) made.owed made.nano made.deferred made.requests (no_locks_are tables.locks.rows made.locks) made.mutexes (ap (λ p. p.processes) made.procs)
+    fields_at_boot script c.as_slice-2.result.now c.in_ok-state.state tables.objects.rows (slots_of tables.handles) tables.procs.threads tables.cleanup.duties tables.nano tables.deferred tables.requests tables.locks.rows tables.cleanup.mutexes tables.cleanup.logons tables.procs.processes
+    (c.as_slice-2.ensures ∙ c.in_ok-all.ensures) c.in_ok-state.ensures rows made.handles (ap (λ p. p.threads) made.procs) made.owed made.nano made.deferred made.requests (no_locks_are tables.locks.rows made.locks) made.mutexes made.logons (ap (λ p. p.processes) made.procs)
 
 pub returns-clause-kept : goal.returns-clause-kept
 returns-clause-kept g c =

@@ -18,6 +18,7 @@ returns g c =
       owed = over.owed;
       uses = over.uses;
       mutexes = over.mutexes;
+      logons = over.logons;
       listed = over.listed;
       nano = over.nano;
       deferred = over.deferred;

@@ -10,6 +10,7 @@ returns g c = record {
   owed = c.in_ok-empty.ensures.owed;
   uses = c.in_ok-empty.ensures.uses;
   mutexes = c.in_ok-empty.ensures.mutexes;
+  logons = c.in_ok-empty.ensures.logons;
   listed = c.in_ok-empty.ensures.objects;
   nano = c.in_ok-calls.ensures.nano;
   deferred = c.in_ok-calls.ensures.deferred;

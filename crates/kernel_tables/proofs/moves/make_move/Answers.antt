@@ -73,6 +73,9 @@ returns-in-SetPriority g c = rw c.in-SetPriority.is (c.set_priority.ensures c.ar
 pub returns-in-Locks : goal.returns-in-Locks
 returns-in-Locks g c = rw c.in-Locks.is (c.move_lock.ensures c.args.thread)
 
+pub returns-in-Logons : goal.returns-in-Logons
+returns-in-Logons g c = rw c.in-Logons.is (record { state = rw c.move_logon.ensures refl; counts = λ o. refl; tied = rw c.move_logon.ensures c.requires.kept.tied })
+
 pub returns-in-Death : goal.returns-in-Death
 returns-in-Death g c =
     let old = c.args.tables.now in
