@@ -11,7 +11,7 @@ use Rattle.entry_log.specs.declared.step.Part.{Part}
 use Rattle.machine.specs.declared.moves.Move.{Move}
 use Rattle.machine.specs.declared.moves.Move.TheVariants.{Make, Gain, Lose, Find, Miss, GoOn, Write, Advance, Wait, Wake, SetPriority, Nano, Deferred, Requests, Locks, Logons, Death, Fill, Pay}
 use Rattle.machine.specs.declared.death_move.DeathMove.{DeathMove}
-use Rattle.machine.specs.declared.death_move.DeathMove.TheVariants.{Doom}
+use Rattle.machine.specs.declared.death_move.DeathMove.TheVariants.{Note, Doom, Clean}
 use Rattle.machine.specs.declared.nano_move.NanoMove.{NanoMove}
 use Rattle.machine.specs.declared.nano_move.NanoMove.TheVariants.{Take, Give, Want, Suspend}
 use Rattle.machine.specs.declared.deferred_move.DeferredMove.{DeferredMove}
@@ -24,6 +24,7 @@ use Rattle.state_rows.specs.declared.requests.RequestRows.{RequestRows}
 use Rattle.state_rows.specs.Requests.{request_at, is_pending}
 use Rattle.state_rows.specs.Nano.{suspend_count, holder_of, held_by}
 use Rattle.machine.specs.NanoMoves.{nano_thread}
+use Rattle.state_rows.specs.declared.thread.Stage.TheVariants.{Live}
 use Rattle.state_rows.specs.declared.thread.Waiting.TheVariants as waiting
 use Rattle.state_rows.specs.declared.thread.ThreadRow.{ThreadRow}
 use Rattle.machine.specs.declared.state.State.{State}
@@ -97,10 +98,11 @@ pub record MayMake (S : State) (kind : Kind) (name : List ℕ) : Type 0 where
   pub new : is_taken kind name S.objects ≡ false
   pub named : is_session kind ≡ false
 
--- a thread that may take a fast mutex: it waits for nothing, and holds none
+-- a thread that may take a fast mutex: it is live, waits for nothing, and holds none
 pub record MayTake (S : State) (t : ObjNo) : Type 0 where
   pub row : ThreadRow
   pub is : thread_of S t ≡ Some row
+  pub live : row.stage ≡ Live
   pub waits : row.waiting ≡ waiting.Nothing
   pub holds : held_by S.nano t ≡ None
 
@@ -211,10 +213,12 @@ FitsLocks t (Leave u) S = is_some (thread_of S u) ≡ true
 FitsLocks t (WaitOn o u) S = MayWaitOn S o u
 FitsLocks t (Signal o signalled) S = MaySignal S o signalled
 
--- A move in the row of a thread that dies fits the state: who is doomed stands among no waiters.
+-- A move in the row of a thread that dies fits the state: who is doomed stands among no waiters, and neither it nor who is cleaned holds a fast
+-- mutex.
 abbrev pub FitsDeath : DeathMove → State → Type 0
-FitsDeath (Doom u exit) S = WaitsNowhere S u
-FitsDeath _ S = Unit {0}
+FitsDeath (Note u exit) S = Unit {0}
+FitsDeath (Doom u exit) S = (held_by S.nano u ≡ None) × WaitsNowhere S u
+FitsDeath (Clean u) S = held_by S.nano u ≡ None
 
 -- A move in an action of thread t fits the state. What is owed is paid by an action of its own.
 abbrev pub FitsMove : Script → ObjNo → Move → State → Type 0

@@ -14,6 +14,8 @@ use Rattle.machine.specs.declared.task.Task.{Task}
 use Rattle.machine.specs.declared.task.Task.TheVariants.{Return, Pay, RunDfc, Step, Flush}
 use Rattle.state_rows.specs.declared.thread.Role.{Role}
 use Rattle.state_rows.specs.declared.thread.Role.TheVariants.{Supervisor, Queue, Declared}
+use Rattle.state_rows.specs.declared.thread.Stage.{Stage}
+use Rattle.state_rows.specs.declared.thread.Stage.TheVariants.{Live}
 use Rattle.state_rows.specs.declared.thread.Waiting.{Waiting}
 use Rattle.state_rows.specs.declared.thread.Waiting.TheVariants.{Nothing}
 use Rattle.state_rows.specs.declared.thread.ThreadRow.{ThreadRow}
@@ -67,6 +69,16 @@ abbrev pub run_or : Option ℕ → Option Task → Option Task
 run_or None other = other
 run_or (Some dfc) other = Some (RunDfc dfc)
 
+-- whether a thread is live
+abbrev pub is_live : Stage → Bool
+is_live Live = true
+is_live _ = false
+
+-- only a live thread goes on with calls and instructions
+abbrev pub by_stage : Stage → Option Task → Option Task
+by_stage Live own = own
+by_stage _ own = None
+
 -- the oldest of what a thread owes comes before these
 abbrev pub pay_or : Option Owed → Option Task → Option Task
 pay_or None other = other
@@ -81,7 +93,7 @@ abbrev pub task_of_row : Script → DeferredRows → Bool → Option Owed → Op
 task_of_row script calls protected first None = None
 task_of_row script calls protected first (Some row) =
     return_or (is_returning row.part) (instruction script row)
-    (pay_or first (run_or (next_call calls row.role) (step_or_end protected (instruction script row))))
+    (pay_or first (by_stage row.stage (run_or (next_call calls row.role) (step_or_end protected (instruction script row)))))
 
 -- what a thread does next, None where there is nothing
 abbrev pub task_of : Script → State → ObjNo → Option Task

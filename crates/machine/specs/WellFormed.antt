@@ -20,6 +20,7 @@ use Rattle.state_rows.specs.Requests.{request_at, is_pending}
 use Rattle.state_rows.specs.RequestSound.{AreRequestRows}
 use Rattle.state_rows.specs.Nano.{want_of, holder_of}
 use Rattle.state_rows.specs.NanoSound.{AreNanoRows}
+use Rattle.state_rows.specs.declared.thread.Stage.TheVariants.{Live}
 use Rattle.state_rows.specs.declared.thread.Waiting.TheVariants as waiting
 use Rattle.state_rows.specs.declared.handle_slot.HandleSlot.{HandleSlot}
 use Rattle.state_rows.specs.declared.thread.ThreadRow.{ThreadRow}
@@ -103,10 +104,11 @@ pub record AreDuties (threads : List (Option ThreadRow)) (owed : List (List Owed
   pub few : (k : ℕ) → total weight (slice_index_or owed k []) ≤ 12
   pub returns : (k : ℕ) → is_returning (part_of (slice_index_or threads k None)) ≡ true → slice_index_or owed k [] ≡ []
 
--- a thread that holds a fast mutex waits for nothing and wants no other
+-- a thread that holds a fast mutex is live, waits for nothing and wants no other
 pub record IsHolder (threads : List (Option ThreadRow)) (r : NanoRows) (u : ObjNo) : Type 0 where
   pub row : ThreadRow
   pub is : slice_index_or threads u.0 None ≡ Some row
+  pub live : row.stage ≡ Live
   pub waits : row.waiting ≡ waiting.Nothing
   pub wants : want_of r u ≡ None
 

@@ -6,7 +6,7 @@ ghost use Rattle.next_actions.specs.Planned.{planned};
 ghost use Rattle.next_actions.specs.NextActions.{IsStepOf, decided_by};
 ghost use Rattle.machine.specs.Bodies.{decision_by};
 ghost use Rattle.machine.specs.Rows.{first_owed, thread_of};
-ghost use Rattle.machine.specs.Task.{end_task, step_or_end, next_call, run_or, pay_or, task_of_row, task_of, is_able};
+ghost use Rattle.machine.specs.Task.{end_task, step_or_end, next_call, run_or, by_stage, pay_or, task_of_row, task_of, is_able};
 ghost use Rattle.machine.specs.Steps.{pay_step, pay, decision_of_row, decision_of};
 
 use decisions::{decide_step, flush, nothing, return_of};
@@ -14,6 +14,7 @@ use entry_log::Step;
 use machine::{Body, Decision, Move, Owed, ThreadRow};
 use readings::{Reads, instruction, is_able, is_returning, next_call};
 use script_types::{Instr, Script};
+use state_rows::Stage;
 use sym_base::ThreadNo;
 
 /// What an able thread does next.
@@ -105,6 +106,28 @@ fn run_or_step<'a, R: Reads>(
     step_or_end(decision, script, reads, thread, row, instr)
 }
 
+/// What a thread does that owes nothing: where it is live, it goes on.
+fn live_or_nothing<'a, R: Reads>(
+    decision: &mut Decision,
+    script: &Script,
+    reads: &R,
+    thread: ThreadNo,
+    row: &ThreadRow,
+    instr: Option<&'a Instr>,
+) -> NextAction<'a>
+    requires { R.is_readable reads.now }
+    ensures decided { let S = R.state reads.now in decided_by script.now thread S (Some row.now) decision.new result ≡ decision_of_row script.now S thread (Some row.now) (by_stage row.now.stage (run_or (next_call S.deferred row.now.role) (step_or_end (is_protected S.nano thread) (option_copied instr.entry)))) }
+    ensures step { let S = R.state reads.now in IsStepOf (by_stage row.now.stage (run_or (next_call S.deferred row.now.role) (step_or_end (is_protected S.nano thread) (option_copied instr.entry)))) result }
+{
+    match row.stage {
+        Stage::Live => run_or_step(decision, script, reads, thread, row, instr),
+        Stage::Doomed | Stage::Cleaned | Stage::Buried => {
+            nothing(decision);
+            NextAction::Decided
+        }
+    }
+}
+
 /// What a thread does where it isn't at a return: the oldest of what it owes comes first.
 fn pay_or_step<'a, R: Reads>(
     decision: &mut Decision,
@@ -115,14 +138,14 @@ fn pay_or_step<'a, R: Reads>(
     instr: Option<&'a Instr>,
 ) -> NextAction<'a>
     requires { R.is_readable reads.now }
-    ensures decided { let S = R.state reads.now in decided_by script.now thread S (Some row.now) decision.new result ≡ decision_of_row script.now S thread (Some row.now) (pay_or (first_owed S thread) (run_or (next_call S.deferred row.now.role) (step_or_end (is_protected S.nano thread) (option_copied instr.entry)))) }
-    ensures step { let S = R.state reads.now in IsStepOf (pay_or (first_owed S thread) (run_or (next_call S.deferred row.now.role) (step_or_end (is_protected S.nano thread) (option_copied instr.entry)))) result }
+    ensures decided { let S = R.state reads.now in decided_by script.now thread S (Some row.now) decision.new result ≡ decision_of_row script.now S thread (Some row.now) (pay_or (first_owed S thread) (by_stage row.now.stage (run_or (next_call S.deferred row.now.role) (step_or_end (is_protected S.nano thread) (option_copied instr.entry))))) }
+    ensures step { let S = R.state reads.now in IsStepOf (pay_or (first_owed S thread) (by_stage row.now.stage (run_or (next_call S.deferred row.now.role) (step_or_end (is_protected S.nano thread) (option_copied instr.entry))))) result }
 {
     if let Some(what) = reads.first_owed(thread) {
         pay(decision, what);
         return NextAction::Decided;
     }
-    run_or_step(decision, script, reads, thread, row, instr)
+    live_or_nothing(decision, script, reads, thread, row, instr)
 }
 
 /// What the thread of this row does next: its return, where it is at one, comes before all else.

@@ -1,13 +1,14 @@
 //! What a thread does next.
 ghost use Rattle.std.specs.Prelude.{◌≡◌, Some, is_some, option_copied};
 ghost use Rattle.machine.specs.Rows.{first_owed};
-ghost use Rattle.machine.specs.Task.{instruction, is_returning, served_queue, next_call, task_of_row, is_wait, is_stopped, is_ready, is_able, declared_of};
+ghost use Rattle.machine.specs.Task.{instruction, is_returning, served_queue, next_call, run_or, step_or_end, is_live, task_of_row, is_wait, is_stopped, is_ready, is_able, declared_of};
 ghost use Rattle.state_rows.specs.Nano.{is_protected, wanted_holder};
 
 use crate::Reads;
 use entry_log::Part;
 use machine::{Role, ThreadRow, Waiting};
 use script_types::{Instr, Script, ThreadDecl};
+use state_rows::Stage;
 use sym_base::ThreadNo;
 
 /// The declaration of a thread: the supervisor and the thread of a queue have none.
@@ -55,15 +56,29 @@ pub fn next_call<R: Reads>(reads: &R, role: Role) -> Option<u8>
     reads.next_call(queue)
 }
 
-/// Whether the thread of this row has something to do: an instruction, something that it owes, a call of its queue, or what
-/// protects it.
+/// Whether a thread has something to do of its own: an instruction, a call of its queue, or what protects it.
+fn has_own<R: Reads>(script: &Script, reads: &R, thread: ThreadNo, row: &ThreadRow) -> bool
+    ensures { let S = R.state reads.now in result ≡ is_some (run_or (next_call S.deferred row.now.role) (step_or_end (is_protected S.nano thread) (instruction script.now row.now))) }
+{
+    instruction(script, row).is_some()
+        || next_call(reads, row.role).is_some()
+        || reads.is_protected(thread)
+}
+
+/// Whether a thread is live.
+pub fn is_live(stage: Stage) -> bool
+    ensures { result ≡ is_live stage }
+{
+    matches!(stage, Stage::Live)
+}
+
+/// Whether the thread of this row has something to do: a return, something that it owes, or, where it is live, something of its own.
 fn has_task<R: Reads>(script: &Script, reads: &R, thread: ThreadNo, row: &ThreadRow) -> bool
     ensures { let S = R.state reads.now in result ≡ is_some (task_of_row script.now S.deferred (is_protected S.nano thread) (first_owed S thread) (Some row.now)) }
 {
-    instruction(script, row).is_some()
-        || reads.first_owed(thread).is_some()
-        || next_call(reads, row.role).is_some()
-        || reads.is_protected(thread)
+    reads.first_owed(thread).is_some()
+        || is_returning(row.part) && instruction(script, row).is_some()
+        || is_live(row.stage) && has_own(script, reads, thread, row)
 }
 
 /// Whether a thread waits for something.

@@ -18,6 +18,8 @@ use Rattle.machine.specs.declared.decision.Decision.{Decision}
 use Rattle.machine.specs.declared.moves.Move.{Move}
 use Rattle.machine.specs.declared.moves.Move.TheVariants as move
 use Rattle.machine.specs.declared.plan.Body.TheVariants.{Deferred}
+use Rattle.state_rows.specs.declared.thread.Stage.{Stage}
+use Rattle.state_rows.specs.declared.thread.Stage.TheVariants.{Live}
 use Rattle.state_rows.specs.declared.thread.Waiting.{Waiting}
 use Rattle.state_rows.specs.declared.thread.Waiting.TheVariants as waiting
 use Rattle.state_rows.specs.declared.thread.ThreadRow.{ThreadRow}
@@ -27,7 +29,7 @@ use Rattle.machine.specs.Moves.{moved, told, perform, tell}
 use Rattle.machine.specs.References.{total}
 use Rattle.machine.specs.CriticalSection.{flush}
 use Rattle.machine.specs.Steps.{step_of, return_of, decision_of_row, decision_where, decision_of}
-use Rattle.machine.specs.Task.{instruction, instructions_of, is_returning, end_task, next_call, pay_or, return_or, run_or, step_or_end, task_of_row, task_of, is_wait, is_waiting_row, is_waiting, is_stopped, is_ready, is_able}
+use Rattle.machine.specs.Task.{instruction, instructions_of, is_returning, end_task, next_call, by_stage, pay_or, return_or, run_or, step_or_end, task_of_row, task_of, is_wait, is_waiting_row, is_waiting, is_stopped, is_ready, is_able}
 use Rattle.machine.specs.Fits.{Fits, Sane}
 use Rattle.machine.specs.WellFormed.{AreRows, is_before_use, part_of, weight}
 use Rattle.move_laws.proofs.Lists.Totals.{inside}
@@ -55,7 +57,7 @@ fits-step script S t row (instr.Lock x) p h going at = fits-lock x p h at
 fits-step script S t row (instr.Unlock x) p h going at = fits-unlock x p h going at
 fits-step script S t row (instr.Wait x) p h going at = fits-wait x p h at
 fits-step script S t row (instr.Signal x) p h going at = fits-signal x p h at
-fits-step script S t row (instr.Flock f) p h going at = fits-flock f p h
+fits-step script S t row (instr.Flock f) p h going at = fits-flock f p h going
 fits-step script S t row (instr.Funlock f) p h going at = fits-funlock f h
 fits-step script S t row instr.Fswait p h going at = fits-fswait p h
 fits-step script S t row (instr.Fssignal name) p h going at = fits-fssignal name h
@@ -120,8 +122,8 @@ able_is script S t row is able =
       free = none_is (wanted_holder S.nano t) parts.1;
     }
 
-stepping : (script : Script) (S : State) (t : ObjNo) (row : ThreadRow) (instr : Instr) → IsShaped script → AreRows script S → thread_of S t ≡ Some row → IsAble S t row → instruction script row ≡ Some instr → owed_of S t ≡ [] → IsStepping script S t row instr
-stepping script S t row instr shaped rows is able at nothing = record {
+stepping : (script : Script) (S : State) (t : ObjNo) (row : ThreadRow) (instr : Instr) → IsShaped script → AreRows script S → thread_of S t ≡ Some row → (is_returning row.part ≡ false → row.stage ≡ Live) → IsAble S t row → instruction script row ≡ Some instr → owed_of S t ≡ [] → IsStepping script S t row instr
+stepping script S t row instr shaped rows is live able at nothing = record {
   rows = rows;
   is = is;
   next = slice_get_inside (instructions_of script row.role) row.next_instruction instr at;
@@ -129,6 +131,7 @@ stepping script S t row instr shaped rows is able at nothing = record {
   registers = has_registers script row instr shaped at;
   names = has_names script row instr shaped at;
   ranges = has_ranges script row instr shaped at;
+  live = live;
   waits = able.waits;
   free = able.free;
 }
@@ -142,18 +145,29 @@ end-acts : (script : Script) (S : State) (t : ObjNo) (row : ThreadRow) (protecte
 end-acts script S t row true rows is o = goes_by script S t (flush S t) o (fits-flush script S t row rows is)
 end-acts script S t row false rows is o = idles script S t rows
 
+-- what a live thread does that owes nothing
+own-acts : (script : Script) (S : State) (t : ObjNo) (row : ThreadRow) (protected : Bool) (at : Option Instr) (call : Option ℕ) → IsShaped script → AreRows script S → thread_of S t ≡ Some row → row.stage ≡ Live → IsAble S t row → ((instr : Instr) → at ≡ Some instr → is_returning row.part ≡ false) → instruction script row ≡ at → owed_of S t ≡ []
+    → Goes script t S (decision_of_row script S t (Some row) (run_or call (step_or_end protected at))).moves
+own-acts script S t row protected at (Some dfc) shaped rows is live able going e o = goes-body script S t (Deferred dfc) shaped (sane-of script S t row rows is)
+own-acts script S t row protected None None shaped rows is live able going e o = end-acts script S t row protected rows is o
+own-acts script S t row protected (Some instr) None shaped rows is live able going e o =
+    goes_by script S t (step_of script S t row instr row.part) o (fits-step script S t row instr row.part (stepping script S t row instr shaped rows is (λ _. live) able e o) (going instr refl) refl)
+
+-- and what one does at any stage
+stage-acts : (script : Script) (S : State) (t : ObjNo) (row : ThreadRow) (stage : Stage) (protected : Bool) (at : Option Instr) (call : Option ℕ) → IsShaped script → AreRows script S → thread_of S t ≡ Some row → row.stage ≡ stage → IsAble S t row → ((instr : Instr) → at ≡ Some instr → is_returning row.part ≡ false) → instruction script row ≡ at → owed_of S t ≡ []
+    → Goes script t S (decision_of_row script S t (Some row) (by_stage stage (run_or call (step_or_end protected at)))).moves
+stage-acts script S t row Live protected at call shaped rows is live able going e o = own-acts script S t row protected at call shaped rows is live able going e o
+stage-acts script S t row _ protected at call shaped rows is other able going e o = idles script S t rows
+
 row-acts : (script : Script) (S : State) (t : ObjNo) (row : ThreadRow) (protected returns : Bool) (at : Option Instr) (owed : List Owed) (call : Option ℕ) → IsShaped script → AreRows script S → thread_of S t ≡ Some row → IsAble S t row → is_returning row.part ≡ returns → instruction script row ≡ at → owed_of S t ≡ owed
-    → let d = decision_of_row script S t (Some row) (return_or returns at (pay_or (first_of owed) (run_or call (step_or_end protected at)))) in Goes script t S d.moves ⊎ Pays S t d.moves
+    → let d = decision_of_row script S t (Some row) (return_or returns at (pay_or (first_of owed) (by_stage row.stage (run_or call (step_or_end protected at))))) in Goes script t S d.moves ⊎ Pays S t d.moves
 row-acts script S t row protected true (Some instr) owed call shaped rows is able r e o =
     let nothing = rows.duties.returns t.0 (ap (λ (x : Option ThreadRow). is_returning (part_of x)) is ∙ r) in
-    inl (goes_by script S t (return_of S t row instr) nothing (fits-returning script S t row instr (stepping script S t row instr shaped rows is able e nothing) (returning_before row.part r)))
+    inl (goes_by script S t (return_of S t row instr) nothing (fits-returning script S t row instr (stepping script S t row instr shaped rows is (λ going. absurd (cc)) able e nothing) (returning_before row.part r)))
 row-acts script S t row protected true None (what ∷ rest) call shaped rows is able r e o = inr (record { what = what; rest = rest; moves = refl; owes = o })
-row-acts script S t row protected true None [] (Some dfc) shaped rows is able r e o = inl (goes-body script S t (Deferred dfc) shaped (sane-of script S t row rows is))
-row-acts script S t row protected true None [] None shaped rows is able r e o = inl (end-acts script S t row protected rows is o)
+row-acts script S t row protected true None [] call shaped rows is able r e o = inl (stage-acts script S t row row.stage protected None call shaped rows is refl able (λ instr at. absurd (cc)) e o)
 row-acts script S t row protected false at (what ∷ rest) call shaped rows is able r e o = inr (record { what = what; rest = rest; moves = refl; owes = o })
-row-acts script S t row protected false at [] (Some dfc) shaped rows is able r e o = inl (goes-body script S t (Deferred dfc) shaped (sane-of script S t row rows is))
-row-acts script S t row protected false None [] None shaped rows is able r e o = inl (end-acts script S t row protected rows is o)
-row-acts script S t row protected false (Some instr) [] None shaped rows is able r e o = inl (goes_by script S t (step_of script S t row instr row.part) o (fits-step script S t row instr row.part (stepping script S t row instr shaped rows is able e o) r refl))
+row-acts script S t row protected false at [] call shaped rows is able r e o = inl (stage-acts script S t row row.stage protected at call shaped rows is refl able (λ instr _. r) e o)
 
 -- the thread of this row, if there is one
 able-acts : (script : Script) (S : State) (t : ObjNo) (row : Option ThreadRow) → IsShaped script → AreRows script S → thread_of S t ≡ row → is_able script S t ≡ true

@@ -44,6 +44,7 @@ use Rattle.machine.specs.CriticalSection.{enter_do, leave_do, give_held, flush}
 use Rattle.machine.specs.ThreadCalls.{refusal_of_role, refusal_of, suspend_move, resume_move, move_or_refuse, unless_refused, call_on, suspend_step, resume_step, priority_step}
 use Rattle.machine.specs.Fits.{FitsMove, FitsNano, MayTake, IsAtInstruction}
 use Rattle.machine.specs.WellFormed.{AreRows, is_before_use}
+use Rattle.machine.specs.Task.{is_returning}
 use Rattle.move_laws.proofs.Numbers.FewEffects.{nano-tells}
 use Rattle.move_laws.proofs.Lists.Cases.{if_cases}
 use Rattle.move_laws.proofs.Numbers.Registers.{priority_small}
@@ -109,19 +110,19 @@ pub fits-unless : {script : Script} {S : State} {t : ObjNo} {row : ThreadRow} {i
 fits-unless {script = script} {S = S} {t = t} told d h fits =
     if_cases (FitsDecision script t S) (is_some (held_by S.nano t)) _ _ (λ _. fits-refuse told error.InUse h) (λ e. fits (none_of (held_by S.nano t) e))
 
-may_take : {script : Script} {S : State} {t : ObjNo} {row : ThreadRow} {instr : Instr} → IsStepping script S t row instr → held_by S.nano t ≡ None → MayTake S t
-may_take {row = row} h none = record { row = row; is = h.is; waits = h.waits; holds = none }
+may_take : {script : Script} {S : State} {t : ObjNo} {row : ThreadRow} {instr : Instr} → IsStepping script S t row instr → is_returning row.part ≡ false → held_by S.nano t ≡ None → MayTake S t
+may_take {row = row} h going none = record { row = row; is = h.is; live = h.live going; waits = h.waits; holds = none }
 
 -- the number of a fast mutex that an instruction names is one of the script's
 mutex_inside : (script : Script) (S : State) (f : ℕ) → AreRows script S → nat_lt f script.fast ≡ true → f < length S.nano.holders
 mutex_inside script S f rows known = let below = ltb-true f script.fast known in let size = rows.nano.mutexes in omega arith
 
 -- `flock`
-pub fits-flock : {script : Script} {S : State} {t : ObjNo} {row : ThreadRow} (f : ℕ) (p : Option Part) → IsStepping script S t row (instr.Flock f) → FitsDecision script t S (flock_step S t f p)
-fits-flock {script = script} {S = S} {t = t} {row = row} f None h =
+pub fits-flock : {script : Script} {S : State} {t : ObjNo} {row : ThreadRow} (f : ℕ) (p : Option Part) → IsStepping script S t row (instr.Flock f) → is_returning row.part ≡ false → FitsDecision script t S (flock_step S t f p)
+fits-flock {script = script} {S = S} {t = t} {row = row} f None h going =
     fits-unless (step.Of word.Flock part.Do) _ h (λ none.
     if_cases (FitsDecision script t S) (is_free S.nano f) _ _
-    (λ free. fits-nano (step.Of word.Flock part.Do) (nano.Take t f) (pos 0) h (own_row h) (inside, none_is (holder_of S.nano f) free, may_take h none))
+    (λ free. fits-nano (step.Of word.Flock part.Do) (nano.Take t f) (pos 0) h (own_row h) (inside, none_is (holder_of S.nano f) free, may_take h going none))
     (λ _. fits-later (step.Of word.Flock part.Do) (move.Nano (nano.Want t (Some f))) (cheap_nano _) (there, (inside, none))))
   where
     inside : f < length S.nano.holders
@@ -129,11 +130,11 @@ fits-flock {script = script} {S = S} {t = t} {row = row} f None h =
 
     there : is_some (thread_of (moved t (move.GoOn t part.Done) S) t) ≡ true
     there = ap is_some (row-here S.threads t (with_part part.Done) t.0 refl ∙ ap (option_map (with_part part.Done)) h.is)
-fits-flock {script = script} {S = S} {t = t} f (Some p) h = taken (want_of S.nano t) refl
+fits-flock {script = script} {S = S} {t = t} f (Some p) h going = taken (want_of S.nano t) refl
   where
     taken : (wanted : Option ℕ) → want_of S.nano t ≡ wanted → FitsDecision script t S (flock_done t wanted)
     taken None e = fits-nothing script S t
-    taken (Some g) e = fits-nano (step.Of word.Flock part.Done) (nano.Take t g) (pos 0) h (own_row h) (h.rows.nano.rows.wants_known t g e, subst (λ (w : Option ℕ). option_and_then (holder_of S.nano) w ≡ None) e h.free, may_take h (wants_holds_none script S t g h.rows e))
+    taken (Some g) e = fits-nano (step.Of word.Flock part.Done) (nano.Take t g) (pos 0) h (own_row h) (h.rows.nano.rows.wants_known t g e, subst (λ (w : Option ℕ). option_and_then (holder_of S.nano) w ≡ None) e h.free, may_take h going (wants_holds_none script S t g h.rows e))
 
 -- `funlock`
 pub fits-funlock : {script : Script} {S : State} {t : ObjNo} {row : ThreadRow} (f : ℕ) → IsStepping script S t row (instr.Funlock f) → FitsDecision script t S (funlock_do S t f)

@@ -16,6 +16,7 @@ use Rattle.entry_log.specs.declared.step.Step.{Step}
 use Rattle.machine.specs.declared.decision.Decision.{Decision}
 use Rattle.machine.specs.declared.moves.Move.{Move}
 use Rattle.machine.specs.declared.moves.Move.TheVariants.{GoOn, Gain, Write, Advance}
+use Rattle.state_rows.specs.declared.thread.Stage.TheVariants.{Live}
 use Rattle.state_rows.specs.declared.thread.Waiting.TheVariants as waiting
 use Rattle.state_rows.specs.declared.thread.ThreadRow.{ThreadRow}
 use Rattle.machine.specs.declared.state.State.{State}
@@ -24,7 +25,7 @@ use Rattle.machine.specs.Moves.{moved, perform, with_part, with_register}
 use Rattle.machine.specs.Decide.{nothing, answer, answer_handle, refuse, go_on}
 use Rattle.machine.specs.References.{total}
 use Rattle.machine.specs.HeldIn.{owed_by}
-use Rattle.machine.specs.Task.{instructions_of}
+use Rattle.machine.specs.Task.{is_returning, instructions_of}
 use Rattle.machine.specs.Fits.{EachFits, most_told, most_owed, IsAtInstruction, MayGoOn, IsFree}
 use Rattle.machine.specs.WellFormed.{IsAlive, AreRows, is_before_use}
 use Rattle.move_laws.proofs.Holders.ThreadRows.{row-here}
@@ -37,7 +38,7 @@ pub record FitsDecision (script : Script) (t : ObjNo) (S : State) (d : Decision)
   pub told : total most_told d.moves ≤ 4
   pub light : total most_owed d.moves ≤ 12
 
--- thread t is about to make a step of this instruction: it owes nothing, doesn't wait, and wants no fast mutex that is
+-- thread t is about to make a step of this instruction: it is live, but for one that comes back from a find, owes nothing, doesn't wait, and wants no fast mutex that is
 -- held; and the instruction is one of a valid script
 pub record IsStepping (script : Script) (S : State) (t : ObjNo) (row : ThreadRow) (instr : Instr) : Type 0 where
   pub rows : AreRows script S
@@ -47,6 +48,7 @@ pub record IsStepping (script : Script) (S : State) (t : ObjNo) (row : ThreadRow
   pub registers : HasRegisters instr
   pub names : instr_resolves script instr ≡ true
   pub ranges : is_source_line (line.Instr instr) ≡ true
+  pub live : is_returning row.part ≡ false → row.stage ≡ Live
   pub waits : row.waiting ≡ waiting.Nothing
   pub free : wanted_holder S.nano t ≡ None
 

@@ -2,7 +2,6 @@
 use Rattle.std.proofs.Common.{◌≡◌, inr, ℕ, arith, refl, false}
 use Rattle.sym_base.specs.declared.number.ObjNo.{ObjNo}
 use Rattle.script_types.specs.declared.script.Script.{Script}
-use Rattle.state_rows.specs.declared.thread.Waiting.TheVariants.{Nothing}
 use Rattle.state_rows.specs.declared.thread.ThreadRow.{ThreadRow}
 use Rattle.machine.specs.declared.death_move.DeathMove.{DeathMove}
 use Rattle.machine.specs.declared.death_move.DeathMove.TheVariants.{Note, Doom, Clean}
@@ -13,10 +12,10 @@ use Rattle.machine.specs.Fits.{FitsDeath, FitsMove}
 use Rattle.machine.specs.Moves.{moved, told}
 use Rattle.machine.specs.Rows.{with_row}
 use Rattle.machine.specs.Task.{is_returning}
-use Rattle.machine.specs.WellFormed.{AreRows, IsThread}
+use Rattle.machine.specs.WellFormed.{AreRows, IsThread, AreSynchronized}
 use Rattle.move_laws.proofs.RowLaws.Duties.{paid-with_row}
 use Rattle.move_laws.proofs.RowLaws.Locks.{LeavesLocks, leaves-nowhere, leaves-with_row}
-use Rattle.move_laws.proofs.RowLaws.Synchronized.{synchronized-with_row}
+use Rattle.move_laws.proofs.RowLaws.Synchronized.{synchronized-with_row, synchronized-unheld}
 use Rattle.move_laws.proofs.RowLaws.Threads.{KeepsThread}
 use Rattle.move_laws.proofs.MoveLaws.RowMoves.{IsSilent, KeepsReferences, silent, sound-row}
 use Rattle.move_laws.proofs.MoveLaws.Sound.{Sound}
@@ -43,18 +42,18 @@ keeps-going (Note t exit) row h = h
 keeps-going (Doom t exit) row h = h
 keeps-going (Clean t) row h = h
 
--- a thread that waits for nothing waits for nothing
-still-nothing : (m : DeathMove) (row : ThreadRow) → row.waiting ≡ Nothing → (death_row m row).waiting ≡ Nothing
-still-nothing (Note t exit) row h = h
-still-nothing (Doom t exit) row h = rw h refl
-still-nothing (Clean t) row h = h
+-- who isn't live any more holds no fast mutex
+synchronized-death : (script : Script) (S : State) (m : DeathMove) → FitsDeath m S → AreSynchronized script S.threads S.nano → AreSynchronized script (with_row S.threads (death_thread m) (death_row m)) S.nano
+synchronized-death script S (Note t exit) fits h = synchronized-with_row script S.threads t (death_row (Note t exit)) S.nano (λ row free. free) h
+synchronized-death script S (Doom t exit) fits h = synchronized-unheld script S.threads t (death_row (Doom t exit)) S.nano fits.0 h
+synchronized-death script S (Clean t) fits h = synchronized-unheld script S.threads t (death_row (Clean t)) S.nano fits h
 
 leaves-locks : (S : State) (m : DeathMove) → FitsDeath m S → LeavesLocks S.threads (with_row S.threads (death_thread m) (death_row m)) S.owed S.owed S.locks
 leaves-locks S (Note t exit) fits = leaves-with_row S.threads t (death_row (Note t exit)) S.owed S.locks (λ row. refl)
-leaves-locks S (Doom t exit) fits = leaves-nowhere S.threads t (death_row (Doom t exit)) S.owed S.locks fits
+leaves-locks S (Doom t exit) fits = leaves-nowhere S.threads t (death_row (Doom t exit)) S.owed S.locks fits.1
 leaves-locks S (Clean t) fits = leaves-with_row S.threads t (death_row (Clean t)) S.owed S.locks (λ row. refl)
 
 pub sound-death : (script : Script) (S : State) (t : ObjNo) (m : DeathMove) → FitsMove script t (Death m) S → AreRows script S → Sound script S (moved t (Death m) S) (told (Death m) S)
 sound-death script S t m fits rows = sound-row script S (death_thread m) (death_row m) (death_told m) (keeps-references m)
     (λ row is h. keeps-thread script _ m row h)
-    (λ k. inr (paid-with_row S.threads (death_thread m) (death_row m) (keeps-going m) k)) (death_silent S m) (synchronized-with_row script S.threads (death_thread m) (death_row m) S.nano (still-nothing m) rows.nano) (leaves-locks S m fits) rows
+    (λ k. inr (paid-with_row S.threads (death_thread m) (death_row m) (keeps-going m) k)) (death_silent S m) (synchronized-death script S m fits rows.nano) (leaves-locks S m fits) rows

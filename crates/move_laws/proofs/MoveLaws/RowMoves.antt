@@ -134,7 +134,7 @@ pub sound-wait : (script : Script) (S : State) (t u : ObjNo) (what : Waiting) �
 sound-wait script S t u what fits rows = sound-waiting script S u what fits.1 (synchronized-unheld script S.threads u (with_waiting what) S.nano fits.0 rows.nano) rows
 
 pub sound-wake : (script : Script) (S : State) (t u : ObjNo) → FitsMove script t (Wake u) S → AreRows script S → Sound script S (moved t (Wake u) S) (told (Wake u) S)
-sound-wake script S t u fits rows = sound-waiting script S u waiting.Nothing fits (synchronized-with_row script S.threads u (with_waiting waiting.Nothing) S.nano (λ row h. refl) rows.nano) rows
+sound-wake script S t u fits rows = sound-waiting script S u waiting.Nothing fits (synchronized-with_row script S.threads u (with_waiting waiting.Nothing) S.nano (λ row h. (refl, h.1)) rows.nano) rows
 
 pub sound-priority : (script : Script) (S : State) (t u : ObjNo) (priority : ℕ) → FitsMove script t (SetPriority u priority) S → AreRows script S → Sound script S (moved t (SetPriority u priority) S) (told (SetPriority u priority) S)
 sound-priority script S t u priority fits rows = sound-row script S u (with_priority priority) [] (record { link = λ row. refl; uses = λ row. refl })

@@ -17,9 +17,11 @@ use Rattle.state_rows.specs.declared.deferred.DeferredRows.{DeferredRows}
 use Rattle.state_rows.specs.declared.duty.Owed.{Owed}
 use Rattle.state_rows.specs.declared.thread.Role.{Role}
 use Rattle.state_rows.specs.declared.thread.Role.TheVariants.{Supervisor, Queue, Declared}
+use Rattle.state_rows.specs.declared.thread.Stage.{Stage}
+use Rattle.state_rows.specs.declared.thread.Stage.TheVariants.{Live}
 use Rattle.state_rows.specs.declared.thread.ThreadRow.{ThreadRow}
 use Rattle.machine.specs.declared.task.Task.TheVariants.{Step}
-use Rattle.machine.specs.Task.{declared_of, instructions_in, instruction, is_returning, next_call, pay_or, return_or, run_or, step_or_end, task_of_row}
+use Rattle.machine.specs.Task.{declared_of, instructions_in, instruction, is_returning, next_call, by_stage, pay_or, return_or, run_or, step_or_end, task_of_row}
 
 -- what each of a list passes, the one at a place does
 pub all_at : {A : Type 0} (test : A → Bool) (xs : List A) (k : ℕ) (x : A) → list_all test xs ≡ true → slice_get xs k ≡ Some x → test x ≡ true
@@ -72,21 +74,25 @@ request_small d s h = let v = in_form (instr_form (instr.Request d s)) h in (leb
 pub count_few : (name : List ℕ) (n x : ℕ) → is_source_line (line.Instr (instr.CreateSemaphore name n x)) ≡ true → n ≤ 2147483647
 count_few name n x h = let v = in_form (instr_form (instr.CreateSemaphore name n x)) h in (number_in 0 2147483647 n v.0.1.1.0).1
 
+-- of what a thread of a row does of its own
+of_own : (script : Script) (protected : Bool) (call : Option ℕ) (row : ThreadRow) (instr : Instr) → IsShaped script → (at : Option Instr) → instruction script row ≡ at → run_or call (step_or_end protected at) ≡ Some (Step instr) → HasRegisters instr
+of_own script protected (Some dfc) row instr shaped at is next = absurd (cc)
+of_own script true None row instr shaped None is next = absurd (cc)
+of_own script false None row instr shaped None is next = absurd (cc)
+of_own script protected None row instr shaped (Some x) is next = has_registers script row instr shaped (cc)
+
 -- of the step of a row
-of_row : (script : Script) (protected : Bool) (call : Option ℕ) (first : Option Owed) (row : ThreadRow) (instr : Instr) → IsShaped script → (returns : Bool) (at : Option Instr) → instruction script row ≡ at
-    → return_or returns at (pay_or first (run_or call (step_or_end protected at))) ≡ Some (Step instr) → HasRegisters instr
-of_row script protected call first row instr shaped true (Some x) at next = absurd (cc)
-of_row script protected call (Some what) row instr shaped true None at next = absurd (cc)
-of_row script protected (Some dfc) None row instr shaped true None at next = absurd (cc)
-of_row script true None None row instr shaped true None at next = absurd (cc)
-of_row script false None None row instr shaped true None at next = absurd (cc)
-of_row script protected call (Some what) row instr shaped false x at next = absurd (cc)
-of_row script protected (Some dfc) None row instr shaped false x at next = absurd (cc)
-of_row script true None None row instr shaped false None at next = absurd (cc)
-of_row script false None None row instr shaped false None at next = absurd (cc)
-of_row script protected None None row instr shaped false (Some x) at next = has_registers script row instr shaped (cc)
+of_row : (script : Script) (protected : Bool) (call : Option ℕ) (first : Option Owed) (stage : Stage) (row : ThreadRow) (instr : Instr) → IsShaped script → (returns : Bool) (at : Option Instr) → instruction script row ≡ at
+    → return_or returns at (pay_or first (by_stage stage (run_or call (step_or_end protected at)))) ≡ Some (Step instr) → HasRegisters instr
+of_row script protected call first stage row instr shaped true (Some x) is next = absurd (cc)
+of_row script protected call (Some what) stage row instr shaped true None is next = absurd (cc)
+of_row script protected call (Some what) stage row instr shaped false at is next = absurd (cc)
+of_row script protected call None Live row instr shaped true None is next = of_own script protected call row instr shaped None is next
+of_row script protected call None Live row instr shaped false at is next = of_own script protected call row instr shaped at is next
+of_row script protected call None _ row instr shaped true None is next = absurd (cc)
+of_row script protected call None _ row instr shaped false at is next = absurd (cc)
 
 -- of a step that a thread does next
 pub task_has_registers : (script : Script) (calls : DeferredRows) (protected : Bool) (first : Option Owed) (row : Option ThreadRow) (instr : Instr) → IsShaped script → task_of_row script calls protected first row ≡ Some (Step instr) → HasRegisters instr
 task_has_registers script calls protected first None instr shaped next = absurd (cc)
-task_has_registers script calls protected first (Some row) instr shaped next = of_row script protected (next_call calls row.role) first row instr shaped (is_returning row.part) (instruction script row) refl next
+task_has_registers script calls protected first (Some row) instr shaped next = of_row script protected (next_call calls row.role) first row.stage row instr shaped (is_returning row.part) (instruction script row) refl next

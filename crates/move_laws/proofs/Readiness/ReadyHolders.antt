@@ -10,15 +10,19 @@ use Rattle.state_rows.specs.declared.duty.Owed.{Owed}
 use Rattle.state_rows.specs.declared.nano.NanoRows.{NanoRows}
 use Rattle.state_rows.specs.Nano.{suspend_count, critical_count, holder_of, held_by, want_of, is_protected, in_place_of, or_self, wanted_holder}
 use Rattle.state_rows.proofs.Soundness.{held_none}
+use Rattle.state_rows.specs.declared.thread.Stage.{Stage}
+use Rattle.state_rows.specs.declared.thread.Stage.TheVariants.{Live}
 use Rattle.state_rows.specs.declared.thread.ThreadRow.{ThreadRow}
 use Rattle.machine.specs.declared.state.State.{State}
 use Rattle.machine.specs.Rows.{first_owed}
-use Rattle.machine.specs.Task.{instruction, is_returning, next_call, pay_or, return_or, run_or, step_or_end, task_of, task_of_row, is_wait, is_waiting, is_waiting_row, is_stopped, is_ready, is_able}
+use Rattle.machine.specs.Task.{instruction, is_returning, next_call, by_stage, pay_or, return_or, run_or, step_or_end, task_of, task_of_row, is_wait, is_waiting, is_waiting_row, is_stopped, is_ready, is_able}
 use Rattle.machine.specs.WellFormed.{AreRows}
 
--- a thread that is protected has a task: at its list's end it gives up what protects it
-has_task : (script : Script) (calls : DeferredRows) (first : Option Owed) (row : ThreadRow) → is_some (task_of_row script calls true first (Some row)) ≡ true
-has_task script calls first row = by (is_returning row.part) (instruction script row) first (next_call calls row.role)
+-- a live thread that is protected has a task: at its list's end it gives up what protects it
+has_task : (script : Script) (calls : DeferredRows) (first : Option Owed) (row : ThreadRow) → row.stage ≡ Live → is_some (task_of_row script calls true first (Some row)) ≡ true
+has_task script calls first row live =
+    ap (λ (stage : Stage). is_some (return_or (is_returning row.part) (instruction script row) (pay_or first (by_stage stage (run_or (next_call calls row.role) (step_or_end true (instruction script row))))))) live
+    ∙ by (is_returning row.part) (instruction script row) first (next_call calls row.role)
   where
     by : (returns : Bool) (at : Option Instr) (first : Option Owed) (call : Option ℕ) → is_some (return_or returns at (pay_or first (run_or call (step_or_end true at)))) ≡ true
     by true (Some instr) first call = refl
@@ -45,7 +49,7 @@ holder_ready script S f u rows is =
     let waits : is_waiting S u ≡ false = ap is_waiting_row held.is ∙ ap is_wait held.waits in
     let stopped : is_stopped S u ≡ false = and_right (not (suspend_count S.nano u == 0)) (not (is_protected S.nano u)) (not_from_true (is_protected S.nano u) protected) in
     let first = first_owed S u in
-    let task : is_some (task_of script S u) ≡ true = ap (λ (row : Option ThreadRow). is_some (task_of_row script S.deferred (is_protected S.nano u) first row)) held.is ∙ ap (λ (b : Bool). is_some (task_of_row script S.deferred b first (Some held.row))) protected ∙ has_task script S.deferred first held.row in
+    let task : is_some (task_of script S u) ≡ true = ap (λ (row : Option ThreadRow). is_some (task_of_row script S.deferred (is_protected S.nano u) first row)) held.is ∙ ap (λ (b : Bool). is_some (task_of_row script S.deferred b first (Some held.row))) protected ∙ has_task script S.deferred first held.row held.live in
     and_from (not (is_waiting S u) && not (is_stopped S u)) (is_some (task_of script S u)) (and_from (not (is_waiting S u)) (not (is_stopped S u)) (not_from_false (is_waiting S u) waits) (not_from_false (is_stopped S u) stopped)) task
 
 -- a thread that is wanted to give a fast mutex up holds one

@@ -37,7 +37,7 @@ use Rattle.machine.specs.NanoMoves.{nano_moved, nano_thread}
 use Rattle.machine.specs.DeferredMoves.{deferred_moved, deferred_threads, thread_of_queue}
 use Rattle.machine.specs.References.{is_last}
 use Rattle.machine.specs.Arrivals.{is_listed, touched}
-use Rattle.machine.specs.Task.{instruction, is_returning, is_waiting_row, is_ready, next_call, pay_or, return_or, run_or, served_queue, step_or_end, task_of_row}
+use Rattle.machine.specs.Task.{instruction, is_returning, is_waiting_row, is_ready, next_call, by_stage, pay_or, return_or, run_or, served_queue, step_or_end, task_of_row}
 use Rattle.machine.specs.WellFormed.{AreThreads}
 use Rattle.move_laws.proofs.Holders.ThreadRows.{row-here, row-other}
 
@@ -157,7 +157,7 @@ ready-deferred script S t m u threads joins none = by (thread_of S u) refl
     by None is = refl
     by (Some row) is =
         let same : next_call (deferred_moved m S.deferred) row.role ≡ next_call S.deferred row.role = next (served_queue row.role) (λ q serves. threads.servers u.0 q row is serves) in
-        ap (λ (call : Option ℕ). not (is_waiting_row (Some row)) && not (not (suspend_count S.nano u == 0) && not (is_protected S.nano u)) && is_some (return_or (is_returning row.part) (instruction script row) (pay_or (first_owed S u) (run_or call (step_or_end (is_protected S.nano u) (instruction script row)))))) same
+        ap (λ (call : Option ℕ). not (is_waiting_row (Some row)) && not (not (suspend_count S.nano u == 0) && not (is_protected S.nano u)) && is_some (return_or (is_returning row.part) (instruction script row) (pay_or (first_owed S u) (by_stage row.stage (run_or call (step_or_end (is_protected S.nano u) (instruction script row))))))) same
 
 pub untouched : (script : Script) (S : State) (t : ObjNo) (m : Move) (u : ObjNo) → AreThreads script S.threads → JoinsOwnQueue m S → is_listed (touched t m) u ≡ false → is_ready script (moved t m S) u ≡ is_ready script S u
 untouched script S t (Make kind name h) u threads joins none = ready-gain script S.deferred S.nano (first_owed S u) S.threads h (next_object S) u
