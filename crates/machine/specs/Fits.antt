@@ -34,7 +34,7 @@ use Rattle.machine.specs.References.{total}
 use Rattle.machine.specs.Moves.{moved, tell}
 use Rattle.machine.specs.Task.{instructions_of, is_returning}
 use Rattle.machine.specs.HeldIn.{owed_by}
-use Rattle.machine.specs.WellFormed.{IsAlive, IsAwaited, AreRows, Awaits, IsOwnerOf, times_logged, is_before_use, part_of, weight}
+use Rattle.machine.specs.WellFormed.{IsAlive, IsAwaited, AreRows, Awaits, IsOwnerOf, times_logged, is_before_use, part_of, weight, IsSpent, is_spent}
 use Rattle.machine.specs.Choice.{priority_of}
 use Rattle.state_rows.specs.declared.locks.Locked.{Locked}
 use Rattle.state_rows.specs.declared.locks.Locked.TheVariants.{Waits}
@@ -52,18 +52,23 @@ pub record IsFreeSlot (S : State) (owner : ObjNo) (i : ℕ) : Type 0 where
   pub inside : i < length (table_of S owner)
   pub least : i ≡ free_index (table_of S owner)
 
--- a thread that uses nothing, after its look or return, and owes no close of what it used
+-- a thread that isn't cleaned and not buried
+abbrev pub IsUnspent : State → ObjNo → Type 0
+IsUnspent S u = (row : ThreadRow) → thread_of S u ≡ Some row → is_spent row.stage ≡ false
+
+-- a thread that isn't cleaned and uses nothing, after its look or return, and owes no close of what it used
 pub record UsesNothing (S : State) (t : ObjNo) : Type 0 where
   pub row : ThreadRow
   pub is : thread_of S t ≡ Some row
   pub later : is_before_use row.part ≡ false
   pub unused : row.uses ≡ None
+  pub unspent : is_spent row.stage ≡ false
   pub paid : (o : ObjNo) → total (owed_by (Temp t) o) (owed_of S t) ≡ 0
 
 -- this holder holds nothing, and may
 abbrev pub IsFree : State → Holder → Type 0
 IsFree S (InProcess p i) = (thread_of S p ≡ None) × IsFreeSlot S p i
-IsFree S (InThread t i) = (is_some (thread_of S t) ≡ true) × IsFreeSlot S t i
+IsFree S (InThread t i) = (is_some (thread_of S t) ≡ true) × IsFreeSlot S t i × IsUnspent S t
 IsFree S (Temp t) = UsesNothing S t
 IsFree S _ = ⊥
 
@@ -80,11 +85,12 @@ Holds S (InThread t i) o = (is_some (thread_of S t) ≡ true) × ((slot_at (tabl
 Holds S (Temp t) o = Uses S t o
 Holds S _ o = ⊥
 
--- a thread that may go on to a step: what comes before the use of anything comes while it uses nothing, and a return
+-- a thread that isn't cleaned may go on to a step: what comes before the use of anything comes while it uses nothing, and a return
 -- comes while it owes nothing
 pub record MayGoOn (S : State) (t : ObjNo) (part : Option Part) : Type 0 where
   pub unused : (row : ThreadRow) → thread_of S t ≡ Some row → is_before_use part ≡ true → row.uses ≡ None
   pub paid : is_returning part ≡ true → owed_of S t ≡ []
+  pub unspent : IsUnspent S t
 
 -- a thread that isn't at its list's end
 pub record IsAtInstruction (script : Script) (S : State) (t : ObjNo) : Type 0 where
@@ -213,12 +219,16 @@ FitsLocks t (Leave u) S = is_some (thread_of S u) ≡ true
 FitsLocks t (WaitOn o u) S = MayWaitOn S o u
 FitsLocks t (Signal o signalled) S = MaySignal S o signalled
 
--- A move in the row of a thread that dies fits the state: who is doomed stands among no waiters, and neither it nor who is cleaned holds a fast
--- mutex.
+-- a thread that may be cleaned: it has given up all, and holds no fast mutex
+abbrev pub MayClean : State → ObjNo → Type 0
+MayClean S u = (held_by S.nano u ≡ None) × ((row : ThreadRow) → thread_of S u ≡ Some row → IsSpent S.handles u.0 row)
+
+-- A move in the row of a thread that dies fits the state: who is doomed stands among no waiters and holds no fast mutex, and who is cleaned has
+-- given up all.
 abbrev pub FitsDeath : DeathMove → State → Type 0
 FitsDeath (Note u exit) S = Unit {0}
 FitsDeath (Doom u exit) S = (held_by S.nano u ≡ None) × WaitsNowhere S u
-FitsDeath (Clean u) S = held_by S.nano u ≡ None
+FitsDeath (Clean u) S = MayClean S u
 
 -- A move in an action of thread t fits the state. What is owed is paid by an action of its own.
 abbrev pub FitsMove : Script → ObjNo → Move → State → Type 0
@@ -230,7 +240,7 @@ FitsMove script t (Miss o) S = Unit {0}
 FitsMove script t (GoOn u part) S = MayGoOn S u (Some part)
 FitsMove script t (Write u x value) S = x < 8
 FitsMove script t (Advance u) S = (u ≡ t) × IsAtInstruction script S u
-FitsMove script t (Wait u what) S = (held_by S.nano u ≡ None) × WaitsNowhere S u
+FitsMove script t (Wait u what) S = (held_by S.nano u ≡ None) × WaitsNowhere S u × IsUnspent S u
 FitsMove script t (Wake u) S = WaitsNowhere S u
 FitsMove script t (SetPriority u priority) S = priority ≤ 63
 FitsMove script t (Nano m) S = (is_some (thread_of S (nano_thread m)) ≡ true) × FitsNano m S

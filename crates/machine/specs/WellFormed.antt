@@ -20,13 +20,14 @@ use Rattle.state_rows.specs.Requests.{request_at, is_pending}
 use Rattle.state_rows.specs.RequestSound.{AreRequestRows}
 use Rattle.state_rows.specs.Nano.{want_of, holder_of}
 use Rattle.state_rows.specs.NanoSound.{AreNanoRows}
-use Rattle.state_rows.specs.declared.thread.Stage.TheVariants.{Live}
+use Rattle.state_rows.specs.declared.thread.Stage.{Stage}
+use Rattle.state_rows.specs.declared.thread.Stage.TheVariants.{Live, Cleaned, Buried}
 use Rattle.state_rows.specs.declared.thread.Waiting.TheVariants as waiting
 use Rattle.state_rows.specs.declared.handle_slot.HandleSlot.{HandleSlot}
 use Rattle.state_rows.specs.declared.thread.ThreadRow.{ThreadRow}
 use Rattle.machine.specs.declared.state.State.{State}
 use Rattle.machine.specs.Rows.{object_of}
-use Rattle.state_rows.specs.HandleSlots.{IsTable}
+use Rattle.state_rows.specs.HandleSlots.{IsTable, slot_at}
 use Rattle.state_rows.specs.declared.locks.Owner.{Owner}
 use Rattle.state_rows.specs.declared.locks.LockRows.{LockRows}
 use Rattle.state_rows.specs.Locks.{owner_at, count_at, waiters_at, is_among}
@@ -206,6 +207,24 @@ abbrev pub is_dead : Option ObjectRow → ℕ
 is_dead None = 0
 is_dead (Some row) = dead_bit row.dead
 
+-- whether a thread's death came so far that it has given up all
+abbrev pub is_spent : Stage → Bool
+is_spent Cleaned = true
+is_spent Buried = true
+is_spent _ = false
+
+-- a thread that has given up all: it uses nothing, waits for nothing, isn't between a find and its return, and has no handle of its own
+pub record IsSpent (tables : List (List HandleSlot)) (k : ℕ) (row : ThreadRow) : Type 0 where
+  pub unused : row.uses ≡ None
+  pub waits : row.waiting ≡ waiting.Nothing
+  pub going : is_returning row.part ≡ false
+  pub empty : (i : ℕ) → (slot_at (slice_index_or tables k []) i).object ≡ None
+
+-- each thread that is cleaned or buried has given up all, and one whose object is dead has no link any more
+pub record AreSpent (objects : List (Option ObjectRow)) (tables : List (List HandleSlot)) (threads : List (Option ThreadRow)) : Type 0 where
+  pub rows : (k : ℕ) (row : ThreadRow) → slice_index_or threads k None ≡ Some row → is_spent row.stage ≡ true → IsSpent tables k row
+  pub unlinked : (k : ℕ) (row : ThreadRow) → slice_index_or threads k None ≡ Some row → is_dead (slice_index_or objects k None) ≡ 1 → row.link ≡ None
+
 -- how often the sweep of an object is owed
 abbrev pub owed_sweeps : ObjNo → Owed → ℕ
 owed_sweeps o (Close holder x) = 0
@@ -243,6 +262,7 @@ pub record AreRows (script : Script) (S : State) : Type 0 where
   pub locks : AreLocks (length S.objects) S.threads S.mutexes S.owed S.locks
   pub memories : AreMemories S.threads S.memories
   pub logons : AreLogons (length S.threads) S.requests S.logons
+  pub spent : AreSpent S.objects S.handles S.threads
   pub lives : AreLives S
 
 pub record IsWellFormed (script : Script) (S : State) : Type 0 where

@@ -8,6 +8,7 @@ pub mod Locks
 pub mod Logons
 pub mod Memories
 pub mod Requests
+pub mod Spent
 pub mod Synchronized
 pub mod Tables
 pub mod Threads

@@ -19,7 +19,7 @@ use Rattle.state_rows.specs.HandleSlots.{fresh_slot, slot_at}
 use Rattle.machine.specs.References.{total, option_names, slot_names, thread_names, kernel_names, owed_names, mutex_names, count_of}
 use Rattle.machine.specs.Rows.{thread_of}
 use Rattle.state_rows.specs.HandleSlots.{IsTable}
-use Rattle.machine.specs.WellFormed.{EachMayOwe, AreLogons, AreRequests, AreRows, IsWellFormed, IsAlive, is_dead, dead_bit, owed_sweeps, weight}
+use Rattle.machine.specs.WellFormed.{EachMayOwe, AreLogons, AreRequests, AreRows, IsWellFormed, IsAlive, is_dead, dead_bit, owed_sweeps, weight, is_spent}
 use Rattle.machine_laws.proofs.AtBoot.BootCounts.{counted-boot}
 use Rattle.machine_laws.proofs.AtBoot.BootLinks.{each_linked, linked_at}
 use Rattle.machine_laws.proofs.AtBoot.BootLocks.{locks-boot, memories-boot, nothing_at}
@@ -143,6 +143,10 @@ rows-boot script valid =
       locks = locks-boot (length (map (λ b. Some b.object) bs)) OBJECTS bs refl;
       memories = memories-boot script shaped;
       logons = subst (λ (n : ℕ). AreLogons n (request_rows (length bs) DEVICES) (map (λ _. []) bs)) (sym threads) (logons-boot bs (length bs) (request_rows (length bs) DEVICES) refl);
+      spent = record {
+        rows = λ k row is after. let new = born_row script (length bs) bs k row each is in let no : is_spent row.stage ≡ false = ap is_spent new.live in absurd (cc);
+        unlinked = λ k row is dead. let none = born_dead script (length bs) bs k each in absurd (omega arith);
+      };
       lives = record {
         alive = λ o c. elim (cases_lt o.0 (length bs)) [
           | inl lt ↦ born_alive script (length bs) bs o.0 each lt

@@ -21,6 +21,7 @@ use Rattle.state_rows.specs.DeclaredCalls.{calls_of}
 use Rattle.machine.specs.Boot.{born, born_kernel, born_process, born_queues, born_thread, born_threads, born_processes, new_thread, has_any, is_of}
 use Rattle.machine.specs.Task.{instructions_in, run_or, step_or_end, task_of_row}
 use Rattle.move_laws.proofs.Lists.Copies.{copy_at}
+use Rattle.state_rows.specs.declared.thread.Stage.TheVariants.{Live}
 
 -- a thread's row, n being the number of those that stand at boot: it has made no step, and is linked to its process
 pub record IsNewThread (n : ℕ) (row : ThreadRow) : Type 0 where
@@ -31,6 +32,7 @@ pub record IsNewThread (n : ℕ) (row : ThreadRow) : Type 0 where
   pub next_instruction : row.next_instruction ≡ 0
   pub part : row.part ≡ None
   pub uses : row.uses ≡ None
+  pub live : row.stage ≡ Live
   pub registers : length row.registers ≡ 8
 
 -- an object is alive, and works exactly where it isn't held and is a thread that has something to do
@@ -64,7 +66,7 @@ slice_get-behind (x ∷ xs) d ds = slice_get-behind xs d ds
 is_new_thread : (n p : ℕ) (role : Role) (priority : ℕ) → p < n → priority ≤ 63 → (row : ThreadRow) → Some (new_thread p role priority) ≡ Some row → IsNewThread n row
 is_new_thread n p role priority lt few row is =
     let e : new_thread p role priority ≡ row = cc in
-    subst (λ (r : ThreadRow). IsNewThread n r) e (record { process = lt; link = refl; priority = few; waiting = refl; next_instruction = refl; part = refl; uses = refl; registers = refl })
+    subst (λ (r : ThreadRow). IsNewThread n r) e (record { process = lt; link = refl; priority = few; waiting = refl; next_instruction = refl; part = refl; uses = refl; live = refl; registers = refl })
 
 is_born_thread : (script : Script) (n p k : ℕ) (d : ThreadDecl) → p < n → d.priority ≤ 63 → slice_get script.threads k ≡ Some d → IsBorn script n (born_thread p k d)
 is_born_thread script n p k d lt few at = record {

@@ -52,7 +52,7 @@ use Rattle.move_laws.proofs.Holders.ThreadRows.{row-here}
 use Rattle.move_laws.proofs.RowLaws.Tables.{object_of_is}
 use Rattle.machine_laws.proofs.Fitting.Living.{handle_is_alive}
 use Rattle.machine_laws.proofs.Fitting.Shared.{IsCheap}
-use Rattle.machine_laws.proofs.Fitting.Stepping.{FitsDecision, IsStepping, fits-nothing, fits-refuse, fits-use, at_instruction, at-with_row}
+use Rattle.machine_laws.proofs.Fitting.Stepping.{FitsDecision, IsStepping, fits-nothing, fits-refuse, fits-use, at_instruction, at-with_row, unspent, unspent-gone}
 use Rattle.machine_laws.proofs.Fitting.Waiters.{waits_nowhere, stepping_nowhere}
 
 pub none_of : {A : Type 0} (x : Option A) → is_some x ≡ false → x ≡ None
@@ -98,9 +98,9 @@ own_row : {script : Script} {S : State} {t : ObjNo} {row : ThreadRow} {instr : I
 own_row h = ap is_some h.is
 
 -- the last step comes next, with a move that fits then
-pub fits-later : {script : Script} {S : State} {t : ObjNo} (told : Step) (m : Move) → IsCheap m → FitsMove script t m (moved t (move.GoOn t part.Done) S) → FitsDecision script t S (go_on t told m part.Done)
-fits-later told m cheap fits = record {
-  each = (record { unused = λ r is e. absurd (cc); paid = λ e. absurd (cc) }, (fits, tt));
+pub fits-later : {script : Script} {S : State} {t : ObjNo} {row : ThreadRow} {instr : Instr} (told : Step) (m : Move) → IsStepping script S t row instr → IsCheap m → FitsMove script t m (moved t (move.GoOn t part.Done) S) → FitsDecision script t S (go_on t told m part.Done)
+fits-later told m h cheap fits = record {
+  each = (record { unused = λ r is e. absurd (cc); paid = λ e. absurd (cc); unspent = unspent h }, (fits, tt));
   told = let a = cheap.told in omega arith;
   light = let a = cheap.light in omega arith;
 }
@@ -123,7 +123,7 @@ fits-flock {script = script} {S = S} {t = t} {row = row} f None h going =
     fits-unless (step.Of word.Flock part.Do) _ h (λ none.
     if_cases (FitsDecision script t S) (is_free S.nano f) _ _
     (λ free. fits-nano (step.Of word.Flock part.Do) (nano.Take t f) (pos 0) h (own_row h) (inside, none_is (holder_of S.nano f) free, may_take h going none))
-    (λ _. fits-later (step.Of word.Flock part.Do) (move.Nano (nano.Want t (Some f))) (cheap_nano _) (there, (inside, none))))
+    (λ _. fits-later (step.Of word.Flock part.Do) (move.Nano (nano.Want t (Some f))) h (cheap_nano _) (there, (inside, none))))
   where
     inside : f < length S.nano.holders
     inside = mutex_inside script S f h.rows h.names
@@ -148,7 +148,7 @@ pub fits-fswait : {script : Script} {S : State} {t : ObjNo} {row : ThreadRow} {i
 fits-fswait {script = script} {S = S} {t = t} None h =
     fits-unless (step.Of word.Fswait part.Do) _ h (λ none.
     if_cases (FitsDecision script t S) (signal_count S.nano t == 0) _ _
-    (λ _. fits-later (step.Of word.Fswait part.Do) (move.Wait t waiting.Fast) (record { told = omega arith; light = refl }) (none, stepping_nowhere h))
+    (λ _. fits-later (step.Of word.Fswait part.Do) (move.Wait t waiting.Fast) h (record { told = omega arith; light = refl }) (none, stepping_nowhere h, unspent-gone part.Done (unspent h)))
     (λ _. fits-nano (step.Of word.Fswait part.Do) (nano.Lower t) (pos 0) h (own_row h) tt))
 fits-fswait (Some p) h = fits-answer (step.Of word.Fswait part.Done) (pos 0) h
 

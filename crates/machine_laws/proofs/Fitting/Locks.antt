@@ -42,7 +42,7 @@ use Rattle.move_laws.proofs.Lists.Cases.{if_cases}
 use Rattle.move_laws.proofs.Readiness.FirstReady.{greatest_listed}
 use Rattle.machine_laws.proofs.Fitting.KernelThreads.{fits-answer, fits-look_kind, fits-unless}
 use Rattle.machine_laws.proofs.Fitting.Living.{alive_inside, use_is_alive}
-use Rattle.machine_laws.proofs.Fitting.Stepping.{FitsDecision, IsStepping, fits-answers, fits-nothing, fits-refuse, at_instruction, at-with_row}
+use Rattle.machine_laws.proofs.Fitting.Stepping.{FitsDecision, IsStepping, fits-answers, fits-nothing, fits-refuse, at_instruction, at-with_row, unspent, unspent-gone}
 use Rattle.machine_laws.proofs.Fitting.Waiters.{passed_is, stepping_nowhere, struck_nowhere, woke_is}
 
 -- an answer after a move in the rows of mutexes and semaphores, and where a waiter goes on after it
@@ -65,8 +65,8 @@ waits_there {S = S} {t = t} o h =
 fits-wait_at : {script : Script} {S : State} {t : ObjNo} {row : ThreadRow} {instr : Instr} (told : Step) (o : ObjNo) (m : LockMove) → IsStepping script S t row instr → held_by S.nano t ≡ None → (MayJoin (waiting_at S t o) o t → FitsLocks t m (waiting_at S t o)) → FitsDecision script t S (wait_at t told o m)
 fits-wait_at {row = row} told o m h none fits = record {
   each = (
-    record { unused = λ r is e. absurd (cc); paid = λ e. absurd (cc) },
-    ((none, stepping_nowhere h), (fits (record { waits = record { row = with_waiting (waiting.Lock o) (with_part part.Done row); is = waits_there o h; waits = refl }; nowhere = stepping_nowhere h; paid = h.paid }), tt)),
+    record { unused = λ r is e. absurd (cc); paid = λ e. absurd (cc); unspent = unspent h },
+    ((none, stepping_nowhere h, unspent-gone part.Done (unspent h)), (fits (record { waits = record { row = with_waiting (waiting.Lock o) (with_part part.Done row); is = waits_there o h; waits = refl }; nowhere = stepping_nowhere h; paid = h.paid }), tt)),
   );
   told = let few = lock-tells m in omega arith;
   light = let few = lock-owes m in omega arith;

@@ -28,7 +28,7 @@ use Rattle.machine.specs.WellFormed.{IsAlive, is_before_use}
 use Rattle.move_laws.proofs.Lists.Cases.{if_cases}
 use Rattle.move_laws.proofs.RowLaws.Tables.{free_index_inside, object_of_is}
 use Rattle.machine_laws.proofs.Fitting.Living.{handle_is_alive, open_is_alive, found_inside}
-use Rattle.machine_laws.proofs.Fitting.Stepping.{FitsDecision, IsStepping, fits-refuse, fits-use, fits-handle, may_go_on, at_instruction}
+use Rattle.machine_laws.proofs.Fitting.Stepping.{FitsDecision, IsStepping, fits-refuse, fits-use, fits-handle, may_go_on, at_instruction, unspent}
 
 -- a look at a handle
 pub fits-look : {script : Script} {S : State} {t : ObjNo} {row : ThreadRow} {instr : Instr} (word : Word) (x : ℕ) → IsStepping script S t row instr → is_before_use row.part ≡ true → FitsDecision script t S (look S t row word x)
@@ -64,7 +64,7 @@ pub of_thread_handle : {script : Script} {S : State} {t : ObjNo} {row : ThreadRo
     → ((i number : ℕ) → IsFree S (InThread t i) → P (Some (record { holder = InThread t i; number = number }))) → P (thread_handle S t)
 of_thread_handle {S = S} {t = t} P h none some =
     let table = table_of S t in
-    if_cases P (is_full table) _ _ (λ _. none) (λ room. some (free_index table) (new_handle true table) (ap is_some h.is, record { inside = free_index_inside table room; least = refl }))
+    if_cases P (is_full table) _ _ (λ _. none) (λ room. some (free_index table) (new_handle true table) (ap is_some h.is, record { inside = free_index_inside table room; least = refl }, unspent h))
 
 -- a handle of a living object
 pub fits-give : {script : Script} {S : State} {t : ObjNo} {row : ThreadRow} {instr : Instr} (told : Step) (o : ObjNo) (x : ℕ) → IsStepping script S t row instr → x < 8 → IsAlive (object_of S o) → FitsDecision script t S (give_handle t told o x (process_handle S row.process))

@@ -26,11 +26,11 @@ use Rattle.machine.specs.Decide.{nothing, answer, answer_handle, refuse, go_on}
 use Rattle.machine.specs.References.{total}
 use Rattle.machine.specs.HeldIn.{owed_by}
 use Rattle.machine.specs.Task.{is_returning, instructions_of}
-use Rattle.machine.specs.Fits.{EachFits, most_told, most_owed, IsAtInstruction, MayGoOn, IsFree}
-use Rattle.machine.specs.WellFormed.{IsAlive, AreRows, is_before_use}
+use Rattle.machine.specs.Fits.{EachFits, most_told, most_owed, IsAtInstruction, MayGoOn, IsFree, IsUnspent}
+use Rattle.machine.specs.WellFormed.{IsAlive, AreRows, is_before_use, is_spent}
 use Rattle.move_laws.proofs.Holders.ThreadRows.{row-here}
 use Rattle.move_laws.proofs.Lists.Totals.{total-append}
-use Rattle.move_laws.proofs.RowLaws.Threads.{row-kept}
+use Rattle.move_laws.proofs.RowLaws.Threads.{row-kept, map_some}
 
 -- the moves of a decision fit, and what they tell and owe is little
 pub record FitsDecision (script : Script) (t : ObjNo) (S : State) (d : Decision) : Type 0 where
@@ -73,11 +73,28 @@ at-with_row script S T t u f keeps threads at =
 pub fits-refuse : {script : Script} {S : State} {t : ObjNo} {row : ThreadRow} {instr : Instr} (told : Step) (error : Error) → IsStepping script S t row instr → FitsDecision script t S (refuse t told error)
 fits-refuse told error h = record { each = ((refl, at_instruction h), tt); told = omega arith; light = omega arith }
 
+-- it isn't cleaned: only one that comes back from a find isn't live, and no cleaned thread does that
+pub unspent : {script : Script} {S : State} {t : ObjNo} {row : ThreadRow} {instr : Instr} → IsStepping script S t row instr → IsUnspent S t
+unspent {script = script} {S = S} {t = t} {row = row} h = λ r is. let same_row : row ≡ r = let a = h.is in cc in subst (λ (x : ThreadRow). is_spent x.stage ≡ false) same_row (own (is_returning row.part) refl)
+  where
+    back : (spent : Bool) → is_spent row.stage ≡ spent → is_returning row.part ≡ true → is_spent row.stage ≡ false
+    back true is returns = let going = (h.rows.spent.rows t.0 row h.is is).going in absurd (cc)
+    back false is returns = is
+
+    own : (returns : Bool) → is_returning row.part ≡ returns → is_spent row.stage ≡ false
+    own true returns = back (is_spent row.stage) refl returns
+    own false going = ap is_spent (h.live going)
+
+-- nor is it after it went on
+pub unspent-gone : {S : State} {t : ObjNo} (part : Part) → IsUnspent S t → IsUnspent (moved t (GoOn t part) S) t
+unspent-gone {S = S} {t = t} part h = λ r is. let was = map_some (with_part part) (thread_of S t) r (sym (row-here S.threads t (with_part part) t.0 refl) ∙ is) in subst (λ (x : ThreadRow). is_spent x.stage ≡ false) was.2 (h was.0 was.1)
+
 -- a thread that made no step but a find goes on to a step
 pub may_go_on : {script : Script} {S : State} {t : ObjNo} {row : ThreadRow} {instr : Instr} (part : Part) → IsStepping script S t row instr → is_before_use row.part ≡ true → MayGoOn S t (Some part)
 may_go_on {S = S} {t = t} {row = row} part h before = record {
   unused = λ r is _. let same_row : row ≡ r = let a = h.is in cc in subst (λ (x : ThreadRow). x.uses ≡ None) same_row ((h.rows.threads.rows t.0 row h.is).unused before);
   paid = λ _. h.paid;
+  unspent = unspent h;
 }
 
 -- and uses an object from then on
@@ -94,6 +111,7 @@ fits-use {script = script} {S = S} {t = t} {row = row} told o part h before late
       is = row-here S.threads t (with_part part) t.0 refl ∙ ap (option_map (with_part part)) h.is;
       later = later;
       unused = (h.rows.threads.rows t.0 row h.is).unused before;
+      unspent = unspent h row h.is;
       paid = λ x. ap (total (owed_by (Temp t) x)) h.paid;
     }
 

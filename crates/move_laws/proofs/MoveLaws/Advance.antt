@@ -28,6 +28,7 @@ use Rattle.move_laws.proofs.RowLaws.Synchronized.{synchronized-with_row}
 use Rattle.move_laws.proofs.RowLaws.Locks.{leaves-owing, leaves-then, leaves-with_row, locks-left}
 use Rattle.move_laws.proofs.RowLaws.Memories.{memories-with_row}
 use Rattle.move_laws.proofs.MoveLaws.Sound.{Sound, sound-of}
+use Rattle.move_laws.proofs.RowLaws.Spent.{spent-kept}
 
 -- what the thread used is what it owes then
 use_owed : (u : ObjNo) (used : Option ObjNo) (o : ObjNo) → (total (owed_names o) (owed_use u used) ≡ option_names o used) × (total (owed_sweeps o) (owed_use u used) ≡ 0)
@@ -119,4 +120,5 @@ sound-advance script S t u fits few inside rows =
           (leaves-owing (with_row S.threads u advanced) S.owed u (owed_use u used) S.locks (use_unowned u used))) rows.locks;
       memories = memories-with_row S.threads u advanced S.memories (λ row is. refl) rows.memories;
       logons = rows.logons;
+      spent = spent-kept S.objects S.handles S.threads u advanced (record { stage = λ row. refl; unused = λ row e. refl; waits = λ row e. e; going = λ row e. refl; link = λ row e. e }) rows.spent;
     }) (lives-none S T refl counts sweeps) (holders-none S T held)

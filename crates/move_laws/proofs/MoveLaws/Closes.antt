@@ -18,7 +18,7 @@ use Rattle.machine.specs.References.{total, same, thread_names, owed_names, opti
 use Rattle.machine.specs.Holding.{is_holder, same_pair, link_names}
 use Rattle.machine.specs.HeldIn.{held_in, use_names, owed_by}
 use Rattle.machine.specs.Task.{is_returning}
-use Rattle.machine.specs.WellFormed.{IsAlive, AreTables, AreThreads, AreDuties, AreSynchronized, AreMemories, EachMayOwe, AreRows, weight, owed_sweeps, sweeps_of, part_of}
+use Rattle.machine.specs.WellFormed.{IsAlive, AreTables, AreThreads, AreDuties, AreSynchronized, AreMemories, EachMayOwe, AreRows, weight, owed_sweeps, sweeps_of, part_of, AreSpent}
 use Rattle.move_laws.proofs.Lives.Closes.{lives-closed}
 use Rattle.move_laws.proofs.Holders.HoldersMove.{holders-closed}
 use Rattle.move_laws.proofs.Holders.ThreadRows.{rows-with_row}
@@ -30,6 +30,7 @@ use Rattle.move_laws.proofs.RowLaws.Synchronized.{synchronized-with_row}
 use Rattle.move_laws.proofs.RowLaws.Locks.{LeavesLocks, leaves-owing, leaves-then, leaves-with_row, locks-left}
 use Rattle.move_laws.proofs.RowLaws.Memories.{memories-with_row}
 use Rattle.move_laws.proofs.MoveLaws.Sound.{Sound, sound-of}
+use Rattle.move_laws.proofs.RowLaws.Spent.{spent-died}
 
 -- the rows in the middle of a close of an object: a holder's reference to it isn't there any more
 pub record HasLost (script : Script) (S : State) (t : ObjNo) (h : Holder) (o : ObjNo) (handles : List (List HandleSlot)) (threads : List (Option ThreadRow)) (owed : List (List Owed)) : Type 0 where
@@ -46,6 +47,7 @@ pub record HasLost (script : Script) (S : State) (t : ObjNo) (h : Holder) (o : O
   pub nano : AreSynchronized script threads S.nano
   pub locks : LeavesLocks S.threads threads S.owed owed S.locks
   pub memories : AreMemories threads S.memories
+  pub spent : AreSpent S.objects handles threads
   pub going : is_returning (part_of (get_or threads t.0 None)) ≡ false
   pub few : total weight (get_or owed t.0 []) + total weight (owed_by_close (is_last S o) o (link_of S o)) ≤ 12
 
@@ -104,6 +106,7 @@ sound-closed false script S t h o handles threads owed e inside lost rows =
           (leaves-then S.threads threads threads S.owed owed (owing owed t []) S.locks lost.locks (leaves-owing threads owed t [] S.locks (λ u x. refl))) rows.locks;
       memories = lost.memories;
       logons = rows.logons;
+      spent = lost.spent;
     })
     (lives-closed false S T h o e alive refl
     (λ p. let a = total-owing (owed_names p) owed t [] here in let b = lost.counts p in omega arith)
@@ -140,6 +143,7 @@ sound-closed true script S t h o handles threads owed e inside lost rows =
           (leaves-then S.threads threads other S.owed owed (owing owed t more) S.locks lost.locks (leaves-then threads other other owed owed (owing owed t more) S.locks (leaves-with_row threads o f owed S.locks (λ row. refl)) (leaves-owing other owed t more S.locks (link_unowned o link)))) rows.locks;
       memories = memories-with_row threads o f S.memories (λ row is. refl) lost.memories;
       logons = rows.logons;
+      spent = spent-died S.objects handles threads o (dead_row (get_or S.objects o.0 None)) lost.spent;
     })
     (lives-closed true S T h o e alive refl
     (λ p.

@@ -12,13 +12,14 @@ use Rattle.machine.specs.Fits.{FitsDeath, FitsMove}
 use Rattle.machine.specs.Moves.{moved, told}
 use Rattle.machine.specs.Rows.{with_row}
 use Rattle.machine.specs.Task.{is_returning}
-use Rattle.machine.specs.WellFormed.{AreRows, IsThread, AreSynchronized}
+use Rattle.machine.specs.WellFormed.{AreRows, IsThread, AreSynchronized, AreSpent}
 use Rattle.move_laws.proofs.RowLaws.Duties.{paid-with_row}
 use Rattle.move_laws.proofs.RowLaws.Locks.{LeavesLocks, leaves-nowhere, leaves-with_row}
 use Rattle.move_laws.proofs.RowLaws.Synchronized.{synchronized-with_row, synchronized-unheld}
 use Rattle.move_laws.proofs.RowLaws.Threads.{KeepsThread}
 use Rattle.move_laws.proofs.MoveLaws.RowMoves.{IsSilent, KeepsReferences, silent, sound-row}
 use Rattle.move_laws.proofs.MoveLaws.Sound.{Sound}
+use Rattle.move_laws.proofs.RowLaws.Spent.{spent-going, spent-kept, spent-with_row}
 
 -- a doom tells of no reference, and of no object's death
 pub death_silent : (S : State) (m : DeathMove) → IsSilent S (death_told m)
@@ -46,7 +47,12 @@ keeps-going (Clean t) row h = h
 synchronized-death : (script : Script) (S : State) (m : DeathMove) → FitsDeath m S → AreSynchronized script S.threads S.nano → AreSynchronized script (with_row S.threads (death_thread m) (death_row m)) S.nano
 synchronized-death script S (Note t exit) fits h = synchronized-with_row script S.threads t (death_row (Note t exit)) S.nano (λ row free. free) h
 synchronized-death script S (Doom t exit) fits h = synchronized-unheld script S.threads t (death_row (Doom t exit)) S.nano fits.0 h
-synchronized-death script S (Clean t) fits h = synchronized-unheld script S.threads t (death_row (Clean t)) S.nano fits h
+synchronized-death script S (Clean t) fits h = synchronized-unheld script S.threads t (death_row (Clean t)) S.nano fits.0 h
+
+spent-death : (script : Script) (S : State) (m : DeathMove) → FitsDeath m S → AreSpent S.objects S.handles S.threads → AreSpent S.objects S.handles (with_row S.threads (death_thread m) (death_row m))
+spent-death script S (Note t exit) fits h = spent-kept S.objects S.handles S.threads t (death_row (Note t exit)) (record { stage = λ row. refl; unused = λ row e. e; waits = λ row e. e; going = λ row e. e; link = λ row e. e }) h
+spent-death script S (Doom t exit) fits h = spent-going S.objects S.handles S.threads t (death_row (Doom t exit)) (λ row is. refl) (λ row e. e) h
+spent-death script S (Clean t) fits h = spent-with_row S.objects S.handles S.threads t (death_row (Clean t)) (λ row is after had. let has = fits.1 row is in record { unused = has.unused; waits = has.waits; going = has.going; empty = has.empty }) (λ row e. e) h
 
 leaves-locks : (S : State) (m : DeathMove) → FitsDeath m S → LeavesLocks S.threads (with_row S.threads (death_thread m) (death_row m)) S.owed S.owed S.locks
 leaves-locks S (Note t exit) fits = leaves-with_row S.threads t (death_row (Note t exit)) S.owed S.locks (λ row. refl)
@@ -56,4 +62,4 @@ leaves-locks S (Clean t) fits = leaves-with_row S.threads t (death_row (Clean t)
 pub sound-death : (script : Script) (S : State) (t : ObjNo) (m : DeathMove) → FitsMove script t (Death m) S → AreRows script S → Sound script S (moved t (Death m) S) (told (Death m) S)
 sound-death script S t m fits rows = sound-row script S (death_thread m) (death_row m) (death_told m) (keeps-references m)
     (λ row is h. keeps-thread script _ m row h)
-    (λ k. inr (paid-with_row S.threads (death_thread m) (death_row m) (keeps-going m) k)) (death_silent S m) (synchronized-death script S m fits rows.nano) (leaves-locks S m fits) rows
+    (λ k. inr (paid-with_row S.threads (death_thread m) (death_row m) (keeps-going m) k)) (death_silent S m) (synchronized-death script S m fits rows.nano) (leaves-locks S m fits) (spent-death script S m fits rows.spent) rows

@@ -1,5 +1,5 @@
 -- A holder gets a reference: to an object that there is, or to a new one.
-use Rattle.std.proofs.Common.{◌≡◌, inr, ℕ, ◌+◌, List, length, arith, refl, ap, ◌∙◌, Option, Some, None, Bool, true, false}
+use Rattle.std.proofs.Common.{◌≡◌, inr, ℕ, ◌+◌, List, length, arith, refl, ap, ◌∙◌, Option, Some, None, Bool, true, false, subst}
 use Rattle.std.specs.Prelude.{option_map, is_some, if◌then◌else◌}
 use Rattle.std.proofs.lemmas.List.{length_push}
 use Rattle.sym_base.specs.declared.number.ObjNo.{ObjNo}
@@ -18,8 +18,8 @@ use Rattle.machine.specs.Moves.{moved, told, tables_gain, threads_gain, next_obj
 use Rattle.machine.specs.References.{same, thread_names, option_names, slot_names, count_of}
 use Rattle.machine.specs.Holding.{is_holder, same_pair}
 use Rattle.machine.specs.HeldIn.{held_in, use_names, own_slot, rows_hold}
-use Rattle.machine.specs.Fits.{FitsMove, IsFree, IsFreeSlot, UsesNothing}
-use Rattle.machine.specs.WellFormed.{AreTables, AreThreads, AreDuties, AreSynchronized, AreMemories, AreRows, MayOwe}
+use Rattle.machine.specs.Fits.{FitsMove, IsFree, IsFreeSlot, UsesNothing, IsUnspent}
+use Rattle.machine.specs.WellFormed.{AreTables, AreThreads, AreDuties, AreSynchronized, AreMemories, AreRows, MayOwe, AreSpent, is_spent}
 use Rattle.move_laws.proofs.Lives.Kinds.{lives-plus, lives-made}
 use Rattle.move_laws.proofs.Holders.HoldersMove.{holders-plus}
 use Rattle.move_laws.proofs.Holders.SlotRows.{slot_holder, rows-with_slot}
@@ -33,6 +33,7 @@ use Rattle.move_laws.proofs.RowLaws.Synchronized.{synchronized-with_row}
 use Rattle.move_laws.proofs.RowLaws.Locks.{LeavesLocks, leaves-none, leaves-with_row, locks-left}
 use Rattle.move_laws.proofs.RowLaws.Memories.{memories-with_row}
 use Rattle.move_laws.proofs.MoveLaws.Sound.{Sound, sound-of}
+use Rattle.move_laws.proofs.RowLaws.Spent.{made-dead, spent-going, spent-objects, spent-slot}
 
 -- the tables and threads where a holder got a reference
 pub record HasGained (script : Script) (S : State) (h : Holder) (o : ObjNo) (handles : List (List HandleSlot)) (threads : List (Option ThreadRow)) : Type 0 where
@@ -47,6 +48,7 @@ pub record HasGained (script : Script) (S : State) (h : Holder) (o : ObjNo) (han
   pub nano : AreSynchronized script threads S.nano
   pub locks : LeavesLocks S.threads threads S.owed S.owed S.locks
   pub memories : AreMemories threads S.memories
+  pub spent : AreSpent S.objects handles threads
 
 empty_slot : (c : Bool) (x : ObjNo) (slot : HandleSlot) → slot.object ≡ None → own_slot c x slot ≡ 0
 empty_slot true x slot e = refl
@@ -60,8 +62,8 @@ unowed : (thread : Bool) (threads : List (Option ThreadRow)) (owner : ObjNo) (i 
 unowed true threads owner i k y own = own
 unowed false threads owner i k y own = own
 
-gained-slot : (script : Script) (S : State) (thread : Bool) (owner : ObjNo) (i : ℕ) (o : ObjNo) → is_some (thread_of S owner) ≡ thread → IsFreeSlot S owner i → AreRows script S → HasGained script S (slot_holder thread owner i) o (with_slot S.handles owner i (taken_slot o)) S.threads
-gained-slot script S thread owner i o is fits rows =
+gained-slot : (script : Script) (S : State) (thread : Bool) (owner : ObjNo) (i : ℕ) (o : ObjNo) → is_some (thread_of S owner) ≡ thread → IsUnspent S owner → IsFreeSlot S owner i → AreRows script S → HasGained script S (slot_holder thread owner i) o (with_slot S.handles owner i (taken_slot o)) S.threads
+gained-slot script S thread owner i o is unspent fits rows =
     let h = slot_holder thread owner i in
     let there = table_inside S.handles owner.0 i fits.inside in
     let old = slot_at (table_of S owner) i in
@@ -80,6 +82,7 @@ gained-slot script S thread owner i o is fits rows =
       nano = rows.nano;
       locks = leaves-none S.threads S.owed S.locks;
       memories = rows.memories;
+      spent = spent-slot S.objects S.handles S.threads owner i (taken_slot o) unspent rows.spent;
     }
 
 gained-use : (script : Script) (S : State) (u o : ObjNo) → UsesNothing S u → AreRows script S → HasGained script S (Temp u) o S.handles (with_row S.threads u (λ row. record row { uses = Some o }))
@@ -119,14 +122,15 @@ gained-use script S u o fits rows =
       nano = synchronized-with_row script S.threads u f S.nano (λ r h. h) rows.nano;
       locks = leaves-with_row S.threads u f S.owed S.locks (λ r. refl);
       memories = memories-with_row S.threads u f S.memories (λ r is. refl) rows.memories;
+      spent = spent-going S.objects S.handles S.threads u f (λ r is. let same_row : row ≡ r = let a = fits.is in cc in subst (λ (x : ThreadRow). is_spent x.stage ≡ false) same_row fits.unspent) (λ r none. none) rows.spent;
     }
 
 is_some_of : (x : Option ThreadRow) → x ≡ None → is_some x ≡ false
 is_some_of x e = ap is_some e
 
 pub gained : (script : Script) (S : State) (h : Holder) (o : ObjNo) → IsFree S h → AreRows script S → HasGained script S h o (tables_gain h o S.handles) (threads_gain h o S.threads)
-gained script S (InProcess p i) o fits rows = gained-slot script S false p i o (ap is_some fits.0) fits.1 rows
-gained script S (InThread u i) o fits rows = gained-slot script S true u i o fits.0 fits.1 rows
+gained script S (InProcess p i) o fits rows = gained-slot script S false p i o (ap is_some fits.0) (λ row is. let none = fits.0 in absurd (cc)) fits.1 rows
+gained script S (InThread u i) o fits rows = gained-slot script S true u i o fits.0 fits.2 fits.1 rows
 gained script S (Temp u) o fits rows = gained-use script S u o fits rows
 gained script S _ o fits rows = absurd fits
 
@@ -135,7 +139,7 @@ sound-gain script S t h o fits rows =
     let T = moved t (Gain h o) S in
     let g = gained script S h o fits.0 rows in
     sound-of script S T (told (Gain h o) S) rows
-    (record { handles_long = g.handles_long; threads_long = g.threads_long; owed_long = refl; objects_few = rows.sized.objects_few; tables = g.tables; threads = g.threads_are; duties = g.duties; nano = g.nano; deferred = rows.deferred; requests = rows.requests; locks = locks-left (length S.objects) (length S.objects) S.threads (threads_gain h o S.threads) S.mutexes S.owed S.owed S.locks (omega arith) g.locks rows.locks; memories = g.memories; logons = rows.logons })
+    (record { handles_long = g.handles_long; threads_long = g.threads_long; owed_long = refl; objects_few = rows.sized.objects_few; tables = g.tables; threads = g.threads_are; duties = g.duties; nano = g.nano; deferred = rows.deferred; requests = rows.requests; locks = locks-left (length S.objects) (length S.objects) S.threads (threads_gain h o S.threads) S.mutexes S.owed S.owed S.locks (omega arith) g.locks rows.locks; memories = g.memories; logons = rows.logons; spent = g.spent })
     (lives-plus S T h o refl g.counts (λ p. refl) fits.1) (holders-plus S T h o g.none g.held)
 
 pub sound-make : (script : Script) (S : State) (t : ObjNo) (kind : Kind) (name : List ℕ) (h : Holder) → FitsMove script t (Make kind name h) S → AreRows script S → Sound script S (moved t (Make kind name h) S) (told (Make kind name h) S)
@@ -146,5 +150,5 @@ sound-make script S t kind name h fits rows =
     let room = fits.0.room in
     let long = length_push S.objects (Some (new_object kind name)) in
     sound-of script S T (told (Make kind name h) S) rows
-    (record { handles_long = g.handles_long; threads_long = g.threads_long; owed_long = refl; objects_few = omega arith; tables = g.tables; threads = g.threads_are; duties = g.duties; nano = g.nano; deferred = rows.deferred; requests = rows.requests; locks = locks-left (length S.objects) (length T.objects) S.threads (threads_gain h o S.threads) S.mutexes S.owed S.owed S.locks (omega arith) g.locks rows.locks; memories = g.memories; logons = rows.logons })
+    (record { handles_long = g.handles_long; threads_long = g.threads_long; owed_long = refl; objects_few = omega arith; tables = g.tables; threads = g.threads_are; duties = g.duties; nano = g.nano; deferred = rows.deferred; requests = rows.requests; locks = locks-left (length S.objects) (length T.objects) S.threads (threads_gain h o S.threads) S.mutexes S.owed S.owed S.locks (omega arith) g.locks rows.locks; memories = g.memories; logons = rows.logons; spent = spent-objects S.objects T.objects T.handles T.threads (made-dead S.objects (new_object kind name) refl) g.spent })
     (lives-made S T (new_object kind name) h o refl refl refl g.counts (λ p. refl)) (holders-plus S T h o g.none g.held)

@@ -59,7 +59,7 @@ parts S = record { rows = S.locks; mutexes = S.mutexes; owed = S.owed }
 sound-alone : (script : Script) (S : State) (new : LockRows) → AreLocks (length S.objects) S.threads S.mutexes S.owed new → AreRows script S → Sound script S (record S { locks = new }) []
 sound-alone script S new locks rows =
     let T : State = record S { locks = new } in
-    sound-of script S T [] rows (record { handles_long = refl; threads_long = refl; owed_long = refl; objects_few = rows.sized.objects_few; tables = rows.tables; threads = rows.threads; duties = rows.duties; nano = rows.nano; deferred = rows.deferred; requests = rows.requests; locks = locks; memories = rows.memories; logons = rows.logons })
+    sound-of script S T [] rows (record { handles_long = refl; threads_long = refl; owed_long = refl; objects_few = rows.sized.objects_few; tables = rows.tables; threads = rows.threads; duties = rows.duties; nano = rows.nano; deferred = rows.deferred; requests = rows.requests; locks = locks; memories = rows.memories; logons = rows.logons; spent = rows.spent })
     (lives-none S T refl (λ o. refl) (λ o. refl)) (holders-none S T (λ g x. refl))
 
 -- that a thread takes or gives a mutex tells of no reference and no death
@@ -101,6 +101,7 @@ sound-passed script S mutexes owed new effects h lives holders rows = sound-of s
   locks = h.locks;
   memories = rows.memories;
   logons = rows.logons;
+  spent = rows.spent;
 }) lives holders
 
 -- a mutex is taken exactly where it is free

@@ -29,6 +29,7 @@ use Rattle.move_laws.proofs.RowLaws.Duties.{duties-without_first}
 use Rattle.move_laws.proofs.RowLaws.Locks.{leaves-without_first, locks-left}
 use Rattle.move_laws.proofs.MoveLaws.Closes.{sound-closed, close_weight, close_weight_unlinked}
 use Rattle.move_laws.proofs.MoveLaws.Sound.{Sound, sound-of}
+use Rattle.move_laws.proofs.RowLaws.Spent.{spent-objects, swept-dead}
 
 -- a close that is paid leaves room for what it owes: it weighs more
 room_by : (threads : List (Option ThreadRow)) (k : ℕ) (last : Bool) (h : Holder) (o : ObjNo) (link : Option ObjNo) → link_of_row (get_or threads o.0 None) ≡ link → MayOwe threads k h o → total weight (owed_by_close last o link) ≤ weight (Close h o)
@@ -63,6 +64,7 @@ sound-pay_close script S t h o rest e inside rows =
       nano = rows.nano;
       locks = leaves-without_first S.threads S.owed t S.locks;
       memories = rows.memories;
+      spent = rows.spent;
       going = not_returning (is_returning (part_of (thread_of S t))) refl (owed_of S t) (Close h o) rest e (rows.duties.returns t.0);
       few = let a = ap (total weight) left in omega arith;
     }) rows
@@ -106,6 +108,7 @@ sound-pay_sweep script S t o rest e inside rows =
       locks = locks-left (length S.objects) (length T.objects) S.threads S.threads S.mutexes S.owed (without_first S.owed t) S.locks (let a = length-set S.objects o.0 None in omega arith) (leaves-without_first S.threads S.owed t S.locks) rows.locks;
       memories = rows.memories;
       logons = rows.logons;
+      spent = spent-objects S.objects (slice_set S.objects o.0 None) S.handles S.threads (swept-dead S.objects o.0) rows.spent;
     })
     (lives-swept S T o there dead refl counts (λ p. let a = paid p in omega arith))
     (record { fits = (tt, tt); moves = λ g x. let a = total-paying (owed_by g x) S.owed t (Sweep o) rest here e in omega arith }))

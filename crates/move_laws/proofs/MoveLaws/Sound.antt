@@ -6,7 +6,7 @@ use Rattle.script_types.specs.declared.script.Script.{Script}
 use Rattle.entry_log.specs.declared.effect.Effect.{Effect}
 use Rattle.machine.specs.declared.state.State.{State}
 use Rattle.machine.specs.Told.{removals}
-use Rattle.machine.specs.WellFormed.{AreTables, AreThreads, AreDuties, AreSynchronized, AreCalls, AreRequests, AreLocks, AreLogons, AreMemories, AreRows}
+use Rattle.machine.specs.WellFormed.{AreTables, AreThreads, AreDuties, AreSynchronized, AreCalls, AreRequests, AreLocks, AreLogons, AreMemories, AreRows, AreSpent}
 use Rattle.move_laws.proofs.Lives.LivesMove.{LivesMove, lives-then, lives-kept}
 use Rattle.move_laws.proofs.Lives.Kinds.{lives-none}
 use Rattle.move_laws.proofs.Holders.HoldersMove.{HoldersMove, holders-then, holders-none}
@@ -44,6 +44,7 @@ pub record AreParts (script : Script) (S T : State) : Type 0 where
   pub locks : AreLocks (length T.objects) T.threads T.mutexes T.owed T.locks
   pub memories : AreMemories T.threads T.memories
   pub logons : AreLogons (length S.threads) T.requests T.logons
+  pub spent : AreSpent T.objects T.handles T.threads
 
 pub sound-of : (script : Script) (S T : State) (effects : List Effect) → AreRows script S → AreParts script S T → LivesMove S T effects → HoldersMove S T effects → Sound script S T effects
 sound-of script S T effects rows parts lives holders =
@@ -71,6 +72,7 @@ sound-of script S T effects rows parts lives holders =
         locks = parts.locks;
         memories = parts.memories;
         logons = subst (λ (n : ℕ). AreLogons n T.requests T.logons) (sym parts.threads_long) parts.logons;
+        spent = parts.spent;
         lives = lives-kept S T effects lives rows.lives;
       };
       long = parts.threads_long;
