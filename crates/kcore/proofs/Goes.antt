@@ -53,6 +53,7 @@ rows_apart script S qs h = record {
   locks = h.locks;
   memories = h.memories;
   logons = h.logons;
+  spent = h.spent;
   lives = record { alive = h.lives.alive; counted = h.lives.counted; sweeps = h.lives.sweeps };
 }
 

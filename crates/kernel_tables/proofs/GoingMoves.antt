@@ -225,7 +225,7 @@ can_move script S t (Deferred m) shaped fits refs s = fits
 can_move script S t (Requests m) shaped fits refs s = can_request (length S.threads) S.requests m S.logons s.rows.requests fits
 can_move script S t (Locks m) shaped fits refs s = can_lock script S s.rows (known script S s.rows) (λ o. referred script S o s.rows) (λ u. few_places script S u s.rows) t m fits
 can_move script S t (Logons m) shaped fits refs s = can_logon script S m s.rows fits
-can_move script S t (Death m) shaped fits refs s = tt
+can_move script S t (Death m) shaped fits refs s = one_place script S t s.rows
 can_move script S t (Fill p at size byte) shaped fits refs s = fits
 can_move script S t (Pay what) shaped fits refs s = absurd fits
 

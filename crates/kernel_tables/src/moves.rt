@@ -226,7 +226,7 @@ pub fn make_move<W: RefWords + Drop>(tables: &mut Tables<W>, thread: ThreadNo, c
         Move::Requests(change) => move_request(&mut tables.requests, change),
         Move::Locks(change) => move_lock(tables, change),
         Move::Logons(change) => move_logon(&mut tables.cleanup, change),
-        Move::Death(change) => move_death(&mut tables.procs, change),
+        Move::Death(change) => move_death(tables, thread, change),
         Move::Fill(process, at, length, byte) => {
             fill(&mut tables.procs, process, at, length, byte);
         }

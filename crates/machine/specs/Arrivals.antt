@@ -11,6 +11,7 @@ use Rattle.machine.specs.declared.moves.Move.TheVariants.{GoOn, Advance, Wait, W
 use Rattle.machine.specs.declared.lock_move.LockMove.TheVariants.{Unlock, Free}
 use Rattle.machine.specs.declared.state.State.{State}
 use Rattle.machine.specs.NanoMoves.{nano_thread}
+use Rattle.machine.specs.declared.death_move.DeathMove.TheVariants.{Bury}
 use Rattle.machine.specs.DeathMoves.{death_thread}
 use Rattle.machine.specs.DeferredMoves.{deferred_threads}
 use Rattle.machine.specs.Moves.{moved, perform}
@@ -36,6 +37,7 @@ touched t (Nano m) = nano_thread m ∷ []
 touched t (Deferred m) = deferred_threads m
 touched t (Locks (Unlock o u unlocked)) = u ∷ []
 touched t (Locks (Free o u best)) = u ∷ []
+touched t (Death (Bury u)) = t ∷ u ∷ []
 touched t (Death m) = death_thread m ∷ []
 touched t (Pay (Close h o)) = t ∷ []
 touched t (Pay (Sweep o)) = t ∷ o ∷ []

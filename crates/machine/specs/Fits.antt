@@ -11,7 +11,7 @@ use Rattle.entry_log.specs.declared.step.Part.{Part}
 use Rattle.machine.specs.declared.moves.Move.{Move}
 use Rattle.machine.specs.declared.moves.Move.TheVariants.{Make, Gain, Lose, Find, Miss, GoOn, Write, Advance, Wait, Wake, SetPriority, Nano, Deferred, Requests, Locks, Logons, Death, Fill, Pay}
 use Rattle.machine.specs.declared.death_move.DeathMove.{DeathMove}
-use Rattle.machine.specs.declared.death_move.DeathMove.TheVariants.{Note, Doom, Clean}
+use Rattle.machine.specs.declared.death_move.DeathMove.TheVariants.{Note, Doom, Clean, Bury}
 use Rattle.machine.specs.declared.nano_move.NanoMove.{NanoMove}
 use Rattle.machine.specs.declared.nano_move.NanoMove.TheVariants.{Take, Give, Want, Suspend}
 use Rattle.machine.specs.declared.deferred_move.DeferredMove.{DeferredMove}
@@ -24,7 +24,8 @@ use Rattle.state_rows.specs.declared.requests.RequestRows.{RequestRows}
 use Rattle.state_rows.specs.Requests.{request_at, is_pending}
 use Rattle.state_rows.specs.Nano.{suspend_count, holder_of, held_by}
 use Rattle.machine.specs.NanoMoves.{nano_thread}
-use Rattle.state_rows.specs.declared.thread.Stage.TheVariants.{Live}
+use Rattle.state_rows.specs.declared.thread.Stage.{Stage}
+use Rattle.state_rows.specs.declared.thread.Stage.TheVariants.{Live, Doomed, Cleaned}
 use Rattle.state_rows.specs.declared.thread.Waiting.TheVariants as waiting
 use Rattle.state_rows.specs.declared.thread.ThreadRow.{ThreadRow}
 use Rattle.machine.specs.declared.state.State.{State}
@@ -223,12 +224,24 @@ FitsLocks t (Signal o signalled) S = MaySignal S o signalled
 abbrev pub MayClean : State → ObjNo → Type 0
 MayClean S u = (held_by S.nano u ≡ None) × ((row : ThreadRow) → thread_of S u ≡ Some row → IsSpent S.handles u.0 row)
 
--- A move in the row of a thread that dies fits the state: who is doomed stands among no waiters and holds no fast mutex, and who is cleaned has
--- given up all.
-abbrev pub FitsDeath : DeathMove → State → Type 0
-FitsDeath (Note u exit) S = Unit {0}
-FitsDeath (Doom u exit) S = (held_by S.nano u ≡ None) × WaitsNowhere S u
-FitsDeath (Clean u) S = MayClean S u
+-- a thread whose death is at this stage
+pub record IsAtStage (S : State) (u : ObjNo) (stage : Stage) : Type 0 where
+  pub row : ThreadRow
+  pub is : thread_of S u ≡ Some row
+  pub at : row.stage ≡ stage
+
+-- a thread that acts and may come to owe something: it is there, and isn't between a find and its return
+pub record MayOweMore (S : State) (t : ObjNo) : Type 0 where
+  pub thread : is_some (thread_of S t) ≡ true
+  pub going : is_returning (part_of (thread_of S t)) ≡ false
+
+-- A move in the row of a thread that dies, in an action of thread t, fits the state: who is doomed is live, stands among no waiters and holds no
+-- fast mutex; who is cleaned is doomed, and has given up all; who is buried is cleaned.
+abbrev pub FitsDeath : ObjNo → DeathMove → State → Type 0
+FitsDeath t (Note u exit) S = Unit {0}
+FitsDeath t (Doom u exit) S = IsAtStage S u Live × (held_by S.nano u ≡ None) × WaitsNowhere S u
+FitsDeath t (Clean u) S = IsAtStage S u Doomed × MayClean S u
+FitsDeath t (Bury u) S = IsAtStage S u Cleaned × MayOweMore S t
 
 -- A move in an action of thread t fits the state. What is owed is paid by an action of its own.
 abbrev pub FitsMove : Script → ObjNo → Move → State → Type 0
@@ -248,7 +261,7 @@ FitsMove script t (Deferred m) S = FitsDeferred m S.deferred
 FitsMove script t (Requests m) S = FitsRequests m S.requests S.logons
 FitsMove script t (Locks m) S = FitsLocks t m S
 FitsMove script t (Logons m) S = FitsLogons m S
-FitsMove script t (Death m) S = FitsDeath m S
+FitsMove script t (Death m) S = FitsDeath t m S
 FitsMove script t (Fill p at length byte) S = at + length ≤ 1024
 FitsMove script t (Pay what) S = ⊥
 
@@ -276,6 +289,7 @@ lock_most _ = 0
 
 abbrev pub death_most : DeathMove → ℕ
 death_most (Doom u exit) = 1
+death_most (Bury u) = 1
 death_most _ = 0
 
 abbrev pub most_told : Move → ℕ
@@ -297,17 +311,22 @@ most_told (Fill p at length byte) = 0
 most_told _ = 1
 
 -- the most that a move adds to the weight of what its thread owes: with a last reference the close of a link and a
--- sweep, with the end of an instruction the close of a temporary reference, and with a mutex that is given up the close
--- of its ownership
+-- sweep, with the end of an instruction the close of a temporary reference, with a mutex that is given up the close
+-- of its ownership, and with a burial that of the kernel's reference
 abbrev pub lock_owes : LockMove → ℕ
 lock_owes (Unlock o t unlocked) = 4
 lock_owes (Free o t best) = 4
 lock_owes _ = 0
 
+abbrev pub death_owes : DeathMove → ℕ
+death_owes (Bury u) = 4
+death_owes _ = 0
+
 abbrev pub most_owed : Move → ℕ
 most_owed (Lose h o) = 3
 most_owed (Advance u) = 4
 most_owed (Locks m) = lock_owes m
+most_owed (Death m) = death_owes m
 most_owed _ = 0
 
 -- The moves of an action fit: each when its turn comes; what the thread owes then weighs at most 12; and an entry has

@@ -10,7 +10,7 @@ use Rattle.state_rows.specs.declared.handle_slot.HandleSlot.{HandleSlot}
 use Rattle.state_rows.specs.declared.thread.ThreadRow.{ThreadRow}
 use Rattle.machine.specs.declared.state.State.{State}
 use Rattle.state_rows.specs.HandleSlots.{slot_at}
-use Rattle.machine.specs.References.{total, option_names, slot_names, mutex_names}
+use Rattle.machine.specs.References.{total, option_names, slot_names, mutex_names, kernel_holds}
 use Rattle.machine.specs.Holding.{same_pair, link_names}
 
 -- a slot refers to the object there, unless its table is of the other kind than the holder's
@@ -31,7 +31,7 @@ rows_hold tables threads mutexes (InThread t i) x = own_slot (not (is_some (slic
 rows_hold tables threads mutexes (Temp t) x = use_names x (slice_index_or threads t.0 None)
 rows_hold tables threads mutexes (Link t) x = link_names x (slice_index_or threads t.0 None)
 rows_hold tables threads mutexes (Own t) x = total (mutex_names x) (slice_index_or mutexes t.0 [])
-rows_hold tables threads mutexes Kernel x = if is_some (slice_index_or threads x.0 None) then 1 else 0
+rows_hold tables threads mutexes Kernel x = kernel_holds (slice_index_or threads x.0 None)
 rows_hold tables threads mutexes _ x = 0
 
 -- an owed close stands for its holder's reference

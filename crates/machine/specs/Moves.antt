@@ -27,7 +27,7 @@ use Rattle.machine.specs.NanoMoves.{nano_moved, nano_told}
 use Rattle.machine.specs.DeferredMoves.{deferred_moved}
 use Rattle.machine.specs.RequestMoves.{request_moved, request_told}
 use Rattle.machine.specs.LogonMoves.{logons_moved}
-use Rattle.machine.specs.DeathMoves.{death_row, death_told, death_thread}
+use Rattle.machine.specs.DeathMoves.{death_row, death_told, death_thread, death_owed}
 use Rattle.machine.specs.LockMoves.{lock_moved, mutexes_moved, owed_moved, lock_told}
 use Rattle.machine.specs.Memory.{filled, with_memory}
 
@@ -162,7 +162,7 @@ moved t (Locks m) S = record S {
   owed = owed_moved m S.owed;
 }
 moved t (Logons m) S = record S { logons = logons_moved m S.logons }
-moved t (Death m) S = record S { threads = with_row S.threads (death_thread m) (death_row m) }
+moved t (Death m) S = record S { threads = with_row S.threads (death_thread m) (death_row m); owed = death_owed t m S.owed }
 moved t (Fill p at length byte) S = record S { memories = with_memory S.memories p (filled at length byte) }
 moved t (Pay (Close h o)) S = record S {
   objects = objects_closed (is_last S o) o S.objects;

@@ -1,11 +1,13 @@
 -- References are read off the rows, and the count of an object is the number of references to it.
-use Rattle.std.specs.Prelude.{◌≡◌, ℕ, ◌+◌, ◌==◌, Bool, if◌then◌else◌, is_some, List, [], ◌∷◌, Option, Some, None}
+use Rattle.std.specs.Prelude.{◌≡◌, ℕ, ◌+◌, ◌==◌, Bool, if◌then◌else◌, List, [], ◌∷◌, Option, Some, None}
 use Rattle.sym_base.specs.declared.number.ObjNo.{ObjNo}
 use Rattle.entry_log.specs.declared.effect.Effect.{Effect}
 use Rattle.entry_log.specs.declared.effect.Effect.TheVariants.{Plus, Minus}
 use Rattle.state_rows.specs.declared.duty.Owed.{Owed}
 use Rattle.state_rows.specs.declared.duty.Owed.TheVariants.{Close, Sweep}
 use Rattle.state_rows.specs.declared.handle_slot.HandleSlot.{HandleSlot}
+use Rattle.state_rows.specs.declared.thread.Stage.{Stage}
+use Rattle.state_rows.specs.declared.thread.Stage.TheVariants.{Buried}
 use Rattle.state_rows.specs.declared.thread.ThreadRow.{ThreadRow}
 use Rattle.machine.specs.declared.state.State.{State}
 use Rattle.machine.specs.Rows.{thread_of}
@@ -42,9 +44,17 @@ abbrev pub owed_names : ObjNo → Owed → ℕ
 owed_names o (Close holder x) = same x o
 owed_names o (Sweep x) = 0
 
--- the kernel holds each thread
+-- the kernel holds each thread until its burial
+abbrev pub stage_holds : Stage → ℕ
+stage_holds Buried = 0
+stage_holds _ = 1
+
+abbrev pub kernel_holds : Option ThreadRow → ℕ
+kernel_holds None = 0
+kernel_holds (Some row) = stage_holds row.stage
+
 abbrev pub kernel_names : State → ObjNo → ℕ
-kernel_names S o = if is_some (thread_of S o) then 1 else 0
+kernel_names S o = kernel_holds (thread_of S o)
 
 -- the count of an object: the number of handles, links, temporary references, ownerships, owed closes and of
 -- the kernel's own references that name it

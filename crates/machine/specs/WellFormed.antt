@@ -5,7 +5,7 @@ use Rattle.sym_base.specs.declared.limits.TheConstants.Limits.{OBJECTS, BOOT_OBJ
 use Rattle.sym_base.specs.declared.number.ObjNo.{ObjNo}
 use Rattle.script_types.specs.declared.script.Script.{Script}
 use Rattle.entry_log.specs.declared.effect.Holder.{Holder}
-use Rattle.entry_log.specs.declared.effect.Holder.TheVariants.{Temp, Own, Link}
+use Rattle.entry_log.specs.declared.effect.Holder.TheVariants.{Temp, Own, Link, Kernel}
 use Rattle.entry_log.specs.declared.step.Part.{Part}
 use Rattle.entry_log.specs.declared.step.Part.TheVariants as part
 use Rattle.state_rows.specs.declared.duty.Owed.{Owed}
@@ -85,12 +85,13 @@ abbrev pub part_of : Option ThreadRow → Option Part
 part_of None = None
 part_of (Some row) = row.part
 
--- whose closes a thread may owe: its own temporary reference's and ownership's, and the link's of an object that is gone, to what has
--- no link itself
+-- whose closes a thread may owe: its own temporary reference's and ownership's, the link's of an object that is gone, to what has no
+-- link itself, and the kernel's
 abbrev pub MayOwe : List (Option ThreadRow) → ℕ → Holder → ObjNo → Type 0
 MayOwe threads k (Temp u) o = u.0 ≡ k
 MayOwe threads k (Own u) o = u.0 ≡ k
 MayOwe threads k (Link x) o = slice_index_or threads o.0 None ≡ None
+MayOwe threads k Kernel o = Unit {0}
 MayOwe threads k _ o = ⊥
 
 abbrev pub EachMayOwe : List (Option ThreadRow) → ℕ → List Owed → Type 0

@@ -1,10 +1,11 @@
 //! Counting references by going over all the rows that hold one. Counts stand still at the end of their
 //! type, which no state that a history leaves comes near.
 ghost use Rattle.std.specs.Prelude.{◌≡◌, ◌-◌, ◌^◌, ◌<◌, ◌≤◌, min, nat_lt};
-ghost use Rattle.machine.specs.References.{total, same, option_names, slot_names, thread_names, owed_names, mutex_names, kernel_names, count_of, is_last};
+ghost use Rattle.machine.specs.References.{total, same, option_names, slot_names, thread_names, owed_names, mutex_names, kernel_names, stage_holds, count_of, is_last};
 
 use crate::rows::thread_of;
 use crate::{HandleSlot, Owed, State, ThreadRow};
+use state_rows::Stage;
 use sym_base::{Items, ObjNo};
 
 /// 1 where the two are one object, else 0.
@@ -123,14 +124,23 @@ fn mutexes_total(object: ObjNo, mutexes: &[Items<ObjNo>]) -> u32
     count
 }
 
-/// How often the kernel itself refers to an object: it holds each thread.
+/// 1 until a thread's burial, then 0.
+fn stage_holds(stage: Stage) -> u32
+    ensures { result ≡ stage_holds stage }
+{
+    match stage {
+        Stage::Buried => 0,
+        Stage::Live | Stage::Doomed | Stage::Cleaned => 1,
+    }
+}
+
+/// How often the kernel itself refers to an object: it holds each thread until its burial.
 fn kernel_names(state: &State, object: ObjNo) -> u32
     ensures { result ≡ kernel_names state.now object }
 {
-    if thread_of(state, object).is_some() {
-        1
-    } else {
-        0
+    match thread_of(state, object) {
+        Some(row) => stage_holds(row.stage),
+        None => 0,
     }
 }
 

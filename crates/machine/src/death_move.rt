@@ -15,6 +15,8 @@ pub enum DeathMove {
     Doom(ThreadNo, Exit),
     /// The thread has given up all that it had.
     Clean(ThreadNo),
+    /// The thread's death is finished. Whoever buries it owes the close of the kernel's own reference to it.
+    Bury(ThreadNo),
 }
 
 impl DeathMove {
@@ -23,9 +25,10 @@ impl DeathMove {
         ensures { result ≡ death_thread self }
     {
         match self {
-            DeathMove::Note(thread, _) | DeathMove::Doom(thread, _) | DeathMove::Clean(thread) => {
-                thread
-            }
+            DeathMove::Note(thread, _)
+            | DeathMove::Doom(thread, _)
+            | DeathMove::Clean(thread)
+            | DeathMove::Bury(thread) => thread,
         }
     }
 }

@@ -3,7 +3,7 @@ ghost use Rattle.std.specs.Prelude.{◌≡◌, None, Some};
 ghost use Rattle.machine.specs.Arrivals.{touched, threads_of};
 ghost use Rattle.machine.specs.DeferredMoves.{thread_of_queue};
 
-use crate::{DeferredMove, LockMove, Move, Owed};
+use crate::{DeathMove, DeferredMove, LockMove, Move, Owed};
 use sym_base::{ObjNo, ThreadNo};
 
 /// The threads whose readiness a move may change: up to two, the first before the second.
@@ -44,6 +44,10 @@ pub fn touched(thread: ThreadNo, change: &Move) -> TouchedThreads
         | Move::Locks(LockMove::Unlock(_, other, _) | LockMove::Free(_, other, _))
         | Move::SetPriority(other, _) => one(other),
         Move::Nano(change) => one(change.thread()),
+        Move::Death(DeathMove::Bury(other)) => TouchedThreads {
+            first: Some(thread),
+            second: Some(other),
+        },
         Move::Death(change) => one(change.thread()),
         Move::Deferred(DeferredMove::Add(_, queue) | DeferredMove::Take(queue)) => {
             one(thread_of_queue(queue))

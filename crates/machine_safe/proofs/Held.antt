@@ -26,6 +26,7 @@ use Rattle.move_laws.proofs.References.Same.{same_object, same_le, same_is, if_l
 use Rattle.machine_safe.specs.CountAfter.{effects_of}
 use Rattle.machine_safe.proofs.Runs.{IsSoundRun}
 use Rattle.machine_safe.proofs.SafeHistories.{legal_run, legal_safe}
+use Rattle.move_laws.proofs.Numbers.CountSmall.{holds_le}
 
 run-held : (script : Script) (S : State) (es : List Entry) (g : Holder) (x : ObjNo) → IsSoundRun script S es → held_after_all (held_in S) (effects_of es) g x ≡ held_in (after_from script S es) g x
 run-held script S [] g x h = refl
@@ -88,7 +89,7 @@ link_le o (Some row) = option_le o row.link
 
 once_at_boot : (script : Script) (g : Holder) (x : ObjNo) → held_at_boot script g x ≤ 1
 once_at_boot script (Link t) x = link_le x (thread_of (boot script) t)
-once_at_boot script Kernel x = if_le (is_some (thread_of (boot script) x)) 1
+once_at_boot script Kernel x = holds_le (thread_of (boot script) x)
 once_at_boot script _ x = omega arith
 
 -- a holder has one reference to an object at most

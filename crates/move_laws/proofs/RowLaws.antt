@@ -9,6 +9,7 @@ pub mod Logons
 pub mod Memories
 pub mod Requests
 pub mod Spent
+pub mod Swept
 pub mod Synchronized
 pub mod Tables
 pub mod Threads

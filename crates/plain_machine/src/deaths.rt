@@ -1,11 +1,13 @@
 //! Moves in the rows of threads that die, made on the plain machine's lists.
-ghost use Rattle.std.specs.Prelude.{◌≡◌, option_map};
-ghost use Rattle.machine.specs.DeathMoves.{death_row, death_thread};
+ghost use Rattle.std.specs.Prelude.{◌≡◌, option_map, OnOk};
+ghost use Rattle.machine.specs.DeathMoves.{death_owed, death_row, death_thread};
+ghost use Rattle.machine.specs.Moves.{moved};
 ghost use Rattle.machine.specs.Rows.{with_row};
 
-use machine::{DeathMove, ThreadRow, wait_ended};
+use entry_log::Holder;
+use machine::{DeathMove, Move, Owed, State, ThreadRow, wait_ended};
 use state_rows::Stage;
-use sym_base::Items;
+use sym_base::{Items, NoMemory, ThreadNo};
 
 /// The row of a thread changes.
 fn change_row(row: &mut ThreadRow, change: &DeathMove)
@@ -19,6 +21,7 @@ fn change_row(row: &mut ThreadRow, change: &DeathMove)
             row.waiting = wait_ended(row.waiting);
         }
         DeathMove::Clean(_) => row.stage = Stage::Cleaned,
+        DeathMove::Bury(_) => row.stage = Stage::Buried,
     }
 }
 
@@ -31,12 +34,41 @@ fn change_where(row: &mut Option<ThreadRow>, change: &DeathMove)
     }
 }
 
-/// One move in the rows of threads that die.
-pub fn make_death_move(threads: &mut Items<Option<ThreadRow>>, change: &DeathMove)
+/// The row of a thread that dies changes.
+fn change_threads(threads: &mut Items<Option<ThreadRow>>, change: &DeathMove)
     ensures { threads.new ≡ with_row threads.old (death_thread change.now) (death_row change.now) }
 {
     let at = change.thread().0 as usize;
     if at < threads.len() {
         change_where(threads.get_mut(at), change);
     }
+}
+
+/// Whoever buries a thread owes the close of the kernel's own reference to it.
+fn owe_burial(
+    owed: &mut Items<Items<Owed>>,
+    thread: ThreadNo,
+    change: &DeathMove,
+) -> Result<(), NoMemory>
+    ensures { OnOk result (owed.new ≡ death_owed thread change.now owed.old) }
+{
+    let at = thread.0 as usize;
+    if let DeathMove::Bury(other) = *change {
+        if at < owed.len() {
+            owed.get_mut(at).push(Owed::Close(Holder::Kernel, other))?;
+        }
+    }
+    Ok(())
+}
+
+/// One move in the rows of threads that die, in an action of a thread.
+pub fn make_death_move(
+    state: &mut State,
+    thread: ThreadNo,
+    change: &DeathMove,
+) -> Result<(), NoMemory>
+    ensures { OnOk result (state.new ≡ moved thread (Move.Death change.now) state.old) }
+{
+    change_threads(&mut state.threads, change);
+    owe_burial(&mut state.owed, thread, change)
 }

@@ -228,7 +228,7 @@ pub fn make_move(
         Move::Requests(change) => return make_request_move(alloc, state, change),
         Move::Locks(change) => return make_lock_move(alloc, state, thread, change),
         Move::Logons(change) => return make_logon_move(alloc, &mut state.logons, change),
-        Move::Death(change) => make_death_move(&mut state.threads, &change),
+        Move::Death(change) => return make_death_move(state, thread, &change),
         Move::Fill(process, at, length, byte) => {
             return fill_memory(alloc, &mut state.memories, process, at, length, byte);
         }

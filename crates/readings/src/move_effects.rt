@@ -111,13 +111,14 @@ fn tell_lock(effects: &mut Effects, change: LockMove)
     }
 }
 
-/// Tells a move in the row of a thread that dies: who is doomed.
+/// Tells a move in the row of a thread that dies: who is doomed, and who is buried.
 fn tell_death(effects: &mut Effects, change: DeathMove)
     requires { length effects.old + length (death_told change) ≤ 4 }
     ensures { effects.new ≡ effects.old ++ death_told change }
 {
     match change {
         DeathMove::Doom(thread, _) => effects.push(Effect::Doom(thread)),
+        DeathMove::Bury(thread) => effects.push(Effect::Bury(thread)),
         DeathMove::Note(_, _) | DeathMove::Clean(_) => {}
     }
 }

@@ -16,7 +16,7 @@ use Rattle.state_rows.specs.declared.thread.ThreadRow.{ThreadRow}
 use Rattle.machine.specs.Boot.{boot, boot_of, born, born_kernel, born_queues, born_thread, born_threads, born_processes, is_of}
 use Rattle.machine.specs.Rows.{object_of}
 use Rattle.machine.specs.WellFormed.{IsAlive}
-use Rattle.machine.specs.References.{total, thread_names, count_of}
+use Rattle.machine.specs.References.{total, thread_names, count_of, kernel_holds}
 use Rattle.machine_laws.proofs.Fitting.Living.{alive_inside}
 use Rattle.move_laws.proofs.References.Same.{same_object, same_self}
 
@@ -30,7 +30,7 @@ links-append o (x ∷ xs) ys = let r = links-append o xs ys in omega arith
 
 -- how often the threads of a list and the kernel refer to the object of number n
 abbrev held : List Born → ℕ → Option ThreadRow → ℕ
-held all n thread = links (record { 0 = n }) all + (if is_some thread then 1 else 0)
+held all n thread = links (record { 0 = n }) all + kernel_holds thread
 
 -- each of a list has a reference, n being the number of the first
 abbrev EachHeld : List Born → ℕ → List Born → Type 0
@@ -100,9 +100,9 @@ born_held script valid =
     (omega arith, (omega arith, each_held-append all 2 behind queues own refl (each_held_queues all 1 script.queues 2) (each_held_threads all None 0 0 script.threads behind)))
     (each_held_processes all script.threads 0 first script.processes (λ i above below. valid_has script valid i (omega arith)) (λ o. let a = links-append o (born_kernel script) rest in omega arith))
 
-held_at : (all : List Born) (n : ℕ) (bs : List Born) (i : ℕ) (o : ObjNo) → o.0 ≡ n + i → EachHeld all n bs → i < length bs → 0 < links o all + (if is_some (get_or (map (λ b. b.thread) bs) i None) then 1 else 0)
+held_at : (all : List Born) (n : ℕ) (bs : List Born) (i : ℕ) (o : ObjNo) → o.0 ≡ n + i → EachHeld all n bs → i < length bs → 0 < links o all + kernel_holds (get_or (map (λ b. b.thread) bs) i None)
 held_at all n [] i o at h inside = absurd (omega arith)
-held_at all n (b ∷ bs) zero o at h inside = subst (λ (x : ObjNo). 0 < links x all + (if is_some b.thread then 1 else 0)) (same_object (record { 0 = n }) o (omega arith)) h.0
+held_at all n (b ∷ bs) zero o at h inside = subst (λ (x : ObjNo). 0 < links x all + kernel_holds b.thread) (same_object (record { 0 = n }) o (omega arith)) h.0
 held_at all n (b ∷ bs) (suc i) o at h inside = held_at all (n + 1) bs i o (omega arith) h.1 (omega arith)
 
 -- each object that stands at boot has a reference

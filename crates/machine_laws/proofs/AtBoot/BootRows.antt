@@ -1,5 +1,5 @@
 -- The state at boot is well-formed.
-use Rattle.std.proofs.Common.{◌≡◌, ◌⊎◌, inl, inr, ℕ, suc, zero, ◌+◌, ◌<◌, ◌≤◌, List, [], ◌∷◌, length, get_or, arith, refl, sym, subst, ap, ◌∙◌, Option, Some, None, map, replicate}
+use Rattle.std.proofs.Common.{◌≡◌, ◌⊎◌, inl, inr, ℕ, suc, zero, ◌+◌, ◌<◌, ◌≤◌, List, [], ◌∷◌, length, get_or, arith, refl, sym, subst, ap, ◌∙◌, Option, Some, None, map, replicate, false}
 use Rattle.std.specs.Prelude.{is_some, if◌then◌else◌}
 use Rattle.std.proofs.lemmas.List.{length-map, length-replicate, get_or_past}
 use Rattle.std.proofs.lemmas.Bool.{cases_lt}
@@ -16,7 +16,7 @@ use Rattle.state_rows.specs.declared.handle_slot.HandleSlot.{HandleSlot}
 use Rattle.state_rows.specs.declared.thread.ThreadRow.{ThreadRow}
 use Rattle.machine.specs.Boot.{boot, boot_of, born}
 use Rattle.state_rows.specs.HandleSlots.{fresh_slot, slot_at}
-use Rattle.machine.specs.References.{total, option_names, slot_names, thread_names, kernel_names, owed_names, mutex_names, count_of}
+use Rattle.machine.specs.References.{total, option_names, slot_names, thread_names, kernel_names, owed_names, mutex_names, count_of, kernel_holds}
 use Rattle.machine.specs.Rows.{thread_of}
 use Rattle.state_rows.specs.HandleSlots.{IsTable}
 use Rattle.machine.specs.WellFormed.{EachMayOwe, AreLogons, AreRequests, AreRows, IsWellFormed, IsAlive, is_dead, dead_bit, owed_sweeps, weight, is_spent}
@@ -85,7 +85,7 @@ boot_count_inside script shaped o le =
     let handles = total-const (total (slot_names o)) (replicate 256 fresh_slot) (born script) (total-replicate (slot_names o) fresh_slot 256 refl) in
     let threads = born_threads_past script (length (born script)) o (born script) le (each_born script shaped) in
     let none : thread_of (boot script) o ≡ None = get_or_past (map (λ b. b.thread) (born script)) o.0 None (simp length-map le) in
-    let kernel : kernel_names (boot script) o ≡ 0 = ap (λ x. if is_some x then 1 else 0) none in
+    let kernel : kernel_names (boot script) o ≡ 0 = ap kernel_holds none in
     let owed = total-const (total (owed_names o)) [] (born script) refl in
     let mutexes = total-const (total (mutex_names o)) [] (born script) refl in
     omega arith

@@ -148,7 +148,7 @@ pub fits-fswait : {script : Script} {S : State} {t : ObjNo} {row : ThreadRow} {i
 fits-fswait {script = script} {S = S} {t = t} None h =
     fits-unless (step.Of word.Fswait part.Do) _ h (λ none.
     if_cases (FitsDecision script t S) (signal_count S.nano t == 0) _ _
-    (λ _. fits-later (step.Of word.Fswait part.Do) (move.Wait t waiting.Fast) h (record { told = omega arith; light = refl }) (none, stepping_nowhere h, unspent-gone part.Done (unspent h)))
+    (λ _. fits-later (step.Of word.Fswait part.Do) (move.Wait t waiting.Fast) h (record { told = omega arith; light = refl }) (none, stepping_nowhere h, unspent-gone S t part.Done (unspent h)))
     (λ _. fits-nano (step.Of word.Fswait part.Do) (nano.Lower t) (pos 0) h (own_row h) tt))
 fits-fswait (Some p) h = fits-answer (step.Of word.Fswait part.Done) (pos 0) h
 

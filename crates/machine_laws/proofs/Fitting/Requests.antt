@@ -96,7 +96,7 @@ fits-cancel {script = script} {S = S} {t = t} d h = found (status_of t (request_
 fits-waits : {script : Script} {S : State} {t : ObjNo} {row : ThreadRow} {instr : Instr} (told : Step) (waits : Bool) (what : Waiting) (code : ℤ) → IsStepping script S t row instr → FitsDecision script t S (unless_holding S t told (if waits then wait_for t told what else answer t told (move.Requests (TakeSignal t) ∷ []) code))
 fits-waits {script = script} {S = S} {t = t} told waits what code h =
     fits-unless told _ h (λ none. if_cases (FitsDecision script t S) waits _ _
-    (λ _. fits-later told (move.Wait t what) h (record { told = omega arith; light = refl }) (none, stepping_nowhere h, unspent-gone part.Done (unspent h)))
+    (λ _. fits-later told (move.Wait t what) h (record { told = omega arith; light = refl }) (none, stepping_nowhere h, unspent-gone S t part.Done (unspent h)))
     (λ _. fits-changed told (TakeSignal t) code h (has_signals h)))
 
 -- `waitany` and `waitfor`

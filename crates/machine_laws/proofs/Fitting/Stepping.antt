@@ -1,6 +1,6 @@
 -- What is known where a thread makes a step of an instruction, and how its answers fit.
 use Rattle.state_rows.specs.Nano.{wanted_holder}
-use Rattle.std.proofs.Common.{◌≡◌, ℕ, ℤ, ◌<◌, ◌≤◌, List, [], ◌∷◌, ◌++◌, length, get_or, arith, refl, sym, ap, subst, ◌∙◌, Option, Some, None, true, false}
+use Rattle.std.proofs.Common.{◌≡◌, ℕ, ℤ, ◌<◌, ◌≤◌, List, [], ◌∷◌, ◌++◌, length, get_or, arith, refl, sym, ap, subst, ◌∙◌, Option, Some, None, true, false, Bool}
 use Rattle.std.specs.Prelude.{option_map}
 use Rattle.sym_base.specs.declared.error.Error.{Error}
 use Rattle.sym_base.specs.declared.number.ObjNo.{ObjNo}
@@ -86,8 +86,8 @@ unspent {script = script} {S = S} {t = t} {row = row} h = λ r is. let same_row 
     own false going = ap is_spent (h.live going)
 
 -- nor is it after it went on
-pub unspent-gone : {S : State} {t : ObjNo} (part : Part) → IsUnspent S t → IsUnspent (moved t (GoOn t part) S) t
-unspent-gone {S = S} {t = t} part h = λ r is. let was = map_some (with_part part) (thread_of S t) r (sym (row-here S.threads t (with_part part) t.0 refl) ∙ is) in subst (λ (x : ThreadRow). is_spent x.stage ≡ false) was.2 (h was.0 was.1)
+pub unspent-gone : (S : State) (t : ObjNo) (part : Part) → IsUnspent S t → IsUnspent (moved t (GoOn t part) S) t
+unspent-gone S t part h = λ r is. let was = map_some (with_part part) (thread_of S t) r (sym (row-here S.threads t (with_part part) t.0 refl) ∙ is) in subst (λ (x : ThreadRow). is_spent x.stage ≡ false) was.2 (h was.0 was.1)
 
 -- a thread that made no step but a find goes on to a step
 pub may_go_on : {script : Script} {S : State} {t : ObjNo} {row : ThreadRow} {instr : Instr} (part : Part) → IsStepping script S t row instr → is_before_use row.part ≡ true → MayGoOn S t (Some part)

@@ -47,6 +47,7 @@ rows-ready script S qs h = record {
   locks = h.locks;
   memories = h.memories;
   logons = h.logons;
+  spent = h.spent;
   lives = record { alive = h.lives.alive; counted = h.lives.counted; sweeps = h.lives.sweeps };
 }
 

@@ -148,7 +148,7 @@ sound-closed true script S t h o handles threads owed e inside lost rows =
     (lives-closed true S T h o e alive refl
     (λ p.
     let a = count-with_row threads o f p in
-    let b = kernel-with_row threads o f p in
+    let b = kernel-with_row threads o f p (λ row is. refl) in
     let c = (without_link old p).0 in
     let d = total-owing (owed_names p) owed t more here in
     let g = (link_owed o link p).0 in
@@ -156,7 +156,7 @@ sound-closed true script S t h o handles threads owed e inside lost rows =
     let j = lost.counts p in omega arith)
     (λ p. let a = total-owing (owed_sweeps p) owed t more here in let b = lost.sweeps p in let c = (link_owed o link p).1 in omega arith))
     (holders-closed true S T h o (λ g x.
-    let a = rows-with_row handles threads S.mutexes o f g x in
+    let a = rows-with_row handles threads S.mutexes o f g x (λ row is. refl) in
     let n = without_link old x in
     let b : (if is_holder (Temp o) g then use_names x (option_map f old) else 0) ≡ (if is_holder (Temp o) g then use_names x old else 0) = ap (λ (y : ℕ). if is_holder (Temp o) g then y else 0) n.1 in
     let c = if_zero (is_holder (Link o) g) (link_names x (option_map f old)) n.2 in

@@ -1,28 +1,46 @@
 -- Moves in the rows of threads that die.
-use Rattle.std.proofs.Common.{◌≡◌, inr, ℕ, arith, refl, false}
+use Rattle.std.proofs.Common.{◌≡◌, inr, ℕ, arith, refl, false, length, List, [], ◌∷◌, ◌+◌, ◌≤◌, sym, subst, ap, ◌∙◌, Option, Some, None, get_or, true, ◌<◌}
+use Rattle.std.specs.Prelude.{◌==◌, if◌then◌else◌, is_some, option_map}
+use Rattle.std.proofs.lemmas.List.{length-set}
 use Rattle.sym_base.specs.declared.number.ObjNo.{ObjNo}
 use Rattle.script_types.specs.declared.script.Script.{Script}
+use Rattle.entry_log.specs.declared.effect.Effect.TheVariants as effect
+use Rattle.entry_log.specs.declared.effect.Holder.{Holder}
+use Rattle.entry_log.specs.declared.effect.Holder.TheVariants.{Kernel, Link, Temp}
+use Rattle.state_rows.specs.declared.duty.Owed.TheVariants.{Close}
+use Rattle.state_rows.specs.declared.thread.Stage.{Stage}
+use Rattle.state_rows.specs.declared.thread.Stage.TheVariants.{Live, Cleaned}
 use Rattle.state_rows.specs.declared.thread.ThreadRow.{ThreadRow}
 use Rattle.machine.specs.declared.death_move.DeathMove.{DeathMove}
-use Rattle.machine.specs.declared.death_move.DeathMove.TheVariants.{Note, Doom, Clean}
+use Rattle.machine.specs.declared.death_move.DeathMove.TheVariants.{Note, Doom, Clean, Bury}
 use Rattle.machine.specs.declared.moves.Move.TheVariants.{Death}
 use Rattle.machine.specs.declared.state.State.{State}
-use Rattle.machine.specs.DeathMoves.{death_row, death_thread, death_told}
-use Rattle.machine.specs.Fits.{FitsDeath, FitsMove}
+use Rattle.machine.specs.DeathMoves.{death_row, death_thread, death_told, death_owed}
+use Rattle.machine.specs.Fits.{FitsDeath, FitsMove, IsAtStage, death_owes}
 use Rattle.machine.specs.Moves.{moved, told}
-use Rattle.machine.specs.Rows.{with_row}
+use Rattle.machine.specs.Rows.{with_row, owed_of, owing, thread_of}
 use Rattle.machine.specs.Task.{is_returning}
-use Rattle.machine.specs.WellFormed.{AreRows, IsThread, AreSynchronized, AreSpent}
-use Rattle.move_laws.proofs.RowLaws.Duties.{paid-with_row}
-use Rattle.move_laws.proofs.RowLaws.Locks.{LeavesLocks, leaves-nowhere, leaves-with_row}
-use Rattle.move_laws.proofs.RowLaws.Synchronized.{synchronized-with_row, synchronized-unheld}
-use Rattle.move_laws.proofs.RowLaws.Threads.{KeepsThread}
+use Rattle.machine.specs.WellFormed.{AreRows, IsThread, AreSynchronized, AreSpent, is_spent, owed_sweeps, sweeps_of, weight}
+use Rattle.move_laws.proofs.RowLaws.Duties.{paid-with_row, duties-owing, duties-threads, weight-owing}
+use Rattle.move_laws.proofs.RowLaws.Locks.{LeavesLocks, leaves-nowhere, leaves-with_row, leaves-owing, leaves-then, locks-left}
+use Rattle.move_laws.proofs.RowLaws.Synchronized.{synchronized-with_row, synchronized-unheld, synchronized-apart}
+use Rattle.move_laws.proofs.RowLaws.Threads.{KeepsThread, length-with_row, threads-with_row}
 use Rattle.move_laws.proofs.MoveLaws.RowMoves.{IsSilent, KeepsReferences, silent, sound-row}
-use Rattle.move_laws.proofs.MoveLaws.Sound.{Sound}
+use Rattle.move_laws.proofs.MoveLaws.Sound.{Sound, sound-of}
 use Rattle.move_laws.proofs.RowLaws.Spent.{spent-going, spent-kept, spent-with_row}
+use Rattle.machine.specs.HeldIn.{held_in, owed_by, use_names}
+use Rattle.machine.specs.Holding.{is_holder, link_names, same_pair}
+use Rattle.machine.specs.References.{count_of, kernel_holds, owed_names, same, stage_holds, thread_names, total}
+use Rattle.move_laws.proofs.Holders.ThreadRows.{kernel-changed, row_holds, row_kept, rows-changed}
+use Rattle.move_laws.proofs.References.Counts.{count-with_row, total-owing}
+use Rattle.move_laws.proofs.References.Same.{if_zero}
+use Rattle.move_laws.proofs.Lives.Kinds.{lives-quiet}
+use Rattle.move_laws.proofs.RowLaws.Memories.{memories-with_row}
+use Rattle.move_laws.proofs.Lists.Totals.{inside}
 
 -- a doom tells of no reference, and of no object's death
 pub death_silent : (S : State) (m : DeathMove) → IsSilent S (death_told m)
+death_silent S (Bury t) = record { quiet = record { minuses = λ p. refl; deaths = λ p. refl; removals = λ p. refl }; pluses = λ p. refl; found = λ p h. absurd (omega arith); fits = (tt, tt); after = λ g x. refl }
 death_silent S (Doom t exit) = record { quiet = record { minuses = λ p. refl; deaths = λ p. refl; removals = λ p. refl }; pluses = λ p. refl; found = λ p h. absurd (omega arith); fits = (tt, tt); after = λ g x. refl }
 death_silent S _ = silent S
 
@@ -31,10 +49,12 @@ keeps-references : (m : DeathMove) → KeepsReferences (death_row m)
 keeps-references (Note t exit) = record { link = λ row. refl; uses = λ row. refl }
 keeps-references (Doom t exit) = record { link = λ row. refl; uses = λ row. refl }
 keeps-references (Clean t) = record { link = λ row. refl; uses = λ row. refl }
+keeps-references (Bury t) = record { link = λ row. refl; uses = λ row. refl }
 
 keeps-thread : (script : Script) (count : ℕ) (m : DeathMove) (row : ThreadRow) → IsThread script count row → KeepsThread script count row (death_row m row)
 keeps-thread script count (Note t exit) row h = record { thread = record { process = h.process; link = h.link; priority = h.priority; next_instruction = h.next_instruction; unused = h.unused; registers = h.registers }; process = refl; role = refl }
 keeps-thread script count (Doom t exit) row h = record { thread = record { process = h.process; link = h.link; priority = h.priority; next_instruction = h.next_instruction; unused = h.unused; registers = h.registers }; process = refl; role = refl }
+keeps-thread script count (Bury t) row h = record { thread = record { process = h.process; link = h.link; priority = h.priority; next_instruction = h.next_instruction; unused = h.unused; registers = h.registers }; process = refl; role = refl }
 keeps-thread script count (Clean t) row h = record { thread = record { process = h.process; link = h.link; priority = h.priority; next_instruction = h.next_instruction; unused = h.unused; registers = h.registers }; process = refl; role = refl }
 
 -- it begins no return
@@ -42,24 +62,120 @@ keeps-going : (m : DeathMove) (row : ThreadRow) → is_returning row.part ≡ fa
 keeps-going (Note t exit) row h = h
 keeps-going (Doom t exit) row h = h
 keeps-going (Clean t) row h = h
+keeps-going (Bury t) row h = h
+
+-- a thread that is there has a number of them
+some-inside : (threads : List (Option ThreadRow)) (k : ℕ) (row : Option ThreadRow) → get_or threads k None ≡ row → is_some row ≡ true → k < length threads
+some-inside threads k None is some = absurd (cc)
+some-inside threads k (Some row) is some = inside threads k row is
+
+-- a thread at a stage that isn't live
+not-live : (stage : Stage) → stage ≡ Live → stage ≡ Cleaned → ⊥
+not-live stage live cleaned = cc
+
+-- who isn't live holds no fast mutex: a change of its row leaves the holders
+synchronized-buried : (script : Script) (S : State) (u : ObjNo) (change : ThreadRow → ThreadRow) → IsAtStage S u Cleaned → AreSynchronized script S.threads S.nano → AreSynchronized script (with_row S.threads u change) S.nano
+synchronized-buried script S u change at h = synchronized-apart script S.threads u change S.nano (λ f held. let holder = h.holders f u held in let same : at.row ≡ holder.row = (let a = at.is in let b = holder.is in cc) in not-live at.row.stage (ap (λ (r : ThreadRow). r.stage) same ∙ holder.live) at.at) h
 
 -- who isn't live any more holds no fast mutex
-synchronized-death : (script : Script) (S : State) (m : DeathMove) → FitsDeath m S → AreSynchronized script S.threads S.nano → AreSynchronized script (with_row S.threads (death_thread m) (death_row m)) S.nano
-synchronized-death script S (Note t exit) fits h = synchronized-with_row script S.threads t (death_row (Note t exit)) S.nano (λ row free. free) h
-synchronized-death script S (Doom t exit) fits h = synchronized-unheld script S.threads t (death_row (Doom t exit)) S.nano fits.0 h
-synchronized-death script S (Clean t) fits h = synchronized-unheld script S.threads t (death_row (Clean t)) S.nano fits.0 h
+synchronized-death : (script : Script) (S : State) (t : ObjNo) (m : DeathMove) → FitsDeath t m S → AreSynchronized script S.threads S.nano → AreSynchronized script (with_row S.threads (death_thread m) (death_row m)) S.nano
+synchronized-death script S t (Note u exit) fits h = synchronized-with_row script S.threads u (death_row (Note u exit)) S.nano (λ row free. free) h
+synchronized-death script S t (Doom u exit) fits h = synchronized-unheld script S.threads u (death_row (Doom u exit)) S.nano fits.1 h
+synchronized-death script S t (Clean u) fits h = synchronized-unheld script S.threads u (death_row (Clean u)) S.nano fits.1.0 h
+synchronized-death script S t (Bury u) fits h = synchronized-buried script S u (death_row (Bury u)) fits.0 h
 
-spent-death : (script : Script) (S : State) (m : DeathMove) → FitsDeath m S → AreSpent S.objects S.handles S.threads → AreSpent S.objects S.handles (with_row S.threads (death_thread m) (death_row m))
-spent-death script S (Note t exit) fits h = spent-kept S.objects S.handles S.threads t (death_row (Note t exit)) (record { stage = λ row. refl; unused = λ row e. e; waits = λ row e. e; going = λ row e. e; link = λ row e. e }) h
-spent-death script S (Doom t exit) fits h = spent-going S.objects S.handles S.threads t (death_row (Doom t exit)) (λ row is. refl) (λ row e. e) h
-spent-death script S (Clean t) fits h = spent-with_row S.objects S.handles S.threads t (death_row (Clean t)) (λ row is after had. let has = fits.1 row is in record { unused = has.unused; waits = has.waits; going = has.going; empty = has.empty }) (λ row e. e) h
+-- the row that stands there
+row-is : {S : State} {u : ObjNo} {stage : Stage} (at : IsAtStage S u stage) (row : ThreadRow) → thread_of S u ≡ Some row → row.stage ≡ stage
+row-is {stage = stage} at row is = let same : at.row ≡ row = (let a = at.is in cc) in subst (λ (r : ThreadRow). r.stage ≡ stage) same at.at
 
-leaves-locks : (S : State) (m : DeathMove) → FitsDeath m S → LeavesLocks S.threads (with_row S.threads (death_thread m) (death_row m)) S.owed S.owed S.locks
-leaves-locks S (Note t exit) fits = leaves-with_row S.threads t (death_row (Note t exit)) S.owed S.locks (λ row. refl)
-leaves-locks S (Doom t exit) fits = leaves-nowhere S.threads t (death_row (Doom t exit)) S.owed S.locks fits.1
-leaves-locks S (Clean t) fits = leaves-with_row S.threads t (death_row (Clean t)) S.owed S.locks (λ row. refl)
+spent-death : (script : Script) (S : State) (t : ObjNo) (m : DeathMove) → FitsDeath t m S → AreSpent S.objects S.handles S.threads → AreSpent S.objects S.handles (with_row S.threads (death_thread m) (death_row m))
+spent-death script S t (Note u exit) fits h = spent-kept S.objects S.handles S.threads u (death_row (Note u exit)) (record { stage = λ row. refl; unused = λ row e. e; waits = λ row e. e; going = λ row e. e; link = λ row e. e }) h
+spent-death script S t (Doom u exit) fits h = spent-going S.objects S.handles S.threads u (death_row (Doom u exit)) (λ row is. refl) (λ row e. e) h
+spent-death script S t (Clean u) fits h = spent-with_row S.objects S.handles S.threads u (death_row (Clean u)) (λ row is after had. let has = fits.1.1 row is in record { unused = has.unused; waits = has.waits; going = has.going; empty = has.empty }) (λ row e. e) h
+spent-death script S t (Bury u) fits h = spent-with_row S.objects S.handles S.threads u (death_row (Bury u)) (λ row is after had. let has = had (ap is_spent (row-is fits.0 row is)) in record { unused = has.unused; waits = has.waits; going = has.going; empty = has.empty }) (λ row e. e) h
 
-pub sound-death : (script : Script) (S : State) (t : ObjNo) (m : DeathMove) → FitsMove script t (Death m) S → AreRows script S → Sound script S (moved t (Death m) S) (told (Death m) S)
-sound-death script S t m fits rows = sound-row script S (death_thread m) (death_row m) (death_told m) (keeps-references m)
+leaves-locks : (S : State) (t : ObjNo) (m : DeathMove) → FitsDeath t m S → LeavesLocks S.threads (with_row S.threads (death_thread m) (death_row m)) S.owed S.owed S.locks
+leaves-locks S t (Note u exit) fits = leaves-with_row S.threads u (death_row (Note u exit)) S.owed S.locks (λ row. refl)
+leaves-locks S t (Doom u exit) fits = leaves-nowhere S.threads u (death_row (Doom u exit)) S.owed S.locks fits.2
+leaves-locks S t (Clean u) fits = leaves-with_row S.threads u (death_row (Clean u)) S.owed S.locks (λ row. refl)
+leaves-locks S t (Bury u) fits = leaves-with_row S.threads u (death_row (Bury u)) S.owed S.locks (λ row. refl)
+
+-- any but a burial changes one row
+sound-dying : (script : Script) (S : State) (t : ObjNo) (m : DeathMove) → FitsDeath t m S → ((row : ThreadRow) → thread_of S (death_thread m) ≡ Some row → stage_holds (death_row m row).stage ≡ stage_holds row.stage) → AreRows script S → Sound script S (record S { threads = with_row S.threads (death_thread m) (death_row m) }) (death_told m)
+sound-dying script S t m fits holds rows = sound-row script S (death_thread m) (death_row m) (death_told m) (keeps-references m) holds
     (λ row is h. keeps-thread script _ m row h)
-    (λ k. inr (paid-with_row S.threads (death_thread m) (death_row m) (keeps-going m) k)) (death_silent S m) (synchronized-death script S m fits rows.nano) (leaves-locks S m fits) (spent-death script S m fits rows.spent) rows
+    (λ k. inr (paid-with_row S.threads (death_thread m) (death_row m) (keeps-going m) k)) (death_silent S m) (synchronized-death script S t m fits rows.nano) (leaves-locks S t m fits) (spent-death script S t m fits rows.spent) rows
+
+-- what the row of a cleaned thread names
+buried-names : (x : Option ThreadRow) (u p : ObjNo) → (thread_names p (option_map (death_row (Bury u)) x) ≡ thread_names p x) × (use_names p (option_map (death_row (Bury u)) x) ≡ use_names p x) × (link_names p (option_map (death_row (Bury u)) x) ≡ link_names p x)
+buried-names None u p = (refl, refl, refl)
+buried-names (Some row) u p = (refl, refl, refl)
+
+-- the kernel's reference passes to a close that is owed
+passes : (u : ObjNo) (row : ThreadRow) (g : Holder) (x : ObjNo) → row.stage ≡ Cleaned → row_kept u (Some row) g x ≡ same_pair Kernel u g x
+passes u row Kernel x at = ap (λ (stage : Stage). if u.0 == x.0 then stage_holds stage else 0) at
+passes u row _ x at = refl
+
+passed : (u : ObjNo) (row : ThreadRow) (g : Holder) (x : ObjNo) → row_kept u (Some (death_row (Bury u) row)) g x ≡ 0
+passed u row Kernel x = if_zero (u.0 == x.0) 0 refl
+passed u row _ x = refl
+
+-- a burial
+sound-bury : (script : Script) (S : State) (t u : ObjNo) → FitsDeath t (Bury u) S → total weight (owed_of S t) + 4 ≤ 12 → AreRows script S → Sound script S (moved t (Death (Bury u)) S) (effect.Bury u ∷ [])
+sound-bury script S t u fits few rows =
+    let f = death_row (Bury u) in
+    let T = moved t (Death (Bury u)) S in
+    let at = fits.0 in
+    let old = thread_of S u in
+    let more = Close Kernel u ∷ [] in
+    let other = with_row S.threads u f in
+    let there : t.0 < length S.threads = some-inside S.threads t.0 (thread_of S t) refl fits.1.thread in
+    let here : t.0 < length S.owed = let a = rows.sized.duties in omega arith in
+    let was : kernel_holds old ≡ 1 = ap kernel_holds at.is ∙ ap stage_holds at.at in
+    let now : kernel_holds (option_map f old) ≡ 0 = ap (λ (x : Option ThreadRow). kernel_holds (option_map f x)) at.is in
+    let counts : (o : ObjNo) → count_of T o ≡ count_of S o = λ o.
+    let a = count-with_row S.threads u f o in
+    let b = kernel-changed S.threads u f o in
+    let c = (buried-names old u o).0 in
+    let d = total-owing (owed_names o) S.owed t more here in
+    let e : (if u.0 == o.0 then kernel_holds old else 0) ≡ same u o = ap (λ (n : ℕ). if u.0 == o.0 then n else 0) was in
+    let g : (if u.0 == o.0 then kernel_holds (option_map f old) else 0) ≡ 0 = ap (λ (n : ℕ). if u.0 == o.0 then n else 0) now ∙ if_zero (u.0 == o.0) 0 refl in omega arith in
+    let sweeps : (o : ObjNo) → sweeps_of T o ≡ sweeps_of S o = λ o. let d = total-owing (owed_sweeps o) S.owed t more here in omega arith in
+    let held : (g : Holder) (x : ObjNo) → held_in T g x ≡ held_in S g x = λ g x.
+    let a = rows-changed S.handles S.threads S.mutexes u f g x in
+    let n = buried-names old u x in
+    let b : row_holds u (option_map f old) g x ≡ row_holds u old g x = ap (λ (y : ℕ). (if is_holder (Temp u) g then y else 0) + (if is_holder (Link u) g then link_names x (option_map f old) else 0)) n.1 ∙ ap (λ (y : ℕ). (if is_holder (Temp u) g then use_names x old else 0) + (if is_holder (Link u) g then y else 0)) n.2 in
+    let c : row_kept u old g x ≡ same_pair Kernel u g x = ap (λ (y : Option ThreadRow). row_kept u y g x) at.is ∙ passes u at.row g x at.at in
+    let d : row_kept u (option_map f old) g x ≡ 0 = ap (λ (y : Option ThreadRow). row_kept u (option_map f y) g x) at.is ∙ passed u at.row g x in
+    let e = total-owing (owed_by g x) S.owed t more here in omega arith in
+    sound-of script S T (effect.Bury u ∷ []) rows (record {
+      handles_long = refl;
+      threads_long = length-with_row S.threads u f;
+      owed_long = length-set S.owed t.0 _;
+      objects_few = rows.sized.objects_few;
+      tables = rows.tables;
+      threads = threads-with_row script S.threads u f (λ row is h. keeps-thread script _ (Bury u) row h) rows.threads;
+      duties = duties-owing other S.owed t more (tt, tt) (omega arith) ((paid-with_row S.threads u f (λ row h. h) t.0).going fits.1.going)
+          (duties-threads S.threads other S.owed (λ k. inr (paid-with_row S.threads u f (λ row h. h) k)) rows.duties);
+      nano = synchronized-death script S t (Bury u) fits rows.nano;
+      deferred = rows.deferred;
+      requests = rows.requests;
+      locks = locks-left (length S.objects) (length S.objects) S.threads other S.mutexes S.owed (owing S.owed t more) S.locks (omega arith)
+          (leaves-then S.threads other other S.owed S.owed (owing S.owed t more) S.locks (leaves-locks S t (Bury u) fits) (leaves-owing other S.owed t more S.locks (λ v x. refl))) rows.locks;
+      memories = memories-with_row S.threads u f S.memories (λ row is. refl) rows.memories;
+      logons = rows.logons;
+      spent = spent-death script S t (Bury u) fits rows.spent;
+    })
+    (lives-quiet S T (effect.Bury u ∷ []) refl (record { minuses = λ p. refl; deaths = λ p. refl; removals = λ p. refl }) (λ o. let a = counts o in omega arith) sweeps (λ o h. absurd (omega arith)) (λ o h. absurd (omega arith)))
+    (record { fits = (tt, tt); moves = λ g x. sym (held g x) })
+
+pub sound-death : (script : Script) (S : State) (t : ObjNo) (m : DeathMove) → FitsMove script t (Death m) S → total weight (owed_of S t) + death_owes m ≤ 12 → AreRows script S → Sound script S (moved t (Death m) S) (told (Death m) S)
+sound-death script S t (Note u exit) fits few rows = sound-dying script S t (Note u exit) fits (λ row is. refl) rows
+sound-death script S t (Doom u exit) fits few rows = sound-dying script S t (Doom u exit) fits (λ row is. sym (ap stage_holds (row-is fits.0 row is))) rows
+sound-death script S t (Clean u) fits few rows = sound-dying script S t (Clean u) fits (λ row is. sym (ap stage_holds (row-is fits.0 row is))) rows
+sound-death script S t (Bury u) fits few rows = sound-bury script S t u fits few rows
+
+-- it adds so much to what the thread owes
+pub death_weight : (S : State) (t : ObjNo) (m : DeathMove) → total weight (get_or (death_owed t m S.owed) t.0 []) ≤ total weight (owed_of S t) + death_owes m
+death_weight S t (Bury u) = let a = weight-owing S.owed t (Close Kernel u ∷ []) in omega arith
+death_weight S t _ = omega arith

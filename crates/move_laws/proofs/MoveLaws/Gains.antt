@@ -93,13 +93,13 @@ gained-use script S u o fits rows =
     record {
       counts = λ p.
           let a = count-with_row S.threads u f p in
-          let b = kernel-with_row S.threads u f p in
+          let b = kernel-with_row S.threads u f p (λ r is. refl) in
           let c : thread_names p (thread_of S u) ≡ option_names p row.link + option_names p row.uses = ap (thread_names p) fits.is in
           let d : thread_names p (option_map f (thread_of S u)) ≡ option_names p row.link + same o p = ap (λ (x : Option ThreadRow). thread_names p (option_map f x)) fits.is in
           let e = unused p in omega arith;
       none = let a : use_names o (thread_of S u) ≡ option_names o row.uses = ap (use_names o) fits.is in let b = unused o in let c = none_owed_by S.threads S.owed u (Temp u) o rows.duties (λ k y own. own) (fits.paid o) in omega arith;
       held = λ g x.
-          let a = rows-with_row S.handles S.threads S.mutexes u f g x in
+          let a = rows-with_row S.handles S.threads S.mutexes u f g x (λ r is. refl) in
           let b : row_holds u (thread_of S u) g x ≡ (if is_holder (Temp u) g then option_names x row.uses else 0) + (if is_holder (Link u) g then option_names x row.link else 0) = ap (λ (y : Option ThreadRow). row_holds u y g x) fits.is in
           let c : row_holds u (option_map f (thread_of S u)) g x ≡ same_pair (Temp u) o g x + (if is_holder (Link u) g then option_names x row.link else 0) = ap (λ (y : Option ThreadRow). row_holds u (option_map f y) g x) fits.is in
           let d = if_zero (is_holder (Temp u) g) (option_names x row.uses) (unused x) in omega arith;

@@ -81,12 +81,12 @@ lost-use script S t u o uses going few rows =
     record {
       counts = λ p.
           let a = count-with_row S.threads u f p in
-          let b = kernel-with_row S.threads u f p in
+          let b = kernel-with_row S.threads u f p (λ r is. refl) in
           let c : thread_names p (thread_of S u) ≡ option_names p row.link + option_names p row.uses = ap (thread_names p) uses.is in
           let d : thread_names p (option_map f (thread_of S u)) ≡ option_names p row.link + 0 = ap (λ (x : Option ThreadRow). thread_names p (option_map f x)) uses.is in
           let e = named p in omega arith;
       held = λ g x.
-          let a = rows-with_row S.handles S.threads S.mutexes u f g x in
+          let a = rows-with_row S.handles S.threads S.mutexes u f g x (λ r is. refl) in
           let b : row_holds u (thread_of S u) g x ≡ (if is_holder (Temp u) g then option_names x row.uses else 0) + (if is_holder (Link u) g then option_names x row.link else 0) = ap (λ (y : Option ThreadRow). row_holds u y g x) uses.is in
           let c : row_holds u (option_map f (thread_of S u)) g x ≡ (if is_holder (Temp u) g then 0 else 0) + (if is_holder (Link u) g then option_names x row.link else 0) = ap (λ (y : Option ThreadRow). row_holds u (option_map f y) g x) uses.is in
           let d : (if is_holder (Temp u) g then option_names x row.uses else 0) ≡ same_pair (Temp u) o g x = ap (λ (y : ℕ). if is_holder (Temp u) g then y else 0) (named x) in

@@ -22,7 +22,7 @@ use Rattle.machine.specs.declared.state.State.{State}
 use Rattle.machine.specs.Rows.{thread_of, with_row}
 use Rattle.machine.specs.Memory.{filled, with_memory}
 use Rattle.machine.specs.Moves.{moved, told, with_found, with_waiting, with_priority}
-use Rattle.machine.specs.References.{thread_names, count_of, pluses}
+use Rattle.machine.specs.References.{thread_names, count_of, pluses, stage_holds}
 use Rattle.machine.specs.Told.{finds}
 use Rattle.machine.specs.Holding.{is_holder, held_after_all, EachFitsHolders, link_names}
 use Rattle.machine.specs.HeldIn.{held_in, use_names}
@@ -62,16 +62,16 @@ names-map : (f : ThreadRow → ThreadRow) (x : Option ThreadRow) (o : ObjNo) →
 names-map f None o h = (refl, refl, refl)
 names-map f (Some row) o h = let a = h.uses row in let b = h.link row in (cc, cc, cc)
 
-pub sound-row : (script : Script) (S : State) (u : ObjNo) (f : ThreadRow → ThreadRow) (effects : List Effect) → KeepsReferences f → ((row : ThreadRow) → thread_of S u ≡ Some row → IsThread script (length S.threads) row → KeepsThread script (length S.threads) row (f row)) → ((k : ℕ) → (get_or S.owed k [] ≡ []) ⊎ IsPaidIn S.threads (with_row S.threads u f) k) → IsSilent S effects → AreSynchronized script (with_row S.threads u f) S.nano → LeavesLocks S.threads (with_row S.threads u f) S.owed S.owed S.locks → AreSpent S.objects S.handles (with_row S.threads u f) → AreRows script S → Sound script S (record S { threads = with_row S.threads u f }) effects
-sound-row script S u f effects keeps thread paid quiet nano leaves spent rows =
+pub sound-row : (script : Script) (S : State) (u : ObjNo) (f : ThreadRow → ThreadRow) (effects : List Effect) → KeepsReferences f → ((row : ThreadRow) → thread_of S u ≡ Some row → stage_holds (f row).stage ≡ stage_holds row.stage) → ((row : ThreadRow) → thread_of S u ≡ Some row → IsThread script (length S.threads) row → KeepsThread script (length S.threads) row (f row)) → ((k : ℕ) → (get_or S.owed k [] ≡ []) ⊎ IsPaidIn S.threads (with_row S.threads u f) k) → IsSilent S effects → AreSynchronized script (with_row S.threads u f) S.nano → LeavesLocks S.threads (with_row S.threads u f) S.owed S.owed S.locks → AreSpent S.objects S.handles (with_row S.threads u f) → AreRows script S → Sound script S (record S { threads = with_row S.threads u f }) effects
+sound-row script S u f effects keeps holds thread paid quiet nano leaves spent rows =
     let T : State = record S { threads = with_row S.threads u f } in
     let old = thread_of S u in
     let counts : (o : ObjNo) → count_of T o ≡ count_of S o = λ o.
     let a = count-with_row S.threads u f o in
-    let b = kernel-with_row S.threads u f o in
+    let b = kernel-with_row S.threads u f o holds in
     let c = (names-map f old o keeps).2 in omega arith in
     let held : (g : Holder) (x : ObjNo) → held_in T g x ≡ held_in S g x = λ g x.
-    let a = rows-with_row S.handles S.threads S.mutexes u f g x in
+    let a = rows-with_row S.handles S.threads S.mutexes u f g x holds in
     let n = names-map f old x keeps in
     let b : row_holds u (option_map f old) g x ≡ row_holds u old g x = ap (λ (y : ℕ). (if is_holder (Temp u) g then y else 0) + (if is_holder (Link u) g then link_names x (option_map f old) else 0)) n.0 ∙ ap (λ (y : ℕ). (if is_holder (Temp u) g then use_names x old else 0) + (if is_holder (Link u) g then y else 0)) n.1 in omega arith in
     sound-of script S T effects rows (record {
@@ -94,7 +94,7 @@ sound-row script S u f effects keeps thread paid quiet nano leaves spent rows =
     (record { fits = quiet.fits; moves = λ g x. quiet.after g x ∙ sym (held g x) })
 
 pub sound-find : (script : Script) (S : State) (t u o : ObjNo) → FitsMove script t (Find u o) S → AreRows script S → Sound script S (moved t (Find u o) S) (told (Find u o) S)
-sound-find script S t u o fits rows = sound-row script S u (with_found o) (Seek o ∷ []) (record { link = λ row. refl; uses = λ row. refl })
+sound-find script S t u o fits rows = sound-row script S u (with_found o) (Seek o ∷ []) (record { link = λ row. refl; uses = λ row. refl }) (λ row is. refl)
     (λ row is h. record { thread = record { process = h.process; link = h.link; priority = h.priority; next_instruction = h.next_instruction; unused = h.unused; registers = h.registers }; process = refl; role = refl })
     (λ k. inr (paid-with_row S.threads u (with_found o) (λ row h. h) k))
     (record {
@@ -106,14 +106,14 @@ sound-find script S t u o fits rows = sound-row script S u (with_found o) (Seek 
     }) (synchronized-with_row script S.threads u (with_found o) S.nano (λ row h. h) rows.nano) (leaves-with_row S.threads u (with_found o) S.owed S.locks (λ row. refl)) (spent-kept S.objects S.handles S.threads u (with_found o) (record { stage = λ row. refl; unused = λ row e. e; waits = λ row e. e; going = λ row e. e; link = λ row e. e }) rows.spent) rows
 
 pub sound-write : (script : Script) (S : State) (t u : ObjNo) (x value : ℕ) → FitsMove script t (Write u x value) S → AreRows script S → Sound script S (moved t (Write u x value) S) (told (Write u x value) S)
-sound-write script S t u x value fits rows = sound-row script S u (λ row. record row { registers = slice_set row.registers x value }) [] (record { link = λ row. refl; uses = λ row. refl })
+sound-write script S t u x value fits rows = sound-row script S u (λ row. record row { registers = slice_set row.registers x value }) [] (record { link = λ row. refl; uses = λ row. refl }) (λ row is. refl)
     (λ row is h. record { thread = record { process = h.process; link = h.link; priority = h.priority; next_instruction = h.next_instruction; unused = h.unused; registers = length-set row.registers x value ∙ h.registers }; process = refl; role = refl })
     (λ k. inr (paid-with_row S.threads u (λ row. record row { registers = slice_set row.registers x value }) (λ row h. h) k)) (silent S) (synchronized-with_row script S.threads u (λ row. record row { registers = slice_set row.registers x value }) S.nano (λ row h. h) rows.nano) (leaves-with_row S.threads u (λ row. record row { registers = slice_set row.registers x value }) S.owed S.locks (λ row. refl)) (spent-kept S.objects S.handles S.threads u (λ row. record row { registers = slice_set row.registers x value }) (record { stage = λ row. refl; unused = λ row e. e; waits = λ row e. e; going = λ row e. e; link = λ row e. e }) rows.spent) rows
 
 pub sound-go_on : (script : Script) (S : State) (t u : ObjNo) (part : Part) → FitsMove script t (GoOn u part) S → AreRows script S → Sound script S (moved t (GoOn u part) S) (told (GoOn u part) S)
 sound-go_on script S t u part fits rows =
     let f : ThreadRow → ThreadRow = λ row. record row { part = Some part } in
-    sound-row script S u f [] (record { link = λ row. refl; uses = λ row. refl })
+    sound-row script S u f [] (record { link = λ row. refl; uses = λ row. refl }) (λ row is. refl)
     (λ row is h. record { thread = record { process = h.process; link = h.link; priority = h.priority; next_instruction = h.next_instruction; unused = fits.unused row is; registers = h.registers }; process = refl; role = refl })
     (λ k. elim (cases_Bool (is_returning (Some part))) as (λ _. (get_or S.owed k [] ≡ []) ⊎ IsPaidIn S.threads (with_row S.threads u f) k) [
       | inr going ↦ inr (paid-with_row S.threads u f (λ row h. going) k)
@@ -128,7 +128,7 @@ sound-go_on script S t u part fits rows =
 
 -- a change of what a thread waits for that stands among no waiters
 sound-waiting : (script : Script) (S : State) (u : ObjNo) (what : Waiting) → WaitsNowhere S u → AreSynchronized script (with_row S.threads u (with_waiting what)) S.nano → AreSpent S.objects S.handles (with_row S.threads u (with_waiting what)) → AreRows script S → Sound script S (record S { threads = with_row S.threads u (with_waiting what) }) []
-sound-waiting script S u what nowhere nano spent rows = sound-row script S u (with_waiting what) [] (record { link = λ row. refl; uses = λ row. refl })
+sound-waiting script S u what nowhere nano spent rows = sound-row script S u (with_waiting what) [] (record { link = λ row. refl; uses = λ row. refl }) (λ row is. refl)
     (λ row is h. record { thread = record { process = h.process; link = h.link; priority = h.priority; next_instruction = h.next_instruction; unused = h.unused; registers = h.registers }; process = refl; role = refl })
     (λ k. inr (paid-with_row S.threads u (with_waiting what) (λ row h. h) k)) (silent S) nano (leaves-nowhere S.threads u (with_waiting what) S.owed S.locks nowhere) spent rows
 
@@ -139,7 +139,7 @@ pub sound-wake : (script : Script) (S : State) (t u : ObjNo) → FitsMove script
 sound-wake script S t u fits rows = sound-waiting script S u waiting.Nothing fits (synchronized-with_row script S.threads u (with_waiting waiting.Nothing) S.nano (λ row h. (refl, h.1)) rows.nano) (spent-kept S.objects S.handles S.threads u (with_waiting waiting.Nothing) (record { stage = λ row. refl; unused = λ row e. e; waits = λ row e. refl; going = λ row e. e; link = λ row e. e }) rows.spent) rows
 
 pub sound-priority : (script : Script) (S : State) (t u : ObjNo) (priority : ℕ) → FitsMove script t (SetPriority u priority) S → AreRows script S → Sound script S (moved t (SetPriority u priority) S) (told (SetPriority u priority) S)
-sound-priority script S t u priority fits rows = sound-row script S u (with_priority priority) [] (record { link = λ row. refl; uses = λ row. refl })
+sound-priority script S t u priority fits rows = sound-row script S u (with_priority priority) [] (record { link = λ row. refl; uses = λ row. refl }) (λ row is. refl)
     (λ row is h. record { thread = record { process = h.process; link = h.link; priority = fits; next_instruction = h.next_instruction; unused = h.unused; registers = h.registers }; process = refl; role = refl })
     (λ k. inr (paid-with_row S.threads u (with_priority priority) (λ row h. h) k)) (silent S) (synchronized-with_row script S.threads u (with_priority priority) S.nano (λ row h. h) rows.nano) (leaves-with_row S.threads u (with_priority priority) S.owed S.locks (λ row. refl)) (spent-kept S.objects S.handles S.threads u (with_priority priority) (record { stage = λ row. refl; unused = λ row e. e; waits = λ row e. e; going = λ row e. e; link = λ row e. e }) rows.spent) rows
 

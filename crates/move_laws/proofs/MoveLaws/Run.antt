@@ -20,7 +20,7 @@ use Rattle.move_laws.proofs.RowLaws.Duties.{weight-owing}
 use Rattle.move_laws.proofs.MoveLaws.Sound.{Sound, sound-then, sound-none}
 use Rattle.move_laws.proofs.MoveLaws.NanoMoves.{sound-nano, nano_silent}
 use Rattle.move_laws.proofs.MoveLaws.CallMoves.{sound-deferred, request_silent, sound-requests, sound-logons}
-use Rattle.move_laws.proofs.MoveLaws.DeathMoves.{death_silent, sound-death}
+use Rattle.move_laws.proofs.MoveLaws.DeathMoves.{death_silent, death_weight, sound-death}
 use Rattle.move_laws.proofs.MoveLaws.LockMoves.{lock_removes, lock_weight, sound-locks}
 use Rattle.move_laws.proofs.MoveLaws.RowMoves.{sound-fill, sound-find, sound-miss, sound-go_on, sound-write, sound-wait, sound-wake, sound-priority}
 use Rattle.move_laws.proofs.MoveLaws.Advance.{sound-advance, use_weight}
@@ -47,7 +47,7 @@ sound-move script S t (Deferred m) fits few s = sound-deferred script S t m fits
 sound-move script S t (Requests m) fits few s = sound-requests script S t m fits s.rows
 sound-move script S t (Locks m) fits few s = sound-locks script S t m fits few s.rows
 sound-move script S t (Logons m) fits few s = sound-logons script S t m fits s.rows
-sound-move script S t (Death m) fits few s = sound-death script S t m fits s.rows
+sound-move script S t (Death m) fits few s = sound-death script S t m fits few s.rows
 sound-move script S t (Fill p at long byte) fits few s = sound-fill script S t p at long byte fits s.rows
 sound-move script S t (Pay what) fits few s = absurd fits
 
@@ -62,6 +62,7 @@ weight-move script S t (Lose h o) fits = let a = weight-owing S.owed t (owed_by_
 weight-move script S t (Advance u) fits = subst (λ (y : ObjNo). total weight (owed_of (moved t (Advance u) S) y) ≤ total weight (owed_of S y) + 4) fits.0
     (let a = weight-owing S.owed u (owed_use u (use_of S u)) in let b = use_weight u (use_of S u) in omega arith)
 weight-move script S t (Locks m) fits = lock_weight script S t m fits
+weight-move script S t (Death m) fits = death_weight S t m
 weight-move script S t (Pay what) fits = absurd fits
 weight-move script S t _ fits = omega arith
 

@@ -12,10 +12,12 @@ use Rattle.state_rows.specs.declared.thread.ThreadRow.{ThreadRow}
 use Rattle.machine.specs.declared.state.State.{State}
 use Rattle.machine.specs.Rows.{thread_of}
 use Rattle.state_rows.specs.HandleSlots.{fresh_slot}
-use Rattle.machine.specs.References.{total, option_names, slot_names, thread_names, owed_names, mutex_names, kernel_names, count_of}
+use Rattle.machine.specs.References.{total, option_names, slot_names, thread_names, owed_names, mutex_names, kernel_names, count_of, kernel_holds, stage_holds}
 use Rattle.machine.specs.WellFormed.{AreRows, times_held, weight}
 use Rattle.move_laws.proofs.Lists.Totals.{total_at_most}
 use Rattle.move_laws.proofs.References.Same.{same_le, if_le}
+use Rattle.state_rows.specs.declared.thread.Stage.{Stage}
+use Rattle.state_rows.specs.declared.thread.Stage.TheVariants.{Buried}
 
 option_le : (o : ObjNo) (x : Option ObjNo) → option_names o x ≤ 1
 option_le o None = omega arith
@@ -47,6 +49,15 @@ held_le script S rows o k = elim (cases_lt 0 (times_held S.mutexes (record { 0 =
   | inr none ↦ omega arith
 ]
 
+-- the kernel holds a thread once at most
+stage_le : (stage : Stage) → stage_holds stage ≤ 1
+stage_le Buried = omega arith
+stage_le _ = omega arith
+
+pub holds_le : (x : Option ThreadRow) → kernel_holds x ≤ 1
+holds_le None = omega arith
+holds_le (Some row) = stage_le row.stage
+
 -- at most 256 references from a table, 2 from a thread and 1 for what it holds, 1 from the kernel and 12 from what a thread owes
 pub count_small : (script : Script) (S : State) → AreRows script S → (o : ObjNo) → count_of S o < 65536
 count_small script S rows o =
@@ -59,7 +70,7 @@ count_small script S rows o =
     let few = duties_le o (slice_index_or S.owed k []) in
     let weighs : total weight (slice_index_or S.owed k []) ≤ 12 = rows.duties.few k in
     omega arith) in
-    let kernel : kernel_names S o ≤ 1 = if_le (is_some (thread_of S o)) 1 in
+    let kernel : kernel_names S o ≤ 1 = holds_le (thread_of S o) in
     let mutexes : total (total (mutex_names o)) S.mutexes ≤ 1 * length S.mutexes = total_at_most (total (mutex_names o)) 1 S.mutexes [] (λ k _. held_le script S rows o k) in
     let held = rows.locks.mutexes_sized in
     let tables = rows.sized.tables in

@@ -6,7 +6,7 @@ use Rattle.sym_base.specs.declared.number.ObjNo.{ObjNo}
 use Rattle.state_rows.specs.declared.locks.Locked.TheVariants.{Taken}
 use Rattle.state_rows.specs.declared.locks.Unlocked.TheVariants.{Freed, Passed}
 use Rattle.machine.specs.declared.death_move.DeathMove.{DeathMove}
-use Rattle.machine.specs.declared.death_move.DeathMove.TheVariants.{Doom}
+use Rattle.machine.specs.declared.death_move.DeathMove.TheVariants.{Doom, Bury}
 use Rattle.machine.specs.declared.lock_move.LockMove.{LockMove}
 use Rattle.machine.specs.declared.lock_move.LockMove.TheVariants.{Lock, Unlock, Free}
 use Rattle.machine.specs.declared.moves.Move.{Move}
@@ -48,6 +48,7 @@ lock_few _ = omega arith
 
 death_few : (m : DeathMove) → length (death_told m) ≤ death_most m
 death_few (Doom t exit) = omega arith
+death_few (Bury t) = omega arith
 death_few _ = omega arith
 
 told_few : (m : Move) (S : State) → length (told m S) ≤ most_told m

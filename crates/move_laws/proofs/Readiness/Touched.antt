@@ -31,7 +31,8 @@ use Rattle.state_rows.specs.declared.locks.Unlocked.TheVariants.{Freed, Level, N
 use Rattle.machine.specs.declared.state.State.{State}
 use Rattle.machine.specs.Rows.{thread_of, first_of, first_owed, with_row}
 use Rattle.machine.specs.Moves.{moved, threads_gain, threads_lose, threads_closed, next_object, with_use, unlinked, with_found, with_part, with_register, with_waiting, with_priority, advanced}
-use Rattle.machine.specs.DeathMoves.{death_row, death_thread}
+use Rattle.machine.specs.declared.death_move.DeathMove.TheVariants.{Note, Doom, Clean, Bury}
+use Rattle.machine.specs.DeathMoves.{death_row}
 use Rattle.machine.specs.LockMoves.{owed_moved}
 use Rattle.machine.specs.NanoMoves.{nano_moved, nano_thread}
 use Rattle.machine.specs.DeferredMoves.{deferred_moved, deferred_threads, thread_of_queue}
@@ -180,7 +181,13 @@ untouched script S t (Deferred m) u threads joins none = ready-deferred script S
 untouched script S t (Requests m) u threads joins none = refl
 untouched script S t (Locks m) u threads joins none = ready-by script S (moved t (Locks m) S) u refl refl (owed-locks S.owed t m u none) refl
 untouched script S t (Logons m) u threads joins none = refl
-untouched script S t (Death m) u threads joins none = ap (ready_row script S.deferred S.nano u (first_owed S u)) (row-other S.threads (death_thread m) (death_row m) u.0 (apart_of (death_thread m) u none))
+untouched script S t (Death (Bury v)) u threads joins none =
+    let parts = or_parts (t.0 == u.0) (is_listed (v ∷ []) u) none in
+    ready-by script S (moved t (Death (Bury v)) S) u refl refl (owed-other S.owed t u _ (eqb-false t.0 u.0 parts.0))
+    (ap (ready_row script S.deferred S.nano u (first_owed S u)) (row-other S.threads v (death_row (Bury v)) u.0 (apart_of v u parts.1)))
+untouched script S t (Death (Note v exit)) u threads joins none = ap (ready_row script S.deferred S.nano u (first_owed S u)) (row-other S.threads v (death_row (Note v exit)) u.0 (apart_of v u none))
+untouched script S t (Death (Doom v exit)) u threads joins none = ap (ready_row script S.deferred S.nano u (first_owed S u)) (row-other S.threads v (death_row (Doom v exit)) u.0 (apart_of v u none))
+untouched script S t (Death (Clean v)) u threads joins none = ap (ready_row script S.deferred S.nano u (first_owed S u)) (row-other S.threads v (death_row (Clean v)) u.0 (apart_of v u none))
 untouched script S t (Fill p at long byte) u threads joins none = refl
 untouched script S t (Pay (Close h o)) u threads joins none =
     let apart = apart_of t u none in

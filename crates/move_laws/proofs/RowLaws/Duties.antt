@@ -4,7 +4,7 @@ use Rattle.std.specs.Prelude.{slice_set, drop, ◌==◌, option_map}
 use Rattle.std.proofs.lemmas.Bool.{cases_eq, cases_Bool}
 use Rattle.sym_base.specs.declared.number.ObjNo.{ObjNo}
 use Rattle.entry_log.specs.declared.effect.Holder.{Holder}
-use Rattle.entry_log.specs.declared.effect.Holder.TheVariants.{Temp, Own, Link}
+use Rattle.entry_log.specs.declared.effect.Holder.TheVariants.{Temp, Own, Link, Kernel}
 use Rattle.state_rows.specs.declared.duty.Owed.{Owed}
 use Rattle.state_rows.specs.declared.duty.Owed.TheVariants.{Close, Sweep}
 use Rattle.state_rows.specs.declared.thread.ThreadRow.{ThreadRow}
@@ -45,6 +45,7 @@ may_owe-kept : (threads other : List (Option ThreadRow)) (k : ℕ) (h : Holder) 
 may_owe-kept threads other k (Temp u) o stays own = own
 may_owe-kept threads other k (Own u) o stays own = own
 may_owe-kept threads other k (Link x) o stays own = stays.none o.0 own
+may_owe-kept threads other k Kernel o stays own = tt
 may_owe-kept threads other k _ o stays own = absurd own
 
 each_may_owe-kept : (threads other : List (Option ThreadRow)) (k : ℕ) (what : List Owed) → IsPaidIn threads other k → EachMayOwe threads k what → EachMayOwe other k what
@@ -121,6 +122,8 @@ pair_apart threads k (Link u) (Link v) o x own apart = absurd (apart o own)
 pair_apart threads k (Temp u) _ o x own apart = refl
 pair_apart threads k (Own u) _ o x own apart = refl
 pair_apart threads k (Link u) _ o x own apart = refl
+pair_apart threads k Kernel Kernel o x own apart = absurd (apart o own)
+pair_apart threads k Kernel _ o x own apart = refl
 pair_apart threads k _ g o x own apart = absurd own
 
 not_owed : (threads : List (Option ThreadRow)) (k : ℕ) (what : List Owed) (g : Holder) (x : ObjNo) → EachMayOwe threads k what → ((y : ObjNo) → MayOwe threads k g y → ⊥) → total (owed_by g x) what ≡ 0

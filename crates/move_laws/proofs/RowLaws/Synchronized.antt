@@ -21,7 +21,7 @@ use Rattle.move_laws.proofs.References.Same.{same_object}
 use Rattle.move_laws.proofs.RowLaws.Threads.{length-with_row, row-kept}
 
 -- other rows of as many threads, in which each holder is one still
-synchronized-threads : (script : Script) (threads other : List (Option ThreadRow)) (r : NanoRows) → length other ≡ length threads → ((f : ℕ) (u : ObjNo) → holder_of r f ≡ Some u → IsHolder threads r u → IsHolder other r u) → AreSynchronized script threads r → AreSynchronized script other r
+pub synchronized-threads : (script : Script) (threads other : List (Option ThreadRow)) (r : NanoRows) → length other ≡ length threads → ((f : ℕ) (u : ObjNo) → holder_of r f ≡ Some u → IsHolder threads r u → IsHolder other r u) → AreSynchronized script threads r → AreSynchronized script other r
 synchronized-threads script threads other r long holders h = record {
   rows = h.rows;
   sized = h.sized ∙ sym long;
@@ -40,6 +40,17 @@ synchronized-unheld script threads t change r none h = synchronized-threads scri
     (λ f u is held. record {
       row = held.row;
       is = row-other threads t change u.0 (λ at. held_none r t f none (subst (λ (v : ObjNo). holder_of r f ≡ Some v) (sym (same_object t u at)) is)) ∙ held.is;
+      live = held.live;
+      waits = held.waits;
+      wants = held.wants;
+    }) h
+
+-- any change of the row of a thread that is no holder
+pub synchronized-apart : (script : Script) (threads : List (Option ThreadRow)) (t : ObjNo) (change : ThreadRow → ThreadRow) (r : NanoRows) → ((f : ℕ) → holder_of r f ≡ Some t → ⊥) → AreSynchronized script threads r → AreSynchronized script (with_row threads t change) r
+synchronized-apart script threads t change r none h = synchronized-threads script threads (with_row threads t change) r (length-with_row threads t change)
+    (λ f u is held. record {
+      row = held.row;
+      is = row-other threads t change u.0 (λ at. none f (subst (λ (v : ObjNo). holder_of r f ≡ Some v) (sym (same_object t u at)) is)) ∙ held.is;
       live = held.live;
       waits = held.waits;
       wants = held.wants;

@@ -1,8 +1,6 @@
 use Rattle.std.proofs.Common.{refl}
-use Rattle.machine.specs.DeathMoves.{death_row, death_thread}
 use Rattle.machine.specs.Moves.{with_found, with_part, with_register, with_waiting}
 use Rattle.state_rows.specs.declared.thread.Waiting.TheVariants as waiting
-use Rattle.kernel_tables.proofs.DyingRows.{death_counts, death_priority, death_uses}
 use Rattle.kernel_tables.proofs.Tying.{tied_row}
 use Rattle.kernel_tables.proofs.FirstCount.{nano_counts, request_counts}
 use Rattle.kernel_tables.proofs.moves.make_move.Goals as goal
@@ -77,14 +75,7 @@ pub returns-in-Logons : goal.returns-in-Logons
 returns-in-Logons g c = rw c.in-Logons.is (record { state = rw c.move_logon.ensures refl; counts = λ o. refl; tied = rw c.move_logon.ensures c.requires.kept.tied })
 
 pub returns-in-Death : goal.returns-in-Death
-returns-in-Death g c =
-    let old = c.args.tables.now in
-    let change = c.in-Death.change in
-    rw c.in-Death.is (record {
-      state = rw c.move_death.ensures refl;
-      counts = death_counts old.objects.counts change;
-      tied = rw c.move_death.ensures (tied_row old.cleanup old.locks.priorities old.procs.threads (death_thread change) (death_row change) (death_uses change) (death_priority change) c.requires.kept.tied);
-    })
+returns-in-Death g c = rw c.in-Death.is c.move_death.ensures
 
 pub returns-in-Fill : goal.returns-in-Fill
 returns-in-Fill g c = rw c.in-Fill.is (record { state = rw c.fill.ensures refl; counts = λ o. refl; tied = rw c.fill.ensures c.requires.kept.tied })
