@@ -3,7 +3,8 @@
 ghost use Rattle.std.specs.Prelude.{◌≡◌, ◌≤◌, length};
 ghost use Rattle.machine.specs.CriticalSection.{enter_do, leave_do, give_held, flush};
 
-use crate::decide::{answer_after, refuse};
+use crate::decide::{answer, answer_after, refuse};
+use crate::dooms::{doom_noted, doom_where, noted_of};
 use entry_log::{Part, Step, Word};
 use machine::{Decision, Move, Moves, NanoMove};
 use readings::Reads;
@@ -25,8 +26,12 @@ pub fn leave_do<R: Reads>(decision: &mut Decision, reads: &R, thread: ThreadNo)
     if reads.critical_count(thread) == 0 {
         return refuse(decision, thread, step, Error::General);
     }
-    let leave = Move::Nano(NanoMove::Leave(thread));
-    answer_after(decision, thread, step, leave, 0)
+    decision.moves.clear();
+    decision.moves.push(Move::Nano(NanoMove::Leave(thread)));
+    let unprotected = reads.critical_count(thread) == 1 && !reads.is_holding(thread);
+    let noted = noted_of(reads, thread);
+    doom_where(&mut decision.moves, unprotected, thread, noted);
+    answer(decision, thread, step, 0)
 }
 
 /// The thread gives up the fast mutex that it holds, if there is one.
@@ -48,5 +53,6 @@ pub fn flush<R: Reads>(decision: &mut Decision, reads: &R, thread: ThreadNo)
     decision.step = Step::Flush;
     give_held(&mut decision.moves, thread, reads.held(thread));
     decision.moves.push(Move::Nano(NanoMove::LeaveAll(thread)));
+    doom_noted(&mut decision.moves, thread, noted_of(reads, thread));
     decision.answer = None;
 }

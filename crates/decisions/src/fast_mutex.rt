@@ -4,7 +4,8 @@ ghost use Rattle.std.specs.Prelude.{◌≡◌};
 ghost use Rattle.machine.specs.FastMutex.{flock_do, flock_done, flock_step, funlock_do};
 ghost use Rattle.state_rows.specs.Nano.{is_holder};
 
-use crate::decide::{answer_after, go_on, nothing, refuse};
+use crate::decide::{answer, answer_after, go_on, nothing, refuse};
+use crate::dooms::{doom_where, noted_of};
 use entry_log::{Part, Step, Word};
 use machine::{Decision, Move, NanoMove};
 use readings::Reads;
@@ -77,6 +78,12 @@ pub fn funlock_do<R: Reads>(decision: &mut Decision, reads: &R, thread: ThreadNo
     if !is_holder(reads, thread, fast) {
         return refuse(decision, thread, step, Error::General);
     }
-    let give = Move::Nano(NanoMove::Give(thread, fast));
-    answer_after(decision, thread, step, give, 0)
+    decision.moves.clear();
+    decision
+        .moves
+        .push(Move::Nano(NanoMove::Give(thread, fast)));
+    let unprotected = reads.critical_count(thread) == 0;
+    let noted = noted_of(reads, thread);
+    doom_where(&mut decision.moves, unprotected, thread, noted);
+    answer(decision, thread, step, 0)
 }

@@ -7,6 +7,7 @@ use crate::decide::{answer_after, answer_at_once, refuse, wait_for};
 use entry_log::{Part, Step, Word};
 use machine::{Decision, Move, NanoMove, ThreadRow, Waiting};
 use readings::Reads;
+use state_rows::Stage;
 use sym_base::{Error, Kind, Name, ObjNo, ThreadNo};
 
 /// The step of `fssignal`.
@@ -66,6 +67,9 @@ fn signal_thread(decision: &mut Decision, thread: ThreadNo, other: ThreadNo, row
     let Some(row) = row else {
         return refuse(decision, thread, SIGNAL, Error::Died);
     };
+    if row.stage != Stage::Live {
+        return refuse(decision, thread, SIGNAL, Error::Died);
+    }
     let signal = signal_move(other, row.waiting);
     answer_after(decision, thread, SIGNAL, signal, 0)
 }

@@ -7,7 +7,7 @@ use crate::decide::{answer_after, go_on, refuse};
 use entry_log::{Holder, Part, Step, Word};
 use machine::{Decision, Move, ThreadRow};
 use readings::Reads;
-use state_rows::ObjectRow;
+use state_rows::{ObjectRow, Stage};
 use sym_base::{Error, Kind, Name, ObjNo, ThreadNo};
 
 /// The thread found the object, where there is one, and comes to open it next.
@@ -66,14 +66,18 @@ pub fn return_to<R: Reads>(
     thread: ThreadNo,
     word: Word,
     next: Part,
-    object: ObjNo,
+    row: &ThreadRow,
 )
-    ensures { decision.new ≡ return_to (R.state reads.now) thread word next object }
+    ensures { decision.new ≡ return_to (R.state reads.now) thread row.now word next }
 {
     let step = Step::Of(word, Part::Return);
+    let object = found_object(row);
     if is_open(reads.object(object)) {
         let gain = Move::Gain(Holder::Temp(thread), object);
         return go_on(decision, thread, step, gain, next);
+    }
+    if row.stage != Stage::Live {
+        return go_on(decision, thread, step, Move::Miss(object), next);
     }
     answer_after(
         decision,

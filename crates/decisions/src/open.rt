@@ -3,7 +3,7 @@ ghost use Rattle.std.specs.Prelude.{◌≡◌};
 ghost use Rattle.machine.specs.Open.{open_do, open_step, open_return};
 
 use crate::decide::{give_handle, nothing, refuse};
-use crate::find::{found_object, return_to, seek};
+use crate::find::{return_to, seek};
 use entry_log::{Part, Step, Word};
 use machine::{Decision, ThreadRow};
 use readings::Reads;
@@ -61,6 +61,5 @@ pub fn open_step<R: Reads>(
 pub fn open_return<R: Reads>(decision: &mut Decision, reads: &R, thread: ThreadNo, row: &ThreadRow)
     ensures { decision.new ≡ open_return (R.state reads.now) thread row.now }
 {
-    let object = found_object(row);
-    return_to(decision, reads, thread, Word::Open, Part::Do, object)
+    return_to(decision, reads, thread, Word::Open, Part::Do, row)
 }

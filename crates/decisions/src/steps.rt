@@ -9,9 +9,12 @@ use crate::close::close_do;
 use crate::create::{create_mutex_do, create_semaphore_do};
 use crate::critical_section::{enter_do, leave_do};
 use crate::decide::nothing;
+use crate::dooms::plain_exit;
 use crate::dup::{dup_step, duplocal_step};
+use crate::exit_calls::{exit_do, exit_step, exittype_step};
 use crate::fast_mutex::{flock_step, funlock_do};
 use crate::fast_semaphore::{fssignal_do, fswait_step};
+use crate::logon_calls::logon_step;
 use crate::memory_calls::{fill_do, peek_do};
 use crate::mutex_calls::{lock_step, unlock_step};
 use crate::open::{open_return, open_step};
@@ -22,7 +25,7 @@ use crate::thread_calls::{priority_step, resume_step, suspend_step};
 use machine::{Decision, ThreadRow};
 use readings::Reads;
 use script_types::{Instr, Script};
-use sym_base::ThreadNo;
+use sym_base::{Exit, ExitKind, ThreadNo, Word};
 
 /// The next step of an instruction. What isn't built yet does nothing.
 fn step_of<R: Reads>(
@@ -74,6 +77,35 @@ fn step_of<R: Reads>(
         Instr::WaitAny => waitany_step(decision, reads, thread, row.part),
         Instr::WaitFor(status) => waitfor_step(decision, reads, thread, *status, row.part),
         Instr::Status(status) => status_do(decision, reads, thread, *status),
+        Instr::Kill(register, reason) => {
+            let exit = plain_exit(ExitKind::Kill, *reason);
+            exit_step(decision, reads, thread, row, Word::Kill, *register, exit)
+        }
+        Instr::Terminate(register, reason) => {
+            let exit = plain_exit(ExitKind::Terminate, *reason);
+            exit_step(
+                decision,
+                reads,
+                thread,
+                row,
+                Word::Terminate,
+                *register,
+                exit,
+            )
+        }
+        Instr::Panic(register, category, reason) => {
+            let exit = Exit {
+                kind: ExitKind::Panic,
+                category: *category,
+                reason: *reason,
+            };
+            exit_step(decision, reads, thread, row, Word::Panic, *register, exit)
+        }
+        Instr::ExitType(register) => exittype_step(decision, reads, thread, row, *register),
+        Instr::Logon(register, status) => {
+            logon_step(decision, reads, thread, row, *register, *status)
+        }
+        Instr::Exit(reason) => exit_do(decision, reads, thread, *reason),
         _ => nothing(decision),
     }
 }

@@ -11,6 +11,7 @@ use crate::look::look_kind;
 use entry_log::{Part, Step, Word};
 use machine::{Decision, Move, NanoMove, Role, ThreadRow};
 use readings::Reads;
+use state_rows::Stage;
 use sym_base::{Error, Kind, ObjNo, ThreadNo};
 
 /// The greatest suspend count.
@@ -27,11 +28,15 @@ fn refusal_of_role(role: Role) -> Option<Error>
 }
 
 /// Why a call on a thread is refused, None where it isn't. A thread without a row died.
-fn refusal_of(row: Option<ThreadRow>) -> Option<Error>
+pub fn refusal_of(row: Option<ThreadRow>) -> Option<Error>
     ensures { result ≡ refusal_of row }
 {
-    match row {
-        Some(row) => refusal_of_role(row.role),
+    let Some(row) = row else {
+        return Some(Error::Died);
+    };
+    match refusal_of_role(row.role) {
+        Some(refusal) => Some(refusal),
+        None if row.stage == Stage::Live => None,
         None => Some(Error::Died),
     }
 }

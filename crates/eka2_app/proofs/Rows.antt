@@ -8,7 +8,7 @@ use Rattle.machine.specs.FinalRows.{final_row, rows_of, rows_from}
 use Rattle.machine.specs.History.{after}
 use Rattle.state_rows.specs.declared.object.ObjectRow.{ObjectRow}
 use Rattle.machine.specs.declared.state.State.{State}
-use Rattle.script_types.specs.Source.{IsValid}
+use Rattle.script_types.specs.Source.{IsWellFormed}
 use Rattle.script_types.specs.declared.script.Script.{Script}
 
 -- a row's number lies among those of the list, which then isn't empty
@@ -28,7 +28,7 @@ row_among S n (Some object ∷ objects) row rest e =
     record { below = omega arith; some = omega arith }
 
 -- so it is below 4,096
-pub row_number : (script : Script) (history : List Entry) (n : ℕ) (row : FinalRow) (rest : List FinalRow) → IsValid script → rows_from (after script history) n ≡ row ∷ rest → row.object.0 < 4096
+pub row_number : (script : Script) (history : List Entry) (n : ℕ) (row : FinalRow) (rest : List FinalRow) → IsWellFormed script → rows_from (after script history) n ≡ row ∷ rest → row.object.0 < 4096
 row_number script history n row rest valid e =
     let among = row_among (after script history) n (drop n (after script history).objects) row rest e in
     let few = (well_formed-after script history valid).rows.sized.objects_few in

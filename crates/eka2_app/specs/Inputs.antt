@@ -3,7 +3,7 @@ use Rattle.std.specs.Prelude.{◌≡◌, ℕ, ◌<◌, ◌≤◌, List, [], Opti
 use Rattle.edge_io.specs.Left.{preceded}
 use Rattle.script_read.specs.FirstBad.{IsFirstBad}
 use Rattle.script_read.specs.declared.reason.Reason.{Reason}
-use Rattle.script_types.specs.Source.{IsAccepted}
+use Rattle.script_grammar.specs.Accepted.{IsAccepted}
 use Rattle.script_types.specs.declared.script.Script.{Script}
 
 -- at most 1,048,576 bytes, which are accepted as the script

@@ -1,6 +1,6 @@
 //! The plain machine and the kernel make one history of a script, and leave the same objects.
 ghost use Rattle.std.specs.Prelude.{◌≡◌, [], IfOk, IfSome};
-ghost use Rattle.script_types.specs.Source.{IsValid};
+ghost use Rattle.script_types.specs.Source.{IsWellFormed};
 
 use crate::output::{Line, line_of_entry, line_of_row};
 use crate::run::{PLACES, make_history};
@@ -20,7 +20,7 @@ const NUMBERS: u16 = 8;
 
 /// The script of a text.
 fn script_of(alloc: Global, text: &str) -> Option<Script>
-    ensures { IfSome result IsValid }
+    ensures { IfSome result IsWellFormed }
 {
     if text.len() > Limits::INPUT {
         return None;
@@ -33,7 +33,7 @@ fn script_of(alloc: Global, text: &str) -> Option<Script>
 
 /// The plain machine after each slot of a script's schedule.
 fn make_plain(alloc: Global, script: Script) -> Result<Plain, NoMemory>
-    requires { IsValid script }
+    requires { IsWellFormed script }
 {
     let slots = script.slots.copied(alloc)?;
     let mut plain = Plain::boot(alloc, script)?;
@@ -121,7 +121,7 @@ fn both_machines_make_one_history(rt: HostRuntime) {
 
 /// The kernel of a script at boot, with room for one entry.
 fn short_kernel(alloc: Global, script: Script) -> Result<Kernel<PlainWords>, NoMemory>
-    requires { IsValid script }
+    requires { IsWellFormed script }
     ensures room { IfOk result (λ kernel. kernel.room ≡ 1) }
     ensures empty { IfOk result (λ kernel. kernel.history ≡ []) }
 {

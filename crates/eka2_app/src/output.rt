@@ -9,7 +9,7 @@ ghost use Rattle.entry_log.specs.HistoryText.{history_text};
 ghost use Rattle.machine.specs.FinalRows.{final_rows};
 ghost use Rattle.machine.specs.History.{after, IsLegal};
 ghost use Rattle.script_read.specs.Refusal.{refusal_text};
-ghost use Rattle.script_types.specs.Source.{IsValid};
+ghost use Rattle.script_types.specs.Source.{IsWellFormed};
 
 use arrayvec::ArrayVec;
 use edge_io::{Failed, Sink, write_whole};
@@ -114,7 +114,7 @@ fn write_rows<K: Sink>(
     line: &mut Line,
     kernel: &Kernel<PlainWords>,
 ) -> Result<(), Failed>
-    requires valid { IsValid kernel.now.script }
+    requires valid { IsWellFormed kernel.now.script }
     ensures whole { OnOk result (Wrote (K.written sink.old) (K.written sink.new)
         (flat_map final_line (final_rows (after kernel.now.script kernel.now.history)))) }
     ensures front { OnErr result (WrotePrefix (K.written sink.old) (K.written sink.new)
@@ -135,7 +135,7 @@ fn write_rows<K: Sink>(
 /// Writes the whole history of a kernel: its entries, and the objects that are left. One buffer holds
 /// each line in turn.
 pub fn write_history<K: Sink>(sink: &mut K, kernel: &Kernel<PlainWords>) -> Result<(), Failed>
-    requires valid { IsValid kernel.now.script }
+    requires valid { IsWellFormed kernel.now.script }
     ensures whole { OnOk result (Wrote (K.written sink.old) (K.written sink.new)
         (history_text kernel.now.history (final_rows (after kernel.now.script kernel.now.history)))) }
     ensures front { OnErr result (WrotePrefix (K.written sink.old) (K.written sink.new)

@@ -11,7 +11,7 @@ ghost use Rattle.machine.specs.Run.{run};
 ghost use Rattle.machine_safe.specs.SafeReferences.{IsSafeReferences};
 ghost use Rattle.script_read.specs.Refusal.{refusal_text};
 ghost use Rattle.script_read.specs.declared.reason.Reason.{Reason};
-ghost use Rattle.script_types.specs.Source.{IsValid};
+ghost use Rattle.script_types.specs.Source.{IsWellFormed};
 ghost use Rattle.script_types.specs.declared.script.Script.{Script};
 
 use crate::input::read_input;
@@ -30,7 +30,7 @@ pub const PLACES: u32 = Limits::OBJECTS as u32;
 /// Makes the whole history of a script: each slot of its schedule makes one entry.
 #[tactic(auto, using(machine_laws::proofs::ValidSlots::valid_slots_few))]
 pub fn make_history(alloc: Global, script: Script) -> Result<Kernel<PlainWords>, NoMemory>
-    requires { IsValid script }
+    requires { IsWellFormed script }
     ensures { IfOk result (λ kernel. HasRun script kernel) }
 {
     let slots = script.slots.copied(alloc)?;
@@ -45,7 +45,7 @@ pub fn make_history(alloc: Global, script: Script) -> Result<Kernel<PlainWords>,
 
 /// Runs a script and writes its history. Nothing is written before the whole history is made.
 fn run_script<K: Sink>(alloc: Global, script: Script, sink: &mut K) -> Result<(), RunFault>
-    requires { IsValid script }
+    requires { IsWellFormed script }
     ensures whole { OnOk result (Wrote (K.written sink.old) (K.written sink.new) (run_text script)) }
     ensures legal { OnOk result (IsLegal script (run script)) }
     ensures safe { OnOk result (IsSafeReferences script (run script)) }

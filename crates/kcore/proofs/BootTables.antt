@@ -10,8 +10,8 @@ use Rattle.state_rows.specs.DeclaredCalls.{calls_of}
 use Rattle.state_rows.specs.declared.object.ObjectRow.{ObjectRow}
 use Rattle.state_rows.specs.ObjectRows.{has_name, is_session, is_taken}
 use Rattle.script_types.specs.declared.script.Script.{Script}
-use Rattle.script_types.specs.Source.{IsValid}
-use Rattle.script_types.proofs.ShapeLaws.{valid_is_shaped}
+use Rattle.script_types.specs.Source.{IsWellFormed}
+use Rattle.script_types.proofs.ShapeLaws.{formed_is_shaped}
 use Rattle.machine.specs.declared.boot.Born.{Born}
 use Rattle.machine.specs.declared.state.State.{State}
 use Rattle.machine.specs.Boot.{boot, boot_of, born}
@@ -73,10 +73,10 @@ one_more all S rows counts new n count b h long at is made last = record {
 }
 
 -- the counts of the whole table are those of the state
-pub agrees_at_boot : (script : Script) → IsValid script → (all : List Born) (rows : List (Option ObjectRow)) (counts : List ℕ) → all ≡ born script → FirstStand all (boot script) rows counts (length all) → Agrees counts (boot script)
+pub agrees_at_boot : (script : Script) → IsWellFormed script → (all : List Born) (rows : List (Option ObjectRow)) (counts : List ℕ) → all ≡ born script → FirstStand all (boot script) rows counts (length all) → Agrees counts (boot script)
 agrees_at_boot script valid all rows counts e h o = elim (cases_lt o.0 (length all)) [
   | inl lt ↦ h.counted o.0 lt
-  | inr le ↦ h.none o.0 le ∙ sym (boot_count_inside script (valid_is_shaped script valid) o (subst (λ (bs : List Born). length bs ≤ o.0) e le))
+  | inr le ↦ h.none o.0 le ∙ sym (boot_count_inside script (formed_is_shaped script valid) o (subst (λ (bs : List Born). length bs ≤ o.0) e le))
 ]
 
 boot_row : (script : Script) (k : ℕ) (b : Born) → slice_get (born script) k ≡ Some b → slice_get (boot script).objects k ≡ Some (Some b.object)
@@ -98,7 +98,7 @@ alive_at_boot script k lt =
     let r = boot_rows script k (omega arith) in
     alive_of (boot script).objects k r.0 r.1 r.2
 
-pub new_at_boot : (script : Script) → IsValid script → AreNew (born script) (boot script)
+pub new_at_boot : (script : Script) → IsWellFormed script → AreNew (born script) (boot script)
 new_at_boot script valid = record {
   named = λ k b at. boot_no_session script k b.object (boot_row script k b at);
   alive = λ k b at. (boot_kinds script k b.object (boot_row script k b at)).0;

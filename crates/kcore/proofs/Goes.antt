@@ -6,7 +6,7 @@ use Rattle.sym_base.specs.declared.number.ObjNo.{ObjNo}
 use Rattle.script_types.specs.declared.script.Script.{Script}
 use Rattle.script_types.specs.declared.script.Slot.{Slot}
 use Rattle.script_types.specs.Shape.{IsShaped}
-use Rattle.script_types.proofs.ShapeLaws.{valid_is_shaped}
+use Rattle.script_types.proofs.ShapeLaws.{formed_is_shaped}
 use Rattle.entry_log.specs.declared.entry.Actor.{Actor}
 use Rattle.entry_log.specs.declared.entry.Actor.TheVariants.{Thread, Irq, Idfc, Tick, Idle}
 use Rattle.entry_log.specs.declared.entry.Entry.{Entry}
@@ -15,7 +15,7 @@ use Rattle.state_rows.specs.declared.object.ObjectRow.{ObjectRow}
 use Rattle.machine.specs.declared.decision.Outcome.{Outcome}
 use Rattle.machine.specs.declared.state.State.{State}
 use Rattle.state_rows.specs.declared.thread.ThreadRow.{ThreadRow}
-use Rattle.script_types.specs.Source.{IsValid}
+use Rattle.script_types.specs.Source.{IsWellFormed}
 use Rattle.machine.specs.Boot.{boot}
 use Rattle.machine.specs.Choice.{priority_of}
 use Rattle.kernel_tables.specs.Noted.{AreKept}
@@ -63,7 +63,7 @@ rows_stand script history tables ready h =
     rows_apart script (state_of tables) (after script history).ready (subst (AreRows script) (sym h.state) (well_formed-after script history h.valid).rows)
 
 pub shape_stands : {W N : Type 0} (script : Script) (history : List Entry) (tables : Tables W N) (ready : Ready) → Stands script history tables ready → IsShaped script
-shape_stands script history tables ready h = valid_is_shaped script h.valid
+shape_stands script history tables ready h = formed_is_shaped script h.valid
 
 pub some_stand : {W N : Type 0} (script : Script) (history : List Entry) (tables : Tables W N) (ready : Ready) → Stands script history tables ready → SomeReady ready
 some_stand script history tables ready h = (priority_of (state_of tables), (after script history).ready, h.queues)
@@ -130,7 +130,7 @@ pub next_row_apart : (S T : State) (qs : List ObjNo) (from : ℕ) (found : Optio
 next_row_apart S T qs from found is next = same_next S T from found (λ n. sym (ap (λ (U : State). rows_from U n) is) ∙ final_apart S qs n (drop n S.objects)) next
 
 -- at boot the tables stand for no entry
-pub stands_at_boot : {W N : Type 0} (script : Script) (tables : Tables W N) (ready : Ready) → IsValid script → with_ready (state_of tables) (boot script).ready ≡ boot script → AreKept tables → AreReady (priority_of (boot script)) (boot script).ready ready → Stands script [] tables ready
+pub stands_at_boot : {W N : Type 0} (script : Script) (tables : Tables W N) (ready : Ready) → IsWellFormed script → with_ready (state_of tables) (boot script).ready ≡ boot script → AreKept tables → AreReady (priority_of (boot script)) (boot script).ready ready → Stands script [] tables ready
 stands_at_boot script tables ready valid state kept queues = record {
   valid = valid;
   legal = tt;

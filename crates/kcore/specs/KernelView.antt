@@ -2,7 +2,7 @@
 use Rattle.std.specs.Prelude.{◌≡◌, ℕ, ◌≤◌, List}
 use Rattle.sym_base.specs.declared.limits.TheConstants.Limits.{SHARED_HISTORY}
 use Rattle.script_types.specs.declared.script.Script.{Script}
-use Rattle.script_types.specs.Source.{IsValid}
+use Rattle.script_types.specs.Source.{IsWellFormed}
 use Rattle.entry_log.specs.declared.entry.Entry.{Entry}
 use Rattle.ready_list.specs.Ready.{Ready}
 use Rattle.machine.specs.Choice.{priority_of}
@@ -21,7 +21,7 @@ pub record KernelView : Type 0 where
 -- The script is valid, the history is a legal one of it, and the tables and the queues of ready threads
 -- stand for the state after it and keep what they keep beside it.
 pub record Stands {W N : Type 0} (script : Script) (history : List Entry) (tables : Tables W N) (ready : Ready) : Type 0 where
-  pub valid : IsValid script
+  pub valid : IsWellFormed script
   pub legal : IsLegal script history
   pub state : with_ready (state_of tables) (after script history).ready ≡ after script history
   pub kept : AreKept tables

@@ -2,7 +2,7 @@
 ghost use Rattle.std.specs.Prelude.{if◌then◌else◌, ◌≡◌, ℕ, ◌<◌, ◌≤◌, ◌++◌, [], ◌∷◌, Some, None, true, false, length, map, replicate, IfOk, slice_index, slice_set};
 ghost use Rattle.sym_base.specs.declared.limits.TheConstants.Limits.{BOOT_OBJECTS, DEVICES, OBJECTS, HANDLES};
 ghost use Rattle.sym_base.specs.declared.number.ObjNo.{ObjNo};
-ghost use Rattle.script_types.specs.Source.{IsValid};
+ghost use Rattle.script_types.specs.Source.{IsWellFormed};
 ghost use Rattle.script_types.specs.Shape.{IsShaped};
 ghost use Rattle.state_rows.specs.DeclaredCalls.{calls_of};
 ghost use Rattle.ref_words.specs.Words.{NoneCreated};
@@ -241,7 +241,7 @@ pub fn boot<W: RefWords + Drop>(
     script: &Script,
     words: W,
 ) -> Result<(Tables<W>, ReadyList), NoMemory>
-    requires valid { IsValid script.now }
+    requires valid { IsWellFormed script.now }
     requires places { length (W.meaning words).own ≡ OBJECTS }
     requires fresh { NoneCreated (W.meaning words) }
     ensures state { IfOk result (λ made. with_ready (state_of made.0) (boot script.now).ready ≡ boot script.now) }

@@ -1,10 +1,11 @@
 //! The kernel that a script's schedule drives.
 ghost use Rattle.std.specs.Prelude.{◌≡◌, ◌+◌, ◌<◌, ◌≤◌, ◌++◌, [], ◌∷◌, List, length, None, IsTrue, IfOk};
+ghost use Rattle.std.specs.List.{slice_index_or};
 ghost use Rattle.sym_base.specs.declared.limits.TheConstants.Limits.{OBJECTS, SHARED_HISTORY};
 ghost use Rattle.ref_words.specs.Words.{NoneCreated};
-ghost use Rattle.script_types.specs.Source.{IsValid};
+ghost use Rattle.script_types.specs.Source.{IsWellFormed};
 ghost use Rattle.machine.specs.Slots.{IsDeclared};
-ghost use Rattle.machine.specs.FinalRows.{rows_from, IsNextRow};
+ghost use Rattle.machine.specs.FinalRows.{exit_of_row, rows_from, IsNextRow};
 ghost use Rattle.entry_log.specs.declared.entry.Actor.TheVariants as Actor;
 ghost use Rattle.machine.specs.Choice.{priority_of};
 ghost use Rattle.machine.specs.Task.{is_able};
@@ -23,13 +24,14 @@ use crate::boot;
 use entry_log::{Actor, Effects, Entry, FinalRow, Step};
 use kernel_tables::{Tables, chosen};
 use machine::Decision;
+use procs::Procs;
 use readings::is_able;
 use ready_list::ReadyList;
 use ref_words::{PlainWords, RefWords};
 use script_types::{Script, Slot};
 use std::alloc::Global;
 use std::marker::Model;
-use sym_base::{NoMemory, ObjNo, ThreadNo};
+use sym_base::{Exit, NoMemory, ObjNo, ThreadNo};
 
 /// A kernel that runs a script. A contract sees its script, its history, and the number of entries that it
 /// has room for. It takes all its memory at boot.
@@ -79,6 +81,13 @@ fn new_entry(place: u32, actor: Actor) -> Entry
     }
 }
 
+/// The exit of a thread that is doomed or dead. Nothing else has one.
+fn exit_of(procs: &Procs, object: ObjNo) -> Option<Exit>
+    ensures { result ≡ exit_of_row (slice_index_or procs.now.threads object.0 None) }
+{
+    procs.thread(object)?.exit
+}
+
 /// The first object that isn't swept of the numbers from `from` on, with its count.
 fn next_row<W: RefWords + Drop>(tables: &Tables<W>, from: u16) -> Option<FinalRow>
     requires { AreKept tables.now }
@@ -91,7 +100,7 @@ fn next_row<W: RefWords + Drop>(tables: &Tables<W>, from: u16) -> Option<FinalRo
                 kind: row.kind,
                 name: row.name,
                 count: tables.objects.count(ObjNo(number)),
-                exit: None,
+                exit: exit_of(&tables.procs, ObjNo(number)),
             });
         }
     }
@@ -102,7 +111,7 @@ impl<W: RefWords + Drop> Kernel<W> {
     /// The kernel at boot, over words of 4,096 places of which none is created, with room for so many entries.
     /// It takes all the memory that the kernel ever needs.
     pub fn boot(alloc: Global, script: Script, words: W, room: u32) -> Result<Kernel<W>, NoMemory>
-        requires valid { IsValid script }
+        requires valid { IsWellFormed script }
         requires places { length (W.meaning words).own ≡ OBJECTS }
         requires fresh { NoneCreated (W.meaning words) }
         requires room { room ≤ SHARED_HISTORY }

@@ -5,6 +5,7 @@ mod actions;
 mod call_queues;
 mod death_moves;
 mod duties;
+mod dying;
 mod lock_moves;
 mod logon_moves;
 mod moves;

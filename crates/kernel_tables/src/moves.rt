@@ -185,6 +185,9 @@ fn pay_sweep<W: RefWords + Drop>(tables: &mut Tables<W>, thread: ThreadNo, objec
     ensures { IsMoved thread (Move.Pay (Owed.Sweep object)) tables.old tables.new }
 {
     tables.objects.sweep(object);
+    if tables.procs.is_thread(object) {
+        tables.locks.set_priority(object, 0);
+    }
     tables.procs.remove_thread(object);
     drop_first_owed(&mut tables.cleanup, thread);
 }

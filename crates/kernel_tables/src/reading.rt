@@ -6,12 +6,14 @@ ghost use Rattle.kernel_tables.specs.Noted.{AreKept};
 ghost use Rattle.kernel_tables.specs.StateOf.{slots_of, state_of};
 
 use crate::duties::first_owed;
+use crate::dying::{buried_by, first_held, has_one_left};
 use crate::tables::Tables;
 use handles::Handles;
 use machine::{NewHandle, Owed, ThreadRow};
 use readings::Reads;
 use ref_words::RefWords;
-use state_rows::{HandleSlot, Item, ObjectRow, Owner, Request, is_local, look};
+use script_types::Script;
+use state_rows::{HandleSlot, Held, Item, ObjectRow, Owner, Request, is_local, look};
 use sym_base::{Items, Kind, Name, ObjNo, ThreadNo};
 
 /// The places of the handle table of a process or a thread, none where there is no such table.
@@ -141,6 +143,22 @@ impl<W: RefWords + Drop> Reads for Tables<W> {
 
     fn request_signals(&self, thread: ThreadNo) -> u64 {
         self.requests.signal_count(thread)
+    }
+
+    fn first_held(&self, thread: ThreadNo) -> Option<Held> {
+        first_held(&self.cleanup, thread)
+    }
+
+    fn first_handle(&self, owner: ObjNo) -> Option<(u8, ObjNo)> {
+        self.handles.as_slice().get(owner.0 as usize)?.next_of(0)
+    }
+
+    fn has_one_left(&self, process: ObjNo) -> bool {
+        has_one_left(&self.procs, process)
+    }
+
+    fn buried_by(&self, script: &Script, dfc: u8) -> Option<ThreadNo> {
+        buried_by(&self.procs, script, dfc)
     }
 
     fn lock_owner(&self, mutex: ObjNo) -> Option<Owner> {

@@ -30,6 +30,7 @@ use Rattle.state_rows.specs.declared.thread.ThreadRow.{ThreadRow}
 use Rattle.machine.specs.declared.state.State.{State}
 use Rattle.machine.specs.Rows.{thread_of}
 use Rattle.machine.specs.Find.{find_object}
+use Rattle.machine.specs.ThreadCalls.{is_live}
 use Rattle.machine.specs.FastSemaphore.{signal_move}
 use Rattle.machine.specs.Moves.{perform}
 
@@ -50,10 +51,10 @@ abbrev pub queue_call : State → Option ℕ → List Move
 queue_call S None = []
 queue_call S (Some dfc) = add_call S dfc ∷ []
 
--- a signal of a thread's fast semaphore; nothing for a thread that isn't there
+-- a signal of a thread's fast semaphore; nothing for a thread that isn't live
 abbrev pub signal_row : ObjNo → Option ThreadRow → List Move
 signal_row u None = []
-signal_row u (Some row) = signal_move u row.waiting ∷ []
+signal_row u (Some row) = if is_live row.stage then signal_move u row.waiting ∷ [] else []
 
 abbrev pub signal_object : State → Option ObjNo → List Move
 signal_object S None = []

@@ -1,14 +1,13 @@
 -- The state at boot. Object 0 is process `kernel`, object 1 thread `supervisor`, and then each process
 -- comes with its threads behind it, in the script's order; the kernel threads, which belong to process `kernel`, stand
 -- before the first of these, and before them the threads of queues, which belong to it too.
-use Rattle.std.specs.Prelude.{ℕ, ◌+◌, ◌==◌, not, ◌&&◌, Bool, true, false, if◌then◌else◌, codes, map, List, [], ◌∷◌, ◌++◌, length, Option, Some, None, replicate}
+use Rattle.std.specs.Prelude.{ℕ, ◌+◌, ◌==◌, not, Bool, true, false, if◌then◌else◌, codes, map, List, [], ◌∷◌, ◌++◌, length, Option, Some, None, replicate}
 use Rattle.sym_base.specs.declared.kind.Kind.{Kind}
 use Rattle.sym_base.specs.declared.kind.Kind.TheVariants.{Process, Thread}
 use Rattle.script_types.specs.declared.script.Script.{Script}
 use Rattle.script_types.specs.declared.declaration.ThreadDecl.{ThreadDecl}
 use Rattle.script_types.specs.declared.declaration.QueueDecl.{QueueDecl}
 use Rattle.script_types.specs.declared.declaration.ProcessDecl.{ProcessDecl}
-use Rattle.script_types.specs.declared.instruction.Instr.{Instr}
 use Rattle.state_rows.specs.declared.object.ObjectRow.{ObjectRow}
 use Rattle.sym_base.specs.declared.number.ObjNo.{ObjNo}
 use Rattle.sym_base.specs.declared.limits.TheConstants.Limits.{HANDLES, DEVICES, OBJECTS}
@@ -38,14 +37,9 @@ born_process name = record { object = boot_object Process name; thread = None; w
 abbrev pub new_thread : ℕ → Role → ℕ → ThreadRow
 new_thread p role priority = record (added_thread (record { 0 = p })) { role = role; link = Some (record { 0 = p }); priority = priority }
 
--- whether a list has an instruction
-abbrev pub has_any : List Instr → Bool
-has_any [] = false
-has_any (x ∷ xs) = true
-
 -- the thread of declaration k
 abbrev pub born_thread : ℕ → ℕ → ThreadDecl → Born
-born_thread p k d = record { object = boot_object Thread d.name; thread = Some (new_thread p (Declared k) d.priority); works = has_any d.instrs && not d.held; held = d.held }
+born_thread p k d = record { object = boot_object Thread d.name; thread = Some (new_thread p (Declared k) d.priority); works = not d.held; held = d.held }
 
 -- the threads of the queues from number q on
 abbrev pub born_queue : ℕ → QueueDecl → Born

@@ -17,6 +17,7 @@ use Rattle.state_rows.specs.declared.thread.Waiting.TheVariants.{Fast}
 use Rattle.state_rows.specs.declared.thread.ThreadRow.{ThreadRow}
 use Rattle.machine.specs.declared.state.State.{State}
 use Rattle.machine.specs.Rows.{thread_of}
+use Rattle.machine.specs.ThreadCalls.{is_live}
 use Rattle.machine.specs.Find.{find_object}
 use Rattle.machine.specs.Decide.{answer, refuse, wait_for, unless_holding}
 
@@ -35,10 +36,12 @@ abbrev pub signal_move : ObjNo → Waiting → Move
 signal_move u Fast = Wake u
 signal_move u _ = Nano (Raise u)
 
--- the thread isn't there any more: it died
+-- the thread isn't live any more: it died
 abbrev pub signal_thread : ObjNo → ObjNo → Option ThreadRow → Decision
 signal_thread t u None = refuse t (Of Fssignal Do) Died
-signal_thread t u (Some row) = answer t (Of Fssignal Do) (signal_move u row.waiting ∷ []) (pos 0)
+signal_thread t u (Some row) =
+    if is_live row.stage then answer t (Of Fssignal Do) (signal_move u row.waiting ∷ []) (pos 0)
+    else refuse t (Of Fssignal Do) Died
 
 abbrev pub signal_found : State → ObjNo → Option ObjNo → Decision
 signal_found S t None = refuse t (Of Fssignal Do) Died

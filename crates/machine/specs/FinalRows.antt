@@ -4,10 +4,18 @@ use Rattle.entry_log.specs.declared.entry.FinalRow.{FinalRow}
 use Rattle.state_rows.specs.declared.object.ObjectRow.{ObjectRow}
 use Rattle.machine.specs.declared.state.State.{State}
 use Rattle.machine.specs.References.{count_of}
+use Rattle.machine.specs.Rows.{thread_of}
+use Rattle.sym_base.specs.declared.kind.Exit.{Exit}
+use Rattle.state_rows.specs.declared.thread.ThreadRow.{ThreadRow}
 
--- an object's row; no thread has an exit yet
+-- the exit of a thread that is doomed or dead; nothing else has one
+abbrev pub exit_of_row : Option ThreadRow → Option Exit
+exit_of_row None = None
+exit_of_row (Some row) = row.exit
+
+-- an object's row
 abbrev pub final_row : State → ℕ → ObjectRow → FinalRow
-final_row S n row = record { object = record { 0 = n }; kind = row.kind; name = row.name; count = count_of S (record { 0 = n }); exit = None }
+final_row S n row = record { object = record { 0 = n }; kind = row.kind; name = row.name; count = count_of S (record { 0 = n }); exit = exit_of_row (thread_of S (record { 0 = n })) }
 
 -- the rows of objects that aren't swept, from number n on
 abbrev pub rows_of : State → ℕ → List (Option ObjectRow) → List FinalRow

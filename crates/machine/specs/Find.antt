@@ -1,6 +1,6 @@
 -- The first two steps of the instructions that find an object by its kind and name: the find, and the return,
 -- which opens what was found. The object may die in between.
-use Rattle.std.specs.Prelude.{ℕ, ◌%◌, nat_lt, ◌||◌, Bool, false, not, if◌then◌else◌, List, [], ◌∷◌, Option, Some, None}
+use Rattle.std.specs.Prelude.{ℕ, ◌%◌, nat_lt, ◌||◌, Bool, true, false, not, if◌then◌else◌, List, [], ◌∷◌, Option, Some, None}
 use Rattle.sym_base.specs.declared.error.Error.TheVariants.{NotFound}
 use Rattle.sym_base.specs.declared.kind.Kind.{Kind}
 use Rattle.sym_base.specs.declared.number.ObjNo.{ObjNo}
@@ -18,6 +18,7 @@ use Rattle.state_rows.specs.declared.thread.ThreadRow.{ThreadRow}
 use Rattle.machine.specs.declared.state.State.{State}
 use Rattle.machine.specs.Rows.{object_of}
 use Rattle.machine.specs.References.{count_of}
+use Rattle.machine.specs.ThreadCalls.{is_live}
 use Rattle.machine.specs.Decide.{answer, refuse, go_on}
 
 -- an object that isn't dead and has no reference isn't found
@@ -47,8 +48,13 @@ abbrev pub is_open : Option ObjectRow → Bool
 is_open None = false
 is_open (Some row) = not row.dead
 
--- the object died: it is missed, and isn't found; else the thread uses it from now on, and another step comes
-abbrev pub return_to : State → ObjNo → Word → Part → ObjNo → Decision
-return_to S t word part o =
-    if is_open (object_of S o) then go_on t (Of word Return) (Gain (Temp t) o) part
-    else answer t (Of word Return) (Miss o ∷ []) (error_code NotFound)
+-- the object died: it is missed, and isn't found; else the thread uses it from now on, and another step comes. A doomed thread
+-- comes back without an answer
+abbrev pub miss : ObjNo → Word → Part → ObjNo → Bool → Decision
+miss t word part o true = answer t (Of word Return) (Miss o ∷ []) (error_code NotFound)
+miss t word part o false = go_on t (Of word Return) (Miss o) part
+
+abbrev pub return_to : State → ObjNo → ThreadRow → Word → Part → Decision
+return_to S t row word part =
+    if is_open (object_of S (found_object row)) then go_on t (Of word Return) (Gain (Temp t) (found_object row)) part
+    else miss t word part (found_object row) (is_live row.stage)

@@ -8,7 +8,9 @@ pub mod CriticalSection
 pub mod DeathMoves
 pub mod Decide
 pub mod DeferredMoves
+pub mod Dooms
 pub mod Dup
+pub mod ExitCalls
 pub mod FastMutex
 pub mod FastSemaphore
 pub mod FinalRows
@@ -16,10 +18,12 @@ pub mod Find
 pub mod Fits
 pub mod Handles
 pub mod HeldIn
+pub mod Holdings
 pub mod History
 pub mod Holding
 pub mod Interrupts
 pub mod LockMoves
+pub mod LogonCalls
 pub mod LogonMoves
 pub mod Look
 pub mod Memory
@@ -29,6 +33,7 @@ pub mod MutexCalls
 pub mod NanoMoves
 pub mod Open
 pub mod Queueing
+pub mod Reaping
 pub mod References
 pub mod RequestCalls
 pub mod RequestMoves

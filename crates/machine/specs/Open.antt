@@ -11,7 +11,7 @@ use Rattle.state_rows.specs.declared.thread.ThreadRow.{ThreadRow}
 use Rattle.machine.specs.declared.state.State.{State}
 use Rattle.machine.specs.Handles.{process_handle}
 use Rattle.machine.specs.Decide.{nothing, give_handle, unless_holding}
-use Rattle.machine.specs.Find.{seek, return_to, found_object}
+use Rattle.machine.specs.Find.{seek, return_to}
 
 -- the third step: a handle of what the thread uses
 abbrev pub open_do : State → ObjNo → ThreadRow → ℕ → Option ObjNo → Decision
@@ -25,4 +25,4 @@ open_step S t row kind name x (Some part) = open_do S t row x row.uses
 
 -- the return
 abbrev pub open_return : State → ObjNo → ThreadRow → Decision
-open_return S t row = return_to S t Open Do (found_object row)
+open_return S t row = return_to S t row Open Do

@@ -31,6 +31,12 @@ use Rattle.machine.specs.MemoryCalls.{fill_do, peek_do}
 use Rattle.machine.specs.Queueing.{queue_do}
 use Rattle.machine.specs.RequestCalls.{request_do, cancel_do, waitany_step, waitfor_step, status_do}
 use Rattle.machine.specs.Bodies.{run_body}
+use Rattle.machine.specs.Dooms.{end, plain_exit}
+use Rattle.machine.specs.ExitCalls.{exit_step, exittype_step, exit_do}
+use Rattle.machine.specs.LogonCalls.{logon_step}
+use Rattle.machine.specs.Reaping.{give_up, clean, bury}
+use Rattle.sym_base.specs.declared.kind.ExitKind.TheVariants as kind
+use Rattle.sym_base.specs.declared.word.Word.TheVariants as word
 use Rattle.machine.specs.declared.plan.Body.TheVariants.{Deferred}
 use Rattle.machine.specs.Task.{task_of, is_able}
 
@@ -63,6 +69,12 @@ step_of script S t row (instr.WaitFor s) p = waitfor_step S t s p
 step_of script S t row (instr.Status s) p = status_do S t s
 step_of script S t row (instr.Fill at length byte) p = fill_do t row at length byte
 step_of script S t row (instr.Peek at) p = peek_do S t row at
+step_of script S t row (instr.Kill x reason) p = exit_step S t row word.Kill x (plain_exit kind.Kill reason) p
+step_of script S t row (instr.Terminate x reason) p = exit_step S t row word.Terminate x (plain_exit kind.Terminate reason) p
+step_of script S t row (instr.Panic x category reason) p = exit_step S t row word.Panic x (record { kind = kind.Panic; category = category; reason = reason }) p
+step_of script S t row (instr.ExitType x) p = exittype_step S t row x p
+step_of script S t row (instr.Logon x s) p = logon_step S t row x s p
+step_of script S t row (instr.Exit reason) p = exit_do S t reason
 step_of script S t row _ p = nothing
 
 -- the return of an instruction that found an object
@@ -83,8 +95,12 @@ abbrev pub decision_of_task : Script → State → ObjNo → ThreadRow → Task 
 decision_of_task script S t row (task.Return instr) = return_of S t row instr
 decision_of_task script S t row (task.Pay what) = pay what
 decision_of_task script S t row (task.RunDfc dfc) = run_body script t S (Deferred dfc)
+decision_of_task script S t row (task.GiveUp what) = give_up S t row what
+decision_of_task script S t row task.Clean = clean script S t row
+decision_of_task script S t row (task.Bury dfc) = bury script S dfc
 decision_of_task script S t row (task.Step instr) = step_of script S t row instr row.part
 decision_of_task script S t row task.Flush = flush S t
+decision_of_task script S t row task.End = end t
 
 -- a thread that has nothing to do does nothing
 abbrev pub decision_of_row : Script → State → ObjNo → Option ThreadRow → Option Task → Decision

@@ -1,5 +1,5 @@
 -- What a thread does next.
-use Rattle.std.specs.Prelude.{ℕ, Bool, true, false, not, ◌&&◌, ◌==◌, is_some, is_none, if◌then◌else◌, List, [], Option, Some, None, option_and_then, slice_get}
+use Rattle.std.specs.Prelude.{ℕ, nat_lt, Bool, true, false, not, ◌&&◌, ◌==◌, is_some, is_none, if◌then◌else◌, List, [], ◌∷◌, Option, Some, None, option_and_then, option_map, slice_get}
 use Rattle.sym_base.specs.declared.number.ObjNo.{ObjNo}
 use Rattle.script_types.specs.declared.script.Script.{Script}
 use Rattle.script_types.specs.declared.declaration.ThreadDecl.{ThreadDecl}
@@ -11,15 +11,17 @@ use Rattle.state_rows.specs.declared.deferred.DeferredRows.{DeferredRows}
 use Rattle.state_rows.specs.Nano.{suspend_count, is_protected, wanted_holder}
 use Rattle.state_rows.specs.declared.duty.Owed.{Owed}
 use Rattle.machine.specs.declared.task.Task.{Task}
-use Rattle.machine.specs.declared.task.Task.TheVariants.{Return, Pay, RunDfc, Step, Flush}
+use Rattle.machine.specs.declared.task.Task.TheVariants.{Return, Pay, GiveUp, Clean, RunDfc, Bury, Step, Flush, End}
 use Rattle.state_rows.specs.declared.thread.Role.{Role}
 use Rattle.state_rows.specs.declared.thread.Role.TheVariants.{Supervisor, Queue, Declared}
 use Rattle.state_rows.specs.declared.thread.Stage.{Stage}
-use Rattle.state_rows.specs.declared.thread.Stage.TheVariants.{Live}
+use Rattle.state_rows.specs.declared.thread.Stage.TheVariants.{Live, Doomed, Cleaned, Buried}
 use Rattle.state_rows.specs.declared.thread.Waiting.{Waiting}
 use Rattle.state_rows.specs.declared.thread.Waiting.TheVariants.{Nothing}
 use Rattle.state_rows.specs.declared.thread.ThreadRow.{ThreadRow}
 use Rattle.machine.specs.declared.state.State.{State}
+use Rattle.machine.specs.declared.holding.Holding.{Holding}
+use Rattle.machine.specs.Holdings.{holdings}
 use Rattle.machine.specs.Rows.{thread_of, first_owed}
 
 -- the declaration of a thread: the supervisor and the thread of a queue have none
@@ -46,13 +48,13 @@ abbrev pub is_returning : Option Part → Bool
 is_returning (Some part.Return) = true
 is_returning _ = false
 
--- at its list's end a thread gives up what protects it, if it is protected
-abbrev pub end_task : Bool → Option Task
-end_task protected = if protected then Some Flush else None
+-- at its list's end a thread gives up what protects it, if it is protected, and else it ends
+abbrev pub end_task : Bool → Task
+end_task protected = if protected then Flush else End
 
-abbrev pub step_or_end : Bool → Option Instr → Option Task
+abbrev pub step_or_end : Bool → Option Instr → Task
 step_or_end protected None = end_task protected
-step_or_end protected (Some instr) = Some (Step instr)
+step_or_end protected (Some instr) = Step instr
 
 -- the queue of deferred function calls that a thread serves
 abbrev pub served_queue : Role → Option ℕ
@@ -64,20 +66,26 @@ served_queue (Declared k) = None
 abbrev pub next_call : DeferredRows → Role → Option ℕ
 next_call r role = option_and_then (next_of r) (served_queue role)
 
--- a call comes before an instruction, which no thread has that serves a queue
-abbrev pub run_or : Option ℕ → Option Task → Option Task
-run_or None other = other
-run_or (Some dfc) other = Some (RunDfc dfc)
+-- the declared calls have numbers below 64, and the others are burials
+abbrev pub call_task : ℕ → Task
+call_task dfc = if nat_lt dfc 64 then RunDfc dfc else Bury dfc
 
--- whether a thread is live
-abbrev pub is_live : Stage → Bool
-is_live Live = true
-is_live _ = false
+-- a thread that serves a queue runs the next call of it, and has no instructions
+abbrev pub live_task : Role → Option ℕ → Task → Option Task
+live_task (Declared k) call own = Some own
+live_task role call own = option_map call_task call
 
--- only a live thread goes on with calls and instructions
-abbrev pub by_stage : Stage → Option Task → Option Task
-by_stage Live own = own
-by_stage _ own = None
+-- a doomed thread gives up the first of what it has, and at last is cleaned
+abbrev pub dying_task : List Holding → Task
+dying_task [] = Clean
+dying_task (what ∷ rest) = GiveUp what
+
+-- a cleaned or buried thread does nothing
+abbrev pub by_stage : Stage → List Holding → Option Task → Option Task
+by_stage Live has own = own
+by_stage Doomed has own = Some (dying_task has)
+by_stage Cleaned has own = None
+by_stage Buried has own = None
 
 -- the oldest of what a thread owes comes before these
 abbrev pub pay_or : Option Owed → Option Task → Option Task
@@ -89,15 +97,17 @@ abbrev pub return_or : Bool → Option Instr → Option Task → Option Task
 return_or true (Some instr) other = Some (Return instr)
 return_or _ _ other = other
 
-abbrev pub task_of_row : Script → DeferredRows → Bool → Option Owed → Option ThreadRow → Option Task
-task_of_row script calls protected first None = None
-task_of_row script calls protected first (Some row) =
+abbrev pub task_of_row : Script → State → ObjNo → Option ThreadRow → Option Task
+task_of_row script S t None = None
+task_of_row script S t (Some row) =
     return_or (is_returning row.part) (instruction script row)
-    (pay_or first (by_stage row.stage (run_or (next_call calls row.role) (step_or_end protected (instruction script row)))))
+    (pay_or (first_owed S t)
+    (by_stage row.stage (holdings S t row)
+    (live_task row.role (next_call S.deferred row.role) (step_or_end (is_protected S.nano t) (instruction script row)))))
 
 -- what a thread does next, None where there is nothing
 abbrev pub task_of : Script → State → ObjNo → Option Task
-task_of script S t = task_of_row script S.deferred (is_protected S.nano t) (first_owed S t) (thread_of S t)
+task_of script S t = task_of_row script S t (thread_of S t)
 
 -- whether a thread waits
 abbrev pub is_wait : Waiting → Bool

@@ -1,5 +1,5 @@
 -- `suspend`, `resume` and `priority`: calls on a thread, by a handle of it.
-use Rattle.std.specs.Prelude.{ℕ, pos, ◌==◌, if◌then◌else◌, [], ◌∷◌, Option, Some, None}
+use Rattle.std.specs.Prelude.{ℕ, pos, ◌==◌, Bool, true, false, if◌then◌else◌, [], ◌∷◌, Option, Some, None}
 use Rattle.sym_base.specs.declared.error.Error.{Error}
 use Rattle.sym_base.specs.declared.error.Error.TheVariants.{General, Overflow, Died, PermissionDenied}
 use Rattle.sym_base.specs.declared.kind.Kind.TheVariants.{Thread}
@@ -16,6 +16,8 @@ use Rattle.machine.specs.declared.moves.Move.TheVariants.{SetPriority, Nano}
 use Rattle.machine.specs.declared.nano_move.NanoMove.TheVariants.{Suspend, Resume}
 use Rattle.state_rows.specs.declared.thread.Role.{Role}
 use Rattle.state_rows.specs.declared.thread.Role.TheVariants.{Supervisor, Queue, Declared}
+use Rattle.state_rows.specs.declared.thread.Stage.{Stage}
+use Rattle.state_rows.specs.declared.thread.Stage.TheVariants.{Live}
 use Rattle.state_rows.specs.declared.thread.ThreadRow.{ThreadRow}
 use Rattle.machine.specs.declared.state.State.{State}
 use Rattle.machine.specs.Rows.{thread_of}
@@ -28,10 +30,19 @@ refusal_of_role Supervisor = Some PermissionDenied
 refusal_of_role (Queue queue) = Some PermissionDenied
 refusal_of_role (Declared k) = None
 
+-- whether a thread is live
+abbrev pub is_live : Stage → Bool
+is_live Live = true
+is_live _ = false
+
 -- why a call on a thread is refused: permission is denied, or the thread died
+abbrev pub unless_live : Stage → Option Error → Option Error
+unless_live stage (Some error) = Some error
+unless_live stage None = if is_live stage then None else Some Died
+
 abbrev pub refusal_of : Option ThreadRow → Option Error
 refusal_of None = Some Died
-refusal_of (Some row) = refusal_of_role row.role
+refusal_of (Some row) = unless_live row.stage (refusal_of_role row.role)
 
 -- one suspension more, of which there are at most 127
 abbrev pub suspend_move : State → ObjNo → Option Move

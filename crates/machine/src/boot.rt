@@ -4,7 +4,7 @@ ghost use Rattle.script_types.specs.Shape.{IsShaped};
 ghost use Rattle.sym_base.specs.declared.limits.TheConstants.Limits.{DEVICES, OBJECTS};
 ghost use Rattle.state_rows.specs.RequestChanges.{new_rows as request_rows};
 ghost use Rattle.state_rows.specs.LockChanges.{new_rows as lock_rows};
-ghost use Rattle.machine.specs.Boot.{boot_object, born_process, new_thread, born_thread, born_queue, born_queues, is_of, has_any, born_threads, born_supervisor, born_kernel, born, ready_from, held_count, nano_of, memory_of, boot_of, boot};
+ghost use Rattle.machine.specs.Boot.{boot_object, born_process, new_thread, born_thread, born_queue, born_queues, is_of, born_threads, born_supervisor, born_kernel, born, ready_from, held_count, nano_of, memory_of, boot_of, boot};
 ghost use Rattle.state_rows.specs.HandleSlots.{fresh_slot};
 ghost use Rattle.state_rows.specs.declared.thread.Role.TheVariants as role;
 
@@ -74,7 +74,7 @@ fn born_thread(process: ObjNo, number: u8, declared: &ThreadDecl) -> Born
     Born {
         object: boot_object(Kind::Thread, declared.name),
         thread: Some(new_thread(process, Role::Declared(number), declared.priority)),
-        works: !declared.instrs.is_empty() && !declared.held,
+        works: !declared.held,
         held: declared.held,
     }
 }
@@ -214,7 +214,7 @@ fn no_duties(alloc: Global, all: &[Born]) -> Result<Items<Items<Owed>>, NoMemory
     Ok(Items::new(duties))
 }
 
-/// The threads that have an instruction and aren't held are ready, in order of number.
+/// The threads that are declared and aren't held are ready, in order of number.
 fn ready_from(alloc: Global, all: &[Born]) -> Result<Items<ThreadNo>, NoMemory>
     requires { length all.now ≤ 65536 }
     ensures { IfOk result (λ ready. ready ≡ ready_from 0 all.now) }

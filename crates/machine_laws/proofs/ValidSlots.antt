@@ -1,11 +1,11 @@
--- Each slot of a valid script may be given to a machine, and there are few.
+-- Each slot of a well-formed script may be given to a machine, and there are few.
 use Rattle.std.proofs.Common.{◌≡◌, ◌≤◌, ℕ, zero, suc, true, List, [], ◌∷◌, length, get_or}
 use Rattle.std.specs.List.{list_all}
 use Rattle.sym_base.specs.declared.limits.TheConstants.Limits.{SLOTS}
 use Rattle.script_types.proofs.LimitLaws.{both}
-use Rattle.script_types.proofs.ShapeLaws.{valid_is_shaped}
+use Rattle.script_types.proofs.ShapeLaws.{formed_is_shaped}
 use Rattle.script_types.specs.Resolves.{slot_resolves}
-use Rattle.script_types.specs.Source.{IsValid}
+use Rattle.script_types.specs.Source.{IsWellFormed}
 use Rattle.script_types.specs.declared.script.Script.{Script}
 use Rattle.script_types.specs.declared.script.Slot.{Slot}
 use Rattle.script_types.specs.declared.script.Slot.TheVariants as slot
@@ -22,8 +22,8 @@ declared_at script (s ∷ rest) zero all = declared_by script s (both (slot_reso
 declared_at script (s ∷ rest) (suc i) all = declared_at script rest i (both (slot_resolves script s) (list_all (slot_resolves script) rest) all).1
 
 -- the slot at any place, where `go` stands for what is past the end
-pub valid_slot_is_declared : (script : Script) (i : ℕ) → IsValid script → IsDeclared script (get_or script.slots i slot.Go)
-valid_slot_is_declared script i valid = declared_at script script.slots i (valid_is_shaped script valid).names.slots
+pub valid_slot_is_declared : (script : Script) (i : ℕ) → IsWellFormed script → IsDeclared script (get_or script.slots i slot.Go)
+valid_slot_is_declared script i valid = declared_at script script.slots i (formed_is_shaped script valid).names.slots
 
-pub valid_slots_few : (script : Script) → IsValid script → length script.slots ≤ SLOTS
-valid_slots_few script valid = (valid_is_shaped script valid).slots
+pub valid_slots_few : (script : Script) → IsWellFormed script → length script.slots ≤ SLOTS
+valid_slots_few script valid = (formed_is_shaped script valid).slots

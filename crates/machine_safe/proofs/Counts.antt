@@ -3,7 +3,7 @@ use Rattle.std.proofs.Common.{◌≡◌, inl, inr, ◌<◌, ◌≤◌, List, [],
 use Rattle.std.proofs.lemmas.Bool.{cases_lt}
 use Rattle.sym_base.specs.declared.number.ObjNo.{ObjNo}
 use Rattle.script_types.specs.declared.script.Script.{Script}
-use Rattle.script_types.specs.Source.{IsValid}
+use Rattle.script_types.specs.Source.{IsWellFormed}
 use Rattle.entry_log.specs.declared.entry.Entry.{Entry}
 use Rattle.machine.specs.declared.state.State.{State}
 use Rattle.machine.specs.Boot.{boot}
@@ -60,8 +60,8 @@ none_to_open script first later o front rest lives zero = elim (cases_lt 0 (find
       no_find_to_open first later o (run-closed script T later o rest dead)
 ]
 
--- In a legal history of a valid script the finds that open an object later never turn a count of 0 into another number.
-pub count_after-zero : (script : Script) (first later : List Entry) (o : ObjNo) → IsValid script → IsLegal script (first ++ later) → count_of (after script first) o ≡ 0 → count_after script first later o ≡ 0
+-- In a legal history of a well-formed script the finds that open an object later never turn a count of 0 into another number.
+pub count_after-zero : (script : Script) (first later : List Entry) (o : ObjNo) → IsWellFormed script → IsLegal script (first ++ later) → count_of (after script first) o ≡ 0 → count_after script first later o ≡ 0
 count_after-zero script first later o valid legal zero =
     let run = legal_run script (first ++ later) valid legal in
     let front = run-front script (boot script) first later run in
@@ -69,12 +69,12 @@ count_after-zero script first later o valid legal zero =
     let none = none_to_open script first later o front rest (well_formed-after script first valid).rows.lives zero in
     let is = count_after-is script first later o front in omega arith
 
-pub count_zero-after : (script : Script) (first later : List Entry) (o : ObjNo) → IsValid script → IsLegal script (first ++ later) → count_after script first later o ≡ 0 → count_of (after script first) o ≡ 0
+pub count_zero-after : (script : Script) (first later : List Entry) (o : ObjNo) → IsWellFormed script → IsLegal script (first ++ later) → count_after script first later o ≡ 0 → count_of (after script first) o ≡ 0
 count_zero-after script first later o valid legal zero =
     let front = run-front script (boot script) first later (legal_run script (first ++ later) valid legal) in
     let is = count_after-is script first later o front in omega arith
 
-pub tells_zero : (script : Script) (history : List Entry) → IsValid script → IsLegal script history → TellsZero script history
+pub tells_zero : (script : Script) (history : List Entry) → IsWellFormed script → IsLegal script history → TellsZero script history
 tells_zero script history valid legal = record {
   told = λ first later o is zero. count_after-zero script first later o valid (subst (IsLegal script) is legal) zero;
   counted = λ first later o is zero. count_zero-after script first later o valid (subst (IsLegal script) is legal) zero;

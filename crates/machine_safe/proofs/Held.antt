@@ -5,8 +5,8 @@ use Rattle.std.proofs.lemmas.Bool.{eqb-true, and_parts, cases_lt}
 use Rattle.sym_base.specs.declared.number.ObjNo.{ObjNo}
 use Rattle.sym_base.specs.declared.number.MsgNo.{MsgNo}
 use Rattle.script_types.specs.declared.script.Script.{Script}
-use Rattle.script_types.specs.Source.{IsValid}
-use Rattle.script_types.proofs.ShapeLaws.{valid_is_shaped}
+use Rattle.script_types.specs.Source.{IsWellFormed}
+use Rattle.script_types.proofs.ShapeLaws.{formed_is_shaped}
 use Rattle.entry_log.specs.declared.effect.Holder.{Holder}
 use Rattle.entry_log.specs.declared.effect.Holder.TheVariants.{InProcess, InThread, Temp, Own, Link, Message, Kernel}
 use Rattle.entry_log.specs.declared.effect.Effect.{Effect}
@@ -38,10 +38,10 @@ run-held script S (e ∷ es) g x h =
 
 -- after each legal history a holder has the references that it had at boot, with those that its effects add and without
 -- those that they take away
-pub held_as_told : (script : Script) (history : List Entry) → IsValid script → IsLegal script history → (g : Holder) (x : ObjNo) → held_in (after script history) g x ≡ held_after_all (held_at_boot script) (effects_of history) g x
+pub held_as_told : (script : Script) (history : List Entry) → IsWellFormed script → IsLegal script history → (g : Holder) (x : ObjNo) → held_in (after script history) g x ≡ held_after_all (held_at_boot script) (effects_of history) g x
 held_as_told script history valid legal g x =
     sym (run-held script (boot script) history g x (legal_run script history valid legal))
-    ∙ after_all-same (held_in (boot script)) (held_at_boot script) (effects_of history) (held-boot script (valid_is_shaped script valid)) g x
+    ∙ after_all-same (held_in (boot script)) (held_at_boot script) (effects_of history) (held-boot script (formed_is_shaped script valid)) g x
 
 same_message : (m n : MsgNo) → m.0 ≡ n.0 → m ≡ n
 same_message m n e = let named : ℕ → MsgNo = λ k. record { 0 = k } in ap named e
@@ -93,7 +93,7 @@ once_at_boot script Kernel x = holds_le (thread_of (boot script) x)
 once_at_boot script _ x = omega arith
 
 -- a holder has one reference to an object at most
-pub held_once : (script : Script) (history : List Entry) → IsValid script → IsLegal script history → (g : Holder) (x : ObjNo) → held_in (after script history) g x ≤ 1
+pub held_once : (script : Script) (history : List Entry) → IsWellFormed script → IsLegal script history → (g : Holder) (x : ObjNo) → held_in (after script history) g x ≤ 1
 held_once script history valid legal g x =
     let told = held_as_told script history valid legal g x in
     let few = once_all (held_at_boot script) (effects_of history) (legal_safe script history valid legal).holders (once_at_boot script) g x in omega arith

@@ -1,7 +1,7 @@
--- After each history of a valid script the holder of a fast mutex is ready, and whoever is chosen may act.
+-- After each history of a well-formed script the holder of a fast mutex is ready, and whoever is chosen may act.
 use Rattle.std.proofs.Common.{List}
 use Rattle.script_types.specs.declared.script.Script.{Script}
-use Rattle.script_types.specs.Source.{IsValid}
+use Rattle.script_types.specs.Source.{IsWellFormed}
 use Rattle.entry_log.specs.declared.entry.Entry.{Entry}
 use Rattle.machine.specs.Choice.{chosen}
 use Rattle.machine.specs.History.{after, CanAct}
@@ -10,8 +10,8 @@ use Rattle.machine_laws.proofs.Reached.Histories.{can_act_chosen}
 use Rattle.move_laws.proofs.Readiness.ReadyHolders.{holder_ready}
 use Rattle.machine_safe.specs.ReadyHolders.{AreHoldersReady}
 
-pub holders_ready : (script : Script) (history : List Entry) → IsValid script → AreHoldersReady script history
+pub holders_ready : (script : Script) (history : List Entry) → IsWellFormed script → AreHoldersReady script history
 holders_ready script history valid f u is = holder_ready script (after script history) f u (well_formed-after script history valid).rows is
 
-pub chosen_able : (script : Script) (history : List Entry) → IsValid script → CanAct script (after script history) (chosen (after script history))
+pub chosen_able : (script : Script) (history : List Entry) → IsWellFormed script → CanAct script (after script history) (chosen (after script history))
 chosen_able script history valid = can_act_chosen script (after script history) (well_formed-after script history valid)

@@ -1,11 +1,11 @@
--- Every legal history of a valid script is safe.
+-- Every legal history of a well-formed script is safe.
 use Rattle.std.proofs.Common.{◌≡◌, ◌+◌, ◌<◌, List, [], ◌∷◌, ◌++◌, arith, sym, subst, ◌∙◌}
 use Rattle.std.proofs.lemmas.List.{append_assoc}
 use Rattle.sym_base.specs.declared.number.ObjNo.{ObjNo}
 use Rattle.script_types.specs.declared.script.Script.{Script}
 use Rattle.script_types.specs.Shape.{IsShaped}
-use Rattle.script_types.specs.Source.{IsValid}
-use Rattle.script_types.proofs.ShapeLaws.{valid_is_shaped}
+use Rattle.script_types.specs.Source.{IsWellFormed}
+use Rattle.script_types.proofs.ShapeLaws.{formed_is_shaped}
 use Rattle.entry_log.specs.declared.entry.Entry.{Entry}
 use Rattle.machine.specs.Boot.{boot}
 use Rattle.machine.specs.HeldIn.{held_in}
@@ -92,9 +92,9 @@ run-safe script history shaped run = record {
 }
 
 -- the entries of a legal history are a sound run from boot
-pub legal_run : (script : Script) (history : List Entry) → IsValid script → IsLegal script history → IsSoundRun script (boot script) history
-legal_run script history valid legal = legal_runs script (boot script) 1 history (valid_is_shaped script valid) (rows-boot script valid) legal
+pub legal_run : (script : Script) (history : List Entry) → IsWellFormed script → IsLegal script history → IsSoundRun script (boot script) history
+legal_run script history valid legal = legal_runs script (boot script) 1 history (formed_is_shaped script valid) (rows-boot script valid) legal
 
--- in every legal history of a valid script an object dies exactly where its last reference goes, and nobody opens it afterwards
-pub legal_safe : (script : Script) (history : List Entry) → IsValid script → IsLegal script history → IsSafeReferences script history
-legal_safe script history valid legal = run-safe script history (valid_is_shaped script valid) (legal_run script history valid legal)
+-- in every legal history of a well-formed script an object dies exactly where its last reference goes, and nobody opens it afterwards
+pub legal_safe : (script : Script) (history : List Entry) → IsWellFormed script → IsLegal script history → IsSafeReferences script history
+legal_safe script history valid legal = run-safe script history (formed_is_shaped script valid) (legal_run script history valid legal)

@@ -1,4 +1,5 @@
 pub mod CountAfter
 pub mod Laws
 pub mod ReadyHolders
+pub mod SafeDeaths
 pub mod SafeReferences

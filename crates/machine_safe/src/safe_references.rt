@@ -1,17 +1,17 @@
 //! The law of references over whole histories.
-ghost use Rattle.script_types.specs.Source.{IsValid};
+ghost use Rattle.script_types.specs.Source.{IsWellFormed};
 ghost use Rattle.machine.specs.History.{IsLegal};
 ghost use Rattle.machine_safe.specs.SafeReferences.{IsSafeReferences};
 
 use entry_log::Entry;
 use script_types::Script;
 
-/// In every legal history of a valid script an object dies exactly where its last reference goes, nobody
+/// In every legal history of a well-formed script an object dies exactly where its last reference goes, nobody
 /// opens it afterwards, and its row goes once, after its death. A reference is added only where its holder
 /// doesn't hold the object, and taken away only where it does. This call only states it, and changes
 /// nothing.
 pub fn legal_is_safe(script: &Script, history: &[Entry])
-    requires valid { IsValid script.now }
+    requires valid { IsWellFormed script.now }
     requires legal { IsLegal script.now history.now }
     ensures safe { IsSafeReferences script.now history.now }
 {}

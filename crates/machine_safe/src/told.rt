@@ -1,5 +1,5 @@
 //! What a history tells of the state that it leaves.
-ghost use Rattle.script_types.specs.Source.{IsValid};
+ghost use Rattle.script_types.specs.Source.{IsWellFormed};
 ghost use Rattle.machine.specs.History.{after, IsLegal};
 ghost use Rattle.machine.specs.WellFormed.{IsWellFormed};
 ghost use Rattle.machine_safe.specs.Laws.{HoldersAreTold, HoldersAreUnique, TellsZero};
@@ -7,29 +7,29 @@ ghost use Rattle.machine_safe.specs.Laws.{HoldersAreTold, HoldersAreUnique, Tell
 use entry_log::Entry;
 use script_types::Script;
 
-/// Every history of a valid script leaves a well-formed state: handle tables, threads and duties keep their
+/// Every history of a well-formed script leaves a well-formed state: handle tables, threads and duties keep their
 /// bounds, an object is alive exactly where something refers to it, the sweep of each dead one is owed
 /// once, and the ready list has exactly the threads that are ready, each once. This call only states it, and
 /// changes nothing.
 pub fn state_is_well_formed(script: &Script, history: &[Entry])
-    requires valid { IsValid script.now }
+    requires valid { IsWellFormed script.now }
     ensures formed { IsWellFormed script.now (after script.now history.now) }
 {}
 
-/// After every legal history of a valid script each holder holds what the effects tell, and no
+/// After every legal history of a well-formed script each holder holds what the effects tell, and no
 /// reference twice. This call only states it, and changes nothing.
 pub fn holders_are_told(script: &Script, history: &[Entry])
-    requires valid { IsValid script.now }
+    requires valid { IsWellFormed script.now }
     requires legal { IsLegal script.now history.now }
     ensures told { HoldersAreTold script.now history.now }
     ensures unique { HoldersAreUnique script.now history.now }
 {}
 
-/// Within every legal history of a valid script the count of an object that the history tells is 0
+/// Within every legal history of a well-formed script the count of an object that the history tells is 0
 /// exactly where no reference to the object stands in the state. This call only states it, and changes
 /// nothing.
 pub fn zero_counts_are_told(script: &Script, history: &[Entry])
-    requires valid { IsValid script.now }
+    requires valid { IsWellFormed script.now }
     requires legal { IsLegal script.now history.now }
     ensures zero { TellsZero script.now history.now }
 {}

@@ -8,7 +8,7 @@ ghost use Rattle.state_rows.specs.Nano.{wanted_holder};
 ghost use Rattle.state_rows.specs.NanoChanges.{new_rows};
 ghost use Rattle.ready_list.specs.Ready.{no_threads};
 ghost use Rattle.script_types.specs.Shape.{IsShaped};
-ghost use Rattle.script_types.specs.Source.{IsValid};
+ghost use Rattle.script_types.specs.Source.{IsWellFormed};
 ghost use Rattle.nano.specs.declared.interrupts.InterruptBody.{InterruptBody};
 ghost use Rattle.nano.specs.Choice.{chosen, after_tick, is_listed};
 ghost use Rattle.nano.specs.Interrupts.{interrupts_of, items_at};
@@ -43,9 +43,9 @@ impl Nano {
     /// The tables for a script's threads, of which none is ready, and for its deferred function calls, of which none is
     /// queued. They have a row for each object that stands at boot and for each fast mutex of the script. It takes all
     /// the memory that they ever need.
-    #[tactic(auto, using(script_types::proofs::ShapeLaws::valid_is_shaped))]
+    #[tactic(auto, using(script_types::proofs::ShapeLaws::formed_is_shaped))]
     pub fn new(alloc: Global, script: &Script) -> Result<Nano, NoMemory>
-        requires { IsValid script.now }
+        requires { IsWellFormed script.now }
         ensures ready { IfOk result (λ nano. nano.ready ≡ no_threads BOOT_OBJECTS) }
         ensures sync { IfOk result (λ nano. nano.sync ≡ new_rows (2 + length script.now.processes + length script.now.queues + length script.now.threads) script.now.fast) }
         ensures deferred { IfOk result (λ nano. nano.deferred ≡ calls_of script.now) }

@@ -11,7 +11,7 @@ use entry_log::Step;
 use machine::{Body, DeferredMove, Move, Moves, RequestMove, ThreadRow, Waiting};
 use readings::Reads;
 use script_types::{IrqBody, Op, Script};
-use state_rows::{Request, dfc_named, idfc_named};
+use state_rows::{Request, Stage, dfc_named, idfc_named};
 use sym_base::{Kind, ObjNo, ThreadNo};
 
 /// An immediate deferred function call joins the immediate queue.
@@ -47,14 +47,16 @@ fn queue_call<R: Reads>(moves: &mut Moves, reads: &R, dfc: Option<u8>)
     }
 }
 
-/// A signal of the fast semaphore of the thread of a row. Nothing, where it has none.
+/// A signal of the fast semaphore of the thread of a row. Nothing, where it isn't live.
 fn signal_row(moves: &mut Moves, other: ThreadNo, row: Option<ThreadRow>)
     ensures moves { moves.new ≡ signal_row other row }
     ensures few { length moves.new ≤ 1 }
 {
     moves.clear();
     if let Some(row) = row {
-        moves.push(signal_move(other, row.waiting));
+        if row.stage == Stage::Live {
+            moves.push(signal_move(other, row.waiting));
+        }
     }
 }
 
@@ -81,7 +83,7 @@ fn ends_wait<R: Reads>(reads: &R, thread: ThreadNo, status: u8, waiting: Waiting
 }
 
 /// Whether the wait of the thread of this row ends then.
-fn is_woken<R: Reads>(reads: &R, thread: ThreadNo, status: u8, row: Option<ThreadRow>) -> bool
+pub fn is_woken<R: Reads>(reads: &R, thread: ThreadNo, status: u8, row: Option<ThreadRow>) -> bool
     ensures { end_wait (R.state reads.now) thread status row ≡ (if result then Wake thread ∷ [] else []) }
 {
     match row {

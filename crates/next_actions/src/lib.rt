@@ -5,6 +5,7 @@
 
 mod bodies;
 mod immediate;
+mod reaping;
 mod tasks;
 
 pub use bodies::{leave_queue, op_moves, ops_of, step_of_body};

@@ -6,16 +6,20 @@ ghost use Rattle.next_actions.specs.Planned.{planned};
 ghost use Rattle.next_actions.specs.NextActions.{IsStepOf, decided_by};
 ghost use Rattle.machine.specs.Bodies.{decision_by};
 ghost use Rattle.machine.specs.Rows.{first_owed, thread_of};
-ghost use Rattle.machine.specs.Task.{end_task, step_or_end, next_call, run_or, by_stage, pay_or, task_of_row, task_of, is_able};
+ghost use Rattle.machine.specs.Task.{task_of_row, task_of, is_able};
 ghost use Rattle.machine.specs.Steps.{pay_step, pay, decision_of_row, decision_of};
 
-use decisions::{decide_step, flush, nothing, return_of};
+use crate::reaping::{bury, clean, first_holding, give_up};
+use decisions::{decide_step, end, flush, nothing, return_of};
 use entry_log::Step;
 use machine::{Body, Decision, Move, Owed, ThreadRow};
-use readings::{Reads, instruction, is_able, is_returning, next_call};
+use readings::{Reads, instruction, is_able, is_returning, next_call, serves_queue};
 use script_types::{Instr, Script};
 use state_rows::Stage;
 use sym_base::ThreadNo;
+
+/// The number of the first call that is a burial.
+const FIRST_BURIAL: u8 = 64;
 
 /// What an able thread does next.
 pub enum NextAction<'a> {
@@ -47,8 +51,19 @@ fn pay(decision: &mut Decision, what: Owed)
     decision.answer = None;
 }
 
-/// What a thread does at its list's end: it gives up what protects it, if it is protected.
-fn end<R: Reads>(
+/// What a thread does at its list's end: it gives up what protects it, if it is protected, and else it ends.
+fn end_of_list<R: Reads>(decision: &mut Decision, reads: &R, thread: ThreadNo)
+    requires { R.is_readable reads.now }
+{
+    if reads.is_protected(thread) {
+        flush(decision, reads, thread);
+    } else {
+        end(decision, thread);
+    }
+}
+
+/// What a doomed thread does: it gives up the first of what it has, and at last it is cleaned.
+fn die<R: Reads>(
     decision: &mut Decision,
     script: &Script,
     reads: &R,
@@ -56,17 +71,32 @@ fn end<R: Reads>(
     row: &ThreadRow,
 )
     requires { R.is_readable reads.now }
-    ensures { let S = R.state reads.now in decision.new ≡ decision_of_row script.now S thread (Some row.now) (end_task (is_protected S.nano thread)) }
 {
-    if reads.is_protected(thread) {
-        flush(decision, reads, thread);
-    } else {
-        nothing(decision);
+    match first_holding(reads, thread, row) {
+        Some(what) => give_up(decision, reads, thread, row, what),
+        None => clean(decision, script, reads, thread, row),
     }
 }
 
-/// What a thread does for which no call is queued: its instruction, or what is left at its list's end.
-fn step_or_end<'a, R: Reads>(
+/// What a thread does that serves a queue: the next call of it runs, or buries a thread.
+fn serve<'a, R: Reads>(
+    decision: &mut Decision,
+    script: &Script,
+    reads: &R,
+    row: &ThreadRow,
+) -> NextAction<'a>
+    requires { R.is_readable reads.now }
+{
+    match next_call(reads, row.role) {
+        Some(dfc) if dfc < FIRST_BURIAL => return NextAction::Runs(Body::Deferred(dfc)),
+        Some(dfc) => bury(decision, script, reads, dfc),
+        None => nothing(decision),
+    }
+    NextAction::Decided
+}
+
+/// What a live thread does that owes nothing: a call of its queue, its instruction, or what is left at its list's end.
+fn live<'a, R: Reads>(
     decision: &mut Decision,
     script: &Script,
     reads: &R,
@@ -75,19 +105,20 @@ fn step_or_end<'a, R: Reads>(
     instr: Option<&'a Instr>,
 ) -> NextAction<'a>
     requires { R.is_readable reads.now }
-    ensures decided { let S = R.state reads.now in decided_by script.now thread S (Some row.now) decision.new result ≡ decision_of_row script.now S thread (Some row.now) (step_or_end (is_protected S.nano thread) (option_copied instr.entry)) }
-    ensures step { let S = R.state reads.now in IsStepOf (step_or_end (is_protected S.nano thread) (option_copied instr.entry)) result }
 {
+    if serves_queue(row.role) {
+        return serve(decision, script, reads, row);
+    }
     match instr {
         Some(instr) => NextAction::Steps(instr),
         None => {
-            end(decision, script, reads, thread, row);
+            end_of_list(decision, reads, thread);
             NextAction::Decided
         }
     }
 }
 
-/// What a thread does that owes nothing: a call of its queue comes first.
+/// What a thread does that owes nothing, by its stage.
 fn run_or_step<'a, R: Reads>(
     decision: &mut Decision,
     script: &Script,
@@ -97,35 +128,13 @@ fn run_or_step<'a, R: Reads>(
     instr: Option<&'a Instr>,
 ) -> NextAction<'a>
     requires { R.is_readable reads.now }
-    ensures decided { let S = R.state reads.now in decided_by script.now thread S (Some row.now) decision.new result ≡ decision_of_row script.now S thread (Some row.now) (run_or (next_call S.deferred row.now.role) (step_or_end (is_protected S.nano thread) (option_copied instr.entry))) }
-    ensures step { let S = R.state reads.now in IsStepOf (run_or (next_call S.deferred row.now.role) (step_or_end (is_protected S.nano thread) (option_copied instr.entry))) result }
-{
-    if let Some(dfc) = next_call(reads, row.role) {
-        return NextAction::Runs(Body::Deferred(dfc));
-    }
-    step_or_end(decision, script, reads, thread, row, instr)
-}
-
-/// What a thread does that owes nothing: where it is live, it goes on.
-fn live_or_nothing<'a, R: Reads>(
-    decision: &mut Decision,
-    script: &Script,
-    reads: &R,
-    thread: ThreadNo,
-    row: &ThreadRow,
-    instr: Option<&'a Instr>,
-) -> NextAction<'a>
-    requires { R.is_readable reads.now }
-    ensures decided { let S = R.state reads.now in decided_by script.now thread S (Some row.now) decision.new result ≡ decision_of_row script.now S thread (Some row.now) (by_stage row.now.stage (run_or (next_call S.deferred row.now.role) (step_or_end (is_protected S.nano thread) (option_copied instr.entry)))) }
-    ensures step { let S = R.state reads.now in IsStepOf (by_stage row.now.stage (run_or (next_call S.deferred row.now.role) (step_or_end (is_protected S.nano thread) (option_copied instr.entry)))) result }
 {
     match row.stage {
-        Stage::Live => run_or_step(decision, script, reads, thread, row, instr),
-        Stage::Doomed | Stage::Cleaned | Stage::Buried => {
-            nothing(decision);
-            NextAction::Decided
-        }
+        Stage::Live => return live(decision, script, reads, thread, row, instr),
+        Stage::Doomed => die(decision, script, reads, thread, row),
+        Stage::Cleaned | Stage::Buried => nothing(decision),
     }
+    NextAction::Decided
 }
 
 /// What a thread does where it isn't at a return: the oldest of what it owes comes first.
@@ -138,14 +147,12 @@ fn pay_or_step<'a, R: Reads>(
     instr: Option<&'a Instr>,
 ) -> NextAction<'a>
     requires { R.is_readable reads.now }
-    ensures decided { let S = R.state reads.now in decided_by script.now thread S (Some row.now) decision.new result ≡ decision_of_row script.now S thread (Some row.now) (pay_or (first_owed S thread) (by_stage row.now.stage (run_or (next_call S.deferred row.now.role) (step_or_end (is_protected S.nano thread) (option_copied instr.entry))))) }
-    ensures step { let S = R.state reads.now in IsStepOf (pay_or (first_owed S thread) (by_stage row.now.stage (run_or (next_call S.deferred row.now.role) (step_or_end (is_protected S.nano thread) (option_copied instr.entry))))) result }
 {
     if let Some(what) = reads.first_owed(thread) {
         pay(decision, what);
         return NextAction::Decided;
     }
-    live_or_nothing(decision, script, reads, thread, row, instr)
+    run_or_step(decision, script, reads, thread, row, instr)
 }
 
 /// What the thread of this row does next: its return, where it is at one, comes before all else.
@@ -157,8 +164,8 @@ fn action_of_row<'a, R: Reads>(
     row: &ThreadRow,
 ) -> NextAction<'a>
     requires { R.is_readable reads.now }
-    ensures decided { let S = R.state reads.now in decided_by script.now thread S (Some row.now) decision.new result ≡ decision_of_row script.now S thread (Some row.now) (task_of_row script.now S.deferred (is_protected S.nano thread) (first_owed S thread) (Some row.now)) }
-    ensures step { let S = R.state reads.now in IsStepOf (task_of_row script.now S.deferred (is_protected S.nano thread) (first_owed S thread) (Some row.now)) result }
+    ensures decided { let S = R.state reads.now in decided_by script.now thread S (Some row.now) decision.new result ≡ decision_of_row script.now S thread (Some row.now) (task_of_row script.now S thread (Some row.now)) }
+    ensures step { let S = R.state reads.now in IsStepOf (task_of_row script.now S thread (Some row.now)) result }
 {
     let instr = instruction(script, row);
     match instr {

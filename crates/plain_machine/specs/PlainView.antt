@@ -1,7 +1,7 @@
 -- What a contract sees of the plain machine, and what holds of its parts.
 use Rattle.std.specs.Prelude.{◌≡◌, List}
 use Rattle.script_types.specs.declared.script.Script.{Script}
-use Rattle.script_types.specs.Source.{IsValid}
+use Rattle.script_types.specs.Source.{IsWellFormed}
 use Rattle.entry_log.specs.declared.entry.Entry.{Entry}
 use Rattle.machine.specs.declared.state.State.{State}
 use Rattle.machine.specs.History.{after, IsLegal}
@@ -13,6 +13,6 @@ pub record PlainView : Type 0 where
 
 -- the script is valid, the history is one of it, and the state is the one after it
 pub record IsPlain (script : Script) (history : List Entry) (S : State) : Type 0 where
-  pub valid : IsValid script
+  pub valid : IsWellFormed script
   pub legal : IsLegal script history
   pub state : S ≡ after script history

@@ -1,6 +1,6 @@
 //! The plain machine: the definitions, run over plain lists.
 ghost use Rattle.std.specs.Prelude.{◌≡◌, ◌+◌, ◌<◌, ◌++◌, [], ◌∷◌, length, IfOk, OnOk, OnErr};
-ghost use Rattle.script_types.specs.Source.{IsValid};
+ghost use Rattle.script_types.specs.Source.{IsWellFormed};
 ghost use Rattle.machine.specs.FinalRows.{rows_from, IsNextRow};
 ghost use Rattle.machine.specs.History.{after, entry_by, IsLegal};
 ghost use Rattle.machine.specs.Run.{slot_actor};
@@ -50,7 +50,7 @@ fn slot_actor(state: &State, slot: Slot) -> Actor
 impl Plain {
     /// The machine at boot.
     pub fn boot(alloc: Global, script: Script) -> Result<Plain, NoMemory>
-        requires { IsValid script }
+        requires { IsWellFormed script }
         ensures { IfOk result (λ plain. plain ≡ record { script = script; history = [] }) }
     {
         let state = state_at_boot(alloc, &script)?;

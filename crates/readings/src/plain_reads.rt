@@ -5,7 +5,9 @@ ghost use Rattle.machine.specs.Find.{findable, find_object};
 ghost use Rattle.state_rows.specs.ObjectRows.{has_name, named, is_taken};
 
 use crate::Reads;
+use crate::burials::buried_by;
 use crate::plain_calls::{is_queued, next_immediate, next_of, queue_of};
+use crate::plain_holdings::{first_handle, first_held, has_one_left};
 use crate::plain_locks::{best_waiter, byte_of, lock_count};
 use crate::plain_requests::{request_at, request_signals, value_of};
 use machine::{
@@ -13,8 +15,10 @@ use machine::{
     is_protected, mutex_holder, object_of, process_handle, row_of, signal_count, suspend_count,
     table_of, thread_handle, thread_in, wanted_mutex,
 };
+use script_types::Script;
 use state_rows::{
-    Item, ObjectRow, Owner, Request, free_index, has_name, is_dead_row, is_local, is_session, look,
+    Held, Item, ObjectRow, Owner, Request, free_index, has_name, is_dead_row, is_local, is_session,
+    look,
 };
 use sym_base::{Kind, Name, ObjNo, ThreadNo};
 
@@ -184,6 +188,22 @@ impl Reads for State {
 
     fn best_waiter(&self, object: ObjNo) -> Option<ThreadNo> {
         best_waiter(self, object)
+    }
+
+    fn first_held(&self, thread: ThreadNo) -> Option<Held> {
+        first_held(self, thread)
+    }
+
+    fn first_handle(&self, owner: ObjNo) -> Option<(u8, ObjNo)> {
+        first_handle(self, owner)
+    }
+
+    fn has_one_left(&self, process: ObjNo) -> bool {
+        has_one_left(self, process)
+    }
+
+    fn buried_by(&self, script: &Script, dfc: u8) -> Option<ThreadNo> {
+        buried_by(self, script, dfc)
     }
 
     fn byte(&self, process: ObjNo, at: u16) -> u8 {

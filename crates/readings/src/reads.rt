@@ -1,7 +1,9 @@
 //! What decisions read of a state. The plain machine keeps it as lists and the kernel as tables of its own,
 //! and both decide by the same functions.
-ghost use Rattle.std.specs.Prelude.{◌≡◌, ◌<◌, ◌≤◌, length, IfSome, is_some, option_copied};
+ghost use Rattle.std.specs.Prelude.{◌≡◌, ◌<◌, ◌≤◌, length, IfSome, is_some, option_copied, slice_get};
 ghost use Rattle.machine.specs.Find.{find_object};
+ghost use Rattle.machine.specs.Holdings.{first_used, has_one_left, held_of};
+ghost use Rattle.machine.specs.Reaping.{buried_by};
 ghost use Rattle.state_rows.specs.HandleSlots.{look};
 ghost use Rattle.machine.specs.Choice.{priority_of};
 ghost use Rattle.machine.specs.Handles.{process_handle, thread_handle};
@@ -17,7 +19,8 @@ ghost use Rattle.state_rows.specs.ObjectRows.{is_taken};
 ghost use Rattle.state_rows.specs.Requests.{request_at, value_of, signal_count as request_signals};
 
 use machine::{NewHandle, Owed, ThreadRow};
-use state_rows::{Item, ObjectRow, Owner, Request};
+use script_types::Script;
+use state_rows::{Held, Item, ObjectRow, Owner, Request};
 use sym_base::{Kind, Name, ObjNo, ThreadNo};
 
 /// A state that can be read. A number without a row reads as none, and a count without one as 0.
@@ -154,6 +157,26 @@ pub trait Reads {
     fn best_waiter(&self, object: ObjNo) -> Option<ThreadNo>
         requires { is_readable self.now }
         ensures { result ≡ best_waiter (priority_of (state self.now)) (state self.now).locks object };
+
+    /// The first of what a thread has beside its duties and its handles: of its mutexes, of what its call uses, and of the
+    /// logons on it, in this order.
+    fn first_held(&self, thread: ThreadNo) -> Option<Held>
+        ensures { result ≡ slice_get (held_of (state self.now) thread) 0 };
+
+    /// The first handle, by index, of the table of a process or a thread, and its object.
+    fn first_handle(&self, owner: ObjNo) -> Option<(u8, ObjNo)>
+        requires { is_readable self.now }
+        ensures { result ≡ first_used 0 (table_of (state self.now) owner) };
+
+    /// Whether just one thread of a process isn't cleaned yet.
+    fn has_one_left(&self, process: ObjNo) -> bool
+        requires { is_readable self.now }
+        ensures { result ≡ has_one_left (state self.now) process };
+
+    /// The cleaned thread whose burial a call is.
+    fn buried_by(&self, script: &Script, dfc: u8) -> Option<ThreadNo>
+        requires { is_readable self.now }
+        ensures { result ≡ buried_by script.now (state self.now) dfc };
 
     /// A byte of a process's memory, 0 past its end.
     fn byte(&self, process: ObjNo, at: u16) -> u8

@@ -1,7 +1,7 @@
 //! What a thread does next.
 ghost use Rattle.std.specs.Prelude.{◌≡◌, Some, is_some, option_copied};
 ghost use Rattle.machine.specs.Rows.{first_owed};
-ghost use Rattle.machine.specs.Task.{instruction, is_returning, served_queue, next_call, run_or, step_or_end, is_live, task_of_row, is_wait, is_stopped, is_ready, is_able, declared_of};
+ghost use Rattle.machine.specs.Task.{instruction, is_returning, served_queue, next_call, task_of_row, is_wait, is_stopped, is_ready, is_able, declared_of};
 ghost use Rattle.state_rows.specs.Nano.{is_protected, wanted_holder};
 
 use crate::Reads;
@@ -56,29 +56,30 @@ pub fn next_call<R: Reads>(reads: &R, role: Role) -> Option<u8>
     reads.next_call(queue)
 }
 
-/// Whether a thread has something to do of its own: an instruction, a call of its queue, or what protects it.
-fn has_own<R: Reads>(script: &Script, reads: &R, thread: ThreadNo, row: &ThreadRow) -> bool
-    ensures { let S = R.state reads.now in result ≡ is_some (run_or (next_call S.deferred row.now.role) (step_or_end (is_protected S.nano thread) (instruction script.now row.now))) }
+/// Whether a thread of this role serves a queue of deferred function calls.
+pub fn serves_queue(role: Role) -> bool
+    ensures { result ≡ is_some (served_queue role) }
 {
-    instruction(script, row).is_some()
-        || next_call(reads, row.role).is_some()
-        || reads.is_protected(thread)
+    served_queue(role).is_some()
 }
 
-/// Whether a thread is live.
-pub fn is_live(stage: Stage) -> bool
-    ensures { result ≡ is_live stage }
-{
-    matches!(stage, Stage::Live)
+/// Whether the thread of this row is in the middle of its life, or of its death, with something to do there: who serves a queue has a
+/// call of it, and any other thread has at least its end to come.
+fn is_active<R: Reads>(reads: &R, row: &ThreadRow) -> bool {
+    match row.stage {
+        Stage::Live => !serves_queue(row.role) || next_call(reads, row.role).is_some(),
+        Stage::Doomed => true,
+        Stage::Cleaned | Stage::Buried => false,
+    }
 }
 
-/// Whether the thread of this row has something to do: a return, something that it owes, or, where it is live, something of its own.
+/// Whether the thread of this row has something to do: its return, something that it owes, or what its stage leaves to do.
 fn has_task<R: Reads>(script: &Script, reads: &R, thread: ThreadNo, row: &ThreadRow) -> bool
-    ensures { let S = R.state reads.now in result ≡ is_some (task_of_row script.now S.deferred (is_protected S.nano thread) (first_owed S thread) (Some row.now)) }
+    ensures { let S = R.state reads.now in result ≡ is_some (task_of_row script.now S thread (Some row.now)) }
 {
-    reads.first_owed(thread).is_some()
+    is_active(reads, row)
+        || reads.first_owed(thread).is_some()
         || is_returning(row.part) && instruction(script, row).is_some()
-        || is_live(row.stage) && has_own(script, reads, thread, row)
 }
 
 /// Whether a thread waits for something.

@@ -9,10 +9,11 @@ use Rattle.script_print.proofs.NamesAgain.{twos}
 use Rattle.script_print.proofs.PlainLines.{line_printed}
 use Rattle.script_print.proofs.ScheduleAgain.{Stand, AreRun}
 use Rattle.script_print.specs.Spelled.{IsSpelled}
-use Rattle.script_types.specs.BuiltLine.{is_built_line}
+use Rattle.script_grammar.specs.BuiltLine.{is_built_line}
 use Rattle.script_types.specs.Context.{start, after, after_all, is_ended}
 use Rattle.script_types.specs.Names.{Declared, first_two}
-use Rattle.script_types.specs.Source.{IsClean, IsAccepted}
+use Rattle.script_grammar.specs.Accepted.{IsAccepted}
+use Rattle.script_types.specs.Source.{IsClean}
 use Rattle.script_types.specs.SourceText.{text_lines, told_words, words_of}
 use Rattle.script_types.specs.SourceWords.{source_words}
 use Rattle.script_types.specs.Stands.{AllStand, is_within}

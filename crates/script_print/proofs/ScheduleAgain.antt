@@ -7,7 +7,7 @@ use Rattle.std.specs.Prelude.{IsTrue, ⊤, ◌||◌, nat_le, decimal}
 use Rattle.script_print.specs.CanonicalText.{with_slot, slots_lines, schedule_lines}
 use Rattle.script_print.proofs.DeclaredAgain.{tells, said}
 use Rattle.script_print.proofs.Front.{so_far}
-use Rattle.script_types.specs.BuiltLine.{is_built_line}
+use Rattle.script_grammar.specs.BuiltLine.{is_built_line}
 use Rattle.script_types.specs.Context.{after, after_all, is_ended, is_in_order}
 use Rattle.script_types.specs.Names.{Declared, is_irq_declared}
 use Rattle.script_types.specs.Ranges.{is_source_line}

@@ -3,7 +3,8 @@ ghost use Rattle.std.specs.List.{flat_map};
 ghost use Rattle.std.specs.Prelude.{◌≡◌, ℕ, List, [], ◌∷◌, ◌++◌, map, IfOk, OnOk};
 ghost use Rattle.script_print.specs.CanonicalText.{source_text, source_texts, setting_lines, thread_line, thread_lines, is_same, threads_of, processes_lines, declared_lines, canonical_lines, canonical_text};
 ghost use Rattle.script_print.specs.Spelled.{IsSpelled};
-ghost use Rattle.script_types.specs.Source.{IsAccepted, IsValid, IsWellFormed};
+ghost use Rattle.script_grammar.specs.Accepted.{IsAccepted, IsValid};
+ghost use Rattle.script_types.specs.Source.{IsWellFormed};
 ghost use Rattle.script_types.specs.declared.source_line.SourceLine.TheVariants as line;
 
 use crate::print_bodies::{put_dfcs, put_idfcs, put_irqs, put_queues};

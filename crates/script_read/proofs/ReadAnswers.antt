@@ -5,7 +5,7 @@ use Rattle.script_read.specs.LineByLine.{read_text}
 use Rattle.script_read.specs.declared.reason.Reason.{Reason}
 use Rattle.script_read.proofs.FirstBadLaws.{read_text_ok, read_text_bad, one_first_bad}
 use Rattle.script_read.proofs.SourceLaws.{read_is_accepted, accepted_not_bad, one_accepted}
-use Rattle.script_types.specs.Source.{IsAccepted}
+use Rattle.script_grammar.specs.Accepted.{IsAccepted}
 use Rattle.script_types.specs.declared.context.Context.{Context}
 use Rattle.script_types.specs.declared.script.Script.{Script}
 

@@ -15,12 +15,13 @@ use Rattle.script_read.specs.declared.reason.Reason.TheVariants as reason
 use Rattle.script_read.proofs.FirstBadLaws.{find_is, read_or_bad, read_not_bad, one_script_read}
 use Rattle.script_words.proofs.FormsAgain.{kind_at, takes, line_again, keyword_again}
 use Rattle.script_words.proofs.Steps.{by_test, same_bytes}
-use Rattle.script_types.specs.BuiltLine.{is_built_line}
+use Rattle.script_grammar.specs.BuiltLine.{is_built_line}
 use Rattle.script_types.specs.Context.{start, after, after_all, may_stand, rank_or, is_in_order, is_ended, kind_of}
 use Rattle.script_types.specs.Forms.{form_of}
 use Rattle.script_types.specs.declared.context.Context.{Context}
 use Rattle.script_types.specs.Names.{Declared, file_declares, is_known, is_new}
-use Rattle.script_types.specs.Source.{IsClean, IsAccepted}
+use Rattle.script_grammar.specs.Accepted.{IsAccepted}
+use Rattle.script_types.specs.Source.{IsClean}
 use Rattle.script_types.specs.SourceText.{text_lines, words_of, told_words, is_skipped, is_printed, is_short}
 use Rattle.script_types.specs.SourceWords.{source_words}
 use Rattle.script_types.specs.Stands.{Stands, AllStand, is_right_kind, is_within}

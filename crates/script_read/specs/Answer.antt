@@ -4,7 +4,7 @@ use Rattle.script_read.specs.FirstBad.{IsFirstBad}
 use Rattle.script_read.specs.declared.read.ReadScript.{ReadScript}
 use Rattle.script_read.specs.declared.read.ReadScript.TheVariants as answer
 use Rattle.script_read.specs.declared.reason.Reason.{Reason}
-use Rattle.script_types.specs.Source.{IsAccepted}
+use Rattle.script_grammar.specs.Accepted.{IsAccepted}
 use Rattle.script_types.specs.declared.script.Script.{Script}
 
 -- The answer is true of the bytes: a script that they are accepted as, or their first bad line and its reason.

@@ -11,7 +11,7 @@ use Rattle.script_read.specs.declared.judge.Judged.TheVariants as judged
 use Rattle.script_types.specs.declared.keyword.Keyword.{Keyword}
 use Rattle.script_read.specs.declared.reason.Reason.{Reason}
 use Rattle.script_read.specs.declared.reason.Reason.TheVariants as reason
-use Rattle.script_types.specs.BuiltLine.{is_built_line}
+use Rattle.script_grammar.specs.BuiltLine.{is_built_line}
 use Rattle.script_types.specs.Context.{after, is_in_order}
 use Rattle.script_types.specs.Names.{Declared, is_known, is_new}
 use Rattle.script_types.specs.Stands.{is_right_kind, is_within}

@@ -7,7 +7,7 @@ use Rattle.script_words.specs.LineSigns.{word_at, is_counted, have_forms, are_in
 use Rattle.script_types.specs.declared.keyword.Keyword.{Keyword}
 use Rattle.script_read.specs.declared.reason.Reason.{Reason}
 use Rattle.script_read.specs.declared.reason.Reason.TheVariants as reason
-use Rattle.script_types.specs.BuiltLine.{is_built_line}
+use Rattle.script_grammar.specs.BuiltLine.{is_built_line}
 use Rattle.script_types.specs.Context.{after, is_in_order, rank_or}
 use Rattle.script_types.specs.declared.context.Context.{Context}
 use Rattle.script_types.specs.Names.{Declared, is_known, is_new}

@@ -8,12 +8,12 @@ ghost use Rattle.script_types.specs.SourceText.{text_lines};
 ghost use Rattle.script_types.specs.Stands.{all_instrs, is_within};
 
 use crate::Reason;
-use crate::built::is_built_line;
 use crate::declarations::{Declarations, FileNames};
 use crate::known::{is_known, names_something};
 use crate::limits::is_within;
 use crate::order::{is_in_order, is_scheduled};
 use crate::standing::{is_new, is_right_kind};
+use script_grammar::is_built_line;
 use script_types::{Context, SourceLine};
 use script_words::{
     Fault, Keyword, is_counted, is_printed, is_short, is_skipped, keyword_kind, keyword_of,

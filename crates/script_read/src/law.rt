@@ -2,7 +2,7 @@
 ghost use Rattle.std.specs.Prelude.{◌≡◌, ◌⊎◌, ℕ};
 ghost use Rattle.script_read.specs.FirstBad.{IsFirstBad};
 ghost use Rattle.script_read.specs.declared.reason.Reason.{Reason};
-ghost use Rattle.script_types.specs.Source.{IsAccepted};
+ghost use Rattle.script_grammar.specs.Accepted.{IsAccepted};
 ghost use Rattle.script_types.specs.declared.script.Script.{Script};
 
 /// Any bytes are accepted as a script, or have a first bad line with a reason, and never both. The script is

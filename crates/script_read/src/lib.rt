@@ -1,7 +1,6 @@
 //! Reads a script's text: which script the bytes spell, or where and why they are refused.
 #![tactic(auto)]
 
-mod built;
 mod context;
 mod declarations;
 mod fault;

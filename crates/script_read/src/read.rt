@@ -3,7 +3,7 @@ ghost use Rattle.std.specs.Prelude.{◌<◌, ℕ, length};
 ghost use Rattle.script_read.specs.Answer.{IsAnswer, Tells, Refuses};
 ghost use Rattle.script_read.specs.FirstBad.{IsFirstBad};
 ghost use Rattle.script_read.specs.declared.reason.Reason.{Reason};
-ghost use Rattle.script_types.specs.Source.{IsAccepted};
+ghost use Rattle.script_grammar.specs.Accepted.{IsAccepted};
 ghost use Rattle.script_types.specs.declared.script.Script.{Script};
 
 use crate::Reason;

@@ -1,4 +1,4 @@
--- Every valid script keeps the limits that the kernel needs.
+-- Every well-formed script keeps the limits that the kernel needs.
 use Rattle.std.proofs.Common.{◌≡◌, ◌⊎◌, inl, inr, ℕ, zero, suc, ◌+◌, ◌<◌, ◌≤◌, Bool, true, false, List, [], ◌∷◌, ◌++◌, length, sym, ap, subst, ◌∙◌, refl, arith, length-append, Option, Some, None}
 use Rattle.std.proofs.lemmas.Bool.{eqb-true, ltb-true, leb-true}
 use Rattle.std.proofs.lemmas.List.{length-replicate}

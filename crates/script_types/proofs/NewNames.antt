@@ -1,4 +1,4 @@
--- In every valid script no two processes have one name, and no two threads.
+-- In every well-formed script no two processes have one name, and no two threads.
 use Rattle.std.proofs.Common.{◌≡◌, ℕ, ◌∙◌, inr, true, false, List, [], ◌∷◌, ◌++◌, map, sym, ap, subst, refl, append-nil}
 use Rattle.std.specs.List.{list_any}
 use Rattle.std.specs.Prelude.{◌||◌, not, codes}
@@ -8,7 +8,7 @@ use Rattle.std.proofs.lemmas.List.{append_assoc, map-append}
 use Rattle.std.proofs.lemmas.List.Folds.{list_any-append}
 use Rattle.script_types.specs.Context.{start, after, after_all, with_instr}
 use Rattle.script_types.specs.Names.{Declared, is_process_name, is_thread_name}
-use Rattle.script_types.specs.Source.{IsValid}
+use Rattle.script_types.specs.Source.{IsWellFormed}
 use Rattle.script_types.specs.Stands.{Stands, AllStand}
 use Rattle.script_types.specs.declared.context.Context.{Context}
 use Rattle.script_types.specs.declared.declaration.ProcessDecl.{ProcessDecl}
@@ -95,7 +95,6 @@ new-all : (file : List Declared) (c : Context) (lines : List SourceLine) → All
 new-all file c [] stand n = n
 new-all file c (l ∷ ls) stand n = new-all file (after c l) ls stand.1 (new-after file c l stand.0 n)
 
-pub valid_names_new : (script : Script) → IsValid script → AreNamesNew script
-valid_names_new script valid =
-    let a = valid.accepted in
+pub formed_names_new : (script : Script) → IsWellFormed script → AreNamesNew script
+formed_names_new script a =
     subst AreNamesNew (sym a.same) (new-all _ start a.lines a.are.stand (record { processes = (refl, tt); threads = (refl, tt) }))

@@ -1,9 +1,9 @@
--- In every valid script each process has a thread.
+-- In every well-formed script each process has a thread.
 use Rattle.std.proofs.Common.{◌≡◌, ◌⊎◌, inl, inr, ℕ, suc, ◌<◌, Bool, true, false, List, [], ◌∷◌, ◌++◌, length, sym, ap, subst, refl, arith, length-append, Option, Some, None}
 use Rattle.std.proofs.lemmas.Bool.{eqb-true, cases_lt}
 use Rattle.script_types.specs.Context.{start, after, after_all, with_instr, last_of, may_stand, kind_of, is_thread, is_ended, rank_or}
 use Rattle.script_types.specs.Names.{Declared}
-use Rattle.script_types.specs.Source.{IsValid}
+use Rattle.script_types.specs.Source.{IsWellFormed}
 use Rattle.script_types.specs.Stands.{Stands, AllStand}
 use Rattle.script_types.specs.declared.context.Context.{Context}
 use Rattle.script_types.specs.declared.declaration.ThreadDecl.{ThreadDecl}
@@ -115,8 +115,7 @@ ended_has c ended o i below = elim (cases_lt (suc i) (length c.script.processes)
   | inr le ↦ o.last (ended_settled c c.awaits_thread refl ended o) i (omega arith)
 ]
 
-pub valid_has_thread : (script : Script) → IsValid script → (i : ℕ) → i < length script.processes → HasThread i script.threads
-valid_has_thread script valid =
-    let a = valid.accepted in
+pub formed_has_thread : (script : Script) → IsWellFormed script → (i : ℕ) → i < length script.processes → HasThread i script.threads
+formed_has_thread script a =
     let c = after_all start a.lines in
     subst (λ (s : Script). (i : ℕ) → i < length s.processes → HasThread i s.threads) (sym a.same) (ended_has c a.ended (settled-all _ start a.lines a.are.stand sound-start settled-start))

@@ -1,4 +1,4 @@
--- What holds of every valid script.
+-- What holds of every well-formed script.
 use Rattle.std.proofs.Common.{◌≡◌, ℕ, ◌≤◌, true, List, [], ◌∷◌, ◌++◌, length, length-append, sym, subst, refl, arith}
 use Rattle.std.proofs.lemmas.Bool.{ltb-true}
 use Rattle.std.specs.List.{list_all}
@@ -14,7 +14,7 @@ use Rattle.script_types.specs.declared.script.Script.{Script}
 use Rattle.script_types.specs.declared.source_line.SourceLine.{SourceLine}
 use Rattle.script_types.specs.declared.source_line.SourceLine.TheVariants as line
 use Rattle.script_types.specs.Shape.{IsShaped, is_short}
-use Rattle.script_types.specs.Source.{IsValid, IsWellFormed}
+use Rattle.script_types.specs.Source.{IsWellFormed}
 use Rattle.script_types.proofs.NameLaws.{formed_names_resolve}
 use Rattle.script_types.proofs.NumberLaws.{all_push, formed_numbers_in_range}
 use Rattle.script_types.proofs.LimitLaws.{both, formed_keeps_limits}
@@ -50,9 +50,6 @@ few-start = record { queues = omega arith; dfcs = omega arith; idfcs = omega ari
 formed_few : (script : Script) → IsWellFormed script → AreFew script
 formed_few script f = subst AreFew (sym f.same) (few-all _ start f.lines f.are.stand few-start)
 
-pub valid_is_formed : (script : Script) → IsValid script → IsWellFormed script
-valid_is_formed script valid = let a = valid.accepted in record { bytes = valid.bytes; lines = a.lines; are = a.are; ended = a.ended; same = a.same }
-
 pub formed_is_shaped : (script : Script) → IsWellFormed script → IsShaped script
 formed_is_shaped script f =
     let limits = formed_keeps_limits script f in
@@ -72,6 +69,3 @@ formed_is_shaped script f =
       names = formed_names_resolve script f;
       numbers = formed_numbers_in_range script f;
     }
-
-pub valid_is_shaped : (script : Script) → IsValid script → IsShaped script
-valid_is_shaped script valid = formed_is_shaped script (valid_is_formed script valid)

@@ -1,4 +1,3 @@
-pub mod BuiltLine
 pub mod Context
 pub mod Forms
 pub mod Keywords

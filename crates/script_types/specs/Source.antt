@@ -1,7 +1,6 @@
--- The grammar: which bytes are accepted as which script, and which scripts are valid.
+-- Which lines a script is written in.
 use Rattle.std.specs.List.{AllByRecursion}
 use Rattle.std.specs.Prelude.{◌≡◌, ℕ, IsTrue, List, map}
-use Rattle.script_types.specs.BuiltLine.{is_built_line}
 use Rattle.script_types.specs.Context.{start, after_all, is_ended}
 use Rattle.script_types.specs.Names.{file_declares}
 use Rattle.script_types.specs.SourceText.{text_lines, told_words, is_printed, is_short}
@@ -22,22 +21,7 @@ pub record AreLines (file texts : List (List ℕ)) (lines : List SourceLine) : T
   pub spelled : told_words texts ≡ map source_words lines
   pub stand : AllStand (file_declares file) start lines
 
--- The bytes are accepted as the script: they are lines, the last of them `end`, and the lines make the script.
--- This program runs each of them.
-pub record IsAccepted (bytes : List ℕ) (script : Script) : Type 0 where
-  pub lines : List SourceLine
-  pub are : AreLines (text_lines bytes) (text_lines bytes) lines
-  pub ended : IsTrue (is_ended (after_all start lines))
-  pub built : AllByRecursion (λ l. IsTrue (is_built_line l)) lines
-  pub same : script ≡ (after_all start lines).script
-
--- a script is valid where some bytes are accepted as it
-pub record IsValid (script : Script) : Type 0 where
-  pub bytes : List ℕ
-  pub accepted : IsAccepted bytes script
-
--- A script is well formed where some bytes are lines, the last of them `end`, that make it, whether this program
--- runs each of them or not.
+-- A script is well formed where some bytes are lines, the last of them `end`, that make it.
 pub record IsWellFormed (script : Script) : Type 0 where
   pub bytes : List ℕ
   pub lines : List SourceLine

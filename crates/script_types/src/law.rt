@@ -1,8 +1,7 @@
-//! The laws of scripts, for those who run them. They hold of every well-formed script, also of one with lines that
-//! the program does not run yet, and so of every valid one.
+//! The laws of scripts, for those who run them. They hold of every well-formed script.
 ghost use Rattle.script_types.specs.Resolves.{AreNumbersInRange, DoNamesResolve};
 ghost use Rattle.script_types.specs.Shape.{IsShaped};
-ghost use Rattle.script_types.specs.Source.{IsValid, IsWellFormed};
+ghost use Rattle.script_types.specs.Source.{IsWellFormed};
 
 use crate::Script;
 
@@ -23,10 +22,4 @@ pub fn numbers_are_in_range(script: &Script)
 pub fn is_shaped(script: &Script)
     requires { IsWellFormed script.now }
     ensures { IsShaped script.now }
-{}
-
-/// A valid script is well formed. This call only states it, and changes nothing.
-pub fn is_well_formed(script: &Script)
-    requires { IsValid script.now }
-    ensures { IsWellFormed script.now }
 {}

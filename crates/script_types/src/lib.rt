@@ -14,7 +14,7 @@ pub use context::Context;
 pub use declaration::{DfcDecl, IdfcDecl, IrqBody, Op, Ops, ProcessDecl, QueueDecl, ThreadDecl};
 pub use instruction::{Args, Instr, Instrs};
 pub use keyword::Keyword;
-pub use law::{is_shaped, is_well_formed, names_resolve, numbers_are_in_range};
+pub use law::{is_shaped, names_resolve, numbers_are_in_range};
 pub use operand::{BodyKind, Operand};
 pub use script::{Script, Slot};
 pub use source_line::{LineKind, SourceLine};

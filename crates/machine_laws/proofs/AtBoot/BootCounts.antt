@@ -9,8 +9,8 @@ use Rattle.script_types.specs.declared.declaration.ProcessDecl.{ProcessDecl}
 use Rattle.script_types.specs.declared.declaration.QueueDecl.{QueueDecl}
 use Rattle.script_types.specs.declared.declaration.ThreadDecl.{ThreadDecl}
 use Rattle.script_types.specs.declared.script.Script.{Script}
-use Rattle.script_types.specs.Source.{IsValid}
-use Rattle.script_types.proofs.ProcessThreads.{HasThread, valid_has_thread}
+use Rattle.script_types.specs.Source.{IsWellFormed}
+use Rattle.script_types.proofs.ProcessThreads.{HasThread, formed_has_thread}
 use Rattle.machine.specs.declared.boot.Born.{Born}
 use Rattle.state_rows.specs.declared.thread.ThreadRow.{ThreadRow}
 use Rattle.machine.specs.Boot.{boot, boot_of, born, born_kernel, born_queues, born_thread, born_threads, born_processes, is_of}
@@ -85,10 +85,10 @@ has_one i [] h = absurd h
 has_one i (d ∷ ds) (inl here) = or_left (is_of (Some i) d.process) (has_thread (Some i) ds) (ap (is_of (Some i)) here ∙ eq-eqb i i refl)
 has_one i (d ∷ ds) (inr later) = or_right (is_of (Some i) d.process) (has_thread (Some i) ds) (has_one i ds later)
 
-valid_has : (script : Script) → IsValid script → (i : ℕ) → i < length script.processes → has_thread (Some i) script.threads ≡ true
-valid_has script valid i below = has_one i script.threads (valid_has_thread script valid i below)
+valid_has : (script : Script) → IsWellFormed script → (i : ℕ) → i < length script.processes → has_thread (Some i) script.threads ≡ true
+valid_has script valid i below = has_one i script.threads (formed_has_thread script valid i below)
 
-born_held : (script : Script) → IsValid script → EachHeld (born script) 0 (born script)
+born_held : (script : Script) → IsWellFormed script → EachHeld (born script) 0 (born script)
 born_held script valid =
     let all = born script in
     let queues = born_queues 1 script.queues in
@@ -106,7 +106,7 @@ held_at all n (b ∷ bs) zero o at h inside = subst (λ (x : ObjNo). 0 < links x
 held_at all n (b ∷ bs) (suc i) o at h inside = held_at all (n + 1) bs i o (omega arith) h.1 (omega arith)
 
 -- each object that stands at boot has a reference
-pub counted-boot : (script : Script) → IsValid script → (o : ObjNo) → IsAlive (object_of (boot script) o) → 0 < count_of (boot script) o
+pub counted-boot : (script : Script) → IsWellFormed script → (o : ObjNo) → IsAlive (object_of (boot script) o) → 0 < count_of (boot script) o
 unfolding boot_of
 counted-boot script valid o alive =
     let bs = born script in

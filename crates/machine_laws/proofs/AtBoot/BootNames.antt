@@ -11,9 +11,9 @@ use Rattle.script_types.specs.declared.declaration.ProcessDecl.{ProcessDecl}
 use Rattle.script_types.specs.declared.declaration.QueueDecl.{QueueDecl}
 use Rattle.script_types.specs.declared.declaration.ThreadDecl.{ThreadDecl}
 use Rattle.script_types.specs.declared.script.Script.{Script}
-use Rattle.script_types.specs.Source.{IsValid}
+use Rattle.script_types.specs.Source.{IsWellFormed}
 use Rattle.script_types.proofs.NamesApart.{AreNamesApart, IsPut, put_behind, none_put, apart_put}
-use Rattle.script_types.proofs.NewNames.{process_names, queue_names, thread_names, valid_names_new}
+use Rattle.script_types.proofs.NewNames.{process_names, queue_names, thread_names, formed_names_new}
 use Rattle.machine.specs.declared.boot.Born.{Born}
 use Rattle.state_rows.specs.declared.object.ObjectRow.{ObjectRow}
 use Rattle.machine_laws.proofs.AtBoot.Declared.{all-append, all_threads, all_processes}
@@ -228,7 +228,7 @@ apart_behind : (front : List (List ℕ)) (ds : List ProcessDecl) (ts : List Thre
 apart_behind [] ds ts apart = apart_grouped ds ts apart
 apart_behind (x ∷ xs) ds ts apart = (none_behind x xs ds ts apart.0, apart_behind xs ds ts apart.1)
 
-processes_apart : (script : Script) → IsValid script → AreNamesApart (names_of 0 (born script))
+processes_apart : (script : Script) → IsWellFormed script → AreNamesApart (names_of 0 (born script))
 processes_apart script valid =
     let queues = born_queues 1 script.queues in
     let own = born_threads None 0 0 script.threads in
@@ -239,9 +239,9 @@ processes_apart script valid =
     let names : names_of 0 (born script) ≡ codes "kernel" ∷ process_names script.processes =
     names_of-append 0 (born_kernel script) rest
     ∙ (ap (λ (l : List (List ℕ)). l ++ names_of 0 rest) kernel ∙ ap (λ (l : List (List ℕ)). codes "kernel" ∷ l) (born_processes-names script.threads 0 first script.processes)) in
-    subst AreNamesApart (sym names) (valid_names_new script valid).processes
+    subst AreNamesApart (sym names) (formed_names_new script valid).processes
 
-threads_apart : (script : Script) → IsValid script → AreNamesApart (names_of 1 (born script))
+threads_apart : (script : Script) → IsWellFormed script → AreNamesApart (names_of 1 (born script))
 threads_apart script valid =
     let own = born_threads None 0 0 script.threads in
     let first = length (born_kernel script) in
@@ -254,10 +254,10 @@ threads_apart script valid =
     ∙ (ap (λ (l : List (List ℕ)). l ++ names_of 1 rest) kernel
     ∙ (ap (λ (l : List (List ℕ)). front ++ own_names None script.threads ++ l) (born_threads-names script.threads 0 first script.processes)
     ∙ append_assoc front (own_names None script.threads) (names_from 0 script.processes script.threads))) in
-    subst AreNamesApart (sym names) (apart_behind front script.processes script.threads (valid_names_new script valid).threads)
+    subst AreNamesApart (sym names) (apart_behind front script.processes script.threads (formed_names_new script valid).threads)
 
 -- no two objects at boot have one kind and one name
-pub boot_names_new : (script : Script) → IsValid script → (k : ℕ) (row : ObjectRow) → slice_get (boot script).objects k ≡ Some (Some row) → list_any (has_name row.kind row.name) (take k (boot script).objects) ≡ false
+pub boot_names_new : (script : Script) → IsWellFormed script → (k : ℕ) (row : ObjectRow) → slice_get (boot script).objects k ≡ Some (Some row) → list_any (has_name row.kind row.name) (take k (boot script).objects) ≡ false
 unfolding boot_of
 boot_names_new script valid k row at = elim (boot_kinds script k row at).1 as (λ _. list_any (has_name row.kind row.name) (take k (boot script).objects) ≡ false) [
   | inl process ↦ new_at 0 (born script) k row (ap kind_number process) (processes_apart script valid) at

@@ -6,8 +6,8 @@ use Rattle.std.proofs.lemmas.Bool.{cases_lt}
 use Rattle.sym_base.specs.declared.number.ObjNo.{ObjNo}
 use Rattle.script_types.specs.declared.script.Script.{Script}
 use Rattle.script_types.specs.Shape.{IsShaped}
-use Rattle.script_types.specs.Source.{IsValid}
-use Rattle.script_types.proofs.ShapeLaws.{valid_is_shaped}
+use Rattle.script_types.specs.Source.{IsWellFormed}
+use Rattle.script_types.proofs.ShapeLaws.{formed_is_shaped}
 use Rattle.sym_base.specs.declared.limits.TheConstants.Limits.{DEVICES, OBJECTS}
 use Rattle.state_rows.specs.RequestChanges.{new_rows as request_rows}
 use Rattle.state_rows.specs.declared.duty.Owed.{Owed}
@@ -98,10 +98,10 @@ fresh_instances (suc n) (suc i) = fresh_instances n i
 fresh_table : IsTable (replicate 256 fresh_slot)
 fresh_table = record { size = length-replicate 256 fresh_slot; instances = fresh_instances 256; counted = λ i o is. let none = copy_at fresh_slot 256 i in let object = ap (λ (slot : HandleSlot). slot.object) none in absurd (cc) }
 
-pub rows-boot : (script : Script) → IsValid script → AreRows script (boot script)
+pub rows-boot : (script : Script) → IsWellFormed script → AreRows script (boot script)
 unfolding boot_of
 rows-boot script valid =
-    let shaped = valid_is_shaped script valid in
+    let shaped = formed_is_shaped script valid in
     let bs = born script in
     let few = born_few script shaped in
     let each = each_born script shaped in
@@ -157,5 +157,5 @@ rows-boot script valid =
       };
     }
 
-pub well_formed-boot : (script : Script) → IsValid script → IsWellFormed script (boot script)
-well_formed-boot script valid = record { rows = rows-boot script valid; ready = ready-boot script (valid_is_shaped script valid) }
+pub well_formed-boot : (script : Script) → IsWellFormed script → IsWellFormed script (boot script)
+well_formed-boot script valid = record { rows = rows-boot script valid; ready = ready-boot script (formed_is_shaped script valid) }

@@ -147,7 +147,7 @@ light-leave script S t (Interrupt k) rows = no_moves script S t 0
 light-leave script S t (Immediate call) rows = record { each = (tt, tt); told = omega arith; light = refl }
 light-leave script S t (Deferred dfc) rows = record { each = (queue_inside script S.deferred dfc rows.deferred, tt); told = omega arith; light = refl }
 
--- a body of a valid script has at most four operations
+-- a body of a well-formed script has at most four operations
 short_dfc : (script : Script) (k : ℕ) (found : Option DfcDecl) → IsShaped script → slice_get script.dfcs k ≡ found → length (ops_of_dfc found) ≤ 4
 short_dfc script k None shaped is = omega arith
 short_dfc script k (Some dfc) shaped is = leb-true (length dfc.body) 4 (all_at (λ (d : DfcDecl). is_short d.body) script.dfcs k dfc shaped.dfc_bodies is)

@@ -39,7 +39,7 @@ pub record FitsDecision (script : Script) (t : ObjNo) (S : State) (d : Decision)
   pub light : total most_owed d.moves ≤ 12
 
 -- thread t is about to make a step of this instruction: it is live, but for one that comes back from a find, owes nothing, doesn't wait, and wants no fast mutex that is
--- held; and the instruction is one of a valid script
+-- held; and the instruction is one of a well-formed script
 pub record IsStepping (script : Script) (S : State) (t : ObjNo) (row : ThreadRow) (instr : Instr) : Type 0 where
   pub rows : AreRows script S
   pub is : thread_of S t ≡ Some row

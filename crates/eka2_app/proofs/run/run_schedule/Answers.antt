@@ -1,7 +1,7 @@
 use Rattle.std.proofs.Common.{◌≡◌, ◌≤◌, ℕ, List, length, refl, sym, subst, arith, inl, inr}
 use Rattle.script_read.specs.FirstBad.{IsFirstBad}
 use Rattle.script_read.specs.Refusal.{refusal_text}
-use Rattle.script_types.specs.Source.{IsAccepted}
+use Rattle.script_grammar.specs.Accepted.{IsAccepted}
 use Rattle.eka2_app.specs.Inputs.{IsInput, IsBadInput}
 use Rattle.eka2_app.specs.Outputs.{WroteRefusalOf}
 use Rattle.eka2_app.proofs.Judged.{of_told, of_input, same_refusal}

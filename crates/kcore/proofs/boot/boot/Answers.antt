@@ -2,7 +2,7 @@ use Rattle.std.proofs.Common.{◌≡◌, ◌<◌, ◌≤◌, ◌∙◌, List, ge
 use Rattle.std.specs.Prelude.{slice_index}
 use Rattle.sym_base.specs.declared.limits.TheConstants.Limits.{BOOT_OBJECTS}
 use Rattle.sym_base.specs.declared.number.ObjNo.{ObjNo}
-use Rattle.script_types.proofs.ShapeLaws.{valid_is_shaped}
+use Rattle.script_types.proofs.ShapeLaws.{formed_is_shaped}
 use Rattle.machine.specs.declared.boot.Born.{Born}
 use Rattle.machine.specs.declared.state.State.{State}
 use Rattle.state_rows.specs.declared.thread.ThreadRow.{ThreadRow}
@@ -27,14 +27,14 @@ use Rattle.kcore.proofs.BootUses.{none_used}
 use Rattle.kcore.proofs.boot.boot.Goals as goal
 
 pub all_born-requires : goal.all_born-requires
-all_born-requires g c = valid_is_shaped c.args.script.now c.requires.valid
+all_born-requires g c = formed_is_shaped c.args.script.now c.requires.valid
 
 pub state_at_boot-requires : goal.state_at_boot-requires
-state_at_boot-requires g c = valid_is_shaped c.args.script.now c.requires.valid
+state_at_boot-requires g c = formed_is_shaped c.args.script.now c.requires.valid
 
 pub counted-requires-clause-few : goal.counted-requires-clause-few
 counted-requires-clause-few g c =
-    let few = born_few c.args.script.now (valid_is_shaped c.args.script.now c.requires.valid) in
+    let few = born_few c.args.script.now (formed_is_shaped c.args.script.now c.requires.valid) in
     let e = ap length (c.as_slice.ensures ∙ c.in_ok-all.ensures) in
     omega arith
 
@@ -64,11 +64,11 @@ queues_of-requires-clause-ranged g c =
     subst (λ (S : State). (t : ObjNo) → is_listed S.ready t ≡ true → priority_of S t < 64) (sym c.in_ok-state.ensures) (listed_ranged script (boot script) (well_formed-boot script c.requires.valid))
 
 pub tables_of-requires-clause-shaped : goal.tables_of-requires-clause-shaped
-tables_of-requires-clause-shaped g c = valid_is_shaped c.args.script.now c.requires.valid
+tables_of-requires-clause-shaped g c = formed_is_shaped c.args.script.now c.requires.valid
 
 pub tables_of-requires-clause-few : goal.tables_of-requires-clause-few
 tables_of-requires-clause-few g c =
-    let few = born_few c.args.script.now (valid_is_shaped c.args.script.now c.requires.valid) in
+    let few = born_few c.args.script.now (formed_is_shaped c.args.script.now c.requires.valid) in
     let e = ap length (c.as_slice-2.ensures ∙ c.in_ok-all.ensures) in
     omega arith
 
@@ -101,7 +101,7 @@ returns-clause-kept g c =
     record {
       counts = λ o. ap (λ (counts : List ℕ). slice_index counts o.0) (ap (λ t. t.counts) made.objects) ∙ (agree o ∙ sym (ap (λ (S : State). count_of S o) state));
       tied = record {
-        uses = made.uses ∙ (ap (λ (n : ℕ). replicate n None) long ∙ (none_used script (length (born script)) (born script) (each_born script (valid_is_shaped script c.requires.valid)) ∙ sym (ap (map use_of_row) threads)));
+        uses = made.uses ∙ (ap (λ (n : ℕ). replicate n None) long ∙ (none_used script (length (born script)) (born script) (each_born script (formed_is_shaped script c.requires.valid)) ∙ sym (ap (map use_of_row) threads)));
         ranks = λ u. made.ranks u ∙ sym (ap (λ p. priority_of_row (get_or p.threads u.0 None)) made.procs);
         listed = made.listed;
         ranked = made.ranked;

@@ -2,7 +2,8 @@ use Rattle.std.proofs.Common.{◌≡◌, ◌++◌, ap, sym, subst, ◌∙◌}
 use Rattle.script_print.specs.CanonicalText.{source_texts, canonical_lines, canonical_text}
 use Rattle.script_print.specs.Spelled.{IsSpelled}
 use Rattle.script_print.proofs.Canonical.{canonical_accepted, canonical_spelled}
-use Rattle.script_types.specs.Source.{IsAccepted, IsValid, IsWellFormed}
+use Rattle.script_grammar.specs.Accepted.{IsAccepted, IsValid}
+use Rattle.script_types.specs.Source.{IsWellFormed}
 use Rattle.script_print.proofs.print.print_script.Goals as goal
 
 pub returns : goal.returns

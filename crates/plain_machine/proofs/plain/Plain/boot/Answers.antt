@@ -1,5 +1,5 @@
-use Rattle.script_types.proofs.ShapeLaws.{valid_is_shaped}
+use Rattle.script_types.proofs.ShapeLaws.{formed_is_shaped}
 use Rattle.plain_machine.proofs.plain.Plain.boot.Goals as goal
 
 pub state_at_boot-requires : goal.state_at_boot-requires
-state_at_boot-requires c = valid_is_shaped _ c.requires
+state_at_boot-requires c = formed_is_shaped _ c.requires

@@ -1,6 +1,6 @@
 use Rattle.std.proofs.Common.{◌≡◌, ℕ, ◌+◌, List, ap, subst, sym}
 use Rattle.entry_log.specs.declared.entry.Entry.{Entry}
-use Rattle.script_types.proofs.ShapeLaws.{valid_is_shaped}
+use Rattle.script_types.proofs.ShapeLaws.{formed_is_shaped}
 use Rattle.script_types.specs.declared.script.Script.{Script}
 use Rattle.machine.specs.declared.state.State.{State}
 use Rattle.plain_machine.specs.Allowed.{AllowsAction}
@@ -10,10 +10,10 @@ use Rattle.plain_machine.proofs.Steps.{allows_action, formed_plain, plain_goes_o
 use Rattle.plain_machine.proofs.plain.Plain.slot.Goals as goal
 
 pub transition-requires-clause-shaped : goal.transition-requires-clause-shaped
-transition-requires-clause-shaped c = valid_is_shaped c.self.inside.script c.self.invariant.valid
+transition-requires-clause-shaped c = formed_is_shaped c.self.inside.script c.self.invariant.valid
 
 allows : (script : Script) (history : List Entry) (S copy : State) → IsPlain script history S → copy ≡ S → AllowsAction script copy
-allows script history S copy plain same = subst (AllowsAction script) (sym same) (allows_action script S (valid_is_shaped script plain.valid) (formed_plain script history S plain).rows)
+allows script history S copy plain same = subst (AllowsAction script) (sym same) (allows_action script S (formed_is_shaped script plain.valid) (formed_plain script history S plain).rows)
 
 pub transition-requires-clause-allowed : goal.transition-requires-clause-allowed
 transition-requires-clause-allowed c = allows _ _ _ _ c.self.invariant c.in_ok-state.ensures

@@ -1,6 +1,6 @@
 //! Which lines this program runs so far.
 ghost use Rattle.std.specs.Prelude.{◌≡◌};
-ghost use Rattle.script_types.specs.BuiltLine.{is_built_instr, is_built_line};
+ghost use Rattle.script_grammar.specs.BuiltLine.{is_built_instr, is_built_line};
 
 use script_types::{Instr, SourceLine};
 use sym_base::Kind;
@@ -41,6 +41,12 @@ fn is_built_instr(what: &Instr) -> bool
             | Instr::Status(_)
             | Instr::Fill(..)
             | Instr::Peek(_)
+            | Instr::Kill(..)
+            | Instr::Terminate(..)
+            | Instr::Panic(..)
+            | Instr::ExitType(_)
+            | Instr::Logon(..)
+            | Instr::Exit(_)
     )
 }
 

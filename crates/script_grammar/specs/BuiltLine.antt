@@ -37,6 +37,12 @@ is_built_instr (instr.WaitFor s) = true
 is_built_instr (instr.Status s) = true
 is_built_instr (instr.Fill place size byte) = true
 is_built_instr (instr.Peek place) = true
+is_built_instr (instr.Kill x reason) = true
+is_built_instr (instr.Terminate x reason) = true
+is_built_instr (instr.Panic x category reason) = true
+is_built_instr (instr.ExitType x) = true
+is_built_instr (instr.Logon x s) = true
+is_built_instr (instr.Exit reason) = true
 is_built_instr _ = false
 
 abbrev pub is_built_line : SourceLine → Bool

@@ -1,5 +1,0 @@
-use Rattle.script_types.proofs.ShapeLaws.{valid_is_formed}
-use Rattle.script_types.proofs.law.is_well_formed.Goals as goal
-
-pub returns : goal.returns
-returns c = valid_is_formed c.args.script.now c.requires
