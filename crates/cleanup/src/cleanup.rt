@@ -1,8 +1,9 @@
 //! The lists from which a thread's death is read.
-ghost use Rattle.std.specs.Prelude.{◌≡◌, ◌+◌, ◌*◌, ◌<◌, ◌↔◌, [], IsNone, IsTrue, IfOk, length, slice_get};
+ghost use Rattle.std.specs.Prelude.{◌≡◌, ◌+◌, ◌*◌, ◌^◌, ◌<◌, ◌↔◌, [], IsNone, IsTrue, IfOk, length, slice_get};
 ghost use Rattle.std.specs.List.{list_any};
 ghost use Rattle.std.specs.Option.{ForSome};
 ghost use Rattle.cleanup.specs.Lists.{Lists, empty_lists, list_of, is_object, pushed, removed, IsKnown, HasPlace, held_of, owed, first_done, next_after, IsNoneAtEnd};
+ghost use Rattle.cleanup.specs.Nodes.{logon};
 
 use crate::duties::{DUTIES, Duties};
 use crate::items::ThreadItems;
@@ -126,6 +127,27 @@ impl Cleanup {
         ))
     }
 
+    /// The first of the mutexes that a thread holds. None exactly where it holds none.
+    pub fn first_mutex(&self, t: ThreadNo) -> Option<ObjNo>
+        ensures { result ≡ slice_get (list_of self.now.mutexes t) 0 }
+    {
+        if t.0 as usize >= self.temporary.len() {
+            return None;
+        }
+        let item = self.mutexes.first(t)?;
+        Some(ObjNo(item as u16))
+    }
+
+    /// The first of the logons on a thread: the thread that made it, and its status. None exactly where it has none.
+    pub fn first_logon(&self, t: ThreadNo) -> Option<(ThreadNo, u8)>
+        ensures { result ≡ slice_get (list_of self.now.logons t) 0 }
+    {
+        if t.0 as usize >= self.temporary.len() {
+            return None;
+        }
+        Some(logon_of(self.logons.first(t)?))
+    }
+
     /// A thread owes one thing more, behind the others.
     pub fn owe(&mut self, t: ThreadNo, what: Owed)
         requires thread { t.0 < self.old.threads }
@@ -169,6 +191,17 @@ impl Cleanup {
         let item = self.servers.next(o.0 as u32)?;
         Some(ObjNo(item as u16))
     }
+}
+
+/// The logon that an item stands for.
+fn logon_of(item: u32) -> (ThreadNo, u8)
+    requires { item < 2 ^ 20 }
+    ensures { result ≡ logon item }
+{
+    (
+        ObjNo((item / STATUSES as u32) as u16),
+        (item % STATUSES as u32) as u8,
+    )
 }
 
 /// The item of a logon: each thread has as many as statuses.

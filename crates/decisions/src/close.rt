@@ -3,12 +3,11 @@ ghost use Rattle.std.specs.Prelude.{◌≡◌, ◌<◌, IfSome};
 ghost use Rattle.machine.specs.Close.{close_handle, close_do};
 ghost use Rattle.state_rows.specs.HandleNumbers.{index_of};
 
-use crate::decide::{answer_after, refuse};
-use crate::look::object_at;
 use entry_log::{Part, Step, Word};
 use machine::{Decision, Move, ThreadRow, holder_of};
 use readings::Reads;
 use sym_base::{Error, ObjNo, ThreadNo};
+use thread_decisions::{answer_after, object_at, refuse};
 
 const STEP: Step = Step::Of(Word::Close, Part::Do);
 

@@ -2,11 +2,11 @@
 ghost use Rattle.std.specs.Prelude.{◌≡◌, ◌<◌, ◌++◌, length, IfSome};
 ghost use Rattle.machine.specs.Create.{start_moves, make_with_handle, create_do, create_mutex_do, create_semaphore_do};
 
-use crate::decide::{answer_handle, refuse};
 use entry_log::{Part, Step, Word};
 use machine::{Decision, LockMove, Move, NewHandle, ThreadRow};
 use readings::Reads;
 use sym_base::{Error, Kind, Limits, Name, ObjNo, ThreadNo};
+use thread_decisions::{answer_handle, refuse};
 
 const STEP: Step = Step::Of(Word::Create, Part::Do);
 

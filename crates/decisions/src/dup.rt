@@ -2,13 +2,12 @@
 ghost use Rattle.std.specs.Prelude.{◌≡◌, ◌<◌, IfSome};
 ghost use Rattle.machine.specs.Dup.{kind_stays, stays_with_thread, dup_do, dup_step, duplocal_step};
 
-use crate::decide::{give_handle, nothing, refuse};
-use crate::look::look;
 use entry_log::{Part, Step, Word};
 use machine::{Decision, NewHandle, ThreadRow};
 use readings::Reads;
 use state_rows::ObjectRow;
 use sym_base::{Error, Kind, ObjNo, ThreadNo};
+use thread_decisions::{give_handle, look, nothing, refuse};
 
 /// Whether objects of this kind stay with the thread that made them.
 fn kind_stays(kind: Kind) -> bool

@@ -3,12 +3,12 @@
 ghost use Rattle.std.specs.Prelude.{◌≡◌};
 ghost use Rattle.machine.specs.Find.{seek_object, seek, found_object, is_open, return_to};
 
-use crate::decide::{answer_after, go_on, refuse};
 use entry_log::{Holder, Part, Step, Word};
 use machine::{Decision, Move, ThreadRow};
 use readings::Reads;
 use state_rows::{ObjectRow, Stage};
 use sym_base::{Error, Kind, Name, ObjNo, ThreadNo};
+use thread_decisions::{answer_after, go_on, refuse};
 
 /// The thread found the object, where there is one, and comes to open it next.
 fn seek_object(decision: &mut Decision, thread: ThreadNo, word: Word, found: Option<ObjNo>)

@@ -2,12 +2,12 @@
 ghost use Rattle.std.specs.Prelude.{◌≡◌};
 ghost use Rattle.machine.specs.MemoryCalls.{fill_do, peek_do};
 
-use crate::decide::{answer_after, answer_at_once, refuse};
 use entry_log::{Part, Step, Word};
 use machine::{Decision, Move, ThreadRow};
 use readings::Reads;
 use state_rows::MEMORY;
 use sym_base::{Error, ThreadNo};
+use thread_decisions::{answer_after, answer_at_once, refuse};
 
 /// So many bytes from an offset on get a value, unless they pass the memory's end.
 pub fn fill_do(

@@ -4,15 +4,14 @@ ghost use Rattle.std.specs.Prelude.{◌≡◌, ◌<◌};
 ghost use Rattle.machine.specs.MutexCalls.{lock_by, lock_do, lock_step, unlock_by, unlock_do, unlock_step};
 ghost use Rattle.state_rows.specs.LockChanges.{lock_answer, unlock_answer};
 
-use crate::decide::{
-    answer, answer_after, answer_at_once, nothing, refuse, refuse_holder, wait_at,
-};
-use crate::look::look_kind;
 use entry_log::{Part, Step, Word};
 use machine::{Decision, LockMove, Move, ThreadRow};
 use readings::Reads;
 use state_rows::{Locked, Owner, Unlocked};
 use sym_base::{Error, Kind, ObjNo, ThreadNo};
+use thread_decisions::{
+    answer, answer_after, answer_at_once, look_kind, nothing, refuse, refuse_holder, wait_at,
+};
 
 const LOCK: Step = Step::Of(Word::Lock, Part::Do);
 

@@ -4,13 +4,13 @@ ghost use Rattle.script_types.specs.Shape.{IsShaped};
 ghost use Rattle.machine.specs.Bodies.{add_call};
 ghost use Rattle.machine.specs.Queueing.{queue_named, queue_do};
 
-use crate::decide::{answer_after, answer_at_once, nothing};
 use entry_log::{Part, Step, Word};
 use machine::{Decision, DeferredMove, Move};
 use readings::Reads;
 use script_types::Script;
 use state_rows::dfc_named;
 use sym_base::{Name, ThreadNo};
+use thread_decisions::{answer_after, answer_at_once, nothing};
 
 const STEP: Step = Step::Of(Word::Queue, Part::Do);
 

@@ -5,21 +5,14 @@ ghost use Rattle.machine.specs.Decide.{answer};
 ghost use Rattle.machine.specs.RequestCalls.{request_do, cancel_status, cancel_do, waitany_do, waitany_step, waitfor_do, waitfor_step, status_do};
 ghost use Rattle.machine.specs.declared.moves.Move.TheVariants.{Requests};
 ghost use Rattle.machine.specs.declared.request_move.RequestMove.TheVariants.{TakeSignal};
-ghost use Rattle.state_rows.specs.Requests.{is_pending, status_of};
+ghost use Rattle.state_rows.specs.Requests.{status_of};
 
-use crate::decide::{answer_after, answer_at_once, refuse, wait_for};
 use entry_log::{Part, Step, Word};
 use machine::{Decision, Move, RequestMove, Waiting};
 use readings::Reads;
-use state_rows::{PENDING, Request};
+use state_rows::Request;
 use sym_base::{Error, ThreadNo};
-
-/// Whether a thread's status waits for its completion.
-pub fn is_pending<R: Reads>(reads: &R, thread: ThreadNo, status: u8) -> bool
-    ensures { result ≡ is_pending (R.state reads.now).requests thread status }
-{
-    reads.value_of(thread, status) == PENDING
-}
+use thread_decisions::{answer_after, answer_at_once, is_pending, refuse, wait_for};
 
 /// The device gets the request, unless it has one or the status is pending.
 pub fn request_do<R: Reads>(

@@ -4,15 +4,14 @@ ghost use Rattle.std.specs.Prelude.{◌≡◌, ◌<◌};
 ghost use Rattle.machine.specs.SemaphoreCalls.{wait_on, wait_do, wait_step, signal_by, signal_do, signal_step};
 ghost use Rattle.state_rows.specs.LockChanges.{signal_answer};
 
-use crate::decide::{
-    answer, answer_after, answer_at_once, nothing, refuse, refuse_holder, wait_at,
-};
-use crate::look::look_kind;
 use entry_log::{Part, Step, Word};
 use machine::{Decision, LockMove, Move, ThreadRow};
 use readings::Reads;
 use state_rows::{MAX_COUNT, Signalled};
 use sym_base::{Error, Kind, ObjNo, ThreadNo};
+use thread_decisions::{
+    answer, answer_after, answer_at_once, look_kind, nothing, refuse, refuse_holder, wait_at,
+};
 
 const WAIT: Step = Step::Of(Word::Wait, Part::Do);
 

@@ -7,25 +7,22 @@ ghost use Rattle.machine.specs.Steps.{step_of, return_of, decision_of_row};
 
 use crate::close::close_do;
 use crate::create::{create_mutex_do, create_semaphore_do};
-use crate::critical_section::{enter_do, leave_do};
-use crate::decide::nothing;
-use crate::dooms::plain_exit;
 use crate::dup::{dup_step, duplocal_step};
-use crate::exit_calls::{exit_do, exit_step, exittype_step};
-use crate::fast_mutex::{flock_step, funlock_do};
-use crate::fast_semaphore::{fssignal_do, fswait_step};
-use crate::logon_calls::logon_step;
 use crate::memory_calls::{fill_do, peek_do};
 use crate::mutex_calls::{lock_step, unlock_step};
 use crate::open::{open_return, open_step};
 use crate::queueing::queue_do;
 use crate::request_calls::{cancel_do, request_do, status_do, waitany_step, waitfor_step};
 use crate::semaphore_calls::{signal_step, wait_step};
-use crate::thread_calls::{priority_step, resume_step, suspend_step};
 use machine::{Decision, ThreadRow};
 use readings::Reads;
 use script_types::{Instr, Script};
-use sym_base::{Exit, ExitKind, ThreadNo, Word};
+use sym_base::ThreadNo;
+use thread_decisions::{
+    enter_do, exit_do, exittype_step, flock_step, fssignal_do, fswait_step, funlock_do, kill_step,
+    leave_do, logon_step, nothing, panic_step, priority_step, resume_step, suspend_step,
+    terminate_step,
+};
 
 /// The next step of an instruction. What isn't built yet does nothing.
 fn step_of<R: Reads>(
@@ -78,29 +75,14 @@ fn step_of<R: Reads>(
         Instr::WaitFor(status) => waitfor_step(decision, reads, thread, *status, row.part),
         Instr::Status(status) => status_do(decision, reads, thread, *status),
         Instr::Kill(register, reason) => {
-            let exit = plain_exit(ExitKind::Kill, *reason);
-            exit_step(decision, reads, thread, row, Word::Kill, *register, exit)
+            kill_step(decision, reads, thread, row, *register, *reason)
         }
         Instr::Terminate(register, reason) => {
-            let exit = plain_exit(ExitKind::Terminate, *reason);
-            exit_step(
-                decision,
-                reads,
-                thread,
-                row,
-                Word::Terminate,
-                *register,
-                exit,
-            )
+            terminate_step(decision, reads, thread, row, *register, *reason)
         }
-        Instr::Panic(register, category, reason) => {
-            let exit = Exit {
-                kind: ExitKind::Panic,
-                category: *category,
-                reason: *reason,
-            };
-            exit_step(decision, reads, thread, row, Word::Panic, *register, exit)
-        }
+        Instr::Panic(register, category, reason) => panic_step(
+            decision, reads, thread, row, *register, *category, *reason,
+        ),
         Instr::ExitType(register) => exittype_step(decision, reads, thread, row, *register),
         Instr::Logon(register, status) => {
             logon_step(decision, reads, thread, row, *register, *status)

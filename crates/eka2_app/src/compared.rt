@@ -4,11 +4,12 @@ ghost use Rattle.script_types.specs.Source.{IsWellFormed};
 
 use crate::output::{Line, line_of_entry, line_of_row};
 use crate::run::{PLACES, make_history};
-use crate::tests::{DYING_SCRIPT, SCRIPT};
+use crate::tests::{DEATHS_SCRIPT, DYING_SCRIPT, SCRIPT};
 use entry_log::{Entry, FinalRow};
 use kcore::Kernel;
 use plain_machine::Plain;
 use ref_words::PlainWords;
+use script_grammar::is_well_formed;
 use script_read::{ReadScript, read_script};
 use script_types::{Limits, Script};
 use std::alloc::Global;
@@ -26,7 +27,10 @@ fn script_of(alloc: Global, text: &str) -> Option<Script>
         return None;
     }
     match read_script(alloc, text.as_bytes()) {
-        ReadScript::Script(script) => Some(script),
+        ReadScript::Script(script) => {
+            is_well_formed(&script);
+            Some(script)
+        }
         ReadScript::Refused { .. } | ReadScript::NoMemory => None,
     }
 }
@@ -117,6 +121,7 @@ fn is_same_run(alloc: Global, text: &str) -> Option<bool> {
 fn both_machines_make_one_history(rt: HostRuntime) {
     assert_eq!(rt; is_same_run(rt.alloc(), SCRIPT), Some(true));
     assert_eq!(rt; is_same_run(rt.alloc(), DYING_SCRIPT), Some(true));
+    assert_eq!(rt; is_same_run(rt.alloc(), DEATHS_SCRIPT), Some(true));
 }
 
 /// The kernel of a script at boot, with room for one entry.

@@ -19,6 +19,7 @@ use crate::output::{write_history, write_refusal};
 use edge_io::{Sink, Source};
 use kcore::Kernel;
 use ref_words::PlainWords;
+use script_grammar::is_well_formed;
 use script_read::{ReadScript, Reason, RunFault, read_script};
 use script_types::Script;
 use std::alloc::Global;
@@ -107,7 +108,10 @@ pub fn run_schedule<S: Source, K: Sink>(
 {
     let input = read_input(alloc, source)?;
     match read_script(alloc, input.as_slice()) {
-        ReadScript::Script(script) => run_script(alloc, script, sink),
+        ReadScript::Script(script) => {
+            is_well_formed(&script);
+            run_script(alloc, script, sink)
+        }
         ReadScript::Refused { line, reason } => match write_refusal(sink, line, reason) {
             Ok(()) => Err(RunFault::Refused { line, reason }),
             Err(_) => Err(RunFault::WriteFault),

@@ -6,8 +6,9 @@ use std::alloc::{AllocError, Global};
 use std::process::Abort;
 use std::test::Fail;
 
+/// A thread makes a mutex with two handles, closes both, and ends.
 pub const SCRIPT: &str =
-    "eka2 1\nprocess p\nthread a 10\ncreate mutex m r0\ndup r0 r1\nclose r0\nclose r1\nclose r1\nschedule\ngo 10\nend\n";
+    "eka2 1\nprocess p\nthread a 10\ncreate mutex m r0\ndup r0 r1\nclose r0\nclose r1\nclose r1\nschedule\ngo 16\nend\n";
 
 const HISTORY: &str = "\
 1 t3 create.do +p2.0:4 = 65536
@@ -18,13 +19,17 @@ const HISTORY: &str = "\
 6 t3 close.do -p2.1:4 dead:4 = 0
 7 t3 sweep swept:4
 8 t3 close.do = -8
-9 idle wait
-10 idle wait
+9 t3 end doom:3
+10 t3 clean
+11 t1 bury bury:3
+12 t1 drop -krn:3 dead:3
+13 t1 drop -lnk3:2 dead:2
+14 t1 sweep swept:3
+15 t1 sweep swept:2
+16 idle wait
 objects
 0 process kernel 1
 1 thread supervisor 1 live
-2 process p 1
-3 thread a 1 live
 end
 ";
 
@@ -50,6 +55,10 @@ objects
 4 thread b 1 live
 end
 ";
+
+/// A kill is put off by a critical section, a logon is told, and a mutex passes on from its dead owner.
+pub const DEATHS_SCRIPT: &str =
+    "eka2 1\nkthread k 10\ncreate mutex m r0\nlock r0\nenter\nfssignal z\nleave\nkthread z 20\nfswait\nopen thread k r0\nlogon r0 s0\nopen mutex m r1\nkill r0 5\nlock r1\nwaitfor s0\nschedule\ngo 50\nend\n";
 
 const EMPTY_HISTORY: &str = "\
 objects
@@ -84,16 +93,48 @@ struct Case<'a> {
     written: &'a str,
 }
 
+/// A source of the bytes of a case's script, of which some reads fail.
+fn source_of(alloc: Global, case: &Case<'_>) -> Result<MemSource, AllocError> {
+    let bytes = Vec::from_slice(alloc, case.script.as_bytes())?;
+    let fails = Vec::from_slice(alloc, case.failing_reads)?;
+    Ok(MemSource::new(bytes, 100, fails))
+}
+
+/// An empty sink, of which some writes fail.
+fn sink_of(alloc: Global, failing_writes: &[u32]) -> Result<MemSink, AllocError> {
+    let fails = Vec::from_slice(alloc, failing_writes)?;
+    MemSink::new(alloc, 1000, 600, fails)
+}
+
+/// Runs words over a source and a sink, and compares the status and what was written.
+fn expect_run<R: Abort>(
+    rt: &R,
+    alloc: Global,
+    words: &[String],
+    source: &mut MemSource,
+    sink: &mut MemSink,
+    status: Status,
+    written: &str,
+) {
+    let found = eka2_main(alloc, words, source, sink);
+    assert_eq!(rt; found, status);
+    assert_eq!(rt; sink.bytes(), written.as_bytes());
+}
+
 /// Runs a case, and compares the status and what was written.
 fn expect_case<R: Abort>(rt: &R, alloc: Global, case: &Case<'_>) -> Result<(), Fail> {
     let words = words_of(alloc, case.words)?;
-    let bytes = Vec::from_slice(alloc, case.script.as_bytes())?;
-    let mut source = MemSource::new(bytes, 100, Vec::from_slice(alloc, case.failing_reads)?);
-    let fails = Vec::from_slice(alloc, case.failing_writes)?;
-    let mut sink = MemSink::new(alloc, 1000, 600, fails)?;
-    let status = eka2_main(alloc, words.as_slice(), &mut source, &mut sink);
-    assert_eq!(rt; status, case.status);
-    assert_eq!(rt; sink.bytes(), case.written.as_bytes());
+    let mut source = source_of(alloc, case)?;
+    let mut sink = sink_of(alloc, case.failing_writes)?;
+    expect_run(
+        rt,
+        alloc,
+        words.as_slice(),
+        &mut source,
+        &mut sink,
+        case.status,
+        case.written,
+    );
     Ok(())
 }
 
@@ -162,6 +203,12 @@ fn a_refused_script_writes_its_refusal(rt: HostRuntime) -> Result<(), Fail> {
     expect_case(&rt, rt.alloc(), &unknown_word)
 }
 
+/// A source of so many line feeds.
+fn line_feeds(alloc: Global, count: usize) -> Result<MemSource, AllocError> {
+    let bytes = vec![in alloc; b'\n'; count]?;
+    Ok(MemSource::new(bytes, 512, Vec::new(alloc)))
+}
+
 /// Runs an input of so many line feeds, and compares the status and what was written.
 fn expect_line_feeds<R: Abort>(
     rt: &R,
@@ -171,12 +218,17 @@ fn expect_line_feeds<R: Abort>(
     written: &str,
 ) -> Result<(), Fail> {
     let words = words_of(alloc, &["run"])?;
-    let bytes = vec![in alloc; b'\n'; count]?;
-    let mut source = MemSource::new(bytes, 512, Vec::new(alloc));
-    let mut sink = MemSink::new(alloc, 100, 100, Vec::new(alloc))?;
-    let found = eka2_main(alloc, words.as_slice(), &mut source, &mut sink);
-    assert_eq!(rt; found, status);
-    assert_eq!(rt; sink.bytes(), written.as_bytes());
+    let mut source = line_feeds(alloc, count)?;
+    let mut sink = sink_of(alloc, &[])?;
+    expect_run(
+        rt,
+        alloc,
+        words.as_slice(),
+        &mut source,
+        &mut sink,
+        status,
+        written,
+    );
     Ok(())
 }
 

@@ -5,11 +5,10 @@ use Rattle.sym_base.specs.declared.number.ObjNo.{ObjNo}
 use Rattle.script_types.specs.declared.instruction.Instr.{Instr}
 use Rattle.script_types.specs.declared.script.Script.{Script}
 use Rattle.script_types.specs.Shape.{HasRegisters, IsShaped}
-use Rattle.state_rows.specs.Nano.{is_protected}
 use Rattle.machine.specs.declared.decision.Decision.{Decision}
 use Rattle.machine.specs.declared.state.State.{State}
 use Rattle.machine.specs.declared.task.Task.{Task}
-use Rattle.machine.specs.Rows.{first_owed, thread_of}
+use Rattle.machine.specs.Rows.{thread_of}
 use Rattle.machine.specs.Steps.{decision_of, decision_where}
 use Rattle.machine.specs.Task.{task_of}
 use Rattle.machine.specs.WellFormed.{AreRows}
@@ -31,4 +30,4 @@ step_goes script S t instr phase shaped rows at =
 -- its registers are those that there are
 pub step_registers : (script : Script) (S : State) (t : ObjNo) (instr : Instr) (phase : ℕ) → IsShaped script → IsAtStep script S t instr phase → HasRegisters instr
 step_registers script S t instr phase shaped at =
-    task_has_registers script S.deferred (is_protected S.nano t) (first_owed S t) (thread_of S t) instr shaped at.next
+    task_has_registers script S t (thread_of S t) instr shaped at.next

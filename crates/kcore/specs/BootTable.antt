@@ -12,7 +12,7 @@ use Rattle.procs.specs.ProcsRows.{ProcsRows}
 use Rattle.kern_sync.specs.KernelLocks.{KernelLocks}
 use Rattle.kernel_tables.specs.declared.tables.Tables.{Tables}
 use Rattle.kernel_tables.specs.Noted.{AreRanked}
-use Rattle.kernel_tables.specs.ObjectsView.{ObjectsView}
+use Rattle.table_moves.specs.ObjectsView.{ObjectsView}
 use Rattle.kernel_tables.specs.StateOf.{slots_of}
 use Rattle.state_rows.specs.declared.object.ObjectRow.{ObjectRow}
 use Rattle.state_rows.specs.ObjectRows.{is_session, is_taken}

@@ -1,17 +1,17 @@
 -- When a move in the rows of logons that fits can be made in the lists.
-use Rattle.std.proofs.Common.{◌≡◌, ℕ, ◌+◌, ◌<◌, List, [], ◌∷◌, length, arith, refl, ap, Bool, true, false}
-use Rattle.std.specs.Prelude.{◌==◌, ◌&&◌, ◌||◌, if◌then◌else◌}
+use Rattle.std.proofs.Common.{◌≡◌, ℕ, ◌<◌, List, [], ◌∷◌, length, arith, refl, ap, Bool, true, false}
+use Rattle.std.specs.Prelude.{◌||◌, if◌then◌else◌}
 use Rattle.std.specs.List.{list_any}
 use Rattle.sym_base.specs.declared.number.ObjNo.{ObjNo}
 use Rattle.script_types.specs.declared.script.Script.{Script}
-use Rattle.cleanup.specs.Lists.{HasSome, is_logon}
+use Rattle.cleanup.specs.Lists.{is_logon}
 use Rattle.machine.specs.declared.logon_move.LogonMove.{LogonMove}
 use Rattle.machine.specs.declared.logon_move.LogonMove.TheVariants.{Add, Remove, Drop}
 use Rattle.machine.specs.declared.state.State.{State}
 use Rattle.machine.specs.Fits.{FitsLogons}
 use Rattle.machine.specs.References.{total}
 use Rattle.machine.specs.WellFormed.{AreRows, logon_names, times_logged}
-use Rattle.kernel_tables.specs.LogonMoved.{CanLogon}
+use Rattle.table_moves.specs.LogonMoved.{CanLogon}
 
 -- a logon that stands in some list is counted
 one_names : (u : ObjNo) (s : ℕ) (logons : List (ObjNo × ℕ)) → list_any (is_logon u s) logons ≡ true → 0 < total (logon_names u s) logons

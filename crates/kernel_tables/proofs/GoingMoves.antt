@@ -1,7 +1,7 @@
 -- The moves of each action go through: they can be made in the tables, and keep priorities and the readiness of those that
 -- they don't touch.
 use Rattle.std.proofs.Common.{◌≡◌, inl, inr, ℕ, ◌+◌, ◌<◌, ◌≤◌, List, [], ◌∷◌, length, get_or, arith, refl, sym, ap, subst, ◌∙◌, Bool, true, false}
-use Rattle.std.specs.Prelude.{◌==◌, IsTrue, is_some, if◌then◌else◌, Option, Some, None}
+use Rattle.std.specs.Prelude.{◌==◌, IsTrue, is_some, Option, Some, None}
 use Rattle.std.proofs.lemmas.Bool.{cases_lt, eq-eqb}
 use Rattle.std.proofs.lemmas.List.{get_or_past}
 use Rattle.sym_base.specs.declared.number.ObjNo.{ObjNo}
@@ -31,12 +31,13 @@ use Rattle.machine.specs.Choice.{priority_of, priority_of_row}
 use Rattle.machine.specs.DeathMoves.{death_row, death_thread}
 use Rattle.machine.specs.NanoMoves.{nano_thread}
 use Rattle.machine.specs.Fits.{FitsNano, FitsRequests, IsFree, FitsMove, EachFits, Sane, most_owed}
-use Rattle.machine.specs.Moves.{moved, told, closed_effects, threads_lose, with_found, with_part, with_register, with_waiting, with_priority, advanced, next_object}
-use Rattle.machine.specs.References.{total, same, count_of, kernel_names, pluses, minuses, RefsMove}
+use Rattle.machine.specs.Moves.{moved, told, closed_effects, threads_lose, with_found, with_part, with_register, with_waiting, with_priority, advanced, next_object, use_of_row}
+use Rattle.machine.specs.References.{total, same, count_of, pluses, minuses, RefsMove}
 use Rattle.machine.specs.Rows.{object_of, thread_of, owed_of}
 use Rattle.machine.specs.WellFormed.{IsAlive, AreRows, AreRequests, is_dead, dead_bit, owed_sweeps, weight}
 use Rattle.move_laws.proofs.Holders.ThreadRows.{row-other}
 use Rattle.move_laws.proofs.Lists.Totals.{inside, total_at_least}
+use Rattle.move_laws.proofs.MoveLaws.Pays.{sweep-over}
 use Rattle.move_laws.proofs.MoveLaws.Run.{sound-move, sound-pay, sane-after, refs-of, weight-move}
 use Rattle.move_laws.proofs.Numbers.CountSmall.{count_small}
 use Rattle.move_laws.proofs.Readiness.ReadyActions.{joins_own}
@@ -47,10 +48,10 @@ use Rattle.kernel_tables.specs.Referred.{HasPlaces, IsReferred}
 use Rattle.kernel_tables.proofs.GoingLocks.{can_lock}
 use Rattle.kernel_tables.proofs.GoingLogons.{can_logon}
 use Rattle.kernel_tables.proofs.DyingRows.{death_priority}
-use Rattle.kernel_tables.proofs.Ranks.{rank-with_row, rank-gain, rank-lose, rank-closed, rank-none}
-use Rattle.kernel_tables.specs.NanoMoved.{CanNano}
-use Rattle.kernel_tables.specs.ObjectsView.{IsThere}
-use Rattle.kernel_tables.specs.RequestMoved.{CanRequest}
+use Rattle.kernel_tables.proofs.Ranks.{rank-with_row, rank-gain, rank-lose, rank-closed, rank-other}
+use Rattle.table_moves.specs.NanoMoved.{CanNano}
+use Rattle.table_moves.specs.ObjectsView.{IsThere}
+use Rattle.table_moves.specs.RequestMoved.{CanRequest}
 
 -- an object that is alive isn't swept
 alive_there : (row : Option ObjectRow) → IsAlive row → IsThere row
@@ -100,17 +101,12 @@ swept_dead script S t o rest rows lt is =
     let dead = rows.lives.sweeps o in
     counted_dead (object_of S o) (omega arith)
 
--- a dead object is no thread with a row
-dead_alive : (row : Option ObjectRow) → IsTrue (is_dead_row row) → IsAlive row → ⊥
-dead_alive None dead alive = alive
-dead_alive (Some row) dead alive = cc
-
-kernel_holds : (S : State) (o : ObjNo) (row : Option ThreadRow) → thread_of S o ≡ row → (0 < count_of S o → ⊥) → row ≡ None
-kernel_holds S o None is uncounted = refl
-kernel_holds S o (Some row) is uncounted = absurd (uncounted (counted_by S o row is))
-  where
-    counted_by : (S : State) (o : ObjNo) (row : ThreadRow) → thread_of S o ≡ Some row → 0 < count_of S o
-    counted_by S o row is = let one : kernel_names S o ≡ 1 = ap (λ (x : Option ThreadRow). if is_some x then 1 else 0) is in omega arith
+-- and uses nothing
+swept_unused : (script : Script) (S : State) (t o : ObjNo) (rest : List Owed) (row : Option ThreadRow) → Sane script t S → owed_of S t ≡ Sweep o ∷ rest → thread_of S o ≡ row → use_of_row (thread_of S o) ≡ None
+swept_unused script S t o rest None s owes is = ap use_of_row is
+swept_unused script S t o rest (Some row) s owes is =
+    let over = sweep-over script S t o rest row owes s.inside s.rows is in
+    ap use_of_row over.is ∙ over.spent.unused
 
 -- a thread has at most 16,384 instructions
 few_in : (script : Script) → IsShaped script → (role : Role) (declared : Option ThreadDecl) → declared_of script role ≡ declared → length (instructions_in declared) ≤ 16384
@@ -276,11 +272,11 @@ can_pay : (script : Script) (S : State) (t : ObjNo) (what : Owed) (rest : List O
 can_pay script S t (Close h o) rest owes refs s = (referred script S o s.rows (was_held S (moved t (Pay (Close h o)) S) _ h o refs), few_places script S t s.rows)
 can_pay script S t (Sweep o) rest owes refs s =
     let dead = swept_dead script S t o rest s.rows (let long = s.rows.sized.duties in let there = s.inside in omega arith) owes in
-    (dead, kernel_holds S o (thread_of S o) refl (λ some. dead_alive (object_of S o) dead (s.rows.lives.alive o some)))
+    (dead, swept_unused script S t o rest (thread_of S o) s owes refl)
 
-ranks_pay : (script : Script) (S : State) (t : ObjNo) (what : Owed) (u : ObjNo) → CanMove t (Pay what) S → priority_of (moved t (Pay what) S) u ≡ priority_of S u
-ranks_pay script S t (Close h o) u can = rank-closed S.threads _ o u
-ranks_pay script S t (Sweep o) u can = rank-none S.threads o u can.1
+ranks_pay : (script : Script) (S : State) (t : ObjNo) (what : Owed) (u : ObjNo) → is_set (Pay what) u ≡ false → priority_of (moved t (Pay what) S) u ≡ priority_of S u
+ranks_pay script S t (Close h o) u unset = rank-closed S.threads _ o u
+ranks_pay script S t (Sweep o) u unset = rank-other S.threads o u (λ at. set_other u o unset (sym at))
 
 pub pay_goes : (script : Script) (S : State) (t : ObjNo) (what : Owed) (rest : List Owed) → owed_of S t ≡ what ∷ rest → Sane script t S → MoveGoes script t (Pay what) S
 pay_goes script S t what rest owes s =
@@ -292,6 +288,6 @@ pay_goes script S t what rest owes s =
       can = can;
       refs = refs;
       known = known script T sound.rows;
-      ranks = λ u _. ranks_pay script S t what u can;
+      ranks = λ u unset. ranks_pay script S t what u unset;
       apart = λ u none. untouched script S t (Pay what) u s.rows.threads tt none;
     }

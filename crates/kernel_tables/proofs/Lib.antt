@@ -1,13 +1,10 @@
-mod Counted
 mod DyingRows
-mod Filling
 mod Finds
 pub mod FirstCount
 pub mod GoingActions
 mod GoingLocks
 mod GoingLogons
 mod GoingMoves
-pub mod GoneLogons
 mod LockRows
 mod Noting
 pub mod Performing
@@ -16,6 +13,5 @@ pub mod ReadyChanges
 pub mod ReadyLists
 pub mod ReadyQueues
 pub mod ReadyRows
-mod RowsOfThreads
 mod Slots
 mod Tying

@@ -8,7 +8,7 @@ use Rattle.kern_sync.specs.KernelLocks.{best_of, priority_of as rank_of}
 use Rattle.machine.specs.Choice.{priority_of}
 use Rattle.kernel_tables.specs.declared.tables.Tables.{Tables}
 use Rattle.kernel_tables.specs.Noted.{AreKept, TiedTables}
-use Rattle.kernel_tables.specs.ObjectsView.{IsHeld}
+use Rattle.table_moves.specs.ObjectsView.{IsHeld}
 use Rattle.kernel_tables.specs.Referred.{IsReferred}
 use Rattle.kernel_tables.specs.StateOf.{state_of}
 

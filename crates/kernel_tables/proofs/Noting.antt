@@ -1,25 +1,19 @@
 -- What is noted of threads for their deaths follows their rows.
-use Rattle.std.proofs.Common.{◌≡◌, ◌∙◌, inl, inr, ◌≤◌, List, [], ◌∷◌, ◌++◌, length, get_or, map, set, arith, refl, sym, ap, append_assoc, append-nil}
-use Rattle.std.specs.Prelude.{option_map, Option, Some, None, slice_get, true, false, Bool}
-use Rattle.std.proofs.lemmas.Bool.{cases_lt}
-use Rattle.std.proofs.lemmas.List.{map-set, set-get_or, set-set, set_past, get_or-set_same, length-set}
-use Rattle.std.proofs.Math.ListN.{get_or-map as each-map}
+use Rattle.std.proofs.Common.{◌≡◌, ◌∙◌, List, get_or, map, set, refl, sym, ap}
+use Rattle.std.specs.Prelude.{option_map, Option, Some, None, true, false, Bool}
+use Rattle.std.proofs.lemmas.List.{map-set}
 use Rattle.std.proofs.Math.Seq.{map-set_same}
 use Rattle.sym_base.specs.declared.number.ObjNo.{ObjNo}
 use Rattle.entry_log.specs.declared.effect.Holder.{Holder}
 use Rattle.entry_log.specs.declared.effect.Holder.TheVariants.{InProcess, InThread, Temp, Own, Link, Message, Kernel}
-use Rattle.state_rows.specs.declared.duty.Owed.{Owed}
 use Rattle.cleanup.specs.Lists.{Lists}
 use Rattle.machine.specs.declared.state.State.{State}
 use Rattle.state_rows.specs.declared.thread.ThreadRow.{ThreadRow}
 use Rattle.machine.specs.Moves.{use_of_row, with_use as row_with_use, threads_gain, threads_lose, threads_closed, unlinked, advanced}
-use Rattle.machine.specs.Rows.{with_row, owing, first_of}
+use Rattle.machine.specs.Rows.{with_row}
 use Rattle.kernel_tables.specs.Moved.{MayGain}
-use Rattle.kernel_tables.specs.Noted.{with_use, use_gained, use_lost, MayUse, AreNoted}
-
--- what a thread uses is noted
-pub noted_at : (s : Lists) (threads : List (Option ThreadRow)) (t : ObjNo) → AreNoted s threads → get_or s.temporary t.0 None ≡ use_of_row (get_or threads t.0 None)
-noted_at s threads t noted = ap (λ (l : List (Option ObjNo)). get_or l t.0 None) noted ∙ each-map use_of_row threads t.0 None
+use Rattle.table_moves.proofs.Noting.{noted_at}
+use Rattle.table_moves.specs.Noted.{with_use, use_gained, use_lost, MayUse, AreNoted}
 
 -- a row that changes otherwise leaves it
 use_kept : (row : Option ThreadRow) (f : ThreadRow → ThreadRow) → ((r : ThreadRow) → (f r).uses ≡ r.uses) → use_of_row (option_map f row) ≡ use_of_row row
@@ -34,10 +28,10 @@ pub noted_closed : (s : Lists) (threads : List (Option ThreadRow)) (last : Bool)
 noted_closed s threads true o noted = noted_row s threads o unlinked (λ r. refl) noted
 noted_closed s threads false o noted = noted
 
--- and so does one that stays without a row
-pub noted_none : (s : Lists) (threads : List (Option ThreadRow)) (o : ObjNo) → get_or threads o.0 None ≡ None → AreNoted s threads → AreNoted s (set threads o.0 None)
-noted_none s threads o none noted =
-    noted ∙ sym (map-set_same use_of_row threads o.0 None None (ap use_of_row (sym none)))
+-- and so does one that goes and uses nothing
+pub noted_swept : (s : Lists) (threads : List (Option ThreadRow)) (o : ObjNo) → use_of_row (get_or threads o.0 None) ≡ None → AreNoted s threads → AreNoted s (set threads o.0 None)
+noted_swept s threads o unused noted =
+    noted ∙ sym (map-set_same use_of_row threads o.0 None None (sym unused))
 
 -- a row whose use changes is noted so
 noted_set : (s : Lists) (threads : List (Option ThreadRow)) (t : ObjNo) (row : Option ThreadRow) (uses : Option ObjNo) → use_of_row row ≡ uses → AreNoted s threads → AreNoted (with_use s t uses) (set threads t.0 row)
@@ -85,7 +79,7 @@ noted_lost s threads Kernel noted = noted
 pub noted_ended : (s : Lists) (threads : List (Option ThreadRow)) (t : ObjNo) → AreNoted s threads → AreNoted (with_use s t None) (with_row threads t advanced)
 noted_ended s threads t noted = noted_set s threads t (option_map advanced (get_or threads t.0 None)) None (ended_row (get_or threads t.0 None)) noted
 
--- duties and mutexes stay where uses change
+-- duties, mutexes and logons stay where uses change
 pub duties_gained : (s : Lists) (h : Holder) (o : ObjNo) → (use_gained h o s).duties ≡ s.duties
 duties_gained s (Temp t) o = refl
 duties_gained s (InProcess p i) o = refl
@@ -122,24 +116,20 @@ duties_lost s (Link x) = refl
 duties_lost s (Message m) = refl
 duties_lost s Kernel = refl
 
--- more of what threads owe
-module _ (owed : List (List Owed)) (t : ObjNo) where
-  pub owing_nothing : owing owed t [] ≡ owed
-  owing_nothing = ap (set owed t.0) (append-nil (get_or owed t.0 [])) ∙ set-get_or owed t.0 []
+pub logons_gained : (s : Lists) (h : Holder) (o : ObjNo) → (use_gained h o s).logons ≡ s.logons
+logons_gained s (Temp t) o = refl
+logons_gained s (InProcess p i) o = refl
+logons_gained s (InThread t i) o = refl
+logons_gained s (Own t) o = refl
+logons_gained s (Link x) o = refl
+logons_gained s (Message m) o = refl
+logons_gained s Kernel o = refl
 
-  pub owing_past : (more : List Owed) → length owed ≤ t.0 → owing owed t more ≡ owed
-  owing_past more past = set_past owed t.0 _ past
-
-  pub owing_both : (one more : List Owed) → owing (owing owed t one) t more ≡ owing owed t (one ++ more)
-  owing_both one more = elim (cases_lt t.0 (length owed)) [
-    | inl inside ↦
-        set-set owed t.0 _ _ ∙ ap (set owed t.0) (ap (λ (l : List Owed). l ++ more) (get_or-set_same owed t.0 (get_or owed t.0 [] ++ one) [] inside) ∙ append_assoc (get_or owed t.0 []) one more)
-    | inr past ↦
-        let long : length (owing owed t one) ≤ t.0 = omega (arith, length-set owed t.0 (get_or owed t.0 [] ++ one)) in
-        set_past (owing owed t one) t.0 _ long ∙ (set_past owed t.0 _ past ∙ sym (set_past owed t.0 _ past))
-  ]
-
--- the oldest of a list
-pub first_is : (owed : List Owed) → slice_get owed 0 ≡ first_of owed
-first_is [] = refl
-first_is (what ∷ rest) = refl
+pub logons_lost : (s : Lists) (h : Holder) → (use_lost h s).logons ≡ s.logons
+logons_lost s (Temp t) = refl
+logons_lost s (InProcess p i) = refl
+logons_lost s (InThread t i) = refl
+logons_lost s (Own t) = refl
+logons_lost s (Link x) = refl
+logons_lost s (Message m) = refl
+logons_lost s Kernel = refl

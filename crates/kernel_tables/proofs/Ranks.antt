@@ -1,7 +1,8 @@
 -- Priorities follow the rows of threads.
-use Rattle.std.proofs.Common.{◌≡◌, ◌∙◌, inl, inr, ℕ, zero, suc, List, [], ◌∷◌, get_or, refl, sym, ap, Bool, true, false}
-use Rattle.std.specs.Prelude.{Option, Some, None, option_map, slice_set}
+use Rattle.std.proofs.Common.{◌≡◌, ◌∙◌, inl, inr, ℕ, List, get_or, set, refl, ap, Bool, true, false}
+use Rattle.std.specs.Prelude.{Option, Some, None, option_map}
 use Rattle.std.proofs.lemmas.Bool.{cases_eq}
+use Rattle.std.proofs.lemmas.List.{get_or-set_other}
 use Rattle.sym_base.specs.declared.number.ObjNo.{ObjNo}
 use Rattle.entry_log.specs.declared.effect.Holder.{Holder}
 use Rattle.entry_log.specs.declared.effect.Holder.TheVariants.{Temp}
@@ -34,11 +35,6 @@ pub rank-closed : (threads : List (Option ThreadRow)) (last : Bool) (o u : ObjNo
 rank-closed threads true o u = rank-with_row threads o unlinked u (λ r. refl)
 rank-closed threads false o u = refl
 
--- a number without a row has none after it is taken away
-pub rank-none : (threads : List (Option ThreadRow)) (o u : ObjNo) → get_or threads o.0 None ≡ None → priority_of_row (get_or (slice_set threads o.0 None) u.0 None) ≡ priority_of_row (get_or threads u.0 None)
-rank-none threads o u none = ap (λ (l : List (Option ThreadRow)). priority_of_row (get_or l u.0 None)) (set_none threads o.0 none)
-  where
-    set_none : (threads : List (Option ThreadRow)) (i : ℕ) → get_or threads i None ≡ None → slice_set threads i None ≡ threads
-    set_none [] i none = refl
-    set_none (x ∷ xs) zero none = ap (λ y. y ∷ xs) (sym none)
-    set_none (x ∷ xs) (suc i) none = ap (λ l. x ∷ l) (set_none xs i none)
+-- those of the others stay where a row goes
+pub rank-other : (threads : List (Option ThreadRow)) (o u : ObjNo) → (u.0 ≡ o.0 → ⊥) → priority_of_row (get_or (set threads o.0 None) u.0 None) ≡ priority_of_row (get_or threads u.0 None)
+rank-other threads o u apart = ap priority_of_row (get_or-set_other threads o.0 u.0 None None apart)

@@ -5,7 +5,8 @@ use Rattle.std.proofs.lemmas.Bool.{cases_Bool, eq-eqb, eqb-true, or_parts, or_fr
 use Rattle.sym_base.specs.declared.number.ObjNo.{ObjNo}
 use Rattle.script_types.specs.declared.script.Script.{Script}
 use Rattle.machine.specs.declared.moves.Move.{Move}
-use Rattle.machine.specs.declared.moves.Move.TheVariants.{SetPriority}
+use Rattle.state_rows.specs.declared.duty.Owed.TheVariants.{Sweep}
+use Rattle.machine.specs.declared.moves.Move.TheVariants.{SetPriority, Pay}
 use Rattle.machine.specs.declared.state.State.{State}
 use Rattle.machine.specs.Arrivals.{is_listed, unlisted, touched, taken_out}
 use Rattle.machine.specs.Task.{is_ready}
@@ -165,8 +166,10 @@ not_true false h = refl
 
 pub taken_listed : (m : Move) (qs : List ObjNo) (u : ObjNo) → is_listed (taken_out m qs) u ≡ true → is_listed qs u ≡ true
 taken_listed (SetPriority v priority) qs u listed = (filtered_listed (λ q. not (q.0 == v.0)) qs u listed).0
+taken_listed (Pay (Sweep o)) qs u listed = (filtered_listed (λ q. not (q.0 == o.0)) qs u listed).0
 taken_listed _ qs u listed = listed
 
 pub taken_unset : (m : Move) (qs : List ObjNo) (u : ObjNo) → is_listed (taken_out m qs) u ≡ true → is_set m u ≡ false
 taken_unset (SetPriority v priority) qs u listed = not_true (u.0 == v.0) (filtered_listed (λ q. not (q.0 == v.0)) qs u listed).1
+taken_unset (Pay (Sweep o)) qs u listed = not_true (u.0 == o.0) (filtered_listed (λ q. not (q.0 == o.0)) qs u listed).1
 taken_unset _ qs u listed = refl

@@ -1,8 +1,8 @@
 -- What is kept of threads beside their rows follows the rows.
 use Rattle.std.proofs.Common.{◌≡◌, ◌∙◌, inl, inr, ℕ, ◌<◌, List, length, get_or, set, refl, sym, ap, Bool}
 use Rattle.std.specs.Prelude.{Option, Some, None, option_map}
-use Rattle.std.proofs.lemmas.Bool.{cases_eq}
-use Rattle.std.proofs.lemmas.List.{get_or-set_same, get_or-set_other, length-set}
+use Rattle.std.proofs.lemmas.Bool.{cases_eq, cases_lt}
+use Rattle.std.proofs.lemmas.List.{get_or-set_same, get_or-set_other, get_or_past, length-set, set_past}
 use Rattle.sym_base.specs.declared.number.ObjNo.{ObjNo}
 use Rattle.entry_log.specs.declared.effect.Holder.{Holder}
 use Rattle.entry_log.specs.declared.effect.Holder.TheVariants.{InProcess, InThread, Temp, Own, Link, Message, Kernel}
@@ -10,13 +10,14 @@ use Rattle.cleanup.specs.Lists.{Lists}
 use Rattle.state_rows.specs.declared.thread.ThreadRow.{ThreadRow}
 use Rattle.machine.specs.declared.state.State.{State}
 use Rattle.machine.specs.Choice.{priority_of_row}
-use Rattle.machine.specs.Moves.{threads_gain, threads_lose, threads_closed, advanced, with_priority}
+use Rattle.machine.specs.Moves.{threads_gain, threads_lose, threads_closed, advanced, use_of_row, with_priority}
 use Rattle.machine.specs.Rows.{with_row}
 use Rattle.move_laws.proofs.Holders.ThreadRows.{row-here, row-other}
 use Rattle.kernel_tables.specs.Moved.{MayGain}
-use Rattle.kernel_tables.specs.Noted.{AreTied, use_gained, use_lost, with_use}
-use Rattle.kernel_tables.proofs.Noting.{noted_row, noted_closed, noted_none, noted_gained, noted_lost, noted_ended}
-use Rattle.kernel_tables.proofs.Ranks.{rank-with_row, rank-gain, rank-lose, rank-closed, rank-none}
+use Rattle.table_moves.specs.Noted.{use_gained, use_lost, with_use}
+use Rattle.kernel_tables.specs.Noted.{AreTied}
+use Rattle.kernel_tables.proofs.Noting.{noted_row, noted_closed, noted_swept, noted_gained, noted_lost, noted_ended}
+use Rattle.kernel_tables.proofs.Ranks.{rank-with_row, rank-gain, rank-lose, rank-closed, rank-other}
 
 -- the lists are of the same objects where uses change
 objects_gained : (s : Lists) (h : Holder) (o : ObjNo) → (use_gained h o s).objects ≡ s.objects
@@ -37,6 +38,13 @@ objects_lost s (Link x) = refl
 objects_lost s (Message m) = refl
 objects_lost s Kernel = refl
 
+-- what is taken away isn't there
+none_at : {A : Type 0} (xs : List A) (i k : ℕ) (none : A) → k ≡ i → get_or (set xs i none) k none ≡ none
+none_at xs i k none at = ap (λ (n : ℕ). get_or (set xs i none) n none) at ∙ elim (cases_lt i (length xs)) [
+  | inl inside ↦ get_or-set_same xs i none none inside
+  | inr past ↦ ap (λ l. get_or l i none) (set_past xs i none past) ∙ get_or_past xs i none past
+]
+
 module _ (s : Lists) (priorities : List ℕ) where
   -- a row changes, but for its use and its priority
   pub tied_row : (threads : List (Option ThreadRow)) (t : ObjNo) (f : ThreadRow → ThreadRow) → ((r : ThreadRow) → (f r).uses ≡ r.uses) → ((r : ThreadRow) → (f r).priority ≡ r.priority) → AreTied s.temporary s.objects priorities threads → AreTied s.temporary s.objects priorities (with_row threads t f)
@@ -56,13 +64,16 @@ module _ (s : Lists) (priorities : List ℕ) where
     ranked = h.ranked;
   }
 
-  -- a number stays without a row
-  pub tied_none : (threads : List (Option ThreadRow)) (o : ObjNo) → get_or threads o.0 None ≡ None → AreTied s.temporary s.objects priorities threads → AreTied s.temporary s.objects priorities (set threads o.0 None)
-  tied_none threads o none h = record {
-    uses = noted_none s threads o none h.uses;
-    ranks = λ u. h.ranks u ∙ sym (rank-none threads o u none);
+  -- a row goes that uses nothing, and its priority with it
+  pub tied_swept : (threads : List (Option ThreadRow)) (o : ObjNo) → use_of_row (get_or threads o.0 None) ≡ None → AreTied s.temporary s.objects priorities threads → AreTied s.temporary s.objects (set priorities o.0 0) (set threads o.0 None)
+  tied_swept threads o unused h = record {
+    uses = noted_swept s threads o unused h.uses;
+    ranks = λ u. elim (cases_eq u.0 o.0) [
+      | inl at ↦ none_at priorities o.0 u.0 0 at ∙ sym (ap priority_of_row (none_at threads o.0 u.0 None at))
+      | inr apart ↦ get_or-set_other priorities o.0 u.0 0 0 apart ∙ (h.ranks u ∙ sym (rank-other threads o u apart))
+    ];
     listed = h.listed;
-    ranked = h.ranked;
+    ranked = length-set priorities o.0 0 ∙ h.ranked;
   }
 
   -- a holder gets a reference, and gives it up

@@ -1,13 +1,8 @@
-pub mod ObjectsView
 pub mod Counts
 pub mod StateOf
 pub mod Noted
 pub mod Referred
-pub mod Dying
 pub mod LockMoved
-pub mod LogonMoved
-pub mod NanoMoved
-pub mod RequestMoved
 pub mod Moved
 pub mod ReadyQueues
 pub mod Performed

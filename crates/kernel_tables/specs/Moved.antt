@@ -15,7 +15,7 @@ use Rattle.machine.specs.declared.moves.Move.TheVariants.{Make, Gain, Lose, Find
 use Rattle.machine.specs.declared.state.State.{State}
 use Rattle.state_rows.specs.declared.thread.ThreadRow.{ThreadRow}
 use Rattle.script_types.specs.declared.script.Script.{Script}
-use Rattle.machine.specs.Moves.{moved, told, objects_closed, threads_closed, owed_by_close}
+use Rattle.machine.specs.Moves.{moved, told, objects_closed, threads_closed, owed_by_close, use_of_row}
 use Rattle.machine.specs.Arrivals.{is_listed, touched}
 use Rattle.machine.specs.Fits.{FitsDeferred}
 use Rattle.machine.specs.Choice.{priority_of}
@@ -25,12 +25,12 @@ use Rattle.machine.specs.Rows.{object_of, thread_of, owing}
 use Rattle.machine.specs.Task.{is_ready}
 use Rattle.kernel_tables.specs.declared.tables.Tables.{Tables}
 use Rattle.kernel_tables.specs.Counts.{CountsMove}
-use Rattle.kernel_tables.specs.NanoMoved.{CanNano}
+use Rattle.table_moves.specs.NanoMoved.{CanNano}
 use Rattle.kernel_tables.specs.LockMoved.{CanLock}
-use Rattle.kernel_tables.specs.LogonMoved.{CanLogon}
+use Rattle.table_moves.specs.LogonMoved.{CanLogon}
 use Rattle.kernel_tables.specs.Noted.{TiedTables}
 use Rattle.kernel_tables.specs.Referred.{HasPlaces, IsReferred}
-use Rattle.kernel_tables.specs.RequestMoved.{CanRequest}
+use Rattle.table_moves.specs.RequestMoved.{CanRequest}
 use Rattle.kernel_tables.specs.StateOf.{state_of}
 
 -- there is room for one more object, and nothing refers to it yet
@@ -74,7 +74,7 @@ abbrev pub AreKnown : State → Type 0
 AreKnown S = (u : ObjNo) (row : ThreadRow) → thread_of S u ≡ Some row → (u.0 < BOOT_OBJECTS) × (row.priority < 64)
 
 -- when a move in an action of thread t can be made: a reference is taken from an object that has some; what is swept is
--- dead, and no thread; and there is a place for what the thread owes then
+-- dead, and uses nothing; and there is a place for what the thread owes then
 abbrev pub CanMove : ObjNo → Move → State → Type 0
 CanMove t (Make kind name h) S = CanMake kind name h S
 CanMove t (Gain h o) S = CanGain h o S
@@ -95,7 +95,7 @@ CanMove t (Logons m) S = CanLogon m (length S.owed) S.logons
 CanMove t (Death m) S = HasPlaces 1 S t
 CanMove t (Fill p at length byte) S = at + length ≤ 1024
 CanMove t (Pay (Close h o)) S = IsReferred S o × HasPlaces 2 S t
-CanMove t (Pay (Sweep o)) S = IsTrue (is_dead_row (object_of S o)) × (thread_of S o ≡ None)
+CanMove t (Pay (Sweep o)) S = IsTrue (is_dead_row (object_of S o)) × (use_of_row (thread_of S o) ≡ None)
 
 -- A move of an action of thread t was made: the tables stand for the state that it leaves, the counts moved with what it
 -- tells, and what is kept of threads is theirs.
@@ -119,9 +119,10 @@ pub record IsClosed {W N : Type 0} (t o : ObjNo) (link : Option ObjNo) (old new 
   pub counts : new.objects.counts ≡ slice_set old.objects.counts o.0 (slice_index old.objects.counts o.0 - 1)
   pub tied : TiedTables new
 
--- whether a move sets a thread's priority
+-- whether a move sets a thread's priority; one whose row is swept has none any more
 abbrev pub is_set : Move → ObjNo → Bool
 is_set (SetPriority v priority) u = u.0 == v.0
+is_set (Pay (Sweep o)) u = u.0 == o.0
 is_set _ u = false
 
 -- A move in an action of thread t goes through: it can be made, the references move with what it tells, priorities stay

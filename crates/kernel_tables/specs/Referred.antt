@@ -4,7 +4,7 @@ use Rattle.sym_base.specs.declared.number.ObjNo.{ObjNo}
 use Rattle.machine.specs.declared.state.State.{State}
 use Rattle.machine.specs.References.{count_of}
 use Rattle.machine.specs.Rows.{object_of, owed_of}
-use Rattle.kernel_tables.specs.ObjectsView.{IsThere}
+use Rattle.table_moves.specs.ObjectsView.{IsThere}
 
 -- an object that isn't swept and has references, so many that one more may come
 pub record IsReferred (S : State) (o : ObjNo) : Type 0 where

@@ -1,21 +1,15 @@
 -- The definitions' state that the kernel's tables stand for, but for the ready threads, which stand in queues
 -- of their own.
-use Rattle.std.specs.Prelude.{List, [], map, Option}
+use Rattle.std.specs.Prelude.{List, [], map}
 use Rattle.sym_base.specs.declared.number.ObjNo.{ObjNo}
 use Rattle.state_rows.specs.declared.handle_slot.HandleSlot.{HandleSlot}
-use Rattle.state_rows.specs.declared.thread.ThreadRow.{ThreadRow}
 use Rattle.handles.specs.HandleTable.{HandleTable}
-use Rattle.procs.specs.ProcsRows.{ProcsRows}
 use Rattle.machine.specs.declared.state.State.{State}
 use Rattle.kernel_tables.specs.declared.tables.Tables.{Tables}
 
 -- the places of each handle table
 abbrev pub slots_of : List HandleTable → List (List HandleSlot)
 slots_of tables = map (λ (t : HandleTable). t.slots) tables
-
--- the table of threads and processes with these rows of threads
-abbrev pub with_threads : ProcsRows → List (Option ThreadRow) → ProcsRows
-with_threads rows threads = record rows { threads = threads }
 
 -- each field of the state is the value of one table, and nobody is ready
 abbrev pub state_of : {W N : Type 0} → Tables W N → State

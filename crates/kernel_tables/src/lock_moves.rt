@@ -11,11 +11,9 @@ ghost use Rattle.machine.specs.Rows.{owing};
 ghost use Rattle.kernel_tables.specs.LockMoved.{CanLock};
 ghost use Rattle.kernel_tables.specs.Moved.{IsMoved};
 ghost use Rattle.kernel_tables.specs.Noted.{AreKept};
-ghost use Rattle.kernel_tables.specs.ObjectsView.{IsHeld};
+ghost use Rattle.table_moves.specs.ObjectsView.{IsHeld};
 ghost use Rattle.kernel_tables.specs.StateOf.{state_of};
 
-use crate::duties::owe;
-use crate::object_table::ObjectTable;
 use crate::tables::Tables;
 use cleanup::{Cleanup, Held};
 use entry_log::Holder;
@@ -23,6 +21,7 @@ use machine::{LockMove, Owed};
 use ref_words::RefWords;
 use state_rows::{Locked, Unlocked};
 use sym_base::{ObjNo, ThreadNo};
+use table_moves::{ObjectTable, owe};
 
 /// A thread holds a mutex that nobody holds.
 fn hold(cleanup: &mut Cleanup, thread: ThreadNo, mutex: ObjNo)

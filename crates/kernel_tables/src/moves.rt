@@ -1,5 +1,5 @@
 //! Moves in the kernel's tables: each changes the rows, and the counts move with what it tells.
-ghost use Rattle.std.specs.Prelude.{◌≡◌, ◌+◌, ◌-◌, ◌<◌, ◌≤◌, ◌==◌, [], length, slice_index, slice_set};
+ghost use Rattle.std.specs.Prelude.{◌≡◌, ◌+◌, ◌-◌, ◌<◌, ◌≤◌, ◌==◌, [], None, length, slice_index, slice_set};
 ghost use Rattle.std.specs.List.{slice_index_or};
 ghost use Rattle.state_rows.specs.HandleSlots.{free_index};
 ghost use Rattle.sym_base.specs.declared.number.ObjNo.{ObjNo};
@@ -9,26 +9,27 @@ ghost use Rattle.machine.specs.Rows.{thread_of};
 ghost use Rattle.cleanup.specs.Lists.{list_of};
 ghost use Rattle.kernel_tables.specs.Noted.{AreKept, TiedTables};
 ghost use Rattle.kernel_tables.specs.Moved.{CanMake, CanGain, CanAdvance, CanMove, IsMoved, IsClosed, TakesLeast};
-ghost use Rattle.kernel_tables.specs.ObjectsView.{IsHeld};
+ghost use Rattle.table_moves.specs.ObjectsView.{IsHeld};
 ghost use Rattle.kernel_tables.specs.StateOf.{slots_of, state_of};
+ghost use Rattle.table_moves.specs.ThreadRows.{with_threads};
+ghost use Rattle.kern_sync.specs.KernelLocks.{after_priority};
+ghost use Rattle.sym_base.specs.declared.limits.TheConstants.Limits.{BOOT_OBJECTS};
 
 use crate::death_moves::move_death;
-use crate::duties::{drop_first_owed, owe_close, owe_use};
 use crate::lock_moves::move_lock;
-use crate::logon_moves::move_logon;
-use crate::nano_moves::move_nano;
-use crate::request_moves::move_request;
 use crate::tables::Tables;
-use crate::threads::{
-    fill, threads_advance, threads_closed, threads_find, threads_gain, threads_go_on, threads_lose,
-    threads_set_priority, threads_wait, threads_write,
-};
-use crate::uses::{note_end, note_gain, note_lost, use_of};
 use entry_log::Holder;
 use handles::Handles;
+use kern_sync::KernSync;
 use machine::{Move, Owed, Waiting};
+use procs::Procs;
 use ref_words::{Closed, RefWords};
-use sym_base::{Items, Kind, Name, ObjNo, ThreadNo};
+use sym_base::{Items, Kind, Limits, Name, ObjNo, ThreadNo};
+use table_moves::{
+    drop_first_owed, fill, move_logon, move_nano, move_request, note_end, note_gain, note_lost,
+    owe_close, owe_use, threads_advance, threads_closed, threads_find, threads_gain, threads_go_on,
+    threads_lose, threads_set_priority, threads_wait, threads_write, use_of,
+};
 
 /// The least free place of a handle table takes an object.
 fn take_place(tables: &mut Items<Handles>, owner: ObjNo, object: ObjNo)
@@ -178,6 +179,18 @@ fn pay_close<W: RefWords + Drop>(
     close(tables, thread, object, link);
 }
 
+/// The row of a swept thread goes, and its priority among waiters.
+fn sweep_row(procs: &mut Procs, locks: &mut KernSync, object: ObjNo)
+    requires { length locks.old.priorities ≡ BOOT_OBJECTS }
+    ensures rows { procs.new ≡ with_threads procs.old (slice_set procs.old.threads object.0 None) }
+    ensures priorities { locks.new ≡ after_priority locks.old object 0 }
+{
+    procs.remove_thread(object);
+    if (object.0 as usize) < Limits::BOOT_OBJECTS {
+        locks.set_priority(object, 0);
+    }
+}
+
 /// The thread removes the row of a dead object.
 fn pay_sweep<W: RefWords + Drop>(tables: &mut Tables<W>, thread: ThreadNo, object: ObjNo)
     requires can { CanMove thread (Move.Pay (Owed.Sweep object)) (state_of tables.old) }
@@ -185,10 +198,7 @@ fn pay_sweep<W: RefWords + Drop>(tables: &mut Tables<W>, thread: ThreadNo, objec
     ensures { IsMoved thread (Move.Pay (Owed.Sweep object)) tables.old tables.new }
 {
     tables.objects.sweep(object);
-    if tables.procs.is_thread(object) {
-        tables.locks.set_priority(object, 0);
-    }
-    tables.procs.remove_thread(object);
+    sweep_row(&mut tables.procs, &mut tables.locks, object);
     drop_first_owed(&mut tables.cleanup, thread);
 }
 
@@ -229,7 +239,7 @@ pub fn make_move<W: RefWords + Drop>(tables: &mut Tables<W>, thread: ThreadNo, c
         Move::Requests(change) => move_request(&mut tables.requests, change),
         Move::Locks(change) => move_lock(tables, change),
         Move::Logons(change) => move_logon(&mut tables.cleanup, change),
-        Move::Death(change) => move_death(tables, thread, change),
+        Move::Death(change) => move_death(tables, thread, &change),
         Move::Fill(process, at, length, byte) => {
             fill(&mut tables.procs, process, at, length, byte);
         }

@@ -5,16 +5,16 @@ ghost use Rattle.state_rows.specs.HandleSlots.{free_index, slot_at};
 ghost use Rattle.kernel_tables.specs.Noted.{AreKept};
 ghost use Rattle.kernel_tables.specs.StateOf.{slots_of, state_of};
 
-use crate::duties::first_owed;
-use crate::dying::{buried_by, first_held, has_one_left};
+use crate::dying::first_held;
 use crate::tables::Tables;
 use handles::Handles;
 use machine::{NewHandle, Owed, ThreadRow};
-use readings::Reads;
+use readings::{Reads, burial_place, first_used, is_one_left};
 use ref_words::RefWords;
 use script_types::Script;
 use state_rows::{HandleSlot, Held, Item, ObjectRow, Owner, Request, is_local, look};
 use sym_base::{Items, Kind, Name, ObjNo, ThreadNo};
+use table_moves::first_owed;
 
 /// The places of the handle table of a process or a thread, none where there is no such table.
 fn slots_of(handles: &Items<Handles>, owner: ObjNo) -> &[HandleSlot]
@@ -146,19 +146,20 @@ impl<W: RefWords + Drop> Reads for Tables<W> {
     }
 
     fn first_held(&self, thread: ThreadNo) -> Option<Held> {
-        first_held(&self.cleanup, thread)
+        first_held(self, thread)
     }
 
     fn first_handle(&self, owner: ObjNo) -> Option<(u8, ObjNo)> {
-        self.handles.as_slice().get(owner.0 as usize)?.next_of(0)
+        first_used(slots_of(&self.handles, owner))
     }
 
     fn has_one_left(&self, process: ObjNo) -> bool {
-        has_one_left(&self.procs, process)
+        is_one_left(process, self.procs.threads())
     }
 
     fn buried_by(&self, script: &Script, dfc: u8) -> Option<ThreadNo> {
-        buried_by(&self.procs, script, dfc)
+        let place = burial_place(script, dfc, self.procs.threads())?;
+        Some(ObjNo(place as u16))
     }
 
     fn lock_owner(&self, mutex: ObjNo) -> Option<Owner> {

@@ -16,7 +16,7 @@ ghost use Rattle.kernel_tables.specs.StateOf.{state_of};
 
 use crate::tables::Tables;
 use entry_log::Actor;
-use machine::{Move, TouchedThreads, touched};
+use machine::{Move, Owed, TouchedThreads, touched};
 use nano_sync::NanoSync;
 use readings::{is_ready, wanted_holder};
 use ready_list::ReadyList;
@@ -83,14 +83,16 @@ fn take_off(ready: &mut ReadyList, thread: ThreadNo)
     }
 }
 
-/// A thread whose priority a move sets leaves, and so comes anew.
+/// A thread whose priority a move sets leaves, and so comes anew; one whose row is swept leaves.
 pub fn take_out(ready: &mut ReadyList, change: &Move)
     requires { ready.old.threads ≡ BOOT_OBJECTS }
     ensures size { ready.new.threads ≡ BOOT_OBJECTS }
     ensures queues { (rank : ObjNo → ℕ) → Follow rank (taken_out change.now) ready.old ready.new }
 {
-    if let Move::SetPriority(thread, _) = *change {
-        take_off(ready, thread);
+    match *change {
+        Move::SetPriority(thread, _) => take_off(ready, thread),
+        Move::Pay(Owed::Sweep(object)) => take_off(ready, object),
+        _ => {}
     }
 }
 

@@ -1,7 +1,5 @@
 //! The kernel's tables.
 
-use crate::call_queues::CallQueues;
-use crate::object_table::ObjectTable;
 use cleanup::Cleanup;
 use handles::Handles;
 use kern_sync::KernSync;
@@ -10,6 +8,7 @@ use procs::Procs;
 use ref_words::RefWords;
 use requests::Requests;
 use sym_base::Items;
+use table_moves::{CallQueues, ObjectTable};
 
 /// All tables but the history and the queues of ready threads. Each list is indexed by object number.
 #[derive(Drop)]

@@ -43,9 +43,10 @@ touched t (Pay (Close h o)) = t ∷ []
 touched t (Pay (Sweep o)) = t ∷ o ∷ []
 touched t _ = []
 
--- a thread whose priority is set leaves the list first, and so arrives anew
+-- a thread whose priority is set leaves the list first, and so arrives anew; one whose row is swept leaves it
 abbrev pub taken_out : Move → List ObjNo → List ObjNo
 taken_out (SetPriority u priority) qs = unlisted u qs
+taken_out (Pay (Sweep o)) qs = unlisted o qs
 taken_out _ qs = qs
 
 -- the threads of up to two

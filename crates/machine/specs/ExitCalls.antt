@@ -1,5 +1,5 @@
 -- `kill`, `terminate`, `panic`, `exittype` and `exit`: threads that die by a call, and what is told of it.
-use Rattle.std.specs.Prelude.{ℕ, ℤ, pos, is_some, if◌then◌else◌, List, [], ◌∷◌, ◌++◌, Option, Some, None}
+use Rattle.std.specs.Prelude.{ℕ, ℤ, pos, if◌then◌else◌, [], Option, Some, None}
 use Rattle.sym_base.specs.declared.error.Error.{Error}
 use Rattle.sym_base.specs.declared.error.Error.TheVariants.{Died, InUse}
 use Rattle.sym_base.specs.declared.kind.Exit.{Exit}

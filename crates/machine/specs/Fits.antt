@@ -33,7 +33,7 @@ use Rattle.machine.specs.Rows.{object_of, table_of, thread_of, owed_of}
 use Rattle.state_rows.specs.HandleSlots.{slot_at, free_index}
 use Rattle.machine.specs.References.{total}
 use Rattle.machine.specs.Moves.{moved, tell}
-use Rattle.machine.specs.Task.{instructions_of, is_returning}
+use Rattle.machine.specs.Task.{instructions_of, is_returning, served_queue}
 use Rattle.machine.specs.HeldIn.{owed_by}
 use Rattle.machine.specs.WellFormed.{IsAlive, IsAwaited, AreRows, Awaits, IsOwnerOf, times_logged, is_before_use, part_of, weight, IsSpent, is_spent}
 use Rattle.machine.specs.Choice.{priority_of}
@@ -86,18 +86,19 @@ Holds S (InThread t i) o = (is_some (thread_of S t) ≡ true) × ((slot_at (tabl
 Holds S (Temp t) o = Uses S t o
 Holds S _ o = ⊥
 
--- a thread that isn't cleaned may go on to a step: what comes before the use of anything comes while it uses nothing, and a return
--- comes while it owes nothing
-pub record MayGoOn (S : State) (t : ObjNo) (part : Option Part) : Type 0 where
-  pub unused : (row : ThreadRow) → thread_of S t ≡ Some row → is_before_use part ≡ true → row.uses ≡ None
-  pub paid : is_returning part ≡ true → owed_of S t ≡ []
-  pub unspent : IsUnspent S t
-
 -- a thread that isn't at its list's end
 pub record IsAtInstruction (script : Script) (S : State) (t : ObjNo) : Type 0 where
   pub row : ThreadRow
   pub is : thread_of S t ≡ Some row
   pub next : row.next_instruction < length (instructions_of script row.role)
+
+-- a thread that isn't cleaned may go on to a step: what comes before the use of anything comes while it uses nothing, and a return
+-- comes at an instruction and while it owes nothing
+pub record MayGoOn (script : Script) (S : State) (t : ObjNo) (part : Option Part) : Type 0 where
+  pub unused : (row : ThreadRow) → thread_of S t ≡ Some row → is_before_use part ≡ true → row.uses ≡ None
+  pub paid : is_returning part ≡ true → owed_of S t ≡ []
+  pub unspent : IsUnspent S t
+  pub at : is_returning part ≡ true → IsAtInstruction script S t
 
 -- an object may be made of this kind and name: there is room, its name isn't taken, and it isn't a session, which has none
 pub record MayMake (S : State) (kind : Kind) (name : List ℕ) : Type 0 where
@@ -105,11 +106,12 @@ pub record MayMake (S : State) (kind : Kind) (name : List ℕ) : Type 0 where
   pub new : is_taken kind name S.objects ≡ false
   pub named : is_session kind ≡ false
 
--- a thread that may take a fast mutex: it is live, waits for nothing, and holds none
+-- a thread that may take a fast mutex: it is live, serves no queue, waits for nothing, and holds none
 pub record MayTake (S : State) (t : ObjNo) : Type 0 where
   pub row : ThreadRow
   pub is : thread_of S t ≡ Some row
   pub live : row.stage ≡ Live
+  pub serves : served_queue row.role ≡ None
   pub waits : row.waiting ≡ waiting.Nothing
   pub holds : held_by S.nano t ≡ None
 
@@ -250,7 +252,7 @@ FitsMove script t (Gain h o) S = IsFree S h × IsAlive (object_of S o)
 FitsMove script t (Lose h o) S = (is_returning (part_of (thread_of S t)) ≡ false) × Holds S h o
 FitsMove script t (Find u o) S = o.0 < length S.objects
 FitsMove script t (Miss o) S = Unit {0}
-FitsMove script t (GoOn u part) S = MayGoOn S u (Some part)
+FitsMove script t (GoOn u part) S = MayGoOn script S u (Some part)
 FitsMove script t (Write u x value) S = x < 8
 FitsMove script t (Advance u) S = (u ≡ t) × IsAtInstruction script S u
 FitsMove script t (Wait u what) S = (held_by S.nano u ≡ None) × WaitsNowhere S u × IsUnspent S u

@@ -1,5 +1,5 @@
 -- Who holds what in a state. References aren't rows of their own: they are read off the other rows.
-use Rattle.std.specs.Prelude.{ℕ, ◌+◌, Bool, true, false, not, is_some, if◌then◌else◌, List, [], Option, Some, None}
+use Rattle.std.specs.Prelude.{ℕ, ◌+◌, Bool, true, false, not, is_some, List, [], Option, Some, None}
 use Rattle.std.specs.List.{slice_index_or}
 use Rattle.sym_base.specs.declared.number.ObjNo.{ObjNo}
 use Rattle.entry_log.specs.declared.effect.Holder.{Holder}

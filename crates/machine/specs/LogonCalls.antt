@@ -1,5 +1,5 @@
 -- `logon`: a status that tells a thread's death.
-use Rattle.std.specs.Prelude.{ℕ, ℤ, pos, if◌then◌else◌, List, [], ◌∷◌, Option, Some, None}
+use Rattle.std.specs.Prelude.{ℕ, ℤ, pos, if◌then◌else◌, [], ◌∷◌, Option, Some, None}
 use Rattle.sym_base.specs.declared.error.Error.TheVariants.{InUse}
 use Rattle.sym_base.specs.declared.kind.Exit.{Exit}
 use Rattle.sym_base.specs.declared.kind.Kind.TheVariants.{Thread}
@@ -10,7 +10,7 @@ use Rattle.entry_log.specs.declared.step.Part.{Part}
 use Rattle.entry_log.specs.declared.step.Part.TheVariants.{Do, Look}
 use Rattle.state_rows.specs.Requests.{is_pending}
 use Rattle.state_rows.specs.declared.thread.Stage.{Stage}
-use Rattle.state_rows.specs.declared.thread.Stage.TheVariants.{Live, Doomed, Cleaned, Buried}
+use Rattle.state_rows.specs.declared.thread.Stage.TheVariants.{Cleaned, Buried}
 use Rattle.state_rows.specs.declared.thread.ThreadRow.{ThreadRow}
 use Rattle.machine.specs.declared.decision.Decision.{Decision}
 use Rattle.machine.specs.declared.logon_move.LogonMove.TheVariants.{Add}

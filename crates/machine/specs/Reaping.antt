@@ -1,5 +1,5 @@
 -- How a doomed thread gives up what it has, one thing an action, and is cleaned and buried at last.
-use Rattle.std.specs.Prelude.{ℕ, ◌+◌, ◌==◌, ◌&&◌, Bool, true, false, length, option_map, position, List, [], ◌∷◌, ◌++◌, Option, Some, None}
+use Rattle.std.specs.Prelude.{ℕ, ◌+◌, ◌%◌, ◌==◌, ◌&&◌, Bool, true, false, length, option_map, position, List, [], ◌∷◌, ◌++◌, Option, Some, None}
 use Rattle.sym_base.specs.declared.number.ObjNo.{ObjNo}
 use Rattle.script_types.specs.declared.script.Script.{Script}
 use Rattle.entry_log.specs.declared.effect.Holder.TheVariants.{Temp}
@@ -51,11 +51,12 @@ give_up S t row (Use o) = record { step = step.Drop; moves = Lose (Temp t) o ∷
 give_up S t row (Handle h o) = record { step = step.Shut; moves = Lose h o ∷ []; answer = None }
 give_up S t row (Logon u s) = tell_logon S t row u s
 
--- the call that buries a thread: the supervisor's is number 64, and the others follow in order of the threads' numbers
+-- the call that buries a thread: the supervisor's is number 64, and the others follow in order of the threads' numbers; a
+-- number of a call has 8 bits
 abbrev pub burial_of : Script → Role → ℕ
 burial_of script Supervisor = 64
-burial_of script (Queue queue) = 64 + queue
-burial_of script (Declared k) = 65 + length script.queues + k
+burial_of script (Queue queue) = (64 + queue) % 256
+burial_of script (Declared k) = (65 + length script.queues + k) % 256
 
 -- nothing is left: the thread is cleaned, and its burial joins the supervisor's queue
 abbrev pub clean : Script → State → ObjNo → ThreadRow → Decision

@@ -19,8 +19,9 @@ AreSmallTables tables = (k : ℕ) → IsSmallTable (slice_index_or tables k [])
 abbrev pub MayAdvance : ℕ → List (Option ThreadRow) → Type 0
 MayAdvance n threads = (k : ℕ) (row : ThreadRow) → slice_index_or threads k None ≡ Some row → row.next_instruction + n ≤ 4294967295
 
--- so many further moves have room
+-- so many further moves have room, and the number of each thread has 16 bits
 pub record HasRoom (n : ℕ) (S : State) : Type 0 where
   pub objects : length S.objects + n ≤ 65535
+  pub threads : length S.threads ≤ 65535
   pub instructions : MayAdvance n S.threads
   pub tables : AreSmallTables S.handles

@@ -1,18 +1,18 @@
 -- The script of the test: a thread makes a mutex and a second handle of it, closes both, and closes the
--- second once more.
+-- second once more; and at its list's end it dies.
 use Rattle.std.specs.Prelude.{ℕ, ℤ, pos, codes, false, List, [], ◌∷◌, Option, Some, None, replicate}
 use Rattle.sym_base.specs.declared.error.Error.TheVariants.{BadHandle}
 use Rattle.sym_base.specs.declared.number.ObjNo.{ObjNo}
 use Rattle.sym_base.specs.declared.word.Word.TheVariants as word
 use Rattle.sym_base.specs.ErrorCode.{error_code}
 use Rattle.entry_log.specs.declared.effect.Effect.{Effect}
-use Rattle.entry_log.specs.declared.effect.Effect.TheVariants.{Plus, Minus, Dead, Swept}
+use Rattle.entry_log.specs.declared.effect.Effect.TheVariants.{Plus, Minus, Dead, Swept, Doom}
 use Rattle.entry_log.specs.declared.effect.Holder.TheVariants.{InProcess, Temp}
-use Rattle.entry_log.specs.declared.entry.Actor.TheVariants.{Thread, Idle}
+use Rattle.entry_log.specs.declared.entry.Actor.TheVariants.{Thread}
 use Rattle.entry_log.specs.declared.entry.Entry.{Entry}
 use Rattle.entry_log.specs.declared.step.Part.TheVariants.{Do, Look}
 use Rattle.entry_log.specs.declared.step.Step.{Step}
-use Rattle.entry_log.specs.declared.step.Step.TheVariants.{Of, Wait, Drop, Sweep}
+use Rattle.entry_log.specs.declared.step.Step.TheVariants.{Of, Drop, Sweep, End, Clean}
 use Rattle.script_types.specs.declared.declaration.ThreadDecl.{ThreadDecl}
 use Rattle.script_types.specs.declared.instruction.Instr.TheVariants.{CreateMutex, Dup, Close}
 use Rattle.script_types.specs.declared.script.Script.{Script}
@@ -56,9 +56,6 @@ the_mutex = record { 0 = 4 }
 abbrev by_thread : ℕ → Step → List Effect → Option ℤ → Entry
 by_thread place step effects answer = record { place = place; actor = Thread the_thread; step = step; effects = effects; answer = answer }
 
-abbrev by_nobody : ℕ → Entry
-by_nobody place = record { place = place; actor = Idle; step = Wait; effects = []; answer = None }
-
 -- what happens
 unfoldable pub two_handles_history : List Entry
 two_handles_history =
@@ -70,6 +67,6 @@ two_handles_history =
     ∷ by_thread 6 (Of word.Close Do) (Minus (InProcess the_process 1) the_mutex ∷ Dead the_mutex ∷ []) (Some (pos 0))
     ∷ by_thread 7 Sweep (Swept the_mutex ∷ []) None
     ∷ by_thread 8 (Of word.Close Do) [] (Some (error_code BadHandle))
-    ∷ by_nobody 9
-    ∷ by_nobody 10
+    ∷ by_thread 9 End (Doom the_thread ∷ []) None
+    ∷ by_thread 10 Clean [] None
     ∷ []

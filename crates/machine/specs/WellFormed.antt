@@ -20,6 +20,8 @@ use Rattle.state_rows.specs.Requests.{request_at, is_pending}
 use Rattle.state_rows.specs.RequestSound.{AreRequestRows}
 use Rattle.state_rows.specs.Nano.{want_of, holder_of}
 use Rattle.state_rows.specs.NanoSound.{AreNanoRows}
+use Rattle.state_rows.specs.declared.thread.Role.{Role}
+use Rattle.state_rows.specs.declared.thread.Role.TheVariants.{Supervisor, Queue, Declared}
 use Rattle.state_rows.specs.declared.thread.Stage.{Stage}
 use Rattle.state_rows.specs.declared.thread.Stage.TheVariants.{Live, Cleaned, Buried}
 use Rattle.state_rows.specs.declared.thread.Waiting.TheVariants as waiting
@@ -57,8 +59,15 @@ is_before_use None = true
 is_before_use (Some part.Return) = true
 is_before_use _ = false
 
--- A thread's row: its process is one of so many, and is what it is linked to; its next instruction is in its list or
--- at the list's end; and it uses nothing before its look or its return.
+-- whether a script declares the thread of a role: the supervisor's it has always, and its queues have numbers from 1 on
+abbrev pub IsRole : Script → Role → Type 0
+IsRole script Supervisor = Unit {0}
+IsRole script (Queue queue) = queue ≤ length script.queues
+IsRole script (Declared k) = k < length script.threads
+
+-- A thread's row: its process is one of so many, and is what it is linked to; the script declares it; its next
+-- instruction is in its list or at the list's end, and in the list where it comes back from a find; and it uses nothing
+-- before its look or its return.
 pub record IsThread (script : Script) (count : ℕ) (row : ThreadRow) : Type 0 where
   pub process : row.process.0 < count
   pub link : (p : ObjNo) → row.link ≡ Some p → p.0 ≡ row.process.0
@@ -66,6 +75,8 @@ pub record IsThread (script : Script) (count : ℕ) (row : ThreadRow) : Type 0 w
   pub next_instruction : row.next_instruction ≤ length (instructions_of script row.role)
   pub unused : is_before_use row.part ≡ true → row.uses ≡ None
   pub registers : length row.registers ≡ 8
+  pub declared : IsRole script row.role
+  pub returns : is_returning row.part ≡ true → row.next_instruction < length (instructions_of script row.role)
 
 -- each thread's row is one, no process is a thread, and who serves a queue has the number of its thread
 pub record AreThreads (script : Script) (threads : List (Option ThreadRow)) : Type 0 where
@@ -106,11 +117,12 @@ pub record AreDuties (threads : List (Option ThreadRow)) (owed : List (List Owed
   pub few : (k : ℕ) → total weight (slice_index_or owed k []) ≤ 12
   pub returns : (k : ℕ) → is_returning (part_of (slice_index_or threads k None)) ≡ true → slice_index_or owed k [] ≡ []
 
--- a thread that holds a fast mutex is live, waits for nothing and wants no other
+-- a thread that holds a fast mutex is live, serves no queue, waits for nothing and wants no other
 pub record IsHolder (threads : List (Option ThreadRow)) (r : NanoRows) (u : ObjNo) : Type 0 where
   pub row : ThreadRow
   pub is : slice_index_or threads u.0 None ≡ Some row
   pub live : row.stage ≡ Live
+  pub serves : served_queue row.role ≡ None
   pub waits : row.waiting ≡ waiting.Nothing
   pub wants : want_of r u ≡ None
 

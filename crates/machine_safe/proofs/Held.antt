@@ -1,5 +1,5 @@
 -- Who holds what in a state is what its history tells, and each pair of a holder and an object stands once at most.
-use Rattle.std.proofs.Common.{◌≡◌, inl, inr, ℕ, ◌+◌, ◌≤◌, List, [], ◌∷◌, arith, refl, sym, ap, ◌∙◌, Bool, true, false, Option, Some, None, is_some}
+use Rattle.std.proofs.Common.{◌≡◌, inl, inr, ℕ, ◌+◌, ◌≤◌, List, [], ◌∷◌, arith, refl, sym, ap, ◌∙◌, Bool, true, false, Option, Some, None}
 use Rattle.std.specs.Prelude.{◌==◌, if◌then◌else◌}
 use Rattle.std.proofs.lemmas.Bool.{eqb-true, and_parts, cases_lt}
 use Rattle.sym_base.specs.declared.number.ObjNo.{ObjNo}
@@ -22,7 +22,7 @@ use Rattle.machine.specs.References.{same, option_names}
 use Rattle.machine.specs.Rows.{thread_of}
 use Rattle.machine_laws.proofs.AtBoot.BootHolders.{held-boot}
 use Rattle.move_laws.proofs.References.Effects.{after_all-append, after_all-same}
-use Rattle.move_laws.proofs.References.Same.{same_object, same_le, same_is, if_le}
+use Rattle.move_laws.proofs.References.Same.{same_object, same_le, same_is}
 use Rattle.machine_safe.specs.CountAfter.{effects_of}
 use Rattle.machine_safe.proofs.Runs.{IsSoundRun}
 use Rattle.machine_safe.proofs.SafeHistories.{legal_run, legal_safe}

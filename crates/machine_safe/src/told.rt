@@ -1,5 +1,5 @@
 //! What a history tells of the state that it leaves.
-ghost use Rattle.script_types.specs.Source.{IsWellFormed};
+ghost use Rattle.script_types.specs.Source.{IsWellFormed as IsWellFormedScript};
 ghost use Rattle.machine.specs.History.{after, IsLegal};
 ghost use Rattle.machine.specs.WellFormed.{IsWellFormed};
 ghost use Rattle.machine_safe.specs.Laws.{HoldersAreTold, HoldersAreUnique, TellsZero};
@@ -12,14 +12,14 @@ use script_types::Script;
 /// once, and the ready list has exactly the threads that are ready, each once. This call only states it, and
 /// changes nothing.
 pub fn state_is_well_formed(script: &Script, history: &[Entry])
-    requires valid { IsWellFormed script.now }
+    requires valid { IsWellFormedScript script.now }
     ensures formed { IsWellFormed script.now (after script.now history.now) }
 {}
 
 /// After every legal history of a well-formed script each holder holds what the effects tell, and no
 /// reference twice. This call only states it, and changes nothing.
 pub fn holders_are_told(script: &Script, history: &[Entry])
-    requires valid { IsWellFormed script.now }
+    requires valid { IsWellFormedScript script.now }
     requires legal { IsLegal script.now history.now }
     ensures told { HoldersAreTold script.now history.now }
     ensures unique { HoldersAreUnique script.now history.now }
@@ -29,7 +29,7 @@ pub fn holders_are_told(script: &Script, history: &[Entry])
 /// exactly where no reference to the object stands in the state. This call only states it, and changes
 /// nothing.
 pub fn zero_counts_are_told(script: &Script, history: &[Entry])
-    requires valid { IsWellFormed script.now }
+    requires valid { IsWellFormedScript script.now }
     requires legal { IsLegal script.now history.now }
     ensures zero { TellsZero script.now history.now }
 {}

@@ -1,5 +1,6 @@
 -- The ready list: it has exactly the threads that are ready, each once.
 pub mod ReadyLists
+pub mod HasTask
 pub mod Touched
 pub mod FirstReady
 pub mod ReadyHolders

@@ -1,2 +1,4 @@
+pub mod FirstHolding
 pub mod NextActions
 pub mod Planned
+pub mod TaskParts

@@ -1,8 +1,12 @@
 //! How a doomed thread gives up what it has, one thing an action, and is cleaned and buried at last. The order is this
 //! project's own.
-ghost use Rattle.std.specs.Prelude.{◌≡◌, slice_get};
-ghost use Rattle.machine.specs.Holdings.{holdings};
+ghost use Rattle.std.specs.Prelude.{◌≡◌, ◌++◌, [], ◌∷◌, Some, None, slice_get};
+ghost use Rattle.entry_log.specs.declared.effect.Holder.TheVariants.{InThread};
+ghost use Rattle.machine.specs.declared.moves.Move.TheVariants as move;
+ghost use Rattle.machine.specs.Holdings.{held_handles, holdings, process_handles};
 ghost use Rattle.machine.specs.Reaping.{free_mutex, tell_logon, give_up, clean, bury};
+ghost use Rattle.machine.specs.Rows.{table_of, thread_of};
+ghost use Rattle.next_actions.specs.FirstHolding.{first_of};
 
 use crate::bodies::is_woken;
 use decisions::{add_call, reason_of};
@@ -15,39 +19,62 @@ use script_types::Script;
 use state_rows::Held;
 use sym_base::{ObjNo, ThreadNo};
 
-/// The first handle of a thread's table, or, where it is the only one of its process that isn't cleaned yet, of its
-/// process's.
-fn first_handle<R: Reads>(reads: &R, thread: ThreadNo, row: &ThreadRow) -> Option<Holding>
+/// The first handle of a thread's own table.
+#[tactic(auto, using(crate::proofs::First::handles_first))]
+fn own_handle<R: Reads>(reads: &R, thread: ThreadNo) -> Option<Holding>
     requires { R.is_readable reads.now }
+    ensures { result ≡ slice_get (held_handles (InThread thread) 0 (table_of (R.state reads.now) thread)) 0 }
 {
-    if let Some((index, object)) = reads.first_handle(thread) {
-        return Some(Holding::Handle(Holder::InThread(thread, index), object));
-    }
-    if !reads.has_one_left(row.process) {
-        return None;
-    }
-    let (index, object) = reads.first_handle(row.process)?;
-    Some(Holding::Handle(Holder::InProcess(row.process, index), object))
+    let (index, object) = reads.first_handle(thread)?;
+    Some(Holding::Handle(Holder::InThread(thread, index), object))
 }
 
-/// The first of what the thread of a row still has: its handles come behind what its call uses, and before the logons on it.
-pub fn first_holding<R: Reads>(reads: &R, thread: ThreadNo, row: &ThreadRow) -> Option<Holding>
+/// The first handle of a process's table, for the only thread of it that isn't cleaned yet.
+#[tactic(auto, using(crate::proofs::First::handles_first))]
+fn process_handle<R: Reads>(reads: &R, process: ObjNo) -> Option<Holding>
     requires { R.is_readable reads.now }
+    ensures { result ≡ slice_get (process_handles (R.state reads.now) process) 0 }
+{
+    if !reads.has_one_left(process) {
+        return None;
+    }
+    let (index, object) = reads.first_handle(process)?;
+    Some(Holding::Handle(Holder::InProcess(process, index), object))
+}
+
+/// The first handle that the thread of a row gives up: of its own table, and then of its process's.
+#[tactic(auto, using(crate::proofs::First::first_here_of, crate::proofs::First::first_behind))]
+fn first_handle<R: Reads>(reads: &R, thread: ThreadNo, row: &ThreadRow) -> Option<Holding>
+    requires { R.is_readable reads.now }
+    ensures { let S = R.state reads.now in result ≡ slice_get (held_handles (InThread thread) 0 (table_of S thread) ++ process_handles S row.now.process) 0 }
+{
+    match own_handle(reads, thread) {
+        Some(handle) => Some(handle),
+        None => process_handle(reads, row.process),
+    }
+}
+
+/// The first of all, of the first of what isn't a handle and the first handle: handles come behind what a call uses, and
+/// before the logons.
+fn first_of(held: Option<Held>, handle: Option<Holding>) -> Option<Holding>
+    ensures { result ≡ first_of held handle }
+{
+    match held {
+        Some(Held::Mutex(mutex)) => Some(Holding::Mutex(mutex)),
+        Some(Held::Temp(object)) => Some(Holding::Use(object)),
+        Some(Held::Logon(by, status)) => handle.or(Some(Holding::Logon(by, status))),
+        Some(Held::Server(_)) | None => handle,
+    }
+}
+
+/// The first of what the thread of a row still has.
+#[tactic(auto, using(crate::proofs::First::first_of_all))]
+pub fn first_holding<R: Reads>(reads: &R, thread: ThreadNo, row: &ThreadRow) -> Option<Holding>
+    requires readable { R.is_readable reads.now }
+    requires row { thread_of (R.state reads.now) thread ≡ Some row.now }
     ensures { result ≡ slice_get (holdings (R.state reads.now) thread row.now) 0 }
 {
-    let held = reads.first_held(thread);
-    match held {
-        Some(Held::Mutex(mutex)) => return Some(Holding::Mutex(mutex)),
-        Some(Held::Temp(object)) => return Some(Holding::Use(object)),
-        _ => {}
-    }
-    if let Some(handle) = first_handle(reads, thread, row) {
-        return Some(handle);
-    }
-    match held {
-        Some(Held::Logon(by, status)) => Some(Holding::Logon(by, status)),
-        _ => None,
-    }
+    first_of(reads.first_held(thread), first_handle(reads, thread, row))
 }
 
 /// A mutex goes, with all its levels at once, and the waiter that gets it waits no longer.
@@ -66,7 +93,9 @@ fn free_mutex(decision: &mut Decision, thread: ThreadNo, mutex: ObjNo, best: Opt
 }
 
 /// A reference goes.
-fn lose(decision: &mut Decision, step: Step, holder: Holder, object: ObjNo) {
+fn lose(decision: &mut Decision, step: Step, holder: Holder, object: ObjNo)
+    ensures { decision.new ≡ record { step = step; moves = move.Lose holder object ∷ []; answer = None } }
+{
     decision.step = step;
     decision.moves.clear();
     decision.moves.push(Move::Lose(holder, object));
@@ -132,7 +161,7 @@ pub fn clean<R: Reads>(
     decision.step = Step::Clean;
     decision.moves.clear();
     decision.moves.push(Move::Death(DeathMove::Clean(thread)));
-    let burial = burial_of(script, row.role) as u8;
+    let burial = burial_of(script, row.role);
     decision.moves.push(add_call(reads, burial));
     decision.answer = None;
 }

@@ -1,13 +1,19 @@
 //! What a thread does next: its return, what it owes, a call of its queue, its instruction, or what is left at its list's end.
-ghost use Rattle.std.specs.Prelude.{◌≡◌, true, IsTrue, Some, option_copied};
+ghost use Rattle.std.specs.Prelude.{◌≡◌, true, IsTrue, Some, if◌then◌else◌, option_copied, option_map};
 ghost use Rattle.script_types.specs.Shape.{IsShaped};
 ghost use Rattle.state_rows.specs.Nano.{is_protected};
-ghost use Rattle.next_actions.specs.Planned.{planned};
-ghost use Rattle.next_actions.specs.NextActions.{IsStepOf, decided_by};
 ghost use Rattle.machine.specs.Bodies.{decision_by};
+ghost use Rattle.machine.specs.CriticalSection.{flush};
+ghost use Rattle.machine.specs.Dooms.{end};
+ghost use Rattle.machine.specs.Holdings.{holdings};
 ghost use Rattle.machine.specs.Rows.{first_owed, thread_of};
-ghost use Rattle.machine.specs.Task.{task_of_row, task_of, is_able};
-ghost use Rattle.machine.specs.Steps.{pay_step, pay, decision_of_row, decision_of};
+ghost use Rattle.machine.specs.Steps.{pay_step, pay, decision_of_task, decision_of_row, decision_of};
+ghost use Rattle.machine.specs.Task.{call_task, dying_task, task_of_row, task_of, is_able};
+ghost use Rattle.next_actions.specs.NextActions.{IsStepOf, decided_by};
+ghost use Rattle.next_actions.specs.Planned.{planned};
+ghost use Rattle.next_actions.specs.TaskParts.{task_alive, task_at_stage, task_behind_return};
+ghost use Rattle.sym_base.specs.declared.number.ObjNo.{ObjNo};
+ghost use Rattle.state_rows.specs.declared.thread.ThreadRow.{ThreadRow};
 
 use crate::reaping::{bury, clean, first_holding, give_up};
 use decisions::{decide_step, end, flush, nothing, return_of};
@@ -54,6 +60,7 @@ fn pay(decision: &mut Decision, what: Owed)
 /// What a thread does at its list's end: it gives up what protects it, if it is protected, and else it ends.
 fn end_of_list<R: Reads>(decision: &mut Decision, reads: &R, thread: ThreadNo)
     requires { R.is_readable reads.now }
+    ensures { let S = R.state reads.now in decision.new ≡ (if is_protected S.nano thread then flush S thread else end thread) }
 {
     if reads.is_protected(thread) {
         flush(decision, reads, thread);
@@ -63,6 +70,7 @@ fn end_of_list<R: Reads>(decision: &mut Decision, reads: &R, thread: ThreadNo)
 }
 
 /// What a doomed thread does: it gives up the first of what it has, and at last it is cleaned.
+#[tactic(auto, using(crate::proofs::First::dying_first, crate::proofs::First::dying_last))]
 fn die<R: Reads>(
     decision: &mut Decision,
     script: &Script,
@@ -70,7 +78,9 @@ fn die<R: Reads>(
     thread: ThreadNo,
     row: &ThreadRow,
 )
-    requires { R.is_readable reads.now }
+    requires readable { R.is_readable reads.now }
+    requires row { thread_of (R.state reads.now) thread ≡ Some row.now }
+    ensures { let S = R.state reads.now in decision.new ≡ decision_of_task script.now S thread row.now (dying_task (holdings S thread row.now)) }
 {
     match first_holding(reads, thread, row) {
         Some(what) => give_up(decision, reads, thread, row, what),
@@ -78,21 +88,28 @@ fn die<R: Reads>(
     }
 }
 
-/// What a thread does that serves a queue: the next call of it runs, or buries a thread.
+/// What a thread does that serves a queue: this call of it runs, or buries a thread.
 fn serve<'a, R: Reads>(
     decision: &mut Decision,
     script: &Script,
     reads: &R,
-    row: &ThreadRow,
+    call: Option<u8>,
 ) -> NextAction<'a>
     requires { R.is_readable reads.now }
+    ensures decided { (t : ObjNo) (row : ThreadRow) → let S = R.state reads.now in decided_by script.now t S (Some row) decision.new result ≡ decision_of_row script.now S t (Some row) (option_map call_task call) }
+    ensures step { IsStepOf (option_map call_task call) result }
 {
-    match next_call(reads, row.role) {
-        Some(dfc) if dfc < FIRST_BURIAL => return NextAction::Runs(Body::Deferred(dfc)),
-        Some(dfc) => bury(decision, script, reads, dfc),
-        None => nothing(decision),
+    match call {
+        Some(dfc) if dfc < FIRST_BURIAL => NextAction::Runs(Body::Deferred(dfc)),
+        Some(dfc) => {
+            bury(decision, script, reads, dfc);
+            NextAction::Decided
+        }
+        None => {
+            nothing(decision);
+            NextAction::Decided
+        }
     }
-    NextAction::Decided
 }
 
 /// What a live thread does that owes nothing: a call of its queue, its instruction, or what is left at its list's end.
@@ -105,9 +122,11 @@ fn live<'a, R: Reads>(
     instr: Option<&'a Instr>,
 ) -> NextAction<'a>
     requires { R.is_readable reads.now }
+    ensures decided { let S = R.state reads.now in decided_by script.now thread S (Some row.now) decision.new result ≡ decision_of_row script.now S thread (Some row.now) (task_alive S thread row.now (option_copied instr.entry)) }
+    ensures step { IsStepOf (task_alive (R.state reads.now) thread row.now (option_copied instr.entry)) result }
 {
     if serves_queue(row.role) {
-        return serve(decision, script, reads, row);
+        return serve(decision, script, reads, next_call(reads, row.role));
     }
     match instr {
         Some(instr) => NextAction::Steps(instr),
@@ -127,14 +146,22 @@ fn run_or_step<'a, R: Reads>(
     row: &ThreadRow,
     instr: Option<&'a Instr>,
 ) -> NextAction<'a>
-    requires { R.is_readable reads.now }
+    requires readable { R.is_readable reads.now }
+    requires row { thread_of (R.state reads.now) thread ≡ Some row.now }
+    ensures decided { let S = R.state reads.now in decided_by script.now thread S (Some row.now) decision.new result ≡ decision_of_row script.now S thread (Some row.now) (task_at_stage S thread row.now (option_copied instr.entry)) }
+    ensures step { IsStepOf (task_at_stage (R.state reads.now) thread row.now (option_copied instr.entry)) result }
 {
     match row.stage {
-        Stage::Live => return live(decision, script, reads, thread, row, instr),
-        Stage::Doomed => die(decision, script, reads, thread, row),
-        Stage::Cleaned | Stage::Buried => nothing(decision),
+        Stage::Live => live(decision, script, reads, thread, row, instr),
+        Stage::Doomed => {
+            die(decision, script, reads, thread, row);
+            NextAction::Decided
+        }
+        Stage::Cleaned | Stage::Buried => {
+            nothing(decision);
+            NextAction::Decided
+        }
     }
-    NextAction::Decided
 }
 
 /// What a thread does where it isn't at a return: the oldest of what it owes comes first.
@@ -146,7 +173,10 @@ fn pay_or_step<'a, R: Reads>(
     row: &ThreadRow,
     instr: Option<&'a Instr>,
 ) -> NextAction<'a>
-    requires { R.is_readable reads.now }
+    requires readable { R.is_readable reads.now }
+    requires row { thread_of (R.state reads.now) thread ≡ Some row.now }
+    ensures decided { let S = R.state reads.now in decided_by script.now thread S (Some row.now) decision.new result ≡ decision_of_row script.now S thread (Some row.now) (task_behind_return S thread row.now (option_copied instr.entry)) }
+    ensures step { IsStepOf (task_behind_return (R.state reads.now) thread row.now (option_copied instr.entry)) result }
 {
     if let Some(what) = reads.first_owed(thread) {
         pay(decision, what);
@@ -163,7 +193,8 @@ fn action_of_row<'a, R: Reads>(
     thread: ThreadNo,
     row: &ThreadRow,
 ) -> NextAction<'a>
-    requires { R.is_readable reads.now }
+    requires readable { R.is_readable reads.now }
+    requires row { thread_of (R.state reads.now) thread ≡ Some row.now }
     ensures decided { let S = R.state reads.now in decided_by script.now thread S (Some row.now) decision.new result ≡ decision_of_row script.now S thread (Some row.now) (task_of_row script.now S thread (Some row.now)) }
     ensures step { let S = R.state reads.now in IsStepOf (task_of_row script.now S thread (Some row.now)) result }
 {

@@ -1,5 +1,5 @@
 -- Room for moves: each takes one away.
-use Rattle.std.proofs.Common.{◌≡◌, ℕ, ◌+◌, ◌≤◌, List, [], ◌∷◌, length, length-append, get_or, arith, refl, ap, sym, subst, Bool, true, false, Option, Some, None}
+use Rattle.std.proofs.Common.{◌≡◌, ℕ, ◌+◌, ◌≤◌, List, [], ◌∷◌, length, length-append, get_or, arith, refl, ap, sym, ◌∙◌, subst, Bool, true, false, Option, Some, None}
 use Rattle.std.specs.Prelude.{slice_set, option_map}
 use Rattle.std.proofs.lemmas.List.{length-set}
 use Rattle.sym_base.specs.declared.number.ObjNo.{ObjNo}
@@ -114,18 +114,58 @@ length_closed : (last : Bool) (o : ObjNo) (objects : List (Option ObjectRow)) �
 length_closed true o objects = length-set objects o.0 (dead_row (get_or objects o.0 None))
 length_closed false o objects = refl
 
+-- a move leaves the number of threads
+long_row : (threads : List (Option ThreadRow)) (t : ObjNo) (f : ThreadRow → ThreadRow) → length (with_row threads t f) ≡ length threads
+long_row threads t f = length-set threads t.0 (option_map f (get_or threads t.0 None))
+
+long_gained : (h : Holder) (o : ObjNo) (threads : List (Option ThreadRow)) → length (threads_gain h o threads) ≡ length threads
+long_gained (holder.Temp t) o threads = long_row threads t (with_use (Some o))
+long_gained _ o threads = refl
+
+long_lost : (h : Holder) (threads : List (Option ThreadRow)) → length (threads_lose h threads) ≡ length threads
+long_lost (holder.Temp t) threads = long_row threads t (with_use None)
+long_lost _ threads = refl
+
+long_closed : (last : Bool) (o : ObjNo) (threads : List (Option ThreadRow)) → length (threads_closed last o threads) ≡ length threads
+long_closed true o threads = long_row threads o unlinked
+long_closed false o threads = refl
+
+threads_long : (t : ObjNo) (m : Move) (S : State) → length (moved t m S).threads ≡ length S.threads
+threads_long t (Make kind name h) S = long_gained h (next_object S) S.threads
+threads_long t (Gain h o) S = long_gained h o S.threads
+threads_long t (Lose h o) S = long_closed (is_last S o) o (threads_lose h S.threads) ∙ long_lost h S.threads
+threads_long t (Find u o) S = long_row S.threads u (with_found o)
+threads_long t (Miss o) S = refl
+threads_long t (GoOn u part) S = long_row S.threads u (with_part part)
+threads_long t (Write u x value) S = long_row S.threads u (with_register x value)
+threads_long t (Advance u) S = long_row S.threads u advanced
+threads_long t (Wait u what) S = long_row S.threads u (with_waiting what)
+threads_long t (Wake u) S = long_row S.threads u (with_waiting Nothing)
+threads_long t (SetPriority u priority) S = long_row S.threads u (with_priority priority)
+threads_long t (Nano m) S = refl
+threads_long t (Deferred m) S = refl
+threads_long t (Requests m) S = refl
+threads_long t (Locks m) S = refl
+threads_long t (Logons m) S = refl
+threads_long t (Death m) S = long_row S.threads (death_thread m) (death_row m)
+threads_long t (Fill p at long byte) S = refl
+threads_long t (Pay (Close h o)) S = long_closed (is_last S o) o S.threads
+threads_long t (Pay (Sweep o)) S = length-set S.threads o.0 None
+
 -- room for more is room for less
 pub room_less : (m n : ℕ) (S : State) → m ≤ n → HasRoom n S → HasRoom m S
 room_less m n S le room = record {
   objects = let few = room.objects in omega arith;
+  threads = room.threads;
   instructions = threads_less m n le S.threads room.instructions;
   tables = room.tables;
 }
 
 -- room after a move that changes the rows of threads alone
-with_threads : (n : ℕ) (S T : State) → T.objects ≡ S.objects → T.handles ≡ S.handles → MayAdvance n T.threads → HasRoom (n + 1) S → HasRoom n T
-with_threads n S T same tables may room = record {
-  objects = let few = room.objects in let long = ap (λ (xs : List (Option ObjectRow)). length xs) same in omega arith;
+with_threads : (n : ℕ) (S T : State) → T.objects ≡ S.objects → T.handles ≡ S.handles → length T.threads ≡ length S.threads → MayAdvance n T.threads → HasRoom (n + 1) S → HasRoom n T
+with_threads n S T same tables long may room = record {
+  objects = let few = room.objects in let made = ap (λ (xs : List (Option ObjectRow)). length xs) same in omega arith;
+  threads = let few = room.threads in omega arith;
   instructions = may;
   tables = subst AreSmallTables (sym tables) room.tables;
 }
@@ -141,41 +181,46 @@ death_stays (Bury t) row = refl
 pub room_moved : (t : ObjNo) (m : Move) (n : ℕ) (S : State) → HasRoom (n + 1) S → HasRoom n (moved t m S)
 room_moved t (Make kind name h) n S room = record {
   objects = let few = room.objects in let long = length-append S.objects (Some (new_object kind name) ∷ []) in omega arith;
+  threads = let few = room.threads in let long = threads_long t (Make kind name h) S in omega arith;
   instructions = threads_gained h (next_object S) n S.threads (threads_less n (n + 1) (omega arith) S.threads room.instructions);
   tables = tables_gained h (next_object S) S.handles room.tables;
 }
 room_moved t (Gain h o) n S room = record {
   objects = let few = room.objects in omega arith;
+  threads = let few = room.threads in let long = threads_long t (Gain h o) S in omega arith;
   instructions = threads_gained h o n S.threads (threads_less n (n + 1) (omega arith) S.threads room.instructions);
   tables = tables_gained h o S.handles room.tables;
 }
 room_moved t (Lose h o) n S room = record {
   objects = let few = room.objects in let long = length_closed (is_last S o) o S.objects in omega arith;
+  threads = let few = room.threads in let long = threads_long t (Lose h o) S in omega arith;
   instructions = threads_unlinked (is_last S o) o n (threads_lose h S.threads) (threads_lost h n S.threads (threads_less n (n + 1) (omega arith) S.threads room.instructions));
   tables = tables_lost h S.handles room.tables;
 }
-room_moved t (Find u o) n S room = with_threads n S (moved t (Find u o) S) refl refl (row_goes (with_found o) (λ row. omega arith) n S.threads u room.instructions) room
+room_moved t (Find u o) n S room = with_threads n S (moved t (Find u o) S) refl refl (threads_long t (Find u o) S) (row_goes (with_found o) (λ row. omega arith) n S.threads u room.instructions) room
 room_moved t (Miss o) n S room = room_less n (n + 1) S (omega arith) room
-room_moved t (GoOn u part) n S room = with_threads n S (moved t (GoOn u part) S) refl refl (row_goes (with_part part) (λ row. omega arith) n S.threads u room.instructions) room
-room_moved t (Write u x value) n S room = with_threads n S (moved t (Write u x value) S) refl refl (row_goes (with_register x value) (λ row. omega arith) n S.threads u room.instructions) room
-room_moved t (Advance u) n S room = with_threads n S (moved t (Advance u) S) refl refl (row_goes advanced (λ row. omega arith) n S.threads u room.instructions) room
-room_moved t (Wait u what) n S room = with_threads n S (moved t (Wait u what) S) refl refl (row_goes (with_waiting what) (λ row. omega arith) n S.threads u room.instructions) room
-room_moved t (Wake u) n S room = with_threads n S (moved t (Wake u) S) refl refl (row_goes (with_waiting Nothing) (λ row. omega arith) n S.threads u room.instructions) room
-room_moved t (SetPriority u priority) n S room = with_threads n S (moved t (SetPriority u priority) S) refl refl (row_goes (with_priority priority) (λ row. omega arith) n S.threads u room.instructions) room
-room_moved t (Nano m) n S room = with_threads n S (moved t (Nano m) S) refl refl (threads_less n (n + 1) (omega arith) S.threads room.instructions) room
-room_moved t (Deferred m) n S room = with_threads n S (moved t (Deferred m) S) refl refl (threads_less n (n + 1) (omega arith) S.threads room.instructions) room
-room_moved t (Requests m) n S room = with_threads n S (moved t (Requests m) S) refl refl (threads_less n (n + 1) (omega arith) S.threads room.instructions) room
-room_moved t (Locks m) n S room = with_threads n S (moved t (Locks m) S) refl refl (threads_less n (n + 1) (omega arith) S.threads room.instructions) room
-room_moved t (Logons m) n S room = with_threads n S (moved t (Logons m) S) refl refl (threads_less n (n + 1) (omega arith) S.threads room.instructions) room
-room_moved t (Death m) n S room = with_threads n S (moved t (Death m) S) refl refl (row_stays (death_row m) (death_stays m) n S.threads (death_thread m) (threads_less n (n + 1) (omega arith) S.threads room.instructions)) room
-room_moved t (Fill p at long byte) n S room = with_threads n S (moved t (Fill p at long byte) S) refl refl (threads_less n (n + 1) (omega arith) S.threads room.instructions) room
+room_moved t (GoOn u part) n S room = with_threads n S (moved t (GoOn u part) S) refl refl (threads_long t (GoOn u part) S) (row_goes (with_part part) (λ row. omega arith) n S.threads u room.instructions) room
+room_moved t (Write u x value) n S room = with_threads n S (moved t (Write u x value) S) refl refl (threads_long t (Write u x value) S) (row_goes (with_register x value) (λ row. omega arith) n S.threads u room.instructions) room
+room_moved t (Advance u) n S room = with_threads n S (moved t (Advance u) S) refl refl (threads_long t (Advance u) S) (row_goes advanced (λ row. omega arith) n S.threads u room.instructions) room
+room_moved t (Wait u what) n S room = with_threads n S (moved t (Wait u what) S) refl refl (threads_long t (Wait u what) S) (row_goes (with_waiting what) (λ row. omega arith) n S.threads u room.instructions) room
+room_moved t (Wake u) n S room = with_threads n S (moved t (Wake u) S) refl refl (threads_long t (Wake u) S) (row_goes (with_waiting Nothing) (λ row. omega arith) n S.threads u room.instructions) room
+room_moved t (SetPriority u priority) n S room = with_threads n S (moved t (SetPriority u priority) S) refl refl (threads_long t (SetPriority u priority) S) (row_goes (with_priority priority) (λ row. omega arith) n S.threads u room.instructions) room
+room_moved t (Nano m) n S room = with_threads n S (moved t (Nano m) S) refl refl (threads_long t (Nano m) S) (threads_less n (n + 1) (omega arith) S.threads room.instructions) room
+room_moved t (Deferred m) n S room = with_threads n S (moved t (Deferred m) S) refl refl (threads_long t (Deferred m) S) (threads_less n (n + 1) (omega arith) S.threads room.instructions) room
+room_moved t (Requests m) n S room = with_threads n S (moved t (Requests m) S) refl refl (threads_long t (Requests m) S) (threads_less n (n + 1) (omega arith) S.threads room.instructions) room
+room_moved t (Locks m) n S room = with_threads n S (moved t (Locks m) S) refl refl (threads_long t (Locks m) S) (threads_less n (n + 1) (omega arith) S.threads room.instructions) room
+room_moved t (Logons m) n S room = with_threads n S (moved t (Logons m) S) refl refl (threads_long t (Logons m) S) (threads_less n (n + 1) (omega arith) S.threads room.instructions) room
+room_moved t (Death m) n S room = with_threads n S (moved t (Death m) S) refl refl (threads_long t (Death m) S) (row_stays (death_row m) (death_stays m) n S.threads (death_thread m) (threads_less n (n + 1) (omega arith) S.threads room.instructions)) room
+room_moved t (Fill p at long byte) n S room = with_threads n S (moved t (Fill p at long byte) S) refl refl (threads_long t (Fill p at long byte) S) (threads_less n (n + 1) (omega arith) S.threads room.instructions) room
 room_moved t (Pay (Close h o)) n S room = record {
   objects = let few = room.objects in let long = length_closed (is_last S o) o S.objects in omega arith;
+  threads = let few = room.threads in let long = threads_long t (Pay (Close h o)) S in omega arith;
   instructions = threads_unlinked (is_last S o) o n S.threads (threads_less n (n + 1) (omega arith) S.threads room.instructions);
   tables = room.tables;
 }
 room_moved t (Pay (Sweep o)) n S room = record {
   objects = let few = room.objects in let long = length-set S.objects o.0 None in omega arith;
+  threads = let few = room.threads in let long = threads_long t (Pay (Sweep o)) S in omega arith;
   instructions = set_keeps (CanGo n) S.threads o.0 None None (λ row e. absurd (cc)) (threads_less n (n + 1) (omega arith) S.threads room.instructions);
   tables = room.tables;
 }

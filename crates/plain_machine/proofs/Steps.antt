@@ -7,18 +7,16 @@ use Rattle.script_types.specs.declared.declaration.ThreadDecl.{ThreadDecl}
 use Rattle.script_types.specs.declared.script.Script.{Script}
 use Rattle.script_types.specs.declared.script.Slot.{Slot}
 use Rattle.script_types.specs.Shape.{IsShaped}
-use Rattle.entry_log.specs.declared.entry.Actor.{Actor}
 use Rattle.entry_log.specs.declared.entry.Entry.{Entry}
 use Rattle.readings.specs.Readable.{AreSmallRows}
 use Rattle.machine.specs.declared.decision.Decision.{Decision}
-use Rattle.machine.specs.declared.decision.Outcome.{Outcome}
 use Rattle.machine.specs.declared.moves.Move.{Move}
 use Rattle.machine.specs.declared.moves.Move.TheVariants.{Pay}
 use Rattle.state_rows.specs.declared.handle_slot.HandleSlot.{HandleSlot}
 use Rattle.state_rows.specs.declared.thread.Role.{Role}
 use Rattle.state_rows.specs.declared.thread.Role.TheVariants.{Supervisor, Queue, Declared}
 use Rattle.machine.specs.declared.state.State.{State}
-use Rattle.machine.specs.History.{transition, entry_of, IsNext, CanAct}
+use Rattle.machine.specs.History.{next, entry_by, IsNext}
 use Rattle.plain_machine.specs.PlainView.{IsPlain}
 use Rattle.plain_machine.specs.Allowed.{TellsFew, AllowsAction}
 use Rattle.state_rows.specs.Deferred.{next_immediate}
@@ -32,7 +30,6 @@ use Rattle.machine.specs.Run.{slot_actor}
 use Rattle.machine.specs.Slots.{IsDeclared}
 use Rattle.machine.specs.Steps.{decision_of}
 use Rattle.machine.specs.Task.{declared_of, instructions_in}
-use Rattle.machine.specs.Transition.{Transition, left}
 use Rattle.machine.specs.WellFormed.{AreRows, AreTables, IsWellFormed}
 use Rattle.machine_laws.proofs.Fitting.Actions.{fits-action}
 use Rattle.machine_laws.proofs.Fitting.Bodies.{Goes}
@@ -59,6 +56,7 @@ few_in script shaped (Declared k) (Some declared) at = (shaped.threads k declare
 room_of_rows : (script : Script) (S : State) → IsShaped script → AreRows script S → HasRoom 9 S
 room_of_rows script S shaped rows = record {
   objects = let few = rows.sized.objects_few in omega arith;
+  threads = let few = rows.sized.threads_few in omega arith;
   instructions = λ k row is. let next = (rows.threads.rows k row is).next_instruction in let few = few_in script shaped row.role _ refl in omega arith;
   tables = small_table S.handles rows.tables;
 }
@@ -89,36 +87,31 @@ allows_action script S shaped rows = record {
   interrupts = λ k. few_told script S (decision_by script supervisor S (Runs (Interrupt k))) (goes-interrupt script S k shaped rows);
 }
 
--- the machine goes on by what an actor does that may act
-plain_goes_by : (script : Script) (history : List Entry) (S T : State) (actor : Actor) (outcome : Outcome) → CanAct script S actor → IsPlain script history S → left T outcome ≡ transition script S actor
-    → IsPlain script (history ++ entry_of (length history + 1) actor outcome ∷ []) T
-plain_goes_by script history S T actor outcome able plain did =
-    let e = entry_of (length history + 1) actor outcome in
-    let next : IsNext script S (length history + 1) e = record {
-      able = able;
-      told = ap (λ (a : Transition). entry_of (length history + 1) actor a.outcome) did;
-    } in
-    record {
-      valid = plain.valid;
-      legal = legal-push script history e plain.legal (subst (λ (s : State). IsNext script s (length history + 1) e) plain.state next);
-      state = ap (λ (a : Transition). a.state) did ∙ ap (λ (s : State). (transition script s actor).state) plain.state ∙ sym (after-push script history e);
-    }
-
--- the machine goes on by what the actor of a slot does
-plain_goes_on : (script : Script) (history : List Entry) (S T : State) (slot : Slot) (outcome : Outcome) → IsDeclared script slot → IsWellFormed script S → IsPlain script history S → left T outcome ≡ transition script S (slot_actor S slot)
-    → IsPlain script (history ++ entry_of (length history + 1) (slot_actor S slot) outcome ∷ []) T
-plain_goes_on script history S T slot outcome declared formed plain did = plain_goes_by script history S T (slot_actor S slot) outcome (slot_can script S slot declared formed) plain did
-
--- the same of a copy of the state, and of what is made in between
-pub plain_goes_on_by : (script : Script) (history new : List Entry) (S copy T : State) (slot : Slot) (actor : Actor) (outcome : Outcome) (place : ℕ) (e : Entry)
-    → IsDeclared script slot → IsWellFormed script S → IsPlain script history S → copy ≡ S → actor ≡ slot_actor S slot → left T outcome ≡ transition script copy actor → place ≡ length history + 1 → e ≡ entry_of place actor outcome → new ≡ history ++ e ∷ []
-    → IsPlain script new T
-plain_goes_on_by script history new S copy T slot actor outcome place e declared formed plain same by did at told pushed =
-    let did_so : left T outcome ≡ transition script S (slot_actor S slot) = did ∙ ap (λ (s : State). transition script s actor) same ∙ ap (transition script S) by in
-    let told_so : e ≡ entry_of (length history + 1) (slot_actor S slot) outcome = told ∙ ap (λ (n : ℕ). entry_of n actor outcome) at ∙ ap (λ (a : Actor). entry_of (length history + 1) a outcome) by in
-    let new_so : new ≡ history ++ entry_of (length history + 1) (slot_actor S slot) outcome ∷ [] = pushed ∙ ap (λ (x : Entry). history ++ x ∷ []) told_so in
-    subst (λ (h : List Entry). IsPlain script h T) (sym new_so) (plain_goes_on script history S T slot outcome declared formed plain did_so)
-
 -- the state of a machine is well-formed
 pub formed_plain : (script : Script) (history : List Entry) (S : State) → IsPlain script history S → IsWellFormed script S
 formed_plain script history S plain = subst (IsWellFormed script) (sym plain.state) (well_formed-after script history plain.valid)
+
+-- the machine goes on by what the actor of a slot does
+plain_goes_on : (script : Script) (history : List Entry) (S : State) (slot : Slot) → IsDeclared script slot → IsPlain script history S
+    → IsPlain script (history ++ entry_by script S (length history + 1) (slot_actor S slot) ∷ []) (next script S (slot_actor S slot))
+plain_goes_on script history S slot declared plain =
+    let actor = slot_actor S slot in
+    let place = length history + 1 in
+    let e = entry_by script S place actor in
+    let told : IsNext script S place e = record { able = slot_can script S slot declared (formed_plain script history S plain); told = refl } in
+    record {
+      valid = plain.valid;
+      legal = legal-push script history e plain.legal (subst (λ (s : State). IsNext script s place e) plain.state told);
+      state = ap (λ (s : State). next script s actor) plain.state ∙ sym (after-push script history e);
+    }
+
+-- the same of what is made in between
+pub plain_goes_on_by : (script : Script) (history new : List Entry) (S T : State) (slot : Slot) (place : ℕ) (e : Entry)
+    → IsDeclared script slot → IsPlain script history S → place ≡ length history + 1
+    → T ≡ next script S (slot_actor S slot) → e ≡ entry_by script S place (slot_actor S slot) → new ≡ history ++ e ∷ []
+    → IsPlain script new T
+plain_goes_on_by script history new S T slot place e declared plain at did told pushed =
+    let told_so : e ≡ entry_by script S (length history + 1) (slot_actor S slot) = told ∙ ap (λ (n : ℕ). entry_by script S n (slot_actor S slot)) at in
+    let new_so : new ≡ history ++ entry_by script S (length history + 1) (slot_actor S slot) ∷ [] = pushed ∙ ap (λ (x : Entry). history ++ x ∷ []) told_so in
+    subst (λ (s : State). IsPlain script new s) (sym did)
+    (subst (λ (h : List Entry). IsPlain script h (next script S (slot_actor S slot))) (sym new_so) (plain_goes_on script history S slot declared plain))

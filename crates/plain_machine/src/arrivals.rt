@@ -1,9 +1,10 @@
 //! The ready list along the moves of an action.
 ghost use Rattle.std.specs.Prelude.{◌≡◌, IfOk, OnOk, filter};
-ghost use Rattle.machine.specs.Arrivals.{is_listed, unlisted, taken_out, one_of, threads_of, arrive};
+ghost use Rattle.machine.specs.Arrivals.{is_listed, taken_out, one_of, threads_of, arrive};
 ghost use Rattle.machine.specs.Task.{is_ready};
 
-use machine::{Move, State, TouchedThreads};
+use machine::{Move, Owed, State, TouchedThreads};
+use plain_rows::unlisted;
 use readings::is_ready;
 use script_types::Script;
 use std::alloc::Global;
@@ -16,31 +17,16 @@ fn is_listed(list: &[ThreadNo], thread: ThreadNo) -> bool
     list.iter().any(|other| other.0 == thread.0)
 }
 
-/// The list without a thread.
-pub fn unlisted(
-    alloc: Global,
-    thread: ThreadNo,
-    list: &[ThreadNo],
-) -> Result<Vec<ThreadNo>, NoMemory>
-    ensures { IfOk result (λ rest. rest.items ≡ unlisted thread list.now) }
-{
-    let mut rest = Vec::new(alloc);
-    for other in list {
-        if other.0 == thread.0 {
-            continue;
-        }
-        rest.push(*other)?;
-    }
-    Ok(rest)
-}
-
-/// A thread whose priority a move sets leaves the list first, and so arrives anew.
+/// A thread whose priority a move sets leaves the list first, and so arrives anew. One whose row is swept leaves it.
 pub fn take_out(alloc: Global, change: Move, list: &mut Items<ThreadNo>) -> Result<(), NoMemory>
     ensures { OnOk result (list.new ≡ taken_out change list.old) }
 {
-    if let Move::SetPriority(thread, _) = change {
-        *list = Items::new(unlisted(alloc, thread, list.as_slice())?);
-    }
+    let thread = match change {
+        Move::SetPriority(thread, _) => thread,
+        Move::Pay(Owed::Sweep(object)) => object,
+        _ => return Ok(()),
+    };
+    *list = Items::new(unlisted(alloc, thread, list.as_slice())?);
     Ok(())
 }
 

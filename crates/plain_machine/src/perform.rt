@@ -5,21 +5,16 @@ ghost use Rattle.machine.specs.Handles.{taken_slot, freed_slot, with_slot};
 ghost use Rattle.machine.specs.Moves.{tables_gain, threads_gain, tables_lose, threads_lose, link_of, use_of, objects_closed, moved};
 ghost use Rattle.machine.specs.Room.{HasRoom, AreSmallTables};
 
-use crate::calls::make_deferred_move;
-use crate::deaths::make_death_move;
-use crate::locks::make_lock_move;
-use crate::logons::make_logon_move;
-use crate::nano::make_nano_move;
-use crate::requests::make_request_move;
 use entry_log::Holder;
 use machine::{
     HandleSlot, Move, Owed, State, Waiting, is_last, object_of, set_row, set_slot, table_of,
     thread_in,
 };
 use plain_rows::{
-    drop_first_owed, fill_memory, owe_close, owe_use, threads_advance, threads_closed,
-    threads_find, threads_gain, threads_go_on, threads_lose, threads_set_priority, threads_wait,
-    threads_write,
+    drop_first_owed, fill_memory, make_death_move, make_deferred_move, make_lock_move,
+    make_logon_move, make_nano_move, make_request_move, owe_close, owe_use, threads_advance,
+    threads_closed, threads_find, threads_gain, threads_go_on, threads_lose, threads_set_priority,
+    threads_wait, threads_write,
 };
 use state_rows::{ObjectRow, dead_row, next_instance, slot_at};
 use std::alloc::Global;

@@ -2,9 +2,11 @@
 ghost use Rattle.std.specs.Prelude.{◌≡◌, ◌+◌, ◌<◌, ◌++◌, [], ◌∷◌, length, IfOk, OnOk, OnErr};
 ghost use Rattle.script_types.specs.Source.{IsWellFormed};
 ghost use Rattle.machine.specs.FinalRows.{rows_from, IsNextRow};
-ghost use Rattle.machine.specs.History.{after, entry_by, IsLegal};
+ghost use Rattle.script_types.specs.Shape.{IsShaped};
+ghost use Rattle.machine.specs.History.{after, next, entry_by, IsLegal};
 ghost use Rattle.machine.specs.Run.{slot_actor};
 ghost use Rattle.machine.specs.Slots.{IsDeclared};
+ghost use Rattle.plain_machine.specs.Allowed.{AllowsAction};
 
 use crate::choice::chosen;
 use crate::final_rows;
@@ -47,6 +49,31 @@ fn slot_actor(state: &State, slot: Slot) -> Actor
     }
 }
 
+/// Puts another state in a state's place.
+fn set_state(state: &mut State, other: State)
+    ensures { state.new ≡ other }
+{
+    *state = other;
+}
+
+/// What a slot's actor does, made on a copy of the state: the state after it, and the entry at this place.
+fn acted(
+    alloc: Global,
+    script: &Script,
+    state: &State,
+    place: u32,
+    slot: Slot,
+) -> Result<(State, Entry), NoMemory>
+    requires shaped { IsShaped script.now }
+    requires allowed { AllowsAction script.now state.now }
+    ensures { let actor = slot_actor state.now slot in IfOk result (λ (made : State × Entry). made ≡ (next script.now state.now actor, entry_by script.now state.now place actor)) }
+{
+    let actor = slot_actor(state, slot);
+    let mut after = state.copied(alloc)?;
+    let outcome = transition(alloc, script, &mut after, actor)?;
+    Ok((after, entry_of(place, actor, outcome)))
+}
+
 impl Plain {
     /// The machine at boot.
     pub fn boot(alloc: Global, script: Script) -> Result<Plain, NoMemory>
@@ -71,12 +98,10 @@ impl Plain {
         ensures ok { let S = after self.old.script self.old.history in OnOk result (self.new.history ≡ self.old.history ++ entry_by self.old.script S (length self.old.history + 1) (slot_actor S slot) ∷ []) }
         ensures err { OnErr result (self.new ≡ self.old) }
     {
-        let actor = slot_actor(&self.state, slot);
-        let mut state = self.state.copied(self.alloc)?;
-        let outcome = transition(self.alloc, &self.script, &mut state, actor)?;
-        let entry = entry_of(self.history.len() as u32 + 1, actor, outcome);
+        let place = self.history.len() as u32 + 1;
+        let (state, entry) = acted(self.alloc, &self.script, &self.state, place, slot)?;
         self.history.push(entry)?;
-        self.state = state;
+        set_state(&mut self.state, state);
         Ok(())
     }
 

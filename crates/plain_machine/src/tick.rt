@@ -4,10 +4,10 @@ ghost use Rattle.std.specs.Prelude.{◌≡◌, IfOk};
 ghost use Rattle.machine.specs.Tick.{moved_behind, tick};
 ghost use Rattle.machine.specs.Transition.{left};
 
-use crate::arrivals::unlisted;
 use crate::choice::first_ready;
 use entry_log::{Effects, Step};
 use machine::{Outcome, State};
+use plain_rows::unlisted;
 use readings::Reads;
 use std::alloc::Global;
 use sym_base::{Items, NoMemory, ThreadNo};

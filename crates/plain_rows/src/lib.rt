@@ -1,12 +1,28 @@
-//! The plain machine's changes of threads' rows, of what threads owe, and of the memory of processes.
+//! The plain machine's changes of its lists: each kind of move in the rows of requests, logons, locks and the like, and the
+//! parts of those moves that change several.
 #![tactic(auto)]
 
+mod calls;
+mod deaths;
 mod duties;
+mod lists;
+mod locks;
+mod logons;
 mod memory;
+mod mutexes;
+mod nano;
+mod requests;
 mod thread_rows;
 
+pub use calls::make_deferred_move;
+pub use deaths::make_death_move;
 pub use duties::{drop_first_owed, owe_close, owe_use};
+pub use lists::unlisted;
+pub use locks::make_lock_move;
+pub use logons::make_logon_move;
 pub use memory::fill_memory;
+pub use nano::make_nano_move;
+pub use requests::make_request_move;
 pub use thread_rows::{
     threads_advance, threads_closed, threads_find, threads_gain, threads_go_on, threads_lose,
     threads_set_priority, threads_wait, threads_write,

@@ -30,6 +30,7 @@ kept_added : (threads : List (Option ThreadRow)) (processes : List (Option (List
 kept_added threads processes spare p kept inside fresh =
     let left = length-take (length spare - 1) spare in
     record {
+      few = kept.few;
       sized = λ k bytes is. elim (cases_eq k p) [
         | inl same ↦ let here = get_or-set_same processes p (Some no_bytes) None inside in let whole : bytes ≡ no_bytes = cc (rw same at is) in rw whole (length-replicate {A = ℕ} 1024 0)
         | inr apart ↦ kept.sized k bytes (rw (get_or-set_other processes p k (Some no_bytes) None apart) at is)

@@ -1,5 +1,5 @@
 //! The table of threads and processes, and its calls.
-ghost use Rattle.std.specs.Prelude.{◌≡◌, ◌<◌, IsTrue, IfOk, is_some, length, option_copied, replicate, slice_index, slice_index_or, slice_set, None};
+ghost use Rattle.std.specs.Prelude.{◌≡◌, ◌<◌, ◌≤◌, IsTrue, IfOk, is_some, length, option_copied, replicate, slice_index, slice_index_or, slice_set, None};
 ghost use Rattle.procs.specs.Rows.{no_rows, is_thread, is_process, IsFresh, row_of, bytes_of, byte_at, with_row, with_process, no_bytes};
 ghost use Rattle.state_rows.specs.ThreadRows.{new_thread};
 
@@ -93,6 +93,14 @@ impl Procs {
         } else {
             None
         }
+    }
+
+    /// The rows of all threads, by number: none where no thread of the number was added.
+    pub fn threads(&self) -> &[Option<ThreadRow>]
+        ensures rows { result.now ≡ self.now.threads }
+        ensures few { length result.now ≤ 65535 }
+    {
+        &self.threads
     }
 
     /// Removes the row of a thread. Where no thread of the number was added nothing changes.

@@ -1,1 +1,4 @@
+pub mod Active
 pub mod Best
+pub mod BurialNumbers
+pub mod First

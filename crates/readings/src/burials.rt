@@ -1,6 +1,6 @@
 //! Burials: the calls of the supervisor's queue that finish the deaths of threads.
-ghost use Rattle.std.specs.Prelude.{◌≡◌, Some};
-ghost use Rattle.machine.specs.Reaping.{burial_of, is_cleaned, is_buried_by, buried_by};
+ghost use Rattle.std.specs.Prelude.{◌≡◌, ◌<◌, ◌≤◌, Some, IfSome, length, position};
+ghost use Rattle.machine.specs.Reaping.{burial_of, is_buried_by, buried_by};
 
 use machine::{Role, State, ThreadRow};
 use script_types::Script;
@@ -10,14 +10,18 @@ use sym_base::{ObjNo, ThreadNo};
 /// The number of the supervisor's burial, which those of the other threads follow.
 const FIRST_BURIAL: usize = 64;
 
-/// The number of the call that buries a thread of this role.
-pub fn burial_of(script: &Script, role: Role) -> usize
+/// The number of the call that buries a thread of this role. A number of a call has 8 bits.
+#[tactic(auto, using(crate::proofs::BurialNumbers::number_fits))]
+pub fn burial_of(script: &Script, role: Role) -> u8
     ensures { result ≡ burial_of script.now role }
 {
     match role {
-        Role::Supervisor => FIRST_BURIAL,
-        Role::Queue(queue) => FIRST_BURIAL + queue as usize,
-        Role::Declared(number) => FIRST_BURIAL + 1 + script.queues.len() + number as usize,
+        Role::Supervisor => FIRST_BURIAL as u8,
+        Role::Queue(queue) => ((FIRST_BURIAL + queue as usize) % 256) as u8,
+        Role::Declared(number) => {
+            let queues = script.queues.len() % 256;
+            ((FIRST_BURIAL + 1 + queues + number as usize) % 256) as u8
+        }
     }
 }
 
@@ -25,7 +29,7 @@ pub fn burial_of(script: &Script, role: Role) -> usize
 pub fn is_buried_by(script: &Script, dfc: u8, row: &ThreadRow) -> bool
     ensures { result ≡ is_buried_by script.now dfc (Some row.now) }
 {
-    burial_of(script, row.role) == dfc as usize && row.stage == Stage::Cleaned
+    burial_of(script, row.role) == dfc && row.stage == Stage::Cleaned
 }
 
 /// Whether there is such a row.
@@ -38,11 +42,19 @@ fn has_burial(script: &Script, dfc: u8, row: &Option<ThreadRow>) -> bool
     }
 }
 
+/// The place of the first such row.
+pub fn burial_place(script: &Script, dfc: u8, rows: &[Option<ThreadRow>]) -> Option<usize>
+    ensures place { result ≡ position (is_buried_by script.now dfc) rows.now }
+    ensures within { IfSome result (λ p. p < length rows.now) }
+{
+    rows.iter().position(|row| has_burial(script, dfc, row))
+}
+
 /// The cleaned thread whose burial a call is.
 pub fn buried_by(state: &State, script: &Script, dfc: u8) -> Option<ThreadNo>
+    requires { length state.now.threads ≤ 65535 }
     ensures { result ≡ buried_by script.now state.now dfc }
 {
-    let rows = state.threads.as_slice();
-    let place = rows.iter().position(|row| has_burial(script, dfc, row))?;
+    let place = burial_place(script, dfc, state.threads.as_slice())?;
     Some(ObjNo(place as u16))
 }

@@ -13,11 +13,11 @@ mod plain_requests;
 mod reads;
 mod task;
 
-pub use burials::{burial_of, is_buried_by};
+pub use burials::{burial_of, burial_place, is_buried_by};
 pub use move_effects::tell;
 pub use plain_calls::is_queued;
 pub use plain_choice::first_of_greatest;
-pub use plain_holdings::is_left;
+pub use plain_holdings::{first_used, is_left, is_one_left};
 pub use reads::Reads;
 pub use task::{
     instruction, is_able, is_ready, is_returning, next_call, serves_queue, wanted_holder,

@@ -1,7 +1,9 @@
 //! What a thread does next.
-ghost use Rattle.std.specs.Prelude.{◌≡◌, Some, is_some, option_copied};
+ghost use Rattle.std.specs.Prelude.{◌≡◌, List, Some, is_some, option_copied};
+ghost use Rattle.machine.specs.declared.holding.Holding.{Holding};
+ghost use Rattle.machine.specs.declared.task.Task.{Task};
 ghost use Rattle.machine.specs.Rows.{first_owed};
-ghost use Rattle.machine.specs.Task.{instruction, is_returning, served_queue, next_call, task_of_row, is_wait, is_stopped, is_ready, is_able, declared_of};
+ghost use Rattle.machine.specs.Task.{instruction, is_returning, served_queue, next_call, task_of_row, by_stage, live_task, is_wait, is_stopped, is_ready, is_able, declared_of};
 ghost use Rattle.state_rows.specs.Nano.{is_protected, wanted_holder};
 
 use crate::Reads;
@@ -65,7 +67,10 @@ pub fn serves_queue(role: Role) -> bool
 
 /// Whether the thread of this row is in the middle of its life, or of its death, with something to do there: who serves a queue has a
 /// call of it, and any other thread has at least its end to come.
-fn is_active<R: Reads>(reads: &R, row: &ThreadRow) -> bool {
+#[tactic(auto, using(crate::proofs::Active::live_some))]
+fn is_active<R: Reads>(reads: &R, row: &ThreadRow) -> bool
+    ensures { (has : List Holding) (own : Task) → result ≡ is_some (by_stage row.now.stage has (live_task row.now.role (next_call (R.state reads.now).deferred row.now.role) own)) }
+{
     match row.stage {
         Stage::Live => !serves_queue(row.role) || next_call(reads, row.role).is_some(),
         Stage::Doomed => true,
@@ -74,6 +79,7 @@ fn is_active<R: Reads>(reads: &R, row: &ThreadRow) -> bool {
 }
 
 /// Whether the thread of this row has something to do: its return, something that it owes, or what its stage leaves to do.
+#[tactic(auto, using(crate::proofs::Active::task_some))]
 fn has_task<R: Reads>(script: &Script, reads: &R, thread: ThreadNo, row: &ThreadRow) -> bool
     ensures { let S = R.state reads.now in result ≡ is_some (task_of_row script.now S thread (Some row.now)) }
 {

@@ -1,6 +1,6 @@
 -- Each object that stands at boot has a reference: a thread the kernel's own, a process its threads'.
 use Rattle.std.proofs.Common.{◌≡◌, inl, inr, ℕ, suc, zero, ◌+◌, ◌<◌, ◌≤◌, List, [], ◌∷◌, ◌++◌, length, get_or, arith, refl, subst, ap, ◌∙◌, Option, Some, None, Bool, true, false, map}
-use Rattle.std.specs.Prelude.{is_some, if◌then◌else◌, ◌||◌}
+use Rattle.std.specs.Prelude.{if◌then◌else◌, ◌||◌}
 use Rattle.std.specs.List.{list_any}
 use Rattle.std.proofs.lemmas.Bool.{eq-eqb, or_left, or_right}
 use Rattle.std.proofs.lemmas.List.{length-map}

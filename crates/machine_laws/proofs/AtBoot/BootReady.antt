@@ -11,11 +11,12 @@ use Rattle.state_rows.specs.declared.thread.ThreadRow.{ThreadRow}
 use Rattle.machine.specs.Arrivals.{is_listed}
 use Rattle.state_rows.specs.DeclaredCalls.{calls_of}
 use Rattle.machine.specs.Boot.{boot, boot_of, born, ready_from}
-use Rattle.machine.specs.Rows.{first_of}
-use Rattle.machine.specs.Task.{task_of, task_of_row, is_wait, is_waiting, is_waiting_row, is_stopped}
+use Rattle.machine.specs.Rows.{first_of, thread_of}
+use Rattle.machine.specs.Task.{task_of, is_wait, is_waiting, is_waiting_row, is_stopped}
 use Rattle.machine.specs.WellFormed.{AreApart, IsReadyList}
 use Rattle.machine_laws.proofs.AtBoot.Born.{IsNewThread, EachBorn, each_born}
-use Rattle.machine_laws.proofs.AtBoot.BootNano.{is_held_at, unprotected, stopped-boot}
+use Rattle.machine_laws.proofs.AtBoot.BootNano.{is_held_at, stopped-boot}
+use Rattle.move_laws.proofs.Readiness.HasTask.{has_task, task_is}
 use Rattle.move_laws.proofs.References.Same.{eqb_apart}
 
 -- whether the one at a place works
@@ -43,7 +44,7 @@ listed_at n (b ∷ bs) zero u at = listed_first n (ready_from (n + 1) bs) b.work
 listed_at n (b ∷ bs) (suc i) u at = listed_later n (ready_from (n + 1) bs) b.works u (λ e. absurd (omega arith)) ∙ listed_at (n + 1) bs i u (omega arith)
 
 -- who works isn't held and has something to do
-works_is : (script : Script) (n : ℕ) (bs : List Born) (i : ℕ) → EachBorn script n bs → works_at bs i ≡ (not (is_held_at bs i) && is_some (task_of_row script (calls_of script) false None (get_or (map (λ b. b.thread) bs) i None)))
+works_is : (script : Script) (n : ℕ) (bs : List Born) (i : ℕ) → EachBorn script n bs → works_at bs i ≡ (not (is_held_at bs i) && has_task script (calls_of script) None (get_or (map (λ b. b.thread) bs) i None))
 works_is script n [] i h = refl
 works_is script n (b ∷ bs) zero h = h.0.works
 works_is script n (b ∷ bs) (suc i) h = works_is script n bs i h.1
@@ -71,12 +72,12 @@ ready_apart : (n : ℕ) (bs : List Born) → AreApart (ready_from n bs)
 ready_apart n [] = tt
 ready_apart n (b ∷ bs) = apart_step n (ready_from (n + 1) bs) b.works (listed_below (n + 1) bs (record { 0 = n }) (omega arith)) (ready_apart (n + 1) bs)
 
-task-boot : (script : Script) (u : ObjNo) → ◌≡◌ {A = Bool} (is_some (task_of script (boot script) u)) (is_some (task_of_row script (calls_of script) false None (get_or (map (λ b. b.thread) (born script)) u.0 None)))
+task-boot : (script : Script) (u : ObjNo) → ◌≡◌ {A = Bool} (is_some (task_of script (boot script) u)) (has_task script (calls_of script) None (get_or (map (λ b. b.thread) (born script)) u.0 None))
 unfolding boot_of
 task-boot script u =
     let bs = born script in
-    ap (λ (protected : Bool). is_some (task_of_row script (calls_of script) protected (first_of (get_or (map (λ _. []) bs) u.0 [])) (get_or (map (λ b. b.thread) bs) u.0 None))) (unprotected script.fast bs u)
-    ∙ ap (λ (first : Option Owed). is_some (task_of_row script (calls_of script) false first (get_or (map (λ b. b.thread) bs) u.0 None))) (sym (owes_nothing bs u.0))
+    task_is script (boot script) u (thread_of (boot script) u)
+    ∙ ap (λ (first : Option Owed). has_task script (calls_of script) first (get_or (map (λ b. b.thread) bs) u.0 None)) (sym (owes_nothing bs u.0))
 
 ready_is : (waits stopped task held work : Bool) → waits ≡ false → stopped ≡ held → task ≡ work → (not waits && not stopped && task) ≡ (not held && work)
 ready_is waits stopped task held work a b c = ap (λ x. not x && not stopped && task) a ∙ (ap (λ x. not x && task) b ∙ ap (λ x. not held && x) c)

@@ -1,12 +1,11 @@
 -- The state at boot is well-formed.
 use Rattle.std.proofs.Common.{◌≡◌, ◌⊎◌, inl, inr, ℕ, suc, zero, ◌+◌, ◌<◌, ◌≤◌, List, [], ◌∷◌, length, get_or, arith, refl, sym, subst, ap, ◌∙◌, Option, Some, None, map, replicate, false}
-use Rattle.std.specs.Prelude.{is_some, if◌then◌else◌}
 use Rattle.std.proofs.lemmas.List.{length-map, length-replicate, get_or_past}
 use Rattle.std.proofs.lemmas.Bool.{cases_lt}
 use Rattle.sym_base.specs.declared.number.ObjNo.{ObjNo}
 use Rattle.script_types.specs.declared.script.Script.{Script}
 use Rattle.script_types.specs.Shape.{IsShaped}
-use Rattle.script_types.specs.Source.{IsWellFormed}
+use Rattle.script_types.specs.Source.{IsWellFormed as IsWellFormedScript}
 use Rattle.script_types.proofs.ShapeLaws.{formed_is_shaped}
 use Rattle.sym_base.specs.declared.limits.TheConstants.Limits.{DEVICES, OBJECTS}
 use Rattle.state_rows.specs.RequestChanges.{new_rows as request_rows}
@@ -28,7 +27,7 @@ use Rattle.machine_laws.proofs.AtBoot.BootReady.{ready-boot}
 use Rattle.machine_laws.proofs.AtBoot.BootRequests.{requests-boot}
 use Rattle.machine_laws.proofs.AtBoot.BootServers.{servers-boot}
 use Rattle.machine.proofs.BornFew.{born_few}
-use Rattle.machine_laws.proofs.AtBoot.Born.{IsNewThread, EachBorn, each_born, born_row}
+use Rattle.machine_laws.proofs.AtBoot.Born.{IsNewThread, EachBorn, each_born, born_role, born_row}
 use Rattle.move_laws.proofs.RowLaws.Logons.{logons-boot}
 use Rattle.move_laws.proofs.Lists.Copies.{copy_at}
 use Rattle.move_laws.proofs.References.Same.{same_other}
@@ -98,7 +97,7 @@ fresh_instances (suc n) (suc i) = fresh_instances n i
 fresh_table : IsTable (replicate 256 fresh_slot)
 fresh_table = record { size = length-replicate 256 fresh_slot; instances = fresh_instances 256; counted = λ i o is. let none = copy_at fresh_slot 256 i in let object = ap (λ (slot : HandleSlot). slot.object) none in absurd (cc) }
 
-pub rows-boot : (script : Script) → IsWellFormed script → AreRows script (boot script)
+pub rows-boot : (script : Script) → IsWellFormedScript script → AreRows script (boot script)
 unfolding boot_of
 rows-boot script valid =
     let shaped = formed_is_shaped script valid in
@@ -128,6 +127,8 @@ rows-boot script valid =
               next_instruction = omega arith;
               unused = λ _. new.uses;
               registers = new.registers;
+              declared = born_role script (length bs) bs k row each is;
+              returns = λ e. let first = new.part in absurd (cc);
             };
         processes = λ k row is. linked_at bs bs k row (each_linked script) is;
         servers = λ k queue row is serves. servers-boot script k queue row is serves;
@@ -157,5 +158,5 @@ rows-boot script valid =
       };
     }
 
-pub well_formed-boot : (script : Script) → IsWellFormed script → IsWellFormed script (boot script)
+pub well_formed-boot : (script : Script) → IsWellFormedScript script → IsWellFormed script (boot script)
 well_formed-boot script valid = record { rows = rows-boot script valid; ready = ready-boot script (formed_is_shaped script valid) }

@@ -1,6 +1,6 @@
 -- What holds of each that stands at boot.
 use Rattle.std.proofs.Common.{◌≡◌, ℕ, suc, zero, ◌+◌, ◌<◌, ◌≤◌, List, [], ◌∷◌, ◌++◌, length, get_or, map, arith, refl, sym, subst, ap, ◌∙◌, Option, Some, None, Bool, true, false}
-use Rattle.std.specs.Prelude.{codes, slice_get, is_some, not, ◌&&◌, if◌then◌else◌, nat_le, IsTrue}
+use Rattle.std.specs.Prelude.{codes, slice_get, is_some, option_map, not, ◌&&◌, if◌then◌else◌, nat_le, IsTrue}
 use Rattle.std.specs.List.{list_all}
 use Rattle.std.proofs.lemmas.Bool.{and_parts, leb-true}
 use Rattle.std.proofs.lemmas.List.{length-append, append_assoc}
@@ -8,7 +8,6 @@ use Rattle.script_types.specs.declared.script.Script.{Script}
 use Rattle.script_types.specs.declared.declaration.ThreadDecl.{ThreadDecl}
 use Rattle.script_types.specs.declared.declaration.ProcessDecl.{ProcessDecl}
 use Rattle.script_types.specs.declared.declaration.QueueDecl.{QueueDecl}
-use Rattle.script_types.specs.declared.instruction.Instr.{Instr}
 use Rattle.script_types.specs.Shape.{IsShaped}
 use Rattle.state_rows.specs.Deferred.{next_of, priority_of}
 use Rattle.sym_base.specs.Greatest.{first_of_greatest}
@@ -18,9 +17,11 @@ use Rattle.state_rows.specs.declared.thread.Role.TheVariants.{Supervisor, Queue,
 use Rattle.state_rows.specs.declared.thread.ThreadRow.{ThreadRow}
 use Rattle.state_rows.specs.declared.thread.Waiting.TheVariants as waiting
 use Rattle.state_rows.specs.DeclaredCalls.{calls_of}
-use Rattle.machine.specs.Boot.{born, born_kernel, born_process, born_queues, born_thread, born_threads, born_processes, new_thread, has_any, is_of}
-use Rattle.machine.specs.Task.{instructions_in, run_or, step_or_end, task_of_row}
+use Rattle.machine.specs.Boot.{born, born_kernel, born_process, born_queues, born_thread, born_threads, born_processes, new_thread, is_of}
+use Rattle.machine.specs.Task.{call_task}
+use Rattle.machine.specs.WellFormed.{IsRole}
 use Rattle.move_laws.proofs.Lists.Copies.{copy_at}
+use Rattle.move_laws.proofs.Readiness.HasTask.{has_task}
 use Rattle.state_rows.specs.declared.thread.Stage.TheVariants.{Live}
 
 -- a thread's row, n being the number of those that stand at boot: it has made no step, and is linked to its process
@@ -39,7 +40,8 @@ pub record IsNewThread (n : ℕ) (row : ThreadRow) : Type 0 where
 pub record IsBorn (script : Script) (n : ℕ) (b : Born) : Type 0 where
   pub alive : b.object.dead ≡ false
   pub row : (row : ThreadRow) → b.thread ≡ Some row → IsNewThread n row
-  pub works : b.works ≡ (not b.held && is_some (task_of_row script (calls_of script) false None b.thread))
+  pub declared : (row : ThreadRow) → b.thread ≡ Some row → IsRole script row.role
+  pub works : b.works ≡ (not b.held && has_task script (calls_of script) None b.thread)
 
 abbrev pub EachBorn : Script → ℕ → List Born → Type 0
 EachBorn script n [] = Unit {0}
@@ -49,15 +51,10 @@ each_born-append : (script : Script) (n : ℕ) (xs ys : List Born) → EachBorn 
 each_born-append script n [] ys h k = k
 each_born-append script n (x ∷ xs) ys h k = (h.0, each_born-append script n xs ys h.1 k)
 
-works_has_first : (instrs : List Instr) → has_any instrs ≡ is_some (step_or_end false (slice_get instrs 0))
-works_has_first [] = refl
-works_has_first (x ∷ xs) = refl
-
-both_ways : (a b c : Bool) → a ≡ c → (a && b) ≡ (b && c)
-both_ways true true c e = e
-both_ways true false c e = refl
-both_ways false true c e = e
-both_ways false false c e = refl
+-- a thread that is declared has something to do
+works_unless : (held : Bool) → held ≡ (held && true)
+works_unless true = refl
+works_unless false = refl
 
 slice_get-behind : (pre : List ThreadDecl) (d : ThreadDecl) (ds : List ThreadDecl) → slice_get (pre ++ d ∷ ds) (length pre) ≡ Some d
 slice_get-behind [] d ds = refl
@@ -68,11 +65,16 @@ is_new_thread n p role priority lt few row is =
     let e : new_thread p role priority ≡ row = cc in
     subst (λ (r : ThreadRow). IsNewThread n r) e (record { process = lt; link = refl; priority = few; waiting = refl; next_instruction = refl; part = refl; uses = refl; live = refl; registers = refl })
 
-is_born_thread : (script : Script) (n p k : ℕ) (d : ThreadDecl) → p < n → d.priority ≤ 63 → slice_get script.threads k ≡ Some d → IsBorn script n (born_thread p k d)
-is_born_thread script n p k d lt few at = record {
+-- and has its role
+has_role : (script : Script) (p : ℕ) (role : Role) (priority : ℕ) → IsRole script role → (row : ThreadRow) → Some (new_thread p role priority) ≡ Some row → IsRole script row.role
+has_role script p role priority declared row is = let e : new_thread p role priority ≡ row = cc in subst (λ (r : ThreadRow). IsRole script r.role) e declared
+
+is_born_thread : (script : Script) (n p k : ℕ) (d : ThreadDecl) → p < n → d.priority ≤ 63 → k < length script.threads → IsBorn script n (born_thread p k d)
+is_born_thread script n p k d lt few declared = record {
   alive = refl;
   row = λ row is. is_new_thread n p (Declared k) d.priority lt few row is;
-  works = both_ways (has_any d.instrs) (not d.held) _ (works_has_first d.instrs ∙ ap (λ (x : Option ThreadDecl). is_some (step_or_end false (slice_get (instructions_in x) 0))) (sym at));
+  declared = λ row is. has_role script p (Declared k) d.priority declared row is;
+  works = works_unless (not d.held);
 }
 
 each_born_threads_step : (script : Script) (n p : ℕ) (k : ℕ) (d : ThreadDecl) (rest : List Born) (b : Bool) → IsBorn script n (born_thread p k d) → EachBorn script n rest → EachBorn script n (if b then born_thread p k d ∷ rest else rest)
@@ -85,15 +87,17 @@ each_born_threads script shaped n j p pre (d ∷ ds) lt e =
     let more : EachBorn script n (born_threads j p (length (pre ++ d ∷ [])) ds) = each_born_threads script shaped n j p (pre ++ d ∷ []) ds lt (e ∙ sym (append_assoc pre (d ∷ []) ds)) in
     let long : length (pre ++ d ∷ []) ≡ length pre + 1 = length-append pre (d ∷ []) in
     let at : slice_get script.threads (length pre) ≡ Some d = ap (λ l. slice_get l (length pre)) e ∙ slice_get-behind pre d ds in
+    let count : length script.threads ≡ length (pre ++ d ∷ ds) = ap length e in
+    let both = length-append pre (d ∷ ds) in
     each_born_threads_step script n p (length pre) d (born_threads j p (length pre + 1) ds) (is_of j d.process)
-    (is_born_thread script n p (length pre) d lt (shaped.threads (length pre) d at).priority at)
+    (is_born_thread script n p (length pre) d lt (shaped.threads (length pre) d at).priority (omega arith))
     (subst (λ (k : ℕ). EachBorn script n (born_threads j p k ds)) long more)
 
 none_some : (x : Option ThreadRow) (row : ThreadRow) → x ≡ None → x ≡ Some row → ⊥
 none_some x row e h = cc
 
 is_born_process : (script : Script) (n : ℕ) (name : List ℕ) → IsBorn script n (born_process name)
-is_born_process script n name = record { alive = refl; row = λ row is. absurd (none_some None row refl is); works = refl }
+is_born_process script n name = record { alive = refl; row = λ row is. absurd (none_some None row refl is); declared = λ row is. absurd (none_some None row refl is); works = refl }
 
 each_born_processes : (script : Script) → IsShaped script → (n j p : ℕ) (ds : List ProcessDecl) → p + length (born_processes script.threads j p ds) ≤ n → EachBorn script n (born_processes script.threads j p ds)
 each_born_processes script shaped n j p [] le = tt
@@ -111,24 +115,34 @@ each_born_processes script shaped n j p (d ∷ ds) le =
 no_call : (script : Script) (q : ℕ) → next_of (calls_of script) q ≡ None
 no_call script q = ap (first_of_greatest (priority_of (calls_of script))) (copy_at {A = List ℕ} [] (1 + length script.queues) q)
 
-no_work : (script : Script) (q : ℕ) → false ≡ is_some (run_or (next_of (calls_of script) q) None)
-no_work script q = ap (λ (call : Option ℕ). is_some (run_or call None)) (sym (no_call script q))
+no_work : (script : Script) (q : ℕ) → false ≡ is_some (option_map call_task (next_of (calls_of script) q))
+no_work script q = ap (λ (call : Option ℕ). is_some (option_map call_task call)) (sym (no_call script q))
 
-each_born_queues : (script : Script) (n q : ℕ) (ds : List QueueDecl) → 0 < n → IsTrue (list_all (λ (d : QueueDecl). nat_le d.priority 63) ds) → EachBorn script n (born_queues q ds)
-each_born_queues script n q [] lt few = tt
-each_born_queues script n q (d ∷ ds) lt few =
+each_born_queues : (script : Script) (n q : ℕ) (ds : List QueueDecl) → 0 < n → q + length ds ≤ 1 + length script.queues → IsTrue (list_all (λ (d : QueueDecl). nat_le d.priority 63) ds) → EachBorn script n (born_queues q ds)
+each_born_queues script n q [] lt declared few = tt
+each_born_queues script n q (d ∷ ds) lt declared few =
     let parts = and_parts (nat_le d.priority 63) (list_all (λ (x : QueueDecl). nat_le x.priority 63) ds) few in (
-      record { alive = refl; row = λ row is. is_new_thread n 0 (Queue q) d.priority lt (leb-true d.priority 63 parts.0) row is; works = no_work script q },
-      each_born_queues script n (q + 1) ds lt parts.1,
+      record {
+        alive = refl;
+        row = λ row is. is_new_thread n 0 (Queue q) d.priority lt (leb-true d.priority 63 parts.0) row is;
+        declared = λ row is. has_role script 0 (Queue q) d.priority (omega arith) row is;
+        works = no_work script q;
+      },
+      each_born_queues script n (q + 1) ds lt (omega arith) parts.1,
     )
 
 each_born_kernel : (script : Script) → IsShaped script → (n : ℕ) → 0 < n → EachBorn script n (born_kernel script)
 each_born_kernel script shaped n some = (
   is_born_process script n (codes "kernel"),
   (
-    record { alive = refl; row = λ row is. is_new_thread n 0 Supervisor 48 some (omega arith) row is; works = no_work script 0 },
+    record {
+      alive = refl;
+      row = λ row is. is_new_thread n 0 Supervisor 48 some (omega arith) row is;
+      declared = λ row is. has_role script 0 Supervisor 48 tt row is;
+      works = no_work script 0;
+    },
     each_born-append script n (born_queues 1 script.queues) (born_threads None 0 0 script.threads)
-        (each_born_queues script n 1 script.queues some shaped.numbers.queues)
+        (each_born_queues script n 1 script.queues some (omega arith) shaped.numbers.queues)
         (each_born_threads script shaped n None 0 [] script.threads some refl),
   ),
 )
@@ -146,3 +160,9 @@ pub born_row : (script : Script) (n : ℕ) (bs : List Born) (i : ℕ) (row : Thr
 born_row script n [] i row h is = cc
 born_row script n (b ∷ bs) zero row h is = h.0.row row is
 born_row script n (b ∷ bs) (suc i) row h is = born_row script n bs i row h.1 is
+
+-- and has a role that the script declares
+pub born_role : (script : Script) (n : ℕ) (bs : List Born) (i : ℕ) (row : ThreadRow) → EachBorn script n bs → get_or (map (λ b. b.thread) bs) i None ≡ Some row → IsRole script row.role
+born_role script n [] i row h is = cc
+born_role script n (b ∷ bs) zero row h is = h.0.declared row is
+born_role script n (b ∷ bs) (suc i) row h is = born_role script n bs i row h.1 is

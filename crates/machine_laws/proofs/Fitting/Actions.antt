@@ -1,6 +1,8 @@
 -- What a thread does in an action: moves that fit, or it pays the oldest of what it owes.
-use Rattle.std.proofs.Common.{◌≡◌, ◌⊎◌, inl, inr, ℕ, ◌<◌, List, [], ◌∷◌, length, arith, refl, sym, subst, ap, ◌∙◌, Option, Some, None, Bool, true, false}
-use Rattle.std.specs.Prelude.{not, ◌&&◌, is_some, is_none, slice_get}
+use Rattle.std.proofs.Common.{◌≡◌, ◌⊎◌, inl, inr, ℕ, zero, suc, ◌<◌, List, [], ◌∷◌, length, arith, refl, sym, subst, ap, ◌∙◌, Option, Some, None, Bool, true, false}
+use Rattle.std.specs.Prelude.{not, ◌&&◌, if◌then◌else◌, is_some, is_none, nat_lt, option_map, slice_get}
+use Rattle.sym_base.specs.declared.kind.ExitKind.TheVariants as kind
+use Rattle.sym_base.specs.declared.word.Word.TheVariants as word
 use Rattle.std.proofs.lemmas.Bool.{cases_lt}
 use Rattle.std.proofs.lemmas.List.{append-nil, get_or_past}
 use Rattle.std.proofs.lemmas.Option.{slice_get_past}
@@ -18,18 +20,25 @@ use Rattle.machine.specs.declared.decision.Decision.{Decision}
 use Rattle.machine.specs.declared.moves.Move.{Move}
 use Rattle.machine.specs.declared.moves.Move.TheVariants as move
 use Rattle.machine.specs.declared.plan.Body.TheVariants.{Deferred}
+use Rattle.state_rows.specs.declared.thread.Role.{Role}
+use Rattle.state_rows.specs.declared.thread.Role.TheVariants.{Supervisor, Queue, Declared}
 use Rattle.state_rows.specs.declared.thread.Stage.{Stage}
-use Rattle.state_rows.specs.declared.thread.Stage.TheVariants.{Live}
+use Rattle.state_rows.specs.declared.thread.Stage.TheVariants.{Live, Doomed, Cleaned, Buried}
 use Rattle.state_rows.specs.declared.thread.Waiting.{Waiting}
 use Rattle.state_rows.specs.declared.thread.Waiting.TheVariants as waiting
 use Rattle.state_rows.specs.declared.thread.ThreadRow.{ThreadRow}
 use Rattle.machine.specs.declared.state.State.{State}
-use Rattle.machine.specs.Rows.{thread_of, owed_of, first_of, first_owed}
+use Rattle.machine.specs.Rows.{thread_of, owed_of, first_of}
 use Rattle.machine.specs.Moves.{moved, told, perform, tell}
 use Rattle.machine.specs.References.{total}
 use Rattle.machine.specs.CriticalSection.{flush}
-use Rattle.machine.specs.Steps.{step_of, return_of, decision_of_row, decision_where, decision_of}
-use Rattle.machine.specs.Task.{instruction, instructions_of, is_returning, end_task, next_call, by_stage, pay_or, return_or, run_or, step_or_end, task_of_row, task_of, is_wait, is_waiting_row, is_waiting, is_stopped, is_ready, is_able}
+use Rattle.machine.specs.Dooms.{end, plain_exit}
+use Rattle.machine.specs.Holdings.{holdings}
+use Rattle.machine.specs.Reaping.{bury, clean, give_up}
+use Rattle.machine.specs.declared.holding.Holding.{Holding}
+use Rattle.machine.specs.declared.task.Task.TheVariants.{Bury, RunDfc}
+use Rattle.machine.specs.Steps.{step_of, return_of, decision_of_row, decision_of_task, decision_where, decision_of}
+use Rattle.machine.specs.Task.{instruction, instructions_of, is_returning, call_task, dying_task, end_task, live_task, next_call, by_stage, pay_or, return_or, step_or_end, task_of_row, task_of, is_wait, is_waiting_row, is_waiting, is_stopped, is_ready, is_able}
 use Rattle.machine.specs.Fits.{Fits, Sane}
 use Rattle.machine.specs.WellFormed.{AreRows, is_before_use, part_of, weight}
 use Rattle.move_laws.proofs.Lists.Totals.{inside}
@@ -38,8 +47,11 @@ use Rattle.move_laws.proofs.Numbers.Registers.{has_registers, has_names, has_ran
 use Rattle.move_laws.proofs.MoveLaws.Sound.{Sound, sound-none}
 use Rattle.move_laws.proofs.MoveLaws.Run.{each-sound, sound-pay}
 use Rattle.machine_laws.proofs.Fitting.Stepping.{FitsDecision, IsStepping, fits-nothing}
-use Rattle.machine_laws.proofs.Fitting.KernelThreads.{none_is, fits-flock, fits-funlock, fits-fswait, fits-fssignal, fits-enter, fits-leave, fits-flush, fits-suspend, fits-resume, fits-priority}
+use Rattle.machine_laws.proofs.Fitting.KernelThreads.{none_is, fits-flock, fits-fswait, fits-fssignal, fits-enter, fits-suspend, fits-resume, fits-priority}
 use Rattle.machine_laws.proofs.Fitting.Bodies.{Goes, goes-body}
+use Rattle.machine_laws.proofs.Fitting.Deaths.{fits-exit, fits-exit_step, fits-exittype, fits-logon}
+use Rattle.machine_laws.proofs.Fitting.Dooms.{fits-end, fits-flush, fits-funlock, fits-leave}
+use Rattle.machine_laws.proofs.Fitting.Reaping.{IsDying, fits-bury, fits-clean, fits-give_up}
 use Rattle.machine_laws.proofs.Fitting.Requests.{fits-queue, fits-request, fits-cancel, fits-waitany, fits-waitfor, fits-status}
 use Rattle.machine_laws.proofs.Fitting.Locks.{fits-lock, fits-unlock, fits-wait, fits-signal}
 use Rattle.machine_laws.proofs.Fitting.MemoryCalls.{fits-fill, fits-peek}
@@ -58,11 +70,11 @@ fits-step script S t row (instr.Unlock x) p h going at = fits-unlock x p h going
 fits-step script S t row (instr.Wait x) p h going at = fits-wait x p h at
 fits-step script S t row (instr.Signal x) p h going at = fits-signal x p h at
 fits-step script S t row (instr.Flock f) p h going at = fits-flock f p h going
-fits-step script S t row (instr.Funlock f) p h going at = fits-funlock f h
+fits-step script S t row (instr.Funlock f) p h going at = fits-funlock f h going
 fits-step script S t row instr.Fswait p h going at = fits-fswait p h
 fits-step script S t row (instr.Fssignal name) p h going at = fits-fssignal name h
 fits-step script S t row instr.Enter p h going at = fits-enter h
-fits-step script S t row instr.Leave p h going at = fits-leave h
+fits-step script S t row instr.Leave p h going at = fits-leave h going
 fits-step script S t row (instr.Suspend x) p h going at = fits-suspend x p h at
 fits-step script S t row (instr.Resume x) p h going at = fits-resume x p h at
 fits-step script S t row (instr.Priority x priority) p h going at = fits-priority x priority p h at
@@ -74,6 +86,12 @@ fits-step script S t row (instr.WaitFor s) p h going at = fits-waitfor s p h
 fits-step script S t row (instr.Status s) p h going at = fits-status s h
 fits-step script S t row (instr.Fill at length byte) p h going is = fits-fill at length byte h
 fits-step script S t row (instr.Peek at) p h going is = fits-peek at h
+fits-step script S t row (instr.Kill x reason) p h going at = fits-exit_step word.Kill x (plain_exit kind.Kill reason) p h at
+fits-step script S t row (instr.Terminate x reason) p h going at = fits-exit_step word.Terminate x (plain_exit kind.Terminate reason) p h at
+fits-step script S t row (instr.Panic x category reason) p h going at = fits-exit_step word.Panic x (record { kind = kind.Panic; category = category; reason = reason }) p h at
+fits-step script S t row (instr.ExitType x) p h going at = fits-exittype x p h at
+fits-step script S t row (instr.Logon x s) p h going at = fits-logon x s p h at
+fits-step script S t row (instr.Exit reason) p h going at = fits-exit reason h going
 fits-step script S t row _ p h going at = fits-nothing script S t
 
 -- and so do their returns
@@ -140,41 +158,77 @@ stepping script S t row instr shaped rows is live able at nothing = record {
 pub sane-of : (script : Script) (S : State) (t : ObjNo) (row : ThreadRow) → AreRows script S → thread_of S t ≡ Some row → Sane script t S
 sane-of script S t row rows is = record { rows = rows; inside = inside S.threads t.0 row is }
 
--- at its list's end
-end-acts : (script : Script) (S : State) (t : ObjNo) (row : ThreadRow) (protected : Bool) → AreRows script S → thread_of S t ≡ Some row → owed_of S t ≡ [] → Goes script t S (decision_of_row script S t (Some row) (end_task protected)).moves
-end-acts script S t row true rows is o = goes_by script S t (flush S t) o (fits-flush script S t row rows is)
-end-acts script S t row false rows is o = idles script S t rows
+-- a live thread at its list's end gives up what protects it, or ends
+end-acts : (script : Script) (S : State) (t : ObjNo) (row : ThreadRow) (protected : Bool) → AreRows script S → thread_of S t ≡ Some row → row.stage ≡ Live → owed_of S t ≡ [] → is_protected S.nano t ≡ protected → Goes script t S (decision_of_task script S t row (end_task protected)).moves
+end-acts script S t row true rows is live o e = goes_by script S t (flush S t) o (fits-flush script S t row rows is live)
+end-acts script S t row false rows is live o e = goes_by script S t (end t) o (fits-end script S t row rows is live e)
 
--- what a live thread does that owes nothing
-own-acts : (script : Script) (S : State) (t : ObjNo) (row : ThreadRow) (protected : Bool) (at : Option Instr) (call : Option ℕ) → IsShaped script → AreRows script S → thread_of S t ≡ Some row → row.stage ≡ Live → IsAble S t row → ((instr : Instr) → at ≡ Some instr → is_returning row.part ≡ false) → instruction script row ≡ at → owed_of S t ≡ []
-    → Goes script t S (decision_of_row script S t (Some row) (run_or call (step_or_end protected at))).moves
-own-acts script S t row protected at (Some dfc) shaped rows is live able going e o = goes-body script S t (Deferred dfc) shaped (sane-of script S t row rows is)
-own-acts script S t row protected None None shaped rows is live able going e o = end-acts script S t row protected rows is o
-own-acts script S t row protected (Some instr) None shaped rows is live able going e o =
-    goes_by script S t (step_of script S t row instr row.part) o (fits-step script S t row instr row.part (stepping script S t row instr shaped rows is (λ _. live) able e o) (going instr refl) refl)
+-- a thread that acts, isn't between a find and its return, and owes nothing
+record IsActing (script : Script) (S : State) (t : ObjNo) (row : ThreadRow) : Type 0 where
+  pub shaped : IsShaped script
+  pub rows : AreRows script S
+  pub is : thread_of S t ≡ Some row
+  pub able : IsAble S t row
+  pub going : is_returning row.part ≡ false
+  pub paid : owed_of S t ≡ []
+
+-- the calls of a queue, and burials
+call-acts : (script : Script) (S : State) (t : ObjNo) (row : ThreadRow) (call : Option ℕ) → IsActing script S t row → Goes script t S (decision_of_row script S t (Some row) (option_map call_task call)).moves
+call-acts script S t row None h = idles script S t h.rows
+call-acts script S t row (Some dfc) h = by (nat_lt dfc 64)
+  where
+    by : (declared : Bool) → Goes script t S (decision_of_row script S t (Some row) (Some (if declared then RunDfc dfc else Bury dfc))).moves
+    by true = goes-body script S t (Deferred dfc) h.shaped (sane-of script S t row h.rows h.is)
+    by false = goes_by script S t (bury script S dfc) h.paid (fits-bury script S t dfc h.rows (record { thread = ap is_some h.is; going = ap (λ (r : Option ThreadRow). is_returning (part_of r)) h.is ∙ h.going }))
+
+-- what a live thread does of its own
+own-acts : (script : Script) (S : State) (t : ObjNo) (row : ThreadRow) (at : Option Instr) → row.stage ≡ Live → instruction script row ≡ at → IsActing script S t row → Goes script t S (decision_of_task script S t row (step_or_end (is_protected S.nano t) at)).moves
+own-acts script S t row None live e h = end-acts script S t row (is_protected S.nano t) h.rows h.is live h.paid refl
+own-acts script S t row (Some instr) live e h =
+    goes_by script S t (step_of script S t row instr row.part) h.paid (fits-step script S t row instr row.part (stepping script S t row instr h.shaped h.rows h.is (λ _. live) h.able e h.paid) h.going refl)
+
+live-acts : (script : Script) (S : State) (t : ObjNo) (row : ThreadRow) (role : Role) (call : Option ℕ) → row.stage ≡ Live → IsActing script S t row → Goes script t S (decision_of_row script S t (Some row) (live_task role call (step_or_end (is_protected S.nano t) (instruction script row)))).moves
+live-acts script S t row Supervisor call live h = call-acts script S t row call h
+live-acts script S t row (Queue queue) call live h = call-acts script S t row call h
+live-acts script S t row (Declared k) call live h = own-acts script S t row (instruction script row) live refl h
+
+-- what a doomed one does
+is_dying : (script : Script) (S : State) (t : ObjNo) (row : ThreadRow) → row.stage ≡ Doomed → IsActing script S t row → IsDying script S t row
+is_dying script S t row doomed h = record { rows = h.rows; is = h.is; doomed = doomed; waits = h.able.waits; going = h.going }
+
+dying-acts : (script : Script) (S : State) (t : ObjNo) (row : ThreadRow) (has : List Holding) → row.stage ≡ Doomed → holdings S t row ≡ has → IsActing script S t row → Goes script t S (decision_of_task script S t row (dying_task has)).moves
+dying-acts script S t row [] doomed e h = goes_by script S t (clean script S t row) h.paid (fits-clean (is_dying script S t row doomed h) e)
+dying-acts script S t row (what ∷ rest) doomed e h = goes_by script S t (give_up S t row what) h.paid (fits-give_up what rest (is_dying script S t row doomed h) e)
 
 -- and what one does at any stage
-stage-acts : (script : Script) (S : State) (t : ObjNo) (row : ThreadRow) (stage : Stage) (protected : Bool) (at : Option Instr) (call : Option ℕ) → IsShaped script → AreRows script S → thread_of S t ≡ Some row → row.stage ≡ stage → IsAble S t row → ((instr : Instr) → at ≡ Some instr → is_returning row.part ≡ false) → instruction script row ≡ at → owed_of S t ≡ []
-    → Goes script t S (decision_of_row script S t (Some row) (by_stage stage (run_or call (step_or_end protected at)))).moves
-stage-acts script S t row Live protected at call shaped rows is live able going e o = own-acts script S t row protected at call shaped rows is live able going e o
-stage-acts script S t row _ protected at call shaped rows is other able going e o = idles script S t rows
+stage-acts : (script : Script) (S : State) (t : ObjNo) (row : ThreadRow) (stage : Stage) → row.stage ≡ stage → IsActing script S t row
+    → Goes script t S (decision_of_row script S t (Some row) (by_stage stage (holdings S t row) (live_task row.role (next_call S.deferred row.role) (step_or_end (is_protected S.nano t) (instruction script row))))).moves
+stage-acts script S t row Live live h = live-acts script S t row row.role (next_call S.deferred row.role) live h
+stage-acts script S t row Doomed doomed h = dying-acts script S t row (holdings S t row) doomed refl h
+stage-acts script S t row Cleaned at h = idles script S t h.rows
+stage-acts script S t row Buried at h = idles script S t h.rows
 
-row-acts : (script : Script) (S : State) (t : ObjNo) (row : ThreadRow) (protected returns : Bool) (at : Option Instr) (owed : List Owed) (call : Option ℕ) → IsShaped script → AreRows script S → thread_of S t ≡ Some row → IsAble S t row → is_returning row.part ≡ returns → instruction script row ≡ at → owed_of S t ≡ owed
-    → let d = decision_of_row script S t (Some row) (return_or returns at (pay_or (first_of owed) (by_stage row.stage (run_or call (step_or_end protected at))))) in Goes script t S d.moves ⊎ Pays S t d.moves
-row-acts script S t row protected true (Some instr) owed call shaped rows is able r e o =
+-- a thread that comes back from a find is at an instruction
+nothing_past : {A : Type 0} (xs : List A) (i : ℕ) → i < length xs → slice_get xs i ≡ None → ⊥
+nothing_past [] i within e = omega arith
+nothing_past (x ∷ xs) zero within e = cc
+nothing_past (x ∷ xs) (suc i) within e = nothing_past xs i (omega arith) e
+
+row-acts : (script : Script) (S : State) (t : ObjNo) (row : ThreadRow) (returns : Bool) (at : Option Instr) (owed : List Owed) → IsShaped script → AreRows script S → thread_of S t ≡ Some row → IsAble S t row → is_returning row.part ≡ returns → instruction script row ≡ at → owed_of S t ≡ owed
+    → let d = decision_of_row script S t (Some row) (return_or returns at (pay_or (first_of owed) (by_stage row.stage (holdings S t row) (live_task row.role (next_call S.deferred row.role) (step_or_end (is_protected S.nano t) (instruction script row)))))) in Goes script t S d.moves ⊎ Pays S t d.moves
+row-acts script S t row true (Some instr) owed shaped rows is able r e o =
     let nothing = rows.duties.returns t.0 (ap (λ (x : Option ThreadRow). is_returning (part_of x)) is ∙ r) in
     inl (goes_by script S t (return_of S t row instr) nothing (fits-returning script S t row instr (stepping script S t row instr shaped rows is (λ going. absurd (cc)) able e nothing) (returning_before row.part r)))
-row-acts script S t row protected true None (what ∷ rest) call shaped rows is able r e o = inr (record { what = what; rest = rest; moves = refl; owes = o })
-row-acts script S t row protected true None [] call shaped rows is able r e o = inl (stage-acts script S t row row.stage protected None call shaped rows is refl able (λ instr at. absurd (cc)) e o)
-row-acts script S t row protected false at (what ∷ rest) call shaped rows is able r e o = inr (record { what = what; rest = rest; moves = refl; owes = o })
-row-acts script S t row protected false at [] call shaped rows is able r e o = inl (stage-acts script S t row row.stage protected at call shaped rows is refl able (λ instr _. r) e o)
+row-acts script S t row true None owed shaped rows is able r e o = absurd (nothing_past (instructions_of script row.role) row.next_instruction ((rows.threads.rows t.0 row is).returns r) e)
+row-acts script S t row false at (what ∷ rest) shaped rows is able r e o = inr (record { what = what; rest = rest; moves = refl; owes = o })
+row-acts script S t row false at [] shaped rows is able r e o = inl (stage-acts script S t row row.stage refl (record { shaped = shaped; rows = rows; is = is; able = able; going = r; paid = o }))
 
 -- the thread of this row, if there is one
 able-acts : (script : Script) (S : State) (t : ObjNo) (row : Option ThreadRow) → IsShaped script → AreRows script S → thread_of S t ≡ row → is_able script S t ≡ true
-    → let d = decision_of_row script S t row (task_of_row script S.deferred (is_protected S.nano t) (first_owed S t) row) in Goes script t S d.moves ⊎ Pays S t d.moves
+    → let d = decision_of_row script S t row (task_of_row script S t row) in Goes script t S d.moves ⊎ Pays S t d.moves
 able-acts script S t None shaped rows is able = inl (idles script S t rows)
 able-acts script S t (Some row) shaped rows is able =
-    row-acts script S t row (is_protected S.nano t) (is_returning row.part) (instruction script row) (owed_of S t) (next_call S.deferred row.role) shaped rows is (able_is script S t row is able) refl refl refl
+    row-acts script S t row (is_returning row.part) (instruction script row) (owed_of S t) shaped rows is (able_is script S t row is able) refl refl refl
 
 -- one that isn't able does nothing
 acts : (script : Script) (S : State) (t : ObjNo) (able : Bool) → IsShaped script → AreRows script S → is_able script S t ≡ able → let d = decision_where script able S t (task_of script S t) in Goes script t S d.moves ⊎ Pays S t d.moves

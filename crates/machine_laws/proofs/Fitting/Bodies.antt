@@ -32,7 +32,9 @@ use Rattle.machine.specs.Fits.{EachFits, Sane, WaitsNowhere, most_owed, most_tol
 use Rattle.machine.specs.Moves.{perform, tell}
 use Rattle.machine.specs.References.{total}
 use Rattle.machine.specs.Rows.{owed_of, thread_of}
+use Rattle.machine.specs.ThreadCalls.{is_live}
 use Rattle.machine.specs.WellFormed.{AreRows, weight}
+use Rattle.move_laws.proofs.Lists.Cases.{if_cases}
 use Rattle.move_laws.proofs.Lists.Totals.{inside, total-append}
 use Rattle.move_laws.proofs.MoveLaws.Run.{each-sound, sane-after}
 use Rattle.move_laws.proofs.Numbers.Registers.{all_at}
@@ -88,14 +90,14 @@ light-named script S t (Some u) rows = by (thread_of S u) refl
   where
     by : (row : Option ThreadRow) → thread_of S u ≡ row → OwesNothing script t S (signal_row u row) 1
     by None is = no_moves script S t 1
-    by (Some row) is = light-signal script S t u row row.waiting rows is refl
+    by (Some row) is = if_cases (λ (ms : List Move). OwesNothing script t S ms 1) (is_live row.stage) _ _ (λ _. light-signal script S t u row row.waiting rows is refl) (λ _. no_moves script S t 1)
 
 -- a completion, and the end of its thread's wait, which isn't one for an object
 ends_no_lock : (S : State) (u : ObjNo) (s : ℕ) (what : Waiting) (o : ObjNo) → ends_wait S u s what ≡ true → what ≡ waiting.Lock o → ⊥
 ends_no_lock S u s (waiting.Lock x) o ends is = cc
 ends_no_lock S u s _ o ends is = cc
 
-light-end : (script : Script) (S T : State) (t u : ObjNo) (s : ℕ) (row : Option ThreadRow) → AreRows script S → T.locks ≡ S.locks → thread_of S u ≡ row → OwesNothing script t T (end_wait S u s row) 0
+pub light-end : (script : Script) (S T : State) (t u : ObjNo) (s : ℕ) (row : Option ThreadRow) → AreRows script S → T.locks ≡ S.locks → thread_of S u ≡ row → OwesNothing script t T (end_wait S u s row) 0
 light-end script S T t u s None rows same is = no_moves script T t 0
 light-end script S T t u s (Some row) rows same is = by (ends_wait S u s row.waiting) refl
   where

@@ -1,6 +1,6 @@
 -- The steps of kernel threads, and of the calls on threads.
 use Rattle.std.proofs.Common.{◌≡◌, ◌≢◌, ℕ, ◌<◌, List, length, arith, refl, ap, subst, ◌∙◌, Option, Some, None, Bool, true, false}
-use Rattle.std.specs.Prelude.{pos, ◌==◌, [], ◌∷◌, ◌++◌, ℤ, nat_lt, is_some, is_none, if◌then◌else◌, option_and_then, option_map, slice_index}
+use Rattle.std.specs.Prelude.{pos, ◌==◌, [], ◌∷◌, ℤ, nat_lt, is_some, is_none, if◌then◌else◌, option_and_then, option_map, slice_index}
 use Rattle.std.proofs.lemmas.Bool.{eq-eqb, ltb-true}
 use Rattle.std.proofs.lemmas.List.Quantifiers.{position-Some}
 use Rattle.sym_base.specs.declared.kind.Kind.{Kind}
@@ -18,15 +18,13 @@ use Rattle.entry_log.specs.declared.step.Part.TheVariants as part
 use Rattle.entry_log.specs.declared.step.Step.{Step}
 use Rattle.entry_log.specs.declared.step.Step.TheVariants as step
 use Rattle.state_rows.specs.declared.nano.NanoRows.{NanoRows}
-use Rattle.state_rows.specs.Nano.{suspend_count, signal_count, critical_count, want_of, holder_of, is_thread, is_free, is_holder, held_by}
+use Rattle.state_rows.specs.Nano.{suspend_count, signal_count, want_of, holder_of, is_thread, is_free, held_by}
 use Rattle.state_rows.proofs.Soundness.{is_thread-true}
 use Rattle.machine.specs.declared.decision.Decision.{Decision}
 use Rattle.machine.specs.declared.moves.Move.{Move}
 use Rattle.machine.specs.declared.moves.Move.TheVariants as move
 use Rattle.machine.specs.declared.nano_move.NanoMove.{NanoMove}
 use Rattle.machine.specs.declared.nano_move.NanoMove.TheVariants as nano
-use Rattle.state_rows.specs.declared.thread.Role.{Role}
-use Rattle.state_rows.specs.declared.thread.Role.TheVariants.{Supervisor, Queue, Declared}
 use Rattle.state_rows.specs.declared.thread.Waiting.{Waiting}
 use Rattle.state_rows.specs.declared.thread.Waiting.TheVariants as waiting
 use Rattle.state_rows.specs.declared.thread.ThreadRow.{ThreadRow}
@@ -38,10 +36,10 @@ use Rattle.machine.specs.NanoMoves.{nano_thread}
 use Rattle.machine.specs.Decide.{answer, go_on, unless_holding}
 use Rattle.machine.specs.Find.{find_object}
 use Rattle.machine.specs.Look.{is_of_kind, of_kind, look_kind, look_at}
-use Rattle.machine.specs.FastMutex.{flock_done, flock_step, funlock_do}
+use Rattle.machine.specs.FastMutex.{flock_done, flock_step}
 use Rattle.machine.specs.FastSemaphore.{fswait_step, signal_move, signal_thread, signal_found, fssignal_do}
-use Rattle.machine.specs.CriticalSection.{enter_do, leave_do, give_held, flush}
-use Rattle.machine.specs.ThreadCalls.{refusal_of_role, refusal_of, suspend_move, resume_move, move_or_refuse, unless_refused, call_on, suspend_step, resume_step, priority_step}
+use Rattle.machine.specs.CriticalSection.{enter_do}
+use Rattle.machine.specs.ThreadCalls.{is_live, unless_live, refusal_of_role, refusal_of, suspend_move, resume_move, move_or_refuse, unless_refused, call_on, suspend_step, resume_step, priority_step}
 use Rattle.machine.specs.Fits.{FitsMove, FitsNano, MayTake, IsAtInstruction}
 use Rattle.machine.specs.WellFormed.{AreRows, is_before_use}
 use Rattle.machine.specs.Task.{is_returning}
@@ -52,7 +50,7 @@ use Rattle.move_laws.proofs.Holders.ThreadRows.{row-here}
 use Rattle.move_laws.proofs.RowLaws.Tables.{object_of_is}
 use Rattle.machine_laws.proofs.Fitting.Living.{handle_is_alive}
 use Rattle.machine_laws.proofs.Fitting.Shared.{IsCheap}
-use Rattle.machine_laws.proofs.Fitting.Stepping.{FitsDecision, IsStepping, fits-nothing, fits-refuse, fits-use, at_instruction, at-with_row, unspent, unspent-gone}
+use Rattle.machine_laws.proofs.Fitting.Stepping.{FitsDecision, IsStepping, fits-nothing, fits-refuse, fits-use, at_instruction, at-with_row, serves_none, unspent, unspent-gone}
 use Rattle.machine_laws.proofs.Fitting.Waiters.{waits_nowhere, stepping_nowhere}
 
 pub none_of : {A : Type 0} (x : Option A) → is_some x ≡ false → x ≡ None
@@ -64,7 +62,7 @@ none_is None e = refl
 none_is (Some x) e = absurd (cc)
 
 -- a thread that holds a fast mutex is its holder
-held_holder : (r : NanoRows) (t : ObjNo) (f : ℕ) → held_by r t ≡ Some f → (f < length r.holders) × (holder_of r f ≡ Some t)
+pub held_holder : (r : NanoRows) (t : ObjNo) (f : ℕ) → held_by r t ≡ Some f → (f < length r.holders) × (holder_of r f ≡ Some t)
 held_holder r t f held = let at = position-Some (is_thread t) r.holders f None held in (at.0, is_thread-true t (holder_of r f) at.1)
 
 -- a thread that wants a fast mutex holds none
@@ -100,7 +98,7 @@ own_row h = ap is_some h.is
 -- the last step comes next, with a move that fits then
 pub fits-later : {script : Script} {S : State} {t : ObjNo} {row : ThreadRow} {instr : Instr} (told : Step) (m : Move) → IsStepping script S t row instr → IsCheap m → FitsMove script t m (moved t (move.GoOn t part.Done) S) → FitsDecision script t S (go_on t told m part.Done)
 fits-later told m h cheap fits = record {
-  each = (record { unused = λ r is e. absurd (cc); paid = λ e. absurd (cc); unspent = unspent h }, (fits, tt));
+  each = (record { unused = λ r is e. absurd (cc); paid = λ e. absurd (cc); unspent = unspent h; at = λ e. absurd (cc) }, (fits, tt));
   told = let a = cheap.told in omega arith;
   light = let a = cheap.light in omega arith;
 }
@@ -111,10 +109,10 @@ fits-unless {script = script} {S = S} {t = t} told d h fits =
     if_cases (FitsDecision script t S) (is_some (held_by S.nano t)) _ _ (λ _. fits-refuse told error.InUse h) (λ e. fits (none_of (held_by S.nano t) e))
 
 may_take : {script : Script} {S : State} {t : ObjNo} {row : ThreadRow} {instr : Instr} → IsStepping script S t row instr → is_returning row.part ≡ false → held_by S.nano t ≡ None → MayTake S t
-may_take {row = row} h going none = record { row = row; is = h.is; live = h.live going; waits = h.waits; holds = none }
+may_take {script = script} {row = row} h going none = record { row = row; is = h.is; live = h.live going; serves = serves_none script row.role row.next_instruction h.next; waits = h.waits; holds = none }
 
 -- the number of a fast mutex that an instruction names is one of the script's
-mutex_inside : (script : Script) (S : State) (f : ℕ) → AreRows script S → nat_lt f script.fast ≡ true → f < length S.nano.holders
+pub mutex_inside : (script : Script) (S : State) (f : ℕ) → AreRows script S → nat_lt f script.fast ≡ true → f < length S.nano.holders
 mutex_inside script S f rows known = let below = ltb-true f script.fast known in let size = rows.nano.mutexes in omega arith
 
 -- `flock`
@@ -135,13 +133,6 @@ fits-flock {script = script} {S = S} {t = t} f (Some p) h going = taken (want_of
     taken : (wanted : Option ℕ) → want_of S.nano t ≡ wanted → FitsDecision script t S (flock_done t wanted)
     taken None e = fits-nothing script S t
     taken (Some g) e = fits-nano (step.Of word.Flock part.Done) (nano.Take t g) (pos 0) h (own_row h) (h.rows.nano.rows.wants_known t g e, subst (λ (w : Option ℕ). option_and_then (holder_of S.nano) w ≡ None) e h.free, may_take h going (wants_holds_none script S t g h.rows e))
-
--- `funlock`
-pub fits-funlock : {script : Script} {S : State} {t : ObjNo} {row : ThreadRow} (f : ℕ) → IsStepping script S t row (instr.Funlock f) → FitsDecision script t S (funlock_do S t f)
-fits-funlock {script = script} {S = S} {t = t} f h =
-    if_cases (FitsDecision script t S) (is_holder S.nano t f) _ _
-    (λ holds. fits-nano (step.Of word.Funlock part.Do) (nano.Give t f) (pos 0) h (own_row h) (mutex_inside script S f h.rows h.names, is_thread-true t (holder_of S.nano f) holds))
-    (λ _. fits-refuse (step.Of word.Funlock part.Do) error.General h)
 
 -- `fswait`
 pub fits-fswait : {script : Script} {S : State} {t : ObjNo} {row : ThreadRow} {instr : Instr} (p : Option Part) → IsStepping script S t row instr → FitsDecision script t S (fswait_step S t p)
@@ -164,29 +155,16 @@ fits-fssignal {script = script} {S = S} {t = t} name h = found (find_object S ki
   where
     there : (u : ObjNo) (r : Option ThreadRow) → thread_of S u ≡ r → FitsDecision script t S (signal_thread t u r)
     there u None e = fits-refuse (step.Of word.Fssignal part.Do) error.Died h
-    there u (Some r) e = signalled u r r.waiting h e refl
+    there u (Some r) e =
+        if_cases (FitsDecision script t S) (is_live r.stage) _ _ (λ _. signalled u r r.waiting h e refl) (λ _. fits-refuse (step.Of word.Fssignal part.Do) error.Died h)
 
     found : (named : Option ObjNo) → FitsDecision script t S (signal_found S t named)
     found None = fits-refuse (step.Of word.Fssignal part.Do) error.Died h
     found (Some u) = there u (thread_of S u) refl
 
--- `enter` and `leave`
+-- `enter`
 pub fits-enter : {script : Script} {S : State} {t : ObjNo} {row : ThreadRow} {instr : Instr} → IsStepping script S t row instr → FitsDecision script t S (enter_do t)
 fits-enter {t = t} h = fits-nano (step.Of word.Enter part.Do) (nano.Enter t) (pos 0) h (own_row h) tt
-
-pub fits-leave : {script : Script} {S : State} {t : ObjNo} {row : ThreadRow} {instr : Instr} → IsStepping script S t row instr → FitsDecision script t S (leave_do S t)
-fits-leave {script = script} {S = S} {t = t} h =
-    if_cases (FitsDecision script t S) (critical_count S.nano t == 0) _ _
-    (λ _. fits-refuse (step.Of word.Leave part.Do) error.General h)
-    (λ _. fits-nano (step.Of word.Leave part.Do) (nano.Leave t) (pos 0) h (own_row h) tt)
-
--- at its list's end a thread gives up what protects it
-pub fits-flush : (script : Script) (S : State) (t : ObjNo) (row : ThreadRow) → AreRows script S → thread_of S t ≡ Some row → FitsDecision script t S (flush S t)
-fits-flush script S t row rows is = given (held_by S.nano t) refl
-  where
-    given : (held : Option ℕ) → held_by S.nano t ≡ held → FitsDecision script t S (record { step = step.Flush; moves = give_held t held ++ move.Nano (nano.LeaveAll t) ∷ []; answer = None })
-    given None e = record { each = ((ap is_some is, tt), tt); told = omega arith; light = omega arith }
-    given (Some f) e = record { each = ((ap is_some is, held_holder S.nano t f e), ((ap is_some is, tt), tt)); told = omega arith; light = omega arith }
 
 -- the look at a handle of a thread
 of_kind_is : (S : State) (kind : Kind) (named : Option ObjNo) (o : ObjNo) → of_kind S kind named ≡ Some o → named ≡ Some o
@@ -220,14 +198,13 @@ fits-call {script = script} {S = S} {t = t} word failure call (Some u) h fits = 
     made r None is e = fits-refuse (step.Of word part.Do) failure h
     made r (Some m) is e = let c = fits u r m is e in fits-move (step.Of word part.Do) m (pos 0) h c.cheap c.fits c.at
 
-    by : (r : ThreadRow) (role : Role) → thread_of S u ≡ Some r → FitsDecision script t S (unless_refused t word (refusal_of_role role) failure (call u))
-    by r Supervisor is = fits-refuse (step.Of word part.Do) error.PermissionDenied h
-    by r (Queue queue) is = fits-refuse (step.Of word part.Do) error.PermissionDenied h
-    by r (Declared k) is = made r (call u) is refl
+    by : (r : ThreadRow) (refusal : Option Error) → thread_of S u ≡ Some r → FitsDecision script t S (unless_refused t word refusal failure (call u))
+    by r (Some refusal) is = fits-refuse (step.Of word part.Do) refusal h
+    by r None is = made r (call u) is refl
 
     there : (r : Option ThreadRow) → thread_of S u ≡ r → FitsDecision script t S (unless_refused t word (refusal_of r) failure (call u))
     there None is = fits-refuse (step.Of word part.Do) error.Died h
-    there (Some r) is = by r r.role is
+    there (Some r) is = by r (unless_live r.stage (refusal_of_role r.role)) is
 
 -- a call that changes the rows of threads that synchronize
 call_nano : {script : Script} {S : State} {t : ObjNo} {row : ThreadRow} {instr : Instr} (m : NanoMove) → IsStepping script S t row instr → is_some (thread_of S (nano_thread m)) ≡ true → FitsNano m S → FitsCall script S t (move.Nano m)

@@ -65,7 +65,7 @@ waits_there {S = S} {t = t} o h =
 fits-wait_at : {script : Script} {S : State} {t : ObjNo} {row : ThreadRow} {instr : Instr} (told : Step) (o : ObjNo) (m : LockMove) → IsStepping script S t row instr → held_by S.nano t ≡ None → (MayJoin (waiting_at S t o) o t → FitsLocks t m (waiting_at S t o)) → FitsDecision script t S (wait_at t told o m)
 fits-wait_at {S = S} {t = t} {row = row} told o m h none fits = record {
   each = (
-    record { unused = λ r is e. absurd (cc); paid = λ e. absurd (cc); unspent = unspent h },
+    record { unused = λ r is e. absurd (cc); paid = λ e. absurd (cc); unspent = unspent h; at = λ e. absurd (cc) },
     ((none, stepping_nowhere h, unspent-gone S t part.Done (unspent h)), (fits (record { waits = record { row = with_waiting (waiting.Lock o) (with_part part.Done row); is = waits_there o h; waits = refl }; nowhere = stepping_nowhere h; paid = h.paid }), tt)),
   );
   told = let few = lock-tells m in omega arith;

@@ -1,5 +1,5 @@
 -- The steps of `queue`, and of requests.
-use Rattle.std.proofs.Common.{◌≡◌, ℕ, ℤ, ◌<◌, List, length, arith, refl, ap, ◌∙◌, Option, Some, None, Bool, true, false}
+use Rattle.std.proofs.Common.{◌≡◌, ℕ, ℤ, List, arith, refl, ap, ◌∙◌, Option, Some, None, Bool, true, false}
 use Rattle.std.specs.Prelude.{pos, ◌==◌, ◌||◌, [], ◌∷◌, is_some, if◌then◌else◌}
 use Rattle.std.proofs.lemmas.Bool.{eqb-true}
 use Rattle.sym_base.specs.ErrorCode.{error_code}
@@ -37,7 +37,7 @@ use Rattle.move_laws.proofs.Numbers.Registers.{request_small}
 use Rattle.move_laws.proofs.References.Same.{same_object}
 use Rattle.move_laws.proofs.RowLaws.Declared.{dfc_inside}
 use Rattle.machine_laws.proofs.Fitting.KernelThreads.{none_of, fits-answer, fits-move, fits-later, fits-unless}
-use Rattle.machine_laws.proofs.Fitting.Stepping.{FitsDecision, IsStepping, fits-nothing, fits-refuse, unspent, unspent-gone}
+use Rattle.machine_laws.proofs.Fitting.Stepping.{FitsDecision, IsStepping, fits-nothing, has_signals, fits-refuse, unspent, unspent-gone}
 use Rattle.machine_laws.proofs.Fitting.Waiters.{stepping_nowhere}
 
 -- `queue`
@@ -53,10 +53,6 @@ fits-queue {script = script} {S = S} {t = t} {row = row} name h = named (dfc_nam
 -- an answer after a change of the rows of requests
 fits-changed : {script : Script} {S : State} {t : ObjNo} {row : ThreadRow} {instr : Instr} (told : Step) (m : RequestMove) (code : ℤ) → IsStepping script S t row instr → FitsRequests m S.requests S.logons → FitsDecision script t S (answer t told (move.Requests m ∷ []) code)
 fits-changed {row = row} told m code h fits = fits-move told (move.Requests m) code h (record { told = let few = request-tells m in omega arith; light = refl }) fits (record { row = row; is = h.is; next = h.next })
-
--- the thread has a request semaphore
-has_signals : {script : Script} {S : State} {t : ObjNo} {row : ThreadRow} {instr : Instr} → IsStepping script S t row instr → t.0 < length S.requests.signals
-has_signals {S = S} {t = t} {row = row} h = let within = inside S.threads t.0 row h.is in let long = h.rows.requests.sized in omega arith
 
 -- `request`
 pub fits-request : {script : Script} {S : State} {t : ObjNo} {row : ThreadRow} (d s : ℕ) → IsStepping script S t row (instr.Request d s) → FitsDecision script t S (request_do S t d s)

@@ -1,5 +1,5 @@
 -- Steps that several instructions share: a look, a find and its return, and a new handle.
-use Rattle.std.proofs.Common.{◌≡◌, ℕ, ◌<◌, ◌≤◌, List, [], ◌∷◌, arith, refl, ap, Option, Some, None, true, false}
+use Rattle.std.proofs.Common.{◌≡◌, ℕ, ◌<◌, ◌≤◌, List, [], ◌∷◌, arith, refl, ap, Option, Some, None, Bool, true, false}
 use Rattle.std.specs.Prelude.{is_some, slice_index}
 use Rattle.sym_base.specs.declared.kind.Kind.{Kind}
 use Rattle.sym_base.specs.declared.number.ObjNo.{ObjNo}
@@ -21,8 +21,9 @@ use Rattle.machine.specs.Rows.{object_of, table_of}
 use Rattle.state_rows.specs.HandleSlots.{free_index, is_full, new_handle}
 use Rattle.machine.specs.Handles.{object_at, process_handle, thread_handle}
 use Rattle.machine.specs.Decide.{give_handle}
-use Rattle.machine.specs.Find.{seek, seek_object, find_object, return_to, is_open}
+use Rattle.machine.specs.Find.{seek, seek_object, find_object, found_object, miss, return_to, is_open}
 use Rattle.machine.specs.Look.{look, look_at}
+use Rattle.machine.specs.ThreadCalls.{is_live}
 use Rattle.machine.specs.Fits.{IsFree, most_told, most_owed}
 use Rattle.machine.specs.WellFormed.{IsAlive, is_before_use}
 use Rattle.move_laws.proofs.Lists.Cases.{if_cases}
@@ -47,11 +48,15 @@ fits-seek {script = script} {S = S} {t = t} word kind name h before = found (fin
     found (Some o) e = record { each = (may_go_on Return h before, (found_inside S kind name o e, tt)); told = omega arith; light = omega arith }
 
 -- and its return
-pub fits-return : {script : Script} {S : State} {t : ObjNo} {row : ThreadRow} {instr : Instr} (word : Word) (part : Part) (o : ObjNo) → IsStepping script S t row instr → is_before_use row.part ≡ true → is_before_use (Some part) ≡ false → FitsDecision script t S (return_to S t word part o)
-fits-return {script = script} {S = S} {t = t} word part o h before later =
-    if_cases (FitsDecision script t S) (is_open (object_of S o)) _ _
-    (λ e. fits-use (Of word Return) o part h before later (open_is_alive (object_of S o) e))
-    (λ _. record { each = (tt, ((refl, at_instruction h), tt)); told = omega arith; light = omega arith })
+pub fits-return : {script : Script} {S : State} {t : ObjNo} {row : ThreadRow} {instr : Instr} (word : Word) (part : Part) → IsStepping script S t row instr → is_before_use row.part ≡ true → is_before_use (Some part) ≡ false → FitsDecision script t S (return_to S t row word part)
+fits-return {script = script} {S = S} {t = t} {row = row} word part h before later =
+    if_cases (FitsDecision script t S) (is_open (object_of S (found_object row))) _ _
+    (λ e. fits-use (Of word Return) (found_object row) part h before later (open_is_alive (object_of S (found_object row)) e))
+    (λ _. missed (is_live row.stage))
+  where
+    missed : (live : Bool) → FitsDecision script t S (miss t word part (found_object row) live)
+    missed true = record { each = (tt, ((refl, at_instruction h), tt)); told = omega arith; light = omega arith }
+    missed false = record { each = (may_go_on part h before, (tt, tt)); told = omega arith; light = omega arith }
 
 -- the handle that a table gives next stands in a free slot, of the process or of the thread
 pub of_process_handle : {script : Script} {S : State} {t : ObjNo} {row : ThreadRow} {instr : Instr} (P : Option NewHandle → Type 0) → IsStepping script S t row instr → P None

@@ -16,6 +16,8 @@ use Rattle.entry_log.specs.declared.step.Step.{Step}
 use Rattle.machine.specs.declared.decision.Decision.{Decision}
 use Rattle.machine.specs.declared.moves.Move.{Move}
 use Rattle.machine.specs.declared.moves.Move.TheVariants.{GoOn, Gain, Write, Advance}
+use Rattle.state_rows.specs.declared.thread.Role.{Role}
+use Rattle.state_rows.specs.declared.thread.Role.TheVariants.{Supervisor, Queue, Declared}
 use Rattle.state_rows.specs.declared.thread.Stage.TheVariants.{Live}
 use Rattle.state_rows.specs.declared.thread.Waiting.TheVariants as waiting
 use Rattle.state_rows.specs.declared.thread.ThreadRow.{ThreadRow}
@@ -25,11 +27,11 @@ use Rattle.machine.specs.Moves.{moved, perform, with_part, with_register}
 use Rattle.machine.specs.Decide.{nothing, answer, answer_handle, refuse, go_on}
 use Rattle.machine.specs.References.{total}
 use Rattle.machine.specs.HeldIn.{owed_by}
-use Rattle.machine.specs.Task.{is_returning, instructions_of}
+use Rattle.machine.specs.Task.{is_returning, instructions_of, served_queue}
 use Rattle.machine.specs.Fits.{EachFits, most_told, most_owed, IsAtInstruction, MayGoOn, IsFree, IsUnspent}
 use Rattle.machine.specs.WellFormed.{IsAlive, AreRows, is_before_use, is_spent}
 use Rattle.move_laws.proofs.Holders.ThreadRows.{row-here}
-use Rattle.move_laws.proofs.Lists.Totals.{total-append}
+use Rattle.move_laws.proofs.Lists.Totals.{inside, total-append}
 use Rattle.move_laws.proofs.RowLaws.Threads.{row-kept, map_some}
 
 -- the moves of a decision fit, and what they tell and owe is little
@@ -54,6 +56,16 @@ pub record IsStepping (script : Script) (S : State) (t : ObjNo) (row : ThreadRow
 
 pub fits-nothing : (script : Script) (S : State) (t : ObjNo) → FitsDecision script t S nothing
 fits-nothing script S t = record { each = tt; told = omega arith; light = omega arith }
+
+-- such a thread has a request semaphore
+pub has_signals : {script : Script} {S : State} {t : ObjNo} {row : ThreadRow} {instr : Instr} → IsStepping script S t row instr → t.0 < length S.requests.signals
+has_signals {S = S} {t = t} {row = row} h = let within = inside S.threads t.0 row h.is in let long = h.rows.requests.sized in omega arith
+
+-- and serves no queue, since it has an instruction
+pub serves_none : (script : Script) (role : Role) (n : ℕ) → n < length (instructions_of script role) → served_queue role ≡ None
+serves_none script Supervisor n lt = absurd (omega arith)
+serves_none script (Queue queue) n lt = absurd (omega arith)
+serves_none script (Declared k) n lt = refl
 
 pub at_instruction : {script : Script} {S : State} {t : ObjNo} {row : ThreadRow} {instr : Instr} → IsStepping script S t row instr → IsAtInstruction script S t
 at_instruction {row = row} h = record { row = row; is = h.is; next = h.next }
@@ -90,11 +102,12 @@ pub unspent-gone : (S : State) (t : ObjNo) (part : Part) → IsUnspent S t → I
 unspent-gone S t part h = λ r is. let was = map_some (with_part part) (thread_of S t) r (sym (row-here S.threads t (with_part part) t.0 refl) ∙ is) in subst (λ (x : ThreadRow). is_spent x.stage ≡ false) was.2 (h was.0 was.1)
 
 -- a thread that made no step but a find goes on to a step
-pub may_go_on : {script : Script} {S : State} {t : ObjNo} {row : ThreadRow} {instr : Instr} (part : Part) → IsStepping script S t row instr → is_before_use row.part ≡ true → MayGoOn S t (Some part)
+pub may_go_on : {script : Script} {S : State} {t : ObjNo} {row : ThreadRow} {instr : Instr} (part : Part) → IsStepping script S t row instr → is_before_use row.part ≡ true → MayGoOn script S t (Some part)
 may_go_on {S = S} {t = t} {row = row} part h before = record {
   unused = λ r is _. let same_row : row ≡ r = let a = h.is in cc in subst (λ (x : ThreadRow). x.uses ≡ None) same_row ((h.rows.threads.rows t.0 row h.is).unused before);
   paid = λ _. h.paid;
   unspent = unspent h;
+  at = λ _. at_instruction h;
 }
 
 -- and uses an object from then on

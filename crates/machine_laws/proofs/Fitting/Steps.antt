@@ -34,7 +34,6 @@ use Rattle.machine.specs.Close.{close_do, close_handle}
 use Rattle.machine.specs.Create.{start_moves, create_do, create_mutex_do, create_semaphore_do, make_with_handle}
 use Rattle.machine.specs.Decide.{give_handle}
 use Rattle.machine.specs.Dup.{dup_do, dup_step, duplocal_step, stays_with_thread}
-use Rattle.machine.specs.Find.{found_object}
 use Rattle.machine.specs.Open.{open_do, open_step, open_return}
 use Rattle.machine.specs.Task.{is_returning}
 use Rattle.machine.specs.Fits.{EachFits, Holds, IsAtInstruction, IsFree, most_told, most_owed}
@@ -119,7 +118,7 @@ fits-open kind name x None h register at = fits-unless (Of word.Open part.Seek) 
 fits-open {row = row} kind name x (Some p) h register at = fits-open_do x row.uses h register refl
 
 pub fits-open_return : {script : Script} {S : State} {t : ObjNo} {row : ThreadRow} {instr : Instr} → IsStepping script S t row instr → is_before_use row.part ≡ true → FitsDecision script t S (open_return S t row)
-fits-open_return {row = row} h before = fits-return word.Open part.Do (found_object row) h before refl
+fits-open_return h before = fits-return word.Open part.Do h before refl
 
 -- the holder of a handle holds its object, and the thread is at its instruction still once that is lost
 handle_holds : {script : Script} {S : State} {t : ObjNo} {row : ThreadRow} {instr : Instr} (local : Bool) (i : ℕ) (o : ObjNo) → IsStepping script S t row instr → (slot_at (table_of S (if local then t else row.process)) i).object ≡ Some o → Holds S (if local then InThread t i else InProcess row.process i) o

@@ -2,7 +2,7 @@
 use Rattle.std.proofs.Common.{List, [], ◌∷◌}
 use Rattle.script_types.specs.declared.script.Script.{Script}
 use Rattle.script_types.specs.Shape.{IsShaped}
-use Rattle.script_types.specs.Source.{IsWellFormed}
+use Rattle.script_types.specs.Source.{IsWellFormed as IsWellFormedScript}
 use Rattle.script_types.proofs.ShapeLaws.{formed_is_shaped}
 use Rattle.entry_log.specs.declared.entry.Entry.{Entry}
 use Rattle.machine.specs.declared.state.State.{State}
@@ -16,5 +16,5 @@ pub well_formed-after_from : (script : Script) (S : State) (es : List Entry) →
 well_formed-after_from script S [] shaped h = h
 well_formed-after_from script S (e ∷ es) shaped h = well_formed-after_from script (next script S e.actor) es shaped (well_formed-next script S e.actor shaped h)
 
-pub well_formed-after : (script : Script) (history : List Entry) → IsWellFormed script → IsWellFormed script (after script history)
+pub well_formed-after : (script : Script) (history : List Entry) → IsWellFormedScript script → IsWellFormed script (after script history)
 well_formed-after script history valid = well_formed-after_from script (boot script) history (formed_is_shaped script valid) (well_formed-boot script valid)

@@ -105,6 +105,8 @@ sound-advance script S t u fits few inside rows =
           next_instruction = let e = some_row row fits.1.row old is fits.1.is in let below : row.next_instruction < length (instructions_of script row.role) = subst (λ (r : ThreadRow). r.next_instruction < length (instructions_of script r.role)) (sym e) fits.1.next in omega arith;
           unused = λ e. refl;
           registers = h.registers;
+          declared = h.declared;
+          returns = λ e. absurd (cc);
         };
         process = refl;
         role = refl;

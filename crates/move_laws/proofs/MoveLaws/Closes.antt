@@ -130,7 +130,7 @@ sound-closed true script S t h o handles threads owed e inside lost rows =
       objects_few = let a = length-set S.objects o.0 (dead_row (get_or S.objects o.0 None)) in let b = rows.sized.objects_few in omega arith;
       tables = lost.tables;
       threads = threads-with_row script threads o f (λ row is r. record {
-        thread = record { process = r.process; link = λ p linked. cc; priority = r.priority; next_instruction = r.next_instruction; unused = r.unused; registers = r.registers };
+        thread = record { process = r.process; link = λ p linked. cc; priority = r.priority; next_instruction = r.next_instruction; unused = r.unused; registers = r.registers; declared = r.declared; returns = r.returns };
         process = refl;
         role = refl;
       }) lost.threads_are;

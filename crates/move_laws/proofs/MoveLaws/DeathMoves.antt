@@ -52,10 +52,10 @@ keeps-references (Clean t) = record { link = λ row. refl; uses = λ row. refl }
 keeps-references (Bury t) = record { link = λ row. refl; uses = λ row. refl }
 
 keeps-thread : (script : Script) (count : ℕ) (m : DeathMove) (row : ThreadRow) → IsThread script count row → KeepsThread script count row (death_row m row)
-keeps-thread script count (Note t exit) row h = record { thread = record { process = h.process; link = h.link; priority = h.priority; next_instruction = h.next_instruction; unused = h.unused; registers = h.registers }; process = refl; role = refl }
-keeps-thread script count (Doom t exit) row h = record { thread = record { process = h.process; link = h.link; priority = h.priority; next_instruction = h.next_instruction; unused = h.unused; registers = h.registers }; process = refl; role = refl }
-keeps-thread script count (Bury t) row h = record { thread = record { process = h.process; link = h.link; priority = h.priority; next_instruction = h.next_instruction; unused = h.unused; registers = h.registers }; process = refl; role = refl }
-keeps-thread script count (Clean t) row h = record { thread = record { process = h.process; link = h.link; priority = h.priority; next_instruction = h.next_instruction; unused = h.unused; registers = h.registers }; process = refl; role = refl }
+keeps-thread script count (Note t exit) row h = record { thread = record { process = h.process; link = h.link; priority = h.priority; next_instruction = h.next_instruction; unused = h.unused; registers = h.registers; declared = h.declared; returns = h.returns }; process = refl; role = refl }
+keeps-thread script count (Doom t exit) row h = record { thread = record { process = h.process; link = h.link; priority = h.priority; next_instruction = h.next_instruction; unused = h.unused; registers = h.registers; declared = h.declared; returns = h.returns }; process = refl; role = refl }
+keeps-thread script count (Bury t) row h = record { thread = record { process = h.process; link = h.link; priority = h.priority; next_instruction = h.next_instruction; unused = h.unused; registers = h.registers; declared = h.declared; returns = h.returns }; process = refl; role = refl }
+keeps-thread script count (Clean t) row h = record { thread = record { process = h.process; link = h.link; priority = h.priority; next_instruction = h.next_instruction; unused = h.unused; registers = h.registers; declared = h.declared; returns = h.returns }; process = refl; role = refl }
 
 -- it begins no return
 keeps-going : (m : DeathMove) (row : ThreadRow) → is_returning row.part ≡ false → is_returning (death_row m row).part ≡ false

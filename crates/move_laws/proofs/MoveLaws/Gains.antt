@@ -114,6 +114,8 @@ gained-use script S u o fits rows =
           next_instruction = h.next_instruction;
           unused = λ before. let same_row : row ≡ r = cc in let later = fits.later in absurd (cc);
           registers = h.registers;
+          declared = h.declared;
+          returns = h.returns;
         };
         process = refl;
         role = refl;

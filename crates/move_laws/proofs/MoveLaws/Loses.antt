@@ -98,7 +98,7 @@ lost-use script S t u o uses going few rows =
       owed_long = refl;
       tables = rows.tables;
       threads_are = threads-with_row script S.threads u f (λ r is h. record {
-        thread = record { process = h.process; link = h.link; priority = h.priority; next_instruction = h.next_instruction; unused = λ before. refl; registers = h.registers };
+        thread = record { process = h.process; link = h.link; priority = h.priority; next_instruction = h.next_instruction; unused = λ before. refl; registers = h.registers; declared = h.declared; returns = h.returns };
         process = refl;
         role = refl;
       }) rows.threads;

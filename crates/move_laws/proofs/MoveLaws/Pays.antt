@@ -1,6 +1,6 @@
 -- The oldest duty is done: a close, or a sweep.
 use Rattle.std.proofs.Common.{◌≡◌, inl, inr, ℕ, ◌<◌, ◌≤◌, List, [], ◌∷◌, length, get_or, arith, refl, sym, subst, ap, ◌∙◌, Option, None, Bool, true, false, Some}
-use Rattle.std.specs.Prelude.{slice_set, drop, is_some, if◌then◌else◌}
+use Rattle.std.specs.Prelude.{slice_set, drop}
 use Rattle.std.proofs.lemmas.Bool.{cases_lt}
 use Rattle.std.proofs.lemmas.List.{length-set, get_or-set_same, get_or_past}
 use Rattle.sym_base.specs.declared.number.ObjNo.{ObjNo}
@@ -25,7 +25,6 @@ use Rattle.move_laws.proofs.Lives.LivesMove.{zero_or}
 use Rattle.move_laws.proofs.Lives.Closes.{lives-swept}
 use Rattle.move_laws.proofs.References.Counts.{total-paying}
 use Rattle.move_laws.proofs.References.Same.{same_self}
-use Rattle.move_laws.proofs.RowLaws.Threads.{is_none_by}
 use Rattle.move_laws.proofs.RowLaws.Duties.{duties-without_first}
 use Rattle.move_laws.proofs.RowLaws.Locks.{leaves-without_first, locks-left, LeavesLocks, leaves-none, leaves-then}
 use Rattle.move_laws.proofs.MoveLaws.Closes.{sound-closed, close_weight, close_weight_unlinked}
@@ -171,8 +170,9 @@ sound-swept script S t o rest threads e inside rows left =
     (lives-swept S T o there dead refl counts (λ p. let a = paid p in omega arith))
     (record { fits = (tt, tt); moves = λ g x. let a = total-paying (owed_by g x) S.owed t (Sweep o) rest here e in let b = left.held g x in omega arith })
 
-pub sound-pay_sweep : (script : Script) (S : State) (t : ObjNo) (o : ObjNo) (rest : List Owed) → owed_of S t ≡ Sweep o ∷ rest → t.0 < length S.threads → AreRows script S → Sound script S (moved t (Pay (Sweep o)) S) (told (Pay (Sweep o)) S)
-sound-pay_sweep script S t o rest e inside rows = sound-swept script S t o rest (slice_set S.threads o.0 None) e inside rows (by (thread_of S o) refl)
+-- a thread with a row whose sweep is owed has given up all
+pub sweep-over : (script : Script) (S : State) (t : ObjNo) (o : ObjNo) (rest : List Owed) (row : ThreadRow) → owed_of S t ≡ Sweep o ∷ rest → t.0 < length S.threads → AreRows script S → thread_of S o ≡ Some row → IsOver S.handles S.threads o.0
+sweep-over script S t o rest row e inside rows is = over-by script S o row row.stage rows is dead refl (sym (ap kernel_holds is) ∙ uncounted)
   where
     here : t.0 < length S.owed
     here = let a = rows.sized.duties in omega arith
@@ -184,6 +184,9 @@ sound-pay_sweep script S t o rest e inside rows = sound-swept script S t o rest 
     uncounted =
         let none : count_of S o ≡ 0 = zero_or (count_of S o) (λ some. let a = alive_not_gone S.objects o (rows.lives.alive o some) in let b = gone_is S.objects o in let c = gone_le S.objects o in let d = dead in absurd (omega arith)) in omega arith
 
+pub sound-pay_sweep : (script : Script) (S : State) (t : ObjNo) (o : ObjNo) (rest : List Owed) → owed_of S t ≡ Sweep o ∷ rest → t.0 < length S.threads → AreRows script S → Sound script S (moved t (Pay (Sweep o)) S) (told (Pay (Sweep o)) S)
+sound-pay_sweep script S t o rest e inside rows = sound-swept script S t o rest (slice_set S.threads o.0 None) e inside rows (by (thread_of S o) refl)
+  where
     by : (row : Option ThreadRow) → thread_of S o ≡ row → AreSwept script S o (slice_set S.threads o.0 None)
     by None is = subst (AreSwept script S o) (sym (ap (slice_set S.threads o.0) (sym is) ∙ set_own S.threads o.0 None)) (swept-none script S o rows)
-    by (Some row) is = swept-over script S o rows (over-by script S o row row.stage rows is dead refl (sym (ap kernel_holds is) ∙ uncounted))
+    by (Some row) is = swept-over script S o rows (sweep-over script S t o rest row e inside rows is)

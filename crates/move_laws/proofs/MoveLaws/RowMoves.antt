@@ -1,6 +1,6 @@
 -- Moves that change a thread's row, and no reference: a find, another step, a register, a wait and its end, a priority; and a
 -- miss and a fill.
-use Rattle.std.proofs.Common.{◌≡◌, ◌⊎◌, inl, inr, ℕ, ◌+◌, ◌<◌, List, [], ◌∷◌, length, get_or, arith, refl, sym, subst, ap, ◌∙◌, Option, Some, None}
+use Rattle.std.proofs.Common.{◌≡◌, ◌⊎◌, inl, inr, ℕ, ◌+◌, ◌<◌, Bool, true, List, [], ◌∷◌, length, get_or, arith, refl, sym, subst, ap, ◌∙◌, Option, Some, None}
 use Rattle.std.specs.Prelude.{option_map, if◌then◌else◌, slice_set}
 use Rattle.std.proofs.lemmas.Bool.{cases_Bool, cases_eq}
 use Rattle.std.proofs.lemmas.List.{length-set}
@@ -26,8 +26,8 @@ use Rattle.machine.specs.References.{thread_names, count_of, pluses, stage_holds
 use Rattle.machine.specs.Told.{finds}
 use Rattle.machine.specs.Holding.{is_holder, held_after_all, EachFitsHolders, link_names}
 use Rattle.machine.specs.HeldIn.{held_in, use_names}
-use Rattle.machine.specs.Task.{is_returning}
-use Rattle.machine.specs.Fits.{FitsMove, WaitsNowhere}
+use Rattle.machine.specs.Task.{instructions_of, is_returning}
+use Rattle.machine.specs.Fits.{FitsMove, IsAtInstruction, WaitsNowhere}
 use Rattle.machine.specs.WellFormed.{IsThread, AreSynchronized, AreCalls, AreLogons, AreMemories, AreRequests, AreRows, part_of, AreSpent}
 use Rattle.move_laws.proofs.Lives.Kinds.{IsQuiet, lives-quiet}
 use Rattle.move_laws.proofs.Holders.ThreadRows.{row_holds, rows-with_row, row-other}
@@ -95,7 +95,7 @@ sound-row script S u f effects keeps holds thread paid quiet nano leaves spent r
 
 pub sound-find : (script : Script) (S : State) (t u o : ObjNo) → FitsMove script t (Find u o) S → AreRows script S → Sound script S (moved t (Find u o) S) (told (Find u o) S)
 sound-find script S t u o fits rows = sound-row script S u (with_found o) (Seek o ∷ []) (record { link = λ row. refl; uses = λ row. refl }) (λ row is. refl)
-    (λ row is h. record { thread = record { process = h.process; link = h.link; priority = h.priority; next_instruction = h.next_instruction; unused = h.unused; registers = h.registers }; process = refl; role = refl })
+    (λ row is h. record { thread = record { process = h.process; link = h.link; priority = h.priority; next_instruction = h.next_instruction; unused = h.unused; registers = h.registers; declared = h.declared; returns = h.returns }; process = refl; role = refl })
     (λ k. inr (paid-with_row S.threads u (with_found o) (λ row h. h) k))
     (record {
       quiet = record { minuses = λ p. refl; deaths = λ p. refl; removals = λ p. refl };
@@ -107,14 +107,20 @@ sound-find script S t u o fits rows = sound-row script S u (with_found o) (Seek 
 
 pub sound-write : (script : Script) (S : State) (t u : ObjNo) (x value : ℕ) → FitsMove script t (Write u x value) S → AreRows script S → Sound script S (moved t (Write u x value) S) (told (Write u x value) S)
 sound-write script S t u x value fits rows = sound-row script S u (λ row. record row { registers = slice_set row.registers x value }) [] (record { link = λ row. refl; uses = λ row. refl }) (λ row is. refl)
-    (λ row is h. record { thread = record { process = h.process; link = h.link; priority = h.priority; next_instruction = h.next_instruction; unused = h.unused; registers = length-set row.registers x value ∙ h.registers }; process = refl; role = refl })
+    (λ row is h. record { thread = record { process = h.process; link = h.link; priority = h.priority; next_instruction = h.next_instruction; unused = h.unused; registers = length-set row.registers x value ∙ h.registers; declared = h.declared; returns = h.returns }; process = refl; role = refl })
     (λ k. inr (paid-with_row S.threads u (λ row. record row { registers = slice_set row.registers x value }) (λ row h. h) k)) (silent S) (synchronized-with_row script S.threads u (λ row. record row { registers = slice_set row.registers x value }) S.nano (λ row h. h) rows.nano) (leaves-with_row S.threads u (λ row. record row { registers = slice_set row.registers x value }) S.owed S.locks (λ row. refl)) (spent-kept S.objects S.handles S.threads u (λ row. record row { registers = slice_set row.registers x value }) (record { stage = λ row. refl; unused = λ row e. e; waits = λ row e. e; going = λ row e. e; link = λ row e. e }) rows.spent) rows
+
+-- a thread that goes on to a return is at its instruction
+returning_at : (script : Script) (S : State) (u : ObjNo) (row : ThreadRow) {returns : Bool} → thread_of S u ≡ Some row → (returns ≡ true → IsAtInstruction script S u) → returns ≡ true → row.next_instruction < length (instructions_of script row.role)
+returning_at script S u row is at returns =
+    let here = at returns in
+    let same : here.row ≡ row = let a = here.is in cc in subst (λ (r : ThreadRow). r.next_instruction < length (instructions_of script r.role)) same here.next
 
 pub sound-go_on : (script : Script) (S : State) (t u : ObjNo) (part : Part) → FitsMove script t (GoOn u part) S → AreRows script S → Sound script S (moved t (GoOn u part) S) (told (GoOn u part) S)
 sound-go_on script S t u part fits rows =
     let f : ThreadRow → ThreadRow = λ row. record row { part = Some part } in
     sound-row script S u f [] (record { link = λ row. refl; uses = λ row. refl }) (λ row is. refl)
-    (λ row is h. record { thread = record { process = h.process; link = h.link; priority = h.priority; next_instruction = h.next_instruction; unused = fits.unused row is; registers = h.registers }; process = refl; role = refl })
+    (λ row is h. record { thread = record { process = h.process; link = h.link; priority = h.priority; next_instruction = h.next_instruction; unused = fits.unused row is; registers = h.registers; declared = h.declared; returns = returning_at script S u row is fits.at }; process = refl; role = refl })
     (λ k. elim (cases_Bool (is_returning (Some part))) as (λ _. (get_or S.owed k [] ≡ []) ⊎ IsPaidIn S.threads (with_row S.threads u f) k) [
       | inr going ↦ inr (paid-with_row S.threads u f (λ row h. going) k)
       | inl returns ↦ elim (cases_eq u.0 k) as (λ _. (get_or S.owed k [] ≡ []) ⊎ IsPaidIn S.threads (with_row S.threads u f) k) [
@@ -129,18 +135,18 @@ sound-go_on script S t u part fits rows =
 -- a change of what a thread waits for that stands among no waiters
 sound-waiting : (script : Script) (S : State) (u : ObjNo) (what : Waiting) → WaitsNowhere S u → AreSynchronized script (with_row S.threads u (with_waiting what)) S.nano → AreSpent S.objects S.handles (with_row S.threads u (with_waiting what)) → AreRows script S → Sound script S (record S { threads = with_row S.threads u (with_waiting what) }) []
 sound-waiting script S u what nowhere nano spent rows = sound-row script S u (with_waiting what) [] (record { link = λ row. refl; uses = λ row. refl }) (λ row is. refl)
-    (λ row is h. record { thread = record { process = h.process; link = h.link; priority = h.priority; next_instruction = h.next_instruction; unused = h.unused; registers = h.registers }; process = refl; role = refl })
+    (λ row is h. record { thread = record { process = h.process; link = h.link; priority = h.priority; next_instruction = h.next_instruction; unused = h.unused; registers = h.registers; declared = h.declared; returns = h.returns }; process = refl; role = refl })
     (λ k. inr (paid-with_row S.threads u (with_waiting what) (λ row h. h) k)) (silent S) nano (leaves-nowhere S.threads u (with_waiting what) S.owed S.locks nowhere) spent rows
 
 pub sound-wait : (script : Script) (S : State) (t u : ObjNo) (what : Waiting) → FitsMove script t (Wait u what) S → AreRows script S → Sound script S (moved t (Wait u what) S) (told (Wait u what) S)
 sound-wait script S t u what fits rows = sound-waiting script S u what fits.1 (synchronized-unheld script S.threads u (with_waiting what) S.nano fits.0 rows.nano) (spent-going S.objects S.handles S.threads u (with_waiting what) fits.2 (λ row e. e) rows.spent) rows
 
 pub sound-wake : (script : Script) (S : State) (t u : ObjNo) → FitsMove script t (Wake u) S → AreRows script S → Sound script S (moved t (Wake u) S) (told (Wake u) S)
-sound-wake script S t u fits rows = sound-waiting script S u waiting.Nothing fits (synchronized-with_row script S.threads u (with_waiting waiting.Nothing) S.nano (λ row h. (refl, h.1)) rows.nano) (spent-kept S.objects S.handles S.threads u (with_waiting waiting.Nothing) (record { stage = λ row. refl; unused = λ row e. e; waits = λ row e. refl; going = λ row e. e; link = λ row e. e }) rows.spent) rows
+sound-wake script S t u fits rows = sound-waiting script S u waiting.Nothing fits (synchronized-with_row script S.threads u (with_waiting waiting.Nothing) S.nano (λ row h. (refl, h.1, h.2)) rows.nano) (spent-kept S.objects S.handles S.threads u (with_waiting waiting.Nothing) (record { stage = λ row. refl; unused = λ row e. e; waits = λ row e. refl; going = λ row e. e; link = λ row e. e }) rows.spent) rows
 
 pub sound-priority : (script : Script) (S : State) (t u : ObjNo) (priority : ℕ) → FitsMove script t (SetPriority u priority) S → AreRows script S → Sound script S (moved t (SetPriority u priority) S) (told (SetPriority u priority) S)
 sound-priority script S t u priority fits rows = sound-row script S u (with_priority priority) [] (record { link = λ row. refl; uses = λ row. refl }) (λ row is. refl)
-    (λ row is h. record { thread = record { process = h.process; link = h.link; priority = fits; next_instruction = h.next_instruction; unused = h.unused; registers = h.registers }; process = refl; role = refl })
+    (λ row is h. record { thread = record { process = h.process; link = h.link; priority = fits; next_instruction = h.next_instruction; unused = h.unused; registers = h.registers; declared = h.declared; returns = h.returns }; process = refl; role = refl })
     (λ k. inr (paid-with_row S.threads u (with_priority priority) (λ row h. h) k)) (silent S) (synchronized-with_row script S.threads u (with_priority priority) S.nano (λ row h. h) rows.nano) (leaves-with_row S.threads u (with_priority priority) S.owed S.locks (λ row. refl)) (spent-kept S.objects S.handles S.threads u (with_priority priority) (record { stage = λ row. refl; unused = λ row e. e; waits = λ row e. e; going = λ row e. e; link = λ row e. e }) rows.spent) rows
 
 -- a change of the rows of threads that synchronize, of deferred function calls, of requests and of memories leaves all else

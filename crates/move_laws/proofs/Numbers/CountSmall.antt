@@ -1,6 +1,5 @@
 -- Counts are small, since tables, threads and duties are few.
 use Rattle.std.proofs.Common.{◌≡◌, inl, inr, ℕ, ◌*◌, ◌<◌, ◌≤◌, length, List, [], ◌∷◌, Option, Some, None, slice_index_or, ap, arith}
-use Rattle.std.specs.Prelude.{is_some}
 use Rattle.std.proofs.lemmas.Bool.{cases_lt}
 use Rattle.sym_base.specs.declared.number.ObjNo.{ObjNo}
 use Rattle.script_types.specs.declared.script.Script.{Script}
@@ -15,7 +14,7 @@ use Rattle.state_rows.specs.HandleSlots.{fresh_slot}
 use Rattle.machine.specs.References.{total, option_names, slot_names, thread_names, owed_names, mutex_names, kernel_names, count_of, kernel_holds, stage_holds}
 use Rattle.machine.specs.WellFormed.{AreRows, times_held, weight}
 use Rattle.move_laws.proofs.Lists.Totals.{total_at_most}
-use Rattle.move_laws.proofs.References.Same.{same_le, if_le}
+use Rattle.move_laws.proofs.References.Same.{same_le}
 use Rattle.state_rows.specs.declared.thread.Stage.{Stage}
 use Rattle.state_rows.specs.declared.thread.Stage.TheVariants.{Buried}
 

@@ -1,7 +1,7 @@
 -- What holds of each instruction of a script holds of the one that a thread is at.
 use Rattle.std.proofs.Common.{◌≡◌, ℕ, zero, suc, ◌≤◌, Bool, true, false, List, [], ◌∷◌, refl, subst, Option, Some, None}
 use Rattle.std.specs.List.{list_all}
-use Rattle.std.specs.Prelude.{slice_get}
+use Rattle.std.specs.Prelude.{if◌then◌else◌, nat_lt, option_map, slice_get}
 use Rattle.std.proofs.lemmas.Bool.{leb-true}
 use Rattle.script_types.specs.declared.declaration.ThreadDecl.{ThreadDecl}
 use Rattle.script_types.specs.declared.instruction.Instr.{Instr}
@@ -13,15 +13,20 @@ use Rattle.script_types.specs.Ranges.{is_source_line}
 use Rattle.script_types.specs.Resolves.{instr_resolves}
 use Rattle.script_types.specs.Shape.{HasRegisters, IsShaped}
 use Rattle.script_types.proofs.LimitLaws.{both, in_form, number_in}
-use Rattle.state_rows.specs.declared.deferred.DeferredRows.{DeferredRows}
+use Rattle.sym_base.specs.declared.number.ObjNo.{ObjNo}
+use Rattle.state_rows.specs.Nano.{is_protected}
 use Rattle.state_rows.specs.declared.duty.Owed.{Owed}
 use Rattle.state_rows.specs.declared.thread.Role.{Role}
 use Rattle.state_rows.specs.declared.thread.Role.TheVariants.{Supervisor, Queue, Declared}
 use Rattle.state_rows.specs.declared.thread.Stage.{Stage}
-use Rattle.state_rows.specs.declared.thread.Stage.TheVariants.{Live}
+use Rattle.state_rows.specs.declared.thread.Stage.TheVariants.{Live, Doomed, Cleaned, Buried}
 use Rattle.state_rows.specs.declared.thread.ThreadRow.{ThreadRow}
-use Rattle.machine.specs.declared.task.Task.TheVariants.{Step}
-use Rattle.machine.specs.Task.{declared_of, instructions_in, instruction, is_returning, next_call, by_stage, pay_or, return_or, run_or, step_or_end, task_of_row}
+use Rattle.machine.specs.declared.holding.Holding.{Holding}
+use Rattle.machine.specs.declared.state.State.{State}
+use Rattle.machine.specs.declared.task.Task.TheVariants.{Bury, RunDfc, Step}
+use Rattle.machine.specs.Holdings.{holdings}
+use Rattle.machine.specs.Rows.{first_owed}
+use Rattle.machine.specs.Task.{declared_of, instructions_in, instruction, is_returning, next_call, by_stage, call_task, dying_task, live_task, pay_or, return_or, step_or_end, task_of_row}
 
 -- what each of a list passes, the one at a place does
 pub all_at : {A : Type 0} (test : A → Bool) (xs : List A) (k : ℕ) (x : A) → list_all test xs ≡ true → slice_get xs k ≡ Some x → test x ≡ true
@@ -70,29 +75,55 @@ priority_small x priority h = let v = in_form (instr_form (instr.Priority x prio
 pub request_small : (d s : ℕ) → is_source_line (line.Instr (instr.Request d s)) ≡ true → (d ≤ 15) × (s ≤ 15)
 request_small d s h = let v = in_form (instr_form (instr.Request d s)) h in (leb-true d 15 v.0.0, leb-true s 15 v.0.1.0)
 
+-- so is that of a logon
+pub logon_small : (x s : ℕ) → is_source_line (line.Instr (instr.Logon x s)) ≡ true → s ≤ 15
+logon_small x s h = let v = in_form (instr_form (instr.Logon x s)) h in leb-true s 15 v.0.1.0
+
 -- a semaphore's count is one
 pub count_few : (name : List ℕ) (n x : ℕ) → is_source_line (line.Instr (instr.CreateSemaphore name n x)) ≡ true → n ≤ 2147483647
 count_few name n x h = let v = in_form (instr_form (instr.CreateSemaphore name n x)) h in (number_in 0 2147483647 n v.0.1.1.0).1
 
 -- of what a thread of a row does of its own
-of_own : (script : Script) (protected : Bool) (call : Option ℕ) (row : ThreadRow) (instr : Instr) → IsShaped script → (at : Option Instr) → instruction script row ≡ at → run_or call (step_or_end protected at) ≡ Some (Step instr) → HasRegisters instr
-of_own script protected (Some dfc) row instr shaped at is next = absurd (cc)
-of_own script true None row instr shaped None is next = absurd (cc)
-of_own script false None row instr shaped None is next = absurd (cc)
-of_own script protected None row instr shaped (Some x) is next = has_registers script row instr shaped (cc)
+of_step : (script : Script) (protected : Bool) (row : ThreadRow) (instr : Instr) → IsShaped script → (at : Option Instr) → instruction script row ≡ at → step_or_end protected at ≡ Step instr → HasRegisters instr
+of_step script true row instr shaped None is next = absurd (cc)
+of_step script false row instr shaped None is next = absurd (cc)
+of_step script protected row instr shaped (Some x) is next = has_registers script row instr shaped (cc)
+
+no_call_step : (dfc : ℕ) (instr : Instr) (small : Bool) → (if small then RunDfc dfc else Bury dfc) ≡ Step instr → ⊥
+no_call_step dfc instr true next = cc
+no_call_step dfc instr false next = cc
+
+no_call : (call : Option ℕ) (instr : Instr) → option_map call_task call ≡ Some (Step instr) → ⊥
+no_call None instr next = cc
+no_call (Some dfc) instr next = no_call_step dfc instr (nat_lt dfc 64) (cc)
+
+of_own : (script : Script) (protected : Bool) (role : Role) (call : Option ℕ) (row : ThreadRow) (instr : Instr) → IsShaped script → (at : Option Instr) → instruction script row ≡ at → live_task role call (step_or_end protected at) ≡ Some (Step instr) → HasRegisters instr
+of_own script protected Supervisor call row instr shaped at is next = absurd (no_call call instr next)
+of_own script protected (Queue queue) call row instr shaped at is next = absurd (no_call call instr next)
+of_own script protected (Declared k) call row instr shaped at is next = of_step script protected row instr shaped at is (cc)
+
+-- of what it does at any stage
+no_dying : (has : List Holding) (instr : Instr) → Some (dying_task has) ≡ Some (Step instr) → ⊥
+no_dying [] instr next = cc
+no_dying (what ∷ rest) instr next = cc
+
+of_stage : (script : Script) (protected : Bool) (call : Option ℕ) (stage : Stage) (has : List Holding) (row : ThreadRow) (instr : Instr) → IsShaped script → (at : Option Instr) → instruction script row ≡ at → by_stage stage has (live_task row.role call (step_or_end protected at)) ≡ Some (Step instr) → HasRegisters instr
+of_stage script protected call Live has row instr shaped at is next = of_own script protected row.role call row instr shaped at is next
+of_stage script protected call Doomed has row instr shaped at is next = absurd (no_dying has instr next)
+of_stage script protected call Cleaned has row instr shaped at is next = absurd (cc)
+of_stage script protected call Buried has row instr shaped at is next = absurd (cc)
 
 -- of the step of a row
-of_row : (script : Script) (protected : Bool) (call : Option ℕ) (first : Option Owed) (stage : Stage) (row : ThreadRow) (instr : Instr) → IsShaped script → (returns : Bool) (at : Option Instr) → instruction script row ≡ at
-    → return_or returns at (pay_or first (by_stage stage (run_or call (step_or_end protected at)))) ≡ Some (Step instr) → HasRegisters instr
-of_row script protected call first stage row instr shaped true (Some x) is next = absurd (cc)
-of_row script protected call (Some what) stage row instr shaped true None is next = absurd (cc)
-of_row script protected call (Some what) stage row instr shaped false at is next = absurd (cc)
-of_row script protected call None Live row instr shaped true None is next = of_own script protected call row instr shaped None is next
-of_row script protected call None Live row instr shaped false at is next = of_own script protected call row instr shaped at is next
-of_row script protected call None _ row instr shaped true None is next = absurd (cc)
-of_row script protected call None _ row instr shaped false at is next = absurd (cc)
+of_row : (script : Script) (protected : Bool) (call : Option ℕ) (first : Option Owed) (has : List Holding) (row : ThreadRow) (instr : Instr) → IsShaped script → (returns : Bool) (at : Option Instr) → instruction script row ≡ at
+    → return_or returns at (pay_or first (by_stage row.stage has (live_task row.role call (step_or_end protected at)))) ≡ Some (Step instr) → HasRegisters instr
+of_row script protected call first has row instr shaped true (Some x) is next = absurd (cc)
+of_row script protected call (Some what) has row instr shaped true None is next = absurd (cc)
+of_row script protected call (Some what) has row instr shaped false at is next = absurd (cc)
+of_row script protected call None has row instr shaped true None is next = of_stage script protected call row.stage has row instr shaped None is next
+of_row script protected call None has row instr shaped false at is next = of_stage script protected call row.stage has row instr shaped at is next
 
 -- of a step that a thread does next
-pub task_has_registers : (script : Script) (calls : DeferredRows) (protected : Bool) (first : Option Owed) (row : Option ThreadRow) (instr : Instr) → IsShaped script → task_of_row script calls protected first row ≡ Some (Step instr) → HasRegisters instr
-task_has_registers script calls protected first None instr shaped next = absurd (cc)
-task_has_registers script calls protected first (Some row) instr shaped next = of_row script protected (next_call calls row.role) first row.stage row instr shaped (is_returning row.part) (instruction script row) refl next
+pub task_has_registers : (script : Script) (S : State) (t : ObjNo) (row : Option ThreadRow) (instr : Instr) → IsShaped script → task_of_row script S t row ≡ Some (Step instr) → HasRegisters instr
+task_has_registers script S t None instr shaped next = absurd (cc)
+task_has_registers script S t (Some row) instr shaped next =
+    of_row script (is_protected S.nano t) (next_call S.deferred row.role) (first_owed S t) (holdings S t row) row instr shaped (is_returning row.part) (instruction script row) refl next

@@ -5,6 +5,7 @@ use Rattle.std.proofs.lemmas.Bool.{cases_eq, cases_Bool, eq-eqb, eqb-true, eqb-f
 use Rattle.sym_base.specs.declared.number.ObjNo.{ObjNo}
 use Rattle.script_types.specs.declared.script.Script.{Script}
 use Rattle.state_rows.specs.declared.duty.Owed.{Owed}
+use Rattle.state_rows.specs.declared.duty.Owed.TheVariants.{Sweep}
 use Rattle.machine.specs.declared.deferred_move.DeferredMove.TheVariants.{Add}
 use Rattle.machine.specs.declared.moves.Move.{Move}
 use Rattle.machine.specs.declared.moves.Move.TheVariants.{SetPriority, Deferred, Pay}
@@ -71,10 +72,12 @@ listed-unlisted qs v u apart h = listed-filter (λ q. not (q.0 == v.0)) qs u ∙
 
 listed-taken_out : (t : ObjNo) (m : Move) (qs : List ObjNo) (u : ObjNo) → is_listed (touched t m) u ≡ false → is_listed qs u ≡ true → is_listed (taken_out m qs) u ≡ true
 listed-taken_out t (SetPriority v priority) qs u none h = listed-unlisted qs v u (ne_eqb u.0 v.0 (λ at. eqb-false v.0 u.0 (or_parts (v.0 == u.0) false none).0 (sym at))) h
+listed-taken_out t (Pay (Sweep o)) qs u none h = let apart = (or_parts (t.0 == u.0) ((o.0 == u.0) || false) none).1 in listed-unlisted qs o u (ne_eqb u.0 o.0 (λ at. eqb-false o.0 u.0 (or_parts (o.0 == u.0) false apart).0 (sym at))) h
 listed-taken_out t _ qs u none h = h
 
 apart-taken_out : (m : Move) (qs : List ObjNo) → AreApart qs → AreApart (taken_out m qs)
 apart-taken_out (SetPriority v priority) qs h = apart-filter (λ q. not (q.0 == v.0)) qs h
+apart-taken_out (Pay (Sweep o)) qs h = apart-filter (λ q. not (q.0 == o.0)) qs h
 apart-taken_out _ qs h = h
 
 complete-move : (script : Script) (S : State) (t : ObjNo) (m : Move) (qs : List ObjNo) → AreThreads script S.threads → JoinsOwnQueue m S → IsComplete script S qs → IsComplete script (moved t m S) (arrive script (moved t m S) (touched t m) (taken_out m qs))

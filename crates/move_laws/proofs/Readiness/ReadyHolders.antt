@@ -1,5 +1,5 @@
 -- The holder of a fast mutex is ready, and whoever is chosen is able to act.
-use Rattle.std.proofs.Common.{◌≡◌, ℕ, refl, ap, ◌∙◌, Option, Some, None, Bool, true, false}
+use Rattle.std.proofs.Common.{◌≡◌, ℕ, [], refl, ap, ◌∙◌, Option, Some, None, Bool, true, false}
 use Rattle.std.specs.Prelude.{not, ◌&&◌, ◌==◌, is_some, is_none, option_and_then}
 use Rattle.std.proofs.lemmas.Bool.{and_from, and_right, or_left, not_from_true, not_from_false}
 use Rattle.sym_base.specs.declared.number.ObjNo.{ObjNo}
@@ -10,29 +10,37 @@ use Rattle.state_rows.specs.declared.duty.Owed.{Owed}
 use Rattle.state_rows.specs.declared.nano.NanoRows.{NanoRows}
 use Rattle.state_rows.specs.Nano.{suspend_count, critical_count, holder_of, held_by, want_of, is_protected, in_place_of, or_self, wanted_holder}
 use Rattle.state_rows.proofs.Soundness.{held_none}
+use Rattle.state_rows.specs.declared.thread.Role.{Role}
+use Rattle.state_rows.specs.declared.thread.Role.TheVariants.{Supervisor, Queue, Declared}
 use Rattle.state_rows.specs.declared.thread.Stage.{Stage}
 use Rattle.state_rows.specs.declared.thread.Stage.TheVariants.{Live}
 use Rattle.state_rows.specs.declared.thread.ThreadRow.{ThreadRow}
 use Rattle.machine.specs.declared.state.State.{State}
-use Rattle.machine.specs.Rows.{first_owed}
-use Rattle.machine.specs.Task.{instruction, is_returning, next_call, by_stage, pay_or, return_or, run_or, step_or_end, task_of, task_of_row, is_wait, is_waiting, is_waiting_row, is_stopped, is_ready, is_able}
+use Rattle.machine.specs.Rows.{first_owed, thread_of}
+use Rattle.machine.specs.declared.task.Task.TheVariants.{End}
+use Rattle.machine.specs.Task.{instruction, is_returning, next_call, by_stage, live_task, pay_or, return_or, served_queue, task_of, is_wait, is_waiting, is_waiting_row, is_stopped, is_ready, is_able}
 use Rattle.machine.specs.WellFormed.{AreRows}
+use Rattle.move_laws.proofs.Readiness.HasTask.{has_task, task_is}
 
--- a live thread that is protected has a task: at its list's end it gives up what protects it
-has_task : (script : Script) (calls : DeferredRows) (first : Option Owed) (row : ThreadRow) → row.stage ≡ Live → is_some (task_of_row script calls true first (Some row)) ≡ true
-has_task script calls first row live =
-    ap (λ (stage : Stage). is_some (return_or (is_returning row.part) (instruction script row) (pay_or first (by_stage stage (run_or (next_call calls row.role) (step_or_end true (instruction script row))))))) live
-    ∙ by (is_returning row.part) (instruction script row) first (next_call calls row.role)
+-- a live thread that serves no queue has a task
+live_has_task : (script : Script) (calls : DeferredRows) (first : Option Owed) (row : ThreadRow) → row.stage ≡ Live → served_queue row.role ≡ None → has_task script calls first (Some row) ≡ true
+live_has_task script calls first row live serves = by (is_returning row.part) (instruction script row) first row.stage live
   where
-    by : (returns : Bool) (at : Option Instr) (first : Option Owed) (call : Option ℕ) → is_some (return_or returns at (pay_or first (run_or call (step_or_end true at)))) ≡ true
-    by true (Some instr) first call = refl
-    by true None (Some what) call = refl
-    by true None None (Some dfc) = refl
-    by true None None None = refl
-    by false at (Some what) call = refl
-    by false at None (Some dfc) = refl
-    by false (Some instr) None None = refl
-    by false None None None = refl
+    own : (role : Role) (call : Option ℕ) → served_queue role ≡ None → is_some (live_task role call End) ≡ true
+    own Supervisor call none = absurd (cc)
+    own (Queue queue) call none = absurd (cc)
+    own (Declared k) call none = refl
+
+    at_stage : (stage : Stage) → stage ≡ Live → is_some (by_stage stage [] (live_task row.role (next_call calls row.role) End)) ≡ true
+    at_stage Live is = own row.role (next_call calls row.role) serves
+    at_stage _ is = absurd (cc)
+
+    by : (returns : Bool) (at : Option Instr) (first : Option Owed) (stage : Stage) → stage ≡ Live → is_some (return_or returns at (pay_or first (by_stage stage [] (live_task row.role (next_call calls row.role) End)))) ≡ true
+    by true (Some instr) first stage is = refl
+    by true None (Some what) stage is = refl
+    by true None None stage is = at_stage stage is
+    by false at (Some what) stage is = refl
+    by false at None stage is = at_stage stage is
 
 holds_some : (r : NanoRows) (f : ℕ) (u : ObjNo) → holder_of r f ≡ Some u → is_some (held_by r u) ≡ true
 holds_some r f u is = by (held_by r u) refl
@@ -48,8 +56,7 @@ holder_ready script S f u rows is =
     let protected : is_protected S.nano u ≡ true = or_left (is_some (held_by S.nano u)) (not (critical_count S.nano u == 0)) (holds_some S.nano f u is) in
     let waits : is_waiting S u ≡ false = ap is_waiting_row held.is ∙ ap is_wait held.waits in
     let stopped : is_stopped S u ≡ false = and_right (not (suspend_count S.nano u == 0)) (not (is_protected S.nano u)) (not_from_true (is_protected S.nano u) protected) in
-    let first = first_owed S u in
-    let task : is_some (task_of script S u) ≡ true = ap (λ (row : Option ThreadRow). is_some (task_of_row script S.deferred (is_protected S.nano u) first row)) held.is ∙ ap (λ (b : Bool). is_some (task_of_row script S.deferred b first (Some held.row))) protected ∙ has_task script S.deferred first held.row held.live in
+    let task : is_some (task_of script S u) ≡ true = task_is script S u (thread_of S u) ∙ ap (has_task script S.deferred (first_owed S u)) held.is ∙ live_has_task script S.deferred (first_owed S u) held.row held.live held.serves in
     and_from (not (is_waiting S u) && not (is_stopped S u)) (is_some (task_of script S u)) (and_from (not (is_waiting S u)) (not (is_stopped S u)) (not_from_false (is_waiting S u) waits) (not_from_false (is_stopped S u) stopped)) task
 
 -- a thread that is wanted to give a fast mutex up holds one

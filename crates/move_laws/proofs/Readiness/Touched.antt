@@ -38,22 +38,31 @@ use Rattle.machine.specs.NanoMoves.{nano_moved, nano_thread}
 use Rattle.machine.specs.DeferredMoves.{deferred_moved, deferred_threads, thread_of_queue}
 use Rattle.machine.specs.References.{is_last}
 use Rattle.machine.specs.Arrivals.{is_listed, touched}
-use Rattle.machine.specs.Task.{instruction, is_returning, is_waiting_row, is_ready, next_call, by_stage, pay_or, return_or, run_or, served_queue, step_or_end, task_of_row}
+use Rattle.machine.specs.declared.task.Task.TheVariants.{End}
+use Rattle.machine.specs.Task.{instruction, is_returning, is_waiting_row, is_ready, next_call, by_stage, live_task, pay_or, return_or, served_queue}
 use Rattle.machine.specs.WellFormed.{AreThreads}
 use Rattle.move_laws.proofs.Holders.ThreadRows.{row-here, row-other}
+use Rattle.move_laws.proofs.Readiness.HasTask.{has_task, task_is}
 
 -- whether a thread of this row would be ready, with these rows of deferred function calls and of threads that synchronize, and owing this first
 abbrev ready_row : Script → DeferredRows → NanoRows → ObjNo → Option Owed → Option ThreadRow → Bool
-ready_row script calls r u first row = not (is_waiting_row row) && not (not (suspend_count r u == 0) && not (is_protected r u)) && is_some (task_of_row script calls (is_protected r u) first row)
+ready_row script calls r u first row = not (is_waiting_row row) && not (not (suspend_count r u == 0) && not (is_protected r u)) && has_task script calls first row
+
+-- and whether a thread of a state is
+abbrev ready_of : Script → State → ObjNo → Bool
+ready_of script S u = ready_row script S.deferred S.nano u (first_owed S u) (thread_of S u)
+
+ready_is : (script : Script) (S : State) (u : ObjNo) → is_ready script S u ≡ ready_of script S u
+ready_is script S u = ap (λ (some : Bool). not (is_waiting_row (thread_of S u)) && not (not (suspend_count S.nano u == 0) && not (is_protected S.nano u)) && some) (task_is script S u (thread_of S u))
 
 -- a change of a row that leaves what the thread waits for and where its instruction is
 record KeepsTask (f : ThreadRow → ThreadRow) : Type 0 where
   pub waiting : (row : ThreadRow) → (f row).waiting ≡ row.waiting
-  pub task : (script : Script) (calls : DeferredRows) (protected : Bool) (first : Option Owed) (row : ThreadRow) → task_of_row script calls protected first (Some (f row)) ≡ task_of_row script calls protected first (Some row)
+  pub task : (script : Script) (calls : DeferredRows) (first : Option Owed) (row : ThreadRow) → has_task script calls first (Some (f row)) ≡ has_task script calls first (Some row)
 
 same_ready : (script : Script) (calls : DeferredRows) (r : NanoRows) (u : ObjNo) (first : Option Owed) (f : ThreadRow → ThreadRow) (x : Option ThreadRow) → KeepsTask f → ready_row script calls r u first (option_map f x) ≡ ready_row script calls r u first x
 same_ready script calls r u first f None keeps = refl
-same_ready script calls r u first f (Some row) keeps = rw (keeps.waiting row, keeps.task script calls (is_protected r u) first row) refl
+same_ready script calls r u first f (Some row) keeps = rw (keeps.waiting row, keeps.task script calls first row) refl
 
 -- the row of any thread, where that of one changes
 ready-with_row : (script : Script) (calls : DeferredRows) (r : NanoRows) (first : Option Owed) (threads : List (Option ThreadRow)) (v : ObjNo) (f : ThreadRow → ThreadRow) (u : ObjNo) → KeepsTask f → ready_row script calls r u first (get_or (with_row threads v f) u.0 None) ≡ ready_row script calls r u first (get_or threads u.0 None)
@@ -63,7 +72,7 @@ ready-with_row script calls r first threads v f u keeps = elim (cases_eq v.0 u.0
 ]
 
 keeps_use : (uses : Option ObjNo) → KeepsTask (with_use uses)
-keeps_use uses = record { waiting = λ row. refl; task = λ script calls protected first row. refl }
+keeps_use uses = record { waiting = λ row. refl; task = λ script calls first row. refl }
 
 ready-gain : (script : Script) (calls : DeferredRows) (r : NanoRows) (first : Option Owed) (threads : List (Option ThreadRow)) (h : Holder) (o u : ObjNo) → ready_row script calls r u first (get_or (threads_gain h o threads) u.0 None) ≡ ready_row script calls r u first (get_or threads u.0 None)
 ready-gain script calls r first threads (Temp v) o u = ready-with_row script calls r first threads v (with_use (Some o)) u (keeps_use (Some o))
@@ -74,7 +83,7 @@ ready-lose script calls r first threads (Temp v) u = ready-with_row script calls
 ready-lose script calls r first threads _ u = refl
 
 ready-closed : (script : Script) (calls : DeferredRows) (r : NanoRows) (first : Option Owed) (threads : List (Option ThreadRow)) (last : Bool) (o u : ObjNo) → ready_row script calls r u first (get_or (threads_closed last o threads) u.0 None) ≡ ready_row script calls r u first (get_or threads u.0 None)
-ready-closed script calls r first threads true o u = ready-with_row script calls r first threads o unlinked u (record { waiting = λ row. refl; task = λ script calls protected first row. refl })
+ready-closed script calls r first threads true o u = ready-with_row script calls r first threads o unlinked u (record { waiting = λ row. refl; task = λ script calls first row. refl })
 ready-closed script calls r first threads false o u = refl
 
 -- what another thread owes
@@ -94,7 +103,7 @@ owed-locks owed t (Free o v best) u none = owed-other owed v u _ (apart_of v u n
 owed-locks owed t _ u none = refl
 
 -- the same duties of a thread, and a row with which it is as ready
-ready-by : (script : Script) (S T : State) (u : ObjNo) → T.deferred ≡ S.deferred → T.nano ≡ S.nano → get_or T.owed u.0 [] ≡ get_or S.owed u.0 [] → ready_row script S.deferred S.nano u (first_owed S u) (thread_of T u) ≡ ready_row script S.deferred S.nano u (first_owed S u) (thread_of S u) → is_ready script T u ≡ is_ready script S u
+ready-by : (script : Script) (S T : State) (u : ObjNo) → T.deferred ≡ S.deferred → T.nano ≡ S.nano → get_or T.owed u.0 [] ≡ get_or S.owed u.0 [] → ready_row script S.deferred S.nano u (first_owed S u) (thread_of T u) ≡ ready_row script S.deferred S.nano u (first_owed S u) (thread_of S u) → ready_of script T u ≡ ready_of script S u
 ready-by script S T u calls nano owed threads = ap (λ (c : DeferredRows). ready_row script c T.nano u (first_owed T u) (thread_of T u)) calls ∙ ap (λ (r : NanoRows). ready_row script S.deferred r u (first_owed T u) (thread_of T u)) nano ∙ ap (λ (what : List Owed). ready_row script S.deferred S.nano u (first_of what) (thread_of T u)) owed ∙ threads
 
 -- what other threads hold, and how often they are suspended and in a critical section
@@ -147,7 +156,7 @@ next-other S t (TakeCall queue) u q joins own none =
     ap (first_of_greatest (priority_of S.deferred)) (get_or-set_other S.deferred.queues queue q _ [] (λ e. apart (omega arith)))
 next-other S t _ u q joins own none = refl
 
-ready-deferred : (script : Script) (S : State) (t : ObjNo) (m : DeferredMove) (u : ObjNo) → AreThreads script S.threads → JoinsOwnQueue (Deferred m) S → is_listed (deferred_threads m) u ≡ false → is_ready script (moved t (Deferred m) S) u ≡ is_ready script S u
+ready-deferred : (script : Script) (S : State) (t : ObjNo) (m : DeferredMove) (u : ObjNo) → AreThreads script S.threads → JoinsOwnQueue (Deferred m) S → is_listed (deferred_threads m) u ≡ false → ready_of script (moved t (Deferred m) S) u ≡ ready_of script S u
 ready-deferred script S t m u threads joins none = by (thread_of S u) refl
   where
     next : (served : Option ℕ) → ((q : ℕ) → served ≡ Some q → u.0 ≡ 1 + q) → option_and_then (next_of (deferred_moved m S.deferred)) served ≡ option_and_then (next_of S.deferred) served
@@ -158,42 +167,45 @@ ready-deferred script S t m u threads joins none = by (thread_of S u) refl
     by None is = refl
     by (Some row) is =
         let same : next_call (deferred_moved m S.deferred) row.role ≡ next_call S.deferred row.role = next (served_queue row.role) (λ q serves. threads.servers u.0 q row is serves) in
-        ap (λ (call : Option ℕ). not (is_waiting_row (Some row)) && not (not (suspend_count S.nano u == 0) && not (is_protected S.nano u)) && is_some (return_or (is_returning row.part) (instruction script row) (pay_or (first_owed S u) (by_stage row.stage (run_or call (step_or_end (is_protected S.nano u) (instruction script row))))))) same
+        ap (λ (call : Option ℕ). not (is_waiting_row (Some row)) && not (not (suspend_count S.nano u == 0) && not (is_protected S.nano u)) && is_some (return_or (is_returning row.part) (instruction script row) (pay_or (first_owed S u) (by_stage row.stage [] (live_task row.role call End))))) same
 
-pub untouched : (script : Script) (S : State) (t : ObjNo) (m : Move) (u : ObjNo) → AreThreads script S.threads → JoinsOwnQueue m S → is_listed (touched t m) u ≡ false → is_ready script (moved t m S) u ≡ is_ready script S u
-untouched script S t (Make kind name h) u threads joins none = ready-gain script S.deferred S.nano (first_owed S u) S.threads h (next_object S) u
-untouched script S t (Gain h o) u threads joins none = ready-gain script S.deferred S.nano (first_owed S u) S.threads h o u
-untouched script S t (Lose h o) u threads joins none =
+ready-untouched : (script : Script) (S : State) (t : ObjNo) (m : Move) (u : ObjNo) → AreThreads script S.threads → JoinsOwnQueue m S → is_listed (touched t m) u ≡ false → ready_of script (moved t m S) u ≡ ready_of script S u
+ready-untouched script S t (Make kind name h) u threads joins none = ready-gain script S.deferred S.nano (first_owed S u) S.threads h (next_object S) u
+ready-untouched script S t (Gain h o) u threads joins none = ready-gain script S.deferred S.nano (first_owed S u) S.threads h o u
+ready-untouched script S t (Lose h o) u threads joins none =
     ready-by script S (moved t (Lose h o) S) u refl refl (owed-other S.owed t u _ (apart_of t u none))
     (ready-closed script S.deferred S.nano (first_owed S u) (threads_lose h S.threads) (is_last S o) o u ∙ ready-lose script S.deferred S.nano (first_owed S u) S.threads h u)
-untouched script S t (Find v o) u threads joins none = ready-with_row script S.deferred S.nano (first_owed S u) S.threads v (with_found o) u (record { waiting = λ row. refl; task = λ script calls protected first row. refl })
-untouched script S t (Miss o) u threads joins none = refl
-untouched script S t (GoOn v part) u threads joins none = ap (ready_row script S.deferred S.nano u (first_owed S u)) (row-other S.threads v (with_part part) u.0 (apart_of v u none))
-untouched script S t (Write v x value) u threads joins none = ready-with_row script S.deferred S.nano (first_owed S u) S.threads v (with_register x value) u (record { waiting = λ row. refl; task = λ script calls protected first row. refl })
-untouched script S t (Advance v) u threads joins none =
+ready-untouched script S t (Find v o) u threads joins none = ready-with_row script S.deferred S.nano (first_owed S u) S.threads v (with_found o) u (record { waiting = λ row. refl; task = λ script calls first row. refl })
+ready-untouched script S t (Miss o) u threads joins none = refl
+ready-untouched script S t (GoOn v part) u threads joins none = ap (ready_row script S.deferred S.nano u (first_owed S u)) (row-other S.threads v (with_part part) u.0 (apart_of v u none))
+ready-untouched script S t (Write v x value) u threads joins none = ready-with_row script S.deferred S.nano (first_owed S u) S.threads v (with_register x value) u (record { waiting = λ row. refl; task = λ script calls first row. refl })
+ready-untouched script S t (Advance v) u threads joins none =
     ready-by script S (moved t (Advance v) S) u refl refl (owed-other S.owed v u _ (apart_of v u none))
     (ap (ready_row script S.deferred S.nano u (first_owed S u)) (row-other S.threads v advanced u.0 (apart_of v u none)))
-untouched script S t (Wait v what) u threads joins none = ap (ready_row script S.deferred S.nano u (first_owed S u)) (row-other S.threads v (with_waiting what) u.0 (apart_of v u none))
-untouched script S t (Wake v) u threads joins none = ap (ready_row script S.deferred S.nano u (first_owed S u)) (row-other S.threads v (with_waiting waiting.Nothing) u.0 (apart_of v u none))
-untouched script S t (SetPriority v priority) u threads joins none = ap (ready_row script S.deferred S.nano u (first_owed S u)) (row-other S.threads v (with_priority priority) u.0 (apart_of v u none))
-untouched script S t (Nano m) u threads joins none = ready-nano script S m u (λ at. apart_of (nano_thread m) u none (ap (λ (v : ObjNo). v.0) (sym at)))
-untouched script S t (Deferred m) u threads joins none = ready-deferred script S t m u threads joins none
-untouched script S t (Requests m) u threads joins none = refl
-untouched script S t (Locks m) u threads joins none = ready-by script S (moved t (Locks m) S) u refl refl (owed-locks S.owed t m u none) refl
-untouched script S t (Logons m) u threads joins none = refl
-untouched script S t (Death (Bury v)) u threads joins none =
+ready-untouched script S t (Wait v what) u threads joins none = ap (ready_row script S.deferred S.nano u (first_owed S u)) (row-other S.threads v (with_waiting what) u.0 (apart_of v u none))
+ready-untouched script S t (Wake v) u threads joins none = ap (ready_row script S.deferred S.nano u (first_owed S u)) (row-other S.threads v (with_waiting waiting.Nothing) u.0 (apart_of v u none))
+ready-untouched script S t (SetPriority v priority) u threads joins none = ap (ready_row script S.deferred S.nano u (first_owed S u)) (row-other S.threads v (with_priority priority) u.0 (apart_of v u none))
+ready-untouched script S t (Nano m) u threads joins none = ready-nano script S m u (λ at. apart_of (nano_thread m) u none (ap (λ (v : ObjNo). v.0) (sym at)))
+ready-untouched script S t (Deferred m) u threads joins none = ready-deferred script S t m u threads joins none
+ready-untouched script S t (Requests m) u threads joins none = refl
+ready-untouched script S t (Locks m) u threads joins none = ready-by script S (moved t (Locks m) S) u refl refl (owed-locks S.owed t m u none) refl
+ready-untouched script S t (Logons m) u threads joins none = refl
+ready-untouched script S t (Death (Bury v)) u threads joins none =
     let parts = or_parts (t.0 == u.0) (is_listed (v ∷ []) u) none in
     ready-by script S (moved t (Death (Bury v)) S) u refl refl (owed-other S.owed t u _ (eqb-false t.0 u.0 parts.0))
     (ap (ready_row script S.deferred S.nano u (first_owed S u)) (row-other S.threads v (death_row (Bury v)) u.0 (apart_of v u parts.1)))
-untouched script S t (Death (Note v exit)) u threads joins none = ap (ready_row script S.deferred S.nano u (first_owed S u)) (row-other S.threads v (death_row (Note v exit)) u.0 (apart_of v u none))
-untouched script S t (Death (Doom v exit)) u threads joins none = ap (ready_row script S.deferred S.nano u (first_owed S u)) (row-other S.threads v (death_row (Doom v exit)) u.0 (apart_of v u none))
-untouched script S t (Death (Clean v)) u threads joins none = ap (ready_row script S.deferred S.nano u (first_owed S u)) (row-other S.threads v (death_row (Clean v)) u.0 (apart_of v u none))
-untouched script S t (Fill p at long byte) u threads joins none = refl
-untouched script S t (Pay (Close h o)) u threads joins none =
+ready-untouched script S t (Death (Note v exit)) u threads joins none = ap (ready_row script S.deferred S.nano u (first_owed S u)) (row-other S.threads v (death_row (Note v exit)) u.0 (apart_of v u none))
+ready-untouched script S t (Death (Doom v exit)) u threads joins none = ap (ready_row script S.deferred S.nano u (first_owed S u)) (row-other S.threads v (death_row (Doom v exit)) u.0 (apart_of v u none))
+ready-untouched script S t (Death (Clean v)) u threads joins none = ap (ready_row script S.deferred S.nano u (first_owed S u)) (row-other S.threads v (death_row (Clean v)) u.0 (apart_of v u none))
+ready-untouched script S t (Fill p at long byte) u threads joins none = refl
+ready-untouched script S t (Pay (Close h o)) u threads joins none =
     let apart = apart_of t u none in
     ready-by script S (moved t (Pay (Close h o)) S) u refl refl (get_or-set_other _ t.0 u.0 _ [] (λ e. apart (sym e)) ∙ owed-other S.owed t u _ apart)
     (ready-closed script S.deferred S.nano (first_owed S u) S.threads (is_last S o) o u)
-untouched script S t (Pay (Sweep o)) u threads joins none =
+ready-untouched script S t (Pay (Sweep o)) u threads joins none =
     let parts = or_parts (t.0 == u.0) (is_listed (o ∷ []) u) none in
     ready-by script S (moved t (Pay (Sweep o)) S) u refl refl (owed-other S.owed t u _ (eqb-false t.0 u.0 parts.0))
     (ap (ready_row script S.deferred S.nano u (first_owed S u)) (get_or-set_other S.threads o.0 u.0 None None (λ e. apart_of o u parts.1 (sym e))))
+
+pub untouched : (script : Script) (S : State) (t : ObjNo) (m : Move) (u : ObjNo) → AreThreads script S.threads → JoinsOwnQueue m S → is_listed (touched t m) u ≡ false → is_ready script (moved t m S) u ≡ is_ready script S u
+untouched script S t m u threads joins none = ready_is script (moved t m S) u ∙ ready-untouched script S t m u threads joins none ∙ sym (ready_is script S u)

@@ -3,7 +3,7 @@ use Rattle.std.proofs.Common.{◌≡◌, ℕ, zero, suc, ◌+◌, ◌<◌, Bool,
 use Rattle.std.specs.List.{AllByRecursion, position_or_len}
 use Rattle.std.specs.Prelude.{◌-◌, if◌then◌else◌, map, nat_lt, position, replicate, slice_get, Option, Some, None}
 use Rattle.std.specs.Str.{bytes_eq}
-use Rattle.std.proofs.lemmas.List.{length-map}
+use Rattle.std.proofs.lemmas.List.{length-map, length-replicate}
 use Rattle.script_types.specs.declared.declaration.DfcDecl.{DfcDecl}
 use Rattle.script_types.specs.declared.declaration.IdfcDecl.{IdfcDecl}
 use Rattle.script_types.specs.declared.declaration.QueueDecl.{QueueDecl}
@@ -13,7 +13,10 @@ use Rattle.state_rows.specs.DeferredChanges.{burial, places_of}
 use Rattle.state_rows.specs.declared.deferred.DeferredRows.{DeferredRows}
 use Rattle.state_rows.specs.declared.deferred.DfcPlace.{DfcPlace}
 use Rattle.state_rows.specs.DeclaredCalls.{dfc_named, idfc_named, place_of, queue_number}
-use Rattle.machine.specs.WellFormed.{AreCalls}
+use Rattle.state_rows.specs.declared.thread.Role.{Role}
+use Rattle.state_rows.specs.declared.thread.Role.TheVariants.{Supervisor, Queue, Declared}
+use Rattle.machine.specs.Reaping.{burial_of}
+use Rattle.machine.specs.WellFormed.{AreCalls, IsRole}
 
 -- the place of what passes a test is inside the list
 position_inside : {A : Type 0} (test : A → Bool) (xs : List A) (i : ℕ) → position test xs ≡ Some i → i < length xs
@@ -36,7 +39,22 @@ dfc_inside script r name dfc h is =
 pub idfc_inside : (script : Script) (r : DeferredRows) (name : List ℕ) (call : ℕ) → AreCalls script r → idfc_named script name ≡ Some call → call < r.idfcs
 idfc_inside script r name call h is = let within = position_inside (λ (d : IdfcDecl). bytes_eq name d.name) script.idfcs call is in let long = h.idfcs in omega arith
 
-all-both : {A : Type 0} (P : A → Type 0) (xs ys : List A) → AllByRecursion P xs → AllByRecursion P ys → AllByRecursion P (xs ++ ys)
+-- the burial of a thread
+pub burial_inside : (script : Script) (r : DeferredRows) (role : Role) → AreCalls script r → IsRole script role → burial_of script role < length r.places
+burial_inside script r role h declared =
+    let calls = map (place_of script) script.dfcs in
+    let count = 64 + (1 + length script.queues + length script.threads) - length calls in
+    let both = length-append calls (replicate count burial) in
+    let burials = length-replicate count burial in
+    let long : length r.places ≡ length (calls ++ replicate count burial) = ap length h.places in
+    let few = by role declared in omega arith
+  where
+    by : (role : Role) → IsRole script role → burial_of script role < 64 + (1 + length script.queues + length script.threads)
+    by Supervisor declared = omega arith
+    by (Queue queue) declared = omega arith
+    by (Declared k) declared = omega arith
+
+pub all-both : {A : Type 0} (P : A → Type 0) (xs ys : List A) → AllByRecursion P xs → AllByRecursion P ys → AllByRecursion P (xs ++ ys)
 all-both P [] ys all more = more
 all-both P (x ∷ xs) ys all more = (all.0, all-both P xs ys all.1 more)
 

@@ -1,6 +1,5 @@
 -- Threads that have given up all, where a row, a slot of a table or an object changes.
-use Rattle.std.proofs.Common.{◌≡◌, ℕ, zero, suc, ◌<◌, Bool, true, false, List, [], ◌∷◌, ◌++◌, length, get_or, set, arith, refl, sym, ap, subst, ◌∙◌, inl, inr, Option, Some, None}
-use Rattle.std.specs.Prelude.{slice_set, option_map}
+use Rattle.std.proofs.Common.{◌≡◌, ℕ, zero, suc, true, false, List, [], ◌∷◌, ◌++◌, get_or, set, arith, refl, sym, ap, subst, ◌∙◌, inl, inr, Option, Some, None}
 use Rattle.std.proofs.lemmas.Bool.{cases_eq}
 use Rattle.std.proofs.lemmas.List.{get_or-set_other}
 use Rattle.sym_base.specs.declared.number.ObjNo.{ObjNo}
@@ -15,7 +14,7 @@ use Rattle.machine.specs.Moves.{unlinked}
 use Rattle.machine.specs.Rows.{with_row}
 use Rattle.machine.specs.Task.{is_returning}
 use Rattle.machine.specs.WellFormed.{AreSpent, IsSpent, is_dead, is_spent}
-use Rattle.move_laws.proofs.Holders.ThreadRows.{row-here, row-other}
+use Rattle.move_laws.proofs.Holders.ThreadRows.{row-here}
 use Rattle.move_laws.proofs.RowLaws.Threads.{map_some, was_row}
 
 -- a change of a row, after which the thread has given up all if its death came so far

@@ -1,5 +1,5 @@
 -- A thread's row goes that has given up all.
-use Rattle.std.proofs.Common.{◌≡◌, ℕ, ◌+◌, ◌<◌, Bool, true, false, List, [], length, get_or, set, arith, refl, sym, ap, subst, ◌∙◌, inl, inr, Option, Some, None}
+use Rattle.std.proofs.Common.{◌≡◌, ℕ, false, List, [], get_or, set, arith, refl, sym, ap, subst, ◌∙◌, inl, inr, Option, Some, None}
 use Rattle.std.specs.Prelude.{is_some, not}
 use Rattle.std.proofs.lemmas.Bool.{cases_eq}
 use Rattle.std.proofs.lemmas.List.{get_or-set_other, length-set}
@@ -60,7 +60,7 @@ memories-swept threads memories o h = record { sized = h.sized ∙ sym (length-s
 -- the holders of fast mutexes are others
 pub synchronized-swept : (script : Script) (threads : List (Option ThreadRow)) (o : ObjNo) (r : NanoRows) → ((f : ℕ) (u : ObjNo) → holder_of r f ≡ Some u → u.0 ≡ o.0 → ⊥) → AreSynchronized script threads r → AreSynchronized script (set threads o.0 None) r
 synchronized-swept script threads o r apart h = synchronized-threads script threads (set threads o.0 None) r (length-set threads o.0 None)
-    (λ f u is held. record { row = held.row; is = get_or-set_other threads o.0 u.0 None None (apart f u is) ∙ held.is; live = held.live; waits = held.waits; wants = held.wants }) h
+    (λ f u is held. record { row = held.row; is = get_or-set_other threads o.0 u.0 None None (apart f u is) ∙ held.is; live = held.live; serves = held.serves; waits = held.waits; wants = held.wants }) h
 
 -- it waits for nothing
 pub leaves-swept : (tables : List (List HandleSlot)) (threads : List (Option ThreadRow)) (owed : List (List Owed)) (o : ℕ) (r : LockRows) → IsOver tables threads o → LeavesLocks threads (set threads o None) owed owed r

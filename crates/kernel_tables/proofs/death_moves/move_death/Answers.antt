@@ -7,7 +7,7 @@ use Rattle.kernel_tables.proofs.death_moves.move_death.Goals as goal
 pub returns : goal.returns
 returns g c =
     let old = c.args.tables.now in
-    let change = c.args.change in
+    let change = c.args.change.now in
     record {
       state = rw (c.move_row.ensures, c.owe_burial.ensures) refl;
       counts = death_counts old.objects.counts change;

@@ -1,7 +1,7 @@
 use Rattle.std.proofs.Common.{refl, ◌∙◌}
 use Rattle.std.specs.Prelude.{◌==◌, slice_index}
 use Rattle.kernel_tables.proofs.FirstCount.{counts-less}
-use Rattle.kernel_tables.proofs.Noting.{duties_lost, mutexes_lost}
+use Rattle.kernel_tables.proofs.Noting.{duties_lost, mutexes_lost, logons_lost}
 use Rattle.kernel_tables.proofs.Tying.{tied_lost}
 use Rattle.kernel_tables.proofs.moves.lose.Goals as goal
 
@@ -17,7 +17,7 @@ returns g c =
     let known = c.requires.can.0.known in
     let agree = c.requires.kept.counts c.args.object in
     record {
-      state = c.close.ensures.state ∙ rw (c.lose_slot.ensures, c.threads_lose.ensures, c.note_lost.ensures, c.link_of-link.ensures, duties_lost old.cleanup c.args.holder, mutexes_lost old.cleanup c.args.holder, agree) refl;
+      state = c.close.ensures.state ∙ rw (c.lose_slot.ensures, c.threads_lose.ensures, c.note_lost.ensures, c.link_of-link.ensures, duties_lost old.cleanup c.args.holder, mutexes_lost old.cleanup c.args.holder, logons_lost old.cleanup c.args.holder, agree) refl;
       counts = rw (c.close.ensures.counts, ← agree) (counts-less old.objects.counts c.args.object c.args.holder (count == 1) (rw agree known));
       tied = c.close.ensures.tied;
     }

@@ -3,7 +3,7 @@ use Rattle.std.specs.Prelude.{slice_index, slice_set}
 use Rattle.sym_base.specs.declared.number.ObjNo.{ObjNo}
 use Rattle.kernel_tables.specs.StateOf.{state_of}
 use Rattle.kernel_tables.proofs.FirstCount.{counts-first}
-use Rattle.kernel_tables.proofs.Noting.{may_use, duties_gained, mutexes_gained}
+use Rattle.kernel_tables.proofs.Noting.{may_use, duties_gained, mutexes_gained, logons_gained}
 use Rattle.kernel_tables.proofs.Tying.{tied_gained}
 use Rattle.kernel_tables.proofs.moves.make.Goals as goal
 
@@ -23,7 +23,7 @@ returns g c =
     let none : slice_index old (length rows) ≡ 0 = c.requires.kept.counts next ∙ c.requires.can.2.fresh in
     let one : slice_index (slice_set old (length rows) 1) (length rows) ≡ 1 = ap (λ (l : List ℕ). slice_index l (length rows)) (sym c.make-object.ensures.counts) ∙ c.make-object.ensures.one in
     λ t. record {
-      state = rw (c.gain_slot.ensures, c.threads_gain.ensures, c.make-object.ensures.rows, c.note_gain.ensures, is, duties_gained tables.cleanup c.args.holder next, mutexes_gained tables.cleanup c.args.holder next) refl;
+      state = rw (c.gain_slot.ensures, c.threads_gain.ensures, c.make-object.ensures.rows, c.note_gain.ensures, is, duties_gained tables.cleanup c.args.holder next, mutexes_gained tables.cleanup c.args.holder next, logons_gained tables.cleanup c.args.holder next) refl;
       counts = rw c.make-object.ensures.counts (counts-first old next c.args.holder none one);
       tied = rw (c.threads_gain.ensures, c.note_gain.ensures, is) (tied_gained tables.cleanup tables.locks.priorities (state_of tables) c.args.holder next c.requires.can.3 c.requires.kept.tied);
     }

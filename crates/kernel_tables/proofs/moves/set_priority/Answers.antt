@@ -1,6 +1,6 @@
 use Rattle.std.proofs.Common.{◌≡◌, ◌∙◌, ◌<◌, get_or, length, refl, sym, true, None, arith}
 use Rattle.procs.specs.Rows.{is_thread}
-use Rattle.kernel_tables.proofs.RowsOfThreads.{has_row}
+use Rattle.table_moves.proofs.RowsOfThreads.{has_row}
 use Rattle.kernel_tables.proofs.Tying.{tied_ranked}
 use Rattle.kernel_tables.proofs.moves.set_priority.Goals as goal
 

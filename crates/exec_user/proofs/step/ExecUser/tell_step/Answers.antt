@@ -1,9 +1,10 @@
-use Rattle.std.proofs.Common.{◌≡◌, [], length, ap, arith}
-use Rattle.machine.specs.Moves.{tell}
-use Rattle.kernel_tables.specs.Performed.{ActionGoes}
+use Rattle.std.proofs.Common.{arith}
 use Rattle.kernel_tables.specs.StateOf.{state_of}
-use Rattle.exec_user.proofs.Steps.{step_goes}
+use Rattle.exec_user.proofs.Steps.{step_goes, step_registers}
 use Rattle.exec_user.proofs.step.ExecUser.tell_step.Goals as goal
+
+pub decide_step-requires-clause-registers : goal.decide_step-requires-clause-registers
+decide_step-requires-clause-registers g c = step_registers c.args.script.now (state_of c.args.self.now.tables.now) c.args.t c.args.instr.now c.args.phase c.requires.shaped c.requires.at
 
 pub perform-requires-clause-go : goal.perform-requires-clause-go
 perform-requires-clause-go g c =

@@ -1,25 +1,23 @@
-use Rattle.std.proofs.Common.{◌≡◌, ℕ, ◌+◌, List, ap, subst, sym}
+use Rattle.std.proofs.Common.{ℕ, ◌+◌, ◌∙◌, ap, subst, sym}
 use Rattle.entry_log.specs.declared.entry.Entry.{Entry}
 use Rattle.script_types.proofs.ShapeLaws.{formed_is_shaped}
-use Rattle.script_types.specs.declared.script.Script.{Script}
-use Rattle.machine.specs.declared.state.State.{State}
-use Rattle.plain_machine.specs.Allowed.{AllowsAction}
-use Rattle.plain_machine.specs.PlainView.{PlainView, IsPlain}
+use Rattle.plain_machine.specs.PlainView.{PlainView}
 use Rattle.machine.specs.Slots.{IsDeclared}
+use Rattle.machine.specs.declared.state.State.{State}
 use Rattle.plain_machine.proofs.Steps.{allows_action, formed_plain, plain_goes_on_by}
 use Rattle.plain_machine.proofs.plain.Plain.slot.Goals as goal
 
-pub transition-requires-clause-shaped : goal.transition-requires-clause-shaped
-transition-requires-clause-shaped c = formed_is_shaped c.self.inside.script c.self.invariant.valid
+pub acted-requires-clause-shaped : goal.acted-requires-clause-shaped
+acted-requires-clause-shaped c = formed_is_shaped c.self.inside.script c.self.invariant.valid
 
-allows : (script : Script) (history : List Entry) (S copy : State) → IsPlain script history S → copy ≡ S → AllowsAction script copy
-allows script history S copy plain same = subst (AllowsAction script) (sym same) (allows_action script S (formed_is_shaped script plain.valid) (formed_plain script history S plain).rows)
-
-pub transition-requires-clause-allowed : goal.transition-requires-clause-allowed
-transition-requires-clause-allowed c = allows _ _ _ _ c.self.invariant c.in_ok-state.ensures
+pub acted-requires-clause-allowed : goal.acted-requires-clause-allowed
+acted-requires-clause-allowed c =
+    let plain = c.self.inside in
+    allows_action plain.script plain.state (formed_is_shaped plain.script c.self.invariant.valid) (formed_plain plain.script plain.history plain.state c.self.invariant).rows
 
 pub invariant_of-self-2 : goal.invariant_of-self-2
 invariant_of-self-2 c =
     let plain = c.self.inside in
-    plain_goes_on_by plain.script plain.history c.push.new.self plain.state c.in_ok-state.state c.transition.new.state c.args.slot c.slot_actor-actor.result c.in_ok-outcome.outcome (c.len.result + 1) c.entry_of-entry.result (subst (λ (v : PlainView). IsDeclared v.script c.args.slot) (sym c.self.view_is) c.requires.declared)
-    (formed_plain plain.script plain.history plain.state c.self.invariant) c.self.invariant c.in_ok-state.ensures c.slot_actor-actor.ensures c.in_ok-outcome.ensures (ap (λ (n : ℕ). n + 1) c.len.ensures) c.entry_of-entry.ensures c.in_ok-push.ensures.ok
+    let declared = subst (λ (v : PlainView). IsDeclared v.script c.args.slot) (sym c.self.view_is) c.requires.declared in
+    plain_goes_on_by plain.script plain.history c.push.new.self plain.state c.set_state.new.state c.args.slot (c.len.result + 1) c.in_ok-state.entry declared c.self.invariant (ap (λ (n : ℕ). n + 1) c.len.ensures)
+    (c.set_state.ensures ∙ ap (λ (made : State × Entry). made.0) c.in_ok-state.ensures) (ap (λ (made : State × Entry). made.1) c.in_ok-state.ensures) c.in_ok-push.ensures.ok

@@ -1,6 +1,0 @@
-use Rattle.std.proofs.Common.{◌≡◌, ◌++◌, drop}
-use Rattle.machine.specs.Arrivals.{unlisted}
-use Rattle.plain_machine.proofs.arrivals.unlisted.Given as goal
-
-abbrev pub invariant-loop-other : goal.invariant-loop-other
-invariant-loop-other l = l.rest.items ++ unlisted l.thread (drop l.other-index l.list) ≡ unlisted l.thread l.list

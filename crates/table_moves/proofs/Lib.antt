@@ -1,0 +1,6 @@
+mod Counted
+pub mod DyingRows
+mod Filling
+pub mod GoneLogons
+pub mod Noting
+pub mod RowsOfThreads

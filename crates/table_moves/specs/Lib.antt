@@ -1,0 +1,7 @@
+pub mod ObjectsView
+pub mod ThreadRows
+pub mod Noted
+pub mod Dying
+pub mod LogonMoved
+pub mod NanoMoved
+pub mod RequestMoved

@@ -1,0 +1,117 @@
+//! Rows of threads: one change of a thread's row each, and none where there is no such thread.
+ghost use Rattle.std.specs.Prelude.{◌≡◌, ◌+◌, ◌<◌, ◌≤◌, None, Some, slice_set};
+ghost use Rattle.machine.specs.Moves.{with_use, unlinked, with_found, with_part, with_register, advanced, with_waiting, with_priority, threads_gain, threads_lose, threads_closed};
+ghost use Rattle.machine.specs.Memory.{filled, with_memory};
+ghost use Rattle.machine.specs.Room.{MayAdvance};
+ghost use Rattle.machine.specs.Rows.{with_row};
+ghost use Rattle.table_moves.specs.ThreadRows.{with_threads};
+
+use entry_log::{Holder, Part};
+use procs::Procs;
+use state_rows::Waiting;
+use sym_base::{ObjNo, ThreadNo};
+
+/// A thread's call uses this object, or nothing.
+fn set_use(procs: &mut Procs, thread: ThreadNo, uses: Option<ObjNo>)
+    ensures { procs.new ≡ with_threads procs.old (with_row procs.old.threads thread (with_use uses)) }
+{
+    if procs.is_thread(thread) {
+        procs.set_uses(thread, uses);
+    }
+}
+
+/// A holder gets a reference: where it is a thread's call, that uses the object.
+pub fn threads_gain(procs: &mut Procs, holder: Holder, object: ObjNo)
+    ensures { procs.new ≡ with_threads procs.old (threads_gain holder object procs.old.threads) }
+{
+    if let Holder::Temp(thread) = holder {
+        set_use(procs, thread, Some(object));
+    }
+}
+
+/// A holder gives its reference up: where it is a thread's call, that uses nothing any more.
+pub fn threads_lose(procs: &mut Procs, holder: Holder)
+    ensures { procs.new ≡ with_threads procs.old (threads_lose holder procs.old.threads) }
+{
+    if let Holder::Temp(thread) = holder {
+        set_use(procs, thread, None);
+    }
+}
+
+/// A reference to an object goes: with the last one its own link is taken off its row.
+pub fn threads_closed(procs: &mut Procs, last: bool, object: ObjNo)
+    ensures { procs.new ≡ with_threads procs.old (threads_closed last object procs.old.threads) }
+{
+    if last && procs.is_thread(object) {
+        procs.set_link(object, None);
+    }
+}
+
+/// A thread found an object.
+pub fn threads_find(procs: &mut Procs, thread: ThreadNo, object: ObjNo)
+    ensures { procs.new ≡ with_threads procs.old (with_row procs.old.threads thread (with_found object)) }
+{
+    if procs.is_thread(thread) {
+        procs.set_found(thread, u32::from(object.0));
+    }
+}
+
+/// A thread goes on to a step of its instruction.
+pub fn threads_go_on(procs: &mut Procs, thread: ThreadNo, part: Part)
+    ensures { procs.new ≡ with_threads procs.old (with_row procs.old.threads thread (with_part part)) }
+{
+    if procs.is_thread(thread) {
+        procs.set_part(thread, Some(part));
+    }
+}
+
+/// A register of a thread gets a value.
+pub fn threads_write(procs: &mut Procs, thread: ThreadNo, register: u8, value: u32)
+    requires { register < 8 }
+    ensures { procs.new ≡ with_threads procs.old (with_row procs.old.threads thread (with_register register value)) }
+{
+    if procs.is_thread(thread) {
+        procs.set_register(thread, register, value);
+    }
+}
+
+/// A thread goes on to its next instruction.
+pub fn threads_advance(procs: &mut Procs, thread: ThreadNo)
+    requires { MayAdvance 1 procs.old.threads }
+    ensures { procs.new ≡ with_threads procs.old (with_row procs.old.threads thread advanced) }
+{
+    if procs.is_thread(thread) {
+        procs.advance(thread);
+    }
+}
+
+/// A thread waits for this from now on.
+pub fn threads_wait(procs: &mut Procs, thread: ThreadNo, what: Waiting)
+    ensures { procs.new ≡ with_threads procs.old (with_row procs.old.threads thread (with_waiting what)) }
+{
+    if procs.is_thread(thread) {
+        procs.set_waiting(thread, what);
+    }
+}
+
+/// A thread gets a priority.
+pub fn threads_set_priority(procs: &mut Procs, thread: ThreadNo, priority: u8)
+    ensures { procs.new ≡ with_threads procs.old (with_row procs.old.threads thread (with_priority priority)) }
+{
+    if procs.is_thread(thread) {
+        procs.set_priority(thread, priority);
+    }
+}
+
+/// Bytes of a process's memory, from an offset on, get a value.
+pub fn fill(procs: &mut Procs, process: ObjNo, at: u16, length: u16, byte: u8)
+    requires { at + length ≤ 1024 }
+    ensures { procs.new ≡ record procs.old { processes = with_memory procs.old.processes process (filled at length byte) } }
+{
+    if !procs.is_process(process) {
+        return;
+    }
+    for offset in at..at + length {
+        procs.set_byte(process, offset, byte);
+    }
+}
