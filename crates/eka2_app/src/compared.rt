@@ -13,6 +13,7 @@ use script_grammar::is_well_formed;
 use script_read::{ReadScript, read_script};
 use script_types::{Limits, Script};
 use std::alloc::Global;
+use std::process::Abort;
 use std::test::Fail;
 use sym_base::{NoMemory, ObjNo};
 
@@ -106,15 +107,20 @@ fn is_same(plain: &Plain, kernel: &Kernel<PlainWords>) -> bool {
     is_same_history(plain.history(), kernel.history()) && are_same_rows(plain, kernel)
 }
 
+/// Whether the kernel makes the same of a text as a plain machine did. None where the kernel has no run.
+fn is_run_alike(alloc: Global, text: &str, plain: &Plain) -> Option<bool> {
+    match kernel_after(alloc, text) {
+        Some(kernel) => Some(is_same(plain, &kernel)),
+        None => None,
+    }
+}
+
 /// Whether both machines make the same of a text. None where one of them has no run.
 fn is_same_run(alloc: Global, text: &str) -> Option<bool> {
-    let Some(plain) = plain_after(alloc, text) else {
-        return None;
-    };
-    let Some(kernel) = kernel_after(alloc, text) else {
-        return None;
-    };
-    Some(is_same(&plain, &kernel))
+    match plain_after(alloc, text) {
+        Some(plain) => is_run_alike(alloc, text, &plain),
+        None => None,
+    }
 }
 
 #[test]
@@ -154,11 +160,11 @@ fn first_line(history: &[Entry]) -> Line {
     }
 }
 
-#[test]
-fn a_thread_that_is_not_chosen_acts(rt: HostRuntime) -> Result<(), Fail> {
-    let Some(mut kernel) = dying_kernel(rt.alloc()) else {
-        return Err("no kernel".into());
-    };
+/// The last thread of the script acts, which the schedule would choose later.
+fn expect_act<R: Abort>(rt: &R, kernel: &mut Kernel<PlainWords>)
+    requires room { kernel.old.room ≡ 1 }
+    requires empty { kernel.old.history ≡ [] }
+{
     assert!(rt; !kernel.able(ObjNo(1)));
     assert!(rt; kernel.able(ObjNo(4)));
     kernel.act(ObjNo(4));
@@ -167,5 +173,13 @@ fn a_thread_that_is_not_chosen_acts(rt: HostRuntime) -> Result<(), Fail> {
         first_line(kernel.history()).as_slice(),
         b"1 t4 open.seek = -1\n".as_slice()
     );
+}
+
+#[test]
+fn a_thread_that_is_not_chosen_acts(rt: HostRuntime) -> Result<(), Fail> {
+    let Some(mut kernel) = dying_kernel(rt.alloc()) else {
+        return Err("no kernel".into());
+    };
+    expect_act(&rt, &mut kernel);
     Ok(())
 }

@@ -4,6 +4,8 @@
 
 #[cfg(test)]
 mod compared;
+#[cfg(test)]
+mod death_tests;
 mod input;
 mod output;
 mod run;

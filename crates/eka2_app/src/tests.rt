@@ -84,13 +84,41 @@ fn words_of(alloc: Global, texts: &[&str]) -> Result<Vec<String>, AllocError> {
 
 /// Words over a script, the numbers of the reads and of the writes that fail, and what is to come.
 #[derive(Clone, Copy)]
-struct Case<'a> {
-    words: &'a [&'a str],
-    script: &'a str,
-    failing_reads: &'a [u32],
-    failing_writes: &'a [u32],
+pub struct Case<'a> {
+    pub words: &'a [&'a str],
+    pub script: &'a str,
+    pub failing_reads: &'a [u32],
+    pub failing_writes: &'a [u32],
+    pub status: Status,
+    pub written: &'a str,
+}
+
+/// A source of the bytes of a case's script, of which some reads fail.
+fn source_of(alloc: Global, case: &Case<'_>) -> Result<MemSource, AllocError> {
+    let bytes = Vec::from_slice(alloc, case.script.as_bytes())?;
+    let fails = Vec::from_slice(alloc, case.failing_reads)?;
+    Ok(MemSource::new(bytes, 100, fails))
+}
+
+/// An empty sink, of which some writes fail.
+fn sink_of(alloc: Global, failing_writes: &[u32]) -> Result<MemSink, AllocError> {
+    let fails = Vec::from_slice(alloc, failing_writes)?;
+    MemSink::new(alloc, 1000, 600, fails)
+}
+
+/// Runs words over a source and a sink, and compares the status and what was written.
+fn expect_run<R: Abort>(
+    rt: &R,
+    alloc: Global,
+    words: &[String],
+    source: &mut MemSource,
+    sink: &mut MemSink,
     status: Status,
-    written: &'a str,
+    written: &str,
+) {
+    let found = eka2_main(alloc, words, source, sink);
+    assert_eq!(rt; found, status);
+    assert_eq!(rt; sink.bytes(), written.as_bytes());
 }
 
 /// A source of the bytes of a case's script, of which some reads fail.
@@ -122,7 +150,7 @@ fn expect_run<R: Abort>(
 }
 
 /// Runs a case, and compares the status and what was written.
-fn expect_case<R: Abort>(rt: &R, alloc: Global, case: &Case<'_>) -> Result<(), Fail> {
+pub fn expect_case<R: Abort>(rt: &R, alloc: Global, case: &Case<'_>) -> Result<(), Fail> {
     let words = words_of(alloc, case.words)?;
     let mut source = source_of(alloc, case)?;
     let mut sink = sink_of(alloc, case.failing_writes)?;
@@ -139,7 +167,7 @@ fn expect_case<R: Abort>(rt: &R, alloc: Global, case: &Case<'_>) -> Result<(), F
 }
 
 /// The case of a script that runs well.
-const WELL: Case<'static> = Case {
+pub const WELL: Case<'static> = Case {
     words: &["run"],
     script: SCRIPT,
     failing_reads: &[],

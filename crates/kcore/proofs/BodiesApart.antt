@@ -1,6 +1,6 @@
 -- What a body does doesn't look at the list of ready threads.
 use Rattle.std.proofs.Common.{◌≡◌, ◌∙◌, ℕ, ℤ, List, [], ◌∷◌, ◌++◌, refl, ap}
-use Rattle.std.specs.Prelude.{Option, Some, None, if◌then◌else◌, true, false, Bool}
+use Rattle.std.specs.Prelude.{Option, Some, None, if◌then◌else◌, Bool}
 use Rattle.sym_base.specs.declared.number.ObjNo.{ObjNo}
 use Rattle.sym_base.specs.declared.kind.Kind.TheVariants.{Thread}
 use Rattle.script_types.specs.declared.declaration.Op.{Op}
@@ -39,7 +39,7 @@ ends_apart S qs t s waiting.Any = refl
 ends_apart S qs t s (waiting.Status w) = refl
 ends_apart S qs t s _ = refl
 
-end_apart : (S : State) (qs : List ObjNo) (t : ObjNo) (s : ℕ) (row : Option ThreadRow) → end_wait (with_ready S qs) t s row ≡ end_wait S t s row
+pub end_apart : (S : State) (qs : List ObjNo) (t : ObjNo) (s : ℕ) (row : Option ThreadRow) → end_wait (with_ready S qs) t s row ≡ end_wait S t s row
 end_apart S qs t s None = refl
 end_apart S qs t s (Some row) = ap (λ (b : Bool). if b then move.Wake t ∷ [] else []) (ends_apart S qs t s row.waiting)
 

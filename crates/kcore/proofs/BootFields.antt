@@ -1,5 +1,5 @@
 -- The tables at boot stand for the state at boot, field by field.
-use Rattle.std.proofs.Common.{◌≡◌, ℕ, ◌≤◌, List, [], ◌∷◌, length, take, map, replicate, arith, refl, sym, ap, subst, ◌∙◌, Option, Some, None}
+use Rattle.std.proofs.Common.{◌≡◌, ℕ, ◌≤◌, List, [], ◌∷◌, length, take, map, replicate, arith, refl, sym, ap, ◌∙◌, Option, Some}
 use Rattle.std.proofs.lemmas.List.{length-map, take_all}
 use Rattle.sym_base.specs.declared.limits.TheConstants.Limits.{DEVICES, HANDLES, OBJECTS}
 use Rattle.sym_base.specs.declared.number.ObjNo.{ObjNo}

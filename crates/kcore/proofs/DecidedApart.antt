@@ -1,5 +1,5 @@
 -- What is decided doesn't look at the list of ready threads.
-use Rattle.std.proofs.Common.{◌≡◌, ℕ, Bool, true, false, List, refl}
+use Rattle.std.proofs.Common.{◌≡◌, ℕ, Bool, true, false, List, ◌∷◌, ap, refl}
 use Rattle.std.specs.Prelude.{Option, Some, None}
 use Rattle.sym_base.specs.declared.number.ObjNo.{ObjNo}
 use Rattle.entry_log.specs.declared.step.Part.{Part}
@@ -15,7 +15,7 @@ use Rattle.machine.specs.Rows.{thread_of}
 use Rattle.machine.specs.Steps.{step_of, decision_of_task, decision_of_row, decision_where, decision_of}
 use Rattle.machine.specs.Task.{is_able, task_of}
 use Rattle.state_rows.specs.declared.deferred.Item.{Item}
-use Rattle.state_rows.specs.declared.deferred.Item.TheVariants.{Idfc, Move}
+use Rattle.state_rows.specs.declared.deferred.Item.TheVariants as queued
 use Rattle.state_rows.specs.Deferred.{next_immediate}
 use Rattle.machine.specs.declared.decision.Decision.{Decision}
 use Rattle.machine.specs.declared.plan.Body.TheVariants.{Immediate, Deferred}
@@ -26,7 +26,22 @@ use Rattle.machine.specs.MutexCalls.{lock_do, lock_step, unlock_do, unlock_step}
 use Rattle.machine.specs.Queueing.{queue_named}
 use Rattle.machine.specs.SemaphoreCalls.{signal_do, signal_step, wait_do, wait_step}
 use Rattle.kernel_tables.specs.StateOf.{with_ready}
-use Rattle.kcore.proofs.BodiesApart.{body_apart}
+use Rattle.sym_base.specs.declared.kind.Exit.{Exit}
+use Rattle.sym_base.specs.declared.kind.ExitKind.TheVariants as kind
+use Rattle.sym_base.specs.declared.word.Word.{Word}
+use Rattle.sym_base.specs.declared.word.Word.TheVariants.{Kill, Terminate, Panic}
+use Rattle.entry_log.specs.declared.step.Step.TheVariants as step
+use Rattle.machine.specs.declared.holding.Holding.{Holding}
+use Rattle.machine.specs.declared.holding.Holding.TheVariants.{Mutex, Use, Handle, Logon}
+use Rattle.machine.specs.declared.logon_move.LogonMove.TheVariants.{Remove}
+use Rattle.machine.specs.declared.moves.Move.{Move}
+use Rattle.machine.specs.declared.moves.Move.TheVariants.{Logons, Requests}
+use Rattle.machine.specs.declared.request_move.RequestMove.TheVariants.{Signal}
+use Rattle.machine.specs.Dooms.{plain_exit}
+use Rattle.machine.specs.ExitCalls.{exit_on, exittype_on}
+use Rattle.machine.specs.LogonCalls.{logon_do, reason_of}
+use Rattle.machine.specs.Reaping.{give_up}
+use Rattle.kcore.proofs.BodiesApart.{body_apart, end_apart}
 
 queue_apart : (S : State) (qs : List ObjNo) (t : ObjNo) (dfc : Option ℕ) → queue_named (with_ready S qs) t dfc ≡ queue_named S t dfc
 queue_apart S qs t None = refl
@@ -79,6 +94,19 @@ signal_apart : (S : State) (qs : List ObjNo) (t : ObjNo) (row : ThreadRow) (x : 
 signal_apart S qs t row x None = refl
 signal_apart S qs t row x (Some part) = signals_apart S qs t row.uses
 
+-- steps that end threads, and that tell of their ends
+exit_apart : (S : State) (qs : List ObjNo) (t : ObjNo) (word : Word) (exit : Exit) (uses : Option ObjNo) → exit_on (with_ready S qs) t word exit uses ≡ exit_on S t word exit uses
+exit_apart S qs t word exit None = refl
+exit_apart S qs t word exit (Some u) = refl
+
+exittype_apart : (S : State) (qs : List ObjNo) (t : ObjNo) (uses : Option ObjNo) → exittype_on (with_ready S qs) t uses ≡ exittype_on S t uses
+exittype_apart S qs t None = refl
+exittype_apart S qs t (Some u) = refl
+
+logon_apart : (S : State) (qs : List ObjNo) (t : ObjNo) (s : ℕ) (uses : Option ObjNo) → logon_do (with_ready S qs) t s uses ≡ logon_do S t s uses
+logon_apart S qs t s None = refl
+logon_apart S qs t s (Some u) = refl
+
 step_apart : (script : Script) (S : State) (qs : List ObjNo) (t : ObjNo) (row : ThreadRow) (i : Instr) (p : Option Part) → step_of script (with_ready S qs) t row i p ≡ step_of script S t row i p
 step_apart script S qs t row (instr.CreateMutex name x) p = refl
 step_apart script S qs t row (instr.CreateSemaphore name count x) p = refl
@@ -117,14 +145,38 @@ step_apart script S qs t row instr.WaitAny (Some part) = refl
 step_apart script S qs t row (instr.WaitFor s) None = refl
 step_apart script S qs t row (instr.WaitFor s) (Some part) = refl
 step_apart script S qs t row (instr.Status s) p = refl
+step_apart script S qs t row (instr.Kill x reason) None = refl
+step_apart script S qs t row (instr.Kill x reason) (Some part) = exit_apart S qs t Kill (plain_exit kind.Kill reason) row.uses
+step_apart script S qs t row (instr.Terminate x reason) None = refl
+step_apart script S qs t row (instr.Terminate x reason) (Some part) = exit_apart S qs t Terminate (plain_exit kind.Terminate reason) row.uses
+step_apart script S qs t row (instr.Panic x category reason) None = refl
+step_apart script S qs t row (instr.Panic x category reason) (Some part) = exit_apart S qs t Panic (record { kind = kind.Panic; category = category; reason = reason }) row.uses
+step_apart script S qs t row (instr.ExitType x) None = refl
+step_apart script S qs t row (instr.ExitType x) (Some part) = exittype_apart S qs t row.uses
+step_apart script S qs t row (instr.Logon x s) None = refl
+step_apart script S qs t row (instr.Logon x s) (Some part) = logon_apart S qs t s row.uses
+step_apart script S qs t row (instr.Exit reason) p = refl
 step_apart script S qs t row _ p = refl
+
+-- what a doomed thread gives up
+give_apart : (S : State) (qs : List ObjNo) (t : ObjNo) (row : ThreadRow) (what : Holding) → give_up (with_ready S qs) t row what ≡ give_up S t row what
+give_apart S qs t row (Mutex o) = refl
+give_apart S qs t row (Use o) = refl
+give_apart S qs t row (Handle h o) = refl
+give_apart S qs t row (Logon u s) =
+    let told : List Move → Decision = λ ms. record { step = step.Tell; moves = Logons (Remove t u s) ∷ Requests (Signal u s (reason_of row.exit)) ∷ ms; answer = None } in
+    ap told (end_apart S qs u s (thread_of S u))
 
 task_apart : (script : Script) (S : State) (qs : List ObjNo) (t : ObjNo) (row : ThreadRow) (what : Task) → decision_of_task script (with_ready S qs) t row what ≡ decision_of_task script S t row what
 task_apart script S qs t row (task.Return i) = refl
 task_apart script S qs t row (task.Pay what) = refl
 task_apart script S qs t row (task.RunDfc dfc) = body_apart script t S qs (Deferred dfc)
+task_apart script S qs t row (task.GiveUp what) = give_apart S qs t row what
+task_apart script S qs t row task.Clean = refl
+task_apart script S qs t row (task.Bury dfc) = refl
 task_apart script S qs t row (task.Step i) = step_apart script S qs t row i row.part
 task_apart script S qs t row task.Flush = refl
+task_apart script S qs t row task.End = refl
 
 row_apart : (script : Script) (S : State) (qs : List ObjNo) (t : ObjNo) (row : Option ThreadRow) (what : Option Task) → decision_of_row script (with_ready S qs) t row what ≡ decision_of_row script S t row what
 row_apart script S qs t None what = refl
@@ -140,8 +192,8 @@ decision_apart script S qs t = where_apart script S qs t (is_able script S t) (t
 
 item_apart : (script : Script) (S : State) (qs : List ObjNo) (item : Option Item) → decision_by script supervisor (with_ready S qs) (immediate_plan script (with_ready S qs) item) ≡ decision_by script supervisor S (immediate_plan script S item)
 item_apart script S qs None = refl
-item_apart script S qs (Some (Move dfc)) = refl
-item_apart script S qs (Some (Idfc item)) = body_apart script supervisor S qs (Immediate item)
+item_apart script S qs (Some (queued.Move dfc)) = refl
+item_apart script S qs (Some (queued.Idfc item)) = body_apart script supervisor S qs (Immediate item)
 
 -- what the oldest item of the immediate queue does
 pub immediate_apart : (script : Script) (S : State) (qs : List ObjNo) → let decide : State → Decision = λ T. decision_by script supervisor T (immediate_plan script T (next_immediate T.deferred)) in decide (with_ready S qs) ≡ decide S

@@ -1,7 +1,6 @@
 -- A kernel goes on: after an actor's action its tables stand for one entry more.
-use Rattle.std.proofs.Common.{◌≡◌, ℕ, ◌+◌, List, [], ◌∷◌, ◌++◌, length, refl, sym, ap, subst, ◌∙◌, true, Option, Some, None}
-use Rattle.std.specs.Prelude.{drop, is_none}
-use Rattle.std.proofs.lemmas.Bool.{and_parts}
+use Rattle.std.proofs.Common.{◌≡◌, ℕ, ◌+◌, List, [], ◌∷◌, ◌++◌, length, refl, sym, ap, subst, ◌∙◌, Option, Some, None}
+use Rattle.std.specs.Prelude.{drop}
 use Rattle.sym_base.specs.declared.number.ObjNo.{ObjNo}
 use Rattle.script_types.specs.declared.script.Script.{Script}
 use Rattle.script_types.specs.declared.script.Slot.{Slot}
@@ -14,18 +13,15 @@ use Rattle.entry_log.specs.declared.entry.FinalRow.{FinalRow}
 use Rattle.state_rows.specs.declared.object.ObjectRow.{ObjectRow}
 use Rattle.machine.specs.declared.decision.Outcome.{Outcome}
 use Rattle.machine.specs.declared.state.State.{State}
-use Rattle.state_rows.specs.declared.thread.ThreadRow.{ThreadRow}
 use Rattle.script_types.specs.Source.{IsWellFormed}
 use Rattle.machine.specs.Boot.{boot}
 use Rattle.machine.specs.Choice.{priority_of}
 use Rattle.kernel_tables.specs.Noted.{AreKept}
 use Rattle.machine.specs.FinalRows.{final_row, rows_of, rows_from, IsNextRow}
 use Rattle.machine.specs.History.{transition, next, entry_of, entry_by, after, CanAct, IsLegal}
-use Rattle.machine.specs.Rows.{thread_of}
 use Rattle.machine.specs.Run.{slot_actor}
 use Rattle.machine.specs.Slots.{IsDeclared}
 use Rattle.machine.specs.Task.{is_ready, is_able}
-use Rattle.state_rows.specs.Nano.{wanted_holder}
 use Rattle.machine.specs.Transition.{Transition}
 use Rattle.machine.specs.WellFormed.{AreRows}
 use Rattle.machine_laws.proofs.Reached.AfterHistory.{well_formed-after}
@@ -38,7 +34,6 @@ use Rattle.kcore.specs.KernelView.{Stands}
 use Rattle.kcore.specs.Done.{EachReady, Does, MayAct}
 use Rattle.kernel_tables.specs.ReadyQueues.{AreReady, SomeReady}
 use Rattle.kernel_tables.specs.StateOf.{state_of, with_ready}
-use Rattle.kernel_tables.proofs.ReadyRows.{ready_row}
 
 -- rows don't look at the list of ready threads
 rows_apart : (script : Script) (S : State) (qs : List ObjNo) → AreRows script (with_ready S qs) → AreRows script S

@@ -1,5 +1,5 @@
 -- The operations of a body, one after the other.
-use Rattle.std.proofs.Common.{◌≡◌, ℕ, ◌+◌, ◌*◌, ◌≤◌, List, [], ◌∷◌, ◌++◌, length, arith, refl, sym, ap, subst, ◌∙◌, append_assoc, append-nil, length-append}
+use Rattle.std.proofs.Common.{◌≡◌, ◌+◌, ◌*◌, ◌≤◌, List, [], ◌∷◌, ◌++◌, length, arith, refl, sym, ap, subst, ◌∙◌, append_assoc, append-nil, length-append}
 use Rattle.sym_base.specs.declared.limits.TheConstants.Limits.{BOOT_OBJECTS}
 use Rattle.sym_base.specs.declared.number.ObjNo.{ObjNo}
 use Rattle.script_types.specs.declared.declaration.Op.{Op}
@@ -9,7 +9,7 @@ use Rattle.ready_list.specs.Ready.{Ready}
 use Rattle.machine.specs.declared.moves.Move.{Move}
 use Rattle.machine.specs.declared.state.State.{State}
 use Rattle.machine.specs.Bodies.{op_moves, ops_moves}
-use Rattle.machine.specs.Moves.{perform, tell}
+use Rattle.machine.specs.Moves.{perform}
 use Rattle.kernel_tables.specs.declared.tables.Tables.{Tables}
 use Rattle.kernel_tables.specs.Moved.{MovesGo}
 use Rattle.kernel_tables.specs.Noted.{AreKept}

@@ -1,4 +1,4 @@
-use Rattle.std.proofs.Common.{◌≡◌, ◌≤◌, ℕ, List, length, refl, sym, subst, arith, inl, inr}
+use Rattle.std.proofs.Common.{◌≤◌, ℕ, List, length, refl, sym, subst, arith, inl, inr}
 use Rattle.script_read.specs.FirstBad.{IsFirstBad}
 use Rattle.script_read.specs.Refusal.{refusal_text}
 use Rattle.script_grammar.specs.Accepted.{IsAccepted}

@@ -1,5 +1,4 @@
 use Rattle.std.proofs.Common.{refl}
-use Rattle.machine.specs.declared.state.State.{State}
 use Rattle.kernel_tables.specs.StateOf.{state_of}
 use Rattle.exec_user.specs.Phases.{phase_at}
 use Rattle.exec_user.specs.Stepping.{IsAtStep, step_at}

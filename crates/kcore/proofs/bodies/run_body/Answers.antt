@@ -1,14 +1,9 @@
-use Rattle.std.proofs.Common.{◌≡◌, ◌∙◌, ◌+◌, ◌≤◌, ◌++◌, ℕ, List, [], length, length-append, ap, arith, subst, sym, refl}
-use Rattle.sym_base.specs.declared.number.ObjNo.{ObjNo}
-use Rattle.entry_log.specs.declared.effect.Effect.{Effect}
-use Rattle.machine.specs.declared.moves.Move.{Move}
+use Rattle.std.proofs.Common.{◌≡◌, ◌∙◌, ◌++◌, [], length, length-append, ap, arith, subst, sym, refl}
 use Rattle.machine.specs.declared.state.State.{State}
 use Rattle.machine.specs.Bodies.{leave_queue, ops_moves, ops_of, run_body}
 use Rattle.machine.specs.Moves.{perform, tell}
 use Rattle.machine_laws.proofs.Fitting.Bodies.{short_body}
 use Rattle.kernel_tables.specs.Moved.{MovesGo}
-use Rattle.kernel_tables.specs.Performed.{IsPerformed}
-use Rattle.kernel_tables.specs.ReadyQueues.{Follow, leave_along}
 use Rattle.kernel_tables.specs.StateOf.{state_of}
 use Rattle.kcore.proofs.ActionsDone.{carried_does}
 use Rattle.kernel_tables.proofs.Performing.{moves_part, tell_append}

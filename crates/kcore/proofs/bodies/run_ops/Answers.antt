@@ -1,9 +1,7 @@
-use Rattle.std.proofs.Common.{◌≡◌, ◌∙◌, ◌∷◌, ◌+◌, ◌≤◌, ◌++◌, List, length, drop, ap, arith, subst, sym}
-use Rattle.entry_log.specs.declared.effect.Effect.{Effect}
+use Rattle.std.proofs.Common.{◌∙◌, ◌+◌, ◌≤◌, List, length, drop, ap, arith, subst}
 use Rattle.machine.specs.declared.moves.Move.{Move}
 use Rattle.machine.specs.Bodies.{op_moves, ops_moves}
-use Rattle.machine.specs.Moves.{perform, tell}
-use Rattle.kernel_tables.specs.Moved.{MovesGo}
+use Rattle.machine.specs.Moves.{perform}
 use Rattle.kernel_tables.specs.Performed.{IsPerformed}
 use Rattle.kernel_tables.specs.StateOf.{state_of}
 use Rattle.kernel_tables.proofs.Performing.{moves_part, way_few, next_item, none_left}

@@ -5,7 +5,6 @@ use Rattle.sym_base.specs.declared.number.ObjNo.{ObjNo}
 use Rattle.script_types.proofs.ShapeLaws.{formed_is_shaped}
 use Rattle.machine.specs.declared.boot.Born.{Born}
 use Rattle.machine.specs.declared.state.State.{State}
-use Rattle.state_rows.specs.declared.thread.ThreadRow.{ThreadRow}
 use Rattle.machine.specs.Arrivals.{is_listed}
 use Rattle.machine.specs.Boot.{boot, born}
 use Rattle.machine.specs.Choice.{priority_of, priority_of_row}

@@ -1,6 +1,5 @@
-use Rattle.std.proofs.Common.{◌∙◌, ap, subst, sym, length, List, ℕ}
+use Rattle.std.proofs.Common.{◌∙◌, ap, subst, sym, length}
 use Rattle.kern_sync.specs.KernelLocks.{KernelLocks}
-use Rattle.sym_base.specs.declared.limits.TheConstants.Limits.{BOOT_OBJECTS}
 use Rattle.kernel_tables.specs.Noted.{AreRanked}
 use Rattle.kcore.proofs.boot.tables_of.Goals as goal
 

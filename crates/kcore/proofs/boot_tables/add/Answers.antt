@@ -1,5 +1,4 @@
-use Rattle.std.proofs.Common.{◌≡◌, ◌∙◌, ℕ, List, get_or, set, sym, ap, false, Option, Some, None}
-use Rattle.std.specs.Prelude.{is_some}
+use Rattle.std.proofs.Common.{◌∙◌, ℕ, List, get_or, set, sym, ap, Option, Some, None}
 use Rattle.std.proofs.lemmas.List.{set-get_or}
 use Rattle.state_rows.specs.declared.thread.ThreadRow.{ThreadRow}
 use Rattle.procs.specs.ProcsRows.{ProcsRows}

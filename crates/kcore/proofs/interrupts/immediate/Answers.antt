@@ -1,6 +1,5 @@
-use Rattle.std.proofs.Common.{sym, subst}
+use Rattle.std.proofs.Common.{sym}
 use Rattle.state_rows.specs.Deferred.{next_immediate}
-use Rattle.machine.specs.declared.plan.Plan.{Plan}
 use Rattle.machine.specs.declared.state.State.{State}
 use Rattle.machine.specs.Bodies.{decision_by}
 use Rattle.machine.specs.Interrupts.{immediate, immediate_plan, supervisor}

@@ -1,8 +1,8 @@
-use Rattle.std.proofs.Common.{◌∷◌, [], ◌+◌, ◌≤◌, List, length, append-nil, drop, subst}
+use Rattle.std.proofs.Common.{◌∷◌, [], ◌+◌, ◌≤◌, List, length, append-nil, drop, subst, sym}
 use Rattle.entry_log.specs.declared.effect.Effect.{Effect}
 use Rattle.machine.specs.declared.moves.Move.{Move}
 use Rattle.machine.specs.Moves.{told}
-use Rattle.kernel_tables.specs.Moved.{MovesGo}
+use Rattle.kernel_tables.specs.Moved.{AreKnown, MovesGo}
 use Rattle.kernel_tables.specs.StateOf.{state_of}
 use Rattle.kernel_tables.proofs.Performing.{performed_one, way_goes_on, way_few, next_item}
 use Rattle.kernel_tables.proofs.actions.perform.Goals as goal
@@ -23,6 +23,12 @@ make_move-requires-clause-can g c =
     let next = next_item c.args.moves.now i m c.loop-change-test.true c.change-item.is in
     let h : MovesGo c.args.script.now c.args.thread (m ∷ drop (i + 1) c.args.moves.now) (state_of c.loop-change.tables) = subst (λ (l : List Move). MovesGo c.args.script.now c.args.thread l (state_of c.loop-change.tables)) next c.loop-change.invariant.go in
     h.0.can
+
+pub arrive_touched-requires-clause-known : goal.arrive_touched-requires-clause-known
+arrive_touched-requires-clause-known g c =
+    let next = next_item c.args.moves.now c.loop-change.change-index c.change-item.result c.loop-change-test.true c.change-item.is in
+    let h = rw next at c.loop-change.invariant in
+    subst AreKnown (sym c.make_move.ensures.state) h.go.0.known
 
 pub loop-change-preserved : goal.loop-change-preserved
 loop-change-preserved g c =
