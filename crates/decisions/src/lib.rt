@@ -16,4 +16,6 @@ mod steps;
 
 pub use queueing::add_call;
 pub use steps::{decide_step, return_of};
-pub use thread_decisions::{end, flush, is_pending, nothing, reason_of, signal_move};
+pub use thread_decisions::{
+    doom, end, flush, is_pending, nothing, plain_exit, reason_of, signal_move,
+};

@@ -5,7 +5,7 @@ use Rattle.eka2_app.specs.Inputs.{IsInput, IsBadInput}
 use Rattle.eka2_app.specs.RunText.{run_text}
 use Rattle.machine.specs.History.{IsLegal}
 use Rattle.machine.specs.Run.{run}
-use Rattle.machine_safe.specs.SafeReferences.{IsSafeReferences}
+use Rattle.machine_safe.specs.Safe.{IsSafe}
 use Rattle.script_read.specs.Refusal.{refusal_text}
 use Rattle.script_read.specs.declared.reason.Reason.{Reason}
 use Rattle.script_types.specs.declared.script.Script.{Script}
@@ -24,13 +24,13 @@ pub record IsRefusalText (input : Option (List ℕ)) (text : List ℕ) : Type 0 
   pub same : text ≡ refusal_text line why
 
 -- the input is accepted as a script, and the whole text of its run was written, whose history is legal, and
--- in which each object died exactly where its last reference went
+-- whose references and deaths are safe
 pub record WroteRun (input old new : Option (List ℕ)) : Type 0 where
   pub script : Script
   pub accepted : IfSome input (λ bytes. IsInput bytes script)
   pub wrote : Wrote old new (run_text script)
   pub legal : IsLegal script (run script)
-  pub safe : IsSafeReferences script (run script)
+  pub safe : IsSafe script (run script)
 
 -- this is the input's first bad line with its reason, and the line that names both was written, and nothing
 -- else

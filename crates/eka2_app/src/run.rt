@@ -8,7 +8,7 @@ ghost use Rattle.eka2_app.specs.Outputs.{WroteRun, WroteRefusalOf, WroteFront};
 ghost use Rattle.eka2_app.specs.RunText.{HasRun, run_text};
 ghost use Rattle.machine.specs.History.{IsLegal};
 ghost use Rattle.machine.specs.Run.{run};
-ghost use Rattle.machine_safe.specs.SafeReferences.{IsSafeReferences};
+ghost use Rattle.machine_safe.specs.Safe.{IsSafe};
 ghost use Rattle.script_read.specs.Refusal.{refusal_text};
 ghost use Rattle.script_read.specs.declared.reason.Reason.{Reason};
 ghost use Rattle.script_types.specs.Source.{IsWellFormed};
@@ -49,7 +49,7 @@ fn run_script<K: Sink>(alloc: Global, script: Script, sink: &mut K) -> Result<()
     requires { IsWellFormed script }
     ensures whole { OnOk result (Wrote (K.written sink.old) (K.written sink.new) (run_text script)) }
     ensures legal { OnOk result (IsLegal script (run script)) }
-    ensures safe { OnOk result (IsSafeReferences script (run script)) }
+    ensures safe { OnOk result (IsSafe script (run script)) }
     ensures front { result ≡ Err RunFault.WriteFault → WrotePrefix (K.written sink.old) (K.written sink.new) (run_text script) }
     ensures fault { result ≡ Err RunFault.WriteFault → Rose (K.faults sink.old) (K.faults sink.new) }
     ensures silent { result ≡ Err RunFault.NoMemory → K.written sink.new ≡ K.written sink.old }

@@ -26,8 +26,8 @@ use Rattle.machine.specs.Transition.{Transition}
 use Rattle.machine.specs.WellFormed.{AreRows}
 use Rattle.machine_laws.proofs.Reached.AfterHistory.{well_formed-after}
 use Rattle.machine_laws.proofs.Reached.Histories.{after-push, legal-push, slot_can}
-use Rattle.machine_safe.specs.SafeReferences.{IsSafeReferences}
-use Rattle.machine_safe.proofs.SafeHistories.{legal_safe}
+use Rattle.machine_safe.specs.Safe.{IsSafe}
+use Rattle.machine_safe.proofs.LegalSafety.{legal_safety}
 use Rattle.ready_list.specs.Ready.{Ready}
 use Rattle.kernel_tables.specs.declared.tables.Tables.{Tables}
 use Rattle.kcore.specs.KernelView.{Stands}
@@ -49,6 +49,7 @@ rows_apart script S qs h = record {
   memories = h.memories;
   logons = h.logons;
   spent = h.spent;
+  awaited = h.awaited;
   lives = record { alive = h.lives.alive; counted = h.lives.counted; sweeps = h.lives.sweeps };
 }
 
@@ -107,9 +108,9 @@ pub slot_goes : {W N : Type 0} (script : Script) (history : List Entry) (tables 
 slot_goes script history tables ready slot actor declared h is =
     subst (CanAct script (after script history)) (sym is) (slot_can script (after script history) slot declared (well_formed-after script history h.valid))
 
--- references are safe in the history that tables stand for
-pub safe_history : {W N : Type 0} (script : Script) (history : List Entry) (tables : Tables W N) (ready : Ready) → Stands script history tables ready → IsSafeReferences script history
-safe_history script history tables ready h = legal_safe script history h.valid h.legal
+-- the history that tables stand for is safe
+pub safe_history : {W N : Type 0} (script : Script) (history : List Entry) (tables : Tables W N) (ready : Ready) → Stands script history tables ready → IsSafe script history
+safe_history script history tables ready h = legal_safety script history h.valid h.legal
 
 -- the rows at the end don't look at the list of ready threads
 final_apart : (S : State) (qs : List ObjNo) (n : ℕ) (rows : List (Option ObjectRow)) → rows_of (with_ready S qs) n rows ≡ rows_of S n rows

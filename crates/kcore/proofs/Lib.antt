@@ -6,6 +6,7 @@ mod BootProcs
 mod BootReady
 mod BootTables
 mod BootUses
+mod Deaths
 mod DecidedApart
 mod Goes
 mod LastEntry

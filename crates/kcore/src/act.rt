@@ -20,6 +20,7 @@ ghost use Rattle.kernel_tables.specs.ReadyQueues.{Follow, SomeReady};
 ghost use Rattle.kernel_tables.specs.StateOf.{state_of};
 
 use crate::bodies::run_body;
+use crate::deaths::{bury, end, reap};
 use crate::interrupts::{immediate, interrupt};
 use crate::plans::carry_out;
 use entry_log::{Actor, Effects, Entry, Step};
@@ -132,6 +133,9 @@ fn act<W: RefWords + Drop>(
             );
         }
         NextAction::Steps(instr) => step(script, tables, ready, decision, thread, instr, entry),
+        NextAction::Dies => reap(script, tables, ready, decision, thread, entry),
+        NextAction::Ends => end(script, tables, ready, decision, thread, entry),
+        NextAction::Buries(dfc) => bury(script, tables, ready, decision, thread, dfc, entry),
     }
 }
 

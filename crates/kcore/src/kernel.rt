@@ -12,7 +12,7 @@ ghost use Rattle.machine.specs.Task.{is_able};
 ghost use Rattle.machine.specs.History.{after, entry_by, entry_of, CanAct, IsLegal};
 ghost use Rattle.machine.specs.Run.{slot_actor};
 ghost use Rattle.machine_safe.specs.ReadyHolders.{AreHoldersReady};
-ghost use Rattle.machine_safe.specs.SafeReferences.{IsSafeReferences};
+ghost use Rattle.machine_safe.specs.Safe.{IsSafe};
 ghost use Rattle.kernel_tables.specs.Noted.{AreKept};
 ghost use Rattle.ready_list.specs.Arrival.{AreQueuesOf};
 ghost use Rattle.sym_base.specs.declared.number.ObjNo.{ObjNo};
@@ -136,7 +136,7 @@ impl<W: RefWords + Drop> Kernel<W> {
         ensures script { self.new.script ≡ self.old.script }
         ensures room { self.new.room ≡ self.old.room }
         ensures entry { self.new.history ≡ self.old.history ++ entry_by self.old.script (after self.old.script self.old.history) (length self.old.history + 1) actor ∷ [] }
-        ensures safe { IsSafeReferences self.new.script self.new.history }
+        ensures safe { IsSafe self.new.script self.new.history }
         ensures holders { AreHoldersReady self.new.script self.new.history }
     {
         let at = self.history.as_slice().len();
@@ -163,7 +163,7 @@ impl<W: RefWords + Drop> Kernel<W> {
     pub fn history(&self) -> &[Entry]
         ensures entries { result.now ≡ self.now.history }
         ensures legal { IsLegal self.now.script self.now.history }
-        ensures safe { IsSafeReferences self.now.script self.now.history }
+        ensures safe { IsSafe self.now.script self.now.history }
         ensures holders { AreHoldersReady self.now.script self.now.history }
     {
         self.history.as_slice()
@@ -187,7 +187,7 @@ impl Kernel<PlainWords> {
         ensures script { self.new.script ≡ self.old.script }
         ensures room { self.new.room ≡ self.old.room }
         ensures entry { let S = after self.old.script self.old.history in self.new.history ≡ self.old.history ++ entry_by self.old.script S (length self.old.history + 1) (slot_actor S slot) ∷ [] }
-        ensures safe { IsSafeReferences self.new.script self.new.history }
+        ensures safe { IsSafe self.new.script self.new.history }
         ensures holders { AreHoldersReady self.new.script self.new.history }
     {
         let actor = slot_actor(&self.tables, &self.ready, slot);
@@ -201,7 +201,7 @@ impl Kernel<PlainWords> {
         ensures script { self.new.script ≡ self.old.script }
         ensures room { self.new.room ≡ self.old.room }
         ensures entry { self.new.history ≡ self.old.history ++ entry_by self.old.script (after self.old.script self.old.history) (length self.old.history + 1) (Actor.Thread t) ∷ [] }
-        ensures safe { IsSafeReferences self.new.script self.new.history }
+        ensures safe { IsSafe self.new.script self.new.history }
         ensures holders { AreHoldersReady self.new.script self.new.history }
     {
         self.go(Actor::Thread(t));

@@ -5,6 +5,7 @@ mod act;
 mod bodies;
 mod boot;
 mod boot_tables;
+mod deaths;
 mod interrupts;
 mod kernel;
 mod made;

@@ -1,2 +1,3 @@
 pub mod BornFew
 pub mod Capped
+pub mod DoomedHandles

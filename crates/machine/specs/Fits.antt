@@ -21,6 +21,7 @@ use Rattle.machine.specs.declared.request_move.RequestMove.TheVariants.{Begin, C
 use Rattle.state_rows.specs.declared.deferred.DeferredRows.{DeferredRows}
 use Rattle.state_rows.specs.Deferred.{queue_of}
 use Rattle.state_rows.specs.declared.requests.RequestRows.{RequestRows}
+use Rattle.state_rows.specs.declared.requests.Request.{Request}
 use Rattle.state_rows.specs.Requests.{request_at, is_pending}
 use Rattle.state_rows.specs.Nano.{suspend_count, holder_of, held_by}
 use Rattle.machine.specs.NanoMoves.{nano_thread}
@@ -32,10 +33,11 @@ use Rattle.machine.specs.declared.state.State.{State}
 use Rattle.machine.specs.Rows.{object_of, table_of, thread_of, owed_of}
 use Rattle.state_rows.specs.HandleSlots.{slot_at, free_index}
 use Rattle.machine.specs.References.{total}
+use Rattle.machine.specs.Holdings.{left_of, process_handles}
 use Rattle.machine.specs.Moves.{moved, tell}
 use Rattle.machine.specs.Task.{instructions_of, is_returning, served_queue}
 use Rattle.machine.specs.HeldIn.{owed_by}
-use Rattle.machine.specs.WellFormed.{IsAlive, IsAwaited, AreRows, Awaits, IsOwnerOf, times_logged, is_before_use, part_of, weight, IsSpent, is_spent}
+use Rattle.machine.specs.WellFormed.{IsAlive, IsAwaited, IsLiveThread, AreRows, Awaits, IsOwnerOf, times_logged, is_before_use, part_of, weight, IsSpent, is_spent}
 use Rattle.machine.specs.Choice.{priority_of}
 use Rattle.state_rows.specs.declared.locks.Locked.{Locked}
 use Rattle.state_rows.specs.declared.locks.Locked.TheVariants.{Waits}
@@ -57,6 +59,10 @@ pub record IsFreeSlot (S : State) (owner : ObjNo) (i : ℕ) : Type 0 where
 abbrev pub IsUnspent : State → ObjNo → Type 0
 IsUnspent S u = (row : ThreadRow) → thread_of S u ≡ Some row → is_spent row.stage ≡ false
 
+-- a thread that is live, if it is there
+abbrev pub IsLive : State → ObjNo → Type 0
+IsLive S u = (row : ThreadRow) → thread_of S u ≡ Some row → row.stage ≡ Live
+
 -- a thread that isn't cleaned and uses nothing, after its look or return, and owes no close of what it used
 pub record UsesNothing (S : State) (t : ObjNo) : Type 0 where
   pub row : ThreadRow
@@ -66,9 +72,9 @@ pub record UsesNothing (S : State) (t : ObjNo) : Type 0 where
   pub unspent : is_spent row.stage ≡ false
   pub paid : (o : ObjNo) → total (owed_by (Temp t) o) (owed_of S t) ≡ 0
 
--- this holder holds nothing, and may
+-- this holder holds nothing, and may: a process only while a thread of it isn't cleaned
 abbrev pub IsFree : State → Holder → Type 0
-IsFree S (InProcess p i) = (thread_of S p ≡ None) × IsFreeSlot S p i
+IsFree S (InProcess p i) = (thread_of S p ≡ None) × IsFreeSlot S p i × (0 < total (left_of p) S.threads)
 IsFree S (InThread t i) = (is_some (thread_of S t) ≡ true) × IsFreeSlot S t i × IsUnspent S t
 IsFree S (Temp t) = UsesNothing S t
 IsFree S _ = ⊥
@@ -151,9 +157,16 @@ FitsRequests (SignalStatus t s code) r logons = IsAwaited r t s × (times_logged
 FitsRequests (DropAll t) r logons = t.0 < length r.signals
 FitsRequests (TakeSignal t) r logons = t.0 < length r.signals
 
--- A move in the rows of logons fits the state: what it names is there, and a logon is made with a status that is awaited and that no other has.
+-- a request begins, and a status is completed that no device has, only of a live thread
+abbrev pub IsOfLive : RequestMove → State → Type 0
+IsOfLive (Begin d t s) S = IsLiveThread S.threads t
+IsOfLive (SignalStatus t s code) S = IsLiveThread S.threads t
+IsOfLive _ S = Unit {0}
+
+-- A move in the rows of logons fits the state: what it names is there, and a logon is made by a live thread, on one that isn't cleaned, with a
+-- status that is awaited and that no other has.
 abbrev pub FitsLogons : LogonMove → State → Type 0
-FitsLogons (AddLogon t u s) S = (t.0 < length S.threads) × IsAwaited S.requests u s × (times_logged S.logons u s ≡ 0)
+FitsLogons (AddLogon t u s) S = (t.0 < length S.threads) × IsAwaited S.requests u s × (times_logged S.logons u s ≡ 0) × IsLiveThread S.threads u × IsUnspent S t
 FitsLogons (RemoveLogon t u s) S = (t.0 < length S.threads) × (u.0 < length S.threads) × (s < 16)
 FitsLogons (DropLogons u) S = u.0 < length S.threads
 
@@ -174,10 +187,11 @@ pub record MayJoin (S : State) (o t : ObjNo) : Type 0 where
   pub nowhere : WaitsNowhere S t
   pub paid : owed_of S t ≡ []
 
--- a thread that may lock an object, with the answer that the object's owner gives: it owes nothing
+-- a thread that may lock an object, with the answer that the object's owner gives: it is live and owes nothing
 pub record MayLock (S : State) (o t : ObjNo) (locked : Locked) : Type 0 where
   pub alive : IsAlive (object_of S o)
   pub thread : is_some (thread_of S t) ≡ true
+  pub live : IsLive S t
   pub paid : owed_of S t ≡ []
   pub answer : locked ≡ lock_answer (owner_at S.locks o) t
   pub joins : locked ≡ Waits → MayJoin S o t
@@ -222,9 +236,14 @@ FitsLocks t (Leave u) S = is_some (thread_of S u) ≡ true
 FitsLocks t (WaitOn o u) S = MayWaitOn S o u
 FitsLocks t (Signal o signalled) S = MaySignal S o signalled
 
--- a thread that may be cleaned: it has given up all, and holds no fast mutex
+-- a thread that may be cleaned: it has given up all, also what its process has where nobody else of that is left, and holds no fast mutex
 abbrev pub MayClean : State → ObjNo → Type 0
-MayClean S u = (held_by S.nano u ≡ None) × ((row : ThreadRow) → thread_of S u ≡ Some row → IsSpent S.handles u.0 row)
+MayClean S u = (held_by S.nano u ≡ None) × ((row : ThreadRow) → thread_of S u ≡ Some row → IsSpent S.handles u.0 row) × ((row : ThreadRow) → thread_of S u ≡ Some row → process_handles S u row.process ≡ [])
+
+-- a thread that awaits nothing: no device has a request of it, and it made no logon
+pub record AwaitsNothing (S : State) (u : ObjNo) : Type 0 where
+  pub requests : (d : ℕ) (request : Request) → request_at S.requests d ≡ Some request → request.thread.0 ≡ u.0 → ⊥
+  pub logons : (s : ℕ) → times_logged S.logons u s ≡ 0
 
 -- a thread whose death is at this stage
 pub record IsAtStage (S : State) (u : ObjNo) (stage : Stage) : Type 0 where
@@ -238,11 +257,11 @@ pub record MayOweMore (S : State) (t : ObjNo) : Type 0 where
   pub going : is_returning (part_of (thread_of S t)) ≡ false
 
 -- A move in the row of a thread that dies, in an action of thread t, fits the state: who is doomed is live, stands among no waiters and holds no
--- fast mutex; who is cleaned is doomed, and has given up all; who is buried is cleaned.
+-- fast mutex, and awaits nothing; who is cleaned is the doomed thread itself, and has given up all; who is buried is cleaned.
 abbrev pub FitsDeath : ObjNo → DeathMove → State → Type 0
 FitsDeath t (Note u exit) S = Unit {0}
-FitsDeath t (Doom u exit) S = IsAtStage S u Live × (held_by S.nano u ≡ None) × WaitsNowhere S u
-FitsDeath t (Clean u) S = IsAtStage S u Doomed × MayClean S u
+FitsDeath t (Doom u exit) S = IsAtStage S u Live × (held_by S.nano u ≡ None) × WaitsNowhere S u × AwaitsNothing S u
+FitsDeath t (Clean u) S = IsAtStage S u Doomed × MayClean S u × (u ≡ t)
 FitsDeath t (Bury u) S = IsAtStage S u Cleaned × MayOweMore S t
 
 -- A move in an action of thread t fits the state. What is owed is paid by an action of its own.
@@ -255,12 +274,12 @@ FitsMove script t (Miss o) S = Unit {0}
 FitsMove script t (GoOn u part) S = MayGoOn script S u (Some part)
 FitsMove script t (Write u x value) S = x < 8
 FitsMove script t (Advance u) S = (u ≡ t) × IsAtInstruction script S u
-FitsMove script t (Wait u what) S = (held_by S.nano u ≡ None) × WaitsNowhere S u × IsUnspent S u
+FitsMove script t (Wait u what) S = (held_by S.nano u ≡ None) × WaitsNowhere S u × IsLive S u
 FitsMove script t (Wake u) S = WaitsNowhere S u
 FitsMove script t (SetPriority u priority) S = priority ≤ 63
 FitsMove script t (Nano m) S = (is_some (thread_of S (nano_thread m)) ≡ true) × FitsNano m S
 FitsMove script t (Deferred m) S = FitsDeferred m S.deferred
-FitsMove script t (Requests m) S = FitsRequests m S.requests S.logons
+FitsMove script t (Requests m) S = FitsRequests m S.requests S.logons × IsOfLive m S
 FitsMove script t (Locks m) S = FitsLocks t m S
 FitsMove script t (Logons m) S = FitsLogons m S
 FitsMove script t (Death m) S = FitsDeath t m S
@@ -272,7 +291,7 @@ abbrev pub EachFits : Script → ObjNo → List Move → State → Type 0
 EachFits script t [] S = Unit {0}
 EachFits script t (m ∷ ms) S = FitsMove script t m S × EachFits script t ms (moved t m S)
 
--- the most effects that a move tells
+-- the most effects that a move tells; a cleaning counts as all that an entry may tell, since nothing else is told with it
 abbrev pub nano_most : NanoMove → ℕ
 nano_most (Take t f) = 1
 nano_most (Give t f) = 1
@@ -291,6 +310,7 @@ lock_most _ = 0
 
 abbrev pub death_most : DeathMove → ℕ
 death_most (Doom u exit) = 1
+death_most (Clean u) = 4
 death_most (Bury u) = 1
 death_most _ = 0
 

@@ -14,7 +14,7 @@ use Rattle.machine.specs.declared.holding.Holding.{Holding}
 use Rattle.machine.specs.declared.holding.Holding.TheVariants.{Mutex, Use, Handle, Logon}
 use Rattle.machine.specs.declared.state.State.{State}
 use Rattle.machine.specs.References.{total}
-use Rattle.machine.specs.Rows.{table_of}
+use Rattle.machine.specs.Rows.{table_of, thread_of}
 use Rattle.machine.specs.LogonMoves.{logons_on}
 use Rattle.machine.specs.Moves.{use_of}
 
@@ -59,9 +59,9 @@ left_of p (Some row) = if row.process.0 == p.0 then stage_left row.stage else 0
 abbrev pub has_one_left : State → ObjNo → Bool
 has_one_left S p = total (left_of p) S.threads == 1
 
--- the handles of its process are given up by the only thread of it that isn't cleaned yet
-abbrev pub process_handles : State → ObjNo → List Holding
-process_handles S p = if has_one_left S p then held_handles (InProcess p) 0 (table_of S p) else []
+-- the handles of its process are given up by a thread where no other thread of it is left
+abbrev pub process_handles : State → ObjNo → ObjNo → List Holding
+process_handles S t p = if total (left_of p) S.threads == left_of p (thread_of S t) then held_handles (InProcess p) 0 (table_of S p) else []
 
 -- the logons on it, in order of making
 abbrev pub held_logons : State → ObjNo → List Holding
@@ -84,5 +84,5 @@ holdings S t row =
     held_mutexes S t
     ++ held_use row.uses
     ++ held_handles (InThread t) 0 (table_of S t)
-    ++ process_handles S row.process
+    ++ process_handles S t row.process
     ++ held_logons S t

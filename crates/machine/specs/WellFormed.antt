@@ -168,6 +168,18 @@ pub record AreLogons (count : ℕ) (r : RequestRows) (logons : List (List (ObjNo
   pub once : (u : ObjNo) (s : ℕ) → times_logged logons u s ≤ 1
   pub waits : (u : ObjNo) (s : ℕ) → 0 < times_logged logons u s → IsAwaited r u s
 
+-- a thread that is live
+pub record IsLiveThread (threads : List (Option ThreadRow)) (u : ObjNo) : Type 0 where
+  pub row : ThreadRow
+  pub is : slice_index_or threads u.0 None ≡ Some row
+  pub live : row.stage ≡ Live
+
+-- only live threads await something: a device's request is a live thread's, a live thread made each logon, and one that waits for an object is live
+pub record AreAwaited (threads : List (Option ThreadRow)) (r : RequestRows) (made : List (List (ObjNo × ℕ))) : Type 0 where
+  pub requests : (d : ℕ) (request : Request) → request_at r d ≡ Some request → IsLiveThread threads request.thread
+  pub logons : (u : ObjNo) (s : ℕ) → 0 < times_logged made u s → IsLiveThread threads u
+  pub waits : (k : ℕ) (row : ThreadRow) (o : ObjNo) → slice_index_or threads k None ≡ Some row → row.waiting ≡ waiting.Lock o → row.stage ≡ Live
+
 -- a thread that waits for an object
 pub record Awaits (threads : List (Option ThreadRow)) (t o : ObjNo) : Type 0 where
   pub row : ThreadRow
@@ -276,6 +288,7 @@ pub record AreRows (script : Script) (S : State) : Type 0 where
   pub memories : AreMemories S.threads S.memories
   pub logons : AreLogons (length S.threads) S.requests S.logons
   pub spent : AreSpent S.objects S.handles S.threads
+  pub awaited : AreAwaited S.threads S.requests S.logons
   pub lives : AreLives S
 
 pub record IsWellFormed (script : Script) (S : State) : Type 0 where

@@ -47,7 +47,7 @@ same_message : (m n : MsgNo) → m.0 ≡ n.0 → m ≡ n
 same_message m n e = let named : ℕ → MsgNo = λ k. record { 0 = k } in ap named e
 
 -- holders that are counted as one are one
-is_holder_is : (h g : Holder) → is_holder h g ≡ true → h ≡ g
+pub is_holder_is : (h g : Holder) → is_holder h g ≡ true → h ≡ g
 is_holder_is (InProcess p i) (InProcess q j) e =
     let parts = and_parts (p.0 == q.0) (i == j) e in
     ap (λ (x : ObjNo). InProcess x i) (same_object p q (eqb-true p.0 q.0 parts.0)) ∙ ap (InProcess q) (eqb-true i j parts.1)

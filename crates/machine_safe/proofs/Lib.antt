@@ -1,6 +1,9 @@
 pub mod Counts
+pub mod Deaths
 pub mod FindsToOpen
 pub mod Held
+pub mod LegalDeaths
+pub mod LegalSafety
 pub mod ReadyHolders
 pub mod Runs
 pub mod SafeHistories

@@ -1,6 +1,7 @@
-//! The law of references over whole histories.
+//! The laws of references and of deaths over whole histories.
 ghost use Rattle.script_types.specs.Source.{IsWellFormed};
 ghost use Rattle.machine.specs.History.{IsLegal};
+ghost use Rattle.machine_safe.specs.SafeDeaths.{IsSafeDeaths};
 ghost use Rattle.machine_safe.specs.SafeReferences.{IsSafeReferences};
 
 use entry_log::Entry;
@@ -8,10 +9,13 @@ use script_types::Script;
 
 /// In every legal history of a well-formed script an object dies exactly where its last reference goes, nobody
 /// opens it afterwards, and its row goes once, after its death. A reference is added only where its holder
-/// doesn't hold the object, and taken away only where it does. This call only states it, and changes
-/// nothing.
+/// doesn't hold the object, and taken away only where it does. And a thread is doomed, cleaned and buried once
+/// at most each, in this order; after its doom it takes no lock and gets no signal; as it is cleaned it has given
+/// all locks and all references of its own back; and then it never acts, and holds, owes and gets nothing. This
+/// call only states it, and changes nothing.
 pub fn legal_is_safe(script: &Script, history: &[Entry])
     requires valid { IsWellFormed script.now }
     requires legal { IsLegal script.now history.now }
     ensures safe { IsSafeReferences script.now history.now }
+    ensures deaths { IsSafeDeaths script.now history.now }
 {}

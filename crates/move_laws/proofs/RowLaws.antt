@@ -1,4 +1,5 @@
 -- What holds of rows, where one of them changes.
+pub mod Awaited
 pub mod Calls
 pub mod Declared
 pub mod Duties

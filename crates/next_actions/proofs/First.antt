@@ -1,23 +1,27 @@
 -- The first of what a doomed thread has.
-use Rattle.std.proofs.Common.{◌≡◌, ℕ, ◌+◌, List, [], ◌∷◌, ◌++◌, map, Option, Some, None, refl, ap, sym, ◌∙◌, append_assoc}
+use Rattle.std.proofs.Common.{◌≡◌, ℕ, ◌+◌, ◌==◌, Bool, true, false, if◌then◌else◌, List, [], ◌∷◌, ◌++◌, map, Option, Some, None, refl, ap, sym, ◌∙◌, append_assoc}
+use Rattle.std.proofs.lemmas.Bool.{eq-eqb}
 use Rattle.std.specs.Prelude.{option_map, slice_get}
 use Rattle.std.specs.List.{slice_index_or}
 use Rattle.sym_base.specs.declared.number.ObjNo.{ObjNo}
 use Rattle.entry_log.specs.declared.effect.Holder.{Holder}
-use Rattle.entry_log.specs.declared.effect.Holder.TheVariants.{InThread}
+use Rattle.entry_log.specs.declared.effect.Holder.TheVariants.{InProcess, InThread}
 use Rattle.state_rows.specs.declared.duty.Held.TheVariants as held
 use Rattle.state_rows.specs.declared.handle_slot.HandleSlot.{HandleSlot}
 use Rattle.state_rows.specs.declared.thread.ThreadRow.{ThreadRow}
 use Rattle.machine.specs.declared.holding.Holding.{Holding}
 use Rattle.machine.specs.declared.holding.Holding.TheVariants.{Mutex, Handle, Logon}
 use Rattle.machine.specs.declared.state.State.{State}
-use Rattle.machine.specs.Holdings.{held_slot, held_handles, first_here, first_used, held_use, use_held, held_of, held_mutexes, held_logons, process_handles, holdings}
+use Rattle.machine.specs.Holdings.{held_slot, held_handles, first_here, first_used, held_use, use_held, held_of, held_mutexes, held_logons, process_handles, holdings, left_of, stage_left, has_one_left}
 use Rattle.machine.specs.LogonMoves.{logons_on}
+use Rattle.machine.specs.References.{total}
+use Rattle.state_rows.specs.declared.thread.Stage.TheVariants.{Doomed}
 use Rattle.machine.specs.Moves.{use_of, use_of_row}
 use Rattle.machine.specs.Rows.{table_of, thread_of}
 use Rattle.machine.specs.Task.{dying_task}
 use Rattle.machine.specs.declared.task.Task.TheVariants.{GiveUp, Clean}
 use Rattle.next_actions.specs.FirstHolding.{first_of}
+use Rattle.next_actions.specs.NextActions.{has_any}
 
 -- the handle of a used slot
 abbrev handle_at : (ℕ → Holder) → ℕ × ObjNo → Holding
@@ -32,6 +36,15 @@ slot_first holder i (Some o) rest h = refl
 pub handles_first : (holder : ℕ → Holder) (i : ℕ) (slots : List HandleSlot) → slice_get (held_handles holder i slots) 0 ≡ option_map (λ (slot : ℕ × ObjNo). Handle (holder slot.0) slot.1) (first_used i slots)
 handles_first holder i [] = refl
 handles_first holder i (slot ∷ rest) = slot_first holder i slot.object rest (handles_first holder (i + 1) rest)
+
+-- a doomed thread is left of its process, so that it gives up the process's handles where it is the only one that is left
+one_left : (row : ThreadRow) → row.stage ≡ Doomed → left_of row.process (Some row) ≡ 1
+one_left row doomed = ap (λ (b : Bool). if b then stage_left row.stage else 0) (eq-eqb row.process.0 row.process.0 refl) ∙ ap stage_left doomed
+
+pub handles_of_last : (S : State) (t : ObjNo) (row : ThreadRow) → thread_of S t ≡ Some row → row.stage ≡ Doomed
+    → process_handles S t row.process ≡ (if has_one_left S row.process then held_handles (InProcess row.process) 0 (table_of S row.process) else [])
+handles_of_last S t row is doomed =
+    ap (λ (n : ℕ). if total (left_of row.process) S.threads == n then held_handles (InProcess row.process) 0 (table_of S row.process) else []) (ap (left_of row.process) is ∙ one_left row doomed)
 
 -- the first of two lists one behind the other
 pub first_here_of : {A : Type 0} (xs ys : List A) (x : A) → slice_get xs 0 ≡ Some x → slice_get (xs ++ ys) 0 ≡ Some x
@@ -54,10 +67,10 @@ first_of_parts [] (Some o) handles logons = refl
 first_of_parts (o ∷ mutexes) used handles logons = refl
 
 pub first_of_all : (S : State) (t : ObjNo) (row : ThreadRow) → thread_of S t ≡ Some row
-    → first_of (slice_get (held_of S t) 0) (slice_get (held_handles (InThread t) 0 (table_of S t) ++ process_handles S row.process) 0) ≡ slice_get (holdings S t row) 0
+    → first_of (slice_get (held_of S t) 0) (slice_get (held_handles (InThread t) 0 (table_of S t) ++ process_handles S t row.process) 0) ≡ slice_get (holdings S t row) 0
 first_of_all S t row is =
     let own = held_handles (InThread t) 0 (table_of S t) in
-    let shared = process_handles S row.process in
+    let shared = process_handles S t row.process in
     let mutexes = slice_index_or S.mutexes t.0 [] in
     let logons = logons_on S.logons t in
     let used : use_of S t ≡ row.uses = ap use_of_row is in
@@ -73,3 +86,12 @@ dying_first (x ∷ has) what is = cc
 pub dying_last : (has : List Holding) → slice_get has 0 ≡ None → dying_task has ≡ Clean
 dying_last [] none = refl
 dying_last (x ∷ has) none = absurd (cc)
+
+-- and whether it has anything
+pub some_first : (has : List Holding) (what : Holding) → slice_get has 0 ≡ Some what → has_any has ≡ true
+some_first [] what is = absurd (cc)
+some_first (x ∷ has) what is = refl
+
+pub none_first : (has : List Holding) → slice_get has 0 ≡ None → has_any has ≡ false
+none_first [] none = refl
+none_first (x ∷ has) none = absurd (cc)

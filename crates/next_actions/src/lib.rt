@@ -10,4 +10,5 @@ mod tasks;
 
 pub use bodies::{leave_queue, op_moves, ops_of, step_of_body};
 pub use immediate::immediate_action;
-pub use tasks::{NextAction, decide_action, next_action};
+pub use reaping::{bury, reap};
+pub use tasks::{NextAction, decide_action, next_action, pay};

@@ -6,17 +6,20 @@ ghost use Rattle.machine.specs.declared.moves.Move.TheVariants as move;
 ghost use Rattle.machine.specs.Holdings.{held_handles, holdings, process_handles};
 ghost use Rattle.machine.specs.Reaping.{free_mutex, tell_logon, give_up, clean, bury};
 ghost use Rattle.machine.specs.Rows.{table_of, thread_of};
+ghost use Rattle.machine.specs.Steps.{decision_of_row, decision_of_task};
+ghost use Rattle.machine.specs.Task.{dying_task};
 ghost use Rattle.next_actions.specs.FirstHolding.{first_of};
+ghost use Rattle.next_actions.specs.NextActions.{dying_at, has_any, holdings_at};
 
 use crate::bodies::is_woken;
-use decisions::{add_call, reason_of};
+use decisions::{add_call, nothing, reason_of};
 use entry_log::{Holder, Step};
 use machine::{
     DeathMove, Decision, DeferredMove, Holding, LockMove, LogonMove, Move, RequestMove, ThreadRow,
 };
 use readings::{Reads, burial_of};
 use script_types::Script;
-use state_rows::Held;
+use state_rows::{Held, Stage};
 use sym_base::{ObjNo, ThreadNo};
 
 /// The first handle of a thread's own table.
@@ -29,12 +32,15 @@ fn own_handle<R: Reads>(reads: &R, thread: ThreadNo) -> Option<Holding>
     Some(Holding::Handle(Holder::InThread(thread, index), object))
 }
 
-/// The first handle of a process's table, for the only thread of it that isn't cleaned yet.
-#[tactic(auto, using(crate::proofs::First::handles_first))]
-fn process_handle<R: Reads>(reads: &R, process: ObjNo) -> Option<Holding>
-    requires { R.is_readable reads.now }
-    ensures { result ≡ slice_get (process_handles (R.state reads.now) process) 0 }
+/// The first handle of the table of a thread's process, where the thread is the only one of it that isn't cleaned yet.
+#[tactic(auto, using(crate::proofs::First::handles_first, crate::proofs::First::handles_of_last))]
+fn process_handle<R: Reads>(reads: &R, thread: ThreadNo, row: &ThreadRow) -> Option<Holding>
+    requires readable { R.is_readable reads.now }
+    requires row { thread_of (R.state reads.now) thread ≡ Some row.now }
+    requires doomed { row.now.stage ≡ Stage.Doomed }
+    ensures { result ≡ slice_get (process_handles (R.state reads.now) thread row.now.process) 0 }
 {
+    let process = row.process;
     if !reads.has_one_left(process) {
         return None;
     }
@@ -42,15 +48,17 @@ fn process_handle<R: Reads>(reads: &R, process: ObjNo) -> Option<Holding>
     Some(Holding::Handle(Holder::InProcess(process, index), object))
 }
 
-/// The first handle that the thread of a row gives up: of its own table, and then of its process's.
+/// The first handle that the doomed thread of a row gives up: of its own table, and then of its process's.
 #[tactic(auto, using(crate::proofs::First::first_here_of, crate::proofs::First::first_behind))]
 fn first_handle<R: Reads>(reads: &R, thread: ThreadNo, row: &ThreadRow) -> Option<Holding>
-    requires { R.is_readable reads.now }
-    ensures { let S = R.state reads.now in result ≡ slice_get (held_handles (InThread thread) 0 (table_of S thread) ++ process_handles S row.now.process) 0 }
+    requires readable { R.is_readable reads.now }
+    requires row { thread_of (R.state reads.now) thread ≡ Some row.now }
+    requires doomed { row.now.stage ≡ Stage.Doomed }
+    ensures { let S = R.state reads.now in result ≡ slice_get (held_handles (InThread thread) 0 (table_of S thread) ++ process_handles S thread row.now.process) 0 }
 {
     match own_handle(reads, thread) {
         Some(handle) => Some(handle),
-        None => process_handle(reads, row.process),
+        None => process_handle(reads, thread, row),
     }
 }
 
@@ -67,11 +75,12 @@ fn first_of(held: Option<Held>, handle: Option<Holding>) -> Option<Holding>
     }
 }
 
-/// The first of what the thread of a row still has.
+/// The first of what the doomed thread of a row still has.
 #[tactic(auto, using(crate::proofs::First::first_of_all))]
-pub fn first_holding<R: Reads>(reads: &R, thread: ThreadNo, row: &ThreadRow) -> Option<Holding>
+fn first_holding<R: Reads>(reads: &R, thread: ThreadNo, row: &ThreadRow) -> Option<Holding>
     requires readable { R.is_readable reads.now }
     requires row { thread_of (R.state reads.now) thread ≡ Some row.now }
+    requires doomed { row.now.stage ≡ Stage.Doomed }
     ensures { result ≡ slice_get (holdings (R.state reads.now) thread row.now) 0 }
 {
     first_of(reads.first_held(thread), first_handle(reads, thread, row))
@@ -126,7 +135,7 @@ fn tell_logon<R: Reads>(
 }
 
 /// One thing goes that the thread of a row has.
-pub fn give_up<R: Reads>(
+fn give_up<R: Reads>(
     decision: &mut Decision,
     reads: &R,
     thread: ThreadNo,
@@ -149,7 +158,7 @@ pub fn give_up<R: Reads>(
 }
 
 /// Nothing is left: the thread of a row is cleaned, and its burial joins the supervisor's queue.
-pub fn clean<R: Reads>(
+fn clean<R: Reads>(
     decision: &mut Decision,
     script: &Script,
     reads: &R,
@@ -164,6 +173,49 @@ pub fn clean<R: Reads>(
     let burial = burial_of(script, row.role);
     decision.moves.push(add_call(reads, burial));
     decision.answer = None;
+}
+
+/// What the doomed thread of a row does that owes nothing: it gives up the first of what it has, and at last it is cleaned.
+/// Whether it gave something up.
+#[tactic(auto, using(crate::proofs::First::dying_first, crate::proofs::First::dying_last, crate::proofs::First::some_first, crate::proofs::First::none_first))]
+fn reap_row<R: Reads>(
+    decision: &mut Decision,
+    script: &Script,
+    reads: &R,
+    thread: ThreadNo,
+    row: &ThreadRow,
+) -> bool
+    requires readable { R.is_readable reads.now }
+    requires row { thread_of (R.state reads.now) thread ≡ Some row.now }
+    ensures decided { let S = R.state reads.now in decision.new ≡ decision_of_task script.now S thread row.now (dying_task (holdings S thread row.now)) }
+    ensures given { result ≡ has_any (holdings (R.state reads.now) thread row.now) }
+{
+    match first_holding(reads, thread, row) {
+        Some(what) => {
+            give_up(decision, reads, thread, row, what);
+            true
+        }
+        None => {
+            clean(decision, script, reads, thread, row);
+            false
+        }
+    }
+}
+
+/// What a doomed thread does that owes nothing: it gives up the first of what it has, and at last it is cleaned. Whether it
+/// gave something up.
+pub fn reap<R: Reads>(decision: &mut Decision, script: &Script, reads: &R, thread: ThreadNo) -> bool
+    requires readable { R.is_readable reads.now }
+    ensures decided { let S = R.state reads.now in decision.new ≡ decision_of_row script.now S thread (thread_of S thread) (dying_at S thread (thread_of S thread)) }
+    ensures given { let S = R.state reads.now in result ≡ has_any (holdings_at S thread (thread_of S thread)) }
+{
+    match reads.thread(thread) {
+        Some(row) => reap_row(decision, script, reads, thread, row),
+        None => {
+            nothing(decision);
+            false
+        }
+    }
 }
 
 /// The call leaves its queue, and the thread is buried whose burial it is.

@@ -5,17 +5,19 @@ ghost use Rattle.state_rows.specs.Nano.{is_protected};
 ghost use Rattle.machine.specs.Bodies.{decision_by};
 ghost use Rattle.machine.specs.CriticalSection.{flush};
 ghost use Rattle.machine.specs.Dooms.{end};
-ghost use Rattle.machine.specs.Holdings.{holdings};
 ghost use Rattle.machine.specs.Rows.{first_owed, thread_of};
 ghost use Rattle.machine.specs.Steps.{pay_step, pay, decision_of_task, decision_of_row, decision_of};
-ghost use Rattle.machine.specs.Task.{call_task, dying_task, task_of_row, task_of, is_able};
-ghost use Rattle.next_actions.specs.NextActions.{IsStepOf, decided_by};
+ghost use Rattle.machine.specs.Task.{call_task, end_task, task_of_row, task_of, is_able};
+ghost use Rattle.next_actions.specs.NextActions.{IsStepOf, Suits, SuitsRow, decided_by};
 ghost use Rattle.next_actions.specs.Planned.{planned};
 ghost use Rattle.next_actions.specs.TaskParts.{task_alive, task_at_stage, task_behind_return};
 ghost use Rattle.sym_base.specs.declared.number.ObjNo.{ObjNo};
+ghost use Rattle.script_types.specs.declared.script.Script.{Script};
+ghost use Rattle.machine.specs.declared.state.State.{State};
+ghost use Rattle.state_rows.specs.declared.thread.Stage.TheVariants.{Live};
 ghost use Rattle.state_rows.specs.declared.thread.ThreadRow.{ThreadRow};
 
-use crate::reaping::{bury, clean, first_holding, give_up};
+use crate::reaping::{bury, reap};
 use decisions::{decide_step, end, flush, nothing, return_of};
 use entry_log::Step;
 use machine::{Body, Decision, Move, Owed, ThreadRow};
@@ -29,12 +31,18 @@ const FIRST_BURIAL: u8 = 64;
 
 /// What an able thread does next.
 pub enum NextAction<'a> {
-    /// What was decided: a return, a payment, or what it gives up at its list's end.
+    /// What was decided: a return, a payment, or what protects it and is given up at its list's end.
     Decided,
     /// A body of a deferred function call runs.
     Runs(Body),
     /// The next step of this instruction.
     Steps(&'a Instr),
+    /// It is doomed and owes nothing: it gives up the first of what it has, or is cleaned.
+    Dies,
+    /// It is at its list's end, and nothing protects it: it ends.
+    Ends,
+    /// It buries a thread, whose burial this call is.
+    Buries(u8),
 }
 
 /// What is told of the payment of an item that a thread owes.
@@ -48,7 +56,7 @@ fn pay_step(what: Owed) -> Step
 }
 
 /// The payment of one item that a thread owes.
-fn pay(decision: &mut Decision, what: Owed)
+pub fn pay(decision: &mut Decision, what: Owed)
     ensures { decision.new ≡ pay what }
 {
     decision.step = pay_step(what);
@@ -57,54 +65,30 @@ fn pay(decision: &mut Decision, what: Owed)
     decision.answer = None;
 }
 
-/// What a thread does at its list's end: it gives up what protects it, if it is protected, and else it ends.
-fn end_of_list<R: Reads>(decision: &mut Decision, reads: &R, thread: ThreadNo)
+/// What a live thread does at its list's end: it gives up what protects it, if it is protected, and else it ends.
+fn end_of_list<'a, R: Reads>(decision: &mut Decision, reads: &R, thread: ThreadNo) -> NextAction<'a>
     requires { R.is_readable reads.now }
-    ensures { let S = R.state reads.now in decision.new ≡ (if is_protected S.nano thread then flush S thread else end thread) }
+    ensures decided { (script : Script) (row : ThreadRow) → let S = R.state reads.now in decided_by script thread S (Some row) decision.new result ≡ decision_of_row script S thread (Some row) (Some (end_task (is_protected S.nano thread))) }
+    ensures step { IsStepOf (Some (end_task (is_protected (R.state reads.now).nano thread))) result }
+    ensures suits { (row : ThreadRow) → row.stage ≡ Live → SuitsRow (R.state reads.now) thread row result }
 {
     if reads.is_protected(thread) {
         flush(decision, reads, thread);
+        NextAction::Decided
     } else {
-        end(decision, thread);
-    }
-}
-
-/// What a doomed thread does: it gives up the first of what it has, and at last it is cleaned.
-#[tactic(auto, using(crate::proofs::First::dying_first, crate::proofs::First::dying_last))]
-fn die<R: Reads>(
-    decision: &mut Decision,
-    script: &Script,
-    reads: &R,
-    thread: ThreadNo,
-    row: &ThreadRow,
-)
-    requires readable { R.is_readable reads.now }
-    requires row { thread_of (R.state reads.now) thread ≡ Some row.now }
-    ensures { let S = R.state reads.now in decision.new ≡ decision_of_task script.now S thread row.now (dying_task (holdings S thread row.now)) }
-{
-    match first_holding(reads, thread, row) {
-        Some(what) => give_up(decision, reads, thread, row, what),
-        None => clean(decision, script, reads, thread, row),
+        NextAction::Ends
     }
 }
 
 /// What a thread does that serves a queue: this call of it runs, or buries a thread.
-fn serve<'a, R: Reads>(
-    decision: &mut Decision,
-    script: &Script,
-    reads: &R,
-    call: Option<u8>,
-) -> NextAction<'a>
-    requires { R.is_readable reads.now }
-    ensures decided { (t : ObjNo) (row : ThreadRow) → let S = R.state reads.now in decided_by script.now t S (Some row) decision.new result ≡ decision_of_row script.now S t (Some row) (option_map call_task call) }
+fn serve<'a>(decision: &mut Decision, call: Option<u8>) -> NextAction<'a>
+    ensures decided { (script : Script) (S : State) (t : ObjNo) (row : ThreadRow) → decided_by script t S (Some row) decision.new result ≡ decision_of_row script S t (Some row) (option_map call_task call) }
     ensures step { IsStepOf (option_map call_task call) result }
+    ensures suits { (S : State) (t : ObjNo) (row : ThreadRow) → SuitsRow S t row result }
 {
     match call {
         Some(dfc) if dfc < FIRST_BURIAL => NextAction::Runs(Body::Deferred(dfc)),
-        Some(dfc) => {
-            bury(decision, script, reads, dfc);
-            NextAction::Decided
-        }
+        Some(dfc) => NextAction::Buries(dfc),
         None => {
             nothing(decision);
             NextAction::Decided
@@ -124,16 +108,14 @@ fn live<'a, R: Reads>(
     requires { R.is_readable reads.now }
     ensures decided { let S = R.state reads.now in decided_by script.now thread S (Some row.now) decision.new result ≡ decision_of_row script.now S thread (Some row.now) (task_alive S thread row.now (option_copied instr.entry)) }
     ensures step { IsStepOf (task_alive (R.state reads.now) thread row.now (option_copied instr.entry)) result }
+    ensures suits { row.now.stage ≡ Live → SuitsRow (R.state reads.now) thread row.now result }
 {
     if serves_queue(row.role) {
-        return serve(decision, script, reads, next_call(reads, row.role));
+        return serve(decision, next_call(reads, row.role));
     }
     match instr {
         Some(instr) => NextAction::Steps(instr),
-        None => {
-            end_of_list(decision, reads, thread);
-            NextAction::Decided
-        }
+        None => end_of_list(decision, reads, thread),
     }
 }
 
@@ -150,13 +132,11 @@ fn run_or_step<'a, R: Reads>(
     requires row { thread_of (R.state reads.now) thread ≡ Some row.now }
     ensures decided { let S = R.state reads.now in decided_by script.now thread S (Some row.now) decision.new result ≡ decision_of_row script.now S thread (Some row.now) (task_at_stage S thread row.now (option_copied instr.entry)) }
     ensures step { IsStepOf (task_at_stage (R.state reads.now) thread row.now (option_copied instr.entry)) result }
+    ensures suits { SuitsRow (R.state reads.now) thread row.now result }
 {
     match row.stage {
         Stage::Live => live(decision, script, reads, thread, row, instr),
-        Stage::Doomed => {
-            die(decision, script, reads, thread, row);
-            NextAction::Decided
-        }
+        Stage::Doomed => NextAction::Dies,
         Stage::Cleaned | Stage::Buried => {
             nothing(decision);
             NextAction::Decided
@@ -177,6 +157,7 @@ fn pay_or_step<'a, R: Reads>(
     requires row { thread_of (R.state reads.now) thread ≡ Some row.now }
     ensures decided { let S = R.state reads.now in decided_by script.now thread S (Some row.now) decision.new result ≡ decision_of_row script.now S thread (Some row.now) (task_behind_return S thread row.now (option_copied instr.entry)) }
     ensures step { IsStepOf (task_behind_return (R.state reads.now) thread row.now (option_copied instr.entry)) result }
+    ensures suits { SuitsRow (R.state reads.now) thread row.now result }
 {
     if let Some(what) = reads.first_owed(thread) {
         pay(decision, what);
@@ -197,6 +178,7 @@ fn action_of_row<'a, R: Reads>(
     requires row { thread_of (R.state reads.now) thread ≡ Some row.now }
     ensures decided { let S = R.state reads.now in decided_by script.now thread S (Some row.now) decision.new result ≡ decision_of_row script.now S thread (Some row.now) (task_of_row script.now S thread (Some row.now)) }
     ensures step { let S = R.state reads.now in IsStepOf (task_of_row script.now S thread (Some row.now)) result }
+    ensures suits { Suits script.now (R.state reads.now) thread (Some row.now) result }
 {
     let instr = instruction(script, row);
     match instr {
@@ -208,8 +190,8 @@ fn action_of_row<'a, R: Reads>(
     }
 }
 
-/// What an able thread does next: what was decided, a body that runs, or the next step of its instruction, which
-/// `decide_step` decides.
+/// What an able thread does next: what was decided, a body that runs, the next step of its instruction, which
+/// `decide_step` decides, or its death, which `reap` and `end` decide, or a burial, which `bury` does.
 pub fn next_action<'a, R: Reads>(
     decision: &mut Decision,
     script: &'a Script,
@@ -220,6 +202,7 @@ pub fn next_action<'a, R: Reads>(
     requires able { IsTrue (is_able script.now (R.state reads.now) thread) }
     ensures decided { let S = R.state reads.now in decided_by script.now thread S (thread_of S thread) decision.new result ≡ decision_of script.now S thread }
     ensures step { let S = R.state reads.now in IsStepOf (task_of script.now S thread) result }
+    ensures suits { let S = R.state reads.now in Suits script.now S thread (thread_of S thread) result }
 {
     match reads.thread(thread) {
         Some(row) => action_of_row(decision, script, reads, thread, row),
@@ -248,6 +231,18 @@ fn decide_able<R: Reads>(
         NextAction::Runs(body) => Some(body),
         NextAction::Steps(instr) => {
             decide_step(decision, script, reads, thread, instr);
+            None
+        }
+        NextAction::Dies => {
+            reap(decision, script, reads, thread);
+            None
+        }
+        NextAction::Ends => {
+            end(decision, thread);
+            None
+        }
+        NextAction::Buries(dfc) => {
+            bury(decision, script, reads, dfc);
             None
         }
     }

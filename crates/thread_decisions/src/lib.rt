@@ -18,7 +18,7 @@ pub use decide::{
     answer, answer_after, answer_at_once, answer_handle, give_handle, go_on, nothing, refuse,
     refuse_holder, wait_at, wait_for,
 };
-pub use dooms::end;
+pub use dooms::{doom, end, plain_exit};
 pub use exit_calls::{exit_do, exittype_step, kill_step, panic_step, terminate_step};
 pub use fast_mutex::{flock_step, funlock_do};
 pub use fast_semaphore::{fssignal_do, fswait_step, signal_move};

@@ -8,7 +8,7 @@ use Rattle.state_rows.specs.RequestChanges.{new_rows}
 use Rattle.machine.specs.WellFormed.{AreRequests}
 use Rattle.move_laws.proofs.Lists.Copies.{copy_at}
 
-no_request : (n : ℕ) (d : ℕ) (request : Request) → request_at (new_rows n DEVICES) d ≡ Some request → ⊥
+pub no_request : (n : ℕ) (d : ℕ) (request : Request) → request_at (new_rows n DEVICES) d ≡ Some request → ⊥
 no_request n d request is = let none = copy_at {A = Option Request} None DEVICES d in cc
 
 pub requests-boot : (n : ℕ) → AreRequests n (new_rows n DEVICES)

@@ -24,11 +24,11 @@ use Rattle.machine_laws.proofs.AtBoot.BootLinks.{each_linked, linked_at}
 use Rattle.machine_laws.proofs.AtBoot.BootLocks.{locks-boot, memories-boot, nothing_at}
 use Rattle.machine_laws.proofs.AtBoot.BootNano.{synchronized-boot}
 use Rattle.machine_laws.proofs.AtBoot.BootReady.{ready-boot}
-use Rattle.machine_laws.proofs.AtBoot.BootRequests.{requests-boot}
+use Rattle.machine_laws.proofs.AtBoot.BootRequests.{no_request, requests-boot}
 use Rattle.machine_laws.proofs.AtBoot.BootServers.{servers-boot}
 use Rattle.machine.proofs.BornFew.{born_few}
 use Rattle.machine_laws.proofs.AtBoot.Born.{IsNewThread, EachBorn, each_born, born_role, born_row}
-use Rattle.move_laws.proofs.RowLaws.Logons.{logons-boot}
+use Rattle.move_laws.proofs.RowLaws.Logons.{logons-boot, none_logged}
 use Rattle.move_laws.proofs.Lists.Copies.{copy_at}
 use Rattle.move_laws.proofs.References.Same.{same_other}
 
@@ -147,6 +147,11 @@ rows-boot script valid =
       spent = record {
         rows = λ k row is after. let new = born_row script (length bs) bs k row each is in let no : is_spent row.stage ≡ false = ap is_spent new.live in absurd (cc);
         unlinked = λ k row is dead. let none = born_dead script (length bs) bs k each in absurd (omega arith);
+      };
+      awaited = record {
+        requests = λ d request is. absurd (no_request (length bs) d request is);
+        logons = λ u s some. let none = none_logged u s bs in absurd (omega arith);
+        waits = λ k row o is waits. (born_row script (length bs) bs k row each is).live;
       };
       lives = record {
         alive = λ o c. elim (cases_lt o.0 (length bs)) [

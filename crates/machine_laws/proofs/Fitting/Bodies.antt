@@ -112,7 +112,7 @@ light-complete : (script : Script) (S : State) (t : ObjNo) (d : ℕ) (code : ℤ
 light-complete script S t d code None rows is = no_moves script S t 1
 light-complete script S t d code (Some request) rows is =
     light-then script S t (move.Requests (Complete d request.thread request.status code) ∷ []) _ 1 0 1 (omega arith)
-    (record { each = ((inside S.requests.devices d request is, is), tt); told = omega arith; light = refl })
+    (record { each = (((inside S.requests.devices d request is, is), tt), tt); told = omega arith; light = refl })
     (light-end script S _ t request.thread request.status (thread_of S request.thread) rows refl refl)
 
 -- an operation

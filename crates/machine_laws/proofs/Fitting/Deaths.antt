@@ -1,5 +1,5 @@
 -- The steps by which threads die, and those that tell of it: `kill`, `terminate`, `panic`, `exittype`, `logon` and `exit`.
-use Rattle.std.proofs.Common.{◌≡◌, inl, inr, ℕ, ℤ, ◌<◌, ◌≤◌, List, length, get_or, set, arith, refl, ap, ◌∙◌, Option, Some, None, false}
+use Rattle.std.proofs.Common.{◌≡◌, inl, inr, ℕ, ℤ, ◌<◌, ◌≤◌, List, length, get_or, set, arith, refl, ap, ◌∙◌, Option, Some, None, false, subst}
 use Rattle.std.specs.Prelude.{pos, [], ◌∷◌}
 use Rattle.std.specs.Ordering.{int_eq}
 use Rattle.std.proofs.lemmas.Bool.{cases_lt}
@@ -40,13 +40,13 @@ use Rattle.machine.specs.Moves.{moved}
 use Rattle.machine.specs.Rows.{thread_of}
 use Rattle.machine.specs.Task.{is_returning}
 use Rattle.machine.specs.ThreadCalls.{refusal_of, refusal_of_role, unless_live}
-use Rattle.machine.specs.WellFormed.{AreLogons, AreRequests, AreRows, IsAwaited, is_before_use, times_logged}
+use Rattle.machine.specs.WellFormed.{AreLogons, AreRequests, AreRows, IsAwaited, is_before_use, is_spent, times_logged}
 use Rattle.move_laws.proofs.Lists.Cases.{if_cases}
 use Rattle.move_laws.proofs.Lists.Totals.{inside}
 use Rattle.move_laws.proofs.Numbers.Registers.{logon_small}
 use Rattle.machine_laws.proofs.Fitting.Dooms.{GoOnAfter, after-doom, fits-after, may_die, unprotected_unheld}
 use Rattle.machine_laws.proofs.Fitting.KernelThreads.{fits-answer, fits-look_kind}
-use Rattle.machine_laws.proofs.Fitting.Stepping.{FitsDecision, IsStepping, at-with_row, fits-answers, fits-nothing, fits-refuse, has_signals}
+use Rattle.machine_laws.proofs.Fitting.Stepping.{FitsDecision, IsStepping, at-with_row, fits-answers, fits-nothing, fits-refuse, has_signals, live_thread}
 
 -- a thread on which a call isn't refused is live
 live-by : (stage : Stage) → unless_live stage None ≡ None → stage ≡ Live
@@ -128,8 +128,8 @@ not_logged count r logons t s h done = elim (cases_lt 0 (times_logged logons t s
 ]
 
 -- `logon`
-fits-logon_do : {script : Script} {S : State} {t : ObjNo} {row : ThreadRow} {instr : Instr} (s : ℕ) (u : ObjNo) (r : ThreadRow) → IsStepping script S t row instr → s < 16 → is_pending S.requests t s ≡ false → thread_of S u ≡ Some r → FitsDecision script t S (logon_row t u s (Some r))
-fits-logon_do {script = script} {S = S} {t = t} {row = row} s u r h small done is = by r.stage
+fits-logon_do : {script : Script} {S : State} {t : ObjNo} {row : ThreadRow} {instr : Instr} (s : ℕ) (u : ObjNo) (r : ThreadRow) → IsStepping script S t row instr → is_returning row.part ≡ false → s < 16 → is_pending S.requests t s ≡ false → thread_of S u ≡ Some r → FitsDecision script t S (logon_row t u s (Some r))
+fits-logon_do {script = script} {S = S} {t = t} {row = row} s u r h going small done is = by r.stage refl
   where
     awaited : IsAwaited (after_set_pending S.requests t s) t s
     awaited = set_awaited (length S.threads) S.requests t s h.rows.requests (has_signals h) small done
@@ -138,29 +138,29 @@ fits-logon_do {script = script} {S = S} {t = t} {row = row} s u r h small done i
     unlogged = not_logged (length S.threads) S.requests S.logons t s h.rows.logons done
 
     with : (m : Move) → FitsMove script t m (moved t (move.Requests (SetPending t s)) S) → (moved t m (moved t (move.Requests (SetPending t s)) S)).threads ≡ S.threads → most_told m ≤ 1 → most_owed m ≡ 0 → FitsDecision script t S (answer t (step.Of word.Logon part.Do) (move.Requests (SetPending t s) ∷ m ∷ []) (pos 0))
-    with m fits same few light = fits-answers (step.Of word.Logon part.Do) (move.Requests (SetPending t s) ∷ m ∷ []) (pos 0) ((has_signals h, small), (fits, tt))
+    with m fits same few light = fits-answers (step.Of word.Logon part.Do) (move.Requests (SetPending t s) ∷ m ∷ []) (pos 0) (((has_signals h, small), tt), (fits, tt))
         (record { row = row; is = ap (λ (threads : List (Option ThreadRow)). get_or threads t.0 None) same ∙ h.is; next = h.next }) (omega arith) (omega arith)
 
-    added : FitsDecision script t S (answer t (step.Of word.Logon part.Do) (move.Requests (SetPending t s) ∷ move.Logons (Add u t s) ∷ []) (pos 0))
-    added = with (move.Logons (Add u t s)) (inside S.threads u.0 r is, awaited, unlogged) refl (omega arith) refl
+    added : is_spent r.stage ≡ false → FitsDecision script t S (answer t (step.Of word.Logon part.Do) (move.Requests (SetPending t s) ∷ move.Logons (Add u t s) ∷ []) (pos 0))
+    added unspent = with (move.Logons (Add u t s)) (inside S.threads u.0 r is, awaited, unlogged, live_thread h going, λ x at. let same : r ≡ x = (let a = is in cc) in subst (λ (y : ThreadRow). is_spent y.stage ≡ false) same unspent) refl (omega arith) refl
 
     signalled : FitsDecision script t S (answer t (step.Of word.Logon part.Do) (move.Requests (SetPending t s) ∷ move.Requests (Signal t s (reason_of r.exit)) ∷ []) (pos 0))
-    signalled = with (move.Requests (Signal t s (reason_of r.exit))) (awaited, unlogged) refl (omega arith) refl
+    signalled = with (move.Requests (Signal t s (reason_of r.exit))) ((awaited, unlogged), live_thread h going) refl (omega arith) refl
 
-    by : (stage : Stage) → FitsDecision script t S (answer t (step.Of word.Logon part.Do) (move.Requests (SetPending t s) ∷ logon_move t u s r.exit stage ∷ []) (pos 0))
-    by Live = added
-    by Doomed = added
-    by Cleaned = signalled
-    by Buried = signalled
+    by : (stage : Stage) → r.stage ≡ stage → FitsDecision script t S (answer t (step.Of word.Logon part.Do) (move.Requests (SetPending t s) ∷ logon_move t u s r.exit stage ∷ []) (pos 0))
+    by Live at = added (ap is_spent at)
+    by Doomed at = added (ap is_spent at)
+    by Cleaned at = signalled
+    by Buried at = signalled
 
-pub fits-logon : {script : Script} {S : State} {t : ObjNo} {row : ThreadRow} (x s : ℕ) (p : Option Part) → IsStepping script S t row (instr.Logon x s) → row.part ≡ p → FitsDecision script t S (logon_step S t row x s p)
-fits-logon {script = script} {S = S} {t = t} {row = row} x s None h at =
+pub fits-logon : {script : Script} {S : State} {t : ObjNo} {row : ThreadRow} (x s : ℕ) (p : Option Part) → IsStepping script S t row (instr.Logon x s) → is_returning row.part ≡ false → row.part ≡ p → FitsDecision script t S (logon_step S t row x s p)
+fits-logon {script = script} {S = S} {t = t} {row = row} x s None h going at =
     if_cases (FitsDecision script t S) (is_pending S.requests t s) _ _ (λ _. fits-refuse (step.Of word.Logon part.Look) error.InUse h) (λ _. fits-look_kind kind.Thread word.Logon x h (ap is_before_use at))
-fits-logon {script = script} {S = S} {t = t} {row = row} x s (Some p) h at = on row.uses
+fits-logon {script = script} {S = S} {t = t} {row = row} x s (Some p) h going at = on row.uses
   where
     there : (u : ObjNo) (r : Option ThreadRow) → thread_of S u ≡ r → is_pending S.requests t s ≡ false → FitsDecision script t S (logon_row t u s r)
     there u None is done = fits-nothing script S t
-    there u (Some r) is done = let few = logon_small x s h.ranges in fits-logon_do s u r h (omega arith) done is
+    there u (Some r) is done = let few = logon_small x s h.ranges in fits-logon_do s u r h going (omega arith) done is
 
     on : (uses : Option ObjNo) → FitsDecision script t S (logon_do S t s uses)
     on None = fits-nothing script S t

@@ -44,6 +44,7 @@ use Rattle.move_laws.proofs.Numbers.FewEffects.{nano-tells}
 use Rattle.machine_laws.proofs.Fitting.KernelThreads.{held_holder, mutex_inside, none_is, none_of}
 use Rattle.machine_laws.proofs.Fitting.Stepping.{FitsDecision, IsStepping, at_instruction, at-with_row, fits-answers, fits-refuse, has_signals}
 use Rattle.machine_laws.proofs.Fitting.Waiters.{without_apart}
+use Rattle.move_laws.proofs.RowLaws.Awaited.{dropped_none, undropped}
 
 -- a thread that may be doomed: it is there with all its rows, is live, and holds no fast mutex
 pub record MayDie (S : State) (u : ObjNo) : Type 0 where
@@ -74,7 +75,7 @@ pub each-doom : (script : Script) (S : State) (t u : ObjNo) (exit : Exit) → Ma
 each-doom script S t u exit h =
     let there : is_some (thread_of S u) ≡ true = ap is_some h.is in
     let within = inside S.threads u.0 h.row h.is in
-    (there, ((there, tt), (h.signals, (within, ((record { row = h.row; is = h.is; at = h.live }, h.unheld, λ o. left_nowhere S.locks.waiters u o.0), tt)))))
+    (there, ((there, tt), ((h.signals, tt), (within, ((record { row = h.row; is = h.is; at = h.live }, h.unheld, λ o. left_nowhere S.locks.waiters u o.0, record { requests = λ d request is at. dropped_none u S.requests.devices d request is at; logons = λ s. undropped u s S.logons }), tt)))))
 
 -- and leave a thread at its instruction
 doomed_at : (script : Script) (S : State) (t u : ObjNo) (exit : Exit) → IsAtInstruction script S t → IsAtInstruction script (perform t (doom u exit) S) t

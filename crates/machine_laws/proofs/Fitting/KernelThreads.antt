@@ -50,7 +50,7 @@ use Rattle.move_laws.proofs.Holders.ThreadRows.{row-here}
 use Rattle.move_laws.proofs.RowLaws.Tables.{object_of_is}
 use Rattle.machine_laws.proofs.Fitting.Living.{handle_is_alive}
 use Rattle.machine_laws.proofs.Fitting.Shared.{IsCheap}
-use Rattle.machine_laws.proofs.Fitting.Stepping.{FitsDecision, IsStepping, fits-nothing, fits-refuse, fits-use, at_instruction, at-with_row, serves_none, unspent, unspent-gone}
+use Rattle.machine_laws.proofs.Fitting.Stepping.{FitsDecision, IsStepping, fits-nothing, fits-refuse, fits-use, at_instruction, at-with_row, serves_none, live-changed, stepping_live, unspent}
 use Rattle.machine_laws.proofs.Fitting.Waiters.{waits_nowhere, stepping_nowhere}
 
 pub none_of : {A : Type 0} (x : Option A) → is_some x ≡ false → x ≡ None
@@ -135,13 +135,13 @@ fits-flock {script = script} {S = S} {t = t} f (Some p) h going = taken (want_of
     taken (Some g) e = fits-nano (step.Of word.Flock part.Done) (nano.Take t g) (pos 0) h (own_row h) (h.rows.nano.rows.wants_known t g e, subst (λ (w : Option ℕ). option_and_then (holder_of S.nano) w ≡ None) e h.free, may_take h going (wants_holds_none script S t g h.rows e))
 
 -- `fswait`
-pub fits-fswait : {script : Script} {S : State} {t : ObjNo} {row : ThreadRow} {instr : Instr} (p : Option Part) → IsStepping script S t row instr → FitsDecision script t S (fswait_step S t p)
-fits-fswait {script = script} {S = S} {t = t} None h =
+pub fits-fswait : {script : Script} {S : State} {t : ObjNo} {row : ThreadRow} {instr : Instr} (p : Option Part) → IsStepping script S t row instr → is_returning row.part ≡ false → FitsDecision script t S (fswait_step S t p)
+fits-fswait {script = script} {S = S} {t = t} None h going =
     fits-unless (step.Of word.Fswait part.Do) _ h (λ none.
     if_cases (FitsDecision script t S) (signal_count S.nano t == 0) _ _
-    (λ _. fits-later (step.Of word.Fswait part.Do) (move.Wait t waiting.Fast) h (record { told = omega arith; light = refl }) (none, stepping_nowhere h, unspent-gone S t part.Done (unspent h)))
+    (λ _. fits-later (step.Of word.Fswait part.Do) (move.Wait t waiting.Fast) h (record { told = omega arith; light = refl }) (none, stepping_nowhere h, live-changed S (moved t (move.GoOn t part.Done) S) t (with_part part.Done) (λ r. refl) refl (stepping_live h going)))
     (λ _. fits-nano (step.Of word.Fswait part.Do) (nano.Lower t) (pos 0) h (own_row h) tt))
-fits-fswait (Some p) h = fits-answer (step.Of word.Fswait part.Done) (pos 0) h
+fits-fswait (Some p) h going = fits-answer (step.Of word.Fswait part.Done) (pos 0) h
 
 -- `fssignal`
 signalled : {script : Script} {S : State} {t : ObjNo} {row : ThreadRow} {instr : Instr} (u : ObjNo) (r : ThreadRow) (what : Waiting) → IsStepping script S t row instr → thread_of S u ≡ Some r → r.waiting ≡ what → FitsDecision script t S (answer t (step.Of word.Fssignal part.Do) (signal_move u what ∷ []) (pos 0))

@@ -29,7 +29,7 @@ use Rattle.machine.specs.declared.moves.Move.TheVariants as move
 use Rattle.machine.specs.declared.state.State.{State}
 use Rattle.machine.specs.Choice.{priority_of}
 use Rattle.machine.specs.Decide.{answer, wait_at}
-use Rattle.machine.specs.Fits.{FitsLocks, MayJoin, WaitsNowhere}
+use Rattle.machine.specs.Fits.{FitsLocks, MayJoin, WaitsNowhere, IsLive}
 use Rattle.machine.specs.Moves.{moved, with_part, with_waiting}
 use Rattle.machine.specs.MutexCalls.{lock_by, lock_do, lock_step, unlock_by, unlock_do, unlock_step}
 use Rattle.machine.specs.Rows.{object_of, thread_of}
@@ -42,7 +42,7 @@ use Rattle.move_laws.proofs.Lists.Cases.{if_cases}
 use Rattle.move_laws.proofs.Readiness.FirstReady.{greatest_listed}
 use Rattle.machine_laws.proofs.Fitting.KernelThreads.{fits-answer, fits-look_kind, fits-unless}
 use Rattle.machine_laws.proofs.Fitting.Living.{alive_inside, use_is_alive}
-use Rattle.machine_laws.proofs.Fitting.Stepping.{FitsDecision, IsStepping, fits-answers, fits-nothing, fits-refuse, at_instruction, at-with_row, unspent, unspent-gone}
+use Rattle.machine_laws.proofs.Fitting.Stepping.{FitsDecision, IsStepping, fits-answers, fits-nothing, fits-refuse, at_instruction, at-with_row, live-changed, stepping_live, unspent}
 use Rattle.machine_laws.proofs.Fitting.Waiters.{passed_is, stepping_nowhere, struck_nowhere, woke_is}
 
 -- an answer after a move in the rows of mutexes and semaphores, and where a waiter goes on after it
@@ -62,30 +62,36 @@ waits_there {S = S} {t = t} o h =
     let goes_on = row-here S.threads t (with_part part.Done) t.0 refl ∙ ap (option_map (with_part part.Done)) h.is in
     row-here (moved t (move.GoOn t part.Done) S).threads t (with_waiting (waiting.Lock o)) t.0 refl ∙ ap (option_map (with_waiting (waiting.Lock o))) goes_on
 
-fits-wait_at : {script : Script} {S : State} {t : ObjNo} {row : ThreadRow} {instr : Instr} (told : Step) (o : ObjNo) (m : LockMove) → IsStepping script S t row instr → held_by S.nano t ≡ None → (MayJoin (waiting_at S t o) o t → FitsLocks t m (waiting_at S t o)) → FitsDecision script t S (wait_at t told o m)
-fits-wait_at {S = S} {t = t} {row = row} told o m h none fits = record {
+-- and is live then
+waiting_live : {script : Script} {S : State} {t : ObjNo} {row : ThreadRow} {instr : Instr} (o : ObjNo) → IsStepping script S t row instr → is_returning row.part ≡ false → IsLive (waiting_at S t o) t
+waiting_live {S = S} {t = t} o h going =
+    live-changed (moved t (move.GoOn t part.Done) S) (waiting_at S t o) t (with_waiting (waiting.Lock o)) (λ r. refl) refl
+    (live-changed S (moved t (move.GoOn t part.Done) S) t (with_part part.Done) (λ r. refl) refl (stepping_live h going))
+
+fits-wait_at : {script : Script} {S : State} {t : ObjNo} {row : ThreadRow} {instr : Instr} (told : Step) (o : ObjNo) (m : LockMove) → IsStepping script S t row instr → is_returning row.part ≡ false → held_by S.nano t ≡ None → (MayJoin (waiting_at S t o) o t → FitsLocks t m (waiting_at S t o)) → FitsDecision script t S (wait_at t told o m)
+fits-wait_at {S = S} {t = t} {row = row} told o m h going none fits = record {
   each = (
     record { unused = λ r is e. absurd (cc); paid = λ e. absurd (cc); unspent = unspent h; at = λ e. absurd (cc) },
-    ((none, stepping_nowhere h, unspent-gone S t part.Done (unspent h)), (fits (record { waits = record { row = with_waiting (waiting.Lock o) (with_part part.Done row); is = waits_there o h; waits = refl }; nowhere = stepping_nowhere h; paid = h.paid }), tt)),
+    ((none, stepping_nowhere h, live-changed S (moved t (move.GoOn t part.Done) S) t (with_part part.Done) (λ r. refl) refl (stepping_live h going)), (fits (record { waits = record { row = with_waiting (waiting.Lock o) (with_part part.Done row); is = waits_there o h; waits = refl }; nowhere = stepping_nowhere h; paid = h.paid }), tt)),
   );
   told = let few = lock-tells m in omega arith;
   light = let few = lock-owes m in omega arith;
 }
 
 -- `lock`
-fits-lock_by : {script : Script} {S : State} {t : ObjNo} {row : ThreadRow} {instr : Instr} (o : ObjNo) (locked : Locked) → IsStepping script S t row instr → held_by S.nano t ≡ None → IsAlive (object_of S o) → locked ≡ lock_answer (owner_at S.locks o) t → FitsDecision script t S (lock_by t o locked)
-fits-lock_by o Waits h none alive e = fits-wait_at (Of word.Lock part.Do) o (Lock o _ Waits) h none (λ joins. record { alive = alive; thread = ap is_some joins.waits.is; paid = h.paid; answer = e; joins = λ _. joins })
-fits-lock_by o Taken h none alive e = fits-locked (Of word.Lock part.Do) (Lock o _ Taken) h (record { alive = alive; thread = ap is_some h.is; paid = h.paid; answer = e; joins = λ e. absurd (cc) })
-fits-lock_by o Again h none alive e = fits-locked (Of word.Lock part.Do) (Lock o _ Again) h (record { alive = alive; thread = ap is_some h.is; paid = h.paid; answer = e; joins = λ e. absurd (cc) })
+fits-lock_by : {script : Script} {S : State} {t : ObjNo} {row : ThreadRow} {instr : Instr} (o : ObjNo) (locked : Locked) → IsStepping script S t row instr → is_returning row.part ≡ false → held_by S.nano t ≡ None → IsAlive (object_of S o) → locked ≡ lock_answer (owner_at S.locks o) t → FitsDecision script t S (lock_by t o locked)
+fits-lock_by o Waits h going none alive e = fits-wait_at (Of word.Lock part.Do) o (Lock o _ Waits) h going none (λ joins. record { alive = alive; thread = ap is_some joins.waits.is; live = waiting_live o h going; paid = h.paid; answer = e; joins = λ _. joins })
+fits-lock_by o Taken h going none alive e = fits-locked (Of word.Lock part.Do) (Lock o _ Taken) h (record { alive = alive; thread = ap is_some h.is; live = stepping_live h going; paid = h.paid; answer = e; joins = λ e. absurd (cc) })
+fits-lock_by o Again h going none alive e = fits-locked (Of word.Lock part.Do) (Lock o _ Again) h (record { alive = alive; thread = ap is_some h.is; live = stepping_live h going; paid = h.paid; answer = e; joins = λ e. absurd (cc) })
 
-fits-lock_do : {script : Script} {S : State} {t : ObjNo} {row : ThreadRow} {instr : Instr} (uses : Option ObjNo) → IsStepping script S t row instr → row.uses ≡ uses → FitsDecision script t S (lock_do S t uses)
-fits-lock_do {script = script} {S = S} {t = t} None h e = fits-nothing script S t
-fits-lock_do {S = S} {t = t} {row = row} (Some o) h e = fits-unless (Of word.Lock part.Do) _ h (λ none. fits-lock_by o _ h none (use_is_alive S t row o h.rows.lives h.is e) refl)
+fits-lock_do : {script : Script} {S : State} {t : ObjNo} {row : ThreadRow} {instr : Instr} (uses : Option ObjNo) → IsStepping script S t row instr → is_returning row.part ≡ false → row.uses ≡ uses → FitsDecision script t S (lock_do S t uses)
+fits-lock_do {script = script} {S = S} {t = t} None h going e = fits-nothing script S t
+fits-lock_do {S = S} {t = t} {row = row} (Some o) h going e = fits-unless (Of word.Lock part.Do) _ h (λ none. fits-lock_by o _ h going none (use_is_alive S t row o h.rows.lives h.is e) refl)
 
-pub fits-lock : {script : Script} {S : State} {t : ObjNo} {row : ThreadRow} {instr : Instr} (x : ℕ) (p : Option Part) → IsStepping script S t row instr → row.part ≡ p → FitsDecision script t S (lock_step S t row x p)
-fits-lock x None h at = fits-unless (Of word.Lock part.Look) _ h (λ _. fits-look_kind Mutex word.Lock x h (ap is_before_use at))
-fits-lock {row = row} x (Some part.Do) h at = fits-lock_do row.uses h refl
-fits-lock x (Some _) h at = fits-answer (Of word.Lock part.Done) (pos 0) h
+pub fits-lock : {script : Script} {S : State} {t : ObjNo} {row : ThreadRow} {instr : Instr} (x : ℕ) (p : Option Part) → IsStepping script S t row instr → is_returning row.part ≡ false → row.part ≡ p → FitsDecision script t S (lock_step S t row x p)
+fits-lock x None h going at = fits-unless (Of word.Lock part.Look) _ h (λ _. fits-look_kind Mutex word.Lock x h (ap is_before_use at))
+fits-lock {row = row} x (Some part.Do) h going at = fits-lock_do row.uses h going refl
+fits-lock x (Some _) h going at = fits-answer (Of word.Lock part.Done) (pos 0) h
 
 -- `unlock`
 fits-unlock_by : {script : Script} {S : State} {t : ObjNo} {row : ThreadRow} {instr : Instr} (o : ObjNo) (unlocked : Unlocked) → IsStepping script S t row instr → is_returning row.part ≡ false → IsAlive (object_of S o)
@@ -118,20 +124,20 @@ fits-unlock x None h going at = fits-look_kind Mutex word.Unlock x h (ap is_befo
 fits-unlock {row = row} x (Some p) h going at = fits-unlock_do row.uses h going refl
 
 -- `wait`
-fits-wait_on : {script : Script} {S : State} {t : ObjNo} {row : ThreadRow} {instr : Instr} (o : ObjNo) → IsStepping script S t row instr → held_by S.nano t ≡ None → IsAlive (object_of S o) → FitsDecision script t S (wait_on t o (count_at S.locks o))
-fits-wait_on {script = script} {S = S} {t = t} o h none alive =
+fits-wait_on : {script : Script} {S : State} {t : ObjNo} {row : ThreadRow} {instr : Instr} (o : ObjNo) → IsStepping script S t row instr → is_returning row.part ≡ false → held_by S.nano t ≡ None → IsAlive (object_of S o) → FitsDecision script t S (wait_on t o (count_at S.locks o))
+fits-wait_on {script = script} {S = S} {t = t} o h going none alive =
     if_cases (FitsDecision script t S) (count_at S.locks o == 0) _ _
-    (λ _. fits-wait_at (Of word.Wait part.Do) o (WaitOn o t) h none (λ joins. record { alive = alive; joins = λ _. joins }))
+    (λ _. fits-wait_at (Of word.Wait part.Do) o (WaitOn o t) h going none (λ joins. record { alive = alive; joins = λ _. joins }))
     (λ some. fits-locked (Of word.Wait part.Do) (WaitOn o t) h (record { alive = alive; joins = λ empty. absurd (cc (eq-eqb (count_at S.locks o) 0 empty)) }))
 
-fits-wait_do : {script : Script} {S : State} {t : ObjNo} {row : ThreadRow} {instr : Instr} (uses : Option ObjNo) → IsStepping script S t row instr → row.uses ≡ uses → FitsDecision script t S (wait_do S t uses)
-fits-wait_do {script = script} {S = S} {t = t} None h e = fits-nothing script S t
-fits-wait_do {S = S} {t = t} {row = row} (Some o) h e = fits-unless (Of word.Wait part.Do) _ h (λ none. fits-wait_on o h none (use_is_alive S t row o h.rows.lives h.is e))
+fits-wait_do : {script : Script} {S : State} {t : ObjNo} {row : ThreadRow} {instr : Instr} (uses : Option ObjNo) → IsStepping script S t row instr → is_returning row.part ≡ false → row.uses ≡ uses → FitsDecision script t S (wait_do S t uses)
+fits-wait_do {script = script} {S = S} {t = t} None h going e = fits-nothing script S t
+fits-wait_do {S = S} {t = t} {row = row} (Some o) h going e = fits-unless (Of word.Wait part.Do) _ h (λ none. fits-wait_on o h going none (use_is_alive S t row o h.rows.lives h.is e))
 
-pub fits-wait : {script : Script} {S : State} {t : ObjNo} {row : ThreadRow} {instr : Instr} (x : ℕ) (p : Option Part) → IsStepping script S t row instr → row.part ≡ p → FitsDecision script t S (wait_step S t row x p)
-fits-wait x None h at = fits-unless (Of word.Wait part.Look) _ h (λ _. fits-look_kind Semaphore word.Wait x h (ap is_before_use at))
-fits-wait {row = row} x (Some part.Do) h at = fits-wait_do row.uses h refl
-fits-wait x (Some _) h at = fits-answer (Of word.Wait part.Done) (pos 0) h
+pub fits-wait : {script : Script} {S : State} {t : ObjNo} {row : ThreadRow} {instr : Instr} (x : ℕ) (p : Option Part) → IsStepping script S t row instr → is_returning row.part ≡ false → row.part ≡ p → FitsDecision script t S (wait_step S t row x p)
+fits-wait x None h going at = fits-unless (Of word.Wait part.Look) _ h (λ _. fits-look_kind Semaphore word.Wait x h (ap is_before_use at))
+fits-wait {row = row} x (Some part.Do) h going at = fits-wait_do row.uses h going refl
+fits-wait x (Some _) h going at = fits-answer (Of word.Wait part.Done) (pos 0) h
 
 -- `signal`
 fits-signal_by : {script : Script} {S : State} {t : ObjNo} {row : ThreadRow} {instr : Instr} (o : ObjNo) (answer : Signalled) → IsStepping script S t row instr → IsAlive (object_of S o) → answer ≡ signal_answer (best_waiter (priority_of S) S.locks o) (count_at S.locks o) → FitsDecision script t S (signal_by t o answer)

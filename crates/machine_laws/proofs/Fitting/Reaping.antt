@@ -28,7 +28,7 @@ use Rattle.machine.specs.declared.request_move.RequestMove.TheVariants.{Signal}
 use Rattle.machine.specs.declared.state.State.{State}
 use Rattle.machine.specs.Choice.{priority_of}
 use Rattle.machine.specs.Fits.{EachFits, FitsLocks, Holds, IsAtStage, MayOweMore}
-use Rattle.machine.specs.Holdings.{held_handles, held_logons, held_mutexes, held_slot, held_use, has_one_left, holdings, process_handles}
+use Rattle.machine.specs.Holdings.{held_handles, held_logons, held_mutexes, held_slot, held_use, left_of, holdings, process_handles}
 use Rattle.machine.specs.LogonCalls.{reason_of}
 use Rattle.machine.specs.LogonMoves.{is_logon, logons_on, without_logon}
 use Rattle.machine.specs.Moves.{moved}
@@ -119,7 +119,7 @@ gives-logon {script = script} {S = S} {t = t} {row = row} u s h some =
     let told = moved t (move.Logons (Remove t u s)) S in
     let wakes = light-end script S (moved t (move.Requests (Signal u s (reason_of row.exit))) told) t u s (thread_of S u) h.rows refl refl in
     record {
-      each = ((within, omega arith, awaited.status), ((awaited, unlogged script S t u s h.rows within some), wakes.each));
+      each = ((within, omega arith, awaited.status), (((awaited, unlogged script S t u s h.rows within some), h.rows.awaited.logons u s (omega arith)), wakes.each));
       told = let few = wakes.told in omega arith;
       light = let none = wakes.light in omega arith;
     }
@@ -160,14 +160,14 @@ module _ (script : Script) (S : State) (t : ObjNo) (row : ThreadRow) (h : IsDyin
   all-own : AllByRecursion Gives (held_handles (InThread t) 0 (table_of S t))
   all-own = all-handles (InThread t) 0 (table_of S t) (λ j o is. numbered (InThread t) j o (gives-handle (InThread t j) o h (ap is_some h.is, is)))
 
-  all-process : AllByRecursion Gives (process_handles S row.process)
-  all-process = if_cases (AllByRecursion Gives) (has_one_left S row.process) _ _
+  all-process : AllByRecursion Gives (process_handles S t row.process)
+  all-process = if_cases (AllByRecursion Gives) (total (left_of row.process) S.threads == left_of row.process (thread_of S t)) _ _
       (λ _. all-handles (InProcess row.process) 0 (table_of S row.process) (λ j o is. numbered (InProcess row.process) j o (gives-handle (InProcess row.process j) o h (h.rows.threads.processes t.0 row h.is, is)))) (λ _. tt)
 
   all-given : AllByRecursion Gives (holdings S t row)
   all-given =
-      all-both Gives (held_mutexes S t ++ held_use row.uses ++ held_handles (InThread t) 0 (table_of S t) ++ process_handles S row.process) (held_logons S t)
-      (all-both Gives (held_mutexes S t ++ held_use row.uses ++ held_handles (InThread t) 0 (table_of S t)) (process_handles S row.process)
+      all-both Gives (held_mutexes S t ++ held_use row.uses ++ held_handles (InThread t) 0 (table_of S t) ++ process_handles S t row.process) (held_logons S t)
+      (all-both Gives (held_mutexes S t ++ held_use row.uses ++ held_handles (InThread t) 0 (table_of S t)) (process_handles S t row.process)
       (all-both Gives (held_mutexes S t ++ held_use row.uses) (held_handles (InThread t) 0 (table_of S t))
       (all-both Gives (held_mutexes S t) (held_use row.uses) (all-mutexes (get_or S.mutexes t.0 []) (λ o some. gives-mutex o h some)) (all-use row.uses (λ o uses. gives-use o h uses)))
       all-own) all-process) (all-logons (logons_on S.logons t) (λ u s some. gives-logon u s h some))
@@ -177,15 +177,15 @@ pub fits-give_up : {script : Script} {S : State} {t : ObjNo} {row : ThreadRow} (
 fits-give_up {script = script} {S = S} {t = t} {row = row} what rest h has = (subst (AllByRecursion (λ (x : Holding). FitsDecision script t S (give_up S t row x))) has (all-given script S t row h)).0
 
 -- of nothing both parts are nothing
-empty_left : {A : Type 0} (xs ys : List A) → xs ++ ys ≡ [] → xs ≡ []
+pub empty_left : {A : Type 0} (xs ys : List A) → xs ++ ys ≡ [] → xs ≡ []
 empty_left [] ys e = refl
 empty_left (x ∷ xs) ys e = absurd (cc)
 
-empty_right : {A : Type 0} (xs ys : List A) → xs ++ ys ≡ [] → ys ≡ []
+pub empty_right : {A : Type 0} (xs ys : List A) → xs ++ ys ≡ [] → ys ≡ []
 empty_right [] ys e = e
 empty_right (x ∷ xs) ys e = absurd (cc)
 
-no-use : (uses : Option ObjNo) → held_use uses ≡ [] → uses ≡ None
+pub no-use : (uses : Option ObjNo) → held_use uses ≡ [] → uses ≡ None
 no-use None e = refl
 no-use (Some o) e = absurd (cc)
 
@@ -193,10 +193,40 @@ no-slot : (holder : Holder) (object : Option ObjNo) → held_slot holder object 
 no-slot holder None e = refl
 no-slot holder (Some o) e = absurd (cc)
 
-no-handles : (holder : ℕ → Holder) (i : ℕ) (table : List HandleSlot) → held_handles holder i table ≡ [] → (j : ℕ) → (slot_at table j).object ≡ None
+pub no-handles : (holder : ℕ → Holder) (i : ℕ) (table : List HandleSlot) → held_handles holder i table ≡ [] → (j : ℕ) → (slot_at table j).object ≡ None
 no-handles holder i [] e j = refl
 no-handles holder i (slot ∷ rest) e zero = no-slot (holder i) slot.object (empty_left (held_slot (holder i) slot.object) (held_handles holder (i + 1) rest) e)
 no-handles holder i (slot ∷ rest) e (suc j) = no-handles holder (i + 1) rest (empty_right (held_slot (holder i) slot.object) (held_handles holder (i + 1) rest) e) j
+
+-- a thread that has nothing left holds no mutex, uses nothing, and has no handle and no logon
+pub record HasNothing (S : State) (t : ObjNo) (row : ThreadRow) : Type 0 where
+  pub mutexes : get_or S.mutexes t.0 [] ≡ []
+  pub unused : row.uses ≡ None
+  pub empty : (i : ℕ) → (slot_at (table_of S t) i).object ≡ None
+  pub process : process_handles S t row.process ≡ []
+  pub logons : logons_on S.logons t ≡ []
+
+no-items : {A : Type 0} (f : A → Holding) (xs : List A) → map f xs ≡ [] → xs ≡ []
+no-items f [] e = refl
+no-items f (x ∷ xs) e = absurd (cc)
+
+pub has-nothing : (S : State) (t : ObjNo) (row : ThreadRow) → holdings S t row ≡ [] → HasNothing S t row
+has-nothing S t row nothing = record {
+  mutexes = no-items (λ (o : ObjNo). Mutex o) (get_or S.mutexes t.0 []) (empty_left (held_mutexes S t) (held_use row.uses) second);
+  unused = no-use row.uses (empty_right (held_mutexes S t) (held_use row.uses) second);
+  empty = no-handles (InThread t) 0 (table_of S t) (empty_right (held_mutexes S t ++ held_use row.uses) (held_handles (InThread t) 0 (table_of S t)) third);
+  process = empty_right (held_mutexes S t ++ held_use row.uses ++ held_handles (InThread t) 0 (table_of S t)) (process_handles S t row.process) fourth;
+  logons = no-items (λ (logon : ObjNo × ℕ). Logon logon.0 logon.1) (logons_on S.logons t) (empty_right (held_mutexes S t ++ held_use row.uses ++ held_handles (InThread t) 0 (table_of S t) ++ process_handles S t row.process) (held_logons S t) nothing);
+}
+  where
+    fourth : held_mutexes S t ++ held_use row.uses ++ held_handles (InThread t) 0 (table_of S t) ++ process_handles S t row.process ≡ []
+    fourth = empty_left (held_mutexes S t ++ held_use row.uses ++ held_handles (InThread t) 0 (table_of S t) ++ process_handles S t row.process) (held_logons S t) nothing
+
+    third : held_mutexes S t ++ held_use row.uses ++ held_handles (InThread t) 0 (table_of S t) ≡ []
+    third = empty_left (held_mutexes S t ++ held_use row.uses ++ held_handles (InThread t) 0 (table_of S t)) (process_handles S t row.process) fourth
+
+    second : held_mutexes S t ++ held_use row.uses ≡ []
+    second = empty_left (held_mutexes S t ++ held_use row.uses) (held_handles (InThread t) 0 (table_of S t)) third
 
 -- a doomed thread holds no fast mutex
 dying_unheld : {script : Script} {S : State} {t : ObjNo} {row : ThreadRow} → IsDying script S t row → held_by S.nano t ≡ None
@@ -215,23 +245,16 @@ dying_unheld {script = script} {S = S} {t = t} {row = row} h = by (held_by S.nan
 -- nothing is left, and it is cleaned
 pub fits-clean : {script : Script} {S : State} {t : ObjNo} {row : ThreadRow} → IsDying script S t row → holdings S t row ≡ [] → FitsDecision script t S (clean script S t row)
 fits-clean {script = script} {S = S} {t = t} {row = row} h nothing = record {
-  each = ((record { row = row; is = h.is; at = h.doomed }, (dying_unheld h, λ r is. let same_row : row ≡ r = (let one = h.is in cc) in subst (IsSpent S.handles t.0) same_row spent)), ((burial_inside script S.deferred row.role h.rows.deferred (h.rows.threads.rows t.0 row h.is).declared, refl), tt));
+  each = ((record { row = row; is = h.is; at = h.doomed }, (dying_unheld h, λ r is. let same_row : row ≡ r = (let one = h.is in cc) in subst (IsSpent S.handles t.0) same_row spent, λ r is. let same_row : row ≡ r = (let one = h.is in cc) in subst (λ (x : ThreadRow). process_handles S t x.process ≡ []) same_row has.process), refl), ((burial_inside script S.deferred row.role h.rows.deferred (h.rows.threads.rows t.0 row h.is).declared, refl), tt));
   told = omega arith;
   light = omega arith;
 }
   where
-    first : held_mutexes S t ++ held_use row.uses ++ held_handles (InThread t) 0 (table_of S t) ≡ []
-    first =
-        empty_left (held_mutexes S t ++ held_use row.uses ++ held_handles (InThread t) 0 (table_of S t)) (process_handles S row.process)
-        (empty_left (held_mutexes S t ++ held_use row.uses ++ held_handles (InThread t) 0 (table_of S t) ++ process_handles S row.process) (held_logons S t) nothing)
+    has : HasNothing S t row
+    has = has-nothing S t row nothing
 
     spent : IsSpent S.handles t.0 row
-    spent = record {
-      unused = no-use row.uses (empty_right (held_mutexes S t) (held_use row.uses) (empty_left (held_mutexes S t ++ held_use row.uses) (held_handles (InThread t) 0 (table_of S t)) first));
-      waits = h.waits;
-      going = h.going;
-      empty = no-handles (InThread t) 0 (table_of S t) (empty_right (held_mutexes S t ++ held_use row.uses) (held_handles (InThread t) 0 (table_of S t)) first);
-    }
+    spent = record { unused = has.unused; waits = h.waits; going = h.going; empty = has.empty }
 
 -- whoever a call buries is cleaned
 cleaned_by : (stage : Stage) → is_cleaned stage ≡ true → stage ≡ Cleaned

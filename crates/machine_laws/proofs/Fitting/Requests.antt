@@ -27,7 +27,7 @@ use Rattle.machine.specs.declared.state.State.{State}
 use Rattle.state_rows.specs.DeclaredCalls.{dfc_named}
 use Rattle.machine.specs.Bodies.{add_call}
 use Rattle.machine.specs.Decide.{answer, unless_holding, wait_for}
-use Rattle.machine.specs.Fits.{FitsRequests}
+use Rattle.machine.specs.Fits.{FitsRequests, IsOfLive}
 use Rattle.machine.specs.Queueing.{queue_do, queue_named}
 use Rattle.machine.specs.RequestCalls.{cancel_do, cancel_status, request_do, status_do, waitany_step, waitfor_step}
 use Rattle.move_laws.proofs.Numbers.FewEffects.{request-tells}
@@ -37,8 +37,10 @@ use Rattle.move_laws.proofs.Numbers.Registers.{request_small}
 use Rattle.move_laws.proofs.References.Same.{same_object}
 use Rattle.move_laws.proofs.RowLaws.Declared.{dfc_inside}
 use Rattle.machine_laws.proofs.Fitting.KernelThreads.{none_of, fits-answer, fits-move, fits-later, fits-unless}
-use Rattle.machine_laws.proofs.Fitting.Stepping.{FitsDecision, IsStepping, fits-nothing, has_signals, fits-refuse, unspent, unspent-gone}
+use Rattle.machine_laws.proofs.Fitting.Stepping.{FitsDecision, IsStepping, fits-nothing, has_signals, fits-refuse, live-changed, live_thread, stepping_live}
 use Rattle.machine_laws.proofs.Fitting.Waiters.{stepping_nowhere}
+use Rattle.machine.specs.Task.{is_returning}
+use Rattle.machine.specs.Moves.{moved, with_part}
 
 -- `queue`
 pub fits-queue : {script : Script} {S : State} {t : ObjNo} {row : ThreadRow} {instr : Instr} (name : List ℕ) → IsStepping script S t row instr → FitsDecision script t S (queue_do script S t name)
@@ -51,12 +53,12 @@ fits-queue {script = script} {S = S} {t = t} {row = row} name h = named (dfc_nam
         (λ _. fits-move (step.Of word.Queue part.Do) (add_call S dfc) (pos 1) h (record { told = omega arith; light = refl }) (dfc_inside script S.deferred name dfc h.rows.deferred e, refl) (record { row = row; is = h.is; next = h.next }))
 
 -- an answer after a change of the rows of requests
-fits-changed : {script : Script} {S : State} {t : ObjNo} {row : ThreadRow} {instr : Instr} (told : Step) (m : RequestMove) (code : ℤ) → IsStepping script S t row instr → FitsRequests m S.requests S.logons → FitsDecision script t S (answer t told (move.Requests m ∷ []) code)
-fits-changed {row = row} told m code h fits = fits-move told (move.Requests m) code h (record { told = let few = request-tells m in omega arith; light = refl }) fits (record { row = row; is = h.is; next = h.next })
+fits-changed : {script : Script} {S : State} {t : ObjNo} {row : ThreadRow} {instr : Instr} (told : Step) (m : RequestMove) (code : ℤ) → IsStepping script S t row instr → FitsRequests m S.requests S.logons → IsOfLive m S → FitsDecision script t S (answer t told (move.Requests m ∷ []) code)
+fits-changed {row = row} told m code h fits live = fits-move told (move.Requests m) code h (record { told = let few = request-tells m in omega arith; light = refl }) (fits, live) (record { row = row; is = h.is; next = h.next })
 
 -- `request`
-pub fits-request : {script : Script} {S : State} {t : ObjNo} {row : ThreadRow} (d s : ℕ) → IsStepping script S t row (instr.Request d s) → FitsDecision script t S (request_do S t d s)
-fits-request {script = script} {S = S} {t = t} d s h =
+pub fits-request : {script : Script} {S : State} {t : ObjNo} {row : ThreadRow} (d s : ℕ) → IsStepping script S t row (instr.Request d s) → is_returning row.part ≡ false → FitsDecision script t S (request_do S t d s)
+fits-request {script = script} {S = S} {t = t} d s h going =
     let small = request_small d s h.ranges in
     let devices = h.rows.requests.devices in
     if_cases (FitsDecision script t S) (is_pending S.requests t s || is_some (request_at S.requests d)) _ _
@@ -67,7 +69,7 @@ fits-request {script = script} {S = S} {t = t} d s h =
       status = omega arith;
       free = none_of (request_at S.requests d) (or_false_right (is_pending S.requests t s) (is_some (request_at S.requests d)) e);
       done = or_false_left (is_pending S.requests t s) (is_some (request_at S.requests d)) e;
-    }))
+    }) (live_thread h going))
 
 -- `cancel`
 status_is : (t : ObjNo) (request : Option Request) (s : ℕ) → status_of t request ≡ Some s → request ≡ Some (record { thread = t; status = s })
@@ -86,23 +88,23 @@ fits-cancel {script = script} {S = S} {t = t} d h = found (status_of t (request_
   where
     found : (status : Option ℕ) → status_of t (request_at S.requests d) ≡ status → FitsDecision script t S (cancel_status t d status)
     found None e = fits-refuse (step.Of word.Cancel part.Do) error.NotFound h
-    found (Some s) e = let is = status_is t (request_at S.requests d) s e in fits-changed (step.Of word.Cancel part.Do) (Complete d t s (error_code error.Cancel)) (pos 0) h (inside S.requests.devices d _ is, is)
+    found (Some s) e = let is = status_is t (request_at S.requests d) s e in fits-changed (step.Of word.Cancel part.Do) (Complete d t s (error_code error.Cancel)) (pos 0) h (inside S.requests.devices d _ is, is) tt
 
 -- a wait, or a signal is taken
-fits-waits : {script : Script} {S : State} {t : ObjNo} {row : ThreadRow} {instr : Instr} (told : Step) (waits : Bool) (what : Waiting) (code : ℤ) → IsStepping script S t row instr → FitsDecision script t S (unless_holding S t told (if waits then wait_for t told what else answer t told (move.Requests (TakeSignal t) ∷ []) code))
-fits-waits {script = script} {S = S} {t = t} told waits what code h =
+fits-waits : {script : Script} {S : State} {t : ObjNo} {row : ThreadRow} {instr : Instr} (told : Step) (waits : Bool) (what : Waiting) (code : ℤ) → IsStepping script S t row instr → is_returning row.part ≡ false → FitsDecision script t S (unless_holding S t told (if waits then wait_for t told what else answer t told (move.Requests (TakeSignal t) ∷ []) code))
+fits-waits {script = script} {S = S} {t = t} told waits what code h going =
     fits-unless told _ h (λ none. if_cases (FitsDecision script t S) waits _ _
-    (λ _. fits-later told (move.Wait t what) h (record { told = omega arith; light = refl }) (none, stepping_nowhere h, unspent-gone S t part.Done (unspent h)))
-    (λ _. fits-changed told (TakeSignal t) code h (has_signals h)))
+    (λ _. fits-later told (move.Wait t what) h (record { told = omega arith; light = refl }) (none, stepping_nowhere h, live-changed S (moved t (move.GoOn t part.Done) S) t (with_part part.Done) (λ r. refl) refl (stepping_live h going)))
+    (λ _. fits-changed told (TakeSignal t) code h (has_signals h) tt))
 
 -- `waitany` and `waitfor`
-pub fits-waitany : {script : Script} {S : State} {t : ObjNo} {row : ThreadRow} {instr : Instr} (p : Option Part) → IsStepping script S t row instr → FitsDecision script t S (waitany_step S t p)
-fits-waitany {S = S} {t = t} None h = fits-waits (step.Of word.Waitany part.Do) (signal_count S.requests t == 0) waiting.Any (pos 0) h
-fits-waitany {t = t} (Some p) h = fits-changed (step.Of word.Waitany part.Done) (TakeSignal t) (pos 0) h (has_signals h)
+pub fits-waitany : {script : Script} {S : State} {t : ObjNo} {row : ThreadRow} {instr : Instr} (p : Option Part) → IsStepping script S t row instr → is_returning row.part ≡ false → FitsDecision script t S (waitany_step S t p)
+fits-waitany {S = S} {t = t} None h going = fits-waits (step.Of word.Waitany part.Do) (signal_count S.requests t == 0) waiting.Any (pos 0) h going
+fits-waitany {t = t} (Some p) h going = fits-changed (step.Of word.Waitany part.Done) (TakeSignal t) (pos 0) h (has_signals h) tt
 
-pub fits-waitfor : {script : Script} {S : State} {t : ObjNo} {row : ThreadRow} {instr : Instr} (s : ℕ) (p : Option Part) → IsStepping script S t row instr → FitsDecision script t S (waitfor_step S t s p)
-fits-waitfor {S = S} {t = t} s None h = fits-waits (step.Of word.Waitfor part.Do) (is_pending S.requests t s || signal_count S.requests t == 0) (waiting.Status s) (value_of S.requests t s) h
-fits-waitfor {S = S} {t = t} s (Some p) h = fits-changed (step.Of word.Waitfor part.Done) (TakeSignal t) (value_of S.requests t s) h (has_signals h)
+pub fits-waitfor : {script : Script} {S : State} {t : ObjNo} {row : ThreadRow} {instr : Instr} (s : ℕ) (p : Option Part) → IsStepping script S t row instr → is_returning row.part ≡ false → FitsDecision script t S (waitfor_step S t s p)
+fits-waitfor {S = S} {t = t} s None h going = fits-waits (step.Of word.Waitfor part.Do) (is_pending S.requests t s || signal_count S.requests t == 0) (waiting.Status s) (value_of S.requests t s) h going
+fits-waitfor {S = S} {t = t} s (Some p) h going = fits-changed (step.Of word.Waitfor part.Done) (TakeSignal t) (value_of S.requests t s) h (has_signals h) tt
 
 -- `status`
 pub fits-status : {script : Script} {S : State} {t : ObjNo} {row : ThreadRow} {instr : Instr} (s : ℕ) → IsStepping script S t row instr → FitsDecision script t S (status_do S t s)

@@ -1,6 +1,6 @@
 -- Steps that several instructions share: a look, a find and its return, and a new handle.
-use Rattle.std.proofs.Common.{◌≡◌, ℕ, ◌<◌, ◌≤◌, List, [], ◌∷◌, arith, refl, ap, Option, Some, None, Bool, true, false}
-use Rattle.std.specs.Prelude.{is_some, slice_index}
+use Rattle.std.proofs.Common.{◌≡◌, ℕ, ◌<◌, ◌≤◌, List, [], ◌∷◌, arith, refl, ap, Option, Some, None, Bool, true, false, ◌∙◌}
+use Rattle.std.specs.Prelude.{is_some, slice_index, if◌then◌else◌}
 use Rattle.sym_base.specs.declared.kind.Kind.{Kind}
 use Rattle.sym_base.specs.declared.number.ObjNo.{ObjNo}
 use Rattle.sym_base.specs.declared.word.Word.{Word}
@@ -17,7 +17,7 @@ use Rattle.machine.specs.declared.moves.Move.{Move}
 use Rattle.machine.specs.declared.moves.Move.TheVariants.{Gain}
 use Rattle.state_rows.specs.declared.thread.ThreadRow.{ThreadRow}
 use Rattle.machine.specs.declared.state.State.{State}
-use Rattle.machine.specs.Rows.{object_of, table_of}
+use Rattle.machine.specs.Rows.{object_of, table_of, thread_of}
 use Rattle.state_rows.specs.HandleSlots.{free_index, is_full, new_handle}
 use Rattle.machine.specs.Handles.{object_at, process_handle, thread_handle}
 use Rattle.machine.specs.Decide.{give_handle}
@@ -25,11 +25,17 @@ use Rattle.machine.specs.Find.{seek, seek_object, find_object, found_object, mis
 use Rattle.machine.specs.Look.{look, look_at}
 use Rattle.machine.specs.ThreadCalls.{is_live}
 use Rattle.machine.specs.Fits.{IsFree, most_told, most_owed}
-use Rattle.machine.specs.WellFormed.{IsAlive, is_before_use}
+use Rattle.machine.specs.WellFormed.{IsAlive, is_before_use, is_spent}
 use Rattle.move_laws.proofs.Lists.Cases.{if_cases}
 use Rattle.move_laws.proofs.RowLaws.Tables.{free_index_inside, object_of_is}
 use Rattle.machine_laws.proofs.Fitting.Living.{handle_is_alive, open_is_alive, found_inside}
 use Rattle.machine_laws.proofs.Fitting.Stepping.{FitsDecision, IsStepping, fits-refuse, fits-use, fits-handle, may_go_on, at_instruction, unspent}
+use Rattle.state_rows.specs.declared.thread.Stage.{Stage}
+use Rattle.state_rows.specs.declared.thread.Stage.TheVariants.{Live, Doomed}
+use Rattle.machine.specs.Holdings.{left_of, stage_left}
+use Rattle.machine.specs.References.{total}
+use Rattle.move_laws.proofs.Lists.Totals.{total_at_least, inside}
+use Rattle.std.proofs.lemmas.Bool.{eq-eqb}
 
 -- a look at a handle
 pub fits-look : {script : Script} {S : State} {t : ObjNo} {row : ThreadRow} {instr : Instr} (word : Word) (x : ℕ) → IsStepping script S t row instr → is_before_use row.part ≡ true → FitsDecision script t S (look S t row word x)
@@ -58,12 +64,24 @@ fits-return {script = script} {S = S} {t = t} {row = row} word part h before lat
     missed true = record { each = (tt, ((refl, at_instruction h), tt)); told = omega arith; light = omega arith }
     missed false = record { each = (may_go_on part h before, (tt, tt)); told = omega arith; light = omega arith }
 
+-- a thread of its process isn't cleaned: itself
+not_cleaned : (stage : Stage) → is_spent stage ≡ false → stage_left stage ≡ 1
+not_cleaned Live e = refl
+not_cleaned Doomed e = refl
+not_cleaned _ e = absurd (cc)
+
+some-left : {script : Script} {S : State} {t : ObjNo} {row : ThreadRow} {instr : Instr} → IsStepping script S t row instr → 0 < total (left_of row.process) S.threads
+some-left {S = S} {t = t} {row = row} h =
+    let here = total_at_least (left_of row.process) S.threads t.0 None (inside S.threads t.0 row h.is) in
+    let one : left_of row.process (Some row) ≡ 1 = ap (λ (b : Bool). if b then stage_left row.stage else 0) (eq-eqb row.process.0 row.process.0 refl) ∙ not_cleaned row.stage (unspent h row h.is) in
+    let own : left_of row.process (thread_of S t) ≡ 1 = ap (left_of row.process) h.is ∙ one in omega arith
+
 -- the handle that a table gives next stands in a free slot, of the process or of the thread
 pub of_process_handle : {script : Script} {S : State} {t : ObjNo} {row : ThreadRow} {instr : Instr} (P : Option NewHandle → Type 0) → IsStepping script S t row instr → P None
     → ((i number : ℕ) → IsFree S (InProcess row.process i) → P (Some (record { holder = InProcess row.process i; number = number }))) → P (process_handle S row.process)
 of_process_handle {S = S} {t = t} {row = row} P h none some =
     let table = table_of S row.process in
-    if_cases P (is_full table) _ _ (λ _. none) (λ room. some (free_index table) (new_handle false table) (h.rows.threads.processes t.0 row h.is, record { inside = free_index_inside table room; least = refl }))
+    if_cases P (is_full table) _ _ (λ _. none) (λ room. some (free_index table) (new_handle false table) (h.rows.threads.processes t.0 row h.is, record { inside = free_index_inside table room; least = refl }, some-left h))
 
 pub of_thread_handle : {script : Script} {S : State} {t : ObjNo} {row : ThreadRow} {instr : Instr} (P : Option NewHandle → Type 0) → IsStepping script S t row instr → P None
     → ((i number : ℕ) → IsFree S (InThread t i) → P (Some (record { holder = InThread t i; number = number }))) → P (thread_handle S t)

@@ -28,8 +28,8 @@ use Rattle.machine.specs.Decide.{nothing, answer, answer_handle, refuse, go_on}
 use Rattle.machine.specs.References.{total}
 use Rattle.machine.specs.HeldIn.{owed_by}
 use Rattle.machine.specs.Task.{is_returning, instructions_of, served_queue}
-use Rattle.machine.specs.Fits.{EachFits, most_told, most_owed, IsAtInstruction, MayGoOn, IsFree, IsUnspent}
-use Rattle.machine.specs.WellFormed.{IsAlive, AreRows, is_before_use, is_spent}
+use Rattle.machine.specs.Fits.{EachFits, most_told, most_owed, IsAtInstruction, MayGoOn, IsFree, IsLive, IsUnspent}
+use Rattle.machine.specs.WellFormed.{IsAlive, AreRows, is_before_use, is_spent, IsLiveThread}
 use Rattle.move_laws.proofs.Holders.ThreadRows.{row-here}
 use Rattle.move_laws.proofs.Lists.Totals.{inside, total-append}
 use Rattle.move_laws.proofs.RowLaws.Threads.{row-kept, map_some}
@@ -97,9 +97,18 @@ unspent {script = script} {S = S} {t = t} {row = row} h = λ r is. let same_row 
     own true returns = back (is_spent row.stage) refl returns
     own false going = ap is_spent (h.live going)
 
--- nor is it after it went on
-pub unspent-gone : (S : State) (t : ObjNo) (part : Part) → IsUnspent S t → IsUnspent (moved t (GoOn t part) S) t
-unspent-gone S t part h = λ r is. let was = map_some (with_part part) (thread_of S t) r (sym (row-here S.threads t (with_part part) t.0 refl) ∙ is) in subst (λ (x : ThreadRow). is_spent x.stage ≡ false) was.2 (h was.0 was.1)
+-- one that doesn't come back from a find is live
+pub stepping_live : {script : Script} {S : State} {t : ObjNo} {row : ThreadRow} {instr : Instr} → IsStepping script S t row instr → is_returning row.part ≡ false → IsLive S t
+stepping_live {row = row} h going = λ r is. let same_row : row ≡ r = let a = h.is in cc in subst (λ (x : ThreadRow). x.stage ≡ Live) same_row (h.live going)
+
+pub live_thread : {script : Script} {S : State} {t : ObjNo} {row : ThreadRow} {instr : Instr} → IsStepping script S t row instr → is_returning row.part ≡ false → IsLiveThread S.threads t
+live_thread {row = row} h going = record { row = row; is = h.is; live = h.live going }
+
+-- and stays so where its row changes otherwise
+pub live-changed : (S T : State) (t : ObjNo) (f : ThreadRow → ThreadRow) → ((row : ThreadRow) → (f row).stage ≡ row.stage) → T.threads ≡ with_row S.threads t f → IsLive S t → IsLive T t
+live-changed S T t f keeps same h = λ r is.
+    let was = map_some f (thread_of S t) r (sym (row-here S.threads t f t.0 refl) ∙ (ap (λ (threads : List (Option ThreadRow)). get_or threads t.0 None) (sym same) ∙ is)) in
+    subst (λ (x : ThreadRow). x.stage ≡ Live) was.2 (keeps was.0 ∙ h was.0 was.1)
 
 -- a thread that made no step but a find goes on to a step
 pub may_go_on : {script : Script} {S : State} {t : ObjNo} {row : ThreadRow} {instr : Instr} (part : Part) → IsStepping script S t row instr → is_before_use row.part ≡ true → MayGoOn script S t (Some part)

@@ -48,6 +48,7 @@ rows-ready script S qs h = record {
   memories = h.memories;
   logons = h.logons;
   spent = h.spent;
+  awaited = h.awaited;
   lives = record { alive = h.lives.alive; counted = h.lives.counted; sweeps = h.lives.sweeps };
 }
 

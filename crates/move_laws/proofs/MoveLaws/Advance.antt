@@ -29,6 +29,7 @@ use Rattle.move_laws.proofs.RowLaws.Locks.{leaves-owing, leaves-then, leaves-wit
 use Rattle.move_laws.proofs.RowLaws.Memories.{memories-with_row}
 use Rattle.move_laws.proofs.MoveLaws.Sound.{Sound, sound-of}
 use Rattle.move_laws.proofs.RowLaws.Spent.{spent-kept}
+use Rattle.move_laws.proofs.RowLaws.Awaited.{awaited-kept}
 
 -- what the thread used is what it owes then
 use_owed : (u : ObjNo) (used : Option ObjNo) (o : ObjNo) → (total (owed_names o) (owed_use u used) ≡ option_names o used) × (total (owed_sweeps o) (owed_use u used) ≡ 0)
@@ -123,4 +124,5 @@ sound-advance script S t u fits few inside rows =
       memories = memories-with_row S.threads u advanced S.memories (λ row is. refl) rows.memories;
       logons = rows.logons;
       spent = spent-kept S.objects S.handles S.threads u advanced (record { stage = λ row. refl; unused = λ row e. refl; waits = λ row e. e; going = λ row e. refl; link = λ row e. e }) rows.spent;
+      awaited = awaited-kept S.threads u advanced S.requests S.logons (λ row. refl) (λ row. refl) rows.awaited;
     }) (lives-none S T refl counts sweeps) (holders-none S T held)

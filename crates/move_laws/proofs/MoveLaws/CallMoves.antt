@@ -19,9 +19,10 @@ use Rattle.move_laws.proofs.RowLaws.Logons.{logons-moved, logons-requests}
 use Rattle.move_laws.proofs.RowLaws.Requests.{requests-moved}
 use Rattle.move_laws.proofs.MoveLaws.RowMoves.{IsSilent, silent, sound-rest}
 use Rattle.move_laws.proofs.MoveLaws.Sound.{Sound}
+use Rattle.move_laws.proofs.RowLaws.Awaited.{awaited-requests, awaited-logons}
 
 pub sound-deferred : (script : Script) (S : State) (t : ObjNo) (m : DeferredMove) → FitsMove script t (Deferred m) S → AreRows script S → Sound script S (moved t (Deferred m) S) (told (Deferred m) S)
-sound-deferred script S t m fits rows = sound-rest script S S.nano (deferred_moved m S.deferred) S.requests S.logons S.memories [] (silent S) rows.nano (calls-moved script m S.deferred fits rows.deferred) rows.requests rows.logons rows.memories rows
+sound-deferred script S t m fits rows = sound-rest script S S.nano (deferred_moved m S.deferred) S.requests S.logons S.memories [] (silent S) rows.nano (calls-moved script m S.deferred fits rows.deferred) rows.requests rows.logons rows.memories rows.awaited rows
 
 -- a signal tells of no reference and no death
 pub request_silent : (S : State) (m : RequestMove) → IsSilent S (request_told m)
@@ -30,7 +31,7 @@ request_silent S (Signal t s code) = record { quiet = record { minuses = λ p. r
 request_silent S _ = silent S
 
 pub sound-requests : (script : Script) (S : State) (t : ObjNo) (m : RequestMove) → FitsMove script t (Requests m) S → AreRows script S → Sound script S (moved t (Requests m) S) (told (Requests m) S)
-sound-requests script S t m fits rows = sound-rest script S S.nano S.deferred (request_moved m S.requests) S.logons S.memories (request_told m) (request_silent S m) rows.nano rows.deferred (requests-moved _ m S.requests S.logons fits rows.requests) (logons-requests (length S.threads) S.requests m S.logons rows.requests fits rows.logons) rows.memories rows
+sound-requests script S t m fits rows = sound-rest script S S.nano S.deferred (request_moved m S.requests) S.logons S.memories (request_told m) (request_silent S m) rows.nano rows.deferred (requests-moved _ m S.requests S.logons fits.0 rows.requests) (logons-requests (length S.threads) S.requests m S.logons rows.requests fits.0 rows.logons) rows.memories (awaited-requests S m fits.0 fits.1 rows.awaited) rows
 
 pub sound-logons : (script : Script) (S : State) (t : ObjNo) (m : LogonMove) → FitsMove script t (Logons m) S → AreRows script S → Sound script S (moved t (Logons m) S) (told (Logons m) S)
-sound-logons script S t m fits rows = sound-rest script S S.nano S.deferred S.requests (logons_moved m S.logons) S.memories [] (silent S) rows.nano rows.deferred rows.requests (logons-moved S m fits rows.logons) rows.memories rows
+sound-logons script S t m fits rows = sound-rest script S S.nano S.deferred S.requests (logons_moved m S.logons) S.memories [] (silent S) rows.nano rows.deferred rows.requests (logons-moved S m fits rows.logons) rows.memories (awaited-logons S m fits rows.logons rows.awaited) rows

@@ -18,7 +18,7 @@ use Rattle.machine.specs.References.{total, same, thread_names, owed_names, opti
 use Rattle.machine.specs.Holding.{is_holder, same_pair, link_names}
 use Rattle.machine.specs.HeldIn.{held_in, use_names, owed_by}
 use Rattle.machine.specs.Task.{is_returning}
-use Rattle.machine.specs.WellFormed.{IsAlive, AreTables, AreThreads, AreDuties, AreSynchronized, AreMemories, EachMayOwe, AreRows, weight, owed_sweeps, sweeps_of, part_of, AreSpent}
+use Rattle.machine.specs.WellFormed.{IsAlive, AreTables, AreThreads, AreDuties, AreSynchronized, AreMemories, EachMayOwe, AreRows, weight, owed_sweeps, sweeps_of, part_of, AreSpent, AreAwaited}
 use Rattle.move_laws.proofs.Lives.Closes.{lives-closed}
 use Rattle.move_laws.proofs.Holders.HoldersMove.{holders-closed}
 use Rattle.move_laws.proofs.Holders.ThreadRows.{rows-with_row}
@@ -31,6 +31,7 @@ use Rattle.move_laws.proofs.RowLaws.Locks.{LeavesLocks, leaves-owing, leaves-the
 use Rattle.move_laws.proofs.RowLaws.Memories.{memories-with_row}
 use Rattle.move_laws.proofs.MoveLaws.Sound.{Sound, sound-of}
 use Rattle.move_laws.proofs.RowLaws.Spent.{spent-died}
+use Rattle.move_laws.proofs.RowLaws.Awaited.{awaited-kept}
 
 -- the rows in the middle of a close of an object: a holder's reference to it isn't there any more
 pub record HasLost (script : Script) (S : State) (t : ObjNo) (h : Holder) (o : ObjNo) (handles : List (List HandleSlot)) (threads : List (Option ThreadRow)) (owed : List (List Owed)) : Type 0 where
@@ -48,6 +49,7 @@ pub record HasLost (script : Script) (S : State) (t : ObjNo) (h : Holder) (o : O
   pub locks : LeavesLocks S.threads threads S.owed owed S.locks
   pub memories : AreMemories threads S.memories
   pub spent : AreSpent S.objects handles threads
+  pub awaited : AreAwaited threads S.requests S.logons
   pub going : is_returning (part_of (get_or threads t.0 None)) ≡ false
   pub few : total weight (get_or owed t.0 []) + total weight (owed_by_close (is_last S o) o (link_of S o)) ≤ 12
 
@@ -107,6 +109,7 @@ sound-closed false script S t h o handles threads owed e inside lost rows =
       memories = lost.memories;
       logons = rows.logons;
       spent = lost.spent;
+      awaited = lost.awaited;
     })
     (lives-closed false S T h o e alive refl
     (λ p. let a = total-owing (owed_names p) owed t [] here in let b = lost.counts p in omega arith)
@@ -144,6 +147,7 @@ sound-closed true script S t h o handles threads owed e inside lost rows =
       memories = memories-with_row threads o f S.memories (λ row is. refl) lost.memories;
       logons = rows.logons;
       spent = spent-died S.objects handles threads o (dead_row (get_or S.objects o.0 None)) lost.spent;
+      awaited = awaited-kept threads o f S.requests S.logons (λ row. refl) (λ row. refl) lost.awaited;
     })
     (lives-closed true S T h o e alive refl
     (λ p.

@@ -9,18 +9,18 @@ use Rattle.entry_log.specs.declared.effect.Holder.{Holder}
 use Rattle.entry_log.specs.declared.effect.Holder.TheVariants.{Kernel, Link, Temp}
 use Rattle.state_rows.specs.declared.duty.Owed.TheVariants.{Close}
 use Rattle.state_rows.specs.declared.thread.Stage.{Stage}
-use Rattle.state_rows.specs.declared.thread.Stage.TheVariants.{Live, Cleaned}
+use Rattle.state_rows.specs.declared.thread.Stage.TheVariants.{Live, Doomed, Cleaned}
 use Rattle.state_rows.specs.declared.thread.ThreadRow.{ThreadRow}
 use Rattle.machine.specs.declared.death_move.DeathMove.{DeathMove}
 use Rattle.machine.specs.declared.death_move.DeathMove.TheVariants.{Note, Doom, Clean, Bury}
 use Rattle.machine.specs.declared.moves.Move.TheVariants.{Death}
 use Rattle.machine.specs.declared.state.State.{State}
-use Rattle.machine.specs.DeathMoves.{death_row, death_thread, death_told, death_owed}
+use Rattle.machine.specs.DeathMoves.{death_row, death_thread, death_told, death_owed, wait_ended}
 use Rattle.machine.specs.Fits.{FitsDeath, FitsMove, IsAtStage, death_owes}
 use Rattle.machine.specs.Moves.{moved, told}
 use Rattle.machine.specs.Rows.{with_row, owed_of, owing, thread_of}
 use Rattle.machine.specs.Task.{is_returning}
-use Rattle.machine.specs.WellFormed.{AreRows, IsThread, AreSynchronized, AreSpent, is_spent, owed_sweeps, sweeps_of, weight}
+use Rattle.machine.specs.WellFormed.{AreRows, IsThread, AreSynchronized, AreSpent, is_spent, owed_sweeps, sweeps_of, weight, AreAwaited}
 use Rattle.move_laws.proofs.RowLaws.Duties.{paid-with_row, duties-owing, duties-threads, weight-owing}
 use Rattle.move_laws.proofs.RowLaws.Locks.{LeavesLocks, leaves-nowhere, leaves-with_row, leaves-owing, leaves-then, locks-left}
 use Rattle.move_laws.proofs.RowLaws.Synchronized.{synchronized-with_row, synchronized-unheld, synchronized-apart}
@@ -37,6 +37,9 @@ use Rattle.move_laws.proofs.References.Same.{if_zero}
 use Rattle.move_laws.proofs.Lives.Kinds.{lives-quiet}
 use Rattle.move_laws.proofs.RowLaws.Memories.{memories-with_row}
 use Rattle.move_laws.proofs.Lists.Totals.{inside}
+use Rattle.state_rows.specs.declared.thread.Waiting.{Waiting}
+use Rattle.state_rows.specs.declared.thread.Waiting.TheVariants as waiting
+use Rattle.move_laws.proofs.RowLaws.Awaited.{awaited-kept, awaited-doom, awaited-later}
 
 -- a doom tells of no reference, and of no object's death
 pub death_silent : (S : State) (m : DeathMove) → IsSilent S (death_told m)
@@ -73,6 +76,9 @@ some-inside threads k (Some row) is some = inside threads k row is
 not-live : (stage : Stage) → stage ≡ Live → stage ≡ Cleaned → ⊥
 not-live stage live cleaned = cc
 
+not-doomed : (stage : Stage) → stage ≡ Live → stage ≡ Doomed → ⊥
+not-doomed stage live doomed = cc
+
 -- who isn't live holds no fast mutex: a change of its row leaves the holders
 synchronized-buried : (script : Script) (S : State) (u : ObjNo) (change : ThreadRow → ThreadRow) → IsAtStage S u Cleaned → AreSynchronized script S.threads S.nano → AreSynchronized script (with_row S.threads u change) S.nano
 synchronized-buried script S u change at h = synchronized-apart script S.threads u change S.nano (λ f held. let holder = h.holders f u held in let same : at.row ≡ holder.row = (let a = at.is in let b = holder.is in cc) in not-live at.row.stage (ap (λ (r : ThreadRow). r.stage) same ∙ holder.live) at.at) h
@@ -85,7 +91,7 @@ synchronized-death script S t (Clean u) fits h = synchronized-unheld script S.th
 synchronized-death script S t (Bury u) fits h = synchronized-buried script S u (death_row (Bury u)) fits.0 h
 
 -- the row that stands there
-row-is : {S : State} {u : ObjNo} {stage : Stage} (at : IsAtStage S u stage) (row : ThreadRow) → thread_of S u ≡ Some row → row.stage ≡ stage
+pub row-is : {S : State} {u : ObjNo} {stage : Stage} (at : IsAtStage S u stage) (row : ThreadRow) → thread_of S u ≡ Some row → row.stage ≡ stage
 row-is {stage = stage} at row is = let same : at.row ≡ row = (let a = at.is in cc) in subst (λ (r : ThreadRow). r.stage ≡ stage) same at.at
 
 spent-death : (script : Script) (S : State) (t : ObjNo) (m : DeathMove) → FitsDeath t m S → AreSpent S.objects S.handles S.threads → AreSpent S.objects S.handles (with_row S.threads (death_thread m) (death_row m))
@@ -93,6 +99,18 @@ spent-death script S t (Note u exit) fits h = spent-kept S.objects S.handles S.t
 spent-death script S t (Doom u exit) fits h = spent-going S.objects S.handles S.threads u (death_row (Doom u exit)) (λ row is. refl) (λ row e. e) h
 spent-death script S t (Clean u) fits h = spent-with_row S.objects S.handles S.threads u (death_row (Clean u)) (λ row is after had. let has = fits.1.1 row is in record { unused = has.unused; waits = has.waits; going = has.going; empty = has.empty }) (λ row e. e) h
 spent-death script S t (Bury u) fits h = spent-with_row S.objects S.handles S.threads u (death_row (Bury u)) (λ row is after had. let has = had (ap is_spent (row-is fits.0 row is)) in record { unused = has.unused; waits = has.waits; going = has.going; empty = has.empty }) (λ row e. e) h
+
+-- no wait for an object is left of a doom
+ended : (what : Waiting) (o : ObjNo) → wait_ended what ≡ waiting.Lock o → ⊥
+ended waiting.Away o e = cc
+ended _ o e = cc
+
+-- who isn't live any more awaits nothing
+awaited-death : (S : State) (t : ObjNo) (m : DeathMove) → FitsDeath t m S → AreAwaited S.threads S.requests S.logons → AreAwaited (with_row S.threads (death_thread m) (death_row m)) S.requests S.logons
+awaited-death S t (Note u exit) fits h = awaited-kept S.threads u (death_row (Note u exit)) S.requests S.logons (λ row. refl) (λ row. refl) h
+awaited-death S t (Doom u exit) fits h = awaited-doom S.threads u (death_row (Doom u exit)) S.requests S.logons fits.3.requests fits.3.logons (λ row o e. ended row.waiting o e) h
+awaited-death S t (Clean u) fits h = awaited-later S.threads u (death_row (Clean u)) S.requests S.logons (λ row is live. not-doomed row.stage live (row-is fits.0 row is)) (λ row. refl) h
+awaited-death S t (Bury u) fits h = awaited-later S.threads u (death_row (Bury u)) S.requests S.logons (λ row is live. not-live row.stage live (row-is fits.0 row is)) (λ row. refl) h
 
 leaves-locks : (S : State) (t : ObjNo) (m : DeathMove) → FitsDeath t m S → LeavesLocks S.threads (with_row S.threads (death_thread m) (death_row m)) S.owed S.owed S.locks
 leaves-locks S t (Note u exit) fits = leaves-with_row S.threads u (death_row (Note u exit)) S.owed S.locks (λ row. refl)
@@ -104,7 +122,7 @@ leaves-locks S t (Bury u) fits = leaves-with_row S.threads u (death_row (Bury u)
 sound-dying : (script : Script) (S : State) (t : ObjNo) (m : DeathMove) → FitsDeath t m S → ((row : ThreadRow) → thread_of S (death_thread m) ≡ Some row → stage_holds (death_row m row).stage ≡ stage_holds row.stage) → AreRows script S → Sound script S (record S { threads = with_row S.threads (death_thread m) (death_row m) }) (death_told m)
 sound-dying script S t m fits holds rows = sound-row script S (death_thread m) (death_row m) (death_told m) (keeps-references m) holds
     (λ row is h. keeps-thread script _ m row h)
-    (λ k. inr (paid-with_row S.threads (death_thread m) (death_row m) (keeps-going m) k)) (death_silent S m) (synchronized-death script S t m fits rows.nano) (leaves-locks S t m fits) (spent-death script S t m fits rows.spent) rows
+    (λ k. inr (paid-with_row S.threads (death_thread m) (death_row m) (keeps-going m) k)) (death_silent S m) (synchronized-death script S t m fits rows.nano) (leaves-locks S t m fits) (spent-death script S t m fits rows.spent) (awaited-death S t m fits rows.awaited) rows
 
 -- what the row of a cleaned thread names
 buried-names : (x : Option ThreadRow) (u p : ObjNo) → (thread_names p (option_map (death_row (Bury u)) x) ≡ thread_names p x) × (use_names p (option_map (death_row (Bury u)) x) ≡ use_names p x) × (link_names p (option_map (death_row (Bury u)) x) ≡ link_names p x)
@@ -165,6 +183,7 @@ sound-bury script S t u fits few rows =
       memories = memories-with_row S.threads u f S.memories (λ row is. refl) rows.memories;
       logons = rows.logons;
       spent = spent-death script S t (Bury u) fits rows.spent;
+      awaited = awaited-death S t (Bury u) fits rows.awaited;
     })
     (lives-quiet S T (effect.Bury u ∷ []) refl (record { minuses = λ p. refl; deaths = λ p. refl; removals = λ p. refl }) (λ o. let a = counts o in omega arith) sweeps (λ o h. absurd (omega arith)) (λ o h. absurd (omega arith)))
     (record { fits = (tt, tt); moves = λ g x. sym (held g x) })

@@ -19,7 +19,7 @@ use Rattle.machine.specs.References.{same, thread_names, option_names, slot_name
 use Rattle.machine.specs.Holding.{is_holder, same_pair}
 use Rattle.machine.specs.HeldIn.{held_in, use_names, own_slot, rows_hold}
 use Rattle.machine.specs.Fits.{FitsMove, IsFree, IsFreeSlot, UsesNothing, IsUnspent}
-use Rattle.machine.specs.WellFormed.{AreTables, AreThreads, AreDuties, AreSynchronized, AreMemories, AreRows, MayOwe, AreSpent, is_spent}
+use Rattle.machine.specs.WellFormed.{AreTables, AreThreads, AreDuties, AreSynchronized, AreMemories, AreRows, MayOwe, AreSpent, is_spent, AreAwaited}
 use Rattle.move_laws.proofs.Lives.Kinds.{lives-plus, lives-made}
 use Rattle.move_laws.proofs.Holders.HoldersMove.{holders-plus}
 use Rattle.move_laws.proofs.Holders.SlotRows.{slot_holder, rows-with_slot}
@@ -34,6 +34,7 @@ use Rattle.move_laws.proofs.RowLaws.Locks.{LeavesLocks, leaves-none, leaves-with
 use Rattle.move_laws.proofs.RowLaws.Memories.{memories-with_row}
 use Rattle.move_laws.proofs.MoveLaws.Sound.{Sound, sound-of}
 use Rattle.move_laws.proofs.RowLaws.Spent.{made-dead, spent-going, spent-objects, spent-slot}
+use Rattle.move_laws.proofs.RowLaws.Awaited.{awaited-kept}
 
 -- the tables and threads where a holder got a reference
 pub record HasGained (script : Script) (S : State) (h : Holder) (o : ObjNo) (handles : List (List HandleSlot)) (threads : List (Option ThreadRow)) : Type 0 where
@@ -49,6 +50,7 @@ pub record HasGained (script : Script) (S : State) (h : Holder) (o : ObjNo) (han
   pub locks : LeavesLocks S.threads threads S.owed S.owed S.locks
   pub memories : AreMemories threads S.memories
   pub spent : AreSpent S.objects handles threads
+  pub awaited : AreAwaited threads S.requests S.logons
 
 empty_slot : (c : Bool) (x : ObjNo) (slot : HandleSlot) → slot.object ≡ None → own_slot c x slot ≡ 0
 empty_slot true x slot e = refl
@@ -83,6 +85,7 @@ gained-slot script S thread owner i o is unspent fits rows =
       locks = leaves-none S.threads S.owed S.locks;
       memories = rows.memories;
       spent = spent-slot S.objects S.handles S.threads owner i (taken_slot o) unspent rows.spent;
+      awaited = rows.awaited;
     }
 
 gained-use : (script : Script) (S : State) (u o : ObjNo) → UsesNothing S u → AreRows script S → HasGained script S (Temp u) o S.handles (with_row S.threads u (λ row. record row { uses = Some o }))
@@ -125,6 +128,7 @@ gained-use script S u o fits rows =
       locks = leaves-with_row S.threads u f S.owed S.locks (λ r. refl);
       memories = memories-with_row S.threads u f S.memories (λ r is. refl) rows.memories;
       spent = spent-going S.objects S.handles S.threads u f (λ r is. let same_row : row ≡ r = let a = fits.is in cc in subst (λ (x : ThreadRow). is_spent x.stage ≡ false) same_row fits.unspent) (λ r none. none) rows.spent;
+      awaited = awaited-kept S.threads u f S.requests S.logons (λ row. refl) (λ row. refl) rows.awaited;
     }
 
 is_some_of : (x : Option ThreadRow) → x ≡ None → is_some x ≡ false
@@ -141,7 +145,7 @@ sound-gain script S t h o fits rows =
     let T = moved t (Gain h o) S in
     let g = gained script S h o fits.0 rows in
     sound-of script S T (told (Gain h o) S) rows
-    (record { handles_long = g.handles_long; threads_long = g.threads_long; owed_long = refl; objects_few = rows.sized.objects_few; tables = g.tables; threads = g.threads_are; duties = g.duties; nano = g.nano; deferred = rows.deferred; requests = rows.requests; locks = locks-left (length S.objects) (length S.objects) S.threads (threads_gain h o S.threads) S.mutexes S.owed S.owed S.locks (omega arith) g.locks rows.locks; memories = g.memories; logons = rows.logons; spent = g.spent })
+    (record { handles_long = g.handles_long; threads_long = g.threads_long; owed_long = refl; objects_few = rows.sized.objects_few; tables = g.tables; threads = g.threads_are; duties = g.duties; nano = g.nano; deferred = rows.deferred; requests = rows.requests; locks = locks-left (length S.objects) (length S.objects) S.threads (threads_gain h o S.threads) S.mutexes S.owed S.owed S.locks (omega arith) g.locks rows.locks; memories = g.memories; logons = rows.logons; spent = g.spent; awaited = g.awaited })
     (lives-plus S T h o refl g.counts (λ p. refl) fits.1) (holders-plus S T h o g.none g.held)
 
 pub sound-make : (script : Script) (S : State) (t : ObjNo) (kind : Kind) (name : List ℕ) (h : Holder) → FitsMove script t (Make kind name h) S → AreRows script S → Sound script S (moved t (Make kind name h) S) (told (Make kind name h) S)
@@ -152,5 +156,5 @@ sound-make script S t kind name h fits rows =
     let room = fits.0.room in
     let long = length_push S.objects (Some (new_object kind name)) in
     sound-of script S T (told (Make kind name h) S) rows
-    (record { handles_long = g.handles_long; threads_long = g.threads_long; owed_long = refl; objects_few = omega arith; tables = g.tables; threads = g.threads_are; duties = g.duties; nano = g.nano; deferred = rows.deferred; requests = rows.requests; locks = locks-left (length S.objects) (length T.objects) S.threads (threads_gain h o S.threads) S.mutexes S.owed S.owed S.locks (omega arith) g.locks rows.locks; memories = g.memories; logons = rows.logons; spent = spent-objects S.objects T.objects T.handles T.threads (made-dead S.objects (new_object kind name) refl) g.spent })
+    (record { handles_long = g.handles_long; threads_long = g.threads_long; owed_long = refl; objects_few = omega arith; tables = g.tables; threads = g.threads_are; duties = g.duties; nano = g.nano; deferred = rows.deferred; requests = rows.requests; locks = locks-left (length S.objects) (length T.objects) S.threads (threads_gain h o S.threads) S.mutexes S.owed S.owed S.locks (omega arith) g.locks rows.locks; memories = g.memories; logons = rows.logons; spent = spent-objects S.objects T.objects T.handles T.threads (made-dead S.objects (new_object kind name) refl) g.spent; awaited = g.awaited })
     (lives-made S T (new_object kind name) h o refl refl refl g.counts (λ p. refl)) (holders-plus S T h o g.none g.held)

@@ -59,7 +59,7 @@ parts S = record { rows = S.locks; mutexes = S.mutexes; owed = S.owed }
 sound-alone : (script : Script) (S : State) (new : LockRows) → AreLocks (length S.objects) S.threads S.mutexes S.owed new → AreRows script S → Sound script S (record S { locks = new }) []
 sound-alone script S new locks rows =
     let T : State = record S { locks = new } in
-    sound-of script S T [] rows (record { handles_long = refl; threads_long = refl; owed_long = refl; objects_few = rows.sized.objects_few; tables = rows.tables; threads = rows.threads; duties = rows.duties; nano = rows.nano; deferred = rows.deferred; requests = rows.requests; locks = locks; memories = rows.memories; logons = rows.logons; spent = rows.spent })
+    sound-of script S T [] rows (record { handles_long = refl; threads_long = refl; owed_long = refl; objects_few = rows.sized.objects_few; tables = rows.tables; threads = rows.threads; duties = rows.duties; nano = rows.nano; deferred = rows.deferred; requests = rows.requests; locks = locks; memories = rows.memories; logons = rows.logons; spent = rows.spent; awaited = rows.awaited })
     (lives-none S T refl (λ o. refl) (λ o. refl)) (holders-none S T (λ g x. refl))
 
 -- that a thread takes or gives a mutex tells of no reference and no death
@@ -74,7 +74,7 @@ silent-pass S t w o = record { quiet = record { minuses = λ p. refl; deaths = �
 
 -- it is told before a change
 sound-told : (script : Script) (S T : State) (es fs : List Effect) → IsSilent S es → ((p : ObjNo) → removals fs p ≡ 0) → AreRows script S → Sound script S T fs → Sound script S T (es ++ fs)
-sound-told script S T es fs quiet none rows sound = sound-then script S S T es fs (sound-rest script S S.nano S.deferred S.requests S.logons S.memories es quiet rows.nano rows.deferred rows.requests rows.logons rows.memories rows) sound none
+sound-told script S T es fs quiet none rows sound = sound-then script S S T es fs (sound-rest script S S.nano S.deferred S.requests S.logons S.memories es quiet rows.nano rows.deferred rows.requests rows.logons rows.memories rows.awaited rows) sound none
 
 -- mutexes, duties and the rows of mutexes and semaphores change
 record ArePassed (script : Script) (S : State) (mutexes : List (List ObjNo)) (owed : List (List Owed)) (new : LockRows) : Type 0 where
@@ -102,10 +102,11 @@ sound-passed script S mutexes owed new effects h lives holders rows = sound-of s
   memories = rows.memories;
   logons = rows.logons;
   spent = rows.spent;
+  awaited = rows.awaited;
 }) lives holders
 
 -- a mutex is taken exactly where it is free
-taken_free : (owner : Option Owner) (t : ObjNo) → Taken ≡ lock_answer owner t → owner ≡ None
+pub taken_free : (owner : Option Owner) (t : ObjNo) → Taken ≡ lock_answer owner t → owner ≡ None
 taken_free None t e = refl
 taken_free (Some w) t e = by (w.thread.0 == t.0) e
   where
@@ -114,7 +115,7 @@ taken_free (Some w) t e = by (w.thread.0 == t.0) e
     by false e = absurd (cc)
 
 -- it is given up by its owner
-record IsOwn (owner : Option Owner) (t : ObjNo) : Type 0 where
+pub record IsOwn (owner : Option Owner) (t : ObjNo) : Type 0 where
   pub own : Owner
   pub is : owner ≡ Some own
   pub thread : own.thread.0 ≡ t.0
@@ -127,7 +128,7 @@ record Gives (S : State) (o t : ObjNo) : Type 0 where
   pub going : is_returning (part_of (thread_of S t)) ≡ false
   pub owns : IsOwn (owner_at S.locks o) t
 
-freed_by : (owner : Option Owner) (t : ObjNo) (best : Option ObjNo) → Freed ≡ unlock_answer owner t best → IsOwn owner t
+pub freed_by : (owner : Option Owner) (t : ObjNo) (best : Option ObjNo) → Freed ≡ unlock_answer owner t best → IsOwn owner t
 freed_by None t best e = absurd (cc)
 freed_by (Some w) t best e = by (w.thread.0 == t.0) refl e
   where
@@ -140,7 +141,7 @@ passed_best : (best : Option ObjNo) (w : ObjNo) → Passed w ≡ passed best →
 passed_best None w e = absurd (cc)
 passed_best (Some u) w e = cc
 
-passed_by : (owner : Option Owner) (t w : ObjNo) (best : Option ObjNo) → Passed w ≡ unlock_answer owner t best → IsOwn owner t × (best ≡ Some w)
+pub passed_by : (owner : Option Owner) (t w : ObjNo) (best : Option ObjNo) → Passed w ≡ unlock_answer owner t best → IsOwn owner t × (best ≡ Some w)
 passed_by None t w best e = absurd (cc)
 passed_by (Some v) t w best e = by (v.thread.0 == t.0) (nat_lt 1 v.level) refl e
   where

@@ -31,6 +31,7 @@ use Rattle.move_laws.proofs.RowLaws.Memories.{memories-with_row}
 use Rattle.move_laws.proofs.MoveLaws.Closes.{HasLost, sound-closed, close_weight}
 use Rattle.move_laws.proofs.MoveLaws.Sound.{Sound}
 use Rattle.move_laws.proofs.RowLaws.Spent.{spent-freed, spent-kept}
+use Rattle.move_laws.proofs.RowLaws.Awaited.{awaited-kept}
 
 lost-slot : (script : Script) (S : State) (t : ObjNo) (thread : Bool) (owner : ObjNo) (i : ℕ) (o : ObjNo) → is_some (thread_of S owner) ≡ thread → (slot_at (table_of S owner) i).object ≡ Some o → is_returning (part_of (thread_of S t)) ≡ false → total weight (owed_of S t) + 3 ≤ 12 → AreRows script S → HasLost script S t (slot_holder thread owner i) o (with_slot S.handles owner i freed_slot) S.threads S.owed
 lost-slot script S t thread owner i o is there going few rows =
@@ -57,6 +58,7 @@ lost-slot script S t thread owner i o is there going few rows =
       locks = leaves-none S.threads S.owed S.locks;
       memories = rows.memories;
       spent = spent-freed S.objects S.handles S.threads owner i rows.spent;
+      awaited = rows.awaited;
       going = going;
       few = omega arith;
     }
@@ -107,6 +109,7 @@ lost-use script S t u o uses going few rows =
       locks = leaves-with_row S.threads u f S.owed S.locks (λ r. refl);
       memories = memories-with_row S.threads u f S.memories (λ r is. refl) rows.memories;
       spent = spent-kept S.objects S.handles S.threads u f (record { stage = λ r. refl; unused = λ r e. refl; waits = λ r e. e; going = λ r e. e; link = λ r e. e }) rows.spent;
+      awaited = awaited-kept S.threads u f S.requests S.logons (λ row. refl) (λ row. refl) rows.awaited;
       going = (paid-with_row S.threads u f (λ r h. h) t.0).going going;
       few = omega arith;
     }

@@ -18,7 +18,7 @@ use Rattle.machine.specs.Moves.{moved, told, link_of, link_of_row, owed_by_close
 use Rattle.machine.specs.References.{total, count_of, is_last, owed_names, kernel_holds, stage_holds, thread_names}
 use Rattle.machine.specs.HeldIn.{owed_by, rows_hold}
 use Rattle.machine.specs.Task.{is_returning}
-use Rattle.machine.specs.WellFormed.{MayOwe, EachMayOwe, AreRows, weight, owed_sweeps, is_dead, part_of, AreSpent, AreThreads, AreDuties, AreSynchronized, AreMemories, is_spent}
+use Rattle.machine.specs.WellFormed.{MayOwe, EachMayOwe, AreRows, weight, owed_sweeps, is_dead, part_of, AreSpent, AreThreads, AreDuties, AreSynchronized, AreMemories, is_spent, AreAwaited}
 use Rattle.move_laws.proofs.Lists.Sets.{set_own}
 use Rattle.move_laws.proofs.Lives.Bits.{gone_is, gone_le, alive_not_gone}
 use Rattle.move_laws.proofs.Lives.LivesMove.{zero_or}
@@ -33,7 +33,8 @@ use Rattle.move_laws.proofs.RowLaws.Spent.{spent-objects, swept-dead, spent-swep
 use Rattle.move_laws.proofs.RowLaws.Swept.{IsOver, counts-swept, duties-swept, kernel-swept, leaves-swept, memories-swept, rows-swept, synchronized-swept, threads-swept}
 use Rattle.state_rows.specs.Nano.{holder_of}
 use Rattle.state_rows.specs.declared.thread.Stage.{Stage}
-use Rattle.state_rows.specs.declared.thread.Stage.TheVariants.{Buried}
+use Rattle.state_rows.specs.declared.thread.Stage.TheVariants.{Buried, Live}
+use Rattle.move_laws.proofs.RowLaws.Awaited.{awaited-swept}
 
 -- a close that is paid leaves room for what it owes: it weighs more
 room_by : (threads : List (Option ThreadRow)) (k : ℕ) (last : Bool) (h : Holder) (o : ObjNo) (link : Option ObjNo) → link_of_row (get_or threads o.0 None) ≡ link → MayOwe threads k h o → total weight (owed_by_close last o link) ≤ weight (Close h o)
@@ -70,6 +71,7 @@ sound-pay_close script S t h o rest e inside rows =
       locks = leaves-without_first S.threads S.owed t S.locks;
       memories = rows.memories;
       spent = rows.spent;
+      awaited = rows.awaited;
       going = not_returning (is_returning (part_of (thread_of S t))) refl (owed_of S t) (Close h o) rest e (rows.duties.returns t.0);
       few = let a = ap (total weight) left in omega arith;
     }) rows
@@ -91,6 +93,7 @@ record AreSwept (script : Script) (S : State) (o : ObjNo) (threads : List (Optio
   pub locks : LeavesLocks S.threads threads S.owed S.owed S.locks
   pub memories : AreMemories threads S.memories
   pub spent : AreSpent (slice_set S.objects o.0 None) S.handles threads
+  pub awaited : AreAwaited threads S.requests S.logons
 
 swept-none : (script : Script) (S : State) (o : ObjNo) → AreRows script S → AreSwept script S o S.threads
 swept-none script S o rows = record {
@@ -104,7 +107,15 @@ swept-none script S o rows = record {
   locks = leaves-none S.threads S.owed S.locks;
   memories = rows.memories;
   spent = spent-objects S.objects (slice_set S.objects o.0 None) S.handles S.threads (swept-dead S.objects o.0) rows.spent;
+  awaited = rows.awaited;
 }
+
+-- a live thread isn't one that the kernel doesn't hold
+over-apart : (S : State) (o : ObjNo) → IsOver S.handles S.threads o.0 → (row : ThreadRow) → thread_of S o ≡ Some row → row.stage ≡ Live → ⊥
+over-apart S o over row is live =
+    let own : over.row ≡ row = (let a = over.is in cc) in
+    let holds : stage_holds over.row.stage ≡ 1 = ap (λ (r : ThreadRow). stage_holds r.stage) own ∙ ap stage_holds live in
+    let none = over.unheld in omega arith
 
 -- a holder is live, and so isn't one that the kernel doesn't hold
 holder-apart : (script : Script) (S : State) (o : ObjNo) → AreRows script S → IsOver S.handles S.threads o.0 → (f : ℕ) (u : ObjNo) → holder_of S.nano f ≡ Some u → u.0 ≡ o.0 → ⊥
@@ -127,6 +138,7 @@ swept-over script S o rows over = record {
   locks = leaves-swept S.handles S.threads S.owed o.0 S.locks over;
   memories = memories-swept S.threads S.memories o.0 rows.memories;
   spent = spent-swept S.objects S.handles S.threads o.0 rows.spent;
+  awaited = awaited-swept S.threads o.0 S.requests S.logons (λ row is live. over-apart S o over row is live) rows.awaited;
 }
 
 -- whose sweep is owed is dead
@@ -137,6 +149,12 @@ sweep-dead script S t o rest e here rows =
     let small = gone_le S.objects o in
     let self = same_self o in
     let owed = rows.lives.sweeps o in omega arith
+
+-- and the kernel doesn't hold it
+pub sweep-unheld : (script : Script) (S : State) (t : ObjNo) (o : ObjNo) (rest : List Owed) → owed_of S t ≡ Sweep o ∷ rest → t.0 < length S.owed → AreRows script S → kernel_holds (thread_of S o) ≡ 0
+sweep-unheld script S t o rest e here rows =
+    let dead = sweep-dead script S t o rest e here rows in
+    let none : count_of S o ≡ 0 = zero_or (count_of S o) (λ some. let a = alive_not_gone S.objects o (rows.lives.alive o some) in let b = gone_is S.objects o in let c = gone_le S.objects o in absurd (omega arith)) in omega arith
 
 -- the sweep of an object, with these threads left
 sound-swept : (script : Script) (S : State) (t : ObjNo) (o : ObjNo) (rest : List Owed) (threads : List (Option ThreadRow)) → owed_of S t ≡ Sweep o ∷ rest → t.0 < length S.threads → AreRows script S → AreSwept script S o threads → Sound script S (record S { objects = slice_set S.objects o.0 None; threads = threads; owed = without_first S.owed t }) (Swept o ∷ [])
@@ -166,6 +184,7 @@ sound-swept script S t o rest threads e inside rows left =
       memories = left.memories;
       logons = rows.logons;
       spent = left.spent;
+      awaited = left.awaited;
     })
     (lives-swept S T o there dead refl counts (λ p. let a = paid p in omega arith))
     (record { fits = (tt, tt); moves = λ g x. let a = total-paying (owed_by g x) S.owed t (Sweep o) rest here e in let b = left.held g x in omega arith })
@@ -181,8 +200,7 @@ sweep-over script S t o rest row e inside rows is = over-by script S o row row.s
     dead = sweep-dead script S t o rest e here rows
 
     uncounted : kernel_holds (thread_of S o) ≡ 0
-    uncounted =
-        let none : count_of S o ≡ 0 = zero_or (count_of S o) (λ some. let a = alive_not_gone S.objects o (rows.lives.alive o some) in let b = gone_is S.objects o in let c = gone_le S.objects o in let d = dead in absurd (omega arith)) in omega arith
+    uncounted = sweep-unheld script S t o rest e here rows
 
 pub sound-pay_sweep : (script : Script) (S : State) (t : ObjNo) (o : ObjNo) (rest : List Owed) → owed_of S t ≡ Sweep o ∷ rest → t.0 < length S.threads → AreRows script S → Sound script S (moved t (Pay (Sweep o)) S) (told (Pay (Sweep o)) S)
 sound-pay_sweep script S t o rest e inside rows = sound-swept script S t o rest (slice_set S.threads o.0 None) e inside rows (by (thread_of S o) refl)

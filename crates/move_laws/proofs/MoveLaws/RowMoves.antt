@@ -28,7 +28,7 @@ use Rattle.machine.specs.Holding.{is_holder, held_after_all, EachFitsHolders, li
 use Rattle.machine.specs.HeldIn.{held_in, use_names}
 use Rattle.machine.specs.Task.{instructions_of, is_returning}
 use Rattle.machine.specs.Fits.{FitsMove, IsAtInstruction, WaitsNowhere}
-use Rattle.machine.specs.WellFormed.{IsThread, AreSynchronized, AreCalls, AreLogons, AreMemories, AreRequests, AreRows, part_of, AreSpent}
+use Rattle.machine.specs.WellFormed.{IsThread, AreSynchronized, AreCalls, AreLogons, AreMemories, AreRequests, AreRows, part_of, AreSpent, AreAwaited, is_spent}
 use Rattle.move_laws.proofs.Lives.Kinds.{IsQuiet, lives-quiet}
 use Rattle.move_laws.proofs.Holders.ThreadRows.{row_holds, rows-with_row, row-other}
 use Rattle.move_laws.proofs.References.Counts.{count-with_row, kernel-with_row}
@@ -40,6 +40,8 @@ use Rattle.move_laws.proofs.RowLaws.Memories.{memories-filled, memories-with_row
 use Rattle.move_laws.proofs.RowLaws.Synchronized.{synchronized-with_row, synchronized-unheld}
 use Rattle.move_laws.proofs.MoveLaws.Sound.{Sound, sound-of}
 use Rattle.move_laws.proofs.RowLaws.Spent.{spent-going, spent-kept}
+use Rattle.move_laws.proofs.RowLaws.Awaited.{awaited-kept, awaited-with_row}
+use Rattle.state_rows.specs.declared.thread.Stage.TheVariants.{Live}
 
 -- effects that tell of no reference and no death
 pub record IsSilent (S : State) (effects : List Effect) : Type 0 where
@@ -62,8 +64,8 @@ names-map : (f : ThreadRow → ThreadRow) (x : Option ThreadRow) (o : ObjNo) →
 names-map f None o h = (refl, refl, refl)
 names-map f (Some row) o h = let a = h.uses row in let b = h.link row in (cc, cc, cc)
 
-pub sound-row : (script : Script) (S : State) (u : ObjNo) (f : ThreadRow → ThreadRow) (effects : List Effect) → KeepsReferences f → ((row : ThreadRow) → thread_of S u ≡ Some row → stage_holds (f row).stage ≡ stage_holds row.stage) → ((row : ThreadRow) → thread_of S u ≡ Some row → IsThread script (length S.threads) row → KeepsThread script (length S.threads) row (f row)) → ((k : ℕ) → (get_or S.owed k [] ≡ []) ⊎ IsPaidIn S.threads (with_row S.threads u f) k) → IsSilent S effects → AreSynchronized script (with_row S.threads u f) S.nano → LeavesLocks S.threads (with_row S.threads u f) S.owed S.owed S.locks → AreSpent S.objects S.handles (with_row S.threads u f) → AreRows script S → Sound script S (record S { threads = with_row S.threads u f }) effects
-sound-row script S u f effects keeps holds thread paid quiet nano leaves spent rows =
+pub sound-row : (script : Script) (S : State) (u : ObjNo) (f : ThreadRow → ThreadRow) (effects : List Effect) → KeepsReferences f → ((row : ThreadRow) → thread_of S u ≡ Some row → stage_holds (f row).stage ≡ stage_holds row.stage) → ((row : ThreadRow) → thread_of S u ≡ Some row → IsThread script (length S.threads) row → KeepsThread script (length S.threads) row (f row)) → ((k : ℕ) → (get_or S.owed k [] ≡ []) ⊎ IsPaidIn S.threads (with_row S.threads u f) k) → IsSilent S effects → AreSynchronized script (with_row S.threads u f) S.nano → LeavesLocks S.threads (with_row S.threads u f) S.owed S.owed S.locks → AreSpent S.objects S.handles (with_row S.threads u f) → AreAwaited (with_row S.threads u f) S.requests S.logons → AreRows script S → Sound script S (record S { threads = with_row S.threads u f }) effects
+sound-row script S u f effects keeps holds thread paid quiet nano leaves spent awaited rows =
     let T : State = record S { threads = with_row S.threads u f } in
     let old = thread_of S u in
     let counts : (o : ObjNo) → count_of T o ≡ count_of S o = λ o.
@@ -89,6 +91,7 @@ sound-row script S u f effects keeps holds thread paid quiet nano leaves spent r
       memories = memories-with_row S.threads u f S.memories (λ row is. (thread row is (rows.threads.rows u.0 row is)).process) rows.memories;
       logons = rows.logons;
       spent = spent;
+      awaited = awaited;
     })
     (lives-quiet S T effects refl quiet.quiet (λ o. let a = counts o in let b = quiet.pluses o in let c = quiet.quiet.minuses o in omega arith) (λ o. refl) (λ o h. let b = quiet.pluses o in absurd (omega arith)) quiet.found)
     (record { fits = quiet.fits; moves = λ g x. quiet.after g x ∙ sym (held g x) })
@@ -103,12 +106,12 @@ sound-find script S t u o fits rows = sound-row script S u (with_found o) (Seek 
       found = λ p h. subst (λ (y : ObjNo). y.0 < length S.objects) (same_is o p (omega arith)) fits;
       fits = (tt, tt);
       after = λ g x. refl;
-    }) (synchronized-with_row script S.threads u (with_found o) S.nano (λ row h. h) rows.nano) (leaves-with_row S.threads u (with_found o) S.owed S.locks (λ row. refl)) (spent-kept S.objects S.handles S.threads u (with_found o) (record { stage = λ row. refl; unused = λ row e. e; waits = λ row e. e; going = λ row e. e; link = λ row e. e }) rows.spent) rows
+    }) (synchronized-with_row script S.threads u (with_found o) S.nano (λ row h. h) rows.nano) (leaves-with_row S.threads u (with_found o) S.owed S.locks (λ row. refl)) (spent-kept S.objects S.handles S.threads u (with_found o) (record { stage = λ row. refl; unused = λ row e. e; waits = λ row e. e; going = λ row e. e; link = λ row e. e }) rows.spent) (awaited-kept S.threads u (with_found o) S.requests S.logons (λ row. refl) (λ row. refl) rows.awaited) rows
 
 pub sound-write : (script : Script) (S : State) (t u : ObjNo) (x value : ℕ) → FitsMove script t (Write u x value) S → AreRows script S → Sound script S (moved t (Write u x value) S) (told (Write u x value) S)
 sound-write script S t u x value fits rows = sound-row script S u (λ row. record row { registers = slice_set row.registers x value }) [] (record { link = λ row. refl; uses = λ row. refl }) (λ row is. refl)
     (λ row is h. record { thread = record { process = h.process; link = h.link; priority = h.priority; next_instruction = h.next_instruction; unused = h.unused; registers = length-set row.registers x value ∙ h.registers; declared = h.declared; returns = h.returns }; process = refl; role = refl })
-    (λ k. inr (paid-with_row S.threads u (λ row. record row { registers = slice_set row.registers x value }) (λ row h. h) k)) (silent S) (synchronized-with_row script S.threads u (λ row. record row { registers = slice_set row.registers x value }) S.nano (λ row h. h) rows.nano) (leaves-with_row S.threads u (λ row. record row { registers = slice_set row.registers x value }) S.owed S.locks (λ row. refl)) (spent-kept S.objects S.handles S.threads u (λ row. record row { registers = slice_set row.registers x value }) (record { stage = λ row. refl; unused = λ row e. e; waits = λ row e. e; going = λ row e. e; link = λ row e. e }) rows.spent) rows
+    (λ k. inr (paid-with_row S.threads u (λ row. record row { registers = slice_set row.registers x value }) (λ row h. h) k)) (silent S) (synchronized-with_row script S.threads u (λ row. record row { registers = slice_set row.registers x value }) S.nano (λ row h. h) rows.nano) (leaves-with_row S.threads u (λ row. record row { registers = slice_set row.registers x value }) S.owed S.locks (λ row. refl)) (spent-kept S.objects S.handles S.threads u (λ row. record row { registers = slice_set row.registers x value }) (record { stage = λ row. refl; unused = λ row e. e; waits = λ row e. e; going = λ row e. e; link = λ row e. e }) rows.spent) (awaited-kept S.threads u (λ row. record row { registers = slice_set row.registers x value }) S.requests S.logons (λ row. refl) (λ row. refl) rows.awaited) rows
 
 -- a thread that goes on to a return is at its instruction
 returning_at : (script : Script) (S : State) (u : ObjNo) (row : ThreadRow) {returns : Bool} → thread_of S u ≡ Some row → (returns ≡ true → IsAtInstruction script S u) → returns ≡ true → row.next_instruction < length (instructions_of script row.role)
@@ -130,35 +133,35 @@ sound-go_on script S t u part fits rows =
           going = λ h. ap (λ (y : Option ThreadRow). is_returning (part_of y)) (row-other S.threads u f k apart) ∙ h;
         })
       ]
-    ]) (silent S) (synchronized-with_row script S.threads u f S.nano (λ row h. h) rows.nano) (leaves-with_row S.threads u f S.owed S.locks (λ row. refl)) (spent-going S.objects S.handles S.threads u f fits.unspent (λ row e. e) rows.spent) rows
+    ]) (silent S) (synchronized-with_row script S.threads u f S.nano (λ row h. h) rows.nano) (leaves-with_row S.threads u f S.owed S.locks (λ row. refl)) (spent-going S.objects S.handles S.threads u f fits.unspent (λ row e. e) rows.spent) (awaited-kept S.threads u f S.requests S.logons (λ row. refl) (λ row. refl) rows.awaited) rows
 
 -- a change of what a thread waits for that stands among no waiters
-sound-waiting : (script : Script) (S : State) (u : ObjNo) (what : Waiting) → WaitsNowhere S u → AreSynchronized script (with_row S.threads u (with_waiting what)) S.nano → AreSpent S.objects S.handles (with_row S.threads u (with_waiting what)) → AreRows script S → Sound script S (record S { threads = with_row S.threads u (with_waiting what) }) []
-sound-waiting script S u what nowhere nano spent rows = sound-row script S u (with_waiting what) [] (record { link = λ row. refl; uses = λ row. refl }) (λ row is. refl)
+sound-waiting : (script : Script) (S : State) (u : ObjNo) (what : Waiting) → WaitsNowhere S u → AreSynchronized script (with_row S.threads u (with_waiting what)) S.nano → AreSpent S.objects S.handles (with_row S.threads u (with_waiting what)) → ((row : ThreadRow) (o : ObjNo) → thread_of S u ≡ Some row → what ≡ waiting.Lock o → row.stage ≡ Live) → AreRows script S → Sound script S (record S { threads = with_row S.threads u (with_waiting what) }) []
+sound-waiting script S u what nowhere nano spent live rows = sound-row script S u (with_waiting what) [] (record { link = λ row. refl; uses = λ row. refl }) (λ row is. refl)
     (λ row is h. record { thread = record { process = h.process; link = h.link; priority = h.priority; next_instruction = h.next_instruction; unused = h.unused; registers = h.registers; declared = h.declared; returns = h.returns }; process = refl; role = refl })
-    (λ k. inr (paid-with_row S.threads u (with_waiting what) (λ row h. h) k)) (silent S) nano (leaves-nowhere S.threads u (with_waiting what) S.owed S.locks nowhere) spent rows
+    (λ k. inr (paid-with_row S.threads u (with_waiting what) (λ row h. h) k)) (silent S) nano (leaves-nowhere S.threads u (with_waiting what) S.owed S.locks nowhere) spent (awaited-with_row S.threads u (with_waiting what) S.requests S.logons (λ row is live. live) (λ row o is was e. live row o is e) rows.awaited) rows
 
 pub sound-wait : (script : Script) (S : State) (t u : ObjNo) (what : Waiting) → FitsMove script t (Wait u what) S → AreRows script S → Sound script S (moved t (Wait u what) S) (told (Wait u what) S)
-sound-wait script S t u what fits rows = sound-waiting script S u what fits.1 (synchronized-unheld script S.threads u (with_waiting what) S.nano fits.0 rows.nano) (spent-going S.objects S.handles S.threads u (with_waiting what) fits.2 (λ row e. e) rows.spent) rows
+sound-wait script S t u what fits rows = sound-waiting script S u what fits.1 (synchronized-unheld script S.threads u (with_waiting what) S.nano fits.0 rows.nano) (spent-going S.objects S.handles S.threads u (with_waiting what) (λ row is. ap is_spent (fits.2 row is)) (λ row e. e) rows.spent) (λ row o is e. fits.2 row is) rows
 
 pub sound-wake : (script : Script) (S : State) (t u : ObjNo) → FitsMove script t (Wake u) S → AreRows script S → Sound script S (moved t (Wake u) S) (told (Wake u) S)
-sound-wake script S t u fits rows = sound-waiting script S u waiting.Nothing fits (synchronized-with_row script S.threads u (with_waiting waiting.Nothing) S.nano (λ row h. (refl, h.1, h.2)) rows.nano) (spent-kept S.objects S.handles S.threads u (with_waiting waiting.Nothing) (record { stage = λ row. refl; unused = λ row e. e; waits = λ row e. refl; going = λ row e. e; link = λ row e. e }) rows.spent) rows
+sound-wake script S t u fits rows = sound-waiting script S u waiting.Nothing fits (synchronized-with_row script S.threads u (with_waiting waiting.Nothing) S.nano (λ row h. (refl, h.1, h.2)) rows.nano) (spent-kept S.objects S.handles S.threads u (with_waiting waiting.Nothing) (record { stage = λ row. refl; unused = λ row e. e; waits = λ row e. refl; going = λ row e. e; link = λ row e. e }) rows.spent) (λ row o is e. absurd (cc)) rows
 
 pub sound-priority : (script : Script) (S : State) (t u : ObjNo) (priority : ℕ) → FitsMove script t (SetPriority u priority) S → AreRows script S → Sound script S (moved t (SetPriority u priority) S) (told (SetPriority u priority) S)
 sound-priority script S t u priority fits rows = sound-row script S u (with_priority priority) [] (record { link = λ row. refl; uses = λ row. refl }) (λ row is. refl)
     (λ row is h. record { thread = record { process = h.process; link = h.link; priority = fits; next_instruction = h.next_instruction; unused = h.unused; registers = h.registers; declared = h.declared; returns = h.returns }; process = refl; role = refl })
-    (λ k. inr (paid-with_row S.threads u (with_priority priority) (λ row h. h) k)) (silent S) (synchronized-with_row script S.threads u (with_priority priority) S.nano (λ row h. h) rows.nano) (leaves-with_row S.threads u (with_priority priority) S.owed S.locks (λ row. refl)) (spent-kept S.objects S.handles S.threads u (with_priority priority) (record { stage = λ row. refl; unused = λ row e. e; waits = λ row e. e; going = λ row e. e; link = λ row e. e }) rows.spent) rows
+    (λ k. inr (paid-with_row S.threads u (with_priority priority) (λ row h. h) k)) (silent S) (synchronized-with_row script S.threads u (with_priority priority) S.nano (λ row h. h) rows.nano) (leaves-with_row S.threads u (with_priority priority) S.owed S.locks (λ row. refl)) (spent-kept S.objects S.handles S.threads u (with_priority priority) (record { stage = λ row. refl; unused = λ row e. e; waits = λ row e. e; going = λ row e. e; link = λ row e. e }) rows.spent) (awaited-kept S.threads u (with_priority priority) S.requests S.logons (λ row. refl) (λ row. refl) rows.awaited) rows
 
 -- a change of the rows of threads that synchronize, of deferred function calls, of requests and of memories leaves all else
-pub sound-rest : (script : Script) (S : State) (nano : NanoRows) (calls : DeferredRows) (requests : RequestRows) (logons : List (List (ObjNo × ℕ))) (memories : List (Option (List ℕ))) (effects : List Effect) → IsSilent S effects → AreSynchronized script S.threads nano → AreCalls script calls → AreRequests (length S.threads) requests → AreLogons (length S.threads) requests logons → AreMemories S.threads memories → AreRows script S → Sound script S (record S { nano = nano; deferred = calls; requests = requests; logons = logons; memories = memories }) effects
-sound-rest script S nano calls requests logons memories effects quiet sound called requested logged kept rows =
+pub sound-rest : (script : Script) (S : State) (nano : NanoRows) (calls : DeferredRows) (requests : RequestRows) (logons : List (List (ObjNo × ℕ))) (memories : List (Option (List ℕ))) (effects : List Effect) → IsSilent S effects → AreSynchronized script S.threads nano → AreCalls script calls → AreRequests (length S.threads) requests → AreLogons (length S.threads) requests logons → AreMemories S.threads memories → AreAwaited S.threads requests logons → AreRows script S → Sound script S (record S { nano = nano; deferred = calls; requests = requests; logons = logons; memories = memories }) effects
+sound-rest script S nano calls requests logons memories effects quiet sound called requested logged kept awaited rows =
     let T : State = record S { nano = nano; deferred = calls; requests = requests; logons = logons; memories = memories } in
-    sound-of script S T effects rows (record { handles_long = refl; threads_long = refl; owed_long = refl; objects_few = rows.sized.objects_few; tables = rows.tables; threads = rows.threads; duties = rows.duties; nano = sound; deferred = called; requests = requested; locks = rows.locks; logons = logged; memories = kept; spent = rows.spent })
+    sound-of script S T effects rows (record { handles_long = refl; threads_long = refl; owed_long = refl; objects_few = rows.sized.objects_few; tables = rows.tables; threads = rows.threads; duties = rows.duties; nano = sound; deferred = called; requests = requested; locks = rows.locks; logons = logged; memories = kept; spent = rows.spent; awaited = awaited })
     (lives-quiet S T effects refl quiet.quiet (λ o. let b = quiet.pluses o in let c = quiet.quiet.minuses o in omega arith) (λ o. refl) (λ o h. let b = quiet.pluses o in absurd (omega arith)) quiet.found)
     (record { fits = quiet.fits; moves = quiet.after })
 
 pub sound-miss : (script : Script) (S : State) (t o : ObjNo) → AreRows script S → Sound script S (moved t (Miss o) S) (told (Miss o) S)
-sound-miss script S t o rows = sound-rest script S S.nano S.deferred S.requests S.logons S.memories (Missed o ∷ []) (record { quiet = record { minuses = λ p. refl; deaths = λ p. refl; removals = λ p. refl }; pluses = λ p. refl; found = λ p h. absurd (omega arith); fits = (tt, tt); after = λ g x. refl }) rows.nano rows.deferred rows.requests rows.logons rows.memories rows
+sound-miss script S t o rows = sound-rest script S S.nano S.deferred S.requests S.logons S.memories (Missed o ∷ []) (record { quiet = record { minuses = λ p. refl; deaths = λ p. refl; removals = λ p. refl }; pluses = λ p. refl; found = λ p h. absurd (omega arith); fits = (tt, tt); after = λ g x. refl }) rows.nano rows.deferred rows.requests rows.logons rows.memories rows.awaited rows
 
 pub sound-fill : (script : Script) (S : State) (t p : ObjNo) (at long byte : ℕ) → FitsMove script t (Fill p at long byte) S → AreRows script S → Sound script S (moved t (Fill p at long byte) S) (told (Fill p at long byte) S)
-sound-fill script S t p at long byte fits rows = sound-rest script S S.nano S.deferred S.requests S.logons (with_memory S.memories p (filled at long byte)) [] (silent S) rows.nano rows.deferred rows.requests rows.logons (memories-filled S.threads S.memories p at long byte fits rows.memories) rows
+sound-fill script S t p at long byte fits rows = sound-rest script S S.nano S.deferred S.requests S.logons (with_memory S.memories p (filled at long byte)) [] (silent S) rows.nano rows.deferred rows.requests rows.logons (memories-filled S.threads S.memories p at long byte fits rows.memories) rows.awaited rows

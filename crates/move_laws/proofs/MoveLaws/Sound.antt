@@ -6,7 +6,7 @@ use Rattle.script_types.specs.declared.script.Script.{Script}
 use Rattle.entry_log.specs.declared.effect.Effect.{Effect}
 use Rattle.machine.specs.declared.state.State.{State}
 use Rattle.machine.specs.Told.{removals}
-use Rattle.machine.specs.WellFormed.{AreTables, AreThreads, AreDuties, AreSynchronized, AreCalls, AreRequests, AreLocks, AreLogons, AreMemories, AreRows, AreSpent}
+use Rattle.machine.specs.WellFormed.{AreTables, AreThreads, AreDuties, AreSynchronized, AreCalls, AreRequests, AreLocks, AreLogons, AreMemories, AreRows, AreSpent, AreAwaited}
 use Rattle.move_laws.proofs.Lives.LivesMove.{LivesMove, lives-then, lives-kept}
 use Rattle.move_laws.proofs.Lives.Kinds.{lives-none}
 use Rattle.move_laws.proofs.Holders.HoldersMove.{HoldersMove, holders-then, holders-none}
@@ -45,6 +45,7 @@ pub record AreParts (script : Script) (S T : State) : Type 0 where
   pub memories : AreMemories T.threads T.memories
   pub logons : AreLogons (length S.threads) T.requests T.logons
   pub spent : AreSpent T.objects T.handles T.threads
+  pub awaited : AreAwaited T.threads T.requests T.logons
 
 pub sound-of : (script : Script) (S T : State) (effects : List Effect) → AreRows script S → AreParts script S T → LivesMove S T effects → HoldersMove S T effects → Sound script S T effects
 sound-of script S T effects rows parts lives holders =
@@ -73,6 +74,7 @@ sound-of script S T effects rows parts lives holders =
         memories = parts.memories;
         logons = subst (λ (n : ℕ). AreLogons n T.requests T.logons) (sym parts.threads_long) parts.logons;
         spent = parts.spent;
+        awaited = parts.awaited;
         lives = lives-kept S T effects lives rows.lives;
       };
       long = parts.threads_long;

@@ -25,7 +25,7 @@ use Rattle.move_laws.proofs.References.Same.{same_object}
 use Rattle.move_laws.proofs.RowLaws.Requests.{device_had, device_is, dropped, of_status}
 
 -- a logon with the status of another is that
-the_logon : (u : ObjNo) (s : ℕ) (v : ObjNo) (w : ℕ) → 0 < logon_names u s (v, w) → (v ≡ u) × (w ≡ s)
+pub the_logon : (u : ObjNo) (s : ℕ) (v : ObjNo) (w : ℕ) → 0 < logon_names u s (v, w) → (v ≡ u) × (w ≡ s)
 the_logon u s v w some = by (is_logon u s (v, w)) refl some
   where
     by : (b : Bool) → is_logon u s (v, w) ≡ b → 0 < (if b then 1 else 0) → (v ≡ u) × (w ≡ s)
@@ -40,7 +40,7 @@ names_few u s x = by (is_logon u s x)
     by false = omega arith
 
 -- those of a list that pass a test are no more
-total-filter : {A : Type 0} (f : A → ℕ) (p : A → Bool) (xs : List A) → total f (filter p xs) ≤ total f xs
+pub total-filter : {A : Type 0} (f : A → ℕ) (p : A → Bool) (xs : List A) → total f (filter p xs) ≤ total f xs
 total-filter f p [] = omega arith
 total-filter f p (x ∷ xs) = by (p x) (total-filter f p xs)
   where
@@ -48,12 +48,12 @@ total-filter f p (x ∷ xs) = by (p x) (total-filter f p xs)
     by true le = omega arith
     by false le = omega arith
 
-filtered_each : {A : Type 0} (f : A → ℕ) (p : A → Bool) (xs : List (List A)) → total (total f) (map (filter p) xs) ≤ total (total f) xs
+pub filtered_each : {A : Type 0} (f : A → ℕ) (p : A → Bool) (xs : List (List A)) → total (total f) (map (filter p) xs) ≤ total (total f) xs
 filtered_each f p [] = omega arith
 filtered_each f p (x ∷ xs) = let a = total-filter f p x in let b = filtered_each f p xs in omega arith
 
 -- another list at a place
-total-at : {A : Type 0} (f : A → ℕ) (xs : List (List A)) (i : ℕ) (ys : List A) → total f ys ≤ total f (get_or xs i []) → total (total f) (set xs i ys) ≤ total (total f) xs
+pub total-at : {A : Type 0} (f : A → ℕ) (xs : List (List A)) (i : ℕ) (ys : List A) → total f ys ≤ total f (get_or xs i []) → total (total f) (set xs i ys) ≤ total (total f) xs
 total-at f xs i ys le = elim (cases_lt i (length xs)) as (λ _. total (total f) (set xs i ys) ≤ total (total f) xs) [
   | inl inside ↦ let a = total-set (total f) xs i ys [] inside in omega arith
   | inr past ↦ let same = set_past xs i ys past in let a = ap (total (total f)) same in omega arith
@@ -66,6 +66,12 @@ logons-fewer count r logons other long fewer h = record {
   once = λ u s. let a = fewer u s in let b = h.once u s in omega arith;
   waits = λ u s some. let a = fewer u s in h.waits u s (omega arith);
 }
+
+-- a logon more
+pub logon-added : (logons : List (List (ObjNo × ℕ))) (t u : ObjNo) (s : ℕ) → t.0 < length logons → (v : ObjNo) (w : ℕ) → times_logged (set logons t.0 (logons_on logons t ++ (u, s) ∷ [])) v w ≡ times_logged logons v w + logon_names v w (u, s)
+logon-added logons t u s inside v w =
+    let a = total-set (total (logon_names v w)) logons t.0 (logons_on logons t ++ (u, s) ∷ []) [] inside in
+    let b = total-append (logon_names v w) (logons_on logons t) ((u, s) ∷ []) in omega arith
 
 -- a move in the rows of logons that fits keeps them
 pub logons-moved : (S : State) (m : LogonMove) → FitsLogons m S → AreLogons (length S.threads) S.requests S.logons → AreLogons (length S.threads) S.requests (logons_moved m S.logons)
@@ -84,11 +90,7 @@ logons-moved S (logon.Add t u s) fits h = record {
 }
   where
     added : (v : ObjNo) (w : ℕ) → times_logged (logons_moved (logon.Add t u s) S.logons) v w ≡ times_logged S.logons v w + logon_names v w (u, s)
-    added v w =
-        let long = h.sized in
-        let inside = fits.0 in
-        let a = total-set (total (logon_names v w)) S.logons t.0 (logons_on S.logons t ++ (u, s) ∷ []) [] (omega arith) in
-        let b = total-append (logon_names v w) (logons_on S.logons t) ((u, s) ∷ []) in omega arith
+    added v w = logon-added S.logons t u s (let long = h.sized in let inside = fits.0 in omega arith) v w
 logons-moved S (logon.Remove t u s) fits h =
     logons-fewer (length S.threads) S.requests S.logons (set S.logons t.0 (without_logon u s (logons_on S.logons t))) (length-set S.logons t.0 _)
     (λ v w. total-at (logon_names v w) S.logons t.0 (without_logon u s (logons_on S.logons t)) (total-filter (logon_names v w) (λ (x : ObjNo × ℕ). not (is_logon u s x)) (logons_on S.logons t))) h
@@ -140,7 +142,7 @@ pub logons-requests : (count : ℕ) (r : RequestRows) (m : RequestMove) (logons 
 logons-requests count r m logons rows fits h = record { sized = h.sized; once = h.once; waits = λ u s some. still_awaited count r m logons u s rows fits some (h.waits u s some) }
 
 -- none at boot
-none_logged : {B : Type 0} (u : ObjNo) (s : ℕ) (bs : List B) → times_logged (map (λ _. []) bs) u s ≡ 0
+pub none_logged : {B : Type 0} (u : ObjNo) (s : ℕ) (bs : List B) → times_logged (map (λ _. []) bs) u s ≡ 0
 none_logged u s [] = refl
 none_logged u s (b ∷ bs) = let rest = none_logged u s bs in omega arith
 

@@ -1,5 +1,5 @@
 use Rattle.std.proofs.Common.{subst}
-use Rattle.machine_safe.specs.SafeReferences.{IsSafeReferences}
+use Rattle.machine_safe.specs.Safe.{IsSafe}
 use Rattle.machine_safe.specs.ReadyHolders.{AreHoldersReady}
 use Rattle.machine_safe.proofs.ReadyHolders.{holders_ready}
 use Rattle.kcore.specs.KernelView.{KernelView}
@@ -9,7 +9,7 @@ use Rattle.kcore.proofs.kernel.Kernel.history.Goals as goal
 pub returns-clause-safe : goal.returns-clause-safe
 returns-clause-safe g c =
     let k = c.self.inside in
-    subst (λ (v : KernelView). IsSafeReferences v.script v.history) c.self.view_is (safe_history k.script k.history.items k.tables k.ready c.self.invariant.stands)
+    subst (λ (v : KernelView). IsSafe v.script v.history) c.self.view_is (safe_history k.script k.history.items k.tables k.ready c.self.invariant.stands)
 
 pub returns-clause-holders : goal.returns-clause-holders
 returns-clause-holders g c =

@@ -1,0 +1,87 @@
+-- What a dying thread does next, and that its moves go through.
+use Rattle.std.proofs.Common.{◌≡◌, ◌∙◌, ℕ, ◌+◌, ◌≤◌, true, false, List, [], ◌∷◌, Option, Some, None, ap, arith, refl, subst, sym}
+use Rattle.std.specs.Prelude.{Bool, IsTrue}
+use Rattle.sym_base.specs.declared.number.ObjNo.{ObjNo}
+use Rattle.sym_base.specs.declared.kind.Exit.{Exit}
+use Rattle.script_types.specs.declared.script.Script.{Script}
+use Rattle.script_types.specs.declared.instruction.Instr.{Instr}
+use Rattle.script_types.specs.Shape.{IsShaped}
+use Rattle.state_rows.specs.declared.duty.Owed.{Owed}
+use Rattle.state_rows.specs.declared.thread.Stage.{Stage}
+use Rattle.state_rows.specs.declared.thread.ThreadRow.{ThreadRow}
+use Rattle.machine.specs.declared.decision.Decision.{Decision}
+use Rattle.machine.specs.declared.holding.Holding.{Holding}
+use Rattle.machine.specs.declared.state.State.{State}
+use Rattle.machine.specs.declared.task.Task.{Task}
+use Rattle.machine.specs.declared.task.Task.TheVariants.{Bury, Clean, Pay}
+use Rattle.machine.specs.Dooms.{doom}
+use Rattle.machine.specs.Fits.{most_owed}
+use Rattle.machine.specs.Holdings.{holdings}
+use Rattle.machine.specs.Reaping.{bury}
+use Rattle.machine.specs.References.{total}
+use Rattle.machine.specs.Rows.{first_owed, owed_of, thread_of}
+use Rattle.machine.specs.Steps.{decision_of, decision_of_row, decision_where, pay}
+use Rattle.machine.specs.Task.{by_stage, dying_task, instruction, is_able, is_returning, pay_or, return_or, task_of, task_of_row}
+use Rattle.machine.specs.WellFormed.{AreRows, weight}
+use Rattle.machine_laws.proofs.Fitting.Bodies.{Goes}
+use Rattle.machine_laws.proofs.Fitting.Dooms.{after-doom, may_die, unprotected_unheld}
+use Rattle.move_laws.proofs.Lists.Totals.{inside}
+use Rattle.next_actions.specs.NextActions.{dying_at, has_any, holdings_at}
+use Rattle.kernel_tables.specs.Performed.{ActionGoes}
+use Rattle.kernel_tables.proofs.GoingActions.{action_goes, fitting_goes}
+use Rattle.death.specs.Dying.{IsReapable, MayBury, MayEnd}
+
+-- what an able thread decides is what its task does
+task_decides : (script : Script) (S : State) (t : ObjNo) (what : Option Task) → IsTrue (is_able script S t) → task_of script S t ≡ what → decision_of script S t ≡ decision_of_row script S t (thread_of S t) what
+task_decides script S t what able is =
+    ap (λ (able : Bool). decision_where script able S t (task_of script S t)) able ∙ ap (λ (what : Option Task). decision_where script true S t what) is
+
+-- whoever isn't at a return does something else
+apart_other : (returning : Bool) (instr : Option Instr) (other : Option Task) → return_or returning instr None ≡ None → return_or returning instr other ≡ other
+apart_other false instr other apart = refl
+apart_other true None other apart = refl
+apart_other true (Some instr) other apart = absurd (cc)
+
+-- the task of a thread that may be reaped
+reap_task : (script : Script) (S : State) (t : ObjNo) → IsReapable script S t → task_of script S t ≡ pay_or (first_owed S t) (dying_at S t (thread_of S t))
+reap_task script S t h =
+    let row = h.row in
+    ap (task_of_row script S t) h.is ∙ apart_other (is_returning row.part) (instruction script row) _ h.apart ∙ rw (h.doomed, h.is) refl
+
+-- it pays the oldest of what it owes
+pub pays : (script : Script) (S : State) (t : ObjNo) (what : Owed) → IsReapable script S t → first_owed S t ≡ Some what → pay what ≡ decision_of script S t
+pays script S t what h owes =
+    sym (task_decides script S t (Some (Pay what)) h.able (reap_task script S t h ∙ ap (λ (owed : Option Owed). pay_or owed (dying_at S t (thread_of S t))) owes) ∙ rw h.is refl)
+
+-- and where it owes nothing, gives up the first of what it has, or is cleaned
+pub reaps : (script : Script) (S : State) (t : ObjNo) → IsReapable script S t → first_owed S t ≡ None → decision_of_row script S t (thread_of S t) (dying_at S t (thread_of S t)) ≡ decision_of script S t
+reaps script S t h paid =
+    sym (task_decides script S t (dying_at S t (thread_of S t)) h.able (reap_task script S t h ∙ ap (λ (owed : Option Owed). pay_or owed (dying_at S t (thread_of S t))) paid))
+
+-- whoever has nothing is cleaned
+none_cleans : (has : List Holding) → has_any has ≡ false → dying_task has ≡ Clean
+none_cleans [] none = refl
+none_cleans (what ∷ rest) none = absurd (cc)
+
+pub cleans : (script : Script) (S : State) (t : ObjNo) → IsReapable script S t → first_owed S t ≡ None → has_any (holdings_at S t (thread_of S t)) ≡ false → task_of script S t ≡ Some Clean
+cleans script S t h paid none =
+    reap_task script S t h ∙ ap (λ (owed : Option Owed). pay_or owed (dying_at S t (thread_of S t))) paid ∙ ap (λ (what : Task). Some what) (none_cleans (holdings_at S t (thread_of S t)) none)
+
+-- whoever buries decides the burial
+burial_decided : (script : Script) (S : State) (t : ObjNo) (dfc : ℕ) (row : Option ThreadRow) → task_of_row script S t row ≡ Some (Bury dfc) → decision_of_row script S t row (Some (Bury dfc)) ≡ bury script S dfc
+burial_decided script S t dfc None is = absurd (cc)
+burial_decided script S t dfc (Some row) is = refl
+
+pub buries : (script : Script) (S : State) (t : ObjNo) (dfc : ℕ) → MayBury script S t dfc → bury script S dfc ≡ decision_of script S t
+buries script S t dfc h = sym (task_decides script S t (Some (Bury dfc)) h.able h.next ∙ burial_decided script S t dfc (thread_of S t) h.next)
+
+-- the moves of a doom go through
+pub doom_goes : (script : Script) (S : State) (t : ObjNo) (exit : Exit) → IsShaped script → AreRows script S → MayEnd S t → ActionGoes script t (doom t exit) S
+doom_goes script S t exit shaped rows h =
+    let after = after-doom script S t t exit (may_die script S t h.row rows h.is h.live (unprotected_unheld S.nano t h.free)) in
+    let goes : Goes script t S (doom t exit) = record {
+      each = after.each;
+      few = let a = rows.duties.few t.0 in let none = after.light in omega arith;
+      told = let few = after.told in omega arith;
+    } in
+    fitting_goes script S t (doom t exit) shaped (record { rows = rows; inside = inside S.threads t.0 h.row h.is }) goes

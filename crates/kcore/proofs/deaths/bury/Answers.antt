@@ -1,0 +1,16 @@
+use Rattle.std.proofs.Common.{refl}
+use Rattle.machine.specs.Steps.{decision_of}
+use Rattle.kernel_tables.specs.StateOf.{state_of}
+use Rattle.kernel_tables.proofs.GoingActions.{action_goes}
+use Rattle.kcore.proofs.ActionsDone.{carried_does}
+use Rattle.kcore.proofs.deaths.bury.Goals as goal
+
+-- what was decided is the thread's action, and its moves were made
+pub returns-clause-does : goal.returns-clause-does
+returns-clause-does g c =
+    let script = c.args.script.now in
+    let t = c.args.thread in
+    let X = state_of c.args.tables.now in
+    let goes = action_goes script X t c.requires.shaped c.requires.rows in
+    let follow = rw (c.as_slice.ensures.moves, c.bury.ensures.decided) at c.leave_along.ensures.queues in
+    carried_does script t (decision_of script X t) c.args.tables.now c.bury.new.tables c.args.ready.now c.bury.new.ready c.leave_along.new.ready _ c.bury.new.effects goes.each c.bury.ensures.performed follow (rw c.bury.ensures.decided refl)

@@ -1,0 +1,102 @@
+-- From its cleaning on a thread doesn't act, gets no reference of its own, owes nothing and has nothing left.
+use Rattle.std.proofs.Common.{◌≡◌, inl, inr, ℕ, zero, suc, ◌+◌, ◌<◌, List, [], ◌∷◌, ◌++◌, map, replicate, get_or, arith, refl, sym, ap, subst, ◌∙◌, Some, None, Bool, true, false}
+use Rattle.std.specs.Prelude.{◌==◌, if◌then◌else◌}
+use Rattle.std.proofs.lemmas.Bool.{eqb-true}
+use Rattle.sym_base.specs.declared.number.ObjNo.{ObjNo}
+use Rattle.script_types.specs.declared.script.Script.{Script}
+use Rattle.script_types.specs.Shape.{IsShaped}
+use Rattle.script_types.specs.Source.{IsWellFormed}
+use Rattle.script_types.proofs.ShapeLaws.{formed_is_shaped}
+use Rattle.entry_log.specs.declared.effect.Holder.{Holder}
+use Rattle.entry_log.specs.declared.effect.Holder.TheVariants.{InProcess, InThread}
+use Rattle.entry_log.specs.declared.entry.Entry.{Entry}
+use Rattle.state_rows.specs.HandleSlots.{fresh_slot, slot_at}
+use Rattle.state_rows.specs.declared.handle_slot.HandleSlot.{HandleSlot}
+use Rattle.state_rows.specs.declared.thread.ThreadRow.{ThreadRow}
+use Rattle.machine.specs.declared.holding.Holding.{Holding}
+use Rattle.machine.specs.declared.holding.Holding.TheVariants.{Mutex, Logon}
+use Rattle.machine.specs.declared.state.State.{State}
+use Rattle.machine.specs.Boot.{boot, boot_of, born}
+use Rattle.machine.specs.History.{after, after_from, next, IsLegal, IsLegalFrom}
+use Rattle.machine.specs.Holdings.{held_handles, held_logons, held_mutexes, held_slot, held_use, holdings, left_of, process_handles, stage_left}
+use Rattle.machine.specs.References.{mutex_names, total}
+use Rattle.machine.specs.Rows.{table_of, thread_of}
+use Rattle.machine.specs.WellFormed.{AreRows, IsSpent}
+use Rattle.machine_laws.proofs.AtBoot.BootRows.{const_either, rows-boot}
+use Rattle.machine_laws.proofs.Reached.AfterHistory.{well_formed-after}
+use Rattle.machine_laws.proofs.Reached.NextState.{sound-next}
+use Rattle.move_laws.proofs.Lists.Copies.{copy_at}
+use Rattle.move_laws.proofs.References.Same.{same_self}
+use Rattle.machine_safe.specs.SafeDeaths.{StaysDead, cleanings}
+use Rattle.machine_safe.proofs.Deaths.Cut.{cut, legal-front}
+use Rattle.machine_safe.proofs.Deaths.Gone.{IsGone, gone-after, no-action, not-left}
+use Rattle.machine_safe.proofs.Deaths.Rows.{row_bit}
+use Rattle.machine_safe.proofs.Deaths.Runs.{kept-next}
+use Rattle.machine_safe.proofs.Deaths.Tables.{AreEmptied, emptied-move, emptied-pay, left-none}
+
+-- no table has an object at boot
+emptied-boot : (script : Script) → AreEmptied (boot script)
+unfolding boot_of
+emptied-boot script p none left i = elim (const_either (replicate 256 fresh_slot) [] (born script) p.0) as (λ _. (slot_at (get_or (map (λ _. replicate 256 fresh_slot) (born script)) p.0 []) i).object ≡ None) [
+  | inl fresh ↦ ap (λ (table : List HandleSlot). (slot_at table i).object) fresh ∙ ap (λ (slot : HandleSlot). slot.object) (copy_at fresh_slot 256 i)
+  | inr past ↦ ap (λ (table : List HandleSlot). (slot_at table i).object) past
+]
+
+-- processes without a thread that is left have no handles, after each history
+emptied-run : (script : Script) (S : State) (place : ℕ) (es : List Entry) → IsShaped script → AreRows script S → IsLegalFrom script S place es → AreEmptied S → AreEmptied (after_from script S es)
+emptied-run script S place [] shaped rows legal h = h
+emptied-run script S place (e ∷ es) shaped rows legal h =
+    emptied-run script (next script S e.actor) (place + 1) es shaped (sound-next script S e.actor shaped rows).rows legal.1
+    (kept-next script AreEmptied (emptied-move script) (emptied-pay script) (λ S qs h. h) S e.actor shaped rows h)
+
+-- nothing is held of what names nothing
+no-mutexes : (xs : List ObjNo) → ((o : ObjNo) → total (mutex_names o) xs ≡ 0) → xs ≡ []
+no-mutexes [] none = refl
+no-mutexes (x ∷ xs) none = let own = same_self x in let zero = none x in absurd (omega arith)
+
+no-handles-held : (holder : ℕ → Holder) (i : ℕ) (table : List HandleSlot) → ((j : ℕ) → (slot_at table j).object ≡ None) → held_handles holder i table ≡ []
+no-handles-held holder i [] none = refl
+no-handles-held holder i (slot ∷ rest) none = ap (λ (l : List Holding). l ++ held_handles holder (i + 1) rest) (ap (held_slot (holder i)) (none zero)) ∙ no-handles-held holder (i + 1) rest (λ j. none (suc j))
+
+both-none : {A : Type 0} (xs ys : List A) → xs ≡ [] → ys ≡ [] → xs ++ ys ≡ []
+both-none {A = A} xs ys left right = ap (λ (l : List A). l ++ ys) left ∙ right
+
+-- a thread that is gone has nothing left
+has-none : (script : Script) (S : State) (t : ObjNo) (row : ThreadRow) → AreRows script S → IsGone S t → AreEmptied S → thread_of S t ≡ Some row → holdings S t row ≡ []
+has-none script S t row rows h emptied is =
+    both-none (held_mutexes S t ++ held_use row.uses ++ held_handles (InThread t) 0 (table_of S t) ++ process_handles S t row.process) (held_logons S t)
+    (both-none (held_mutexes S t ++ held_use row.uses ++ held_handles (InThread t) 0 (table_of S t)) (process_handles S t row.process)
+    (both-none (held_mutexes S t ++ held_use row.uses) (held_handles (InThread t) 0 (table_of S t)) (both-none (held_mutexes S t) (held_use row.uses) mutexes (ap held_use spent.unused)) (no-handles-held (InThread t) 0 (table_of S t) spent.empty)) (process (total (left_of row.process) S.threads == left_of row.process (thread_of S t)) refl))
+    (ap (map (λ (logon : ObjNo × ℕ). Logon logon.0 logon.1)) (h.bare.logged row is))
+  where
+    spent : IsSpent S.handles t.0 row
+    spent = rows.spent.rows t.0 row is (not-left row.stage (sym (ap (row_bit stage_left) is) ∙ h.left))
+
+    mutexes : held_mutexes S t ≡ []
+    mutexes = ap (map (λ (o : ObjNo). Mutex o)) (no-mutexes (get_or S.mutexes t.0 []) h.bare.held)
+
+    process : (b : Bool) → (total (left_of row.process) S.threads == left_of row.process (thread_of S t)) ≡ b → (if b then held_handles (InProcess row.process) 0 (table_of S row.process) else []) ≡ []
+    process false e = refl
+    process true e =
+        let only = eqb-true (total (left_of row.process) S.threads) (left_of row.process (thread_of S t)) e in
+        no-handles-held (InProcess row.process) 0 (table_of S row.process) (emptied row.process (rows.threads.processes t.0 row is) (only ∙ left-none row.process (thread_of S t) h.left))
+
+pub stays-dead : (script : Script) (history : List Entry) (t : ObjNo) → IsWellFormed script → IsLegal script history → StaysDead script history t
+stays-dead script history t valid legal = record {
+  acts = λ before e later is some. let c = cut script history before e later valid legal is in no-action script (after script before) t e.actor c.rows (gone before c.legal_before some) c.here.able;
+  gains = λ before e later h o is some own. let c = cut script history before e later valid legal is in c.step.gains_none t h o (gone before c.legal_before some).left own;
+  owes = λ before later is some. (gone before (front before later is) some).paid;
+  has = λ before later row is some at. has-none script (after script before) t row (well_formed-after script before valid).rows (gone before (front before later is) some) (emptied before (front before later is)) at;
+}
+  where
+    shaped : IsShaped script
+    shaped = formed_is_shaped script valid
+
+    front : (before later : List Entry) → history ≡ before ++ later → IsLegal script before
+    front before later is = legal-front script (boot script) 1 before later (subst (IsLegal script) is legal)
+
+    gone : (before : List Entry) → IsLegal script before → 0 < cleanings before t → IsGone (after script before) t
+    gone before first some = gone-after script (boot script) 1 before t shaped (rows-boot script valid) first some
+
+    emptied : (before : List Entry) → IsLegal script before → AreEmptied (after script before)
+    emptied before first = emptied-run script (boot script) 1 before shaped (rows-boot script valid) first (emptied-boot script)

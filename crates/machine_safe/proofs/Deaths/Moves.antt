@@ -1,0 +1,215 @@
+-- What each move tells of deaths.
+use Rattle.std.proofs.Common.{◌≡◌, ◌<◌, List, [], ◌∷◌, length, arith, refl, sym, ap, subst, ◌∙◌, Option, Some, None, Bool, true, false}
+use Rattle.std.specs.Prelude.{◌==◌, if◌then◌else◌, is_some}
+use Rattle.std.proofs.lemmas.Bool.{eqb-true}
+use Rattle.sym_base.specs.declared.number.ObjNo.{ObjNo}
+use Rattle.script_types.specs.declared.script.Script.{Script}
+use Rattle.entry_log.specs.declared.effect.Effect.TheVariants as effect
+use Rattle.entry_log.specs.declared.effect.Holder.{Holder}
+use Rattle.entry_log.specs.declared.effect.Holder.TheVariants.{InProcess, InThread, Temp}
+use Rattle.state_rows.specs.declared.duty.Owed.{Owed}
+use Rattle.state_rows.specs.declared.duty.Owed.TheVariants.{Close, Sweep}
+use Rattle.state_rows.specs.declared.thread.Stage.{Stage}
+use Rattle.state_rows.specs.declared.thread.Stage.TheVariants.{Live, Doomed, Cleaned, Buried}
+use Rattle.state_rows.specs.declared.thread.ThreadRow.{ThreadRow}
+use Rattle.state_rows.specs.declared.thread.Waiting.TheVariants as waiting
+use Rattle.machine.specs.declared.death_move.DeathMove.{DeathMove}
+use Rattle.machine.specs.declared.death_move.DeathMove.TheVariants.{Note, Doom, Clean, Bury}
+use Rattle.machine.specs.declared.moves.Move.{Move}
+use Rattle.machine.specs.declared.moves.Move.TheVariants.{Make, Gain, Lose, Find, Miss, GoOn, Write, Advance, Wait, Wake, SetPriority, Nano, Deferred, Requests, Locks, Logons, Death, Fill, Pay}
+use Rattle.machine.specs.declared.request_move.RequestMove.{RequestMove}
+use Rattle.machine.specs.declared.request_move.RequestMove.TheVariants.{Complete, Signal}
+use Rattle.machine.specs.declared.state.State.{State}
+use Rattle.machine.specs.DeathMoves.{death_row, death_told}
+use Rattle.machine.specs.Fits.{FitsMove, IsFree}
+use Rattle.machine.specs.Holding.{is_holder}
+use Rattle.machine.specs.Holdings.{stage_left}
+use Rattle.machine.specs.Moves.{advanced, closed_effects, moved, next_object, threads_closed, threads_gain, threads_lose, told, unlinked, with_found, with_part, with_priority, with_register, with_use, with_waiting}
+use Rattle.machine.specs.References.{is_last, same, stage_holds}
+use Rattle.machine.specs.RequestMoves.{request_told}
+use Rattle.machine.specs.Rows.{owed_of, thread_of}
+use Rattle.machine.specs.WellFormed.{AreRows, is_spent}
+use Rattle.move_laws.proofs.MoveLaws.Pays.{sweep-unheld}
+use Rattle.move_laws.proofs.References.Same.{if_zero, same_object}
+use Rattle.machine_safe.specs.SafeDeaths.{is_own}
+use Rattle.machine_safe.proofs.Deaths.Dies.{Dies, GainsNone, IsCalm, dies-calm}
+use Rattle.machine_safe.proofs.Deaths.LockMoves.{calm-none, dies-locks, dies-nano, only-live}
+use Rattle.machine_safe.proofs.Deaths.Rows.{KeepsRows, bit-less, bit-swept, held-is, keeps-same, keeps-then, keeps-with_row, left-held, live-left, row_bit, stage_live, were-swept, were-with_row}
+use Rattle.machine_safe.proofs.Held.{is_holder_is}
+
+-- rows, where a holder gets or gives up a reference, and where an object loses its last one
+pub keeps-gain : (h : Holder) (o : ObjNo) (threads : List (Option ThreadRow)) → KeepsRows threads (threads_gain h o threads)
+keeps-gain (Temp t) o threads = keeps-with_row threads t (with_use (Some o)) (λ row. refl) (λ row. refl)
+keeps-gain _ o threads = keeps-same threads
+
+pub keeps-lose : (h : Holder) (threads : List (Option ThreadRow)) → KeepsRows threads (threads_lose h threads)
+keeps-lose (Temp t) threads = keeps-with_row threads t (with_use None) (λ row. refl) (λ row. refl)
+keeps-lose _ threads = keeps-same threads
+
+pub keeps-closed : (last : Bool) (o : ObjNo) (threads : List (Option ThreadRow)) → KeepsRows threads (threads_closed last o threads)
+keeps-closed true o threads = keeps-with_row threads o unlinked (λ row. refl) (λ row. refl)
+keeps-closed false o threads = keeps-same threads
+
+-- effects that tell of references alone
+calm-plus : (h : Holder) (o : ObjNo) → IsCalm (effect.Plus h o ∷ [])
+calm-plus h o = record { dooms = λ t. refl; burials = λ t. refl; takes = λ t lock. refl; gives = λ t lock. refl; signals = λ t. refl }
+
+calm-close : (last : Bool) (h : Holder) (o : ObjNo) → IsCalm (closed_effects last h o)
+calm-close true h o = record { dooms = λ t. refl; burials = λ t. refl; takes = λ t lock. refl; gives = λ t lock. refl; signals = λ t. refl }
+calm-close false h o = record { dooms = λ t. refl; burials = λ t. refl; takes = λ t lock. refl; gives = λ t lock. refl; signals = λ t. refl }
+
+calm-found : (o : ObjNo) → IsCalm (effect.Seek o ∷ [])
+calm-found o = record { dooms = λ t. refl; burials = λ t. refl; takes = λ t lock. refl; gives = λ t lock. refl; signals = λ t. refl }
+
+calm-missed : (o : ObjNo) → IsCalm (effect.Missed o ∷ [])
+calm-missed o = record { dooms = λ t. refl; burials = λ t. refl; takes = λ t lock. refl; gives = λ t lock. refl; signals = λ t. refl }
+
+-- a close gives nobody a reference
+close-gains : (S : State) (last : Bool) (h : Holder) (o : ObjNo) → GainsNone S (closed_effects last h o)
+close-gains S true h o t g x none own = refl
+close-gains S false h o t g x none own = refl
+
+-- a thread that is there and isn't cleaned is left
+is-left : (x : Option ThreadRow) → is_some x ≡ true → ((row : ThreadRow) → x ≡ Some row → is_spent row.stage ≡ false) → row_bit stage_left x ≡ 0 → ⊥
+is-left None there unspent none = cc
+is-left (Some row) there unspent none = by row.stage (unspent row refl) none
+  where
+    by : (stage : Stage) → is_spent stage ≡ false → stage_left stage ≡ 0 → ⊥
+    by Live e none = omega arith
+    by Doomed e none = omega arith
+    by Cleaned e none = cc
+    by Buried e none = cc
+
+-- a holder that may get a reference is no own one of a thread that is cleaned
+free-apart : (S : State) (g : Holder) (t : ObjNo) → IsFree S g → row_bit stage_left (thread_of S t) ≡ 0 → is_own t g ≡ true → ⊥
+free-apart S (InThread u i) t free none own =
+    let at : u ≡ t = same_object u t (eqb-true u.0 t.0 own) in
+    is-left (thread_of S u) free.0 free.2 (ap (λ (x : ObjNo). row_bit stage_left (thread_of S x)) at ∙ none)
+free-apart S (Temp u) t free none own =
+    let at : u ≡ t = same_object u t (eqb-true u.0 t.0 own) in
+    is-left (thread_of S u) (ap is_some free.is) (λ row is. let same_row : free.row ≡ row = (let a = free.is in cc) in subst (λ (r : ThreadRow). is_spent r.stage ≡ false) same_row free.unspent) (ap (λ (x : ObjNo). row_bit stage_left (thread_of S x)) at ∙ none)
+free-apart S (InProcess p i) t free none own = cc
+free-apart S _ t free none own = free
+
+plus-gains : (S : State) (g : Holder) (o : ObjNo) → IsFree S g → GainsNone S (effect.Plus g o ∷ [])
+plus-gains S g o free t h x none own = let a = by (is_holder g h) refl in omega arith
+  where
+    by : (b : Bool) → is_holder g h ≡ b → (if b then same o x else 0) ≡ 0
+    by false e = refl
+    by true e = absurd (free-apart S g t free none (ap (is_own t) (is_holder_is g h e) ∙ own))
+
+-- rows change that tell of nothing
+dies-row : (S T : State) → KeepsRows S.threads T.threads → T.nano.holders ≡ S.nano.holders → T.mutexes ≡ S.mutexes → Dies S T []
+dies-row S T rows holders mutexes = dies-calm S T [] rows holders mutexes calm-none (λ t h o none own. refl)
+
+-- a signal is a live thread's
+dies-request : (script : Script) (S : State) (t : ObjNo) (m : RequestMove) → AreRows script S → FitsMove script t (Requests m) S → Dies S (moved t (Requests m) S) (request_told m)
+dies-request script S t (Complete d u s code) rows fits = record {
+  live = λ v. omega arith;
+  left = λ v. omega arith;
+  held = λ v. omega arith;
+  locks = λ v lock. refl;
+  takes_none = λ v lock none. refl;
+  signals_none = λ v none. let a = only-live S u v (rows.awaited.requests d _ fits.0.1) none in omega arith;
+  gains_none = λ v h o none own. refl;
+  were = (keeps-same S.threads).were;
+}
+dies-request script S t (Signal u s code) rows fits = record {
+  live = λ v. omega arith;
+  left = λ v. omega arith;
+  held = λ v. omega arith;
+  locks = λ v lock. refl;
+  takes_none = λ v lock none. refl;
+  signals_none = λ v none. let a = only-live S u v fits.1 none in omega arith;
+  gains_none = λ v h o none own. refl;
+  were = (keeps-same S.threads).were;
+}
+dies-request script S t m rows fits = dies-row S (moved t (Requests m) S) (keeps-same S.threads) refl refl
+
+-- a row goes on to another stage
+dies-death : (script : Script) (S : State) (t : ObjNo) (m : DeathMove) → FitsMove script t (Death m) S → Dies S (moved t (Death m) S) (death_told m)
+dies-death script S t (Note u exit) fits = dies-row S (moved t (Death (Note u exit)) S) (keeps-with_row S.threads u (death_row (Note u exit)) (λ row. refl) (λ row. refl)) refl refl
+dies-death script S t (Doom u exit) fits =
+    let at = fits.0 in
+    let f = death_row (Doom u exit) in
+    record {
+      live = λ v. let a = bit-less stage_live S.threads u f at.row 1 at.is (sym (ap stage_live at.at)) v in omega arith;
+      left = λ v. let a = bit-less stage_left S.threads u f at.row 0 at.is (sym (ap stage_left at.at)) v in omega arith;
+      held = λ v. let a = bit-less stage_holds S.threads u f at.row 0 at.is (sym (ap stage_holds at.at)) v in let b = if_zero (u.0 == v.0) 0 refl in omega arith;
+      locks = λ v lock. refl;
+      takes_none = λ v lock none. refl;
+      signals_none = λ v none. refl;
+      gains_none = λ v h o none own. refl;
+      were = were-with_row S.threads u f (λ row. refl);
+    }
+dies-death script S t (Clean u) fits =
+    let at = fits.0 in
+    let f = death_row (Clean u) in
+    record {
+      live = λ v. let a = bit-less stage_live S.threads u f at.row 0 at.is (sym (ap stage_live at.at)) v in let b = if_zero (u.0 == v.0) 0 refl in omega arith;
+      left = λ v. let a = bit-less stage_left S.threads u f at.row 1 at.is (sym (ap stage_left at.at)) v in omega arith;
+      held = λ v. let a = bit-less stage_holds S.threads u f at.row 0 at.is (sym (ap stage_holds at.at)) v in let b = if_zero (u.0 == v.0) 0 refl in omega arith;
+      locks = λ v lock. refl;
+      takes_none = λ v lock none. refl;
+      signals_none = λ v none. refl;
+      gains_none = λ v h o none own. refl;
+      were = were-with_row S.threads u f (λ row. refl);
+    }
+dies-death script S t (Bury u) fits =
+    let at = fits.0 in
+    let f = death_row (Bury u) in
+    record {
+      live = λ v. let a = bit-less stage_live S.threads u f at.row 0 at.is (sym (ap stage_live at.at)) v in let b = if_zero (u.0 == v.0) 0 refl in omega arith;
+      left = λ v. let a = bit-less stage_left S.threads u f at.row 0 at.is (sym (ap stage_left at.at)) v in omega arith;
+      held = λ v. let a = bit-less stage_holds S.threads u f at.row 1 at.is (sym (ap stage_holds at.at)) v in omega arith;
+      locks = λ v lock. refl;
+      takes_none = λ v lock none. refl;
+      signals_none = λ v none. refl;
+      gains_none = λ v h o none own. refl;
+      were = were-with_row S.threads u f (λ row. refl);
+    }
+
+-- what a move tells that fits
+pub dies-move : (script : Script) (S : State) (t : ObjNo) (m : Move) → AreRows script S → FitsMove script t m S → Dies S (moved t m S) (told m S)
+dies-move script S t (Make kind name h) rows fits = dies-calm S _ _ (keeps-gain h (next_object S) S.threads) refl refl (calm-plus h (next_object S)) (plus-gains S h (next_object S) fits.1)
+dies-move script S t (Gain h o) rows fits = dies-calm S _ _ (keeps-gain h o S.threads) refl refl (calm-plus h o) (plus-gains S h o fits.0)
+dies-move script S t (Lose h o) rows fits =
+    dies-calm S _ _ (keeps-then S.threads (threads_lose h S.threads) (threads_closed (is_last S o) o (threads_lose h S.threads)) (keeps-lose h S.threads) (keeps-closed (is_last S o) o (threads_lose h S.threads))) refl refl (calm-close (is_last S o) h o) (close-gains S (is_last S o) h o)
+dies-move script S t (Find u o) rows fits = dies-calm S _ _ (keeps-with_row S.threads u (with_found o) (λ row. refl) (λ row. refl)) refl refl (calm-found o) (λ v h x none own. refl)
+dies-move script S t (Miss o) rows fits = dies-calm S _ _ (keeps-same S.threads) refl refl (calm-missed o) (λ v h x none own. refl)
+dies-move script S t (GoOn u part) rows fits = dies-row S _ (keeps-with_row S.threads u (with_part part) (λ row. refl) (λ row. refl)) refl refl
+dies-move script S t (Write u x value) rows fits = dies-row S _ (keeps-with_row S.threads u (with_register x value) (λ row. refl) (λ row. refl)) refl refl
+dies-move script S t (Advance u) rows fits = dies-row S _ (keeps-with_row S.threads u advanced (λ row. refl) (λ row. refl)) refl refl
+dies-move script S t (Wait u what) rows fits = dies-row S _ (keeps-with_row S.threads u (with_waiting what) (λ row. refl) (λ row. refl)) refl refl
+dies-move script S t (Wake u) rows fits = dies-row S _ (keeps-with_row S.threads u (with_waiting waiting.Nothing) (λ row. refl) (λ row. refl)) refl refl
+dies-move script S t (SetPriority u priority) rows fits = dies-row S _ (keeps-with_row S.threads u (with_priority priority) (λ row. refl) (λ row. refl)) refl refl
+dies-move script S t (Nano m) rows fits = dies-nano script S t m fits
+dies-move script S t (Deferred m) rows fits = dies-row S _ (keeps-same S.threads) refl refl
+dies-move script S t (Requests m) rows fits = dies-request script S t m rows fits
+dies-move script S t (Locks m) rows fits = dies-locks script S t m rows fits
+dies-move script S t (Logons m) rows fits = dies-row S _ (keeps-same S.threads) refl refl
+dies-move script S t (Death m) rows fits = dies-death script S t m fits
+dies-move script S t (Fill p at long byte) rows fits = dies-row S _ (keeps-same S.threads) refl refl
+dies-move script S t (Pay what) rows fits = absurd fits
+
+-- and what a payment tells
+pub dies-pay : (script : Script) (S : State) (t : ObjNo) (what : Owed) (rest : List Owed) → owed_of S t ≡ what ∷ rest → t.0 < length S.owed → AreRows script S → Dies S (moved t (Pay what) S) (told (Pay what) S)
+dies-pay script S t (Close h o) rest owes here rows = dies-calm S _ _ (keeps-closed (is_last S o) o S.threads) refl refl (calm-close (is_last S o) h o) (close-gains S (is_last S o) h o)
+dies-pay script S t (Sweep o) rest owes here rows =
+    let unheld : row_bit stage_holds (thread_of S o) ≡ 0 = sym (held-is (thread_of S o)) ∙ sweep-unheld script S t o rest owes here rows in
+    let left : row_bit stage_left (thread_of S o) ≡ 0 = (let le = left-held (thread_of S o) in omega arith) in
+    let live : row_bit stage_live (thread_of S o) ≡ 0 = (let le = live-left (thread_of S o) in omega arith) in
+    record {
+      live = λ v. let a = bit-swept stage_live S.threads o.0 v.0 live in omega arith;
+      left = λ v. let a = bit-swept stage_left S.threads o.0 v.0 left in omega arith;
+      held = λ v. let a = bit-swept stage_holds S.threads o.0 v.0 unheld in omega arith;
+      locks = λ v lock. omega arith;
+      takes_none = λ v lock none. refl;
+      signals_none = λ v none. refl;
+      gains_none = λ v h x none own. refl;
+      were = were-swept S.threads o.0;
+    }
+
+-- nothing tells of nothing
+pub dies-none : (S : State) → Dies S S []
+dies-none S = dies-row S S (keeps-same S.threads) refl refl

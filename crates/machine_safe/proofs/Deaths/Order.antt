@@ -1,0 +1,145 @@
+-- A thread is doomed, cleaned and buried once at most each.
+use Rattle.std.proofs.Common.{◌≡◌, ℕ, ◌+◌, ◌<◌, ◌≤◌, List, [], ◌∷◌, ◌++◌, arith, refl, sym, ap, subst, ◌∙◌, Option, None, Bool, true, false, get_or}
+use Rattle.std.specs.Prelude.{◌&&◌, if◌then◌else◌, option_map}
+use Rattle.std.proofs.lemmas.Bool.{and_parts, eqb-true}
+use Rattle.sym_base.specs.declared.number.ObjNo.{ObjNo}
+use Rattle.script_types.specs.declared.script.Script.{Script}
+use Rattle.script_types.specs.Shape.{IsShaped}
+use Rattle.script_types.specs.Source.{IsWellFormed}
+use Rattle.script_types.proofs.ShapeLaws.{formed_is_shaped}
+use Rattle.entry_log.specs.declared.entry.Actor.{Actor}
+use Rattle.entry_log.specs.declared.entry.Actor.TheVariants.{Thread, Irq, Idfc, Tick, Idle}
+use Rattle.entry_log.specs.declared.entry.Entry.{Entry}
+use Rattle.state_rows.specs.declared.thread.ThreadRow.{ThreadRow}
+use Rattle.machine.specs.declared.death_move.DeathMove.TheVariants.{Clean}
+use Rattle.machine.specs.declared.moves.Move.{Move}
+use Rattle.machine.specs.declared.state.State.{State}
+use Rattle.machine.specs.Boot.{boot}
+use Rattle.machine.specs.DeathMoves.{death_row}
+use Rattle.machine.specs.History.{after, after_from, next, transition, IsLegal, IsLegalFrom, IsNext}
+use Rattle.machine.specs.Holdings.{stage_left}
+use Rattle.machine.specs.Moves.{perform}
+use Rattle.machine.specs.References.{stage_holds}
+use Rattle.machine.specs.Rows.{thread_of, with_row}
+use Rattle.machine.specs.Steps.{decision_of}
+use Rattle.machine.specs.Transition.{act}
+use Rattle.machine.specs.WellFormed.{AreRows}
+use Rattle.machine_laws.proofs.AtBoot.BootRows.{rows-boot}
+use Rattle.machine_laws.proofs.Reached.NextState.{sound-next}
+use Rattle.move_laws.proofs.Holders.ThreadRows.{row-here}
+use Rattle.move_laws.proofs.References.Same.{same_object}
+use Rattle.machine_safe.specs.CountAfter.{effects_of, is_by}
+use Rattle.machine_safe.specs.SafeDeaths.{burials, cleanings, dooms, is_clean}
+use Rattle.machine_safe.proofs.Deaths.Cleanings.{IsCleaning, is-cleaning}
+use Rattle.machine_safe.proofs.Deaths.Cut.{IsCut, cut, dies-history, live-boot}
+use Rattle.machine_safe.proofs.Deaths.Dies.{Dies}
+use Rattle.machine_safe.proofs.Deaths.Rows.{held-one, left-held, live-left, row_bit, stage_live}
+use Rattle.machine_safe.proofs.Deaths.Runs.{dies-entry}
+
+-- an entry in which a thread is cleaned
+pub record Cleans (script : Script) (S : State) (e : Entry) (t : ObjNo) : Type 0 where
+  pub by : e.actor ≡ Thread t
+  pub step : is_clean (decision_of script S t).step ≡ true
+
+actor-is : (t : ObjNo) (actor : Actor) → is_by t actor ≡ true → actor ≡ Thread t
+actor-is t (Thread u) e = ap Thread (same_object u t (eqb-true u.0 t.0 e))
+actor-is t (Irq k) e = cc
+actor-is t Idfc e = cc
+actor-is t Tick e = cc
+actor-is t Idle e = cc
+
+pub step-of : (script : Script) (S : State) (t : ObjNo) → (act script S t).outcome.step ≡ (decision_of script S t).step
+unfolding act
+step-of script S t = refl
+
+pub cleans : (script : Script) (S : State) (place : ℕ) (e : Entry) (t : ObjNo) → IsNext script S place e → (is_by t e.actor && is_clean e.step) ≡ true → Cleans script S e t
+cleans script S place e t here is =
+    let parts = and_parts (is_by t e.actor) (is_clean e.step) is in
+    let by = actor-is t e.actor parts.0 in
+    let told : e.step ≡ (transition script S e.actor).outcome.step = ap (λ (x : Entry). x.step) here.told in
+    let own : (transition script S e.actor).outcome.step ≡ (decision_of script S t).step = ap (λ (a : Actor). (transition script S a).outcome.step) by ∙ step-of script S t in
+    record { by = by; step = sym (ap is_clean (told ∙ own)) ∙ parts.1 }
+
+-- after it the thread is cleaned, and all else of it is as it was
+pub record IsAfter (S T : State) (t : ObjNo) : Type 0 where
+  pub threads : T.threads ≡ with_row S.threads t (death_row (Clean t))
+  pub owed : T.owed ≡ S.owed
+  pub mutexes : T.mutexes ≡ S.mutexes
+  pub logons : T.logons ≡ S.logons
+
+after-act : (script : Script) (S : State) (t : ObjNo) → IsCleaning script S t (decision_of script S t).moves → IsAfter S (act script S t).state t
+unfolding act
+after-act script S t c = record {
+  threads = ap (λ (ms : List Move). (perform t ms S).threads) c.moves;
+  owed = ap (λ (ms : List Move). (perform t ms S).owed) c.moves;
+  mutexes = ap (λ (ms : List Move). (perform t ms S).mutexes) c.moves;
+  logons = ap (λ (ms : List Move). (perform t ms S).logons) c.moves;
+}
+
+pub after-cleaning : (script : Script) (S : State) (e : Entry) (t : ObjNo) → Cleans script S e t → IsAfter S (next script S e.actor) t
+after-cleaning script S e t c = subst (λ (a : Actor). IsAfter S (next script S a) t) (sym c.by) (after-act script S t (is-cleaning script S t c.step))
+
+pub left-doomed : (script : Script) (S : State) (e : Entry) (t : ObjNo) → Cleans script S e t → row_bit stage_left (thread_of S t) ≡ 1
+left-doomed script S e t c = let known = is-cleaning script S t c.step in ap (row_bit stage_left) known.is ∙ ap stage_left known.doomed
+
+pub left-after : (script : Script) (S : State) (e : Entry) (t : ObjNo) → Cleans script S e t → row_bit stage_left (thread_of (next script S e.actor) t) ≡ 0
+left-after script S e t c =
+    let known = is-cleaning script S t c.step in
+    let same : thread_of (next script S e.actor) t ≡ option_map (death_row (Clean t)) (thread_of S t) = ap (λ (l : List (Option ThreadRow)). get_or l t.0 None) (after-cleaning script S e t c).threads ∙ row-here S.threads t (death_row (Clean t)) t.0 refl in
+    ap (row_bit stage_left) (same ∙ ap (option_map (death_row (Clean t))) known.is)
+
+-- a cleaning leaves a thread less that isn't cleaned
+pub left-entry : (script : Script) (S : State) (place : ℕ) (e : Entry) (es : List Entry) (t : ObjNo) → IsShaped script → AreRows script S → IsLegalFrom script S place (e ∷ es) → row_bit stage_left (thread_of (next script S e.actor) t) + cleanings (e ∷ []) t ≤ row_bit stage_left (thread_of S t)
+left-entry script S place e es t shaped rows legal = by (is_by t e.actor && is_clean e.step) refl
+  where
+    by : (b : Bool) → (is_by t e.actor && is_clean e.step) ≡ b → row_bit stage_left (thread_of (next script S e.actor) t) + ((if b then 1 else 0) + 0) ≤ row_bit stage_left (thread_of S t)
+    by false is = let le = (dies-entry script S place e es shaped rows legal).left t in omega arith
+    by true is = let c = cleans script S place e t legal.0 is in let was = left-doomed script S e t c in let now = left-after script S e t c in omega arith
+
+left-run : (script : Script) (S : State) (place : ℕ) (es : List Entry) (t : ObjNo) → IsShaped script → AreRows script S → IsLegalFrom script S place es → row_bit stage_left (thread_of (after_from script S es) t) + cleanings es t ≤ row_bit stage_left (thread_of S t)
+left-run script S place [] t shaped rows legal = omega arith
+left-run script S place (e ∷ es) t shaped rows legal =
+    let one = left-entry script S place e es t shaped rows legal in
+    let more = left-run script (next script S e.actor) (place + 1) es t shaped (sound-next script S e.actor shaped rows).rows legal.1 in omega arith
+
+-- a thread that was cleaned isn't left
+pub cleaned-left : (script : Script) (history : List Entry) (t : ObjNo) → IsWellFormed script → IsLegal script history → row_bit stage_left (thread_of (after script history) t) + cleanings history t ≤ 1
+cleaned-left script history t valid legal =
+    let run = left-run script (boot script) 1 history t (formed_is_shaped script valid) (rows-boot script valid) legal in
+    let a = left-held (thread_of (boot script) t) in
+    let one = held-one (thread_of (boot script) t) in omega arith
+
+-- a thread that isn't live any more was doomed
+pub doomed-before : (script : Script) (before : List Entry) (t : ObjNo) → IsWellFormed script → Dies (boot script) (after script before) (effects_of before) → row_bit stage_live (thread_of (after script before) t) ≡ 0 → 0 < row_bit stage_holds (thread_of (after script before) t) → 0 < dooms (effects_of before) t
+doomed-before script before t valid front dead there =
+    let same = live-boot script t valid in
+    let l = front.live t in
+    let h = front.held t in omega arith
+
+-- the entry is the thread's cleaning
+pub cleans-here : (script : Script) (before : List Entry) (e : Entry) (later : List Entry) (t : ObjNo) → IsCut script before e later → 0 < cleanings (e ∷ []) t → Cleans script (after script before) e t
+cleans-here script before e later t c some = by (is_by t e.actor && is_clean e.step) refl some
+  where
+    by : (b : Bool) → (is_by t e.actor && is_clean e.step) ≡ b → 0 < (if b then 1 else 0) + 0 → Cleans script (after script before) e t
+    by false is some = absurd (omega arith)
+    by true is some = cleans script (after script before) c.place e t c.here is
+
+pub doom-first : (script : Script) (history : List Entry) (t : ObjNo) → IsWellFormed script → IsLegal script history → (before : List Entry) (e : Entry) (later : List Entry) → history ≡ before ++ e ∷ later → 0 < cleanings (e ∷ []) t → 0 < dooms (effects_of before) t
+doom-first script history t valid legal before e later is some =
+    let c = cut script history before e later valid legal is in
+    let known = is-cleaning script (after script before) t (cleans-here script before e later t c some).step in
+    let dead : row_bit stage_live (thread_of (after script before) t) ≡ 0 = ap (row_bit stage_live) known.is ∙ ap stage_live known.doomed in
+    let there : row_bit stage_holds (thread_of (after script before) t) ≡ 1 = ap (row_bit stage_holds) known.is ∙ ap stage_holds known.doomed in
+    doomed-before script before t valid c.front dead (omega arith)
+
+pub doomed-once : (script : Script) (history : List Entry) (t : ObjNo) → IsWellFormed script → IsLegal script history → dooms (effects_of history) t ≤ 1
+doomed-once script history t valid legal =
+    let run = (dies-history script history valid legal).live t in
+    let a = live-left (thread_of (boot script) t) in
+    let b = left-held (thread_of (boot script) t) in
+    let one = held-one (thread_of (boot script) t) in omega arith
+
+pub buried-once : (script : Script) (history : List Entry) (t : ObjNo) → IsWellFormed script → IsLegal script history → burials (effects_of history) t ≤ 1
+buried-once script history t valid legal =
+    let run = (dies-history script history valid legal).held t in
+    let one = held-one (thread_of (boot script) t) in omega arith

@@ -1,0 +1,137 @@
+-- What an action tells of deaths, and what a history does.
+use Rattle.std.proofs.Common.{◌≡◌, ℕ, ◌+◌, ◌<◌, ◌≤◌, List, [], ◌∷◌, arith, refl, sym, ap, subst, length}
+use Rattle.std.proofs.lemmas.List.{append-nil}
+use Rattle.sym_base.specs.declared.number.ObjNo.{ObjNo}
+use Rattle.script_types.specs.declared.script.Script.{Script}
+use Rattle.script_types.specs.Shape.{IsShaped}
+use Rattle.entry_log.specs.declared.effect.Effect.{Effect}
+use Rattle.entry_log.specs.declared.entry.Actor.{Actor}
+use Rattle.entry_log.specs.declared.entry.Actor.TheVariants.{Thread, Irq, Idfc, Tick, Idle}
+use Rattle.entry_log.specs.declared.entry.Entry.{Entry}
+use Rattle.state_rows.specs.Deferred.{next_immediate}
+use Rattle.machine.specs.declared.moves.Move.{Move}
+use Rattle.machine.specs.declared.moves.Move.TheVariants as move
+use Rattle.machine.specs.declared.plan.Body.TheVariants.{Interrupt}
+use Rattle.machine.specs.declared.plan.Plan.{Plan}
+use Rattle.machine.specs.declared.plan.Plan.TheVariants.{Runs}
+use Rattle.machine.specs.declared.state.State.{State}
+use Rattle.machine.specs.Arrivals.{ready_after}
+use Rattle.machine.specs.Bodies.{decision_by}
+use Rattle.machine.specs.Fits.{EachFits, FitsMove, Sane, most_owed}
+use Rattle.machine.specs.History.{after_from, next, transition, IsLegalFrom}
+use Rattle.machine.specs.Interrupts.{done_by, immediate, immediate_plan, interrupt, supervisor}
+use Rattle.machine.specs.Moves.{moved, perform, tell, told}
+use Rattle.machine.specs.References.{total}
+use Rattle.machine.specs.Rows.{owed_of}
+use Rattle.machine.specs.Steps.{decision_of}
+use Rattle.machine.specs.Tick.{tick}
+use Rattle.machine.specs.Transition.{act}
+use Rattle.machine.specs.WellFormed.{AreRows, weight}
+use Rattle.machine_laws.proofs.Fitting.Actions.{of_action}
+use Rattle.machine_laws.proofs.Fitting.Bodies.{Goes}
+use Rattle.machine_laws.proofs.Fitting.Interrupts.{goes-immediate, goes-interrupt, sane-supervisor}
+use Rattle.machine_laws.proofs.Reached.NextState.{sound-next}
+use Rattle.move_laws.proofs.MoveLaws.Run.{sane-after, sound-move, weight-move}
+use Rattle.machine_safe.specs.CountAfter.{effects_of}
+use Rattle.machine_safe.proofs.Deaths.Dies.{Dies, dies-then}
+use Rattle.machine_safe.proofs.Deaths.Moves.{dies-move, dies-none, dies-pay}
+use Rattle.state_rows.specs.declared.duty.Owed.{Owed}
+
+-- moves that fit, one after the other
+each-dies : (script : Script) (S : State) (t : ObjNo) (ms : List Move) → EachFits script t ms S → total weight (owed_of S t) + total most_owed ms ≤ 12 → Sane script t S → Dies S (perform t ms S) (tell t ms S)
+each-dies script S t [] fits few s = dies-none S
+each-dies script S t (m ∷ ms) fits few s =
+    let T = moved t m S in
+    let one = sound-move script S t m fits.0 (omega arith) s in
+    let w = weight-move script S t m fits.0 in
+    dies-then S T (perform t ms T) (told m S) (tell t ms T) (dies-move script S t m s.rows fits.0) (each-dies script T t ms fits.1 (omega arith) (sane-after script S T t (told m S) s one))
+
+-- deaths don't look at the ready list
+dies-ready : (S T : State) (effects : List Effect) (qs : List ObjNo) → Dies S T effects → Dies S (record T { ready = qs }) effects
+dies-ready S T effects qs h = record { live = h.live; left = h.left; held = h.held; locks = h.locks; takes_none = h.takes_none; signals_none = h.signals_none; gains_none = h.gains_none; were = h.were }
+
+dies-act : (script : Script) (S : State) (t : ObjNo) → IsShaped script → AreRows script S → Dies S (act script S t).state (act script S t).outcome.effects
+unfolding act
+dies-act script S t shaped rows = dies-ready S (perform t (decision_of script S t).moves S) (tell t (decision_of script S t).moves S) (ready_after script t (decision_of script S t).moves S)
+    (of_action script S t (λ (ms : List Move). Dies S (perform t ms S) (tell t ms S)) shaped rows
+    (λ ms sane goes. each-dies script S t ms goes.each goes.few sane)
+    (λ what rest sane owes. subst (Dies S (moved t (move.Pay what) S)) (sym (append-nil (told (move.Pay what) S))) (dies-pay script S t what rest owes (let a = sane.inside in let b = rows.sized.duties in omega arith) rows)) (dies-none S))
+
+dies-done : (script : Script) (S : State) (plan : Plan) → AreRows script S → Goes script supervisor S (decision_by script supervisor S plan).moves → Dies S (done_by script S plan).state (done_by script S plan).outcome.effects
+dies-done script S plan rows goes =
+    let ms = (decision_by script supervisor S plan).moves in
+    dies-ready S (perform supervisor ms S) (tell supervisor ms S) (ready_after script supervisor ms S) (each-dies script S supervisor ms goes.each goes.few (sane-supervisor script S rows))
+
+dies-interrupt : (script : Script) (S : State) (k : ℕ) → IsShaped script → AreRows script S → Dies S (interrupt script S k).state (interrupt script S k).outcome.effects
+unfolding interrupt
+dies-interrupt script S k shaped rows = dies-done script S (Runs (Interrupt k)) rows (goes-interrupt script S k shaped rows)
+
+dies-immediate : (script : Script) (S : State) → IsShaped script → AreRows script S → Dies S (immediate script S).state (immediate script S).outcome.effects
+unfolding immediate
+dies-immediate script S shaped rows =
+    let found = next_immediate S.deferred in dies-done script S (immediate_plan script S found) rows (goes-immediate script S found shaped rows refl)
+
+dies-tick : (S : State) → Dies S (tick S).state (tick S).outcome.effects
+unfolding tick
+dies-tick S = dies-ready S S [] _ (dies-none S)
+
+-- what an actor's action tells
+pub dies-next : (script : Script) (S : State) (actor : Actor) → IsShaped script → AreRows script S → Dies S (next script S actor) (transition script S actor).outcome.effects
+dies-next script S (Thread t) shaped rows = dies-act script S t shaped rows
+dies-next script S (Irq k) shaped rows = dies-interrupt script S k shaped rows
+dies-next script S Idfc shaped rows = dies-immediate script S shaped rows
+dies-next script S Tick shaped rows = dies-tick S
+dies-next script S Idle shaped rows = dies-none S
+
+-- and what an entry of a legal history does
+pub dies-entry : (script : Script) (S : State) (place : ℕ) (e : Entry) (es : List Entry) → IsShaped script → AreRows script S → IsLegalFrom script S place (e ∷ es) → Dies S (next script S e.actor) e.effects
+dies-entry script S place e es shaped rows legal =
+    let told : e.effects ≡ (transition script S e.actor).outcome.effects = ap (λ (x : Entry). x.effects) legal.0.told in
+    subst (λ (effects : List Effect). Dies S (next script S e.actor) effects) (sym told) (dies-next script S e.actor shaped rows)
+
+-- the entries of a legal history
+pub dies-run : (script : Script) (S : State) (place : ℕ) (es : List Entry) → IsShaped script → AreRows script S → IsLegalFrom script S place es → Dies S (after_from script S es) (effects_of es)
+dies-run script S place [] shaped rows legal = dies-none S
+dies-run script S place (e ∷ es) shaped rows legal =
+    let T = next script S e.actor in
+    dies-then S T (after_from script T es) e.effects (effects_of es) (dies-entry script S place e es shaped rows legal) (dies-run script T (place + 1) es shaped (sound-next script S e.actor shaped rows).rows legal.1)
+
+-- What each move keeps that fits, and each payment, is kept by an action.
+each-kept : (script : Script) (P : State → Type 0) → ((S : State) (t : ObjNo) (m : Move) → AreRows script S → FitsMove script t m S → P S → P (moved t m S)) → (S : State) (t : ObjNo) (ms : List Move) → EachFits script t ms S → total weight (owed_of S t) + total most_owed ms ≤ 12 → Sane script t S → P S → P (perform t ms S)
+each-kept script P moves S t [] fits few s p = p
+each-kept script P moves S t (m ∷ ms) fits few s p =
+    let one = sound-move script S t m fits.0 (omega arith) s in
+    let w = weight-move script S t m fits.0 in
+    each-kept script P moves (moved t m S) t ms fits.1 (omega arith) (sane-after script S (moved t m S) t (told m S) s one) (moves S t m s.rows fits.0 p)
+
+module _ (script : Script) (P : State → Type 0)
+    (moves : (S : State) (t : ObjNo) (m : Move) → AreRows script S → FitsMove script t m S → P S → P (moved t m S))
+    (pays : (S : State) (t : ObjNo) (what : Owed) (rest : List Owed) → AreRows script S → owed_of S t ≡ what ∷ rest → t.0 < length S.owed → P S → P (moved t (move.Pay what) S))
+    (apart : (S : State) (qs : List ObjNo) → P S → P (record S { ready = qs })) where
+  kept-act : (S : State) (t : ObjNo) → IsShaped script → AreRows script S → P S → P (act script S t).state
+  unfolding act
+  kept-act S t shaped rows p = apart (perform t (decision_of script S t).moves S) (ready_after script t (decision_of script S t).moves S) (of_action script S t (λ (ms : List Move). P (perform t ms S)) shaped rows
+      (λ ms sane goes. each-kept script P moves S t ms goes.each goes.few sane p) (λ what rest sane owes. pays S t what rest rows owes (let a = sane.inside in let b = rows.sized.duties in omega arith) p) p)
+
+  kept-done : (S : State) (plan : Plan) → AreRows script S → Goes script supervisor S (decision_by script supervisor S plan).moves → P S → P (done_by script S plan).state
+  kept-done S plan rows goes p =
+      let ms = (decision_by script supervisor S plan).moves in apart (perform supervisor ms S) (ready_after script supervisor ms S) (each-kept script P moves S supervisor ms goes.each goes.few (sane-supervisor script S rows) p)
+
+  kept-interrupt : (S : State) (k : ℕ) → IsShaped script → AreRows script S → P S → P (interrupt script S k).state
+  unfolding interrupt
+  kept-interrupt S k shaped rows p = kept-done S (Runs (Interrupt k)) rows (goes-interrupt script S k shaped rows) p
+
+  kept-immediate : (S : State) → IsShaped script → AreRows script S → P S → P (immediate script S).state
+  unfolding immediate
+  kept-immediate S shaped rows p = let found = next_immediate S.deferred in kept-done S (immediate_plan script S found) rows (goes-immediate script S found shaped rows refl) p
+
+  kept-tick : (S : State) → P S → P (tick S).state
+  unfolding tick
+  kept-tick S p = apart S _ p
+
+  pub kept-next : (S : State) (actor : Actor) → IsShaped script → AreRows script S → P S → P (next script S actor)
+  kept-next S (Thread t) shaped rows p = kept-act S t shaped rows p
+  kept-next S (Irq k) shaped rows p = kept-interrupt S k shaped rows p
+  kept-next S Idfc shaped rows p = kept-immediate S shaped rows p
+  kept-next S Tick shaped rows p = kept-tick S p
+  kept-next S Idle shaped rows p = p

@@ -1,0 +1,181 @@
+-- A process has no handles where none of its threads is left.
+use Rattle.std.proofs.Common.{◌≡◌, inl, inr, ℕ, ◌<◌, List, [], ◌∷◌, length, get_or, set, arith, refl, sym, ap, subst, ◌∙◌, Option, Some, None, Bool, true, false}
+use Rattle.std.specs.Prelude.{◌==◌, if◌then◌else◌, is_some, option_map}
+use Rattle.std.proofs.lemmas.Bool.{cases_eq, cases_lt, eqb-true}
+use Rattle.std.proofs.lemmas.List.{get_or-set_other, set_past}
+use Rattle.sym_base.specs.declared.number.ObjNo.{ObjNo}
+use Rattle.script_types.specs.declared.script.Script.{Script}
+use Rattle.entry_log.specs.declared.effect.Holder.{Holder}
+use Rattle.entry_log.specs.declared.effect.Holder.TheVariants.{InProcess, InThread, Temp}
+use Rattle.state_rows.specs.HandleSlots.{fresh_slot, slot_at}
+use Rattle.state_rows.specs.declared.duty.Owed.{Owed}
+use Rattle.state_rows.specs.declared.duty.Owed.TheVariants.{Close, Sweep}
+use Rattle.state_rows.specs.declared.handle_slot.HandleSlot.{HandleSlot}
+use Rattle.state_rows.specs.declared.thread.Stage.{Stage}
+use Rattle.state_rows.specs.declared.thread.Stage.TheVariants.{Doomed}
+use Rattle.state_rows.specs.declared.thread.ThreadRow.{ThreadRow}
+use Rattle.state_rows.specs.declared.thread.Waiting.TheVariants as waiting
+use Rattle.state_rows.proofs.SoundChanges.{set_item}
+use Rattle.machine.specs.declared.death_move.DeathMove.TheVariants.{Note, Doom, Clean, Bury}
+use Rattle.machine.specs.declared.moves.Move.{Move}
+use Rattle.machine.specs.declared.moves.Move.TheVariants.{Make, Gain, Lose, Find, GoOn, Write, Advance, Wait, Wake, SetPriority, Death, Pay}
+use Rattle.machine.specs.declared.state.State.{State}
+use Rattle.machine.specs.DeathMoves.{death_row}
+use Rattle.machine.specs.Fits.{FitsMove, IsAtStage, IsFree}
+use Rattle.machine.specs.Handles.{freed_slot, taken_slot, with_slot}
+use Rattle.machine.specs.Holdings.{left_of, process_handles, stage_left}
+use Rattle.machine.specs.Moves.{advanced, moved, next_object, tables_gain, tables_lose, threads_closed, threads_gain, threads_lose, unlinked, with_found, with_part, with_priority, with_register, with_use, with_waiting}
+use Rattle.machine.specs.References.{is_last, stage_holds, total}
+use Rattle.machine.specs.Rows.{owed_of, thread_of, with_row}
+use Rattle.machine.specs.WellFormed.{AreRows}
+use Rattle.move_laws.proofs.Holders.ThreadRows.{row-here, row-other}
+use Rattle.move_laws.proofs.Lists.Totals.{total-set, total-with}
+use Rattle.move_laws.proofs.MoveLaws.DeathMoves.{row-is}
+use Rattle.move_laws.proofs.MoveLaws.Pays.{sweep-unheld}
+use Rattle.move_laws.proofs.References.Same.{if_zero, same_object}
+use Rattle.machine_safe.proofs.Deaths.Gone.{not-left}
+use Rattle.machine_safe.proofs.Deaths.Leaves.{handles-none}
+use Rattle.machine_safe.proofs.Deaths.Rows.{held-is, left-held, row_bit}
+
+-- how many threads of a process are left stays, and who isn't a thread
+record KeepsLeft (threads other : List (Option ThreadRow)) : Type 0 where
+  pub left : (p : ObjNo) → total (left_of p) other ≡ total (left_of p) threads
+  pub none : (k : ℕ) → get_or other k None ≡ None → get_or threads k None ≡ None
+
+left-same : (threads : List (Option ThreadRow)) → KeepsLeft threads threads
+left-same threads = record { left = λ p. refl; none = λ k e. e }
+
+left-then : (threads other third : List (Option ThreadRow)) → KeepsLeft threads other → KeepsLeft other third → KeepsLeft threads third
+left-then threads other third h g = record { left = λ p. g.left p ∙ h.left p; none = λ k e. h.none k (g.none k e) }
+
+mapped-none : (f : ThreadRow → ThreadRow) (x : Option ThreadRow) → option_map f x ≡ None → x ≡ None
+mapped-none f None e = refl
+mapped-none f (Some row) e = absurd (cc)
+
+none-before : (threads : List (Option ThreadRow)) (u : ObjNo) (f : ThreadRow → ThreadRow) (k : ℕ) → get_or (with_row threads u f) k None ≡ None → get_or threads k None ≡ None
+none-before threads u f k e = elim (cases_eq u.0 k) as (λ _. get_or threads k None ≡ None) [
+  | inl at ↦ ap (λ (n : ℕ). get_or threads n None) (sym at) ∙ mapped-none f (get_or threads u.0 None) (sym (row-here threads u f k at) ∙ e)
+  | inr apart ↦ sym (row-other threads u f k apart) ∙ e
+]
+
+left-with_row : (threads : List (Option ThreadRow)) (u : ObjNo) (f : ThreadRow → ThreadRow) → ((row : ThreadRow) → get_or threads u.0 None ≡ Some row → stage_left (f row).stage ≡ stage_left row.stage) → ((row : ThreadRow) → (f row).process ≡ row.process) → KeepsLeft threads (with_row threads u f)
+left-with_row threads u f stage process = record {
+  left = λ p. let a = total-with (left_of p) (option_map f) None threads u.0 refl in let b = mapped p (get_or threads u.0 None) refl in omega arith;
+  none = none-before threads u f;
+}
+  where
+    mapped : (p : ObjNo) (x : Option ThreadRow) → get_or threads u.0 None ≡ x → left_of p (option_map f x) ≡ left_of p x
+    mapped p None is = refl
+    mapped p (Some row) is = ap (λ (q : ObjNo). if q.0 == p.0 then stage_left (f row).stage else 0) (process row) ∙ ap (λ (n : ℕ). if row.process.0 == p.0 then n else 0) (stage row is)
+
+left-gain : (h : Holder) (o : ObjNo) (threads : List (Option ThreadRow)) → KeepsLeft threads (threads_gain h o threads)
+left-gain (Temp t) o threads = left-with_row threads t (with_use (Some o)) (λ row is. refl) (λ row. refl)
+left-gain _ o threads = left-same threads
+
+left-lose : (h : Holder) (threads : List (Option ThreadRow)) → KeepsLeft threads (threads_lose h threads)
+left-lose (Temp t) threads = left-with_row threads t (with_use None) (λ row is. refl) (λ row. refl)
+left-lose _ threads = left-same threads
+
+left-closed : (last : Bool) (o : ObjNo) (threads : List (Option ThreadRow)) → KeepsLeft threads (threads_closed last o threads)
+left-closed true o threads = left-with_row threads o unlinked (λ row is. refl) (λ row. refl)
+left-closed false o threads = left-same threads
+
+-- a table without an object
+abbrev pub IsEmptyTable : List (List HandleSlot) → ObjNo → Type 0
+IsEmptyTable tables p = (i : ℕ) → (slot_at (get_or tables p.0 []) i).object ≡ None
+
+-- the table of a process of which no thread is left has no object
+abbrev pub AreEmptied : State → Type 0
+AreEmptied S = (p : ObjNo) → thread_of S p ≡ None → total (left_of p) S.threads ≡ 0 → IsEmptyTable S.handles p
+
+emptied-kept : (S T : State) → KeepsLeft S.threads T.threads → ((p : ObjNo) → thread_of S p ≡ None → total (left_of p) S.threads ≡ 0 → IsEmptyTable S.handles p → IsEmptyTable T.handles p) → AreEmptied S → AreEmptied T
+emptied-kept S T keeps tables h p none zero = let was = keeps.none p.0 none in let left : total (left_of p) S.threads ≡ 0 = sym (keeps.left p) ∙ zero in tables p was left (h p was left)
+
+emptied-rows : (S T : State) → KeepsLeft S.threads T.threads → T.handles ≡ S.handles → AreEmptied S → AreEmptied T
+emptied-rows S T keeps same h = emptied-kept S T keeps (λ p none zero empty i. ap (λ (tables : List (List HandleSlot)). (slot_at (get_or tables p.0 []) i).object) same ∙ empty i) h
+
+-- a slot of another table
+other-slot : (tables : List (List HandleSlot)) (q p : ObjNo) (j : ℕ) (change : HandleSlot → HandleSlot) → (p.0 ≡ q.0 → ⊥) → IsEmptyTable tables p → IsEmptyTable (with_slot tables q j change) p
+other-slot tables q p j change apart empty i = ap (λ (table : List HandleSlot). (slot_at table i).object) (get_or-set_other tables q.0 p.0 _ [] apart) ∙ empty i
+
+gained-table : (S : State) (h : Holder) (o : ObjNo) → IsFree S h → (p : ObjNo) → thread_of S p ≡ None → total (left_of p) S.threads ≡ 0 → IsEmptyTable S.handles p → IsEmptyTable (tables_gain h o S.handles) p
+gained-table S (InProcess q j) o free p none zero empty = other-slot S.handles q p j (taken_slot o) (λ at. let same = same_object p q at in let some = free.2 in let left : total (left_of q) S.threads ≡ 0 = ap (λ (x : ObjNo). total (left_of x) S.threads) (sym same) ∙ zero in omega arith) empty
+gained-table S (InThread u j) o free p none zero empty = other-slot S.handles u p j (taken_slot o) (λ at. let same = same_object p u at in let there = free.0 in let is : thread_of S u ≡ None = ap (thread_of S) (sym same) ∙ none in let gone = ap is_some is in cc) empty
+gained-table S _ o free p none zero empty = empty
+
+freed-table : (tables : List (List HandleSlot)) (q : ObjNo) (j : ℕ) (p : ObjNo) → IsEmptyTable tables p → IsEmptyTable (with_slot tables q j freed_slot) p
+freed-table tables q j p empty i = set_item (λ (table : List HandleSlot). (slot_at table i).object ≡ None) tables q.0 p.0 _ []
+    (λ at. set_item (λ (slot : HandleSlot). slot.object ≡ None) (get_or tables q.0 []) j i (freed_slot (slot_at (get_or tables q.0 []) j)) fresh_slot (λ _. refl) (subst (λ (n : ℕ). (slot_at (get_or tables n []) i).object ≡ None) at (empty i))) (empty i)
+
+lost-table : (h : Holder) (tables : List (List HandleSlot)) (p : ObjNo) → IsEmptyTable tables p → IsEmptyTable (tables_lose h tables) p
+lost-table (InProcess q j) tables p empty = freed-table tables q j p empty
+lost-table (InThread u j) tables p empty = freed-table tables u j p empty
+lost-table _ tables p empty = empty
+
+-- the last thread of a process is cleaned
+emptied-clean : (script : Script) (S : State) (t u : ObjNo) → FitsMove script t (Death (Clean u)) S → AreEmptied S → AreEmptied (moved t (Death (Clean u)) S)
+emptied-clean script S t u fits h p none zero = by (at.row.process.0 == p.0) refl was
+  where
+    at : IsAtStage S u Doomed
+    at = fits.0
+
+    was : total (left_of p) S.threads ≡ (if at.row.process.0 == p.0 then 1 else 0)
+    was =
+        let a = total-with (left_of p) (option_map (death_row (Clean u))) None S.threads u.0 refl in
+        let now : left_of p (option_map (death_row (Clean u)) (get_or S.threads u.0 None)) ≡ (if at.row.process.0 == p.0 then 0 else 0) = ap (λ (x : Option ThreadRow). left_of p (option_map (death_row (Clean u)) x)) at.is in
+        let old : left_of p (get_or S.threads u.0 None) ≡ (if at.row.process.0 == p.0 then 1 else 0) = ap (left_of p) at.is ∙ ap (λ (stage : Stage). if at.row.process.0 == p.0 then stage_left stage else 0) at.at in
+        let nothing = if_zero (at.row.process.0 == p.0) 0 refl in omega arith
+
+    by : (b : Bool) → (at.row.process.0 == p.0) ≡ b → total (left_of p) S.threads ≡ (if b then 1 else 0) → IsEmptyTable S.handles p
+    by false is left = h p (none-before S.threads u (death_row (Clean u)) p.0 none) left
+    by true is left =
+        let same : at.row.process ≡ p = same_object at.row.process p (eqb-true at.row.process.0 p.0 is) in
+        let own : left_of p (thread_of S u) ≡ 1 = ap (left_of p) at.is ∙ (ap (λ (b : Bool). if b then stage_left at.row.stage else 0) is ∙ ap stage_left at.at) in
+        handles-none S u p (left ∙ sym own) (subst (λ (q : ObjNo). process_handles S u q ≡ []) same (fits.1.2 at.row at.is))
+
+-- a process keeps none, move by move
+pub emptied-move : (script : Script) (S : State) (t : ObjNo) (m : Move) → AreRows script S → FitsMove script t m S → AreEmptied S → AreEmptied (moved t m S)
+emptied-move script S t (Make kind name h) rows fits e = emptied-kept S (moved t (Make kind name h) S) (left-gain h (next_object S) S.threads) (gained-table S h (next_object S) fits.1) e
+emptied-move script S t (Gain h o) rows fits e = emptied-kept S (moved t (Gain h o) S) (left-gain h o S.threads) (gained-table S h o fits.0) e
+emptied-move script S t (Lose h o) rows fits e =
+    emptied-kept S (moved t (Lose h o) S) (left-then S.threads (threads_lose h S.threads) (threads_closed (is_last S o) o (threads_lose h S.threads)) (left-lose h S.threads) (left-closed (is_last S o) o (threads_lose h S.threads))) (λ p none zero empty. lost-table h S.handles p empty) e
+emptied-move script S t (Find u o) rows fits e = emptied-rows S (moved t (Find u o) S) (left-with_row S.threads u (with_found o) (λ row is. refl) (λ row. refl)) refl e
+emptied-move script S t (GoOn u part) rows fits e = emptied-rows S (moved t (GoOn u part) S) (left-with_row S.threads u (with_part part) (λ row is. refl) (λ row. refl)) refl e
+emptied-move script S t (Write u x value) rows fits e = emptied-rows S (moved t (Write u x value) S) (left-with_row S.threads u (with_register x value) (λ row is. refl) (λ row. refl)) refl e
+emptied-move script S t (Advance u) rows fits e = emptied-rows S (moved t (Advance u) S) (left-with_row S.threads u advanced (λ row is. refl) (λ row. refl)) refl e
+emptied-move script S t (Wait u what) rows fits e = emptied-rows S (moved t (Wait u what) S) (left-with_row S.threads u (with_waiting what) (λ row is. refl) (λ row. refl)) refl e
+emptied-move script S t (Wake u) rows fits e = emptied-rows S (moved t (Wake u) S) (left-with_row S.threads u (with_waiting waiting.Nothing) (λ row is. refl) (λ row. refl)) refl e
+emptied-move script S t (SetPriority u priority) rows fits e = emptied-rows S (moved t (SetPriority u priority) S) (left-with_row S.threads u (with_priority priority) (λ row is. refl) (λ row. refl)) refl e
+emptied-move script S t (Death (Note u exit)) rows fits e = emptied-rows S (moved t (Death (Note u exit)) S) (left-with_row S.threads u (death_row (Note u exit)) (λ row is. refl) (λ row. refl)) refl e
+emptied-move script S t (Death (Doom u exit)) rows fits e = emptied-rows S (moved t (Death (Doom u exit)) S) (left-with_row S.threads u (death_row (Doom u exit)) (λ row is. sym (ap stage_left (row-is fits.0 row is))) (λ row. refl)) refl e
+emptied-move script S t (Death (Bury u)) rows fits e = emptied-rows S (moved t (Death (Bury u)) S) (left-with_row S.threads u (death_row (Bury u)) (λ row is. sym (ap stage_left (row-is fits.0 row is))) (λ row. refl)) refl e
+emptied-move script S t (Death (Clean u)) rows fits e = emptied-clean script S t u fits e
+emptied-move script S t (Pay what) rows fits e = absurd fits
+emptied-move script S t m rows fits e = emptied-rows S (moved t m S) (left-same S.threads) refl e
+
+-- and where a row is swept
+pub left-none : (p : ObjNo) (x : Option ThreadRow) → row_bit stage_left x ≡ 0 → left_of p x ≡ 0
+left-none p None e = refl
+left-none p (Some row) e = if_zero (row.process.0 == p.0) (stage_left row.stage) e
+
+emptied-swept : (script : Script) (S : State) (o : ℕ) → AreRows script S → row_bit stage_left (get_or S.threads o None) ≡ 0 → AreEmptied S → (p : ObjNo) → get_or (set S.threads o None) p.0 None ≡ None → total (left_of p) (set S.threads o None) ≡ 0 → IsEmptyTable S.handles p
+emptied-swept script S o rows gone h p none zero = by (get_or S.threads p.0 None) refl
+  where
+    left : total (left_of p) S.threads ≡ 0
+    left = elim (cases_lt o (length S.threads)) as (λ _. total (left_of p) S.threads ≡ 0) [
+      | inl within ↦ let a = total-set (left_of p) S.threads o None None within in let b = left-none p (get_or S.threads o None) gone in omega arith
+      | inr past ↦ ap (total (left_of p)) (sym (set_past S.threads o None past)) ∙ zero
+    ]
+
+    by : (x : Option ThreadRow) → get_or S.threads p.0 None ≡ x → IsEmptyTable S.handles p
+    by None is = h p is left
+    by (Some row) is = elim (cases_eq p.0 o) as (λ _. IsEmptyTable S.handles p) [
+      | inl at ↦ (rows.spent.rows p.0 row is (not-left row.stage (sym (ap (row_bit stage_left) (ap (λ (n : ℕ). get_or S.threads n None) (sym at) ∙ is)) ∙ gone))).empty
+      | inr apart ↦ let other : get_or S.threads p.0 None ≡ None = sym (get_or-set_other S.threads o p.0 None None apart) ∙ none in absurd (cc)
+    ]
+
+pub emptied-pay : (script : Script) (S : State) (t : ObjNo) (what : Owed) (rest : List Owed) → AreRows script S → owed_of S t ≡ what ∷ rest → t.0 < length S.owed → AreEmptied S → AreEmptied (moved t (Pay what) S)
+emptied-pay script S t (Close h o) rest rows owes here e = emptied-rows S (moved t (Pay (Close h o)) S) (left-closed (is_last S o) o S.threads) refl e
+emptied-pay script S t (Sweep o) rest rows owes here e =
+    let unheld : row_bit stage_holds (thread_of S o) ≡ 0 = sym (held-is (thread_of S o)) ∙ sweep-unheld script S t o rest owes here rows in
+    emptied-swept script S o.0 rows (let le = left-held (thread_of S o) in omega arith) e

@@ -1,0 +1,10 @@
+-- What is promised of every legal history: its references are safe, and so are its deaths.
+use Rattle.std.specs.Prelude.{List}
+use Rattle.script_types.specs.declared.script.Script.{Script}
+use Rattle.entry_log.specs.declared.entry.Entry.{Entry}
+use Rattle.machine_safe.specs.SafeDeaths.{IsSafeDeaths}
+use Rattle.machine_safe.specs.SafeReferences.{IsSafeReferences}
+
+pub record IsSafe (script : Script) (history : List Entry) : Type 0 where
+  pub references : IsSafeReferences script history
+  pub deaths : IsSafeDeaths script history
