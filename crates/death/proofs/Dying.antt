@@ -1,34 +1,32 @@
 -- What a dying thread does next, and that its moves go through.
-use Rattle.std.proofs.Common.{◌≡◌, ◌∙◌, ℕ, ◌+◌, ◌≤◌, true, false, List, [], ◌∷◌, Option, Some, None, ap, arith, refl, subst, sym}
+use Rattle.std.proofs.Common.{◌≡◌, ◌∙◌, ℕ, true, false, List, [], ◌∷◌, Option, Some, None, ap, arith, refl, sym}
 use Rattle.std.specs.Prelude.{Bool, IsTrue}
 use Rattle.sym_base.specs.declared.number.ObjNo.{ObjNo}
 use Rattle.sym_base.specs.declared.kind.Exit.{Exit}
 use Rattle.script_types.specs.declared.script.Script.{Script}
 use Rattle.script_types.specs.declared.instruction.Instr.{Instr}
 use Rattle.script_types.specs.Shape.{IsShaped}
+use Rattle.state_rows.specs.Nano.{is_protected}
 use Rattle.state_rows.specs.declared.duty.Owed.{Owed}
 use Rattle.state_rows.specs.declared.thread.Stage.{Stage}
 use Rattle.state_rows.specs.declared.thread.ThreadRow.{ThreadRow}
-use Rattle.machine.specs.declared.decision.Decision.{Decision}
 use Rattle.machine.specs.declared.holding.Holding.{Holding}
 use Rattle.machine.specs.declared.state.State.{State}
 use Rattle.machine.specs.declared.task.Task.{Task}
 use Rattle.machine.specs.declared.task.Task.TheVariants.{Bury, Clean, Pay}
 use Rattle.machine.specs.Dooms.{doom}
-use Rattle.machine.specs.Fits.{most_owed}
 use Rattle.machine.specs.Holdings.{holdings}
 use Rattle.machine.specs.Reaping.{bury}
-use Rattle.machine.specs.References.{total}
-use Rattle.machine.specs.Rows.{first_owed, owed_of, thread_of}
+use Rattle.machine.specs.Rows.{first_owed, thread_of}
 use Rattle.machine.specs.Steps.{decision_of, decision_of_row, decision_where, pay}
-use Rattle.machine.specs.Task.{by_stage, dying_task, instruction, is_able, is_returning, pay_or, return_or, task_of, task_of_row}
-use Rattle.machine.specs.WellFormed.{AreRows, weight}
+use Rattle.machine.specs.Task.{by_stage, dying_task, instruction, is_able, is_returning, pay_or, return_or, task_of, task_of_row, live_task, next_call, step_or_end}
+use Rattle.machine.specs.WellFormed.{AreRows}
 use Rattle.machine_laws.proofs.Fitting.Bodies.{Goes}
 use Rattle.machine_laws.proofs.Fitting.Dooms.{after-doom, may_die, unprotected_unheld}
 use Rattle.move_laws.proofs.Lists.Totals.{inside}
 use Rattle.next_actions.specs.NextActions.{dying_at, has_any, holdings_at}
 use Rattle.kernel_tables.specs.Performed.{ActionGoes}
-use Rattle.kernel_tables.proofs.GoingActions.{action_goes, fitting_goes}
+use Rattle.kernel_tables.proofs.GoingActions.{fitting_goes}
 use Rattle.death.specs.Dying.{IsReapable, MayBury, MayEnd}
 
 -- what an able thread decides is what its task does
@@ -46,7 +44,11 @@ apart_other true (Some instr) other apart = absurd (cc)
 reap_task : (script : Script) (S : State) (t : ObjNo) → IsReapable script S t → task_of script S t ≡ pay_or (first_owed S t) (dying_at S t (thread_of S t))
 reap_task script S t h =
     let row = h.row in
-    ap (task_of_row script S t) h.is ∙ apart_other (is_returning row.part) (instruction script row) _ h.apart ∙ rw (h.doomed, h.is) refl
+    let own = live_task row.role (next_call S.deferred row.role) (step_or_end (is_protected S.nano t) (instruction script row)) in
+    ap (task_of_row script S t) h.is
+    ∙ (apart_other (is_returning row.part) (instruction script row) _ h.apart
+    ∙ (ap (λ (stage : Stage). pay_or (first_owed S t) (by_stage stage (holdings S t row) own)) h.doomed
+    ∙ ap (λ (x : Option ThreadRow). pay_or (first_owed S t) (dying_at S t x)) (sym h.is)))
 
 -- it pays the oldest of what it owes
 pub pays : (script : Script) (S : State) (t : ObjNo) (what : Owed) → IsReapable script S t → first_owed S t ≡ Some what → pay what ≡ decision_of script S t

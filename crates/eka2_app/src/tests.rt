@@ -121,34 +121,6 @@ fn expect_run<R: Abort>(
     assert_eq!(rt; sink.bytes(), written.as_bytes());
 }
 
-/// A source of the bytes of a case's script, of which some reads fail.
-fn source_of(alloc: Global, case: &Case<'_>) -> Result<MemSource, AllocError> {
-    let bytes = Vec::from_slice(alloc, case.script.as_bytes())?;
-    let fails = Vec::from_slice(alloc, case.failing_reads)?;
-    Ok(MemSource::new(bytes, 100, fails))
-}
-
-/// An empty sink, of which some writes fail.
-fn sink_of(alloc: Global, failing_writes: &[u32]) -> Result<MemSink, AllocError> {
-    let fails = Vec::from_slice(alloc, failing_writes)?;
-    MemSink::new(alloc, 1000, 600, fails)
-}
-
-/// Runs words over a source and a sink, and compares the status and what was written.
-fn expect_run<R: Abort>(
-    rt: &R,
-    alloc: Global,
-    words: &[String],
-    source: &mut MemSource,
-    sink: &mut MemSink,
-    status: Status,
-    written: &str,
-) {
-    let found = eka2_main(alloc, words, source, sink);
-    assert_eq!(rt; found, status);
-    assert_eq!(rt; sink.bytes(), written.as_bytes());
-}
-
 /// Runs a case, and compares the status and what was written.
 pub fn expect_case<R: Abort>(rt: &R, alloc: Global, case: &Case<'_>) -> Result<(), Fail> {
     let words = words_of(alloc, case.words)?;

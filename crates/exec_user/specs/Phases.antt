@@ -1,8 +1,12 @@
 -- The phases of an instruction, and what comes after one of its steps.
-use Rattle.std.specs.Prelude.{ℕ, ℤ, if◌then◌else◌, Option, Some, None}
+use Rattle.std.specs.Prelude.{ℕ, ℤ, if◌then◌else◌, List, [], ◌∷◌, Option, Some, None}
 use Rattle.sym_base.specs.declared.number.ObjNo.{ObjNo}
+use Rattle.sym_base.specs.declared.kind.Exit.{Exit}
 use Rattle.entry_log.specs.declared.step.Part.{Part}
 use Rattle.entry_log.specs.declared.step.Part.TheVariants.{Seek, Return, Look, Make, Send, Do, Done, Piece}
+use Rattle.machine.specs.declared.death_move.DeathMove.TheVariants.{Doom}
+use Rattle.machine.specs.declared.moves.Move.{Move}
+use Rattle.machine.specs.declared.moves.Move.TheVariants.{Death}
 use Rattle.machine.specs.declared.state.State.{State}
 use Rattle.state_rows.specs.declared.thread.ThreadRow.{ThreadRow}
 use Rattle.machine.specs.Rows.{thread_of}
@@ -35,7 +39,29 @@ abbrev pub goes_on : ThreadRow → Next
 goes_on row = if is_wait row.waiting then next.Waits else next.Phase (phase_of row.part)
 
 -- an answer ends the instruction
-abbrev pub next_of : Option ℤ → Option ThreadRow → Next
-next_of (Some code) row = next.Done
-next_of None None = next.Done
-next_of None (Some row) = goes_on row
+abbrev pub answered : Option ℤ → Option ThreadRow → Next
+answered (Some code) row = next.Done
+answered None None = next.Done
+answered None (Some row) = goes_on row
+
+-- the thread that a move dooms, and its exit
+abbrev pub doom_in : Move → Option (ObjNo × Exit)
+doom_in (Death (Doom u exit)) = Some (u, exit)
+doom_in _ = None
+
+-- the first thread that moves doom, and its exit
+abbrev pub doom_or : Option (ObjNo × Exit) → Option (ObjNo × Exit) → Option (ObjNo × Exit)
+doom_or None other = other
+doom_or (Some doomed) other = Some doomed
+
+abbrev pub dooms_of : List Move → Option (ObjNo × Exit)
+dooms_of [] = None
+dooms_of (m ∷ ms) = doom_or (doom_in m) (dooms_of ms)
+
+-- a step that dooms a thread tells that, and any other its answer or what comes next
+abbrev pub dooms_or : Option (ObjNo × Exit) → Next → Next
+dooms_or None other = other
+dooms_or (Some doomed) other = next.Dooms doomed.0 doomed.1
+
+abbrev pub next_of : List Move → Option ℤ → Option ThreadRow → Next
+next_of ms answer row = dooms_or (dooms_of ms) (answered answer row)

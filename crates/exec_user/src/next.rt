@@ -1,9 +1,9 @@
 //! What comes after a step of an instruction. That the steps of an instruction have numbers, its phases, is this project's own.
 ghost use Rattle.std.specs.Prelude.{◌≡◌, option_copied};
-ghost use Rattle.exec_user.specs.Phases.{goes_on, next_of, phase_of};
+ghost use Rattle.exec_user.specs.Phases.{answered, doom_in, dooms_of, goes_on, next_of, phase_of};
 
 use entry_log::Part;
-use machine::{ThreadRow, Waiting};
+use machine::{DeathMove, Move, ThreadRow, Waiting};
 use sym_base::{Exit, ThreadNo};
 
 /// What comes after a step of an instruction.
@@ -15,7 +15,7 @@ pub enum Next {
     Waits,
     /// The instruction is over.
     Done,
-    /// The instruction dooms this thread, which gets this exit behind the step.
+    /// The step doomed this thread with this exit. The instruction is over where the step answered.
     Dooms(ThreadNo, Exit),
 }
 
@@ -46,12 +46,45 @@ fn goes_on(row: &ThreadRow) -> Next
     }
 }
 
-/// What comes after a step: the end of the instruction where it answered, else what the thread's row says.
-pub fn next_of(answer: Option<i32>, row: Option<&ThreadRow>) -> Next
-    ensures { result ≡ next_of answer (option_copied row.entry) }
+/// The end of the instruction where a step answered, else what the thread's row says.
+fn answered(answer: Option<i32>, row: Option<&ThreadRow>) -> Next
+    ensures { result ≡ answered answer (option_copied row.entry) }
 {
     match (answer, row) {
         (None, Some(row)) => goes_on(row),
         _ => Next::Done,
+    }
+}
+
+/// The thread that a move dooms, and its exit.
+fn doom_in(change: &Move) -> Option<(ThreadNo, Exit)>
+    ensures { result ≡ doom_in change.now }
+{
+    match change {
+        Move::Death(DeathMove::Doom(thread, exit)) => Some((*thread, *exit)),
+        _ => None,
+    }
+}
+
+/// The first thread that moves doom, and its exit.
+fn dooms_of(moves: &[Move]) -> Option<(ThreadNo, Exit)>
+    ensures { result ≡ dooms_of moves.now }
+{
+    for index in 0..moves.len() {
+        if let Some(doomed) = doom_in(&moves[index]) {
+            return Some(doomed);
+        }
+    }
+    None
+}
+
+/// What comes after a step with these moves: the thread that it doomed, the end of the instruction where it answered, else
+/// what the thread's row says.
+pub fn next_of(moves: &[Move], answer: Option<i32>, row: Option<&ThreadRow>) -> Next
+    ensures { result ≡ next_of moves.now answer (option_copied row.entry) }
+{
+    match dooms_of(moves) {
+        Some((thread, exit)) => Next::Dooms(thread, exit),
+        None => answered(answer, row),
     }
 }

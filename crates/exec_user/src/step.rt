@@ -100,14 +100,15 @@ impl<'a, W: RefWords + Drop> ExecUser<'a, W> {
         ensures decided { self.new.decision.now ≡ step_at script.now (state_of self.old.tables.now) t instr.now }
         ensures performed { IsPerformed script.now t (step_at script.now (state_of self.old.tables.now) t instr.now).moves self.old.tables.now self.new.tables.now self.old.ready.now self.new.ready.now [] result.effects }
         ensures answer { result.answer ≡ (step_at script.now (state_of self.old.tables.now) t instr.now).answer }
-        ensures next { result.next ≡ next_of result.answer (thread_of (state_of self.new.tables.now) t) }
+        ensures next { result.next ≡ next_of (step_at script.now (state_of self.old.tables.now) t instr.now).moves result.answer (thread_of (state_of self.new.tables.now) t) }
     {
         let mut effects = Effects::new();
         let answer = self.tell_step(script, t, instr, phase, &mut effects);
+        let moves = self.decision.moves.as_slice();
         Outcome {
             effects,
             answer,
-            next: next_of(answer, self.tables.thread(t)),
+            next: next_of(moves, answer, self.tables.thread(t)),
         }
     }
 }

@@ -6,7 +6,7 @@ mod BootProcs
 mod BootReady
 mod BootTables
 mod BootUses
-mod Deaths
+mod DeathRows
 mod DecidedApart
 mod Goes
 mod LastEntry

@@ -7,3 +7,4 @@ pub mod LegalSafety
 pub mod ReadyHolders
 pub mod Runs
 pub mod SafeHistories
+pub mod UnsafeDeaths

@@ -1,21 +1,18 @@
 -- The first of what a doomed thread has.
-use Rattle.std.proofs.Common.{◌≡◌, ℕ, ◌+◌, ◌==◌, Bool, true, false, if◌then◌else◌, List, [], ◌∷◌, ◌++◌, map, Option, Some, None, refl, ap, sym, ◌∙◌, append_assoc}
-use Rattle.std.proofs.lemmas.Bool.{eq-eqb}
+use Rattle.std.proofs.Common.{◌≡◌, ℕ, ◌+◌, true, false, List, [], ◌∷◌, ◌++◌, map, Option, Some, None, refl, ap, sym, ◌∙◌, append_assoc}
 use Rattle.std.specs.Prelude.{option_map, slice_get}
 use Rattle.std.specs.List.{slice_index_or}
 use Rattle.sym_base.specs.declared.number.ObjNo.{ObjNo}
 use Rattle.entry_log.specs.declared.effect.Holder.{Holder}
-use Rattle.entry_log.specs.declared.effect.Holder.TheVariants.{InProcess, InThread}
+use Rattle.entry_log.specs.declared.effect.Holder.TheVariants.{InThread}
 use Rattle.state_rows.specs.declared.duty.Held.TheVariants as held
 use Rattle.state_rows.specs.declared.handle_slot.HandleSlot.{HandleSlot}
 use Rattle.state_rows.specs.declared.thread.ThreadRow.{ThreadRow}
 use Rattle.machine.specs.declared.holding.Holding.{Holding}
 use Rattle.machine.specs.declared.holding.Holding.TheVariants.{Mutex, Handle, Logon}
 use Rattle.machine.specs.declared.state.State.{State}
-use Rattle.machine.specs.Holdings.{held_slot, held_handles, first_here, first_used, held_use, use_held, held_of, held_mutexes, held_logons, process_handles, holdings, left_of, stage_left, has_one_left}
+use Rattle.machine.specs.Holdings.{held_slot, held_handles, first_here, first_used, held_use, use_held, held_of, held_mutexes, held_logons, process_handles, holdings}
 use Rattle.machine.specs.LogonMoves.{logons_on}
-use Rattle.machine.specs.References.{total}
-use Rattle.state_rows.specs.declared.thread.Stage.TheVariants.{Doomed}
 use Rattle.machine.specs.Moves.{use_of, use_of_row}
 use Rattle.machine.specs.Rows.{table_of, thread_of}
 use Rattle.machine.specs.Task.{dying_task}
@@ -36,15 +33,6 @@ slot_first holder i (Some o) rest h = refl
 pub handles_first : (holder : ℕ → Holder) (i : ℕ) (slots : List HandleSlot) → slice_get (held_handles holder i slots) 0 ≡ option_map (λ (slot : ℕ × ObjNo). Handle (holder slot.0) slot.1) (first_used i slots)
 handles_first holder i [] = refl
 handles_first holder i (slot ∷ rest) = slot_first holder i slot.object rest (handles_first holder (i + 1) rest)
-
--- a doomed thread is left of its process, so that it gives up the process's handles where it is the only one that is left
-one_left : (row : ThreadRow) → row.stage ≡ Doomed → left_of row.process (Some row) ≡ 1
-one_left row doomed = ap (λ (b : Bool). if b then stage_left row.stage else 0) (eq-eqb row.process.0 row.process.0 refl) ∙ ap stage_left doomed
-
-pub handles_of_last : (S : State) (t : ObjNo) (row : ThreadRow) → thread_of S t ≡ Some row → row.stage ≡ Doomed
-    → process_handles S t row.process ≡ (if has_one_left S row.process then held_handles (InProcess row.process) 0 (table_of S row.process) else [])
-handles_of_last S t row is doomed =
-    ap (λ (n : ℕ). if total (left_of row.process) S.threads == n then held_handles (InProcess row.process) 0 (table_of S row.process) else []) (ap (left_of row.process) is ∙ one_left row doomed)
 
 -- the first of two lists one behind the other
 pub first_here_of : {A : Type 0} (xs ys : List A) (x : A) → slice_get xs 0 ≡ Some x → slice_get (xs ++ ys) 0 ≡ Some x

@@ -29,6 +29,11 @@ abbrev pub has_any : List Holding → Bool
 has_any [] = false
 has_any (what ∷ rest) = true
 
+-- a thread that is doomed, where there is one
+abbrev pub IsDoomed : Option ThreadRow → Type 0
+IsDoomed None = Unit {0}
+IsDoomed (Some row) = row.stage ≡ Doomed
+
 -- what the thread of a row does, doomed and owing nothing: it gives up the first of what it has, and at last is cleaned
 abbrev pub dying_at : State → ObjNo → Option ThreadRow → Option Task
 dying_at S t row = Some (dying_task (holdings_at S t row))

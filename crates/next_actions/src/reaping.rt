@@ -9,7 +9,7 @@ ghost use Rattle.machine.specs.Rows.{table_of, thread_of};
 ghost use Rattle.machine.specs.Steps.{decision_of_row, decision_of_task};
 ghost use Rattle.machine.specs.Task.{dying_task};
 ghost use Rattle.next_actions.specs.FirstHolding.{first_of};
-ghost use Rattle.next_actions.specs.NextActions.{dying_at, has_any, holdings_at};
+ghost use Rattle.next_actions.specs.NextActions.{IsDoomed, dying_at, has_any, holdings_at};
 
 use crate::bodies::is_woken;
 use decisions::{add_call, nothing, reason_of};
@@ -33,7 +33,7 @@ fn own_handle<R: Reads>(reads: &R, thread: ThreadNo) -> Option<Holding>
 }
 
 /// The first handle of the table of a thread's process, where the thread is the only one of it that isn't cleaned yet.
-#[tactic(auto, using(crate::proofs::First::handles_first, crate::proofs::First::handles_of_last))]
+#[tactic(auto, using(crate::proofs::First::handles_first, machine::proofs::DoomedHandles::doomed_handles))]
 fn process_handle<R: Reads>(reads: &R, thread: ThreadNo, row: &ThreadRow) -> Option<Holding>
     requires readable { R.is_readable reads.now }
     requires row { thread_of (R.state reads.now) thread ≡ Some row.now }
@@ -187,6 +187,7 @@ fn reap_row<R: Reads>(
 ) -> bool
     requires readable { R.is_readable reads.now }
     requires row { thread_of (R.state reads.now) thread ≡ Some row.now }
+    requires doomed { row.now.stage ≡ Stage.Doomed }
     ensures decided { let S = R.state reads.now in decision.new ≡ decision_of_task script.now S thread row.now (dying_task (holdings S thread row.now)) }
     ensures given { result ≡ has_any (holdings (R.state reads.now) thread row.now) }
 {
@@ -206,6 +207,7 @@ fn reap_row<R: Reads>(
 /// gave something up.
 pub fn reap<R: Reads>(decision: &mut Decision, script: &Script, reads: &R, thread: ThreadNo) -> bool
     requires readable { R.is_readable reads.now }
+    requires doomed { IsDoomed (thread_of (R.state reads.now) thread) }
     ensures decided { let S = R.state reads.now in decision.new ≡ decision_of_row script.now S thread (thread_of S thread) (dying_at S thread (thread_of S thread)) }
     ensures given { let S = R.state reads.now in result ≡ has_any (holdings_at S thread (thread_of S thread)) }
 {

@@ -11,7 +11,7 @@ use Rattle.kernel_tables.specs.StateOf.{state_of}
 use Rattle.kernel_tables.proofs.GoingActions.{action_goes}
 use Rattle.kcore.specs.Told.{told_in}
 use Rattle.kcore.proofs.ActionsDone.{does_same}
-use Rattle.kcore.proofs.Deaths.{may_end, may_reap}
+use Rattle.kcore.proofs.DeathRows.{may_end, may_reap}
 use Rattle.kcore.proofs.DecidedApart.{decision_apart}
 use Rattle.kcore.proofs.act.act.Goals as goal
 

@@ -12,5 +12,5 @@ returns-clause-does g c =
     let t = c.args.thread in
     let X = state_of c.args.tables.now in
     let goes = action_goes script X t c.requires.shaped c.requires.rows in
-    let follow = rw (c.as_slice.ensures.moves, c.bury.ensures.decided) at c.leave_along.ensures.queues in
-    carried_does script t (decision_of script X t) c.args.tables.now c.bury.new.tables c.args.ready.now c.bury.new.ready c.leave_along.new.ready _ c.bury.new.effects goes.each c.bury.ensures.performed follow (rw c.bury.ensures.decided refl)
+    let follow = rw (c.as_slice.ensures.moves, c.make_burial.ensures.decided) at c.leave_along.ensures.queues in
+    carried_does script t (decision_of script X t) c.args.tables.now c.make_burial.new.tables c.args.ready.now c.make_burial.new.ready c.leave_along.new.ready _ c.make_burial.new.effects goes.each c.make_burial.ensures.performed follow (rw c.make_burial.ensures.decided refl)

@@ -1,5 +1,5 @@
 -- Whoever is to be reaped or to end may be: what a thread's next action says of its row, for a thread that is able.
-use Rattle.std.proofs.Common.{◌≡◌, Option, Some, None, true, ap, sym}
+use Rattle.std.proofs.Common.{◌≡◌, Option, Some, None, true, ap}
 use Rattle.std.specs.Prelude.{◌&&◌, IsTrue, is_none, is_some, not}
 use Rattle.std.proofs.lemmas.Bool.{and_parts}
 use Rattle.sym_base.specs.declared.number.ObjNo.{ObjNo}
@@ -7,7 +7,6 @@ use Rattle.script_types.specs.declared.script.Script.{Script}
 use Rattle.state_rows.specs.Nano.{wanted_holder}
 use Rattle.state_rows.specs.declared.thread.ThreadRow.{ThreadRow}
 use Rattle.machine.specs.declared.state.State.{State}
-use Rattle.machine.specs.declared.task.Task.{Task}
 use Rattle.machine.specs.Rows.{thread_of}
 use Rattle.machine.specs.Task.{is_able, is_ready, is_stopped, is_waiting, task_of, task_of_row}
 use Rattle.next_actions.specs.NextActions.{Suits}

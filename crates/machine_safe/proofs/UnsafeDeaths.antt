@@ -1,0 +1,61 @@
+-- The definition of safe deaths, tried on the end of a thread: how often it is doomed, cleaned and buried there. And three
+-- histories, changed by hand, that aren't safe.
+use Rattle.std.proofs.Common.{◌≡◌, ℕ, ◌≤◌, List, [], ◌∷◌, None, refl, arith}
+use Rattle.std.specs.Prelude.{pos}
+use Rattle.sym_base.specs.declared.number.ObjNo.{ObjNo}
+use Rattle.script_types.specs.declared.script.Script.{Script}
+use Rattle.entry_log.specs.declared.effect.Effect.{Effect}
+use Rattle.entry_log.specs.declared.effect.Effect.TheVariants as effect
+use Rattle.entry_log.specs.declared.effect.Holder.TheVariants.{InThread}
+use Rattle.entry_log.specs.declared.effect.StatusNo.TheVariants.{Async}
+use Rattle.entry_log.specs.declared.entry.Actor.TheVariants.{Thread}
+use Rattle.entry_log.specs.declared.entry.Entry.{Entry}
+use Rattle.entry_log.specs.declared.step.Step.{Step}
+use Rattle.entry_log.specs.declared.step.Step.TheVariants as step
+use Rattle.machine_safe.specs.CountAfter.{effects_of}
+use Rattle.machine_safe.specs.SafeDeaths.{IsSafeDeaths, dooms, burials, cleanings}
+
+-- object n, and an entry of thread t that isn't answered
+abbrev number : ℕ → ObjNo
+number n = record { 0 = n }
+
+abbrev acts : ℕ → ℕ → Step → List Effect → Entry
+acts place t done effects = record { place = place; actor = Thread (number t); step = done; effects = effects; answer = None }
+
+-- thread 3 ends, is cleaned, and is buried by the supervisor
+abbrev ends : ℕ → Entry
+ends place = acts place 3 step.End (effect.Doom (number 3) ∷ [])
+
+abbrev is_cleaned : ℕ → Entry
+is_cleaned place = acts place 3 step.Clean []
+
+abbrev is_buried : ℕ → Entry
+is_buried place = acts place 1 step.Bury (effect.Bury (number 3) ∷ [])
+
+-- that is once each
+dooms_once : dooms (effects_of (ends 1 ∷ is_cleaned 2 ∷ is_buried 3 ∷ [])) (number 3) ≡ 1
+dooms_once = refl
+
+cleans_once : cleanings (ends 1 ∷ is_cleaned 2 ∷ is_buried 3 ∷ []) (number 3) ≡ 1
+cleans_once = refl
+
+buries_once : burials (effects_of (ends 1 ∷ is_cleaned 2 ∷ is_buried 3 ∷ [])) (number 3) ≡ 1
+buries_once = refl
+
+-- it isn't buried twice
+buried_twice : (script : Script) → IsSafeDeaths script (ends 1 ∷ is_cleaned 2 ∷ is_buried 3 ∷ is_buried 4 ∷ []) → ⊥
+buried_twice script safe = let few : 2 ≤ 1 = (safe.order (number 3)).buried in omega arith
+
+-- it gets no signal once it is doomed
+abbrev is_signalled : ℕ → Entry
+is_signalled place = acts place 4 step.Tell (effect.Signal (number 3) (Async 0) (pos 0) ∷ [])
+
+signalled_late : (script : Script) → IsSafeDeaths script (ends 1 ∷ is_signalled 2 ∷ []) → ⊥
+signalled_late script safe = let none : ◌≡◌ {A = ℕ} 1 0 = (safe.doom (number 3)).signals_none [] (ends 1) (is_signalled 2 ∷ []) refl (omega arith) in omega arith
+
+-- and it isn't cleaned while a handle of its own table is left
+abbrev duplicates : ℕ → Entry
+duplicates place = acts place 3 step.Drop (effect.Plus (InThread (number 3) 0) (number 5) ∷ [])
+
+cleaned_early : (script : Script) → IsSafeDeaths script (duplicates 1 ∷ ends 2 ∷ is_cleaned 3 ∷ []) → ⊥
+cleaned_early script safe = let none : ◌≡◌ {A = ℕ} 1 0 = (safe.clean (number 3)).own (duplicates 1 ∷ ends 2 ∷ []) (is_cleaned 3) [] (InThread (number 3) 0) (number 5) refl (omega arith) refl in omega arith
