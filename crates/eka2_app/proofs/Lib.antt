@@ -1,5 +1,2 @@
-mod Judged
-mod Rows
-mod Runs
-mod Taken
-mod Texts
+pub mod Ended
+pub mod OneReading

@@ -1,6 +1,3 @@
-pub mod Complete
-pub mod Inputs
-pub mod Outputs
+pub mod Outcomes
 pub mod Readings
-pub mod RunText
 pub mod StatusNumber

@@ -2,13 +2,13 @@
 ghost use Rattle.std.specs.Prelude.{◌≡◌, [], IfOk, IfSome};
 ghost use Rattle.script_types.specs.Source.{IsWellFormed};
 
-use crate::output::{Line, line_of_entry, line_of_row};
-use crate::run::{PLACES, make_history};
 use crate::tests::{DEATHS_SCRIPT, DYING_SCRIPT, SCRIPT};
-use entry_log::{Entry, FinalRow};
+use arrayvec::ArrayVec;
+use entry_log::{Entry, FinalRow, entry_text, final_text};
 use kcore::Kernel;
 use plain_machine::Plain;
 use ref_words::PlainWords;
+use runner::{PLACES, make_history};
 use script_grammar::is_well_formed;
 use script_read::{ReadScript, read_script};
 use script_types::{Limits, Script};
@@ -19,6 +19,23 @@ use sym_base::{NoMemory, ObjNo};
 
 /// Rows are asked from each number below it. The scripts make fewer objects.
 const NUMBERS: u16 = 8;
+
+/// The bytes of a line, its line feed among them.
+type Line = ArrayVec<u8, 512>;
+
+/// The line of an entry.
+fn line_of_entry(entry: &Entry) -> Line {
+    let mut line = Line::new();
+    let _ = entry_text(entry, &mut line);
+    line
+}
+
+/// The line of an object that is left.
+fn line_of_row(row: &FinalRow) -> Line {
+    let mut line = Line::new();
+    let _ = final_text(row, &mut line);
+    line
+}
 
 /// The script of a text.
 fn script_of(alloc: Global, text: &str) -> Option<Script>

@@ -1,14 +1,13 @@
-//! The command `eka2`: reads a script, runs it on the kernel model, and prints its history and the
-//! objects that are left.
+//! The command `eka2`: runs scripts on the kernel model and prints their histories and the objects that are left, and
+//! makes scripts.
 #![tactic(auto)]
 
+#[cfg(test)]
+mod command_tests;
 #[cfg(test)]
 mod compared;
 #[cfg(test)]
 mod death_tests;
-mod input;
-mod output;
-mod run;
 mod status;
 #[cfg(test)]
 mod tests;

@@ -1,12 +1,14 @@
 //! How the command ends.
 ghost use Rattle.std.specs.Prelude.{◌≡◌};
 ghost use Rattle.std.specs.Option.{option_copied};
-ghost use Rattle.eka2_app.specs.StatusNumber.{status_number, status_message};
+ghost use Rattle.eka2_app.specs.StatusNumber.{status_number, status_message, status_of};
+
+use script_read::RunFault;
 
 /// How the command ended.
 #[derive(Clone, Copy, Debug, PartialEq, Eq)]
 pub enum Status {
-    /// The whole history was written.
+    /// All that the command writes was written.
     Done,
     /// The words are no command.
     Usage,
@@ -23,6 +25,20 @@ pub enum Status {
 }
 
 impl Status {
+    /// How a command ended that did all, or met a fault.
+    pub fn of(outcome: Result<(), RunFault>) -> Status
+        ensures { result ≡ status_of outcome }
+    {
+        match outcome {
+            Ok(()) => Status::Done,
+            Err(RunFault::Refused { .. }) => Status::Refused,
+            Err(RunFault::ReadFault) => Status::ReadFault,
+            Err(RunFault::WriteFault) => Status::WriteFault,
+            Err(RunFault::NoMemory) => Status::NoMemory,
+            Err(RunFault::TooLarge) => Status::TooLarge,
+        }
+    }
+
     /// The number that the process ends with.
     pub fn number(self) -> u8
         ensures { result ≡ status_number self }

@@ -68,13 +68,13 @@ end
 ";
 
 /// The seventh line begins with a word that begins no line.
-const UNKNOWN_WORD_SCRIPT: &str =
+pub const UNKNOWN_WORD_SCRIPT: &str =
     "eka2 1\nprocess p\nthread a 10\ncreate mutex m r0\ndup r0 r1\nclose r0\nclone r1\nclose r1\nschedule\ngo 16\nend\n";
 
 const FIRST_TWO_LINES: &str = "1 t3 create.do +p2.0:4 = 65536\n2 t3 dup.look +tmp3:4\n";
 
 /// The words of a command line.
-fn words_of(alloc: Global, texts: &[&str]) -> Result<Vec<String>, AllocError> {
+pub fn words_of(alloc: Global, texts: &[&str]) -> Result<Vec<String>, AllocError> {
     let mut words = Vec::new(alloc);
     for text in texts {
         words.push(String::from_str(alloc, text)?)?;
@@ -101,9 +101,9 @@ fn source_of(alloc: Global, case: &Case<'_>) -> Result<MemSource, AllocError> {
 }
 
 /// An empty sink, of which some writes fail.
-fn sink_of(alloc: Global, failing_writes: &[u32]) -> Result<MemSink, AllocError> {
+pub fn sink_of(alloc: Global, failing_writes: &[u32]) -> Result<MemSink, AllocError> {
     let fails = Vec::from_slice(alloc, failing_writes)?;
-    MemSink::new(alloc, 1000, 600, fails)
+    MemSink::new(alloc, 2000, 600, fails)
 }
 
 /// Runs words over a source and a sink, and compares the status and what was written.
@@ -183,7 +183,12 @@ fn other_words_are_usage(rt: HostRuntime) -> Result<(), Fail> {
         words: &["--help"],
         ..none
     };
-    expect_case(&rt, rt.alloc(), &help)
+    expect_case(&rt, rt.alloc(), &help)?;
+    let shared = Case {
+        words: &["share", "--workers", "0"],
+        ..none
+    };
+    expect_case(&rt, rt.alloc(), &shared)
 }
 
 #[test]

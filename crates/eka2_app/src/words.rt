@@ -1,9 +1,12 @@
 //! The words behind the program's name.
-ghost use Rattle.std.specs.Prelude.{◌≡◌, ◌≢◌, map};
+ghost use Rattle.std.specs.Fmt.{decimal};
+ghost use Rattle.std.specs.Prelude.{◌≡◌, ◌≢◌, ◌<◌, ◌≤◌, ◌^◌, [], ◌∷◌, ℕ, map, MatchOption, IfSome, None};
+ghost use Rattle.std.specs.Str.{bytes_eq};
 ghost use Rattle.std.specs.String.{string_bytes};
-ghost use Rattle.eka2_app.specs.Readings.{reading_of};
+ghost use Rattle.eka2_app.specs.Readings.{IsReading};
 
 use crate::status::Status;
+use itoa::Buffer;
 use std::alloc::Global;
 use std::env;
 use std::io::ErrorKind;
@@ -13,19 +16,85 @@ use std::io::ErrorKind;
 pub enum Command {
     /// Runs a script and prints its history.
     Run,
+    /// Runs a script and prints the part of its history that has answers.
+    Brief,
+    /// Makes a script from a seed and prints it.
+    Make { seed: u64, size: u32 },
+}
+
+/// The most rounds that each client of a made script has. The limit is this project's own.
+const MOST_ROUNDS: u64 = 500;
+
+/// Whether a word is the text of a number.
+fn is_text_of(number: u64, word: &str) -> bool
+    ensures { result ≡ bytes_eq (decimal number) word.now }
+{
+    let mut digits = Buffer::new();
+    digits.format(number) == word
+}
+
+/// The number of 64 bits that a word spells: digits alone, and no zero before another digit. None where it spells none.
+fn number_of(word: &str) -> Option<u64>
+    ensures { MatchOption result ((n : ℕ) → n < 2 ^ 64 → word.now ≢ decimal n) (λ number. word.now ≡ decimal number) }
+{
+    let Ok(number) = word.parse::<u64>() else {
+        return None;
+    };
+    if is_text_of(number, word) {
+        Some(number)
+    } else {
+        None
+    }
+}
+
+/// The number of rounds that a word spells, 1 to 500. None where it spells none.
+fn size_of(word: &str) -> Option<u32>
+    ensures none { result ≡ None → (n : ℕ) → 1 ≤ n → n ≤ 500 → word.now ≢ decimal n }
+    ensures some { IfSome result (λ size. word.now ≡ decimal size) }
+    ensures low { IfSome result (λ size. 1 ≤ size) }
+    ensures high { IfSome result (λ size. size ≤ 500) }
+{
+    let number = number_of(word)?;
+    if 1 <= number && number <= MOST_ROUNDS {
+        Some(number as u32)
+    } else {
+        None
+    }
+}
+
+/// The command of one word.
+fn command_of_word(word: &str) -> Option<Command>
+    ensures { MatchOption result ((command : Command) → ¬ IsReading (word.now ∷ []) command) (IsReading (word.now ∷ [])) }
+{
+    match word {
+        "run" => Some(Command::Run),
+        "brief" => Some(Command::Brief),
+        _ => None,
+    }
+}
+
+/// The command of a word with a seed and a size.
+fn command_of_made(word: &str, seed: &str, size: &str) -> Option<Command>
+    ensures { MatchOption result
+        ((command : Command) → ¬ IsReading (word.now ∷ seed.now ∷ size.now ∷ []) command)
+        (IsReading (word.now ∷ seed.now ∷ size.now ∷ [])) }
+{
+    let seed = number_of(seed)?;
+    let size = size_of(size)?;
+    match word {
+        "make" => Some(Command::Make { seed, size }),
+        _ => None,
+    }
 }
 
 /// The command that the words are. None where they are none.
 pub fn command_of(words: &[String]) -> Option<Command>
-    ensures { result ≡ reading_of (map string_bytes words.now) }
+    ensures { MatchOption result ((command : Command) → ¬ IsReading (map string_bytes words.now) command) (IsReading (map string_bytes words.now)) }
 {
-    if words.len() != 1 {
-        return None;
-    }
-    if words[0].as_str() == "run" {
-        Some(Command::Run)
-    } else {
-        None
+    match words.len() {
+        1 => command_of_word(words[0].as_str()),
+        3 => command_of_made(words[0].as_str(), words[1].as_str(), words[2].as_str()),
+        _ => None,
     }
 }
 

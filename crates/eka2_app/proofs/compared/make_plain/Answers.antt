@@ -1,6 +1,6 @@
-use Rattle.std.proofs.Common.{◌∙◌, ◌+◌, ap, arith}
+use Rattle.std.proofs.Common.{◌∙◌, ◌+◌, ap, arith, length}
+use Rattle.std.proofs.lemmas.List.{length-append}
 use Rattle.machine_laws.proofs.ValidSlots.{valid_slot_is_declared, valid_slots_few}
-use Rattle.eka2_app.proofs.Runs.{run_longer}
 use Rattle.eka2_app.proofs.compared.make_plain.Goals as goal
 
 pub slot-requires-clause-declared : goal.slot-requires-clause-declared
@@ -14,5 +14,5 @@ slot-requires-clause-few c =
 pub loop-slot-preserved : goal.loop-slot-preserved
 loop-slot-preserved c = record {
   script = c.slot.ensures.script ∙ c.loop-slot.invariant.script;
-  count = run_longer c.loop-slot.plain.history c.slot.new.self.history _ c.in_ok-slot.ensures.ok ∙ ap (λ n. n + 1) c.loop-slot.invariant.count;
+  count = ap length c.in_ok-slot.ensures.ok ∙ length-append c.loop-slot.plain.history _ ∙ ap (λ n. n + 1) c.loop-slot.invariant.count;
 }

@@ -1,9 +1,95 @@
-use Rattle.std.proofs.Common.{ap, Err}
+use Rattle.std.proofs.Common.{ℕ, map, refl, sym, ap, subst, ◌∙◌}
+use Rattle.std.specs.String.{string_bytes}
+use Rattle.eka2_app.specs.Outcomes.{WroteText}
+use Rattle.eka2_app.specs.Readings.{IsReading}
+use Rattle.eka2_app.specs.StatusNumber.{status_of}
+use Rattle.eka2_app.specs.declared.words.Command.TheVariants as command
+use Rattle.eka2_app.proofs.Ended.{read_fault_is, write_fault_is, memory_is, large_is, not_usage, ran_script, never_read, never_large, took_nothing, wrote_text}
+use Rattle.eka2_app.proofs.OneReading.{one_reading, same_made}
+use Rattle.runner.specs.Complete.{Stayed}
+use Rattle.runner.specs.MadeText.{made_text}
+use Rattle.runner.specs.RunText.{run_text, brief_text}
 use Rattle.eka2_app.proofs.top.eka2_main.Goals as goal
 
-pub returns-in-Err-Refused-clause-refused : goal.returns-in-Err-Refused-clause-refused
-returns-in-Err-Refused-clause-refused g c = λ same. record {
-  line = c.in-Err-Refused.field-0-0;
-  why = c.in-Err-Refused.field-0-1;
-  refusal = c.in-Err-Refused.ensures.refused c.in-Err-Refused.field-0-0 c.in-Err-Refused.field-0-1 (ap Err c.in-Err-Refused.field-0-is);
-}
+pub write_made-requires : goal.write_made-requires
+write_made-requires g c =
+    let reading = subst (IsReading (map string_bytes c.args.words.now)) c.in-Make.is c.in-Some.ensures in
+    record { some = reading.numbers.some; few = reading.numbers.few }
+
+pub returns-in-Run : goal.returns-in-Run
+returns-in-Run g c =
+    let words = map string_bytes c.args.words.now in
+    let r = c.run_schedule.result in
+    let said = c.run_schedule.ensures in
+    let reading : IsReading words command.Run = subst (IsReading words) c.in-Run.is c.in-Some.ensures in
+    record {
+      usage = (λ same. absurd (not_usage r (sym c.of.ensures ∙ same)), λ none. absurd (none command.Run reading));
+      source_untouched = λ same. absurd (not_usage r (sym c.of.ensures ∙ same));
+      sink_untouched = λ same. absurd (not_usage r (sym c.of.ensures ∙ same));
+      run = λ _. rw c.of.ensures (ran_script run_text _ _ _ _ _ _ r said.done said.at_end said.refused said.refused_at_end said.front said.accepted said.bad said.too_large);
+      brief = λ other. let same = one_reading words command.Run command.Brief reading other in cc;
+      make = λ seed size other. let same = one_reading words command.Run (command.Make seed size) reading other in cc;
+      make_reads_nothing = λ seed size other. let same = one_reading words command.Run (command.Make seed size) reading other in cc;
+      large = λ same. said.large (large_is r (sym c.of.ensures ∙ same));
+      few = λ other. said.few (λ same. other (c.of.ensures ∙ ap status_of same));
+      read_fault = λ same. said.read_fault (read_fault_is r (sym c.of.ensures ∙ same));
+      write_fault = λ same. said.write_fault (write_fault_is r (sym c.of.ensures ∙ same));
+      read_silent = λ same. said.read_silent (read_fault_is r (sym c.of.ensures ∙ same));
+      large_silent = λ same. said.large_silent (large_is r (sym c.of.ensures ∙ same));
+      memory_silent = λ same. said.memory_silent (memory_is r (sym c.of.ensures ∙ same));
+    }
+
+pub returns-in-Brief : goal.returns-in-Brief
+returns-in-Brief g c =
+    let words = map string_bytes c.args.words.now in
+    let r = c.run_brief.result in
+    let said = c.run_brief.ensures in
+    let reading : IsReading words command.Brief = subst (IsReading words) c.in-Brief.is c.in-Some.ensures in
+    record {
+      usage = (λ same. absurd (not_usage r (sym c.of-in-Brief.ensures ∙ same)), λ none. absurd (none command.Brief reading));
+      source_untouched = λ same. absurd (not_usage r (sym c.of-in-Brief.ensures ∙ same));
+      sink_untouched = λ same. absurd (not_usage r (sym c.of-in-Brief.ensures ∙ same));
+      run = λ other. let same = one_reading words command.Brief command.Run reading other in cc;
+      brief = λ _. rw c.of-in-Brief.ensures (ran_script brief_text _ _ _ _ _ _ r said.done said.at_end said.refused said.refused_at_end said.front said.accepted said.bad said.too_large);
+      make = λ seed size other. let same = one_reading words command.Brief (command.Make seed size) reading other in cc;
+      make_reads_nothing = λ seed size other. let same = one_reading words command.Brief (command.Make seed size) reading other in cc;
+      large = λ same. said.large (large_is r (sym c.of-in-Brief.ensures ∙ same));
+      few = λ other. said.few (λ same. other (c.of-in-Brief.ensures ∙ ap status_of same));
+      read_fault = λ same. said.read_fault (read_fault_is r (sym c.of-in-Brief.ensures ∙ same));
+      write_fault = λ same. said.write_fault (write_fault_is r (sym c.of-in-Brief.ensures ∙ same));
+      read_silent = λ same. said.read_silent (read_fault_is r (sym c.of-in-Brief.ensures ∙ same));
+      large_silent = λ same. said.large_silent (large_is r (sym c.of-in-Brief.ensures ∙ same));
+      memory_silent = λ same. said.memory_silent (memory_is r (sym c.of-in-Brief.ensures ∙ same));
+    }
+
+pub returns-in-Make : goal.returns-in-Make
+returns-in-Make g c =
+    let words = map string_bytes c.args.words.now in
+    let r = c.write_made.result in
+    let said = c.write_made.ensures in
+    let reading : IsReading words (command.Make c.in-Make.seed c.in-Make.size) = subst (IsReading words) c.in-Make.is c.in-Some.ensures in
+    record {
+      usage = (λ same. absurd (not_usage r (sym c.of-in-Make.ensures ∙ same)), λ none. absurd (none (command.Make c.in-Make.seed c.in-Make.size) reading));
+      source_untouched = λ same. absurd (not_usage r (sym c.of-in-Make.ensures ∙ same));
+      sink_untouched = λ same. absurd (not_usage r (sym c.of-in-Make.ensures ∙ same));
+      run = λ other. let same = one_reading words (command.Make c.in-Make.seed c.in-Make.size) command.Run reading other in cc;
+      brief = λ other. let same = one_reading words (command.Make c.in-Make.seed c.in-Make.size) command.Brief reading other in cc;
+      make = λ seed size other. same_made (λ (s n : ℕ). WroteText (made_text s n) (g.K.Sink.written c.args.sink.now) (g.K.Sink.written c.write_made.new.sink) (Stayed (g.K.Sink.faults c.args.sink.now) (g.K.Sink.faults c.write_made.new.sink)) c.of-in-Make.result) words c.in-Make.seed c.in-Make.size seed size reading other (rw c.of-in-Make.ensures (wrote_text _ _ _ _ r said.done said.front said.faults said.complete));
+      make_reads_nothing = λ seed size other. refl;
+      large = λ same. absurd (never_large r said.faults (large_is r (sym c.of-in-Make.ensures ∙ same)));
+      few = λ other. took_nothing (g.S.Source.left c.args.source.now);
+      read_fault = λ same. absurd (never_read r said.faults (read_fault_is r (sym c.of-in-Make.ensures ∙ same)));
+      write_fault = λ same. said.write_fault (write_fault_is r (sym c.of-in-Make.ensures ∙ same));
+      read_silent = λ same. absurd (never_read r said.faults (read_fault_is r (sym c.of-in-Make.ensures ∙ same)));
+      large_silent = λ same. absurd (never_large r said.faults (large_is r (sym c.of-in-Make.ensures ∙ same)));
+      memory_silent = λ same. said.memory_silent (memory_is r (sym c.of-in-Make.ensures ∙ same));
+    }
+
+pub returns-in_default-clause-run : goal.returns-in_default-clause-run
+returns-in_default-clause-run g c = λ reading. absurd (c.in_default.ensures command.Run reading)
+
+pub returns-in_default-clause-brief : goal.returns-in_default-clause-brief
+returns-in_default-clause-brief g c = λ reading. absurd (c.in_default.ensures command.Brief reading)
+
+pub returns-in_default-clause-make : goal.returns-in_default-clause-make
+returns-in_default-clause-make g c = λ seed size reading. absurd (c.in_default.ensures (command.Make seed size) reading)

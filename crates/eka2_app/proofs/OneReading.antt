@@ -1,0 +1,38 @@
+-- Words are those of one command at most.
+use Rattle.std.proofs.Common.{◌≡◌, ℕ, List, ◌∷◌, refl, sym, ap, subst, ◌∙◌, arith}
+use Rattle.std.proofs.lemmas.Fmt.{decimal_injective}
+use Rattle.std.specs.Fmt.{decimal}
+use Rattle.eka2_app.specs.Readings.{IsInRange, IsReading, HasNumbers, command_words}
+use Rattle.eka2_app.specs.declared.words.Command.{Command}
+use Rattle.eka2_app.specs.declared.words.Command.TheVariants as command
+
+same_seed : (a b m n : ℕ) → IsInRange a m → IsInRange b n → decimal a ≡ decimal b → a ≡ b
+same_seed a b m n one other same = decimal_injective a b one.fits other.fits same
+
+same_size : (a b m n : ℕ) → IsInRange a m → IsInRange b n → decimal m ≡ decimal n → m ≡ n
+same_size a b m n one other same = decimal_injective m n (omega arith) (omega arith) same
+
+same_command : (a b : Command) → HasNumbers a → HasNumbers b → command_words a ≡ command_words b → a ≡ b
+same_command command.Run command.Run h k e = refl
+same_command command.Run command.Brief h k e = cc
+same_command command.Run (command.Make s n) h k e = cc
+same_command command.Brief command.Run h k e = cc
+same_command command.Brief command.Brief h k e = refl
+same_command command.Brief (command.Make s n) h k e = cc
+same_command (command.Make s n) command.Run h k e = cc
+same_command (command.Make s n) command.Brief h k e = cc
+same_command (command.Make s n) (command.Make t m) h k e =
+    let seed : s ≡ t = same_seed s t n m h k cc in
+    let size : n ≡ m = same_size s t n m h k cc in
+    cc
+
+pub one_reading : (words : List (List ℕ)) (a b : Command) → IsReading words a → IsReading words b → a ≡ b
+one_reading words a b one other = same_command a b one.numbers other.numbers (sym one.same ∙ other.same)
+
+-- so what holds of a reading's numbers holds of those of another
+pub same_made : (P : ℕ → ℕ → Type 0) (words : List (List ℕ)) (s n seed size : ℕ) → IsReading words (command.Make s n) → IsReading words (command.Make seed size) → P s n → P seed size
+same_made P words s n seed size one other holds =
+    let same = one_reading words (command.Make s n) (command.Make seed size) one other in
+    let seeds : s ≡ seed = cc in
+    let sizes : n ≡ size = cc in
+    subst (λ (x : ℕ). P x size) seeds (subst (P s) sizes holds)

@@ -1,0 +1,35 @@
+-- What a command did, by the status that it ended with. The bytes of the input, and those that were written, are named
+-- where they are told.
+use Rattle.std.specs.Prelude.{◌≡◌, ℕ, ◌⊎◌, List, Option, IsSomeAnd}
+use Rattle.edge_io.specs.Written.{Wrote, WrotePrefix}
+use Rattle.eka2_app.specs.declared.status.Status.{Status}
+use Rattle.eka2_app.specs.declared.status.Status.TheVariants as status
+use Rattle.runner.specs.Inputs.{IsAtEnd, IsInput, IsBadInput, IsLargeInput}
+use Rattle.runner.specs.Outputs.{WroteRun, WroteRefusal, WroteFront}
+use Rattle.script_read.specs.declared.reason.Reason.{Reason}
+use Rattle.script_types.specs.declared.script.Script.{Script}
+
+-- A command that reads a script, and writes this text of it. Before it so much of the input was left, and so much written,
+-- and afterwards so much; and no read failed, and no write, where these hold.
+pub record RanScript (text_of : Script → List ℕ) (input left old new : Option (List ℕ)) (reads writes : Type 0) (ended : Status) : Type 0 where
+  -- Done: the whole input is accepted as a script, and its text was written
+  pub done : ended ≡ status.Done → WroteRun text_of input old new
+  pub at_end : ended ≡ status.Done → IsAtEnd left
+  -- Refused: the whole input has a first bad line, and the line that names it and its reason was written
+  pub refused : ended ≡ status.Refused → WroteRefusal input old new
+  pub refused_at_end : ended ≡ status.Refused → IsAtEnd left
+  -- WriteFault: a front of the text that the input calls for was written
+  pub front : ended ≡ status.WriteFault → WroteFront text_of input old new
+  -- completeness: where nothing failed, the input alone decides, but for want of memory
+  pub accepted : (script : Script) → IsSomeAnd input (λ bytes. IsInput bytes script) → reads → writes → (ended ≡ status.Done) ⊎ (ended ≡ status.NoMemory)
+  pub bad : (line : ℕ) → (why : Reason) → IsSomeAnd input (λ bytes. IsBadInput bytes line why) → reads → writes → (ended ≡ status.Refused) ⊎ (ended ≡ status.NoMemory)
+  pub too_large : IsSomeAnd input IsLargeInput → reads → (ended ≡ status.TooLarge) ⊎ (ended ≡ status.NoMemory)
+
+-- A command that reads nothing, and writes this text.
+pub record WroteText (text : List ℕ) (old new : Option (List ℕ)) (writes : Type 0) (ended : Status) : Type 0 where
+  -- the whole text was written, or a front of it, or nothing, and there is no other end
+  pub faults : (ended ≡ status.Done) ⊎ (ended ≡ status.WriteFault) ⊎ (ended ≡ status.NoMemory)
+  pub done : ended ≡ status.Done → Wrote old new text
+  pub front : ended ≡ status.WriteFault → WrotePrefix old new text
+  -- completeness: where no write failed, it was written, but for want of memory
+  pub complete : writes → (ended ≡ status.Done) ⊎ (ended ≡ status.NoMemory)

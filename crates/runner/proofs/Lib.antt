@@ -1,0 +1,6 @@
+mod Judged
+mod Rows
+mod Runs
+mod Shown
+mod Taken
+mod Texts

@@ -1,0 +1,16 @@
+use Rattle.std.proofs.Common.{◌≡◌, ap, subst, ◌∙◌}
+use Rattle.load_maker.specs.Made.{made}
+use Rattle.machine.specs.History.{IsLegal}
+use Rattle.machine.specs.Run.{run}
+use Rattle.runner.specs.MadeText.{summary_of}
+use Rattle.runner.proofs.load.load.Goals as goal
+use Rattle.script_types.specs.declared.script.Script.{Script}
+
+-- the kernel's script is the one that was made
+pub returns-clause-value : goal.returns-clause-value
+returns-clause-value c = c.summary_of.ensures.value ∙ ap summary_of (c.in_ok-kernel.ensures.script ∙ c.in_ok-script.ensures.made)
+
+pub returns-clause-legal : goal.returns-clause-legal
+returns-clause-legal c =
+    let same : c.in_ok-kernel.kernel.script ≡ made c.args.seed c.args.size = c.in_ok-kernel.ensures.script ∙ c.in_ok-script.ensures.made in
+    subst (λ (script : Script). IsLegal script (run script)) same c.summary_of.ensures.legal

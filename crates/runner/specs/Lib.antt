@@ -1,0 +1,5 @@
+pub mod Complete
+pub mod Inputs
+pub mod MadeText
+pub mod Outputs
+pub mod RunText

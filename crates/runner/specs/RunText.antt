@@ -1,0 +1,42 @@
+-- What the run of a script prints, in whole and in brief.
+use Rattle.std.specs.List.{filter}
+use Rattle.std.specs.Prelude.{◌≡◌, ℕ, Bool, true, is_some, List}
+use Rattle.entry_log.specs.HistoryText.{history_text}
+use Rattle.entry_log.specs.declared.entry.Entry.{Entry}
+use Rattle.kcore.specs.KernelView.{KernelView}
+use Rattle.machine.specs.FinalRows.{final_rows}
+use Rattle.machine.specs.History.{after}
+use Rattle.machine.specs.Run.{run}
+use Rattle.runner.specs.declared.detail.Detail.{Detail}
+use Rattle.runner.specs.declared.detail.Detail.TheVariants as detail
+use Rattle.script_types.specs.declared.script.Script.{Script}
+
+-- the entries that have an answer
+abbrev pub answered : List Entry → List Entry
+answered history = filter (λ (e : Entry). is_some e.answer) history
+
+-- the history that the schedule makes, and the objects that are left after it
+abbrev pub run_text : Script → List ℕ
+run_text script = history_text (run script) (final_rows (after script (run script)))
+
+-- the same without the entries that have no answer: those that are left keep their places
+abbrev pub brief_text : Script → List ℕ
+brief_text script = history_text (answered (run script)) (final_rows (after script (run script)))
+
+-- in each detail: whether it shows an entry, the entries that it shows, and the text of a run
+abbrev pub shows : Detail → Entry → Bool
+shows detail.Whole e = true
+shows detail.Brief e = is_some e.answer
+
+abbrev pub shown : Detail → List Entry → List Entry
+shown detail.Whole history = history
+shown detail.Brief history = answered history
+
+abbrev pub shown_text : Detail → Script → List ℕ
+shown_text detail.Whole = run_text
+shown_text detail.Brief = brief_text
+
+-- a kernel that has made the whole history of a script
+pub record HasRun (wanted : Script) (kernel : KernelView) : Type 0 where
+  pub script : kernel.script ≡ wanted
+  pub history : kernel.history ≡ run wanted

@@ -1,0 +1,21 @@
+//! The commands: a script that is read is run and its history written, in whole or in brief; a script is made from a
+//! number and written; or it is made, run, and summed up in a line.
+#![tactic(auto)]
+
+mod brief;
+mod detail;
+mod history;
+mod input;
+mod lines;
+mod load;
+mod make;
+mod output;
+mod run;
+mod schedule;
+mod summary;
+
+pub use brief::run_brief;
+pub use history::{PLACES, make_history};
+pub use load::run_load;
+pub use make::write_made;
+pub use schedule::run_schedule;

@@ -1,0 +1,174 @@
+//! Writing a history, or the line of a refusal. Each line goes out, with its line feed, as one piece.
+ghost use Rattle.std.specs.Prelude.{◌≡◌, ◌≤◌, [], ◌∷◌, drop, is_some, length, OnOk, OnErr};
+ghost use Rattle.std.specs.List.{flat_map};
+ghost use Rattle.edge_io.specs.Faults.{Rose};
+ghost use Rattle.edge_io.specs.Written.{Wrote, WrotePrefix};
+ghost use Rattle.entry_log.specs.EntryLine.{entry_line};
+ghost use Rattle.entry_log.specs.FinalLine.{final_line};
+ghost use Rattle.entry_log.specs.HistoryText.{history_text};
+ghost use Rattle.machine.specs.FinalRows.{final_rows};
+ghost use Rattle.machine.specs.History.{after, IsLegal};
+ghost use Rattle.runner.specs.RunText.{shown};
+ghost use Rattle.script_read.specs.Refusal.{refusal_text};
+ghost use Rattle.script_types.specs.Source.{IsWellFormed};
+
+use crate::detail::Detail;
+use arrayvec::ArrayVec;
+use edge_io::{Failed, Sink, write_whole};
+use entry_log::{Entry, FinalRow, entry_text, final_text};
+use itoa::Buffer;
+use kcore::Kernel;
+use ref_words::PlainWords;
+use script_read::Reason;
+
+/// The bytes of a line, its line feed among them.
+pub type Line = ArrayVec<u8, 512>;
+
+/// Where so much room is left, a buffer takes the line of any entry at once.
+const LONGEST: usize = 192;
+
+/// Puts the line of an entry behind what a buffer holds, or in its place, and says where it begins. A buffer is
+/// emptied by writing over what it held, so that one line after the other stands in it until it is nearly full.
+fn put_entry(line: &mut Line, entry: &Entry) -> usize
+    ensures begins { result ≤ length line.new.items }
+    ensures stands { drop result line.new.items ≡ entry_line entry.now }
+{
+    if line.remaining_capacity() < LONGEST {
+        line.clear();
+    }
+    let from = line.as_slice().len();
+    if entry_text(entry, line) {
+        return from;
+    }
+    line.clear();
+    let _ = entry_text(entry, line);
+    0
+}
+
+/// The bytes of a buffer from a place on.
+fn bytes_from(line: &Line, from: usize) -> &[u8]
+    requires { from ≤ length line.now.items }
+    ensures { result.now ≡ drop from line.now.items }
+{
+    &line.as_slice()[from..]
+}
+
+/// Puts the line of an object that is left into a buffer, in place of what it held.
+fn put_row(line: &mut Line, row: &FinalRow)
+    ensures { line.new.items ≡ final_line row.now }
+{
+    line.clear();
+    let _ = final_text(row, line);
+}
+
+/// The line of a refusal.
+fn line_of_refusal(line: u32, reason: Reason) -> Line
+    ensures { result.items ≡ refusal_text line reason }
+{
+    let mut text = Line::new();
+    let mut digits = Buffer::new();
+    let _ = text.try_extend_from_slice(b"refused line ");
+    let _ = text.try_extend_from_slice(digits.format(line).as_bytes());
+    let _ = text.try_extend_from_slice(b" ");
+    let _ = text.try_extend_from_slice(reason.word().as_bytes());
+    let _ = text.try_extend_from_slice(b"\n");
+    text
+}
+
+/// Writes the line of an entry, where the detail shows it, by way of a buffer.
+fn write_entry<K: Sink>(
+    sink: &mut K,
+    line: &mut Line,
+    detail: Detail,
+    entry: &Entry,
+) -> Result<(), Failed>
+    ensures whole { OnOk result (Wrote (K.written sink.old) (K.written sink.new) (flat_map entry_line (shown detail (entry.now ∷ [])))) }
+    ensures front { OnErr result (WrotePrefix (K.written sink.old) (K.written sink.new) (flat_map entry_line (shown detail (entry.now ∷ [])))) }
+    ensures tells { is_some (K.written sink.new) ≡ is_some (K.written sink.old) }
+    ensures fault { OnErr result (Rose (K.faults sink.old) (K.faults sink.new)) }
+    ensures never_falls { K.faults sink.old ≤ K.faults sink.new }
+{
+    if !detail.shows(entry) {
+        return Ok(());
+    }
+    let from = put_entry(line, entry);
+    write_whole(sink, bytes_from(line, from))
+}
+
+/// Writes the line of each entry that the detail shows, by way of one buffer.
+fn write_entries<K: Sink>(
+    sink: &mut K,
+    line: &mut Line,
+    detail: Detail,
+    entries: &[Entry],
+) -> Result<(), Failed>
+    ensures whole { OnOk result (Wrote (K.written sink.old) (K.written sink.new) (flat_map entry_line (shown detail entries.now))) }
+    ensures front { OnErr result (WrotePrefix (K.written sink.old) (K.written sink.new) (flat_map entry_line (shown detail entries.now))) }
+    ensures tells { is_some (K.written sink.new) ≡ is_some (K.written sink.old) }
+    ensures fault { OnErr result (Rose (K.faults sink.old) (K.faults sink.new)) }
+    ensures never_falls { K.faults sink.old ≤ K.faults sink.new }
+{
+    for entry in entries {
+        write_entry(sink, line, detail, entry)?;
+    }
+    Ok(())
+}
+
+/// Writes the line of each object that is left, by way of one buffer.
+fn write_rows<K: Sink>(
+    sink: &mut K,
+    line: &mut Line,
+    kernel: &Kernel<PlainWords>,
+) -> Result<(), Failed>
+    requires valid { IsWellFormed kernel.now.script }
+    ensures whole { OnOk result (Wrote (K.written sink.old) (K.written sink.new)
+        (flat_map final_line (final_rows (after kernel.now.script kernel.now.history)))) }
+    ensures front { OnErr result (WrotePrefix (K.written sink.old) (K.written sink.new)
+        (flat_map final_line (final_rows (after kernel.now.script kernel.now.history)))) }
+    ensures tells { is_some (K.written sink.new) ≡ is_some (K.written sink.old) }
+    ensures fault { OnErr result (Rose (K.faults sink.old) (K.faults sink.new)) }
+    ensures never_falls { K.faults sink.old ≤ K.faults sink.new }
+{
+    let mut from = 0;
+    while let Some(row) = kernel.next_row(from) {
+        put_row(line, &row);
+        write_whole(sink, line.as_slice())?;
+        from = row.object.0 + 1;
+    }
+    Ok(())
+}
+
+/// Writes the history of a kernel: the entries that the detail shows, and the objects that are left. One buffer
+/// holds each line in turn.
+pub fn write_history<K: Sink>(
+    sink: &mut K,
+    detail: Detail,
+    kernel: &Kernel<PlainWords>,
+) -> Result<(), Failed>
+    requires valid { IsWellFormed kernel.now.script }
+    ensures whole { OnOk result (Wrote (K.written sink.old) (K.written sink.new)
+        (history_text (shown detail kernel.now.history) (final_rows (after kernel.now.script kernel.now.history)))) }
+    ensures front { OnErr result (WrotePrefix (K.written sink.old) (K.written sink.new)
+        (history_text (shown detail kernel.now.history) (final_rows (after kernel.now.script kernel.now.history)))) }
+    ensures legal { IsLegal kernel.now.script kernel.now.history }
+    ensures tells { is_some (K.written sink.new) ≡ is_some (K.written sink.old) }
+    ensures fault { OnErr result (Rose (K.faults sink.old) (K.faults sink.new)) }
+    ensures never_falls { K.faults sink.old ≤ K.faults sink.new }
+{
+    let mut line = Line::new();
+    write_entries(sink, &mut line, detail, kernel.history())?;
+    write_whole(sink, b"objects\n")?;
+    write_rows(sink, &mut line, kernel)?;
+    write_whole(sink, b"end\n")
+}
+
+/// Writes the one line of a refused script.
+pub fn write_refusal<K: Sink>(sink: &mut K, line: u32, reason: Reason) -> Result<(), Failed>
+    ensures whole { OnOk result (Wrote (K.written sink.old) (K.written sink.new) (refusal_text line reason)) }
+    ensures front { OnErr result (WrotePrefix (K.written sink.old) (K.written sink.new) (refusal_text line reason)) }
+    ensures tells { is_some (K.written sink.new) ≡ is_some (K.written sink.old) }
+    ensures fault { OnErr result (Rose (K.faults sink.old) (K.faults sink.new)) }
+    ensures never_falls { K.faults sink.old ≤ K.faults sink.new }
+{
+    write_whole(sink, line_of_refusal(line, reason).as_slice())
+}
