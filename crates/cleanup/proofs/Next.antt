@@ -80,3 +80,11 @@ none_seen lists l o none last place at =
     let seen = seen_at object lists l in
     let stands = unseen o (slice_get list place) (sym (slice_get-map object list place) ∙ rw seen at at) in
     rw (seen, length-map) (last l place stands)
+
+-- what stands behind a node's object is the object of what stands behind the node
+pub walk_seen : (lists : List (List ℕ)) (l : ℕ) (o : ObjNo) (r : Option ℕ) → ((list place : ℕ) → slice_get (get_or lists list []) place ≡ Some o.0 → r ≡ slice_get (get_or lists list []) (place + 1)) → (place : ℕ) → slice_get (get_or (map (map object) lists) l []) place ≡ Some o → option_map object r ≡ slice_get (get_or (map (map object) lists) l []) (place + 1)
+walk_seen lists l o r follows place at =
+    let list = get_or lists l [] in
+    let seen = seen_at object lists l in
+    let stands = unseen o (slice_get list place) (sym (slice_get-map object list place) ∙ rw seen at at) in
+    rw seen (ap (option_map object) (follows l place stands) ∙ sym (slice_get-map object list (place + 1)))

@@ -1,5 +1,5 @@
 -- What each thread owes, and what its death gives up beside its handles, as lists by the number of the thread.
-use Rattle.std.specs.Prelude.{◌≡◌, ◌↔◌, ℕ, ◌+◌, ◌<◌, Bool, ◌&&◌, not, ◌==◌, if◌then◌else◌, List, [], ◌∷◌, ◌++◌, drop, filter, length, map, replicate, IsTrue, IsNone, Option, Some, None, slice_get, slice_index_or, slice_set}
+use Rattle.std.specs.Prelude.{◌≡◌, ◌↔◌, ℕ, ◌+◌, ◌<◌, ◌≤◌, Bool, ◌&&◌, not, ◌==◌, if◌then◌else◌, List, [], ◌∷◌, ◌++◌, drop, filter, length, map, replicate, IsTrue, IsNone, Option, Some, None, slice_get, slice_index_or, slice_set}
 use Rattle.std.specs.List.{list_any}
 use Rattle.sym_base.specs.declared.number.ObjNo.{ObjNo}
 use Rattle.state_rows.specs.declared.duty.Owed.{Owed}
@@ -114,3 +114,9 @@ abbrev pub IsNoneAtEnd : Option ObjNo → List ObjNo → Option ObjNo → Type 0
 IsNoneAtEnd None list next = IsNone next ↔ (list ≡ [])
 IsNoneAtEnd (Some o) list next =
     (place : ℕ) → slice_get list place ≡ Some o → IsNone next ↔ (place + 1 ≡ length list)
+
+-- a list that is walked along has no more items than there are objects; and what comes after an object of it stands at the place behind
+-- it, wherever it stands
+abbrev pub IsWalk : ℕ → Option ObjNo → List ObjNo → Option ObjNo → Type 0
+IsWalk objects None list next = length list ≤ objects
+IsWalk objects (Some o) list next = (place : ℕ) → slice_get list place ≡ Some o → next ≡ slice_get list (place + 1)

@@ -2,7 +2,7 @@
 ghost use Rattle.std.specs.Prelude.{◌≡◌, ◌+◌, ◌*◌, ◌^◌, ◌<◌, ◌↔◌, [], IsNone, IsTrue, IfOk, length, slice_get};
 ghost use Rattle.std.specs.List.{list_any};
 ghost use Rattle.std.specs.Option.{ForSome};
-ghost use Rattle.cleanup.specs.Lists.{Lists, empty_lists, list_of, is_object, pushed, removed, IsKnown, HasPlace, held_of, owed, first_done, next_after, IsNoneAtEnd};
+ghost use Rattle.cleanup.specs.Lists.{Lists, empty_lists, list_of, is_object, pushed, removed, IsKnown, HasPlace, held_of, owed, first_done, next_after, IsNoneAtEnd, IsWalk};
 ghost use Rattle.cleanup.specs.Nodes.{logon};
 
 use crate::duties::{DUTIES, Duties};
@@ -67,6 +67,7 @@ impl Cleanup {
         ensures threads { result ≡ self.now.threads }
         ensures duties { result ≡ length self.now.duties }
         ensures temporary { result ≡ length self.now.temporary }
+        ensures servers { result ≡ length self.now.servers }
     {
         self.temporary.len()
     }
@@ -183,6 +184,7 @@ impl Cleanup {
         requires own { ForSome after (λ o. IsTrue (list_any (is_object o) (list_of self.now.servers t))) }
         ensures next { result ≡ next_after after (list_of self.now.servers t) }
         ensures none { IsNoneAtEnd after (list_of self.now.servers t) result }
+        ensures walk { IsWalk self.now.objects after (list_of self.now.servers t) result }
     {
         let Some(o) = after else {
             let item = self.servers.first(t)?;

@@ -1,5 +1,5 @@
 //! Numbered items in lists by thread.
-ghost use Rattle.std.specs.Prelude.{◌≡◌, ◌<◌, IfOk, IfSome, length, slice_get};
+ghost use Rattle.std.specs.Prelude.{◌≡◌, ◌<◌, ◌≤◌, IfOk, IfSome, length, slice_get};
 ghost use Rattle.links.specs.Linked.{Linked, empty_lists, holds, list_at, IsLinked, IsFollower, IsNoneAtLast, pushed_back, with_list, without};
 
 use links::Links;
@@ -64,6 +64,7 @@ impl ThreadItems {
         requires { t.0 < length self.now.lists }
         ensures first { result ≡ slice_get (list_at self.now t.0) 0 }
         ensures below { IfSome result (λ item. item < self.now.nodes) }
+        ensures few { length (list_at self.now t.0) ≤ self.now.nodes }
     {
         self.links.first(t.0 as u32)
     }

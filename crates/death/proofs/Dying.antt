@@ -15,15 +15,16 @@ use Rattle.machine.specs.declared.state.State.{State}
 use Rattle.machine.specs.declared.task.Task.{Task}
 use Rattle.machine.specs.declared.task.Task.TheVariants.{Bury, Clean, Pay}
 use Rattle.machine.specs.Dooms.{doom}
-use Rattle.machine.specs.Holdings.{holdings}
+use Rattle.machine.specs.Holdings.{holdings, held_servers}
 use Rattle.machine.specs.Reaping.{bury}
 use Rattle.machine.specs.Rows.{first_owed, thread_of}
 use Rattle.machine.specs.Steps.{decision_of, decision_of_row, decision_where, pay}
-use Rattle.machine.specs.Task.{by_stage, dying_task, instruction, is_able, is_returning, pay_or, return_or, task_of, task_of_row, live_task, next_call, step_or_end}
+use Rattle.machine.specs.Task.{by_stage, dying_task, instruction, is_able, is_returning, pay_or, return_or, task_of, task_of_row, live_task, next_call, step_or_end, work_or}
 use Rattle.machine.specs.WellFormed.{AreRows}
 use Rattle.machine_laws.proofs.Fitting.Bodies.{Goes}
 use Rattle.machine_laws.proofs.Fitting.Dooms.{after-doom, may_die, unprotected_unheld}
 use Rattle.move_laws.proofs.Lists.Totals.{inside}
+use Rattle.move_laws.proofs.Numbers.FewEffects.{tell_few}
 use Rattle.next_actions.specs.NextActions.{dying_at, has_any, holdings_at}
 use Rattle.kernel_tables.specs.Performed.{ActionGoes}
 use Rattle.kernel_tables.proofs.GoingActions.{fitting_goes}
@@ -44,7 +45,7 @@ apart_other true (Some instr) other apart = absurd (cc)
 reap_task : (script : Script) (S : State) (t : ObjNo) → IsReapable script S t → task_of script S t ≡ pay_or (first_owed S t) (dying_at S t (thread_of S t))
 reap_task script S t h =
     let row = h.row in
-    let own = live_task row.role (next_call S.deferred row.role) (step_or_end (is_protected S.nano t) (instruction script row)) in
+    let own = live_task row.role (next_call S.deferred row.role) (work_or (held_servers S t) (step_or_end (is_protected S.nano t) (instruction script row))) in
     ap (task_of_row script S t) h.is
     ∙ (apart_other (is_returning row.part) (instruction script row) _ h.apart
     ∙ (ap (λ (stage : Stage). pay_or (first_owed S t) (by_stage stage (holdings S t row) own)) h.doomed
@@ -84,6 +85,6 @@ doom_goes script S t exit shaped rows h =
     let goes : Goes script t S (doom t exit) = record {
       each = after.each;
       few = let a = rows.duties.few t.0 in let none = after.light in omega arith;
-      told = let few = after.told in omega arith;
+      told = let few = after.told in let most = tell_few t (doom t exit) S in omega arith;
     } in
     fitting_goes script S t (doom t exit) shaped (record { rows = rows; inside = inside S.threads t.0 h.row h.is }) goes

@@ -1,34 +1,36 @@
-//! `close`: a handle goes, and with it a reference.
+//! `close`: a handle goes, and with it a reference. A server begins to close, and a session is disconnected.
 ghost use Rattle.std.specs.Prelude.{◌≡◌, ◌<◌, IfSome};
 ghost use Rattle.machine.specs.Close.{close_handle, close_do};
 ghost use Rattle.state_rows.specs.HandleNumbers.{index_of};
 
 use entry_log::{Part, Step, Word};
-use machine::{Decision, Move, ThreadRow, holder_of};
+use machine::{Decision, ThreadRow, holder_of};
 use readings::Reads;
+use server_decisions::close_moves;
 use sym_base::{Error, ObjNo, ThreadNo};
-use thread_decisions::{answer_after, object_at, refuse};
+use thread_decisions::{answer, object_at, refuse};
 
 const STEP: Step = Step::Of(Word::Close, Part::Do);
 
-/// The handle's reference goes, where there is such a handle.
-fn close_handle(
+/// The handle is closed, where there is such a handle.
+fn close_handle<R: Reads>(
     decision: &mut Decision,
+    reads: &R,
     thread: ThreadNo,
     row: &ThreadRow,
     handle: u32,
     found: Option<ObjNo>,
 )
     requires { IfSome found (λ o. index_of handle < 256) }
-    ensures { decision.new ≡ close_handle thread row.now handle found }
+    ensures { decision.new ≡ close_handle (R.state reads.now) thread row.now handle found }
 {
-    match found {
-        Some(object) => {
-            let lose = Move::Lose(holder_of(thread, row, handle), object);
-            answer_after(decision, thread, STEP, lose, 0)
-        }
-        None => refuse(decision, thread, STEP, Error::BadHandle),
-    }
+    let Some(object) = found else {
+        return refuse(decision, thread, STEP, Error::BadHandle);
+    };
+    decision.moves.clear();
+    let holder = holder_of(thread, row, handle);
+    close_moves(&mut decision.moves, reads, thread, holder, object);
+    answer(decision, thread, STEP, 0)
 }
 
 /// The close of the handle in a register.
@@ -45,5 +47,5 @@ pub fn close_do<R: Reads>(
 {
     let handle = row.registers[register as usize];
     let found = object_at(reads, thread, row, handle);
-    close_handle(decision, thread, row, handle, found)
+    close_handle(decision, reads, thread, row, handle, found)
 }

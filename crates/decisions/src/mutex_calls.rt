@@ -41,7 +41,7 @@ fn lock_by(decision: &mut Decision, thread: ThreadNo, object: ObjNo, locked: Loc
     }
 }
 
-/// The second step of `lock`.
+/// The second step of `lock`. A server isn't locked.
 fn lock_do<R: Reads>(decision: &mut Decision, reads: &R, thread: ThreadNo, uses: Option<ObjNo>)
     ensures { decision.new ≡ lock_do (R.state reads.now) thread uses }
 {
@@ -50,6 +50,9 @@ fn lock_do<R: Reads>(decision: &mut Decision, reads: &R, thread: ThreadNo, uses:
     };
     if refuse_holder(decision, reads, thread, LOCK) {
         return;
+    }
+    if reads.server(object).is_some() {
+        return nothing(decision);
     }
     let locked = lock_answer(reads.lock_owner(object), thread);
     lock_by(decision, thread, object, locked)

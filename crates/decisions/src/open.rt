@@ -2,12 +2,11 @@
 ghost use Rattle.std.specs.Prelude.{◌≡◌};
 ghost use Rattle.machine.specs.Open.{open_do, open_step, open_return};
 
-use crate::find::{return_to, seek};
 use entry_log::{Part, Step, Word};
 use machine::{Decision, ThreadRow};
 use readings::Reads;
 use sym_base::{Error, Kind, Name, ObjNo, ThreadNo};
-use thread_decisions::{give_handle, nothing, refuse};
+use thread_decisions::{give_handle, nothing, refuse, return_to, seek};
 
 const STEP: Step = Step::Of(Word::Open, Part::Do);
 

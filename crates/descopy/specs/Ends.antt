@@ -3,9 +3,10 @@ use Rattle.std.specs.Prelude.{IsTrue, unwrap_or, slice_index_or, pos}
 use Rattle.sym_base.specs.declared.number.ObjNo.{ObjNo}
 use Rattle.sym_base.specs.declared.number.MsgNo.{MsgNo}
 use Rattle.sym_base.specs.declared.kind.Arg.TheVariants.{Number}
-use Rattle.messages.specs.declared.rows.MsgRow.{MsgRow}
+use Rattle.state_rows.specs.declared.messages.MsgRow.{MsgRow}
 use Rattle.messages.specs.Kept.{no_message}
-use Rattle.messages.specs.MessageRows.{MessageRows, row_of}
+use Rattle.state_rows.specs.declared.messages.MessageRows.{MessageRows}
+use Rattle.state_rows.specs.MessageRows.{row_of}
 use Rattle.procs.specs.ProcsRows.{ProcsRows}
 use Rattle.procs.specs.Rows.{is_process, is_thread}
 use Rattle.procs.specs.Rows as threads

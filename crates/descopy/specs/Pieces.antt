@@ -1,7 +1,7 @@
 -- What one piece of a copy leaves.
 use Rattle.std.specs.Prelude.{ℕ, ◌+◌, nat_lt, if◌then◌else◌, Option, Some, None}
-use Rattle.messages.specs.MessageRows.{MessageRows}
-use Rattle.messages.specs.Calls.{after_set_length}
+use Rattle.state_rows.specs.declared.messages.MessageRows.{MessageRows}
+use Rattle.state_rows.specs.MessageChanges.{after_set_length}
 use Rattle.procs.specs.ProcsRows.{ProcsRows}
 use Rattle.descopy.specs.declared.ends.Ends.{Ends}
 use Rattle.descopy.specs.declared.job.Job.{Job}

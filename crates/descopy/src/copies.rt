@@ -1,6 +1,6 @@
 //! The two calls: a piece of a read, and a piece of a write.
 ghost use Rattle.std.specs.Prelude.{◌≡◌, ◌<◌, IsTrue};
-ghost use Rattle.messages.specs.MessageRows.{is_taken};
+ghost use Rattle.state_rows.specs.MessageRows.{is_taken};
 ghost use Rattle.descopy.specs.Ends.{IsAdded, client_of, ends_of};
 ghost use Rattle.descopy.specs.Pieces.{after_read, after_write, messages_after_write, read_answer, write_answer};
 ghost use Rattle.descopy.specs.Refusals.{read_refusal, write_refusal};

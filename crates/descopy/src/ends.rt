@@ -1,13 +1,13 @@
 //! What the tables say of the two ends of a copy.
 ghost use Rattle.std.specs.Prelude.{◌≡◌, ◌<◌, IsTrue};
 ghost use Rattle.procs.specs.Rows.{is_thread};
-ghost use Rattle.messages.specs.MessageRows.{is_taken};
+ghost use Rattle.state_rows.specs.MessageRows.{is_taken};
 ghost use Rattle.descopy.specs.Ends.{client_of, ends_of, message_row};
 
 use crate::job::Job;
-use messages::{Messages, MsgRow};
+use messages::Messages;
 use procs::Procs;
-use state_rows::Stage;
+use state_rows::{MsgRow, Stage};
 use sym_base::{Arg, MsgNo, ObjNo};
 
 /// The two ends of a copy.

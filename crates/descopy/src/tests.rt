@@ -5,9 +5,9 @@ ghost use Rattle.descopy.specs.Ends.{IsAdded};
 use crate::ends::ends_of;
 use crate::sizes::read_size;
 use crate::{Descopy, Job, Piece};
-use messages::{Messages, Way};
+use messages::Messages;
 use procs::Procs;
-use state_rows::Stage;
+use state_rows::{Stage, Way};
 use std::alloc::Global;
 use std::test::Fail;
 use sym_base::{Arg, MsgNo, NoMemory, ObjNo, Slots, ThreadNo};
@@ -27,7 +27,7 @@ fn two_threads(alloc: Global, client: ObjNo) -> Result<Procs, NoMemory> {
 }
 
 /// A message with this first argument, which the server took.
-#[tactic(auto, unfolding(messages::specs::MessageRows::most_messages))]
+#[tactic(auto, unfolding(state_rows::specs::MessageRows::most_messages))]
 fn taken_message(alloc: Global, first: Arg) -> Result<Messages, NoMemory> {
     let mut messages = Messages::new(alloc, 2, 0)?;
     let mut args = [Arg::Number(0); 4];

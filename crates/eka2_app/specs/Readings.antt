@@ -9,6 +9,7 @@ abbrev pub command_words : Command → List (List ℕ)
 command_words command.Run = codes "run" ∷ []
 command_words command.Brief = codes "brief" ∷ []
 command_words (command.Make seed size) = codes "make" ∷ decimal seed ∷ decimal size ∷ []
+command_words (command.Load seed size) = codes "load" ∷ decimal seed ∷ decimal size ∷ []
 
 -- a seed has 64 bits, and each client of a made script has 1 to 500 rounds
 pub record IsInRange (seed size : ℕ) : Type 0 where
@@ -20,6 +21,7 @@ abbrev pub HasNumbers : Command → Type 0
 HasNumbers command.Run = Unit {0}
 HasNumbers command.Brief = Unit {0}
 HasNumbers (command.Make seed size) = IsInRange seed size
+HasNumbers (command.Load seed size) = IsInRange seed size
 
 -- the words are those of the command, whose numbers are in their ranges
 pub record IsReading (words : List (List ℕ)) (command : Command) : Type 0 where

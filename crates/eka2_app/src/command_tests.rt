@@ -60,6 +60,10 @@ go 260
 end
 ";
 
+/// The line of the script of seed 7 with one round, worked out apart from the program: eight connections and
+/// disconnections, and two calls.
+const LOADED: &str = "slots 260 entries 260 accepted 10 finished 10 objects 2\n";
+
 const BRIEFLY: Case<'static> = Case {
     words: &["brief"],
     written: BRIEF,
@@ -100,6 +104,23 @@ fn a_script_is_made(rt: HostRuntime) -> Result<(), Fail> {
         status: Status::WriteFault,
         written: "eka2 1\nprocess fs\n",
         ..MAKE
+    };
+    expect_case(&rt, rt.alloc(), &unwritten)
+}
+
+#[test]
+fn a_made_script_is_loaded(rt: HostRuntime) -> Result<(), Fail> {
+    let loaded = Case {
+        words: &["load", "7", "1"],
+        written: LOADED,
+        ..MAKE
+    };
+    expect_case(&rt, rt.alloc(), &loaded)?;
+    let unwritten = Case {
+        failing_writes: &[1],
+        status: Status::WriteFault,
+        written: "",
+        ..loaded
     };
     expect_case(&rt, rt.alloc(), &unwritten)
 }

@@ -2,6 +2,7 @@
 ghost use Rattle.std.specs.Prelude.{◌≡◌, [], IfOk, IfSome};
 ghost use Rattle.script_types.specs.Source.{IsWellFormed};
 
+use crate::server_tests::DYING_SERVER_SCRIPT;
 use crate::tests::{DEATHS_SCRIPT, DYING_SCRIPT, SCRIPT};
 use arrayvec::ArrayVec;
 use entry_log::{Entry, FinalRow, entry_text, final_text};
@@ -18,7 +19,7 @@ use std::test::Fail;
 use sym_base::{NoMemory, ObjNo};
 
 /// Rows are asked from each number below it. The scripts make fewer objects.
-const NUMBERS: u16 = 8;
+const NUMBERS: u16 = 16;
 
 /// The bytes of a line, its line feed among them.
 type Line = ArrayVec<u8, 512>;
@@ -145,6 +146,7 @@ fn both_machines_make_one_history(rt: HostRuntime) {
     assert_eq!(rt; is_same_run(rt.alloc(), SCRIPT), Some(true));
     assert_eq!(rt; is_same_run(rt.alloc(), DYING_SCRIPT), Some(true));
     assert_eq!(rt; is_same_run(rt.alloc(), DEATHS_SCRIPT), Some(true));
+    assert_eq!(rt; is_same_run(rt.alloc(), DYING_SERVER_SCRIPT), Some(true));
 }
 
 /// The kernel of a script at boot, with room for one entry.

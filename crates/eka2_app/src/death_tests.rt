@@ -140,7 +140,7 @@ end
 ";
 
 /// A script that runs well, and what is written.
-fn well<'a>(script: &'a str, written: &'a str) -> Case<'a> {
+pub fn well<'a>(script: &'a str, written: &'a str) -> Case<'a> {
     Case {
         script,
         written,

@@ -8,6 +8,8 @@ mod command_tests;
 mod compared;
 #[cfg(test)]
 mod death_tests;
+#[cfg(test)]
+mod server_tests;
 mod status;
 #[cfg(test)]
 mod tests;

@@ -74,7 +74,7 @@ pub const UNKNOWN_WORD_SCRIPT: &str =
 const FIRST_TWO_LINES: &str = "1 t3 create.do +p2.0:4 = 65536\n2 t3 dup.look +tmp3:4\n";
 
 /// The words of a command line.
-pub fn words_of(alloc: Global, texts: &[&str]) -> Result<Vec<String>, AllocError> {
+fn words_of(alloc: Global, texts: &[&str]) -> Result<Vec<String>, AllocError> {
     let mut words = Vec::new(alloc);
     for text in texts {
         words.push(String::from_str(alloc, text)?)?;
@@ -101,7 +101,7 @@ fn source_of(alloc: Global, case: &Case<'_>) -> Result<MemSource, AllocError> {
 }
 
 /// An empty sink, of which some writes fail.
-pub fn sink_of(alloc: Global, failing_writes: &[u32]) -> Result<MemSink, AllocError> {
+fn sink_of(alloc: Global, failing_writes: &[u32]) -> Result<MemSink, AllocError> {
     let fails = Vec::from_slice(alloc, failing_writes)?;
     MemSink::new(alloc, 2000, 600, fails)
 }

@@ -6,18 +6,18 @@ ghost use Rattle.eka2_app.specs.Outcomes.{RanScript, WroteText};
 ghost use Rattle.eka2_app.specs.Readings.{IsReading};
 ghost use Rattle.runner.specs.Complete.{Stayed};
 ghost use Rattle.runner.specs.Inputs.{Took, TookAtMost};
-ghost use Rattle.runner.specs.MadeText.{made_text};
+ghost use Rattle.runner.specs.MadeText.{made_text, load_text};
 ghost use Rattle.runner.specs.RunText.{run_text, brief_text};
 
 use crate::status::Status;
 use crate::words::{Command, command_of};
 use edge_io::{Sink, Source};
-use runner::{run_brief, run_schedule, write_made};
+use runner::{run_brief, run_load, run_schedule, write_made};
 use std::alloc::Global;
 
 /// Does what the words behind the program's name ask for. `run` and `brief` read a script from the source and write
-/// its history to the sink, in whole or in brief. `make`, with a seed and a size, makes a script and writes it. All other
-/// words are Usage. What is said of the input holds where the source tells its
+/// its history to the sink, in whole or in brief. `make` and `load`, with a seed and a size, make a script, and write
+/// it or what its run comes to. All other words are Usage. What is said of the input holds where the source tells its
 /// bytes, and what is said of the text where the sink does.
 pub fn eka2_main<S: Source, K: Sink>(
     alloc: Global,
@@ -41,6 +41,10 @@ pub fn eka2_main<S: Source, K: Sink>(
         → WroteText (made_text seed size) (K.written sink.old) (K.written sink.new) (Stayed (K.faults sink.old) (K.faults sink.new)) result }
     ensures make_reads_nothing { (seed : ℕ) → (size : ℕ) → IsReading (map string_bytes words.now) (Command.Make seed size)
         → source.new ≡ source.old }
+    ensures load { (seed : ℕ) → (size : ℕ) → IsReading (map string_bytes words.now) (Command.Load seed size)
+        → WroteText (load_text seed size) (K.written sink.old) (K.written sink.new) (Stayed (K.faults sink.old) (K.faults sink.new)) result }
+    ensures load_reads_nothing { (seed : ℕ) → (size : ℕ) → IsReading (map string_bytes words.now) (Command.Load seed size)
+        → source.new ≡ source.old }
 
     // TooLarge exactly where more bytes were taken than a script may have.
     ensures large { result ≡ Status.TooLarge → Took 1048577 (S.left source.old) (S.left source.new) }
@@ -62,5 +66,6 @@ pub fn eka2_main<S: Source, K: Sink>(
         Command::Run => Status::of(run_schedule(alloc, source, sink)),
         Command::Brief => Status::of(run_brief(alloc, source, sink)),
         Command::Make { seed, size } => Status::of(write_made(alloc, seed, size, sink)),
+        Command::Load { seed, size } => Status::of(run_load(alloc, seed, size, sink)),
     }
 }

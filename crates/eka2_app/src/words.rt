@@ -20,6 +20,8 @@ pub enum Command {
     Brief,
     /// Makes a script from a seed and prints it.
     Make { seed: u64, size: u32 },
+    /// Makes a script from a seed, runs it, and prints what the run comes to.
+    Load { seed: u64, size: u32 },
 }
 
 /// The most rounds that each client of a made script has. The limit is this project's own.
@@ -83,6 +85,7 @@ fn command_of_made(word: &str, seed: &str, size: &str) -> Option<Command>
     let size = size_of(size)?;
     match word {
         "make" => Some(Command::Make { seed, size }),
+        "load" => Some(Command::Load { seed, size }),
         _ => None,
     }
 }

@@ -4,6 +4,8 @@ use Rattle.std.specs.Prelude.{Bool, Option}
 use Rattle.sym_base.specs.declared.number.ObjNo.{ObjNo}
 use Rattle.script_types.specs.declared.instruction.Instr.{Instr}
 use Rattle.script_types.specs.declared.script.Script.{Script}
+use Rattle.script_types.specs.declared.source_line.SourceLine.TheVariants as line
+use Rattle.script_types.specs.Ranges.{is_source_line}
 use Rattle.script_types.specs.Shape.{HasRegisters, IsShaped}
 use Rattle.machine.specs.declared.decision.Decision.{Decision}
 use Rattle.machine.specs.declared.state.State.{State}
@@ -12,7 +14,7 @@ use Rattle.machine.specs.Rows.{thread_of}
 use Rattle.machine.specs.Steps.{decision_of, decision_where}
 use Rattle.machine.specs.Task.{task_of}
 use Rattle.machine.specs.WellFormed.{AreRows}
-use Rattle.move_laws.proofs.Numbers.Registers.{task_has_registers}
+use Rattle.machine.proofs.Instructions.{task_has_registers, task_has_ranges}
 use Rattle.kernel_tables.specs.Performed.{ActionGoes}
 use Rattle.kernel_tables.proofs.GoingActions.{action_goes}
 use Rattle.exec_user.specs.Stepping.{IsAtStep, step_at}
@@ -31,3 +33,8 @@ step_goes script S t instr phase shaped rows at =
 pub step_registers : (script : Script) (S : State) (t : ObjNo) (instr : Instr) (phase : ℕ) → IsShaped script → IsAtStep script S t instr phase → HasRegisters instr
 step_registers script S t instr phase shaped at =
     task_has_registers script S t (thread_of S t) instr shaped at.next
+
+-- its numbers are in their ranges
+pub step_ranges : (script : Script) (S : State) (t : ObjNo) (instr : Instr) (phase : ℕ) → IsShaped script → IsAtStep script S t instr phase → is_source_line (line.Instr instr) ≡ true
+step_ranges script S t instr phase shaped at =
+    task_has_ranges script S t (thread_of S t) instr shaped at.next

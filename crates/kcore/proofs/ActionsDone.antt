@@ -28,6 +28,7 @@ use Rattle.kcore.specs.Done.{IsLeft, Does}
 use Rattle.kernel_tables.specs.ReadyQueues.{AreReady, Follow, leave_along}
 use Rattle.kernel_tables.specs.StateOf.{state_of, with_ready}
 use Rattle.kcore.proofs.MovesApart.{perform_apart, tell_apart, arrivals_apart}
+use Rattle.kcore.proofs.ReadyApart.{filter_apart}
 use Rattle.kernel_tables.proofs.ReadyLists.{is_touched, leave_is_filter, listed_behind, taken_listed}
 
 -- who came, or was there
@@ -67,7 +68,7 @@ carried_does script t d old new before between after outcome effects go did foll
       let rest = filter (is_ready script T) came in
       let done = carried_out script t S d in
       let rows : perform t d.moves S ≡ with_ready T qs = perform_apart t d.moves X qs ∙ ap (λ (U : State). with_ready U qs) (sym did.state) in
-      let list : done.state.ready ≡ rest = ap (λ (U : State). filter (is_ready script U) (arrivals script t d.moves S qs)) rows ∙ ap (filter (is_ready script T)) (arrivals_apart script t d.moves X qs qs) in
+      let list : done.state.ready ≡ rest = ap (λ (U : State). filter (is_ready script U) (arrivals script t d.moves S qs)) rows ∙ (filter_apart script T qs (arrivals script t d.moves S qs) ∙ ap (filter (is_ready script T)) (arrivals_apart script t d.moves X qs qs)) in
       let state : with_ready T done.state.ready ≡ done.state = ap (λ (U : State). with_ready U done.state.ready) (sym rows) in
       let tells : effects ≡ tell t d.moves S = did.told ∙ sym (tell_apart t d.moves X qs) in
       let tale : outcome ≡ done.outcome = told ∙ ap (λ (es : List Effect). let o : Outcome = record { step = d.step; effects = es; answer = d.answer } in o) tells in

@@ -17,7 +17,11 @@ use Rattle.machine.specs.declared.state.State.{State}
 use Rattle.state_rows.specs.declared.thread.ThreadRow.{ThreadRow}
 use Rattle.state_rows.specs.declared.locks.LockRows.{LockRows}
 use Rattle.state_rows.specs.LockChanges.{new_rows as lock_rows}
-use Rattle.kcore.specs.BootTable.{no_locks}
+use Rattle.state_rows.specs.declared.messages.MessageRows.{MessageRows}
+use Rattle.state_rows.specs.declared.servers.ServerRows.{ServerRows}
+use Rattle.state_rows.specs.MessageChanges.{no_messages}
+use Rattle.state_rows.specs.ServerChanges.{no_rows}
+use Rattle.kcore.specs.BootTable.{no_locks, no_servers}
 use Rattle.machine.specs.Boot.{boot, boot_of, born, memory_of, memory_of_row, nano_of}
 use Rattle.state_rows.specs.HandleSlots.{fresh_slot}
 
@@ -65,6 +69,22 @@ logons_at_boot : (script : Script) → (boot script).logons ≡ map (λ (_ : Bor
 unfolding boot_of
 logons_at_boot script = refl
 
+pub no_servers_are : (r : ServerRows) → r ≡ no_servers → r ≡ no_rows OBJECTS
+unfolding no_servers
+no_servers_are r e = e
+
+servers_at_boot : (script : Script) → (boot script).servers ≡ no_rows OBJECTS
+unfolding boot_of
+servers_at_boot script = refl
+
+owned_at_boot : (script : Script) → (boot script).owned ≡ map (λ (_ : Born). []) (born script)
+unfolding boot_of
+owned_at_boot script = refl
+
+messages_at_boot : (script : Script) → (boot script).messages ≡ no_messages OBJECTS script.pool
+unfolding boot_of
+messages_at_boot script = refl
+
 memories_each : (bs : List Born) → map memory_of bs ≡ map memory_of_row (map (λ (b : Born). b.thread) bs)
 memories_each [] = refl
 memories_each (b ∷ bs) = ap (λ (l : List (Option (List ℕ))). memory_of b ∷ l) (memories_each bs)
@@ -74,15 +94,15 @@ unfolding boot_of
 memories_at_boot script = memories_each (born script)
 
 -- a state is its fields
-all_fields : (S : State) (objects : List (Option ObjectRow)) (handles : List (List HandleSlot)) (threads : List (Option ThreadRow)) (owed : List (List Owed)) (nano : NanoRows) (deferred : DeferredRows) (requests : RequestRows) (locks : LockRows) (mutexes : List (List ObjNo)) (logons : List (List (ObjNo × ℕ))) (memories : List (Option (List ℕ))) → objects ≡ S.objects → handles ≡ S.handles → threads ≡ S.threads → owed ≡ S.owed → nano ≡ S.nano → deferred ≡ S.deferred → requests ≡ S.requests → locks ≡ S.locks → mutexes ≡ S.mutexes → logons ≡ S.logons → memories ≡ S.memories → record { objects = objects; handles = handles; threads = threads; ready = S.ready; owed = owed; nano = nano; deferred = deferred; requests = requests; locks = locks; mutexes = mutexes; logons = logons; memories = memories } ≡ S
-all_fields S objects handles threads owed nano deferred requests locks mutexes logons memories o h t w n d r l m g b = rw (o, h, t, w, n, d, r, l, m, g, b) refl
+all_fields : (S : State) (objects : List (Option ObjectRow)) (handles : List (List HandleSlot)) (threads : List (Option ThreadRow)) (owed : List (List Owed)) (nano : NanoRows) (deferred : DeferredRows) (requests : RequestRows) (locks : LockRows) (mutexes : List (List ObjNo)) (logons : List (List (ObjNo × ℕ))) (servers : ServerRows) (owned : List (List ObjNo)) (messages : MessageRows) (memories : List (Option (List ℕ))) → objects ≡ S.objects → handles ≡ S.handles → threads ≡ S.threads → owed ≡ S.owed → nano ≡ S.nano → deferred ≡ S.deferred → requests ≡ S.requests → locks ≡ S.locks → mutexes ≡ S.mutexes → logons ≡ S.logons → servers ≡ S.servers → owned ≡ S.owned → messages ≡ S.messages → memories ≡ S.memories → record { objects = objects; handles = handles; threads = threads; ready = S.ready; owed = owed; nano = nano; deferred = deferred; requests = requests; locks = locks; mutexes = mutexes; logons = logons; servers = servers; owned = owned; messages = messages; memories = memories } ≡ S
+all_fields S objects handles threads owed nano deferred requests locks mutexes logons servers owned messages memories o h t w n d r l m g v q x b = rw (o, h, t, w, n, d, r, l, m, g, v, q, x, b) refl
 
 -- the tables that are made for what stands at boot
-pub fields_at_boot : (script : Script) (all : List Born) (state : State) (objects : List (Option ObjectRow)) (handles : List (List HandleSlot)) (threads : List (Option ThreadRow)) (owed : List (List Owed)) (nano : NanoRows) (deferred : DeferredRows) (requests : RequestRows) (locks : LockRows) (mutexes : List (List ObjNo)) (logons : List (List (ObjNo × ℕ))) (memories : List (Option (List ℕ))) → all ≡ born script → state ≡ boot script → objects ≡ take (length all) (map (λ (b : Born). Some b.object) all) → handles ≡ map (λ (_ : Born). replicate HANDLES fresh_slot) all → threads ≡ state.threads → owed ≡ map (λ (_ : Born). []) all → nano ≡ nano_of script.fast all → deferred ≡ calls_of script → requests ≡ new_rows (length all) DEVICES → locks ≡ lock_rows OBJECTS → mutexes ≡ map (λ (_ : Born). []) all → logons ≡ map (λ (_ : Born). []) all → memories ≡ map memory_of_row state.threads → record { objects = objects; handles = handles; threads = threads; ready = (boot script).ready; owed = owed; nano = nano; deferred = deferred; requests = requests; locks = locks; mutexes = mutexes; logons = logons; memories = memories } ≡ boot script
-fields_at_boot script all state objects handles threads owed nano deferred requests locks mutexes logons memories born_are state_is o h t w n d r l m g b =
+pub fields_at_boot : (script : Script) (all : List Born) (state : State) (objects : List (Option ObjectRow)) (handles : List (List HandleSlot)) (threads : List (Option ThreadRow)) (owed : List (List Owed)) (nano : NanoRows) (deferred : DeferredRows) (requests : RequestRows) (locks : LockRows) (mutexes : List (List ObjNo)) (logons : List (List (ObjNo × ℕ))) (servers : ServerRows) (owned : List (List ObjNo)) (messages : MessageRows) (memories : List (Option (List ℕ))) → all ≡ born script → state ≡ boot script → objects ≡ take (length all) (map (λ (b : Born). Some b.object) all) → handles ≡ map (λ (_ : Born). replicate HANDLES fresh_slot) all → threads ≡ state.threads → owed ≡ map (λ (_ : Born). []) all → nano ≡ nano_of script.fast all → deferred ≡ calls_of script → requests ≡ new_rows (length all) DEVICES → locks ≡ lock_rows OBJECTS → mutexes ≡ map (λ (_ : Born). []) all → logons ≡ map (λ (_ : Born). []) all → servers ≡ no_rows OBJECTS → owned ≡ map (λ (_ : Born). []) all → messages ≡ no_messages OBJECTS script.pool → memories ≡ map memory_of_row state.threads → record { objects = objects; handles = handles; threads = threads; ready = (boot script).ready; owed = owed; nano = nano; deferred = deferred; requests = requests; locks = locks; mutexes = mutexes; logons = logons; servers = servers; owned = owned; messages = messages; memories = memories } ≡ boot script
+fields_at_boot script all state objects handles threads owed nano deferred requests locks mutexes logons servers owned messages memories born_are state_is o h t w n d r l m g v q x b =
     let long : length (map (λ (b : Born). Some b.object) all) ≤ length all = let e = length-map all (λ (b : Born). Some b.object) in omega arith in
     let rows : objects ≡ (boot script).objects = o ∙ (take_all (length all) (map (λ (b : Born). Some b.object) all) long ∙ (ap (map (λ (b : Born). Some b.object)) born_are ∙ sym (objects_at_boot script))) in
-    all_fields (boot script) objects handles threads owed nano deferred requests locks mutexes logons memories rows
+    all_fields (boot script) objects handles threads owed nano deferred requests locks mutexes logons servers owned messages memories rows
     (h ∙ (ap (map (λ (_ : Born). replicate HANDLES fresh_slot)) born_are ∙ sym (handles_at_boot script)))
     (t ∙ ap (λ (S : State). S.threads) state_is)
     (w ∙ (ap (map (λ (_ : Born). [])) born_are ∙ sym (owed_at_boot script)))
@@ -92,4 +112,7 @@ fields_at_boot script all state objects handles threads owed nano deferred reque
     (l ∙ sym (locks_at_boot script))
     (m ∙ (ap (map (λ (_ : Born). [])) born_are ∙ sym (mutexes_at_boot script)))
     (g ∙ (ap (map (λ (_ : Born). [])) born_are ∙ sym (logons_at_boot script)))
+    (v ∙ sym (servers_at_boot script))
+    (q ∙ (ap (map (λ (_ : Born). [])) born_are ∙ sym (owned_at_boot script)))
+    (x ∙ sym (messages_at_boot script))
     (b ∙ (ap (λ (S : State). map memory_of_row S.threads) state_is ∙ sym (memories_at_boot script)))

@@ -1,6 +1,6 @@
 -- What is decided doesn't look at the list of ready threads.
-use Rattle.std.proofs.Common.{◌≡◌, ℕ, Bool, true, false, List, ◌∷◌, ap, refl}
-use Rattle.std.specs.Prelude.{Option, Some, None}
+use Rattle.std.proofs.Common.{◌≡◌, ◌∙◌, ℕ, Bool, true, false, List, ◌∷◌, ap, refl}
+use Rattle.std.specs.Prelude.{not, ◌&&◌, is_none, is_some, Option, Some, None}
 use Rattle.sym_base.specs.declared.number.ObjNo.{ObjNo}
 use Rattle.entry_log.specs.declared.step.Part.{Part}
 use Rattle.entry_log.specs.declared.step.Part.TheVariants as part
@@ -13,7 +13,9 @@ use Rattle.machine.specs.declared.task.Task.{Task}
 use Rattle.machine.specs.declared.task.Task.TheVariants as task
 use Rattle.machine.specs.Rows.{thread_of}
 use Rattle.machine.specs.Steps.{step_of, decision_of_task, decision_of_row, decision_where, decision_of}
-use Rattle.machine.specs.Task.{is_able, task_of}
+use Rattle.machine.specs.Task.{is_able, is_stopped, is_waiting, task_of}
+use Rattle.state_rows.specs.MessageRows.{message_of}
+use Rattle.state_rows.specs.Nano.{wanted_holder}
 use Rattle.state_rows.specs.declared.deferred.Item.{Item}
 use Rattle.state_rows.specs.declared.deferred.Item.TheVariants as queued
 use Rattle.state_rows.specs.Deferred.{next_immediate}
@@ -32,7 +34,7 @@ use Rattle.sym_base.specs.declared.word.Word.{Word}
 use Rattle.sym_base.specs.declared.word.Word.TheVariants.{Kill, Terminate, Panic}
 use Rattle.entry_log.specs.declared.step.Step.TheVariants as step
 use Rattle.machine.specs.declared.holding.Holding.{Holding}
-use Rattle.machine.specs.declared.holding.Holding.TheVariants.{Mutex, Use, Handle, Logon}
+use Rattle.machine.specs.declared.holding.Holding.TheVariants.{Mutex, Message as OfMessage, Link as OfLink, Server as OfServer, Use, Handle, Logon}
 use Rattle.machine.specs.declared.logon_move.LogonMove.TheVariants.{Remove}
 use Rattle.machine.specs.declared.moves.Move.{Move}
 use Rattle.machine.specs.declared.moves.Move.TheVariants.{Logons, Requests}
@@ -42,6 +44,8 @@ use Rattle.machine.specs.ExitCalls.{exit_on, exittype_on}
 use Rattle.machine.specs.LogonCalls.{logon_do, reason_of}
 use Rattle.machine.specs.Reaping.{give_up}
 use Rattle.kcore.proofs.BodiesApart.{body_apart, end_apart}
+use Rattle.kcore.proofs.ReadyApart.{next_apart}
+use Rattle.kcore.proofs.ServersApart.{call_apart, close_apart, closes_apart, complete_apart, connect_apart, finishes_apart, function_apart, receive_apart, send_apart}
 
 queue_apart : (S : State) (qs : List ObjNo) (t : ObjNo) (dfc : Option ℕ) → queue_named (with_ready S qs) t dfc ≡ queue_named S t dfc
 queue_apart S qs t None = refl
@@ -122,7 +126,7 @@ step_apart script S qs t row (instr.Open kind name x) None = refl
 step_apart script S qs t row (instr.Open kind name x) (Some part) = refl
 step_apart script S qs t row (instr.Dup x y) None = refl
 step_apart script S qs t row (instr.Dup x y) (Some part) = refl
-step_apart script S qs t row (instr.Close x) p = refl
+step_apart script S qs t row (instr.Close x) p = close_apart S qs t row x
 step_apart script S qs t row (instr.Flock f) None = refl
 step_apart script S qs t row (instr.Flock f) (Some part) = refl
 step_apart script S qs t row (instr.Funlock f) p = refl
@@ -156,13 +160,23 @@ step_apart script S qs t row (instr.ExitType x) (Some part) = exittype_apart S q
 step_apart script S qs t row (instr.Logon x s) None = refl
 step_apart script S qs t row (instr.Logon x s) (Some part) = logon_apart S qs t s row.uses
 step_apart script S qs t row (instr.Exit reason) p = refl
+step_apart script S qs t row (instr.Server name x) p = refl
+step_apart script S qs t row (instr.Connect name slots x) p = connect_apart S qs t row name slots x p
+step_apart script S qs t row (instr.Send x function y args) p = send_apart S qs t row x function y args p
+step_apart script S qs t row (instr.Call x function args) p = call_apart S qs t row x function args p
+step_apart script S qs t row (instr.Receive x y) p = receive_apart S qs t row x y p
+step_apart script S qs t row (instr.Complete y code) p = complete_apart S qs t row y code
+step_apart script S qs t row (instr.Function y) p = function_apart S qs t row y
 step_apart script S qs t row _ p = refl
 
 -- what a doomed thread gives up
 give_apart : (S : State) (qs : List ObjNo) (t : ObjNo) (row : ThreadRow) (what : Holding) → give_up (with_ready S qs) t row what ≡ give_up S t row what
 give_apart S qs t row (Mutex o) = refl
 give_apart S qs t row (Use o) = refl
-give_apart S qs t row (Handle h o) = refl
+give_apart S qs t row (OfMessage m) = finishes_apart S qs (message_of S.messages m)
+give_apart S qs t row (OfLink s o) = refl
+give_apart S qs t row (OfServer o) = refl
+give_apart S qs t row (Handle h o) = ap (λ (ms : List Move). let d : Decision = record { step = step.Shut; moves = ms; answer = None } in d) (closes_apart S qs t h o)
 give_apart S qs t row (Logon u s) =
     let told : List Move → Decision = λ ms. record { step = step.Tell; moves = Logons (Remove t u s) ∷ Requests (Signal u s (reason_of row.exit)) ∷ ms; answer = None } in
     ap told (end_apart S qs u s (thread_of S u))
@@ -188,7 +202,10 @@ where_apart script S qs t false what = refl
 where_apart script S qs t true what = row_apart script S qs t (thread_of S t) what
 
 pub decision_apart : (script : Script) (S : State) (qs : List ObjNo) (t : ObjNo) → decision_of script (with_ready S qs) t ≡ decision_of script S t
-decision_apart script S qs t = where_apart script S qs t (is_able script S t) (task_of script S t)
+decision_apart script S qs t =
+    let decide : Option Task → Decision = λ what.
+    decision_where script ((not (is_waiting S t) && not (is_stopped S t) && is_some what) && is_none (wanted_holder S.nano t)) (with_ready S qs) t what in
+    ap decide (next_apart script S qs t) ∙ where_apart script S qs t (is_able script S t) (task_of script S t)
 
 item_apart : (script : Script) (S : State) (qs : List ObjNo) (item : Option Item) → decision_by script supervisor (with_ready S qs) (immediate_plan script (with_ready S qs) item) ≡ decision_by script supervisor S (immediate_plan script S item)
 item_apart script S qs None = refl

@@ -34,6 +34,7 @@ use Rattle.kcore.specs.KernelView.{Stands}
 use Rattle.kcore.specs.Done.{EachReady, Does, MayAct}
 use Rattle.kernel_tables.specs.ReadyQueues.{AreReady, SomeReady}
 use Rattle.kernel_tables.specs.StateOf.{state_of, with_ready}
+use Rattle.kcore.proofs.ReadyApart.{able_apart, ready_apart}
 
 -- rows don't look at the list of ready threads
 rows_apart : (script : Script) (S : State) (qs : List ObjNo) → AreRows script (with_ready S qs) → AreRows script S
@@ -50,6 +51,8 @@ rows_apart script S qs h = record {
   logons = h.logons;
   spent = h.spent;
   awaited = h.awaited;
+  servers = h.servers;
+  messages = h.messages;
   lives = record { alive = h.lives.alive; counted = h.lives.counted; sweeps = h.lives.sweeps };
 }
 
@@ -66,7 +69,7 @@ some_stand script history tables ready h = (priority_of (state_of tables), (afte
 
 -- an actor that may act after the history may act in the tables
 pub may_stand : {W N : Type 0} (script : Script) (history : List Entry) (tables : Tables W N) (ready : Ready) (actor : Actor) → Stands script history tables ready → CanAct script (after script history) actor → MayAct script (state_of tables) actor
-may_stand script history tables ready (Thread t) h can = ap (λ (U : State). is_able script U t) h.state ∙ can
+may_stand script history tables ready (Thread t) h can = sym (able_apart script (state_of tables) (after script history).ready t) ∙ (ap (λ (U : State). is_able script U t) h.state ∙ can)
 may_stand script history tables ready (Irq k) h can = tt
 may_stand script history tables ready Idfc h can = tt
 may_stand script history tables ready Tick h can = tt
@@ -76,7 +79,7 @@ may_stand script history tables ready Idle h can = tt
 each_stands : {W N : Type 0} (script : Script) (history : List Entry) (tables : Tables W N) (ready : Ready) → Stands script history tables ready → EachReady script (state_of tables) (after script history).ready
 each_stands script history tables ready h t listed =
     let list = (well_formed-after script history h.valid).ready in
-    ap (λ (U : State). is_ready script U t) h.state ∙ (sym (list.exact t) ∙ listed)
+    sym (ready_apart script (state_of tables) (after script history).ready t) ∙ (ap (λ (U : State). is_ready script U t) h.state ∙ (sym (list.exact t) ∙ listed))
 
 -- the entry is the one of the definitions
 pub entry_told : {W N : Type 0} (script : Script) (history : List Entry) (old T : Tables W N) (before after_it : Ready) (actor : Actor) (outcome : Outcome) (place : ℕ) (e : Entry) → Stands script history old before → Does script old before T after_it outcome (λ S. transition script S actor) → place ≡ length history + 1 → e ≡ entry_of place actor outcome → e ≡ entry_by script (after script history) (length history + 1) actor

@@ -12,4 +12,6 @@ mod Goes
 mod LastEntry
 mod ListSteps
 mod MovesApart
+mod ReadyApart
 mod RunningOps
+mod ServersApart

@@ -6,7 +6,10 @@ use Rattle.state_rows.specs.DeclaredCalls.{calls_of}
 use Rattle.state_rows.specs.HandleSlots.{fresh_slot}
 use Rattle.state_rows.specs.LockChanges.{new_rows as lock_rows}
 use Rattle.state_rows.specs.declared.locks.LockRows.{LockRows}
+use Rattle.state_rows.specs.MessageChanges.{no_messages}
 use Rattle.state_rows.specs.RequestChanges.{new_rows as request_rows}
+use Rattle.state_rows.specs.ServerChanges.{no_rows}
+use Rattle.state_rows.specs.declared.servers.ServerRows.{ServerRows}
 use Rattle.machine.specs.Boot.{memory_of_row, nano_of}
 use Rattle.procs.specs.ProcsRows.{ProcsRows}
 use Rattle.kern_sync.specs.KernelLocks.{KernelLocks}
@@ -37,7 +40,11 @@ pub record FirstStand (all : List Born) (S : State) (rows : List (Option ObjectR
 unfoldable pub no_locks : LockRows
 no_locks = lock_rows OBJECTS
 
--- the tables over those of objects, of threads and of locks: nothing is owed, held, queued or asked for
+-- no object is a server or a session, of all that may be made
+unfoldable pub no_servers : ServerRows
+no_servers = no_rows OBJECTS
+
+-- the tables over those of objects, of threads and of locks: nothing is owed, held, owned, queued or asked for, and no message is outstanding
 pub record AreOver {W N : Type 0} (script : Script) (all : List Born) (o : ObjectsView) (p : ProcsRows) (l : KernelLocks) (tables : Tables W N) : Type 0 where
   pub objects : tables.objects ≡ o
   pub procs : tables.procs ≡ p
@@ -47,10 +54,13 @@ pub record AreOver {W N : Type 0} (script : Script) (all : List Born) (o : Objec
   pub uses : tables.cleanup.temporary ≡ replicate (length all) None
   pub mutexes : tables.cleanup.mutexes ≡ map (λ _. []) all
   pub logons : tables.cleanup.logons ≡ map (λ _. []) all
+  pub owned : tables.cleanup.servers ≡ map (λ _. []) all
   pub listed : tables.cleanup.objects ≡ OBJECTS
   pub nano : tables.nano ≡ nano_of script.fast all
   pub deferred : tables.deferred ≡ calls_of script
   pub requests : tables.requests ≡ request_rows (length all) DEVICES
+  pub servers : tables.servers ≡ no_servers
+  pub messages : tables.messages ≡ no_messages OBJECTS script.pool
 
 -- the tables of what stands at boot, over its objects: nothing is owed, held, queued or waited for
 pub record AreTables {W N : Type 0} (script : Script) (all : List Born) (S : State) (made : ObjectsView) (tables : Tables W N) : Type 0 where
@@ -64,7 +74,10 @@ pub record AreTables {W N : Type 0} (script : Script) (all : List Born) (S : Sta
   pub uses : tables.cleanup.temporary ≡ replicate (length all) None
   pub mutexes : tables.cleanup.mutexes ≡ map (λ _. []) all
   pub logons : tables.cleanup.logons ≡ map (λ _. []) all
+  pub owned : tables.cleanup.servers ≡ map (λ _. []) all
   pub listed : tables.cleanup.objects ≡ OBJECTS
   pub nano : tables.nano ≡ nano_of script.fast all
   pub deferred : tables.deferred ≡ calls_of script
   pub requests : tables.requests ≡ request_rows (length all) DEVICES
+  pub servers : tables.servers ≡ no_servers
+  pub messages : tables.messages ≡ no_messages OBJECTS script.pool

@@ -20,7 +20,7 @@ ghost use Rattle.kernel_tables.specs.Noted.{AreKept, AreRanked};
 ghost use Rattle.kernel_tables.specs.ReadyQueues.{AreReady};
 ghost use Rattle.kernel_tables.specs.StateOf.{slots_of, state_of, with_ready};
 
-use crate::boot_tables::{locks_of, priority_of, procs_of};
+use crate::boot_tables::{locks_of, priority_of, procs_of, server_tables};
 use cleanup::Cleanup;
 use handles::Handles;
 use kern_sync::KernSync;
@@ -94,6 +94,7 @@ fn empty_lists(alloc: Global, all: &[Born]) -> Result<Cleanup, NoMemory>
     ensures uses { IfOk result (λ lists. lists.temporary ≡ replicate (length all.now) None) }
     ensures mutexes { IfOk result (λ lists. lists.mutexes ≡ map (λ _. []) all.now) }
     ensures logons { IfOk result (λ lists. lists.logons ≡ map (λ _. []) all.now) }
+    ensures owned { IfOk result (λ lists. lists.servers ≡ map (λ _. []) all.now) }
     ensures objects { IfOk result (λ lists. lists.objects ≡ OBJECTS) }
 {
     Cleanup::new(alloc, all.len() as u16, Limits::OBJECTS as u16)
@@ -152,6 +153,7 @@ fn empty_tables(alloc: Global, all: &[Born]) -> Result<(Items<Handles>, Cleanup)
     ensures uses { IfOk result (λ made. made.1.temporary ≡ replicate (length all.now) None) }
     ensures mutexes { IfOk result (λ made. made.1.mutexes ≡ map (λ _. []) all.now) }
     ensures logons { IfOk result (λ made. made.1.logons ≡ map (λ _. []) all.now) }
+    ensures owned { IfOk result (λ made. made.1.servers ≡ map (λ _. []) all.now) }
     ensures objects { IfOk result (λ made. made.1.objects ≡ OBJECTS) }
 {
     let handles = fresh_handles(alloc, all)?;
@@ -205,6 +207,7 @@ fn tables_over<W: RefWords + Drop>(
 {
     let empty = empty_tables(alloc, all)?;
     let calls = call_tables(alloc, script, all)?;
+    let serving = server_tables(alloc, script)?;
     Ok(Tables {
         objects,
         handles: empty.0,
@@ -214,6 +217,8 @@ fn tables_over<W: RefWords + Drop>(
         nano: calls.0,
         deferred: calls.1,
         requests: calls.2,
+        servers: serving.0,
+        messages: serving.1,
     })
 }
 

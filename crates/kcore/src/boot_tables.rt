@@ -1,15 +1,19 @@
-//! The tables of threads, processes and locks at boot.
+//! The tables of threads, processes, locks, servers and messages at boot.
 ghost use Rattle.std.specs.Prelude.{◌≡◌, ◌<◌, ◌≤◌, length, map, IfOk, slice_set};
-ghost use Rattle.sym_base.specs.declared.limits.TheConstants.Limits.{BOOT_OBJECTS};
-ghost use Rattle.kcore.specs.BootTable.{no_locks};
+ghost use Rattle.sym_base.specs.declared.limits.TheConstants.Limits.{BOOT_OBJECTS, OBJECTS};
+ghost use Rattle.kcore.specs.BootTable.{no_locks, no_servers};
 ghost use Rattle.machine.specs.Boot.{memory_of_row};
 ghost use Rattle.machine.specs.Choice.{priority_of};
 ghost use Rattle.procs.specs.Rows.{IsFresh};
+ghost use Rattle.state_rows.specs.MessageChanges.{no_messages};
 ghost use Rattle.kernel_tables.specs.Noted.{AreRanked};
 
 use kern_sync::KernSync;
 use machine::{State, ThreadRow, row_of};
+use messages::Messages;
 use procs::Procs;
+use script_types::Script;
+use server_table::ServerTable;
 use std::alloc::Global;
 use sym_base::{Limits, NoMemory, ObjNo, ThreadNo};
 
@@ -58,4 +62,15 @@ pub fn locks_of(alloc: Global, state: &State) -> Result<KernSync, NoMemory>
         locks.set_priority(ObjNo(number), priority_of(state, ObjNo(number)));
     }
     Ok(locks)
+}
+
+/// There is no server and no session yet, and no message. The script's pool is the kernel's.
+#[tactic(auto, unfolding(crate::specs::BootTable::no_servers))]
+pub fn server_tables(alloc: Global, script: &Script) -> Result<(ServerTable, Messages), NoMemory>
+    ensures servers { IfOk result (λ made. made.0 ≡ no_servers) }
+    ensures messages { IfOk result (λ made. made.1 ≡ no_messages OBJECTS script.now.pool) }
+{
+    let servers = ServerTable::new(alloc, Limits::OBJECTS as u16)?;
+    let messages = Messages::new(alloc, Limits::OBJECTS as u16, script.pool)?;
+    Ok((servers, messages))
 }

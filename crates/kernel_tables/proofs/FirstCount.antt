@@ -5,7 +5,8 @@ use Rattle.std.proofs.lemmas.Bool.{cases_eq}
 use Rattle.std.proofs.lemmas.List.{get_or-set_same, get_or-set_other, length-set}
 use Rattle.sym_base.specs.declared.number.ObjNo.{ObjNo}
 use Rattle.entry_log.specs.declared.effect.Holder.{Holder}
-use Rattle.entry_log.specs.declared.effect.Effect.TheVariants.{Plus}
+use Rattle.entry_log.specs.declared.effect.Effect.TheVariants.{Plus, Accept}
+use Rattle.sym_base.specs.declared.number.MsgNo.{MsgNo}
 use Rattle.machine.specs.declared.nano_move.NanoMove.{NanoMove}
 use Rattle.machine.specs.declared.nano_move.NanoMove.TheVariants as nano
 use Rattle.machine.specs.declared.request_move.RequestMove.{RequestMove}
@@ -70,3 +71,12 @@ request_counts counts (request.SetPending t s) o = refl
 request_counts counts (request.Signal t s code) o = refl
 request_counts counts (request.DropAll t) o = refl
 request_counts counts (request.TakeSignal t) o = refl
+request_counts counts (request.Reply t code) o = refl
+
+-- two references more
+pub counts-two : (counts : List ℕ) (x y : ObjNo) (m : MsgNo) (holder : Holder) → 0 < slice_index counts x.0 → 0 < slice_index counts y.0 → let first = slice_set counts x.0 (slice_index counts x.0 + 1) in CountsMove counts (slice_set first y.0 (slice_index first y.0 + 1)) (Accept m ∷ Plus holder x ∷ Plus holder y ∷ [])
+counts-two counts x y m holder some more o =
+    let first = slice_set counts x.0 (slice_index counts x.0 + 1) in
+    let a = counts-more counts x holder some o in
+    let there = counts-more counts x holder some y in
+    let b = counts-more first y holder (omega arith) o in omega arith

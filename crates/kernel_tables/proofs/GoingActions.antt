@@ -25,7 +25,7 @@ use Rattle.kernel_tables.proofs.GoingMoves.{each_goes, pay_goes}
 pub fitting_goes : (script : Script) (S : State) (t : ObjNo) (ms : List Move) → IsShaped script → Sane script t S → Goes script t S ms → ActionGoes script t ms S
 fitting_goes script S t ms shaped s goes = record {
   each = each_goes script S t ms shaped goes.each goes.few s;
-  few = let told = goes.told in let few = tell_few t ms S in omega arith;
+  few = goes.told;
 }
 
 -- those of each action of a thread

@@ -57,7 +57,7 @@ pub record HeldBySome (mutexes : List (List ObjNo)) (o : ObjNo) : Type 0 where
   pub thread : ObjNo
   pub held : 0 < times_held mutexes thread o
 
-held_some : (o : ObjNo) (mutexes : List (List ObjNo)) → list_any (list_any (is_object o)) mutexes ≡ true → HeldBySome mutexes o
+pub held_some : (o : ObjNo) (mutexes : List (List ObjNo)) → list_any (list_any (is_object o)) mutexes ≡ true → HeldBySome mutexes o
 held_some o [] some = absurd (cc)
 held_some o (held ∷ rest) some = by (list_any (is_object o) held) refl some (held_some o rest)
   where

@@ -1,20 +1,21 @@
 -- The moves of each action go through: they can be made in the tables, and keep priorities and the readiness of those that
 -- they don't touch.
-use Rattle.std.proofs.Common.{◌≡◌, inl, inr, ℕ, ◌+◌, ◌<◌, ◌≤◌, List, [], ◌∷◌, length, get_or, arith, refl, sym, ap, subst, ◌∙◌, Bool, true, false}
+use Rattle.std.proofs.Common.{◌≡◌, inl, inr, ℕ, ◌+◌, ◌*◌, ◌<◌, ◌≤◌, List, [], ◌∷◌, ◌++◌, length, length-append, get_or, arith, refl, sym, ap, subst, ◌∙◌, Bool, true, false}
 use Rattle.std.specs.Prelude.{◌==◌, IsTrue, is_some, Option, Some, None}
-use Rattle.std.proofs.lemmas.Bool.{cases_lt, eq-eqb}
+use Rattle.std.proofs.lemmas.Bool.{cases_Bool, cases_lt, eq-eqb}
 use Rattle.std.proofs.lemmas.List.{get_or_past}
+use Rattle.sym_base.specs.declared.kind.Kind.{Kind}
 use Rattle.sym_base.specs.declared.number.ObjNo.{ObjNo}
 use Rattle.script_types.specs.declared.script.Script.{Script}
 use Rattle.script_types.specs.Shape.{IsShaped}
 use Rattle.entry_log.specs.declared.effect.Holder.{Holder}
-use Rattle.entry_log.specs.declared.effect.Holder.TheVariants.{InProcess, InThread, Temp, Own, Link, Message, Kernel}
 use Rattle.state_rows.specs.declared.duty.Owed.{Owed}
 use Rattle.state_rows.specs.declared.duty.Owed.TheVariants.{Close, Sweep}
 use Rattle.state_rows.specs.declared.object.ObjectRow.{ObjectRow}
-use Rattle.state_rows.specs.ObjectRows.{is_dead_row}
+use Rattle.state_rows.specs.ObjectRows.{is_dead_row, is_session}
+use Rattle.objects.specs.Rows.{kept_name}
 use Rattle.machine.specs.declared.moves.Move.{Move}
-use Rattle.machine.specs.declared.moves.Move.TheVariants.{Make, Gain, Lose, Find, Miss, GoOn, Write, Advance, Wait, Wake, SetPriority, Nano, Deferred, Requests, Locks, Logons, Death, Fill, Pay}
+use Rattle.machine.specs.declared.moves.Move.TheVariants.{Make, Gain, Lose, Find, Miss, GoOn, Keep, Write, WriteMessage, PutDown, Advance, Wait, Wake, SetPriority, Nano, Deferred, Requests, Locks, Logons, Death, Servers, Messages, Fill, Pay}
 use Rattle.machine.specs.declared.nano_move.NanoMove.{NanoMove}
 use Rattle.machine.specs.declared.nano_move.NanoMove.TheVariants as nano
 use Rattle.machine.specs.declared.request_move.RequestMove.{RequestMove}
@@ -30,8 +31,8 @@ use Rattle.state_rows.specs.declared.thread.ThreadRow.{ThreadRow}
 use Rattle.machine.specs.Choice.{priority_of, priority_of_row}
 use Rattle.machine.specs.DeathMoves.{death_row, death_thread}
 use Rattle.machine.specs.NanoMoves.{nano_thread}
-use Rattle.machine.specs.Fits.{FitsNano, FitsRequests, IsFree, FitsMove, EachFits, Sane, most_owed}
-use Rattle.machine.specs.Moves.{moved, told, closed_effects, threads_lose, with_found, with_part, with_register, with_waiting, with_priority, advanced, next_object, use_of_row}
+use Rattle.machine.specs.Fits.{FitsNano, FitsRequests, HasName, FitsMove, EachFits, Sane, most_owed}
+use Rattle.machine.specs.Moves.{moved, told, tell, closed_effects, threads_lose, with_found, with_kept, with_message, with_use, with_part, with_register, with_waiting, with_priority, advanced, next_object, use_of_row}
 use Rattle.machine.specs.References.{total, same, count_of, pluses, minuses, RefsMove}
 use Rattle.machine.specs.Rows.{object_of, thread_of, owed_of}
 use Rattle.machine.specs.WellFormed.{IsAlive, AreRows, AreRequests, is_dead, dead_bit, owed_sweeps, weight}
@@ -40,12 +41,15 @@ use Rattle.move_laws.proofs.Lists.Totals.{inside, total_at_least}
 use Rattle.move_laws.proofs.MoveLaws.Pays.{sweep-over}
 use Rattle.move_laws.proofs.MoveLaws.Run.{sound-move, sound-pay, sane-after, refs-of, weight-move}
 use Rattle.move_laws.proofs.Numbers.CountSmall.{count_small}
+use Rattle.move_laws.proofs.Numbers.Instructions.{few_instructions}
 use Rattle.move_laws.proofs.Readiness.ReadyActions.{joins_own}
 use Rattle.move_laws.proofs.Readiness.Touched.{untouched}
 use Rattle.move_laws.proofs.References.Same.{same_self}
-use Rattle.kernel_tables.specs.Moved.{CanMove, MayGain, TakesLeast, AreKnown, MoveGoes, MovesGo, is_set}
-use Rattle.kernel_tables.specs.Referred.{HasPlaces, IsReferred}
+use Rattle.kernel_tables.specs.Moved.{CanMove, AreKnown, MoveGoes, MovesGo, is_set}
+use Rattle.kernel_tables.specs.Referred.{IsReferred}
+use Rattle.kernel_tables.proofs.GoingHolders.{few_places, one_place, may_gain, takes_least, may_make, makes_least, may_lose}
 use Rattle.kernel_tables.proofs.GoingLocks.{can_lock}
+use Rattle.kernel_tables.proofs.GoingServers.{can_message, can_serve}
 use Rattle.kernel_tables.proofs.GoingLogons.{can_logon}
 use Rattle.kernel_tables.proofs.DyingRows.{death_priority}
 use Rattle.kernel_tables.proofs.Ranks.{rank-with_row, rank-gain, rank-lose, rank-closed, rank-other}
@@ -108,54 +112,6 @@ swept_unused script S t o rest (Some row) s owes is =
     let over = sweep-over script S t o rest row owes s.inside s.rows is in
     ap use_of_row over.is ∙ over.spent.unused
 
--- a thread has at most 16,384 instructions
-few_in : (script : Script) → IsShaped script → (role : Role) (declared : Option ThreadDecl) → declared_of script role ≡ declared → length (instructions_in declared) ≤ 16384
-few_in script shaped role None at = omega arith
-few_in script shaped Supervisor (Some declared) at = absurd (cc)
-few_in script shaped (Queue queue) (Some declared) at = absurd (cc)
-few_in script shaped (Declared k) (Some declared) at = (shaped.threads k declared at).size
-
--- each duty weighs something, so those of a thread are few
-weighs : (what : Owed) → 1 ≤ weight what
-weighs (Sweep o) = omega arith
-weighs (Close (InProcess p i) o) = omega arith
-weighs (Close (InThread t i) o) = omega arith
-weighs (Close (Temp t) o) = omega arith
-weighs (Close (Own t) o) = omega arith
-weighs (Close (Link x) o) = omega arith
-weighs (Close (Message m) o) = omega arith
-weighs (Close Kernel o) = omega arith
-
-few_duties : (owed : List Owed) → length owed ≤ total weight owed
-few_duties [] = omega arith
-few_duties (what ∷ rest) = omega (arith, weighs what, few_duties rest)
-
-few_places : (script : Script) (S : State) (t : ObjNo) → AreRows script S → HasPlaces 2 S t
-few_places script S t rows = omega (arith, few_duties (owed_of S t), rows.duties.few t.0)
-
-one_place : (script : Script) (S : State) (t : ObjNo) → AreRows script S → HasPlaces 1 S t
-one_place script S t rows = let two = few_places script S t rows in omega arith
-
--- a call that gets a reference uses nothing yet
-may_gain : (S : State) (h : Holder) → IsFree S h → MayGain S h
-may_gain S (InProcess p i) free = tt
-may_gain S (InThread t i) free = tt
-may_gain S (Temp t) free = record { row = free.row; is = free.is; unused = free.unused }
-may_gain S (Own t) free = tt
-may_gain S (Link x) free = tt
-may_gain S (Message m) free = tt
-may_gain S Kernel free = tt
-
--- a handle that comes gets the least free place
-takes_least : (S : State) (h : Holder) → IsFree S h → TakesLeast S.handles h
-takes_least S (InProcess p i) free = (free.1.inside, free.1.least)
-takes_least S (InThread t i) free = (free.1.inside, free.1.least)
-takes_least S (Temp t) free = tt
-takes_least S (Own t) free = tt
-takes_least S (Link x) free = tt
-takes_least S (Message m) free = tt
-takes_least S Kernel free = tt
-
 -- a move in the rows of threads that synchronize is one of a thread and of a fast mutex that are there
 sized_at : (threads : List (Option ThreadRow)) (t : ObjNo) (row : Option ThreadRow) → get_or threads t.0 None ≡ row → is_some (get_or threads t.0 None) ≡ true → t.0 < length threads
 sized_at threads t (Some row) is some = inside threads t.0 row is
@@ -191,6 +147,7 @@ can_request count r (request.SetPending t s) logons rows fits = fits
 can_request count r (request.Signal t s code) logons rows fits = (fits.0.thread, fits.0.status, fits.0.waits)
 can_request count r (request.DropAll t) logons rows fits = fits
 can_request count r (request.TakeSignal t) logons rows fits = fits
+can_request count r (request.Reply t code) logons rows fits = fits
 
 -- threads have the least numbers, and priorities in their range
 known : (script : Script) (S : State) → AreRows script S → AreKnown S
@@ -200,30 +157,42 @@ known script S rows u row is =
     let low = (rows.threads.rows u.0 row is).priority in
     (omega arith, omega arith)
 
+-- a name is kept where it is a session's, which is empty
+named : (kind : Kind) (name : List ℕ) → HasName kind name → kept_name kind name ≡ name
+named kind name none = elim (cases_Bool (is_session kind)) [
+  | inl session ↦ rw session (sym (none session))
+  | inr other ↦ rw other refl
+]
+
 -- when a move that fits can be made
-can_move : (script : Script) (S : State) (t : ObjNo) (m : Move) → IsShaped script → FitsMove script t m S → RefsMove S (moved t m S) (told m S) → Sane script t S → CanMove t m S
-can_move script S t (Make kind name h) shaped fits refs s = (fits.0.named, fits.0.new, record { room = fits.0.room; fresh = next_fresh script S s.rows }, may_gain S h fits.1, takes_least S h fits.1)
-can_move script S t (Gain h o) shaped fits refs s = (referred script S o s.rows (s.rows.lives.counted o fits.1), may_gain S h fits.0, takes_least S h fits.0)
-can_move script S t (Lose h o) shaped fits refs s = (referred script S o s.rows (was_held S (moved t (Lose h o) S) _ h o refs), few_places script S t s.rows)
-can_move script S t (Find u o) shaped fits refs s = tt
-can_move script S t (Miss o) shaped fits refs s = tt
-can_move script S t (GoOn u part) shaped fits refs s = tt
-can_move script S t (Write u x value) shaped fits refs s = fits
-can_move script S t (Advance u) shaped fits refs s = (
-  λ k row is. let next = (s.rows.threads.rows k row is).next_instruction in let few = few_in script shaped row.role _ refl in omega arith,
+can_move : (script : Script) (S : State) (t : ObjNo) (m : Move) → IsShaped script → FitsMove script t m S → S.messages.accepted < 4294967295 → RefsMove S (moved t m S) (told m S) → Sane script t S → CanMove t m S
+can_move script S t (Make kind name h) shaped fits numbers refs s = (named kind name fits.2, fits.0.new, record { room = fits.0.room; fresh = next_fresh script S s.rows }, may_make S h fits.1, makes_least S h fits.1)
+can_move script S t (Gain h o) shaped fits numbers refs s = (referred script S o s.rows (s.rows.lives.counted o fits.1), may_gain S h fits.0, takes_least S h fits.0)
+can_move script S t (Lose h o) shaped fits numbers refs s = (referred script S o s.rows (was_held S (moved t (Lose h o) S) _ h o refs), few_places script S t s.rows, may_lose script S h o s.rows fits.1)
+can_move script S t (Find u o) shaped fits numbers refs s = tt
+can_move script S t (Miss o) shaped fits numbers refs s = tt
+can_move script S t (GoOn u part) shaped fits numbers refs s = tt
+can_move script S t (Keep u number) shaped fits numbers refs s = tt
+can_move script S t (Write u x value) shaped fits numbers refs s = fits
+can_move script S t (WriteMessage u y number) shaped fits numbers refs s = fits
+can_move script S t (PutDown u) shaped fits numbers refs s = one_place script S u s.rows
+can_move script S t (Advance u) shaped fits numbers refs s = (
+  λ k row is. let next = (s.rows.threads.rows k row is).next_instruction in let few = few_instructions script row.role shaped in omega arith,
   one_place script S u s.rows,
 )
-can_move script S t (Wait u what) shaped fits refs s = tt
-can_move script S t (Wake u) shaped fits refs s = tt
-can_move script S t (SetPriority u priority) shaped fits refs s = known script S s.rows
-can_move script S t (Nano m) shaped fits refs s = can_nano script S m s.rows fits.0 fits.1
-can_move script S t (Deferred m) shaped fits refs s = fits
-can_move script S t (Requests m) shaped fits refs s = can_request (length S.threads) S.requests m S.logons s.rows.requests fits.0
-can_move script S t (Locks m) shaped fits refs s = can_lock script S s.rows (known script S s.rows) (λ o. referred script S o s.rows) (λ u. few_places script S u s.rows) t m fits
-can_move script S t (Logons m) shaped fits refs s = can_logon script S m s.rows fits
-can_move script S t (Death m) shaped fits refs s = one_place script S t s.rows
-can_move script S t (Fill p at size byte) shaped fits refs s = fits
-can_move script S t (Pay what) shaped fits refs s = absurd fits
+can_move script S t (Wait u what) shaped fits numbers refs s = tt
+can_move script S t (Wake u) shaped fits numbers refs s = tt
+can_move script S t (SetPriority u priority) shaped fits numbers refs s = known script S s.rows
+can_move script S t (Nano m) shaped fits numbers refs s = can_nano script S m s.rows fits.0 fits.1
+can_move script S t (Deferred m) shaped fits numbers refs s = fits
+can_move script S t (Requests m) shaped fits numbers refs s = can_request (length S.threads) S.requests m S.logons s.rows.requests fits.0
+can_move script S t (Locks m) shaped fits numbers refs s = can_lock script S s.rows (known script S s.rows) (λ o. referred script S o s.rows) (λ u. few_places script S u s.rows) t m fits
+can_move script S t (Logons m) shaped fits numbers refs s = can_logon script S m s.rows fits
+can_move script S t (Death m) shaped fits numbers refs s = one_place script S t s.rows
+can_move script S t (Servers m) shaped fits numbers refs s = can_serve script S s.rows (λ o. referred script S o s.rows) m fits
+can_move script S t (Messages m) shaped fits numbers refs s = can_message script S s.rows (λ o. referred script S o s.rows) t m (few_places script S t s.rows) fits.0 fits.2 numbers
+can_move script S t (Fill p at size byte) shaped fits numbers refs s = fits
+can_move script S t (Pay what) shaped fits numbers refs s = absurd fits
 
 -- priorities stay that aren't set
 set_other : (u v : ObjNo) → (u.0 == v.0) ≡ false → v.0 ≡ u.0 → ⊥
@@ -246,6 +215,11 @@ ranks_move script S t (Lose h o) u fits unset = rank-closed (threads_lose h S.th
 ranks_move script S t (Find v o) u fits unset = rank-with_row S.threads v (with_found o) u (λ r. refl)
 ranks_move script S t (Miss o) u fits unset = refl
 ranks_move script S t (GoOn v part) u fits unset = rank-with_row S.threads v (with_part part) u (λ r. refl)
+ranks_move script S t (Keep v number) u fits unset = rank-with_row S.threads v (with_kept number) u (λ r. refl)
+ranks_move script S t (WriteMessage v y number) u fits unset = rank-with_row S.threads v (with_message y number) u (λ r. refl)
+ranks_move script S t (PutDown v) u fits unset = rank-with_row S.threads v (with_use None) u (λ r. refl)
+ranks_move script S t (Servers m) u fits unset = refl
+ranks_move script S t (Messages m) u fits unset = refl
 ranks_move script S t (Write v x value) u fits unset = rank-with_row S.threads v (with_register x value) u (λ r. refl)
 ranks_move script S t (Advance v) u fits unset = rank-with_row S.threads v advanced u (λ r. refl)
 ranks_move script S t (Pay what) u fits unset = absurd fits
@@ -258,10 +232,13 @@ each_goes script S t (m ∷ ms) shaped fits few s =
     let sound = sound-move script S t m fits.0 (omega arith) s in
     let refs = refs-of script S T (told m S) sound in
     let w = weight-move script S t m fits.0 in
+    let before = s.rows.messages.numbered in
+    let after = sound.rows.messages.numbered in
     let goes : MoveGoes script t m S = record {
-      can = can_move script S t m shaped fits.0 refs s;
+      can = can_move script S t m shaped fits.0 (omega arith) refs s;
       refs = refs;
       known = known script T sound.rows;
+      numbered = omega arith;
       ranks = λ u unset. ranks_move script S t m u fits.0 unset;
       apart = λ u none. untouched script S t m u s.rows.threads (joins_own script S t m fits.0) none;
     } in
@@ -288,6 +265,7 @@ pay_goes script S t what rest owes s =
       can = can;
       refs = refs;
       known = known script T sound.rows;
+      numbered = let few = sound.rows.messages.numbered in omega arith;
       ranks = λ u unset. ranks_pay script S t what u unset;
       apart = λ u none. untouched script S t (Pay what) u s.rows.threads tt none;
     }

@@ -2,11 +2,14 @@ mod DyingRows
 mod Finds
 pub mod FirstCount
 pub mod GoingActions
+mod GoingHolders
 mod GoingLocks
 mod GoingLogons
 mod GoingMoves
+mod GoingServers
 mod LockRows
 mod Noting
+mod Owning
 pub mod Performing
 mod Ranks
 pub mod ReadyChanges

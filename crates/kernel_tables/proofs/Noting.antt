@@ -133,3 +133,22 @@ logons_lost s (Own t) = refl
 logons_lost s (Link x) = refl
 logons_lost s (Message m) = refl
 logons_lost s Kernel = refl
+
+-- and so do the servers that threads own
+pub servers_gained : (s : Lists) (h : Holder) (o : ObjNo) → (use_gained h o s).servers ≡ s.servers
+servers_gained s (Temp t) o = refl
+servers_gained s (InProcess p i) o = refl
+servers_gained s (InThread t i) o = refl
+servers_gained s (Own t) o = refl
+servers_gained s (Link x) o = refl
+servers_gained s (Message m) o = refl
+servers_gained s Kernel o = refl
+
+pub servers_lost : (s : Lists) (h : Holder) → (use_lost h s).servers ≡ s.servers
+servers_lost s (Temp t) = refl
+servers_lost s (InProcess p i) = refl
+servers_lost s (InThread t i) = refl
+servers_lost s (Own t) = refl
+servers_lost s (Link x) = refl
+servers_lost s (Message m) = refl
+servers_lost s Kernel = refl

@@ -92,7 +92,7 @@ performed_one script t m old new before between after was goes kept is out follo
     let S = state_of old in
     record {
       state = is.state;
-      kept = record { counts = still_agree t m old new kept.counts goes.refs is; tied = is.tied };
+      kept = record { counts = still_agree t m old new kept.counts goes.refs is; tied = is.tied; numbered = subst (λ (U : State). U.messages.accepted < 2147483648) (sym is.state) goes.numbered };
       told = ap (λ (l : List Effect). was ++ l) (sym (append-nil (told m S)));
       queues = λ qs ready.
           let left = taken_out m qs in

@@ -20,7 +20,7 @@ use Rattle.kernel_tables.proofs.Noting.{noted_row, noted_closed, noted_swept, no
 use Rattle.kernel_tables.proofs.Ranks.{rank-with_row, rank-gain, rank-lose, rank-closed, rank-other}
 
 -- the lists are of the same objects where uses change
-objects_gained : (s : Lists) (h : Holder) (o : ObjNo) → (use_gained h o s).objects ≡ s.objects
+pub objects_gained : (s : Lists) (h : Holder) (o : ObjNo) → (use_gained h o s).objects ≡ s.objects
 objects_gained s (Temp t) o = refl
 objects_gained s (InProcess p i) o = refl
 objects_gained s (InThread t i) o = refl
@@ -29,7 +29,7 @@ objects_gained s (Link x) o = refl
 objects_gained s (Message m) o = refl
 objects_gained s Kernel o = refl
 
-objects_lost : (s : Lists) (h : Holder) → (use_lost h s).objects ≡ s.objects
+pub objects_lost : (s : Lists) (h : Holder) → (use_lost h s).objects ≡ s.objects
 objects_lost s (Temp t) = refl
 objects_lost s (InProcess p i) = refl
 objects_lost s (InThread t i) = refl

@@ -3,6 +3,7 @@ pub mod StateOf
 pub mod Noted
 pub mod Referred
 pub mod LockMoved
+pub mod ServerMoved
 pub mod Moved
 pub mod ReadyQueues
 pub mod Performed

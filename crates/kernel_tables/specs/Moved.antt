@@ -5,13 +5,14 @@ use Rattle.sym_base.specs.declared.limits.TheConstants.Limits.{OBJECTS, BOOT_OBJ
 use Rattle.sym_base.specs.declared.kind.Kind.{Kind}
 use Rattle.sym_base.specs.declared.number.ObjNo.{ObjNo}
 use Rattle.entry_log.specs.declared.effect.Holder.{Holder}
-use Rattle.entry_log.specs.declared.effect.Holder.TheVariants.{InProcess, InThread, Temp}
+use Rattle.entry_log.specs.declared.effect.Holder.TheVariants.{InProcess, InThread, Temp, Own}
 use Rattle.state_rows.specs.declared.duty.Owed.TheVariants.{Close, Sweep}
 use Rattle.state_rows.specs.declared.handle_slot.HandleSlot.{HandleSlot}
 use Rattle.state_rows.specs.HandleSlots.{free_index}
-use Rattle.state_rows.specs.ObjectRows.{is_session, is_taken, is_dead_row}
+use Rattle.state_rows.specs.ObjectRows.{is_taken, is_dead_row}
+use Rattle.objects.specs.Rows.{kept_name}
 use Rattle.machine.specs.declared.moves.Move.{Move}
-use Rattle.machine.specs.declared.moves.Move.TheVariants.{Make, Gain, Lose, Find, Miss, GoOn, Write, Advance, Wait, Wake, SetPriority, Nano, Deferred, Requests, Locks, Logons, Death, Fill, Pay}
+use Rattle.machine.specs.declared.moves.Move.TheVariants.{Make, Gain, Lose, Find, Miss, GoOn, Keep, Write, WriteMessage, PutDown, Advance, Wait, Wake, SetPriority, Nano, Deferred, Requests, Locks, Logons, Death, Servers, Messages, Fill, Pay}
 use Rattle.machine.specs.declared.state.State.{State}
 use Rattle.state_rows.specs.declared.thread.ThreadRow.{ThreadRow}
 use Rattle.script_types.specs.declared.script.Script.{Script}
@@ -22,11 +23,13 @@ use Rattle.machine.specs.Choice.{priority_of}
 use Rattle.machine.specs.References.{count_of, RefsMove}
 use Rattle.machine.specs.Room.{MayAdvance}
 use Rattle.machine.specs.Rows.{object_of, thread_of, owing}
+use Rattle.machine.specs.ServerMoves.{servers_closed}
 use Rattle.machine.specs.Task.{is_ready}
 use Rattle.kernel_tables.specs.declared.tables.Tables.{Tables}
 use Rattle.kernel_tables.specs.Counts.{CountsMove}
 use Rattle.table_moves.specs.NanoMoved.{CanNano}
 use Rattle.kernel_tables.specs.LockMoved.{CanLock}
+use Rattle.kernel_tables.specs.ServerMoved.{CanServe, CanMessage}
 use Rattle.table_moves.specs.LogonMoved.{CanLogon}
 use Rattle.kernel_tables.specs.Noted.{TiedTables}
 use Rattle.kernel_tables.specs.Referred.{HasPlaces, IsReferred}
@@ -59,9 +62,14 @@ TakesLeast tables (InProcess p i) = IsLeast (slice_index_or tables p.0 []) i
 TakesLeast tables (InThread t i) = IsLeast (slice_index_or tables t.0 []) i
 TakesLeast tables _ = Unit {0}
 
--- an object can be made, a reference be added to an object that has some, and a thread go on
+-- an object whose reference a holder may give up: that of an owner has a number of its lists
+abbrev pub MayLose : Holder → ObjNo → Type 0
+MayLose (Own t) o = o.0 < OBJECTS
+MayLose _ o = Unit {0}
+
+-- an object can be made, whose name is empty where it is a session, a reference be added to an object that has some, and a thread go on
 abbrev pub CanMake : Kind → List ℕ → Holder → State → Type 0
-CanMake kind name h S = (is_session kind ≡ false) × (is_taken kind name S.objects ≡ false) × IsNew S × MayGain S h × TakesLeast S.handles h
+CanMake kind name h S = (kept_name kind name ≡ name) × (is_taken kind name S.objects ≡ false) × IsNew S × MayGain S h × TakesLeast S.handles h
 
 abbrev pub CanGain : Holder → ObjNo → State → Type 0
 CanGain h o S = IsReferred S o × MayGain S h × TakesLeast S.handles h
@@ -78,11 +86,14 @@ AreKnown S = (u : ObjNo) (row : ThreadRow) → thread_of S u ≡ Some row → (u
 abbrev pub CanMove : ObjNo → Move → State → Type 0
 CanMove t (Make kind name h) S = CanMake kind name h S
 CanMove t (Gain h o) S = CanGain h o S
-CanMove t (Lose h o) S = IsReferred S o × HasPlaces 2 S t
+CanMove t (Lose h o) S = IsReferred S o × HasPlaces 2 S t × MayLose h o
 CanMove t (Find u o) S = Unit {0}
 CanMove t (Miss o) S = Unit {0}
 CanMove t (GoOn u part) S = Unit {0}
+CanMove t (Keep u number) S = Unit {0}
 CanMove t (Write u x value) S = x < 8
+CanMove t (WriteMessage u y number) S = y < 8
+CanMove t (PutDown u) S = HasPlaces 1 S u
 CanMove t (Advance u) S = CanAdvance u S
 CanMove t (Wait u what) S = Unit {0}
 CanMove t (Wake u) S = Unit {0}
@@ -93,6 +104,8 @@ CanMove t (Requests m) S = CanRequest m S.requests
 CanMove t (Locks m) S = CanLock m S
 CanMove t (Logons m) S = CanLogon m (length S.owed) S.logons
 CanMove t (Death m) S = HasPlaces 1 S t
+CanMove t (Servers m) S = CanServe m S
+CanMove t (Messages m) S = CanMessage t m S
 CanMove t (Fill p at length byte) S = at + length ≤ 1024
 CanMove t (Pay (Close h o)) S = IsReferred S o × HasPlaces 2 S t
 CanMove t (Pay (Sweep o)) S = IsTrue (is_dead_row (object_of S o)) × (use_of_row (thread_of S o) ≡ None)
@@ -111,6 +124,7 @@ closed last t o link S = record S {
   objects = objects_closed last o S.objects;
   threads = threads_closed last o S.threads;
   owed = owing S.owed t (owed_by_close last o link);
+  servers = servers_closed last o S.servers;
 }
 
 -- it was the last where it was the only one
@@ -125,12 +139,13 @@ is_set (SetPriority v priority) u = u.0 == v.0
 is_set (Pay (Sweep o)) u = u.0 == o.0
 is_set _ u = false
 
--- A move in an action of thread t goes through: it can be made, the references move with what it tells, priorities stay
--- that it doesn't set, and so does the readiness of all threads that it doesn't touch.
+-- A move in an action of thread t goes through: it can be made, the references move with what it tells, the numbers of messages so far have
+-- 31 bits, priorities stay that it doesn't set, and so does the readiness of all threads that it doesn't touch.
 pub record MoveGoes (script : Script) (t : ObjNo) (m : Move) (S : State) : Type 0 where
   pub can : CanMove t m S
   pub refs : RefsMove S (moved t m S) (told m S)
   pub known : AreKnown (moved t m S)
+  pub numbered : (moved t m S).messages.accepted < 2147483648
   pub ranks : (u : ObjNo) → is_set m u ≡ false → priority_of (moved t m S) u ≡ priority_of S u
   pub apart : (u : ObjNo) → is_listed (touched t m) u ≡ false → is_ready script (moved t m S) u ≡ is_ready script S u
 

@@ -25,6 +25,9 @@ state_of tables = record {
   locks = tables.locks.rows;
   mutexes = tables.cleanup.mutexes;
   logons = tables.cleanup.logons;
+  servers = tables.servers;
+  owned = tables.cleanup.servers;
+  messages = tables.messages;
   memories = tables.procs.processes;
 }
 

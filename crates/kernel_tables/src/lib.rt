@@ -3,12 +3,13 @@
 
 mod actions;
 mod death_moves;
-mod dying;
 mod lock_moves;
 mod moves;
 mod reading;
 mod ready;
+mod server_moves;
 mod tables;
+mod work;
 
 pub use actions::perform;
 pub use ready::{chosen, leave_along, turn};

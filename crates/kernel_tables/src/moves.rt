@@ -3,7 +3,7 @@ ghost use Rattle.std.specs.Prelude.{◌≡◌, ◌+◌, ◌-◌, ◌<◌, ◌≤
 ghost use Rattle.std.specs.List.{slice_index_or};
 ghost use Rattle.state_rows.specs.HandleSlots.{free_index};
 ghost use Rattle.sym_base.specs.declared.number.ObjNo.{ObjNo};
-ghost use Rattle.machine.specs.Moves.{tables_gain, tables_lose, link_of_row};
+ghost use Rattle.machine.specs.Moves.{tables_gain, tables_lose, link_of, link_of_row};
 ghost use Rattle.machine.specs.Handles.{with_slot, taken_slot, freed_slot};
 ghost use Rattle.machine.specs.Rows.{thread_of};
 ghost use Rattle.cleanup.specs.Lists.{list_of};
@@ -17,6 +17,7 @@ ghost use Rattle.sym_base.specs.declared.limits.TheConstants.Limits.{BOOT_OBJECT
 
 use crate::death_moves::move_death;
 use crate::lock_moves::move_lock;
+use crate::server_moves::{move_message, move_server};
 use crate::tables::Tables;
 use entry_log::Holder;
 use handles::Handles;
@@ -27,8 +28,9 @@ use ref_words::{Closed, RefWords};
 use sym_base::{Items, Kind, Limits, Name, ObjNo, ThreadNo};
 use table_moves::{
     drop_first_owed, fill, move_logon, move_nano, move_request, note_end, note_gain, note_lost,
-    owe_close, owe_use, threads_advance, threads_closed, threads_find, threads_gain, threads_go_on,
-    threads_lose, threads_set_priority, threads_wait, threads_write, use_of,
+    owe_close, owe_use, owned_gain, owned_lose, server_of, servers_closed, servers_lose,
+    threads_advance, threads_closed, threads_find, threads_gain, threads_go_on, threads_keep,
+    threads_lose, threads_set_priority, threads_wait, threads_write, threads_write_message, use_of,
 };
 
 /// The least free place of a handle table takes an object.
@@ -85,6 +87,7 @@ fn make<W: RefWords + Drop>(tables: &mut Tables<W>, kind: Kind, name: Name, hold
     let object = tables.objects.make(kind, &name);
     gain_slot(&mut tables.handles, holder, object);
     note_gain(&mut tables.cleanup, holder, object);
+    owned_gain(&mut tables.cleanup, holder, object);
     threads_gain(&mut tables.procs, holder, object);
 }
 
@@ -115,6 +118,7 @@ fn close<W: RefWords + Drop>(
 {
     let last = tables.objects.close_ref(object) == Closed::Last;
     threads_closed(&mut tables.procs, last, object);
+    servers_closed(&mut tables.servers, last, object);
     owe_close(&mut tables.cleanup, thread, last, object, link);
 }
 
@@ -127,15 +131,27 @@ fn lose<W: RefWords + Drop>(tables: &mut Tables<W>, thread: ThreadNo, holder: Ho
     let link = link_of(tables, object);
     lose_slot(&mut tables.handles, holder);
     note_lost(&mut tables.cleanup, &tables.procs, holder);
+    owned_lose(&mut tables.cleanup, holder, object);
     threads_lose(&mut tables.procs, holder);
+    servers_lose(&mut tables.servers, holder);
     close(tables, thread, object, link);
 }
 
-/// An object's own reference: a thread's link to its process.
-fn link_of<W: RefWords + Drop>(tables: &Tables<W>, object: ObjNo) -> Option<ObjNo>
-    ensures { result ≡ link_of_row (thread_of (state_of tables.now) object) }
+/// A thread's link to its process.
+fn process_link(procs: &Procs, thread: ThreadNo) -> Option<ObjNo>
+    ensures { result ≡ link_of_row (slice_index_or procs.now.threads thread.0 None) }
 {
-    tables.procs.thread(object)?.link
+    procs.thread(thread)?.link
+}
+
+/// An object's own reference: a thread's link to its process, or a session's to its server.
+fn link_of<W: RefWords + Drop>(tables: &Tables<W>, object: ObjNo) -> Option<ObjNo>
+    ensures { result ≡ link_of (state_of tables.now) object }
+{
+    match process_link(&tables.procs, object) {
+        Some(process) => Some(process),
+        None => server_of(&tables.servers, object),
+    }
 }
 
 /// The thread goes on to its next instruction, and owes the close of what it used.
@@ -147,6 +163,18 @@ fn advance<W: RefWords + Drop>(tables: &mut Tables<W>, thread: ThreadNo)
     let uses = use_of(&tables.procs, thread);
     note_end(&mut tables.cleanup, &tables.procs, thread);
     threads_advance(&mut tables.procs, thread);
+    owe_use(&mut tables.cleanup, thread, uses);
+}
+
+/// A thread's temporary reference goes, and it owes the close of what it used.
+fn put_down<W: RefWords + Drop>(tables: &mut Tables<W>, thread: ThreadNo)
+    requires can { CanMove thread (Move.PutDown thread) (state_of tables.old) }
+    requires tied { TiedTables tables.old }
+    ensures { (t : ObjNo) → IsMoved t (Move.PutDown thread) tables.old tables.new }
+{
+    let uses = use_of(&tables.procs, thread);
+    note_end(&mut tables.cleanup, &tables.procs, thread);
+    threads_lose(&mut tables.procs, Holder::Temp(thread));
     owe_use(&mut tables.cleanup, thread, uses);
 }
 
@@ -227,9 +255,14 @@ pub fn make_move<W: RefWords + Drop>(tables: &mut Tables<W>, thread: ThreadNo, c
         Move::Find(other, object) => threads_find(&mut tables.procs, other, object),
         Move::Miss(_) => {}
         Move::GoOn(other, part) => threads_go_on(&mut tables.procs, other, part),
+        Move::Keep(other, number) => threads_keep(&mut tables.procs, other, number),
         Move::Write(other, register, value) => {
             threads_write(&mut tables.procs, other, register, value);
         }
+        Move::WriteMessage(other, register, number) => {
+            threads_write_message(&mut tables.procs, other, register, number);
+        }
+        Move::PutDown(other) => put_down(tables, other),
         Move::Advance(other) => advance(tables, other),
         Move::Wait(other, what) => threads_wait(&mut tables.procs, other, what),
         Move::Wake(other) => threads_wait(&mut tables.procs, other, Waiting::Nothing),
@@ -240,6 +273,8 @@ pub fn make_move<W: RefWords + Drop>(tables: &mut Tables<W>, thread: ThreadNo, c
         Move::Locks(change) => move_lock(tables, change),
         Move::Logons(change) => move_logon(&mut tables.cleanup, change),
         Move::Death(change) => move_death(tables, thread, &change),
+        Move::Servers(change) => move_server(tables, change),
+        Move::Messages(change) => move_message(tables, thread, change),
         Move::Fill(process, at, length, byte) => {
             fill(&mut tables.procs, process, at, length, byte);
         }

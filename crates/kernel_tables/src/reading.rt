@@ -5,15 +5,17 @@ ghost use Rattle.state_rows.specs.HandleSlots.{free_index, slot_at};
 ghost use Rattle.kernel_tables.specs.Noted.{AreKept};
 ghost use Rattle.kernel_tables.specs.StateOf.{slots_of, state_of};
 
-use crate::dying::first_held;
 use crate::tables::Tables;
+use crate::work::first_work;
 use handles::Handles;
-use machine::{NewHandle, Owed, ThreadRow};
+use machine::{Holding, NewHandle, Owed, ThreadRow};
 use readings::{Reads, burial_place, first_used, is_one_left};
 use ref_words::RefWords;
 use script_types::Script;
-use state_rows::{HandleSlot, Held, Item, ObjectRow, Owner, Request, is_local, look};
-use sym_base::{Items, Kind, Name, ObjNo, ThreadNo};
+use state_rows::{
+    HandleSlot, Item, Message, ObjectRow, Owner, Request, ServerRow, SessionRow, is_local, look,
+};
+use sym_base::{Items, Kind, MsgNo, Name, ObjNo, Slots, ThreadNo};
 use table_moves::first_owed;
 
 /// The places of the handle table of a process or a thread, none where there is no such table.
@@ -145,8 +147,44 @@ impl<W: RefWords + Drop> Reads for Tables<W> {
         self.requests.signal_count(thread)
     }
 
-    fn first_held(&self, thread: ThreadNo) -> Option<Held> {
-        first_held(self, thread)
+    fn first_mutex(&self, thread: ThreadNo) -> Option<ObjNo> {
+        self.cleanup.first_mutex(thread)
+    }
+
+    fn first_logon(&self, thread: ThreadNo) -> Option<(ThreadNo, u8)> {
+        self.cleanup.first_logon(thread)
+    }
+
+    fn first_work(&self, thread: ThreadNo) -> Option<Holding> {
+        first_work(self, thread)
+    }
+
+    fn server(&self, object: ObjNo) -> Option<ServerRow> {
+        self.servers.server_at(object)
+    }
+
+    fn session(&self, object: ObjNo) -> Option<SessionRow> {
+        self.servers.session_at(object)
+    }
+
+    fn message(&self, number: MsgNo) -> Option<Message> {
+        self.messages.message(number)
+    }
+
+    fn next_message(&self, server: ObjNo) -> Option<MsgNo> {
+        self.messages.next_untaken(server)
+    }
+
+    fn is_full(&self, session: ObjNo, slots: Slots) -> bool {
+        self.messages.is_full(session, slots)
+    }
+
+    fn accepted(&self) -> u32 {
+        self.messages.accepted()
+    }
+
+    fn reply_of(&self, thread: ThreadNo) -> i32 {
+        self.requests.sync_value(thread)
     }
 
     fn first_handle(&self, owner: ObjNo) -> Option<(u8, ObjNo)> {

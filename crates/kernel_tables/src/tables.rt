@@ -3,10 +3,12 @@
 use cleanup::Cleanup;
 use handles::Handles;
 use kern_sync::KernSync;
+use messages::Messages;
 use nano_sync::NanoSync;
 use procs::Procs;
 use ref_words::RefWords;
 use requests::Requests;
+use server_table::ServerTable;
 use sym_base::Items;
 use table_moves::{CallQueues, ObjectTable};
 
@@ -28,4 +30,8 @@ pub struct Tables<W: RefWords> {
     pub locks: KernSync,
     /// Requests of devices, statuses and request semaphores.
     pub requests: Requests,
+    /// Servers and sessions, and which sessions are linked to which server.
+    pub servers: ServerTable,
+    /// The outstanding messages.
+    pub messages: Messages,
 }

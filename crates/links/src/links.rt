@@ -1,5 +1,5 @@
 //! Lists of nodes, linked by index.
-ghost use Rattle.std.specs.Prelude.{◌≡◌, ◌<◌, ◌↔◌, [], IsTrue, IsNone, Some, IfOk, IfSome, length, ℕ, slice_get, slice_index, slice_index_or};
+ghost use Rattle.std.specs.Prelude.{◌≡◌, ◌<◌, ◌≤◌, ◌↔◌, [], IsTrue, IsNone, Some, IfOk, IfSome, length, ℕ, slice_get, slice_index, slice_index_or};
 ghost use Rattle.sym_base.specs.Greatest.{unless_greater, first_of_greatest};
 ghost use Rattle.links.specs.Linked.{Linked, empty_lists, list_at, IsLinked, pushed_back, pushed_front, popped_front, unlinked, ChangesItsListAlone, IsFollower, IsNoneAtLast, AreApart};
 
@@ -108,6 +108,7 @@ impl Links {
         ensures first { result ≡ slice_get (list_at self.now list) 0 }
         ensures none { IsNone result ↔ (list_at self.now list ≡ []) }
         ensures below { IfSome result (λ node. node < self.now.nodes) }
+        ensures few { length (list_at self.now list) ≤ self.now.nodes }
     {
         let node = self.neighbours.next(self.nodes + list);
         if node < self.nodes { Some(node) } else { None }

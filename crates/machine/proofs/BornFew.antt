@@ -10,7 +10,7 @@ use Rattle.script_types.specs.Shape.{IsShaped}
 use Rattle.machine.specs.declared.boot.Born.{Born}
 use Rattle.machine.specs.Boot.{born, born_kernel, born_queues, born_thread, born_threads, born_processes, is_of}
 
-length_queues : (q : ℕ) (ds : List QueueDecl) → length (born_queues q ds) ≡ length ds
+pub length_queues : (q : ℕ) (ds : List QueueDecl) → length (born_queues q ds) ≡ length ds
 length_queues q [] = refl
 length_queues q (d ∷ ds) = let r = length_queues (q + 1) ds in omega arith
 
@@ -26,7 +26,7 @@ from_group None process = 1
 from_group (Some j) None = 0
 from_group (Some j) (Some i) = if nat_le j i then 1 else 0
 
-count_from : Option ℕ → List ThreadDecl → ℕ
+pub count_from : Option ℕ → List ThreadDecl → ℕ
 count_from j [] = 0
 count_from j (d ∷ ds) = from_group j d.process + count_from j ds
 
@@ -49,11 +49,11 @@ threads_of_group j p k (d ∷ ds) =
     let one = one_of_step j d.process in
     let e = length_if (is_of j d.process) (born_thread p k d) (born_threads j p (k + 1) ds) in omega arith
 
-threads_of_process : (j p : ℕ) (ds : List ThreadDecl) → length (born_threads (Some j) p 0 ds) + count_from (Some (j + 1)) ds ≤ count_from (Some j) ds
+pub threads_of_process : (j p : ℕ) (ds : List ThreadDecl) → length (born_threads (Some j) p 0 ds) + count_from (Some (j + 1)) ds ≤ count_from (Some j) ds
 unfolding next
 threads_of_process j p ds = threads_of_group (Some j) p 0 ds
 
-kernel_threads : (ds : List ThreadDecl) → length (born_threads None 0 0 ds) + count_from (Some 0) ds ≤ count_from None ds
+pub kernel_threads : (ds : List ThreadDecl) → length (born_threads None 0 0 ds) + count_from (Some 0) ds ≤ count_from None ds
 unfolding next
 kernel_threads ds = threads_of_group None 0 0 ds
 
@@ -66,7 +66,7 @@ processes_length threads j p (d ∷ ds) =
     let e = length-append own (born_processes threads (j + 1) (p + 1 + length own) ds) in
     omega arith
 
-count_from_all : (ds : List ThreadDecl) → count_from None ds ≡ length ds
+pub count_from_all : (ds : List ThreadDecl) → count_from None ds ≡ length ds
 unfolding count_from from_group
 count_from_all [] = refl
 count_from_all (d ∷ ds) = let r = count_from_all ds in omega arith

@@ -1,3 +1,5 @@
 pub mod BornFew
 pub mod Capped
 pub mod DoomedHandles
+pub mod HandleNumbers
+pub mod Instructions

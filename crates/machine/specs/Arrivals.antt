@@ -7,8 +7,9 @@ use Rattle.script_types.specs.declared.script.Script.{Script}
 use Rattle.state_rows.specs.declared.duty.Owed.TheVariants.{Close, Sweep}
 use Rattle.machine.specs.declared.touches.TouchedThreads.{TouchedThreads}
 use Rattle.machine.specs.declared.moves.Move.{Move}
-use Rattle.machine.specs.declared.moves.Move.TheVariants.{GoOn, Advance, Wait, Wake, SetPriority, Nano, Deferred, Locks, Death, Lose, Pay}
+use Rattle.machine.specs.declared.moves.Move.TheVariants.{GoOn, Advance, Wait, Wake, PutDown, SetPriority, Nano, Deferred, Locks, Death, Messages, Lose, Pay}
 use Rattle.machine.specs.declared.lock_move.LockMove.TheVariants.{Unlock, Free}
+use Rattle.machine.specs.declared.message_move.MessageMove.TheVariants.{Finish}
 use Rattle.machine.specs.declared.state.State.{State}
 use Rattle.machine.specs.NanoMoves.{nano_thread}
 use Rattle.machine.specs.declared.death_move.DeathMove.TheVariants.{Bury}
@@ -32,6 +33,7 @@ touched t (GoOn u part) = u ∷ []
 touched t (Advance u) = u ∷ []
 touched t (Wait u what) = u ∷ []
 touched t (Wake u) = u ∷ []
+touched t (PutDown u) = u ∷ []
 touched t (SetPriority u priority) = u ∷ []
 touched t (Nano m) = nano_thread m ∷ []
 touched t (Deferred m) = deferred_threads m
@@ -39,6 +41,7 @@ touched t (Locks (Unlock o u unlocked)) = u ∷ []
 touched t (Locks (Free o u best)) = u ∷ []
 touched t (Death (Bury u)) = t ∷ u ∷ []
 touched t (Death m) = death_thread m ∷ []
+touched t (Messages (Finish m code)) = t ∷ []
 touched t (Pay (Close h o)) = t ∷ []
 touched t (Pay (Sweep o)) = t ∷ o ∷ []
 touched t _ = []

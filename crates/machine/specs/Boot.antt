@@ -17,6 +17,8 @@ use Rattle.state_rows.specs.DeclaredCalls.{calls_of}
 use Rattle.state_rows.specs.RequestChanges.{new_rows as request_rows}
 use Rattle.state_rows.specs.declared.deferred.DeferredRows.{DeferredRows}
 use Rattle.state_rows.specs.LockChanges.{new_rows as lock_rows}
+use Rattle.state_rows.specs.ServerChanges.{no_rows}
+use Rattle.state_rows.specs.MessageChanges.{no_messages}
 use Rattle.state_rows.specs.ThreadRows.{new_thread as added_thread}
 use Rattle.state_rows.specs.declared.thread.Role.{Role}
 use Rattle.state_rows.specs.declared.thread.Role.TheVariants.{Supervisor, Queue, Declared}
@@ -102,9 +104,10 @@ memory_of_row (Some row) = None
 abbrev pub memory_of : Born → Option (List ℕ)
 memory_of b = memory_of_row b.thread
 
--- each has an empty table and owes and holds nothing, no device has a request, and nobody waits for a lock
-unfoldable pub boot_of : ℕ → DeferredRows → List Born → State
-boot_of fast calls bs = record {
+-- each has an empty table and owes and holds nothing, no device has a request, nobody waits for a lock, and there is no server and no
+-- message
+unfoldable pub boot_of : ℕ → ℕ → DeferredRows → List Born → State
+boot_of pool fast calls bs = record {
   objects = map (λ b. Some b.object) bs;
   handles = map (λ _. replicate HANDLES fresh_slot) bs;
   threads = map (λ b. b.thread) bs;
@@ -116,8 +119,11 @@ boot_of fast calls bs = record {
   locks = lock_rows OBJECTS;
   mutexes = map (λ _. []) bs;
   logons = map (λ _. []) bs;
+  servers = no_rows OBJECTS;
+  owned = map (λ _. []) bs;
+  messages = no_messages OBJECTS pool;
   memories = map memory_of bs;
 }
 
 abbrev pub boot : Script → State
-boot script = boot_of script.fast (calls_of script) (born script)
+boot script = boot_of script.pool script.fast (calls_of script) (born script)

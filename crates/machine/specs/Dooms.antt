@@ -13,7 +13,8 @@ use Rattle.machine.specs.declared.decision.Decision.{Decision}
 use Rattle.machine.specs.declared.lock_move.LockMove.TheVariants.{Leave}
 use Rattle.machine.specs.declared.logon_move.LogonMove.TheVariants.{Drop}
 use Rattle.machine.specs.declared.moves.Move.{Move}
-use Rattle.machine.specs.declared.moves.Move.TheVariants.{Nano, Requests, Locks, Logons, Death}
+use Rattle.machine.specs.declared.moves.Move.TheVariants.{Nano, Requests, Locks, Logons, Death, Servers}
+use Rattle.machine.specs.declared.server_move.ServerMove.TheVariants.{CloseAll}
 use Rattle.machine.specs.declared.nano_move.NanoMove.TheVariants.{Release}
 use Rattle.machine.specs.declared.request_move.RequestMove.TheVariants.{DropAll}
 use Rattle.machine.specs.declared.state.State.{State}
@@ -27,13 +28,14 @@ abbrev pub killed : ℤ → Exit
 killed reason = plain_exit Kill reason
 
 -- The doom of a thread: it stands among no waiters, is suspended no more and wants no fast mutex, has no request at a
--- device, and made no logon; and from then on it has the exit.
+-- device, and made no logon; its servers are closing; and from then on it has the exit.
 abbrev pub doom : ObjNo → Exit → List Move
 doom u exit =
     Locks (Leave u)
     ∷ Nano (Release u)
     ∷ Requests (DropAll u)
     ∷ Logons (Drop u)
+    ∷ Servers (CloseAll u)
     ∷ Death (Doom u exit)
     ∷ []
 

@@ -4,12 +4,12 @@ use Rattle.sym_base.specs.declared.limits.TheConstants.Limits.{OBJECTS}
 use Rattle.sym_base.specs.declared.number.ObjNo.{ObjNo}
 use Rattle.sym_base.specs.declared.kind.Kind.{Kind}
 use Rattle.script_types.specs.declared.script.Script.{Script}
-use Rattle.state_rows.specs.ObjectRows.{is_taken, is_session}
+use Rattle.state_rows.specs.ObjectRows.{is_session, is_taken}
 use Rattle.entry_log.specs.declared.effect.Holder.{Holder}
-use Rattle.entry_log.specs.declared.effect.Holder.TheVariants.{InProcess, InThread, Temp}
+use Rattle.entry_log.specs.declared.effect.Holder.TheVariants.{InProcess, InThread, Temp, Own, Link}
 use Rattle.entry_log.specs.declared.step.Part.{Part}
 use Rattle.machine.specs.declared.moves.Move.{Move}
-use Rattle.machine.specs.declared.moves.Move.TheVariants.{Make, Gain, Lose, Find, Miss, GoOn, Write, Advance, Wait, Wake, SetPriority, Nano, Deferred, Requests, Locks, Logons, Death, Fill, Pay}
+use Rattle.machine.specs.declared.moves.Move.TheVariants.{Make, Gain, Lose, Find, Miss, GoOn, Keep, Write, WriteMessage, PutDown, Advance, Wait, Wake, SetPriority, Nano, Deferred, Requests, Locks, Logons, Death, Servers, Messages, Fill, Pay}
 use Rattle.machine.specs.declared.death_move.DeathMove.{DeathMove}
 use Rattle.machine.specs.declared.death_move.DeathMove.TheVariants.{Note, Doom, Clean, Bury}
 use Rattle.machine.specs.declared.nano_move.NanoMove.{NanoMove}
@@ -17,7 +17,7 @@ use Rattle.machine.specs.declared.nano_move.NanoMove.TheVariants.{Take, Give, Wa
 use Rattle.machine.specs.declared.deferred_move.DeferredMove.{DeferredMove}
 use Rattle.machine.specs.declared.deferred_move.DeferredMove.TheVariants.{AddImmediate, AddFromInterrupt, Add, TakeImmediate, Take as TakeCall}
 use Rattle.machine.specs.declared.request_move.RequestMove.{RequestMove}
-use Rattle.machine.specs.declared.request_move.RequestMove.TheVariants.{Begin, Complete, SetPending, Signal as SignalStatus, DropAll, TakeSignal}
+use Rattle.machine.specs.declared.request_move.RequestMove.TheVariants.{Begin, Complete, SetPending, Signal as SignalStatus, DropAll, TakeSignal, Reply}
 use Rattle.state_rows.specs.declared.deferred.DeferredRows.{DeferredRows}
 use Rattle.state_rows.specs.Deferred.{queue_of}
 use Rattle.state_rows.specs.declared.requests.RequestRows.{RequestRows}
@@ -34,7 +34,15 @@ use Rattle.machine.specs.Rows.{object_of, table_of, thread_of, owed_of}
 use Rattle.state_rows.specs.HandleSlots.{slot_at, free_index}
 use Rattle.machine.specs.References.{total}
 use Rattle.machine.specs.Holdings.{left_of, process_handles}
-use Rattle.machine.specs.Moves.{moved, tell}
+use Rattle.machine.specs.Moves.{next_object, moved, tell}
+use Rattle.machine.specs.FitsServers.{MaySend, IsUncalled, FitsServers, FitsMessages, HasSlot}
+use Rattle.machine.specs.Serving.{times_owned, times_sent, begun}
+use Rattle.machine.specs.ServerMoves.{owned_by}
+use Rattle.machine.specs.declared.server_move.ServerMove.{ServerMove}
+use Rattle.machine.specs.declared.server_move.ServerMove.TheVariants.{Join, End}
+use Rattle.machine.specs.declared.message_move.MessageMove.{MessageMove}
+use Rattle.machine.specs.declared.message_move.MessageMove.TheVariants.{Accept, Finish}
+use Rattle.state_rows.specs.ServerRows.{server_at, server_of, is_closing}
 use Rattle.machine.specs.Task.{instructions_of, is_returning, served_queue}
 use Rattle.machine.specs.HeldIn.{owed_by}
 use Rattle.machine.specs.WellFormed.{IsAlive, IsAwaited, IsLiveThread, AreRows, Awaits, IsOwnerOf, times_logged, is_before_use, part_of, weight, IsSpent, is_spent}
@@ -72,12 +80,21 @@ pub record UsesNothing (S : State) (t : ObjNo) : Type 0 where
   pub unspent : is_spent row.stage ≡ false
   pub paid : (o : ObjNo) → total (owed_by (Temp t) o) (owed_of S t) ≡ 0
 
+-- this holder may hold the first reference to an object that is made: a thread's ownership is of a server that was set up for it, and isn't closing
+pub record MayOwnNext (S : State) (t : ObjNo) : Type 0 where
+  pub owner : IsLiveThread S.threads t
+  pub server : server_at S.servers (next_object S) ≡ Some (record { owner = t; is_closing = false })
+
 -- this holder holds nothing, and may: a process only while a thread of it isn't cleaned
 abbrev pub IsFree : State → Holder → Type 0
 IsFree S (InProcess p i) = (thread_of S p ≡ None) × IsFreeSlot S p i × (0 < total (left_of p) S.threads)
 IsFree S (InThread t i) = (is_some (thread_of S t) ≡ true) × IsFreeSlot S t i × IsUnspent S t
 IsFree S (Temp t) = UsesNothing S t
 IsFree S _ = ⊥
+
+abbrev pub MayMakeWith : State → Holder → Type 0
+MayMakeWith S (Own t) = MayOwnNext S t
+MayMakeWith S h = IsFree S h
 
 -- a thread that uses an object
 pub record Uses (S : State) (t : ObjNo) (o : ObjNo) : Type 0 where
@@ -90,6 +107,8 @@ abbrev pub Holds : State → Holder → ObjNo → Type 0
 Holds S (InProcess p i) o = (thread_of S p ≡ None) × ((slot_at (table_of S p) i).object ≡ Some o)
 Holds S (InThread t i) o = (is_some (thread_of S t) ≡ true) × ((slot_at (table_of S t) i).object ≡ Some o)
 Holds S (Temp t) o = Uses S t o
+Holds S (Link s) o = server_of S.servers s ≡ Some o
+Holds S (Own t) o = 0 < times_owned S.owned t o
 Holds S _ o = ⊥
 
 -- a thread that isn't at its list's end
@@ -99,18 +118,22 @@ pub record IsAtInstruction (script : Script) (S : State) (t : ObjNo) : Type 0 wh
   pub next : row.next_instruction < length (instructions_of script row.role)
 
 -- a thread that isn't cleaned may go on to a step: what comes before the use of anything comes while it uses nothing, and a return
--- comes at an instruction and while it owes nothing
+-- comes at an instruction and while it owes nothing; and behind the last step of its instruction comes no other
 pub record MayGoOn (script : Script) (S : State) (t : ObjNo) (part : Option Part) : Type 0 where
   pub unused : (row : ThreadRow) → thread_of S t ≡ Some row → is_before_use part ≡ true → row.uses ≡ None
   pub paid : is_returning part ≡ true → owed_of S t ≡ []
   pub unspent : IsUnspent S t
   pub at : is_returning part ≡ true → IsAtInstruction script S t
+  pub ends : (row : ThreadRow) → thread_of S t ≡ Some row → begun row.part ≤ begun part
 
--- an object may be made of this kind and name: there is room, its name isn't taken, and it isn't a session, which has none
+-- an object may be made of this kind and name: there is room, and its name isn't taken
 pub record MayMake (S : State) (kind : Kind) (name : List ℕ) : Type 0 where
   pub room : length S.objects < OBJECTS
   pub new : is_taken kind name S.objects ≡ false
-  pub named : is_session kind ≡ false
+
+-- a session has no name
+abbrev pub HasName : Kind → List ℕ → Type 0
+HasName kind name = is_session kind ≡ true → name ≡ []
 
 -- a thread that may take a fast mutex: it is live, serves no queue, waits for nothing, and holds none
 pub record MayTake (S : State) (t : ObjNo) : Type 0 where
@@ -151,22 +174,24 @@ pub record MayBegin (r : RequestRows) (d : ℕ) (t : ObjNo) (s : ℕ) : Type 0 w
 -- status that neither a device nor a logon has.
 abbrev pub FitsRequests : RequestMove → RequestRows → List (List (ObjNo × ℕ)) → Type 0
 FitsRequests (Begin d t s) r logons = MayBegin r d t s
+FitsRequests (Reply t code) r logons = t.0 < length r.signals
 FitsRequests (Complete d t s code) r logons = (d < length r.devices) × (request_at r d ≡ Some (record { thread = t; status = s }))
 FitsRequests (SetPending t s) r logons = (t.0 < length r.signals) × (s < 16)
 FitsRequests (SignalStatus t s code) r logons = IsAwaited r t s × (times_logged logons t s ≡ 0)
 FitsRequests (DropAll t) r logons = t.0 < length r.signals
 FitsRequests (TakeSignal t) r logons = t.0 < length r.signals
 
--- a request begins, and a status is completed that no device has, only of a live thread
+-- a request begins, a status is completed that no device and no message has, and a message is replied to, only of a live thread
 abbrev pub IsOfLive : RequestMove → State → Type 0
 IsOfLive (Begin d t s) S = IsLiveThread S.threads t
-IsOfLive (SignalStatus t s code) S = IsLiveThread S.threads t
+IsOfLive (SignalStatus t s code) S = IsLiveThread S.threads t × (times_sent S.messages.outstanding t s ≡ 0)
+IsOfLive (Reply t code) S = IsLiveThread S.threads t
 IsOfLive _ S = Unit {0}
 
 -- A move in the rows of logons fits the state: what it names is there, and a logon is made by a live thread, on one that isn't cleaned, with a
 -- status that is awaited and that no other has.
 abbrev pub FitsLogons : LogonMove → State → Type 0
-FitsLogons (AddLogon t u s) S = (t.0 < length S.threads) × IsAwaited S.requests u s × (times_logged S.logons u s ≡ 0) × IsLiveThread S.threads u × IsUnspent S t
+FitsLogons (AddLogon t u s) S = (t.0 < length S.threads) × IsAwaited S.requests u s × (times_logged S.logons u s ≡ 0) × (times_sent S.messages.outstanding u s ≡ 0) × IsLiveThread S.threads u × IsUnspent S t
 FitsLogons (RemoveLogon t u s) S = (t.0 < length S.threads) × (u.0 < length S.threads) × (s < 16)
 FitsLogons (DropLogons u) S = u.0 < length S.threads
 
@@ -187,12 +212,13 @@ pub record MayJoin (S : State) (o t : ObjNo) : Type 0 where
   pub nowhere : WaitsNowhere S t
   pub paid : owed_of S t ≡ []
 
--- a thread that may lock an object, with the answer that the object's owner gives: it is live and owes nothing
+-- a thread that may lock an object, with the answer that the object's owner gives: it is live and owes nothing, and the object is no server
 pub record MayLock (S : State) (o t : ObjNo) (locked : Locked) : Type 0 where
   pub alive : IsAlive (object_of S o)
   pub thread : is_some (thread_of S t) ≡ true
   pub live : IsLive S t
   pub paid : owed_of S t ≡ []
+  pub other : server_at S.servers o ≡ None
   pub answer : locked ≡ lock_answer (owner_at S.locks o) t
   pub joins : locked ≡ Waits → MayJoin S o t
 
@@ -236,9 +262,16 @@ FitsLocks t (Leave u) S = is_some (thread_of S u) ≡ true
 FitsLocks t (WaitOn o u) S = MayWaitOn S o u
 FitsLocks t (Signal o signalled) S = MaySignal S o signalled
 
+-- a thread that owns no server, and one whose servers are all closing
+abbrev pub OwnsNothing : State → ObjNo → Type 0
+OwnsNothing S u = owned_by S.owned u ≡ []
+
+abbrev pub OwnsClosing : State → ObjNo → Type 0
+OwnsClosing S u = (o : ObjNo) → 0 < times_owned S.owned u o → is_closing S.servers o ≡ true
+
 -- a thread that may be cleaned: it has given up all, also what its process has where nobody else of that is left, and holds no fast mutex
 abbrev pub MayClean : State → ObjNo → Type 0
-MayClean S u = (held_by S.nano u ≡ None) × ((row : ThreadRow) → thread_of S u ≡ Some row → IsSpent S.handles u.0 row) × ((row : ThreadRow) → thread_of S u ≡ Some row → process_handles S u row.process ≡ [])
+MayClean S u = (held_by S.nano u ≡ None) × ((row : ThreadRow) → thread_of S u ≡ Some row → IsSpent S.handles u.0 row) × ((row : ThreadRow) → thread_of S u ≡ Some row → process_handles S u row.process ≡ []) × OwnsNothing S u
 
 -- a thread that awaits nothing: no device has a request of it, and it made no logon
 pub record AwaitsNothing (S : State) (u : ObjNo) : Type 0 where
@@ -260,22 +293,25 @@ pub record MayOweMore (S : State) (t : ObjNo) : Type 0 where
 -- fast mutex, and awaits nothing; who is cleaned is the doomed thread itself, and has given up all; who is buried is cleaned.
 abbrev pub FitsDeath : ObjNo → DeathMove → State → Type 0
 FitsDeath t (Note u exit) S = Unit {0}
-FitsDeath t (Doom u exit) S = IsAtStage S u Live × (held_by S.nano u ≡ None) × WaitsNowhere S u × AwaitsNothing S u
+FitsDeath t (Doom u exit) S = IsAtStage S u Live × (held_by S.nano u ≡ None) × WaitsNowhere S u × AwaitsNothing S u × OwnsClosing S u
 FitsDeath t (Clean u) S = IsAtStage S u Doomed × MayClean S u × (u ≡ t)
 FitsDeath t (Bury u) S = IsAtStage S u Cleaned × MayOweMore S t
 
 -- A move in an action of thread t fits the state. What is owed is paid by an action of its own.
 abbrev pub FitsMove : Script → ObjNo → Move → State → Type 0
-FitsMove script t (Make kind name h) S = MayMake S kind name × IsFree S h
+FitsMove script t (Make kind name h) S = MayMake S kind name × MayMakeWith S h × HasName kind name
 FitsMove script t (Gain h o) S = IsFree S h × IsAlive (object_of S o)
 FitsMove script t (Lose h o) S = (is_returning (part_of (thread_of S t)) ≡ false) × Holds S h o
 FitsMove script t (Find u o) S = o.0 < length S.objects
 FitsMove script t (Miss o) S = Unit {0}
-FitsMove script t (GoOn u part) S = MayGoOn script S u (Some part)
+FitsMove script t (GoOn u part) S = MayGoOn script S u (Some part) × MaySend (Some part) S
+FitsMove script t (Keep u number) S = Unit {0}
 FitsMove script t (Write u x value) S = x < 8
+FitsMove script t (WriteMessage u y number) S = y < 8
+FitsMove script t (PutDown u) S = (u ≡ t) × MayOweMore S u
 FitsMove script t (Advance u) S = (u ≡ t) × IsAtInstruction script S u
-FitsMove script t (Wait u what) S = (held_by S.nano u ≡ None) × WaitsNowhere S u × IsLive S u
-FitsMove script t (Wake u) S = WaitsNowhere S u
+FitsMove script t (Wait u what) S = (held_by S.nano u ≡ None) × WaitsNowhere S u × IsLive S u × IsUncalled S u
+FitsMove script t (Wake u) S = WaitsNowhere S u × IsUncalled S u
 FitsMove script t (SetPriority u priority) S = priority ≤ 63
 FitsMove script t (Nano m) S = (is_some (thread_of S (nano_thread m)) ≡ true) × FitsNano m S
 FitsMove script t (Deferred m) S = FitsDeferred m S.deferred
@@ -283,6 +319,8 @@ FitsMove script t (Requests m) S = FitsRequests m S.requests S.logons × IsOfLiv
 FitsMove script t (Locks m) S = FitsLocks t m S
 FitsMove script t (Logons m) S = FitsLogons m S
 FitsMove script t (Death m) S = FitsDeath t m S
+FitsMove script t (Servers m) S = FitsServers m S
+FitsMove script t (Messages m) S = FitsMessages m S × MayOweMore S t × HasSlot m S
 FitsMove script t (Fill p at length byte) S = at + length ≤ 1024
 FitsMove script t (Pay what) S = ⊥
 
@@ -291,7 +329,7 @@ abbrev pub EachFits : Script → ObjNo → List Move → State → Type 0
 EachFits script t [] S = Unit {0}
 EachFits script t (m ∷ ms) S = FitsMove script t m S × EachFits script t ms (moved t m S)
 
--- the most effects that a move tells; a cleaning counts as all that an entry may tell, since nothing else is told with it
+-- the most effects that a move tells
 abbrev pub nano_most : NanoMove → ℕ
 nano_most (Take t f) = 1
 nano_most (Give t f) = 1
@@ -300,6 +338,7 @@ nano_most _ = 0
 abbrev pub request_most : RequestMove → ℕ
 request_most (Complete d t s code) = 1
 request_most (SignalStatus t s code) = 1
+request_most (Reply t code) = 1
 request_most _ = 0
 
 abbrev pub lock_most : LockMove → ℕ
@@ -310,14 +349,28 @@ lock_most _ = 0
 
 abbrev pub death_most : DeathMove → ℕ
 death_most (Doom u exit) = 1
-death_most (Clean u) = 4
 death_most (Bury u) = 1
 death_most _ = 0
+
+abbrev pub server_most : ServerMove → ℕ
+server_most (Join s o slots t) = 1
+server_most (End o) = 1
+server_most _ = 0
+
+abbrev pub message_most : MessageMove → ℕ
+message_most (Accept slots row) = 3
+message_most (Finish m code) = 1
+message_most _ = 0
 
 abbrev pub most_told : Move → ℕ
 most_told (Lose h o) = 2
 most_told (Pay what) = 2
 most_told (GoOn u part) = 0
+most_told (Keep u number) = 0
+most_told (WriteMessage u y number) = 0
+most_told (PutDown u) = 0
+most_told (Servers m) = server_most m
+most_told (Messages m) = message_most m
 most_told (Write u x value) = 0
 most_told (Advance u) = 0
 most_told (Wait u what) = 0
@@ -333,8 +386,8 @@ most_told (Fill p at length byte) = 0
 most_told _ = 1
 
 -- the most that a move adds to the weight of what its thread owes: with a last reference the close of a link and a
--- sweep, with the end of an instruction the close of a temporary reference, with a mutex that is given up the close
--- of its ownership, and with a burial that of the kernel's reference
+-- sweep, with the end of a use the close of a temporary reference, with a mutex that is given up the close of its ownership, with a
+-- message that is finished the closes of its two references, and with a burial that of the kernel's reference
 abbrev pub lock_owes : LockMove → ℕ
 lock_owes (Unlock o t unlocked) = 4
 lock_owes (Free o t best) = 4
@@ -344,9 +397,15 @@ abbrev pub death_owes : DeathMove → ℕ
 death_owes (Bury u) = 4
 death_owes _ = 0
 
+abbrev pub message_owes : MessageMove → ℕ
+message_owes (Finish m code) = 8
+message_owes _ = 0
+
 abbrev pub most_owed : Move → ℕ
 most_owed (Lose h o) = 3
 most_owed (Advance u) = 4
+most_owed (PutDown u) = 4
+most_owed (Messages m) = message_owes m
 most_owed (Locks m) = lock_owes m
 most_owed (Death m) = death_owes m
 most_owed _ = 0

@@ -1,16 +1,20 @@
 -- Who holds what in a state. References aren't rows of their own: they are read off the other rows.
-use Rattle.std.specs.Prelude.{ℕ, ◌+◌, Bool, true, false, not, is_some, List, [], Option, Some, None}
+use Rattle.std.specs.Prelude.{ℕ, ◌+◌, if◌then◌else◌, Bool, true, false, not, is_some, List, [], Option, Some, None}
 use Rattle.std.specs.List.{slice_index_or}
 use Rattle.sym_base.specs.declared.number.ObjNo.{ObjNo}
 use Rattle.entry_log.specs.declared.effect.Holder.{Holder}
-use Rattle.entry_log.specs.declared.effect.Holder.TheVariants.{InProcess, InThread, Temp, Own, Link, Kernel}
+use Rattle.entry_log.specs.declared.effect.Holder.TheVariants.{InProcess, InThread, Temp, Own, Link, Message as OfMessage, Kernel}
 use Rattle.state_rows.specs.declared.duty.Owed.{Owed}
 use Rattle.state_rows.specs.declared.duty.Owed.TheVariants.{Close, Sweep}
 use Rattle.state_rows.specs.declared.handle_slot.HandleSlot.{HandleSlot}
 use Rattle.state_rows.specs.declared.thread.ThreadRow.{ThreadRow}
 use Rattle.machine.specs.declared.state.State.{State}
+use Rattle.sym_base.specs.declared.number.MsgNo.{MsgNo}
+use Rattle.state_rows.specs.declared.servers.SessionRow.{SessionRow}
+use Rattle.state_rows.specs.declared.messages.Message.{Message}
+use Rattle.state_rows.specs.MessageRows.{has_number}
 use Rattle.state_rows.specs.HandleSlots.{slot_at}
-use Rattle.machine.specs.References.{total, option_names, slot_names, mutex_names, kernel_holds}
+use Rattle.machine.specs.References.{total, option_names, slot_names, mutex_names, session_names, message_names, kernel_holds}
 use Rattle.machine.specs.Holding.{same_pair, link_names}
 
 -- a slot refers to the object there, unless its table is of the other kind than the holder's
@@ -39,6 +43,18 @@ abbrev pub owed_by : Holder → ObjNo → Owed → ℕ
 owed_by g x (Close h o) = same_pair h o g x
 owed_by g x (Sweep o) = 0
 
+-- the references of a message of this number
+abbrev pub message_holds : MsgNo → ObjNo → Message → ℕ
+message_holds m x message = if has_number m message then message_names x message else 0
+
+-- the references of servers, sessions and messages: a thread owns its servers, and a session has a link to its server
+abbrev pub servers_hold : List (List ObjNo) → List (Option SessionRow) → List Message → Holder → ObjNo → ℕ
+servers_hold owned sessions outstanding (Own t) x = total (mutex_names x) (slice_index_or owned t.0 [])
+servers_hold owned sessions outstanding (Link s) x = session_names x (slice_index_or sessions s.0 None)
+servers_hold owned sessions outstanding (OfMessage m) x = total (message_holds m x) outstanding
+servers_hold owned sessions outstanding _ x = 0
+
 -- how many references a holder has to an object: those of the rows, and those that its owed closes stand for
 abbrev pub held_in : State → Holder → ObjNo → ℕ
-held_in S g x = rows_hold S.handles S.threads S.mutexes g x + total (total (owed_by g x)) S.owed
+held_in S g x =
+    rows_hold S.handles S.threads S.mutexes g x + total (total (owed_by g x)) S.owed + servers_hold S.owned S.servers.sessions S.messages.outstanding g x

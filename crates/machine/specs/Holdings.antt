@@ -11,8 +11,12 @@ use Rattle.state_rows.specs.declared.thread.Stage.{Stage}
 use Rattle.state_rows.specs.declared.thread.Stage.TheVariants.{Live, Doomed, Cleaned, Buried}
 use Rattle.state_rows.specs.declared.thread.ThreadRow.{ThreadRow}
 use Rattle.machine.specs.declared.holding.Holding.{Holding}
-use Rattle.machine.specs.declared.holding.Holding.TheVariants.{Mutex, Use, Handle, Logon}
+use Rattle.machine.specs.declared.holding.Holding.TheVariants.{Mutex, Message as OfMessage, Link as OfLink, Server as OfServer, Use, Handle, Logon}
+use Rattle.state_rows.specs.declared.messages.Message.{Message}
+use Rattle.state_rows.specs.MessageRows.{messages_at}
+use Rattle.state_rows.specs.ServerRows.{linked_at, is_closing}
 use Rattle.machine.specs.declared.state.State.{State}
+use Rattle.machine.specs.ServerMoves.{owned_by}
 use Rattle.machine.specs.References.{total}
 use Rattle.machine.specs.Rows.{table_of, thread_of}
 use Rattle.machine.specs.LogonMoves.{logons_on}
@@ -21,6 +25,19 @@ use Rattle.machine.specs.Moves.{use_of}
 -- the mutexes that a thread holds, in order of taking
 abbrev pub held_mutexes : State → ObjNo → List Holding
 held_mutexes S t = map (λ o. Mutex o) (slice_index_or S.mutexes t.0 [])
+
+-- what an owner has of its closing servers, one server after the other in order of making: the messages in order of acceptance, the
+-- linked sessions in order of making, and then the server itself
+abbrev pub server_holdings : State → ObjNo → List Holding
+server_holdings S o =
+    map (λ (m : Message). OfMessage m.number) (messages_at S.messages o) ++ map (λ s. OfLink s o) (linked_at S.servers o) ++ OfServer o ∷ []
+
+abbrev pub closing_holdings : State → List ObjNo → List Holding
+closing_holdings S [] = []
+closing_holdings S (o ∷ os) = (if is_closing S.servers o then server_holdings S o else []) ++ closing_holdings S os
+
+abbrev pub held_servers : State → ObjNo → List Holding
+held_servers S t = closing_holdings S (owned_by S.owned t)
 
 -- what its present call uses, if it uses anything
 abbrev pub held_use : Option ObjNo → List Holding
@@ -75,6 +92,7 @@ use_held (Some o) = held.Temp o ∷ []
 abbrev pub held_of : State → ObjNo → List Held
 held_of S t =
     map (λ o. held.Mutex o) (slice_index_or S.mutexes t.0 [])
+    ++ map (λ o. held.Server o) (owned_by S.owned t)
     ++ use_held (use_of S t)
     ++ map (λ (logon : ObjNo × ℕ). held.Logon logon.0 logon.1) (logons_on S.logons t)
 
@@ -82,6 +100,7 @@ held_of S t =
 abbrev pub holdings : State → ObjNo → ThreadRow → List Holding
 holdings S t row =
     held_mutexes S t
+    ++ held_servers S t
     ++ held_use row.uses
     ++ held_handles (InThread t) 0 (table_of S t)
     ++ process_handles S t row.process

@@ -3,6 +3,7 @@ pub mod Bodies
 pub mod Boot
 pub mod Choice
 pub mod Close
+pub mod Closing
 pub mod Create
 pub mod CriticalSection
 pub mod DeathMoves
@@ -16,11 +17,12 @@ pub mod FastSemaphore
 pub mod FinalRows
 pub mod Find
 pub mod Fits
+pub mod FitsServers
 pub mod Handles
 pub mod HeldIn
-pub mod Holdings
 pub mod History
 pub mod Holding
+pub mod Holdings
 pub mod Interrupts
 pub mod LockMoves
 pub mod LogonCalls
@@ -28,6 +30,8 @@ pub mod LogonMoves
 pub mod Look
 pub mod Memory
 pub mod MemoryCalls
+pub mod MessageMoves
+pub mod Messaging
 pub mod Moves
 pub mod MutexCalls
 pub mod NanoMoves
@@ -41,6 +45,10 @@ pub mod Room
 pub mod Rows
 pub mod Run
 pub mod SemaphoreCalls
+pub mod ServerCalls
+pub mod ServerMoves
+pub mod Serving
+pub mod SessionCalls
 pub mod Slots
 pub mod Steps
 pub mod Task

@@ -14,7 +14,7 @@ use Rattle.state_rows.specs.declared.duty.Owed.TheVariants.{Close, Sweep}
 use Rattle.state_rows.specs.declared.object.ObjectRow.{ObjectRow}
 use Rattle.state_rows.specs.ObjectRows.{dead_row}
 use Rattle.machine.specs.declared.moves.Move.{Move}
-use Rattle.machine.specs.declared.moves.Move.TheVariants.{Make, Gain, Lose, Find, Miss, GoOn, Write, Advance, Wait, Wake, SetPriority, Nano, Deferred, Requests, Locks, Logons, Death, Fill, Pay}
+use Rattle.machine.specs.declared.moves.Move.TheVariants.{Make, Gain, Lose, Find, Miss, GoOn, Write, Advance, Wait, Wake, SetPriority, Nano, Keep, WriteMessage, PutDown, Deferred, Requests, Locks, Logons, Death, Servers, Messages, Fill, Pay}
 use Rattle.state_rows.specs.declared.thread.Waiting.{Waiting}
 use Rattle.state_rows.specs.declared.thread.Waiting.TheVariants as waiting
 use Rattle.state_rows.specs.declared.handle_slot.HandleSlot.{HandleSlot}
@@ -30,6 +30,9 @@ use Rattle.machine.specs.LogonMoves.{logons_moved}
 use Rattle.machine.specs.DeathMoves.{death_row, death_told, death_thread, death_owed}
 use Rattle.machine.specs.LockMoves.{lock_moved, mutexes_moved, owed_moved, lock_told}
 use Rattle.machine.specs.Memory.{filled, with_memory}
+use Rattle.machine.specs.ServerMoves.{servers_moved, server_told, owned_gain, owned_lose, servers_lose, servers_closed}
+use Rattle.machine.specs.MessageMoves.{messages_moved, message_told, message_owed}
+use Rattle.state_rows.specs.ServerRows.{server_of}
 
 -- the number that the next object gets
 abbrev pub next_object : State → ObjNo
@@ -39,8 +42,8 @@ next_object S = record { 0 = length S.objects }
 abbrev pub new_object : Kind → List ℕ → ObjectRow
 new_object kind name = record { kind = kind; name = name; dead = false }
 
--- a thread's row with another use, without its link, with what it found, with another next step, with a value in a
--- register, at its next instruction, with what it waits for, and with another priority
+-- a thread's row with another use, without its link, with what it found, with a number that it found, with another next step, with a
+-- value in a register, with the number of a message in one, at its next instruction, with what it waits for, and with another priority
 abbrev pub with_use : Option ObjNo → ThreadRow → ThreadRow
 with_use uses row = record row { uses = uses }
 
@@ -50,11 +53,17 @@ unlinked row = record row { link = None }
 abbrev pub with_found : ObjNo → ThreadRow → ThreadRow
 with_found o row = record row { found = o.0 }
 
+abbrev pub with_kept : ℕ → ThreadRow → ThreadRow
+with_kept number row = record row { found = number }
+
 abbrev pub with_part : Part → ThreadRow → ThreadRow
 with_part part row = record row { part = Some part }
 
 abbrev pub with_register : ℕ → ℕ → ThreadRow → ThreadRow
 with_register x value row = record row { registers = slice_set row.registers x value }
+
+abbrev pub with_message : ℕ → ℕ → ThreadRow → ThreadRow
+with_message y number row = record row { messages = slice_set row.messages y number }
 
 abbrev pub advanced : ThreadRow → ThreadRow
 advanced row = record row { next_instruction = row.next_instruction + 1; part = None; found = 0; uses = None }
@@ -85,13 +94,17 @@ abbrev pub threads_lose : Holder → List (Option ThreadRow) → List (Option Th
 threads_lose (Temp t) threads = with_row threads t (with_use None)
 threads_lose _ threads = threads
 
--- an object's own reference: a thread's link to its process
+-- an object's own reference: a thread's link to its process, or a session's to its server
 abbrev pub link_of_row : Option ThreadRow → Option ObjNo
 link_of_row None = None
 link_of_row (Some row) = row.link
 
+abbrev pub link_or : Option ObjNo → Option ObjNo → Option ObjNo
+link_or None other = other
+link_or (Some p) other = Some p
+
 abbrev pub link_of : State → ObjNo → Option ObjNo
-link_of S o = link_of_row (thread_of S o)
+link_of S o = link_or (link_of_row (thread_of S o)) (server_of S.servers o)
 
 -- with its last reference an object dies, and its own link is taken off its row
 abbrev pub objects_closed : Bool → ObjNo → List (Option ObjectRow) → List (Option ObjectRow)
@@ -131,6 +144,7 @@ moved t (Make kind name h) S = record S {
   objects = S.objects ++ Some (new_object kind name) ∷ [];
   handles = tables_gain h (next_object S) S.handles;
   threads = threads_gain h (next_object S) S.threads;
+  owned = owned_gain h (next_object S) S.owned;
 }
 moved t (Gain h o) S = record S {
   handles = tables_gain h o S.handles;
@@ -141,11 +155,19 @@ moved t (Lose h o) S = record S {
   handles = tables_lose h S.handles;
   threads = threads_closed (is_last S o) o (threads_lose h S.threads);
   owed = owing S.owed t (owed_by_close (is_last S o) o (link_of S o));
+  servers = servers_closed (is_last S o) o (servers_lose h S.servers);
+  owned = owned_lose h o S.owned;
 }
 moved t (Find u o) S = record S { threads = with_row S.threads u (with_found o) }
 moved t (Miss o) S = S
 moved t (GoOn u part) S = record S { threads = with_row S.threads u (with_part part) }
+moved t (Keep u number) S = record S { threads = with_row S.threads u (with_kept number) }
 moved t (Write u x value) S = record S { threads = with_row S.threads u (with_register x value) }
+moved t (WriteMessage u y number) S = record S { threads = with_row S.threads u (with_message y number) }
+moved t (PutDown u) S = record S {
+  threads = with_row S.threads u (with_use None);
+  owed = owing S.owed u (owed_use u (use_of S u));
+}
 moved t (Advance u) S = record S {
   threads = with_row S.threads u advanced;
   owed = owing S.owed u (owed_use u (use_of S u));
@@ -163,11 +185,14 @@ moved t (Locks m) S = record S {
 }
 moved t (Logons m) S = record S { logons = logons_moved m S.logons }
 moved t (Death m) S = record S { threads = with_row S.threads (death_thread m) (death_row m); owed = death_owed t m S.owed }
+moved t (Servers m) S = record S { servers = servers_moved m S.owned S.servers }
+moved t (Messages m) S = record S { messages = messages_moved m S.messages; owed = message_owed t m S.messages S.owed }
 moved t (Fill p at length byte) S = record S { memories = with_memory S.memories p (filled at length byte) }
 moved t (Pay (Close h o)) S = record S {
   objects = objects_closed (is_last S o) o S.objects;
   threads = threads_closed (is_last S o) o S.threads;
   owed = owing (without_first S.owed t) t (owed_by_close (is_last S o) o (link_of S o));
+  servers = servers_closed (is_last S o) o S.servers;
 }
 moved t (Pay (Sweep o)) S = record S {
   objects = slice_set S.objects o.0 None;
@@ -183,7 +208,10 @@ told (Lose h o) S = closed_effects (is_last S o) h o
 told (Find t o) S = Seek o ∷ []
 told (Miss o) S = Missed o ∷ []
 told (GoOn t part) S = []
+told (Keep t number) S = []
 told (Write t x value) S = []
+told (WriteMessage t y number) S = []
+told (PutDown t) S = []
 told (Advance t) S = []
 told (Wait t what) S = []
 told (Wake t) S = []
@@ -194,6 +222,8 @@ told (Requests m) S = request_told m
 told (Locks m) S = lock_told m
 told (Logons m) S = []
 told (Death m) S = death_told m
+told (Servers m) S = server_told m
+told (Messages m) S = message_told m S.messages
 told (Fill p at length byte) S = []
 told (Pay (Close h o)) S = closed_effects (is_last S o) h o
 told (Pay (Sweep o)) S = Swept o ∷ []

@@ -11,8 +11,10 @@ use Rattle.state_rows.specs.declared.locks.Locked.{Locked}
 use Rattle.state_rows.specs.declared.locks.Locked.TheVariants.{Waits}
 use Rattle.state_rows.specs.declared.locks.Unlocked.{Unlocked}
 use Rattle.state_rows.specs.declared.locks.Unlocked.TheVariants.{Passed, NotOwner}
+use Rattle.state_rows.specs.declared.servers.ServerRow.{ServerRow}
 use Rattle.state_rows.specs.declared.thread.ThreadRow.{ThreadRow}
 use Rattle.state_rows.specs.Locks.{owner_at, best_waiter}
+use Rattle.state_rows.specs.ServerRows.{server_at}
 use Rattle.state_rows.specs.LockChanges.{lock_answer, unlock_answer}
 use Rattle.machine.specs.declared.decision.Decision.{Decision}
 use Rattle.machine.specs.declared.lock_move.LockMove.TheVariants.{Lock, Unlock}
@@ -27,10 +29,15 @@ abbrev pub lock_by : ObjNo → ObjNo → Locked → Decision
 lock_by t o Waits = wait_at t (Of word.Lock Do) o (Lock o t Waits)
 lock_by t o locked = answer t (Of word.Lock Do) (Locks (Lock o t locked) ∷ []) (pos 0)
 
+-- a server isn't locked
+abbrev pub unless_server : Option ServerRow → Decision → Decision
+unless_server None other = other
+unless_server (Some server) other = nothing
+
 -- the second step. The look refuses a thread that holds a fast mutex, and so does this: nobody waits with one
 abbrev pub lock_do : State → ObjNo → Option ObjNo → Decision
 lock_do S t None = nothing
-lock_do S t (Some o) = unless_holding S t (Of word.Lock Do) (lock_by t o (lock_answer (owner_at S.locks o) t))
+lock_do S t (Some o) = unless_holding S t (Of word.Lock Do) (unless_server (server_at S.servers o) (lock_by t o (lock_answer (owner_at S.locks o) t)))
 
 -- first the look, then the lock, and after a wait the answer: the mutex is the thread's already
 abbrev pub lock_step : State → ObjNo → ThreadRow → ℕ → Option Part → Decision

@@ -1,8 +1,8 @@
 -- How a doomed thread gives up what it has, one thing an action, and is cleaned and buried at last.
-use Rattle.std.specs.Prelude.{ℕ, ◌+◌, ◌%◌, ◌==◌, ◌&&◌, Bool, true, false, length, option_map, position, List, [], ◌∷◌, ◌++◌, Option, Some, None}
+use Rattle.std.specs.Prelude.{ℕ, ◌+◌, ◌%◌, ◌==◌, ◌&&◌, Bool, true, false, length, option_map, position, List, [], ◌∷◌, Option, Some, None}
 use Rattle.sym_base.specs.declared.number.ObjNo.{ObjNo}
 use Rattle.script_types.specs.declared.script.Script.{Script}
-use Rattle.entry_log.specs.declared.effect.Holder.TheVariants.{Temp}
+use Rattle.entry_log.specs.declared.effect.Holder.TheVariants.{Temp, Link, Own}
 use Rattle.entry_log.specs.declared.step.Step.TheVariants as step
 use Rattle.state_rows.specs.Deferred.{queue_of}
 use Rattle.state_rows.specs.Locks.{best_waiter}
@@ -15,13 +15,21 @@ use Rattle.machine.specs.declared.death_move.DeathMove.TheVariants as death
 use Rattle.machine.specs.declared.decision.Decision.{Decision}
 use Rattle.machine.specs.declared.deferred_move.DeferredMove.TheVariants.{Take}
 use Rattle.machine.specs.declared.holding.Holding.{Holding}
-use Rattle.machine.specs.declared.holding.Holding.TheVariants.{Mutex, Use, Handle, Logon}
+use Rattle.machine.specs.declared.holding.Holding.TheVariants.{Mutex, Message as OfMessage, Link as OfLink, Server as OfServer, Use, Handle, Logon}
 use Rattle.machine.specs.declared.lock_move.LockMove.TheVariants.{Free}
 use Rattle.machine.specs.declared.logon_move.LogonMove.TheVariants.{Remove}
 use Rattle.machine.specs.declared.moves.Move.{Move}
-use Rattle.machine.specs.declared.moves.Move.TheVariants.{Lose, Wake, Requests, Locks, Logons, Death, Deferred}
+use Rattle.machine.specs.declared.moves.Move.TheVariants.{Lose, Wake, Requests, Locks, Logons, Death, Deferred, Servers}
 use Rattle.machine.specs.declared.request_move.RequestMove.TheVariants.{Signal}
 use Rattle.machine.specs.declared.state.State.{State}
+use Rattle.sym_base.specs.ErrorCode.{error_code}
+use Rattle.sym_base.specs.declared.error.Error.TheVariants.{ServerTerminated}
+use Rattle.state_rows.specs.declared.messages.Message.{Message}
+use Rattle.state_rows.specs.MessageRows.{message_of}
+use Rattle.machine.specs.declared.server_move.ServerMove.TheVariants.{End}
+use Rattle.machine.specs.Closing.{close_moves}
+use Rattle.machine.specs.Decide.{nothing}
+use Rattle.machine.specs.Messaging.{finish}
 use Rattle.machine.specs.Rows.{thread_of}
 use Rattle.machine.specs.Choice.{priority_of}
 use Rattle.machine.specs.Bodies.{add_call, end_wait}
@@ -44,11 +52,26 @@ tell_logon S t row u s = record {
   answer = None;
 }
 
+-- a message is finished, since its server is closing
+abbrev pub finish_message : State → Option Message → Decision
+finish_message S None = nothing
+finish_message S (Some message) = record { step = step.Finish; moves = finish S message (error_code ServerTerminated); answer = None }
+
+-- the link of a session goes, and at last the server, whose end is told
+abbrev pub detach : ObjNo → ObjNo → Decision
+detach s o = record { step = step.Detach; moves = Lose (Link s) o ∷ []; answer = None }
+
+abbrev pub stop : ObjNo → ObjNo → Decision
+stop t o = record { step = step.Stop; moves = Servers (End o) ∷ Lose (Own t) o ∷ []; answer = None }
+
 -- one thing goes
 abbrev pub give_up : State → ObjNo → ThreadRow → Holding → Decision
 give_up S t row (Mutex o) = free_mutex t o (best_waiter (priority_of S) S.locks o)
+give_up S t row (OfMessage m) = finish_message S (message_of S.messages m)
+give_up S t row (OfLink s o) = detach s o
+give_up S t row (OfServer o) = stop t o
 give_up S t row (Use o) = record { step = step.Drop; moves = Lose (Temp t) o ∷ []; answer = None }
-give_up S t row (Handle h o) = record { step = step.Shut; moves = Lose h o ∷ []; answer = None }
+give_up S t row (Handle h o) = record { step = step.Shut; moves = close_moves S t h o; answer = None }
 give_up S t row (Logon u s) = tell_logon S t row u s
 
 -- the call that buries a thread: the supervisor's is number 64, and the others follow in order of the threads' numbers; a

@@ -9,6 +9,8 @@ use Rattle.state_rows.specs.declared.handle_slot.HandleSlot.{HandleSlot}
 use Rattle.state_rows.specs.declared.thread.Stage.{Stage}
 use Rattle.state_rows.specs.declared.thread.Stage.TheVariants.{Buried}
 use Rattle.state_rows.specs.declared.thread.ThreadRow.{ThreadRow}
+use Rattle.state_rows.specs.declared.servers.SessionRow.{SessionRow}
+use Rattle.state_rows.specs.declared.messages.Message.{Message}
 use Rattle.machine.specs.declared.state.State.{State}
 use Rattle.machine.specs.Rows.{thread_of}
 
@@ -35,9 +37,18 @@ abbrev pub thread_names : ObjNo → Option ThreadRow → ℕ
 thread_names o None = 0
 thread_names o (Some row) = option_names o row.link + option_names o row.uses
 
--- a thread owns the mutexes that it holds
+-- a thread owns the mutexes that it holds, and the servers that it made
 abbrev pub mutex_names : ObjNo → ObjNo → ℕ
 mutex_names o x = same x o
+
+-- a session refers to its server, by its link
+abbrev pub session_names : ObjNo → Option SessionRow → ℕ
+session_names o None = 0
+session_names o (Some row) = option_names o row.server
+
+-- a message refers to its session and its client
+abbrev pub message_names : ObjNo → Message → ℕ
+message_names o message = same message.row.session o + same message.row.client o
 
 -- a close that is owed stands for a reference that isn't given up yet
 abbrev pub owed_names : ObjNo → Owed → ℕ
@@ -56,10 +67,13 @@ kernel_holds (Some row) = stage_holds row.stage
 abbrev pub kernel_names : State → ObjNo → ℕ
 kernel_names S o = kernel_holds (thread_of S o)
 
--- the count of an object: the number of handles, links, temporary references, ownerships, owed closes and of
+-- the count of an object: the number of handles, links, temporary references, ownerships, messages' references, owed closes and of
 -- the kernel's own references that name it
+abbrev pub server_names : State → ObjNo → ℕ
+server_names S o = total (total (mutex_names o)) S.owned + total (session_names o) S.servers.sessions + total (message_names o) S.messages.outstanding
+
 abbrev pub count_of : State → ObjNo → ℕ
-count_of S o = total (total (slot_names o)) S.handles + total (thread_names o) S.threads + kernel_names S o + total (total (owed_names o)) S.owed + total (total (mutex_names o)) S.mutexes
+count_of S o = total (total (slot_names o)) S.handles + total (thread_names o) S.threads + kernel_names S o + total (total (owed_names o)) S.owed + total (total (mutex_names o)) S.mutexes + server_names S o
 
 -- whether an object has one reference
 abbrev pub is_last : State → ObjNo → Bool

@@ -25,3 +25,4 @@ pub record HasRoom (n : ℕ) (S : State) : Type 0 where
   pub threads : length S.threads ≤ 65535
   pub instructions : MayAdvance n S.threads
   pub tables : AreSmallTables S.handles
+  pub messages : S.messages.accepted + n ≤ 2147483647

@@ -34,6 +34,8 @@ use Rattle.machine.specs.Bodies.{run_body}
 use Rattle.machine.specs.Dooms.{end, plain_exit}
 use Rattle.machine.specs.ExitCalls.{exit_step, exittype_step, exit_do}
 use Rattle.machine.specs.LogonCalls.{logon_step}
+use Rattle.machine.specs.ServerCalls.{server_do, receive_step, complete_do, function_do}
+use Rattle.machine.specs.SessionCalls.{connect_step, connect_return, send_step, call_step}
 use Rattle.machine.specs.Reaping.{give_up, clean, bury}
 use Rattle.sym_base.specs.declared.kind.ExitKind.TheVariants as kind
 use Rattle.sym_base.specs.declared.word.Word.TheVariants as word
@@ -75,11 +77,19 @@ step_of script S t row (instr.Panic x category reason) p = exit_step S t row wor
 step_of script S t row (instr.ExitType x) p = exittype_step S t row x p
 step_of script S t row (instr.Logon x s) p = logon_step S t row x s p
 step_of script S t row (instr.Exit reason) p = exit_do S t reason
+step_of script S t row (instr.Server name x) p = server_do S t name x
+step_of script S t row (instr.Connect name slots x) p = connect_step S t row name slots x p
+step_of script S t row (instr.Send x function y args) p = send_step S t row x function y args p
+step_of script S t row (instr.Call x function args) p = call_step S t row x function args p
+step_of script S t row (instr.Receive x y) p = receive_step S t row x y p
+step_of script S t row (instr.Complete y code) p = complete_do S t row y code
+step_of script S t row (instr.Function y) p = function_do S t row y
 step_of script S t row _ p = nothing
 
 -- the return of an instruction that found an object
 abbrev pub return_of : State → ObjNo → ThreadRow → Instr → Decision
 return_of S t row (instr.Open kind name x) = open_return S t row
+return_of S t row (instr.Connect name slots x) = connect_return S t row
 return_of S t row _ = nothing
 
 -- what is owed is paid by one action each

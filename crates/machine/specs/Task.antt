@@ -21,7 +21,7 @@ use Rattle.state_rows.specs.declared.thread.Waiting.TheVariants.{Nothing}
 use Rattle.state_rows.specs.declared.thread.ThreadRow.{ThreadRow}
 use Rattle.machine.specs.declared.state.State.{State}
 use Rattle.machine.specs.declared.holding.Holding.{Holding}
-use Rattle.machine.specs.Holdings.{holdings}
+use Rattle.machine.specs.Holdings.{holdings, held_servers}
 use Rattle.machine.specs.Rows.{thread_of, first_owed}
 
 -- the declaration of a thread: the supervisor and the thread of a queue have none
@@ -70,7 +70,12 @@ next_call r role = option_and_then (next_of r) (served_queue role)
 abbrev pub call_task : ℕ → Task
 call_task dfc = if nat_lt dfc 64 then RunDfc dfc else Bury dfc
 
--- a thread that serves a queue runs the next call of it, and has no instructions
+-- the work of closing servers comes before what a thread does else
+abbrev pub work_or : List Holding → Task → Task
+work_or [] own = own
+work_or (what ∷ rest) own = GiveUp what
+
+-- a thread that serves a queue runs the next call of it, and has no instructions and no servers
 abbrev pub live_task : Role → Option ℕ → Task → Option Task
 live_task (Declared k) call own = Some own
 live_task role call own = option_map call_task call
@@ -103,7 +108,7 @@ task_of_row script S t (Some row) =
     return_or (is_returning row.part) (instruction script row)
     (pay_or (first_owed S t)
     (by_stage row.stage (holdings S t row)
-    (live_task row.role (next_call S.deferred row.role) (step_or_end (is_protected S.nano t) (instruction script row)))))
+    (live_task row.role (next_call S.deferred row.role) (work_or (held_servers S t) (step_or_end (is_protected S.nano t) (instruction script row))))))
 
 -- what a thread does next, None where there is nothing
 abbrev pub task_of : Script → State → ObjNo → Option Task

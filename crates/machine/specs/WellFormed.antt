@@ -5,7 +5,7 @@ use Rattle.sym_base.specs.declared.limits.TheConstants.Limits.{OBJECTS, BOOT_OBJ
 use Rattle.sym_base.specs.declared.number.ObjNo.{ObjNo}
 use Rattle.script_types.specs.declared.script.Script.{Script}
 use Rattle.entry_log.specs.declared.effect.Holder.{Holder}
-use Rattle.entry_log.specs.declared.effect.Holder.TheVariants.{Temp, Own, Link, Kernel}
+use Rattle.entry_log.specs.declared.effect.Holder.TheVariants.{Temp, Own, Link, Kernel, Message as OfMessage}
 use Rattle.entry_log.specs.declared.step.Part.{Part}
 use Rattle.entry_log.specs.declared.step.Part.TheVariants as part
 use Rattle.state_rows.specs.declared.duty.Owed.{Owed}
@@ -27,7 +27,9 @@ use Rattle.state_rows.specs.declared.thread.Stage.TheVariants.{Live, Cleaned, Bu
 use Rattle.state_rows.specs.declared.thread.Waiting.TheVariants as waiting
 use Rattle.state_rows.specs.declared.handle_slot.HandleSlot.{HandleSlot}
 use Rattle.state_rows.specs.declared.thread.ThreadRow.{ThreadRow}
+use Rattle.state_rows.specs.declared.servers.ServerRows.{ServerRows}
 use Rattle.machine.specs.declared.state.State.{State}
+use Rattle.machine.specs.Serving.{IsUnlinked, MayBeLinked, AreServers, AreMessages}
 use Rattle.machine.specs.Rows.{object_of}
 use Rattle.state_rows.specs.HandleSlots.{IsTable, slot_at}
 use Rattle.state_rows.specs.declared.locks.Owner.{Owner}
@@ -96,24 +98,25 @@ abbrev pub part_of : Option ThreadRow → Option Part
 part_of None = None
 part_of (Some row) = row.part
 
--- whose closes a thread may owe: its own temporary reference's and ownership's, the link's of an object that is gone, to what has no
--- link itself, and the kernel's
-abbrev pub MayOwe : List (Option ThreadRow) → ℕ → Holder → ObjNo → Type 0
-MayOwe threads k (Temp u) o = u.0 ≡ k
-MayOwe threads k (Own u) o = u.0 ≡ k
-MayOwe threads k (Link x) o = slice_index_or threads o.0 None ≡ None
-MayOwe threads k Kernel o = Unit {0}
-MayOwe threads k _ o = ⊥
+-- whose closes a thread may owe: its own temporary reference's and ownership's, the link's of a thread or a session, to what has no link
+-- itself, that of a message which was accepted, and the kernel's
+abbrev pub MayOwe : List (Option ThreadRow) → ServerRows → ℕ → ℕ → Holder → ObjNo → Type 0
+MayOwe threads servers accepted k (Temp u) o = u.0 ≡ k
+MayOwe threads servers accepted k (Own u) o = u.0 ≡ k
+MayOwe threads servers accepted k (Link x) o = IsUnlinked threads servers o × MayBeLinked threads servers x
+MayOwe threads servers accepted k (OfMessage m) o = m.0 ≤ accepted
+MayOwe threads servers accepted k Kernel o = Unit {0}
+MayOwe threads servers accepted k _ o = ⊥
 
-abbrev pub EachMayOwe : List (Option ThreadRow) → ℕ → List Owed → Type 0
-EachMayOwe threads k [] = Unit {0}
-EachMayOwe threads k (Close h o ∷ rest) = MayOwe threads k h o × EachMayOwe threads k rest
-EachMayOwe threads k (Sweep o ∷ rest) = EachMayOwe threads k rest
+abbrev pub EachMayOwe : List (Option ThreadRow) → ServerRows → ℕ → ℕ → List Owed → Type 0
+EachMayOwe threads servers accepted k [] = Unit {0}
+EachMayOwe threads servers accepted k (Close h o ∷ rest) = MayOwe threads servers accepted k h o × EachMayOwe threads servers accepted k rest
+EachMayOwe threads servers accepted k (Sweep o ∷ rest) = EachMayOwe threads servers accepted k rest
 
 -- what each thread owes is its own, and weighs at most 12: two closes, the close of a link and a sweep; between a find and its return it owes
 -- nothing
-pub record AreDuties (threads : List (Option ThreadRow)) (owed : List (List Owed)) : Type 0 where
-  pub own : (k : ℕ) → EachMayOwe threads k (slice_index_or owed k [])
+pub record AreDuties (threads : List (Option ThreadRow)) (servers : ServerRows) (accepted : ℕ) (owed : List (List Owed)) : Type 0 where
+  pub own : (k : ℕ) → EachMayOwe threads servers accepted k (slice_index_or owed k [])
   pub few : (k : ℕ) → total weight (slice_index_or owed k []) ≤ 12
   pub returns : (k : ℕ) → is_returning (part_of (slice_index_or threads k None)) ≡ true → slice_index_or owed k [] ≡ []
 
@@ -167,6 +170,10 @@ pub record AreLogons (count : ℕ) (r : RequestRows) (logons : List (List (ObjNo
   pub sized : length logons ≡ count
   pub once : (u : ObjNo) (s : ℕ) → times_logged logons u s ≤ 1
   pub waits : (u : ObjNo) (s : ℕ) → 0 < times_logged logons u s → IsAwaited r u s
+
+-- a status that is awaited, and that no logon has
+abbrev pub IsUntold : RequestRows → List (List (ObjNo × ℕ)) → ObjNo → ℕ → Type 0
+IsUntold r logons u s = IsAwaited r u s × (times_logged logons u s ≡ 0)
 
 -- a thread that is live
 pub record IsLiveThread (threads : List (Option ThreadRow)) (u : ObjNo) : Type 0 where
@@ -280,7 +287,7 @@ pub record AreRows (script : Script) (S : State) : Type 0 where
   pub sized : AreSized S
   pub tables : AreTables S.handles
   pub threads : AreThreads script S.threads
-  pub duties : AreDuties S.threads S.owed
+  pub duties : AreDuties S.threads S.servers S.messages.accepted S.owed
   pub nano : AreSynchronized script S.threads S.nano
   pub deferred : AreCalls script S.deferred
   pub requests : AreRequests (length S.threads) S.requests
@@ -289,6 +296,8 @@ pub record AreRows (script : Script) (S : State) : Type 0 where
   pub logons : AreLogons (length S.threads) S.requests S.logons
   pub spent : AreSpent S.objects S.handles S.threads
   pub awaited : AreAwaited S.threads S.requests S.logons
+  pub servers : AreServers (λ row. is_spent row.stage) (length S.objects) S.threads S.locks S.owned S.servers
+  pub messages : AreMessages (IsUntold S.requests S.logons) S.threads S.servers S.messages
   pub lives : AreLives S
 
 pub record IsWellFormed (script : Script) (S : State) : Type 0 where

@@ -1,11 +1,11 @@
 //! Counting references by going over all the rows that hold one. Counts stand still at the end of their
 //! type, which no state that a history leaves comes near.
 ghost use Rattle.std.specs.Prelude.{◌≡◌, ◌-◌, ◌^◌, ◌<◌, ◌≤◌, min, nat_lt};
-ghost use Rattle.machine.specs.References.{total, same, option_names, slot_names, thread_names, owed_names, mutex_names, kernel_names, stage_holds, count_of, is_last};
+ghost use Rattle.machine.specs.References.{total, same, option_names, slot_names, thread_names, owed_names, mutex_names, session_names, message_names, server_names, kernel_names, stage_holds, count_of, is_last};
 
 use crate::rows::thread_of;
 use crate::{HandleSlot, Owed, State, ThreadRow};
-use state_rows::Stage;
+use state_rows::{Message, SessionRow, Stage};
 use sym_base::{Items, ObjNo};
 
 /// 1 where the two are one object, else 0.
@@ -102,26 +102,76 @@ fn owed_total(object: ObjNo, owed: &[Items<Owed>]) -> u32
     count
 }
 
-/// How often the mutexes that a thread holds are an object.
-fn held_total(object: ObjNo, mutexes: &[ObjNo]) -> u32
-    ensures { result ≡ min (total (mutex_names object) mutexes.now) (2 ^ 32 - 1) }
+/// How often a thread owns an object, by the mutexes that it holds or the servers that it made.
+fn listed_total(object: ObjNo, owned: &[ObjNo]) -> u32
+    ensures { result ≡ min (total (mutex_names object) owned.now) (2 ^ 32 - 1) }
 {
     let mut count: u32 = 0;
-    for mutex in mutexes {
-        count = count.saturating_add(same(*mutex, object));
+    for one in owned {
+        count = count.saturating_add(same(*one, object));
     }
     count
 }
 
-/// How often the mutexes that the threads hold are an object.
-fn mutexes_total(object: ObjNo, mutexes: &[Items<ObjNo>]) -> u32
-    ensures { result ≡ min (total (total (mutex_names object)) mutexes.now) (2 ^ 32 - 1) }
+/// How often the threads own an object.
+fn lists_total(object: ObjNo, lists: &[Items<ObjNo>]) -> u32
+    ensures { result ≡ min (total (total (mutex_names object)) lists.now) (2 ^ 32 - 1) }
 {
     let mut count: u32 = 0;
-    for held in mutexes {
-        count = count.saturating_add(held_total(object, held.as_slice()));
+    for owned in lists {
+        count = count.saturating_add(listed_total(object, owned.as_slice()));
     }
     count
+}
+
+/// 1 where a session is linked to this server, else 0.
+fn session_names(object: ObjNo, session: &Option<SessionRow>) -> u32
+    ensures number { result ≡ session_names object session.now }
+    ensures bit { result ≤ 1 }
+{
+    match session {
+        Some(row) => option_names(object, row.server),
+        None => 0,
+    }
+}
+
+/// How often the sessions are linked to an object.
+fn sessions_total(object: ObjNo, sessions: &[Option<SessionRow>]) -> u32
+    ensures { result ≡ min (total (session_names object) sessions.now) (2 ^ 32 - 1) }
+{
+    let mut count: u32 = 0;
+    for session in sessions {
+        count = count.saturating_add(session_names(object, session));
+    }
+    count
+}
+
+/// How often a message refers to an object: to its session and to its client.
+fn message_names(object: ObjNo, message: &Message) -> u32
+    ensures number { result ≡ message_names object message.now }
+    ensures few { result ≤ 2 }
+{
+    same(message.row.session, object) + same(message.row.client, object)
+}
+
+/// How often the outstanding messages refer to an object.
+fn messages_total(object: ObjNo, outstanding: &[Message]) -> u32
+    ensures { result ≡ min (total (message_names object) outstanding.now) (2 ^ 32 - 1) }
+{
+    let mut count: u32 = 0;
+    for message in outstanding {
+        count = count.saturating_add(message_names(object, message));
+    }
+    count
+}
+
+/// How often servers, sessions and messages make for a reference to an object.
+fn server_names(state: &State, object: ObjNo) -> u32
+    ensures { result ≡ min (server_names state.now object) (2 ^ 32 - 1) }
+{
+    lists_total(object, state.owned.as_slice())
+        .saturating_add(sessions_total(object, state.servers.sessions.as_slice()))
+        .saturating_add(messages_total(object, state.messages.outstanding.as_slice()))
 }
 
 /// 1 until a thread's burial, then 0.
@@ -155,7 +205,8 @@ fn capped_count(state: &State, object: ObjNo) -> u32
         .saturating_add(threads)
         .saturating_add(kernel_names(state, object))
         .saturating_add(owed)
-        .saturating_add(mutexes_total(object, state.mutexes.as_slice()))
+        .saturating_add(lists_total(object, state.mutexes.as_slice()))
+        .saturating_add(server_names(state, object))
 }
 
 /// The count of an object: the number of references to it.

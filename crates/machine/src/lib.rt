@@ -3,6 +3,9 @@
 #![tactic(auto)]
 
 mod boot;
+mod boot_lists;
+mod boot_rows;
+mod boot_state;
 mod count;
 mod death_move;
 mod decision;
@@ -11,18 +14,21 @@ mod handles;
 mod holding;
 mod lock_move;
 mod logon_move;
+mod message_move;
 mod moves;
 mod nano_move;
 mod nano_rows;
 mod plan;
 mod request_move;
 mod rows;
+mod server_move;
 mod state;
 mod state_parts;
 mod task;
 mod touches;
 
-pub use boot::{Born, all_born, boot_of, state_at_boot};
+pub use boot::{Born, all_born};
+pub use boot_state::{boot_of, state_at_boot};
 pub use count::{count_of, is_counted, is_last};
 pub use death_move::{DeathMove, wait_ended};
 pub use decision::{Decision, Outcome, entry_of};
@@ -31,6 +37,7 @@ pub use handles::{NewHandle, holder_of, owner_of, process_handle, thread_handle}
 pub use holding::Holding;
 pub use lock_move::LockMove;
 pub use logon_move::LogonMove;
+pub use message_move::MessageMove;
 pub use moves::{MAX_MOVES, Move, Moves};
 pub use nano_move::NanoMove;
 pub use nano_rows::{
@@ -40,6 +47,7 @@ pub use nano_rows::{
 pub use plan::{Body, Plan};
 pub use request_move::RequestMove;
 pub use rows::{first_owed, object_of, row_of, set_row, set_slot, table_of, thread_in, thread_of};
+pub use server_move::ServerMove;
 pub use state::State;
 pub use state_rows::{
     DeferredRows, HandleSlot, LockRows, NanoRows, Owed, RequestRows, Role, ThreadRow, Waiting,

@@ -2,7 +2,10 @@
 //! a move of its own (the split is this project's own).
 ghost use Rattle.std.specs.Prelude.{◌≡◌, ◌<◌, ◌≤◌, [], ◌∷◌, ◌++◌, length};
 
-use crate::{DeathMove, DeferredMove, LockMove, LogonMove, NanoMove, RequestMove, Waiting};
+use crate::{
+    DeathMove, DeferredMove, LockMove, LogonMove, MessageMove, NanoMove, RequestMove, ServerMove,
+    Waiting,
+};
 use entry_log::{Holder, Part};
 use state_rows::Owed;
 use std::marker::Model;
@@ -24,8 +27,14 @@ pub enum Move {
     Miss(ObjNo),
     /// The thread goes on to this step of its instruction.
     GoOn(ThreadNo, Part),
+    /// The thread keeps a number that a step of its instruction found, for the steps to come.
+    Keep(ThreadNo, u32),
     /// The thread's register, 0 to 7, gets a value.
     Write(ThreadNo, u8, u32),
+    /// The thread's register for messages, 0 to 7, gets the number of one.
+    WriteMessage(ThreadNo, u8, u32),
+    /// The thread owes the close of its temporary reference, where it has one, and its instruction goes on.
+    PutDown(ThreadNo),
     /// The thread goes on to its next instruction, and owes the close of its temporary reference, where it
     /// has one.
     Advance(ThreadNo),
@@ -47,6 +56,10 @@ pub enum Move {
     Logons(LogonMove),
     /// What the kernel keeps of a thread that dies changes.
     Death(DeathMove),
+    /// What the kernel keeps of servers and sessions changes, and with it what a thread owns.
+    Servers(ServerMove),
+    /// What the kernel keeps of messages changes.
+    Messages(MessageMove),
     /// Bytes of the process's memory, from an offset on and so many, get a value.
     Fill(ObjNo, u16, u16, u8),
     /// The acting thread pays this, the oldest of what it owes.

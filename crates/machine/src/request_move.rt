@@ -18,4 +18,6 @@ pub enum RequestMove {
     DropAll(ThreadNo),
     /// The thread takes a signal from its request semaphore.
     TakeSignal(ThreadNo),
+    /// The thread's synchronous message is replied to with a code, and its request semaphore stays as it is.
+    Reply(ThreadNo, i32),
 }

@@ -1,9 +1,10 @@
 //! The kernel's state as plain lists of rows, indexed by number.
 ghost use Rattle.std.specs.Prelude.{◌≡◌, IfOk};
 
-use crate::state_parts::{Holdings, Standing, Synchronizing, join};
+use crate::state_parts::{Holdings, Serving, Standing, Synchronizing, join};
 use state_rows::{
-    DeferredRows, HandleSlot, LockRows, NanoRows, ObjectRow, Owed, RequestRows, ThreadRow,
+    DeferredRows, HandleSlot, LockRows, MessageRows, NanoRows, ObjectRow, Owed, RequestRows,
+    ServerRows, ThreadRow,
 };
 use std::alloc::{AllocError, Global};
 use sym_base::{Items, ObjNo, ThreadNo};
@@ -34,6 +35,12 @@ pub struct State {
     /// The logons on each thread, in order of making: the thread that made each, and its status, 0 to 15, which is going to tell
     /// the death.
     pub logons: Items<Items<(ThreadNo, u8)>>,
+    /// Servers and sessions, and which sessions are linked to which server.
+    pub servers: ServerRows,
+    /// The servers that each thread owns, in order of making.
+    pub owned: Items<Items<ObjNo>>,
+    /// The outstanding messages.
+    pub messages: MessageRows,
     /// The 1,024 bytes of each process, None at the number of a thread.
     pub memories: Items<Option<Items<u8>>>,
 }
@@ -94,6 +101,29 @@ fn copied_locks(alloc: Global, locks: &LockRows) -> Result<LockRows, AllocError>
         owners: locks.owners.copied(alloc)?,
         counts: locks.counts.copied(alloc)?,
         waiters: copied_lists(alloc, locks.waiters.as_slice())?,
+    })
+}
+
+/// The same rows of servers and sessions, a second time.
+fn copied_servers(alloc: Global, servers: &ServerRows) -> Result<ServerRows, AllocError>
+    ensures { IfOk result (λ copy. copy ≡ servers.now) }
+{
+    Ok(ServerRows {
+        servers: servers.servers.copied(alloc)?,
+        sessions: servers.sessions.copied(alloc)?,
+        linked: copied_lists(alloc, servers.linked.as_slice())?,
+    })
+}
+
+/// The same rows of messages, a second time.
+fn copied_messages(alloc: Global, messages: &MessageRows) -> Result<MessageRows, AllocError>
+    ensures { IfOk result (λ copy. copy ≡ messages.now) }
+{
+    Ok(MessageRows {
+        objects: messages.objects,
+        pool: messages.pool,
+        accepted: messages.accepted,
+        outstanding: messages.outstanding.copied(alloc)?,
     })
 }
 
@@ -175,6 +205,22 @@ fn copied_synchronizing(alloc: Global, state: &State) -> Result<Synchronizing, A
     })
 }
 
+/// The same rows of servers and messages, and who owns servers, a second time.
+fn copied_serving(alloc: Global, state: &State) -> Result<Serving, AllocError>
+    ensures servers { IfOk result (λ s. s.servers ≡ state.now.servers) }
+    ensures owned { IfOk result (λ s. s.owned ≡ state.now.owned) }
+    ensures messages { IfOk result (λ s. s.messages ≡ state.now.messages) }
+{
+    let servers = copied_servers(alloc, &state.servers)?;
+    let owned = copied_lists(alloc, state.owned.as_slice())?;
+    let messages = copied_messages(alloc, &state.messages)?;
+    Ok(Serving {
+        servers,
+        owned,
+        messages,
+    })
+}
+
 impl State {
     /// A second state that is the same.
     pub fn copied(&self, alloc: Global) -> Result<State, AllocError>
@@ -184,6 +230,7 @@ impl State {
         let deferred = copied_deferred(alloc, &self.deferred)?;
         let holdings = copied_holdings(alloc, self)?;
         let synchronizing = copied_synchronizing(alloc, self)?;
-        Ok(join(standing, deferred, holdings, synchronizing))
+        let serving = copied_serving(alloc, self)?;
+        Ok(join(standing, deferred, holdings, synchronizing, serving))
     }
 }

@@ -3,7 +3,8 @@ ghost use Rattle.std.specs.Prelude.{◌≡◌};
 
 use crate::State;
 use state_rows::{
-    DeferredRows, HandleSlot, LockRows, NanoRows, ObjectRow, Owed, RequestRows, ThreadRow,
+    DeferredRows, HandleSlot, LockRows, MessageRows, NanoRows, ObjectRow, Owed, RequestRows,
+    ServerRows, ThreadRow,
 };
 use sym_base::{Items, ObjNo, ThreadNo};
 
@@ -33,14 +34,23 @@ pub struct Synchronizing {
     pub locks: LockRows,
 }
 
+/// Servers and sessions, who owns servers, and messages.
+#[derive(Drop)]
+pub struct Serving {
+    pub servers: ServerRows,
+    pub owned: Items<Items<ObjNo>>,
+    pub messages: MessageRows,
+}
+
 /// The state of these parts and of deferred function calls.
 pub fn join(
     standing: Standing,
     deferred: DeferredRows,
     holdings: Holdings,
     synchronizing: Synchronizing,
+    serving: Serving,
 ) -> State
-    ensures { result ≡ record { objects = standing.objects; handles = standing.handles; threads = standing.threads; ready = standing.ready; owed = holdings.owed; nano = synchronizing.nano; deferred = deferred; requests = synchronizing.requests; locks = synchronizing.locks; mutexes = holdings.mutexes; logons = holdings.logons; memories = holdings.memories } }
+    ensures { result ≡ record { objects = standing.objects; handles = standing.handles; threads = standing.threads; ready = standing.ready; owed = holdings.owed; nano = synchronizing.nano; deferred = deferred; requests = synchronizing.requests; locks = synchronizing.locks; mutexes = holdings.mutexes; logons = holdings.logons; servers = serving.servers; owned = serving.owned; messages = serving.messages; memories = holdings.memories } }
 {
     State {
         objects: standing.objects,
@@ -54,6 +64,9 @@ pub fn join(
         locks: synchronizing.locks,
         mutexes: holdings.mutexes,
         logons: holdings.logons,
+        servers: serving.servers,
+        owned: serving.owned,
+        messages: serving.messages,
         memories: holdings.memories,
     }
 }

@@ -11,7 +11,7 @@ pub enum Task {
     Return(Instr),
     /// It pays the oldest of what it owes.
     Pay(Owed),
-    /// It is doomed, and gives up the first of what it has.
+    /// It gives up the first of what it has: it is doomed, or a server that it owns is closing.
     GiveUp(Holding),
     /// It is doomed, and has given up all.
     Clean,

@@ -3,7 +3,7 @@ ghost use Rattle.std.specs.Prelude.{◌≡◌, None, Some};
 ghost use Rattle.machine.specs.Arrivals.{touched, threads_of};
 ghost use Rattle.machine.specs.DeferredMoves.{thread_of_queue};
 
-use crate::{DeathMove, DeferredMove, LockMove, Move, Owed};
+use crate::{DeathMove, DeferredMove, LockMove, MessageMove, Move, Owed};
 use sym_base::{ObjNo, ThreadNo};
 
 /// The threads whose readiness a move may change: up to two, the first before the second.
@@ -36,11 +36,14 @@ pub fn touched(thread: ThreadNo, change: &Move) -> TouchedThreads
     ensures { threads_of result ≡ touched thread change.now }
 {
     match *change {
-        Move::Lose(_, _) | Move::Pay(Owed::Close(_, _)) => one(thread),
+        Move::Lose(_, _)
+        | Move::Pay(Owed::Close(_, _))
+        | Move::Messages(MessageMove::Finish(_, _)) => one(thread),
         Move::GoOn(other, _)
         | Move::Advance(other)
         | Move::Wait(other, _)
         | Move::Wake(other)
+        | Move::PutDown(other)
         | Move::Locks(LockMove::Unlock(_, other, _) | LockMove::Free(_, other, _))
         | Move::SetPriority(other, _) => one(other),
         Move::Nano(change) => one(change.thread()),

@@ -9,4 +9,6 @@ pub mod BootReady
 pub mod BootRequests
 pub mod BootRows
 pub mod BootServers
+pub mod BootServing
+pub mod BootThreads
 pub mod Declared

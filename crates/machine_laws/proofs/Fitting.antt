@@ -1,16 +1,25 @@
 -- The moves of each step fit the state.
 pub mod Actions
 pub mod Bodies
+pub mod Closing
+pub mod ClosingServers
 pub mod Deaths
 pub mod Dooms
+pub mod Finishing
 pub mod Interrupts
 pub mod KernelThreads
 pub mod Living
 pub mod Locks
 pub mod MemoryCalls
+pub mod Posting
 pub mod Reaping
 pub mod Requests
+pub mod Servers
+pub mod Sessions
 pub mod Shared
+pub mod Staying
 pub mod Stepping
 pub mod Steps
+pub mod Uncalled
 pub mod Waiters
+pub mod Working

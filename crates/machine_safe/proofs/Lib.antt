@@ -4,7 +4,10 @@ pub mod FindsToOpen
 pub mod Held
 pub mod LegalDeaths
 pub mod LegalSafety
+pub mod LegalServing
 pub mod ReadyHolders
 pub mod Runs
 pub mod SafeHistories
+pub mod Serving
 pub mod UnsafeDeaths
+pub mod UnsafeMessages

@@ -1,4 +1,4 @@
--- The definition of safe deaths, tried on the end of a thread: how often it is doomed, cleaned and buried there. And three
+-- The definition of safe deaths, tried on the end of a thread: how often it is doomed, cleaned and buried there. And five
 -- histories, changed by hand, that aren't safe.
 use Rattle.std.proofs.Common.{◌≡◌, ℕ, ◌≤◌, List, [], ◌∷◌, None, refl, arith}
 use Rattle.std.specs.Prelude.{pos}
@@ -6,8 +6,8 @@ use Rattle.sym_base.specs.declared.number.ObjNo.{ObjNo}
 use Rattle.script_types.specs.declared.script.Script.{Script}
 use Rattle.entry_log.specs.declared.effect.Effect.{Effect}
 use Rattle.entry_log.specs.declared.effect.Effect.TheVariants as effect
-use Rattle.entry_log.specs.declared.effect.Holder.TheVariants.{InThread}
-use Rattle.entry_log.specs.declared.effect.StatusNo.TheVariants.{Async}
+use Rattle.entry_log.specs.declared.effect.Holder.TheVariants.{InThread, Own}
+use Rattle.entry_log.specs.declared.effect.StatusNo.TheVariants.{Async, Sync}
 use Rattle.entry_log.specs.declared.entry.Actor.TheVariants.{Thread}
 use Rattle.entry_log.specs.declared.entry.Entry.{Entry}
 use Rattle.entry_log.specs.declared.step.Step.{Step}
@@ -53,9 +53,23 @@ is_signalled place = acts place 4 step.Tell (effect.Signal (number 3) (Async 0) 
 signalled_late : (script : Script) → IsSafeDeaths script (ends 1 ∷ is_signalled 2 ∷ []) → ⊥
 signalled_late script safe = let none : ◌≡◌ {A = ℕ} 1 0 = (safe.doom (number 3)).signals_none [] (ends 1) (is_signalled 2 ∷ []) refl (omega arith) in omega arith
 
+-- nor a reply to its synchronous message
+abbrev is_answered : ℕ → Entry
+is_answered place = acts place 4 step.Finish (effect.Signal (number 3) Sync (pos 0) ∷ [])
+
+answered_late : (script : Script) → IsSafeDeaths script (ends 1 ∷ is_answered 2 ∷ []) → ⊥
+answered_late script safe = let none : ◌≡◌ {A = ℕ} 1 0 = (safe.doom (number 3)).signals_none [] (ends 1) (is_answered 2 ∷ []) refl (omega arith) in omega arith
+
 -- and it isn't cleaned while a handle of its own table is left
 abbrev duplicates : ℕ → Entry
 duplicates place = acts place 3 step.Drop (effect.Plus (InThread (number 3) 0) (number 5) ∷ [])
 
 cleaned_early : (script : Script) → IsSafeDeaths script (duplicates 1 ∷ ends 2 ∷ is_cleaned 3 ∷ []) → ⊥
 cleaned_early script safe = let none : ◌≡◌ {A = ℕ} 1 0 = (safe.clean (number 3)).own (duplicates 1 ∷ ends 2 ∷ []) (is_cleaned 3) [] (InThread (number 3) 0) (number 5) refl (omega arith) refl in omega arith
+
+-- or a server that it made
+abbrev serves : ℕ → Entry
+serves place = acts place 3 step.Drop (effect.Plus (Own (number 3)) (number 5) ∷ [])
+
+cleaned_serving : (script : Script) → IsSafeDeaths script (serves 1 ∷ ends 2 ∷ is_cleaned 3 ∷ []) → ⊥
+cleaned_serving script safe = let none : ◌≡◌ {A = ℕ} 1 0 = (safe.clean (number 3)).own (serves 1 ∷ ends 2 ∷ []) (is_cleaned 3) [] (Own (number 3)) (number 5) refl (omega arith) refl in omega arith

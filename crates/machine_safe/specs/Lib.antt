@@ -3,4 +3,8 @@ pub mod Laws
 pub mod ReadyHolders
 pub mod Safe
 pub mod SafeDeaths
+pub mod SafeMessages
 pub mod SafeReferences
+pub mod SafeServers
+pub mod Sent
+pub mod Served

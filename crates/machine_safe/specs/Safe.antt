@@ -1,10 +1,14 @@
--- What is promised of every legal history: its references are safe, and so are its deaths.
+-- What is promised of every legal history: its references are safe, and so are its deaths, its messages, and the ends of its servers.
 use Rattle.std.specs.Prelude.{List}
 use Rattle.script_types.specs.declared.script.Script.{Script}
 use Rattle.entry_log.specs.declared.entry.Entry.{Entry}
 use Rattle.machine_safe.specs.SafeDeaths.{IsSafeDeaths}
+use Rattle.machine_safe.specs.SafeMessages.{IsSafeMessages}
 use Rattle.machine_safe.specs.SafeReferences.{IsSafeReferences}
+use Rattle.machine_safe.specs.SafeServers.{IsSafeServers}
 
 pub record IsSafe (script : Script) (history : List Entry) : Type 0 where
   pub references : IsSafeReferences script history
   pub deaths : IsSafeDeaths script history
+  pub messages : IsSafeMessages script history
+  pub servers : IsSafeServers history

@@ -1,8 +1,10 @@
-//! The laws of references and of deaths over whole histories.
+//! The laws of references, deaths, messages and servers over whole histories.
 ghost use Rattle.script_types.specs.Source.{IsWellFormed};
 ghost use Rattle.machine.specs.History.{IsLegal};
 ghost use Rattle.machine_safe.specs.SafeDeaths.{IsSafeDeaths};
+ghost use Rattle.machine_safe.specs.SafeMessages.{IsSafeMessages};
 ghost use Rattle.machine_safe.specs.SafeReferences.{IsSafeReferences};
+ghost use Rattle.machine_safe.specs.SafeServers.{IsSafeServers};
 
 use entry_log::Entry;
 use script_types::Script;
@@ -11,11 +13,17 @@ use script_types::Script;
 /// opens it afterwards, and its row goes once, after its death. A reference is added only where its holder
 /// doesn't hold the object, and taken away only where it does. And a thread is doomed, cleaned and buried once
 /// at most each, in this order; after its doom it takes no lock and gets no signal; as it is cleaned it has given
-/// all locks and all references of its own back; and then it never acts, and holds, owes and gets nothing. This
-/// call only states it, and changes nothing.
+/// all locks and all references of its own back; and then it never acts, and holds, owes and gets nothing. Messages are
+/// accepted in order of their numbers, each over a session of a server that isn't closing, and finished once at most, by
+/// that server's owner, with the code of its `complete` or, where the server is closing, as terminated; beside that end
+/// stands what the client is told, and nothing else: the code, by the status that it sent the message with, unless it was
+/// doomed or the message disconnects. Where a server ends each of its messages is finished, and as a thread is cleaned
+/// each server that it made has ended. This call only states it, and changes nothing.
 pub fn legal_is_safe(script: &Script, history: &[Entry])
     requires valid { IsWellFormed script.now }
     requires legal { IsLegal script.now history.now }
     ensures safe { IsSafeReferences script.now history.now }
     ensures deaths { IsSafeDeaths script.now history.now }
+    ensures messages { IsSafeMessages script.now history.now }
+    ensures servers { IsSafeServers history.now }
 {}

@@ -9,11 +9,11 @@ use Rattle.std.proofs.lemmas.List.Elements.{All-filter, All-head, All-map, All-t
 use Rattle.std.proofs.lemmas.Option.{slice_get_within, get_or_from_slice_get}
 use Rattle.links.specs.Linked.{Linked, holds, unlinked, without}
 use Rattle.links.proofs.Marks.{place_of}
-use Rattle.messages.specs.declared.rows.MsgRow.{MsgRow}
-use Rattle.messages.specs.declared.rows.Message.{Message}
-use Rattle.messages.specs.declared.rows.Stored.{Stored}
+use Rattle.state_rows.specs.declared.messages.MsgRow.{MsgRow}
+use Rattle.state_rows.specs.declared.messages.Message.{Message}
+use Rattle.messages.specs.declared.records.Stored.{Stored}
 use Rattle.sym_base.specs.declared.number.MsgNo.{MsgNo}
-use Rattle.messages.specs.MessageRows.{is_at, waits_at}
+use Rattle.state_rows.specs.MessageRows.{is_at, waits_at}
 use Rattle.messages.specs.Kept.{Store, has_key, is_numbered, with_row}
 use Rattle.messages.specs.Queued.{AreMessages, AreQueued, keys_where}
 
@@ -141,10 +141,11 @@ taken_fails : (b : Bool) → (b && false) ≡ false
 taken_fails true = refl
 taken_fails false = refl
 
-module _ (accepted : ℕ) (store : Store) (outstanding untaken : Linked) (are : AreMessages accepted store outstanding untaken) where
+module _ (objects accepted : ℕ) (store : Store) (outstanding untaken : Linked) (are : AreMessages objects accepted store outstanding untaken) where
   -- a message goes
-  pub messages_gone : (m : MsgNo) (key : ℕ) → All (λ other. has_key key other ≡ is_numbered m other) store.stored → AreMessages accepted (record store { stored = filter (λ one. not (is_numbered m one)) store.stored }) (unlinked outstanding key) (unlinked untaken key)
+  pub messages_gone : (m : MsgNo) (key : ℕ) → All (λ other. has_key key other ≡ is_numbered m other) store.stored → AreMessages objects accepted (record store { stored = filter (λ one. not (is_numbered m one)) store.stored }) (unlinked outstanding key) (unlinked untaken key)
   messages_gone m key alike = record {
+    sized = rw (length-map outstanding.lists (without key)) are.sized;
     small = rw (length-map outstanding.lists (without key)) are.small;
     all = rw (length-map outstanding.lists (without key)) (queued_gone is_at store (length outstanding.lists) outstanding are.all (filter (λ one. not (is_numbered m one)) store.stored) key (λ v. where_gone (is_at v) key (is_numbered m) store.stored alike));
     waiting = rw (length-map outstanding.lists (without key)) (queued_gone waits_at store (length outstanding.lists) untaken are.waiting (filter (λ one. not (is_numbered m one)) store.stored) key (λ v. where_gone (waits_at v) key (is_numbered m) store.stored alike));
@@ -159,8 +160,9 @@ module _ (accepted : ℕ) (store : Store) (outstanding untaken : Linked) (are : 
     numbers_same = All-map (λ other. other.message.number.0 ≤ accepted) (with_row one.key row) store.stored (λ k d within. row_number accepted one.key row (get_or store.stored k d) (are.numbers k d within))
 
     -- a message is taken
-    pub messages_taken : row.taken ≡ true → AreMessages accepted (record store { stored = map (with_row one.key row) store.stored }) outstanding (unlinked untaken one.key)
+    pub messages_taken : row.taken ≡ true → AreMessages objects accepted (record store { stored = map (with_row one.key row) store.stored }) outstanding (unlinked untaken one.key)
     messages_taken taken = record {
+      sized = are.sized;
       small = are.small;
       all = queued_same is_at store (length outstanding.lists) outstanding are.all (map (with_row one.key row) store.stored) all_same;
       waiting = queued_gone waits_at store (length outstanding.lists) untaken are.waiting (map (with_row one.key row) store.stored) one.key (λ v. where_left (waits_at v) one.key row (λ message. rw taken (taken_fails (eqb row.server.0 v))) store.stored);
@@ -168,8 +170,9 @@ module _ (accepted : ℕ) (store : Store) (outstanding untaken : Linked) (are : 
     }
 
     -- or changes and waits as before
-    pub messages_edited : row.taken ≡ one.message.row.taken → AreMessages accepted (record store { stored = map (with_row one.key row) store.stored }) outstanding untaken
+    pub messages_edited : row.taken ≡ one.message.row.taken → AreMessages objects accepted (record store { stored = map (with_row one.key row) store.stored }) outstanding untaken
     messages_edited taken = record {
+      sized = are.sized;
       small = are.small;
       all = queued_same is_at store (length outstanding.lists) outstanding are.all (map (with_row one.key row) store.stored) all_same;
       waiting = queued_same waits_at store (length outstanding.lists) untaken are.waiting (map (with_row one.key row) store.stored) (λ v. where_same (waits_at v) one.key row store.stored (λ k d within is. rw (at, taken) (ap (λ (other : Stored). waits_at v other.message) (sym (same k d within is)))));

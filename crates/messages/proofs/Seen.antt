@@ -1,19 +1,19 @@
 -- What contracts see of the messages, as they change.
-use Rattle.std.proofs.Common.{◌≡◌, ℕ, Bool, true, false, not, eqb, List, [], ◌∷◌, get_or, map, refl, sym, ap, ◌∙◌, inl, inr}
+use Rattle.std.proofs.Common.{◌≡◌, ℕ, ◌≤◌, arith, Bool, true, false, not, eqb, List, [], ◌∷◌, get_or, map, refl, sym, ap, subst, ◌∙◌, inl, inr}
 use Rattle.std.specs.Prelude.{Option, Some, None, is_some, option_map, All, filter, slice_get}
 use Rattle.std.specs.List.{find}
 use Rattle.std.proofs.lemmas.Bool.{cases_Bool, eqb-true}
-use Rattle.std.proofs.lemmas.List.{length-map}
+use Rattle.std.proofs.lemmas.List.{get_or_past, length-map}
 use Rattle.links.specs.Linked.{Linked, unlinked, without}
 use Rattle.std.proofs.lemmas.List.Elements.{All-filter, All-head, All-tail}
 use Rattle.sym_base.specs.declared.number.MsgNo.{MsgNo}
-use Rattle.messages.specs.declared.rows.MsgRow.{MsgRow}
-use Rattle.messages.specs.declared.rows.Message.{Message}
-use Rattle.messages.specs.declared.rows.Stored.{Stored}
-use Rattle.messages.specs.MessageRows.{has_number}
-use Rattle.messages.specs.Calls.{after_finish, edited, number_of}
+use Rattle.state_rows.specs.declared.messages.MsgRow.{MsgRow}
+use Rattle.state_rows.specs.declared.messages.Message.{Message}
+use Rattle.messages.specs.declared.records.Stored.{Stored}
+use Rattle.state_rows.specs.MessageRows.{has_number}
+use Rattle.state_rows.specs.MessageChanges.{after_finish, edited, number_of}
 use Rattle.messages.specs.Kept.{Store, has_key, is_numbered, with_row}
-use Rattle.messages.specs.Queued.{keys_where, rows_of}
+use Rattle.messages.specs.Queued.{AreQueued, keys_where, rows_of}
 use Rattle.messages.proofs.Lists.{filter_seen, find_seen}
 
 abbrev pub messages : List Stored → List Message
@@ -91,3 +91,21 @@ alike_found m stored one is alike k d inside =
 pub rows_gone : (m : MsgNo) (key pool accepted : ℕ) (store : Store) (outstanding : Linked) → rows_of pool accepted (record store { stored = filter (λ one. not (is_numbered m one)) store.stored }) (unlinked outstanding key) ≡ after_finish (rows_of pool accepted store outstanding) m
 rows_gone m key pool accepted store outstanding =
     rw (length-map outstanding.lists (without key), filter_seen (λ message. not (has_number m message)) (λ (one : Stored). one.message) store.stored) refl
+
+-- a server past the lists has no messages
+pub past_none : (test : ℕ → Message → Bool) (store : Store) (objects server : ℕ) (links : Linked) → AreQueued test store objects links → objects ≤ server → filter (test server) (messages store.stored) ≡ []
+past_none test store objects server links are past =
+    let none : slice_get (get_or links.lists server []) 0 ≡ None = ap (λ (keys : List ℕ). slice_get keys 0) (get_or_past links.lists server [] (omega (arith, are.lists))) in
+    seen_none (test server) store.stored (rw (are.listed server) at none)
+
+-- what holds of all messages holds of the one that is found
+pub found_all : {A : Type 0} (P : A → Type 0) (test : A → Bool) (xs : List A) (x : A) → find test xs ≡ Some x → All P xs → P x
+found_all P test [] x is all = absurd (cc)
+found_all P test (y ∷ ys) x is all =
+    elim (cases_Bool (test y)) [
+      | inl passes ↦
+          let some = rw passes at is in
+          let same : y ≡ x = cc in
+          subst P same (All-head P y ys all)
+      | inr fails ↦ found_all P test ys x (rw fails at is) (All-tail P y ys all)
+    ]

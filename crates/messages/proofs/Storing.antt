@@ -15,10 +15,10 @@ use Rattle.std.proofs.lemmas.List.Edits.{length-remove}
 use Rattle.std.proofs.lemmas.Grind.{get_or_default_zero}
 use Rattle.slab.specs.Slab.{Slab, get, slab_len, Updates}
 use Rattle.sym_base.specs.declared.number.MsgNo.{MsgNo}
-use Rattle.messages.specs.declared.rows.MsgRow.{MsgRow}
-use Rattle.messages.specs.declared.rows.Message.{Message}
-use Rattle.messages.specs.declared.rows.Stored.{Stored}
-use Rattle.messages.specs.MessageRows.{most_messages}
+use Rattle.state_rows.specs.declared.messages.MsgRow.{MsgRow}
+use Rattle.state_rows.specs.declared.messages.Message.{Message}
+use Rattle.messages.specs.declared.records.Stored.{Stored}
+use Rattle.state_rows.specs.MessageRows.{most_messages}
 use Rattle.messages.specs.Kept.{AreKept, IsRising, IsUnder, has_key, is_numbered, message_or, number_at, store_of, stored_at, stored_under, with_row}
 use Rattle.messages.proofs.Lists.{removed_alone, All-others, map_alike, map_others, find_alone, find_none, found_at, all_stay}
 

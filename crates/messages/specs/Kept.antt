@@ -3,12 +3,12 @@ use Rattle.std.specs.Prelude.{◌≡◌, ℕ, ◌<◌, ◌≤◌, ◌^◌, Bool,
 use Rattle.std.specs.List.{AllPairs, find}
 use Rattle.slab.specs.Slab.{Slab, get, slab_len}
 use Rattle.sym_base.specs.declared.kind.Slots.TheVariants.{Pool}
-use Rattle.messages.specs.declared.rows.Way.TheVariants.{Sync}
-use Rattle.messages.specs.declared.rows.MsgRow.{MsgRow}
+use Rattle.state_rows.specs.declared.messages.Way.TheVariants.{Sync}
+use Rattle.state_rows.specs.declared.messages.MsgRow.{MsgRow}
 use Rattle.sym_base.specs.declared.number.MsgNo.{MsgNo}
-use Rattle.messages.specs.declared.rows.Message.{Message}
-use Rattle.messages.specs.declared.rows.Stored.{Stored}
-use Rattle.messages.specs.MessageRows.{has_number, most_messages}
+use Rattle.state_rows.specs.declared.messages.Message.{Message}
+use Rattle.messages.specs.declared.records.Stored.{Stored}
+use Rattle.state_rows.specs.MessageRows.{has_number, most_messages}
 
 -- keys are below a number; the messages stand in order of acceptance
 pub record Store : Type 0 where

@@ -1,4 +1,3 @@
 pub mod Calls
 pub mod Kept
-pub mod MessageRows
 pub mod Queued

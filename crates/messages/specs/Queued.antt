@@ -1,9 +1,10 @@
 -- How two linked lists of keys a server stand for its messages.
 use Rattle.std.specs.Prelude.{◌≡◌, ℕ, ◌<◌, ◌≤◌, ◌^◌, Bool, List, All, filter, length, map}
 use Rattle.links.specs.Linked.{Linked, list_at}
-use Rattle.messages.specs.declared.rows.Message.{Message}
-use Rattle.messages.specs.MessageRows.{MessageRows, is_at, waits_at}
-use Rattle.messages.specs.declared.rows.Stored.{Stored}
+use Rattle.state_rows.specs.declared.messages.Message.{Message}
+use Rattle.state_rows.specs.declared.messages.MessageRows.{MessageRows}
+use Rattle.state_rows.specs.MessageRows.{is_at, waits_at}
+use Rattle.messages.specs.declared.records.Stored.{Stored}
 use Rattle.messages.specs.Kept.{Store}
 
 -- what the store, the two numbers and the lists stand for
@@ -21,8 +22,10 @@ pub record AreQueued (test : ℕ → Message → Bool) (store : Store) (objects 
   pub lists : length links.lists ≡ objects
   pub listed : (server : ℕ) → list_at links server ≡ keys_where (test server) store.stored
 
--- the queues are those of each server's messages, and of those that it hasn't taken; no number was given out later
-pub record AreMessages (accepted : ℕ) (store : Store) (outstanding untaken : Linked) : Type 0 where
+-- the queues are those of each server's messages, and of those that it hasn't taken; no number was given out later; and
+-- servers are objects below a number
+pub record AreMessages (objects accepted : ℕ) (store : Store) (outstanding untaken : Linked) : Type 0 where
+  pub sized : length outstanding.lists ≡ objects
   pub small : length outstanding.lists < 2 ^ 16
   pub all : AreQueued is_at store (length outstanding.lists) outstanding
   pub waiting : AreQueued waits_at store (length outstanding.lists) untaken

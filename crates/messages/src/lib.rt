@@ -1,11 +1,11 @@
 //! Messages between clients and servers, from when they are accepted until they are finished.
 #![tactic(auto)]
 
+mod answers;
 mod records;
-mod rows;
 mod table;
 #[cfg(test)]
 mod tests;
 
-pub use rows::{Accepted, Finished, Message, MsgRow, Way};
+pub use answers::{Accepted, Finished};
 pub use table::Messages;

@@ -1,11 +1,11 @@
 //! The messages themselves, each under a key of its own.
 ghost use Rattle.std.specs.Prelude.{◌≡◌, ◌≢◌, ◌<◌, All, [], ◌∷◌, ◌++◌, false, filter, map, not, count_by, length, slice_index, IsSome, IfOk, IfSome, IfNone};
 ghost use Rattle.std.specs.List.{find};
-ghost use Rattle.messages.specs.MessageRows.{most_messages, takes_slot};
+ghost use Rattle.state_rows.specs.MessageRows.{most_messages, takes_slot};
 ghost use Rattle.messages.specs.Kept.{IsRising, has_key, is_numbered, stored_under, with_row, IsUnder};
 
-use crate::rows::{Message, MsgRow, Stored};
 use slab::Slab;
+use state_rows::{Message, MsgRow};
 use std::alloc::Global;
 use std::marker::Model;
 use sym_base::{MsgNo, NoMemory, ObjNo, Slots};
@@ -13,6 +13,13 @@ use sym_base::{MsgNo, NoMemory, ObjNo, Slots};
 /// How many messages may be outstanding at once: one for each of the 16 statuses of 64 threads, one for
 /// each thread that waits, and the disconnect messages of 4,096 sessions.
 const MOST_MESSAGES: usize = 5_184;
+
+/// A message and the key that it is kept under.
+#[derive(Clone, Copy)]
+pub struct Stored {
+    pub key: u32,
+    pub message: Message,
+}
 
 /// The outstanding messages, each under a key that it has until it is finished. A contract sees them with
 /// their keys, in order of acceptance.
@@ -27,7 +34,7 @@ pub struct Records {
 
 impl Model for Records {
     ghost use Rattle.std.specs.Prelude.{◌≤◌, vec_capacity};
-    ghost use Rattle.messages.specs.MessageRows.{most_messages};
+    ghost use Rattle.state_rows.specs.MessageRows.{most_messages};
     ghost use Rattle.messages.specs.Kept.{Store, AreKept, store_of};
 
     ghost Value = { Store };

@@ -1,12 +1,15 @@
 //! The table of messages, and its calls.
-ghost use Rattle.std.specs.Prelude.{◌≡◌, ℕ, ◌+◌, ◌<◌, ◌↔◌, [], ◌∷◌, ◌++◌, length, count_by, slice_get, map, IsNone, IsSome, IfOk, IfSome, Some, false};
-ghost use Rattle.messages.specs.MessageRows.{MessageRows, most_messages, message_of, IsOutstanding, row_of, is_taken, messages_at, untaken_at, used_slots, all_slots, is_full, finished_of, takes_slot};
-ghost use Rattle.messages.specs.Calls.{no_messages, new_row, accept_answer, after_accept, added, next_number, next_of, number_of, after_take, after_finish, HasRoomAt, after_set_length};
+ghost use Rattle.std.specs.Prelude.{◌≡◌, ℕ, ◌+◌, ◌<◌, ◌≤◌, ◌↔◌, [], ◌∷◌, ◌++◌, length, count_by, slice_get, map, IsNone, IsSome, IfOk, IfSome, Some, false};
+ghost use Rattle.state_rows.specs.declared.messages.MessageRows.{MessageRows};
+ghost use Rattle.state_rows.specs.MessageRows.{most_messages, message_of, IsOutstanding, row_of, is_taken, messages_at, untaken_at, used_slots, all_slots, is_full, takes_slot};
+ghost use Rattle.state_rows.specs.MessageChanges.{no_messages, new_row, added, next_number, next_of, number_of, after_take, after_finish, HasRoomAt, after_set_length};
+ghost use Rattle.messages.specs.Calls.{accept_answer, after_accept, finished_of};
 ghost use Rattle.links.specs.Linked.{unlinked};
 
-use crate::records::Records;
-use crate::rows::{Accepted, Finished, Message, MsgRow, Stored, Way, with_length};
+use crate::answers::{Accepted, Finished, finished_of, with_length};
+use crate::records::{Records, Stored};
 use links::Links;
+use state_rows::{Message, MsgRow, Way};
 use std::alloc::Global;
 use std::marker::Model;
 use sym_base::{Arg, MsgNo, NoMemory, ObjNo, Slots, ThreadNo};
@@ -20,6 +23,7 @@ use sym_base::{Arg, MsgNo, NoMemory, ObjNo, Slots, ThreadNo};
 /// No call but `new` takes memory.
 #[derive(Drop)]
 pub struct Messages {
+    objects: u16,
     pool: u8,
     accepted: u32,
     records: Records,
@@ -28,14 +32,14 @@ pub struct Messages {
 }
 
 impl Model for Messages {
-    ghost use Rattle.messages.specs.MessageRows.{MessageRows};
+    ghost use Rattle.state_rows.specs.declared.messages.MessageRows.{MessageRows};
     ghost use Rattle.messages.specs.Queued.{AreMessages, rows_of};
 
     ghost Value = { MessageRows };
 
     ghost view = { λ a. rows_of a.pool a.accepted a.records a.outstanding };
 
-    ghost invariant = { λ a. AreMessages a.accepted a.records a.outstanding a.untaken };
+    ghost invariant = { λ a. AreMessages a.objects a.accepted a.records a.outstanding a.untaken };
 }
 
 impl Messages {
@@ -48,6 +52,7 @@ impl Messages {
         let outstanding = Links::new(alloc, records.key_count(), objects as u32)?;
         let untaken = Links::new(alloc, records.key_count(), objects as u32)?;
         Ok(Messages {
+            objects,
             pool,
             accepted: 0,
             records,
@@ -114,12 +119,42 @@ impl Messages {
     /// The first message of a server in order of acceptance, taken or not. None exactly where none of its
     /// messages is outstanding.
     pub fn first_of(&self, server: ObjNo) -> Option<MsgNo>
-        requires { server.0 < self.now.objects }
         ensures first { result ≡ number_of (slice_get (messages_at self.now server) 0) }
         ensures none { IsNone result ↔ (messages_at self.now server ≡ []) }
     {
+        if server.0 >= self.objects {
+            return None;
+        }
         let key = self.outstanding.first(server.0 as u32)?;
         Some(self.records.message(key).number)
+    }
+
+    /// The message that a server takes next, which is the first that it hasn't taken. None exactly where no
+    /// message of the server is untaken.
+    pub fn next_untaken(&self, server: ObjNo) -> Option<MsgNo>
+        ensures next { result ≡ next_of self.now server }
+        ensures given { IfSome result (λ m. m.0 ≤ self.now.accepted) }
+    {
+        if server.0 >= self.objects {
+            return None;
+        }
+        let next = self.untaken.first(server.0 as u32)?;
+        Some(self.records.message(next).number)
+    }
+
+    /// The greatest number of a message so far, 0 where none was accepted.
+    pub fn accepted(&self) -> u32
+        ensures { result ≡ self.now.accepted }
+    {
+        self.accepted
+    }
+
+    /// The message of a number. None exactly where it isn't outstanding.
+    pub fn message(&self, m: MsgNo) -> Option<Message>
+        ensures { result ≡ message_of self.now m }
+    {
+        let stored = self.records.find(m)?;
+        Some(stored.message)
     }
 
     /// Whether a message is outstanding and was taken.
@@ -144,7 +179,7 @@ impl Messages {
         leave(&mut self.outstanding, key);
         leave(&mut self.untaken, key);
         self.records.remove(m);
-        message.finished()
+        finished_of(&message)
     }
 
     /// The row of a message. None exactly where it isn't outstanding.

@@ -1,5 +1,6 @@
 //! Worked examples: two servers, a session with two slots, and sessions of the pool.
-use crate::{Accepted, Finished, Messages, Way};
+use crate::{Accepted, Finished, Messages};
+use state_rows::Way;
 use std::test::Fail;
 use sym_base::{Arg, MsgNo, ObjNo, Slots};
 
@@ -10,7 +11,7 @@ const ARGS: [Arg; 4] = [
     Arg::Number(0),
 ];
 
-#[tactic(auto, unfolding(crate::specs::MessageRows::most_messages))]
+#[tactic(auto, unfolding(state_rows::specs::MessageRows::most_messages))]
 #[test]
 fn messages_are_taken_in_order_and_finished_in_any(rt: HostRuntime) -> Result<(), Fail> {
     let (files, fonts) = (ObjNo(3), ObjNo(4));
@@ -40,7 +41,7 @@ fn messages_are_taken_in_order_and_finished_in_any(rt: HostRuntime) -> Result<()
     Ok(())
 }
 
-#[tactic(auto, unfolding(crate::specs::MessageRows::most_messages))]
+#[tactic(auto, unfolding(state_rows::specs::MessageRows::most_messages))]
 #[test]
 fn a_sender_is_told_busy_when_all_slots_are_used(rt: HostRuntime) -> Result<(), Fail> {
     let (files, s, client) = (ObjNo(3), ObjNo(5), ObjNo(2));
@@ -61,7 +62,7 @@ fn a_sender_is_told_busy_when_all_slots_are_used(rt: HostRuntime) -> Result<(), 
     Ok(())
 }
 
-#[tactic(auto, unfolding(crate::specs::MessageRows::most_messages))]
+#[tactic(auto, unfolding(state_rows::specs::MessageRows::most_messages))]
 #[test]
 fn a_descriptor_gets_another_length(rt: HostRuntime) -> Result<(), Fail> {
     let mut args = ARGS;

@@ -1,5 +1,8 @@
 -- Facts about lists of any items.
 pub mod Cases
+pub mod Contents
 pub mod Copies
+pub mod Mapped
+pub mod Partition
 pub mod Sets
 pub mod Totals

@@ -3,3 +3,4 @@ pub mod Same
 pub mod Counts
 pub mod Mutexes
 pub mod Effects
+pub mod Serving

@@ -5,17 +5,16 @@ use Rattle.std.specs.List.{slice_index_or}
 use Rattle.sym_base.specs.declared.number.ObjNo.{ObjNo}
 use Rattle.entry_log.specs.declared.effect.Holder.{Holder}
 use Rattle.entry_log.specs.declared.effect.Holder.TheVariants.{InThread}
-use Rattle.state_rows.specs.declared.duty.Held.TheVariants as held
 use Rattle.state_rows.specs.declared.handle_slot.HandleSlot.{HandleSlot}
 use Rattle.state_rows.specs.declared.thread.ThreadRow.{ThreadRow}
 use Rattle.machine.specs.declared.holding.Holding.{Holding}
-use Rattle.machine.specs.declared.holding.Holding.TheVariants.{Mutex, Handle, Logon}
+use Rattle.machine.specs.declared.holding.Holding.TheVariants.{Mutex, Use, Handle, Logon}
 use Rattle.machine.specs.declared.state.State.{State}
-use Rattle.machine.specs.Holdings.{held_slot, held_handles, first_here, first_used, held_use, use_held, held_of, held_mutexes, held_logons, process_handles, holdings}
+use Rattle.machine.specs.Holdings.{held_slot, held_handles, first_here, first_used, held_use, held_mutexes, held_servers, held_logons, process_handles, holdings}
 use Rattle.machine.specs.LogonMoves.{logons_on}
-use Rattle.machine.specs.Moves.{use_of, use_of_row}
-use Rattle.machine.specs.Rows.{table_of, thread_of}
-use Rattle.machine.specs.Task.{dying_task}
+use Rattle.machine.specs.Rows.{table_of}
+use Rattle.machine.specs.Task.{dying_task, work_or}
+use Rattle.machine.specs.declared.task.Task.{Task}
 use Rattle.machine.specs.declared.task.Task.TheVariants.{GiveUp, Clean}
 use Rattle.next_actions.specs.FirstHolding.{first_of}
 use Rattle.next_actions.specs.NextActions.{has_any}
@@ -44,27 +43,57 @@ first_behind [] ys none = refl
 first_behind (y ∷ xs) ys none = absurd (cc)
 
 -- the first of all, by its parts
-first_of_parts : (mutexes : List ObjNo) (used : Option ObjNo) (handles : List Holding) (logons : List (ObjNo × ℕ))
-    → first_of (slice_get (map (λ o. held.Mutex o) mutexes ++ use_held used ++ map (λ (logon : ObjNo × ℕ). held.Logon logon.0 logon.1) logons) 0) (slice_get handles 0)
-    ≡ slice_get (map (λ o. Mutex o) mutexes ++ held_use used ++ handles ++ map (λ (logon : ObjNo × ℕ). Logon logon.0 logon.1) logons) 0
-first_of_parts [] None [] [] = refl
-first_of_parts [] None [] (logon ∷ logons) = refl
-first_of_parts [] None (handle ∷ handles) [] = refl
-first_of_parts [] None (handle ∷ handles) (logon ∷ logons) = refl
-first_of_parts [] (Some o) handles logons = refl
-first_of_parts (o ∷ mutexes) used handles logons = refl
+first_of_parts : (mutexes : List ObjNo) (work : List Holding) (used : Option ObjNo) (handles : List Holding) (logons : List (ObjNo × ℕ))
+    → first_of (slice_get mutexes 0) (slice_get work 0) used (slice_get handles 0) (slice_get logons 0)
+    ≡ slice_get (map (λ o. Mutex o) mutexes ++ work ++ held_use used ++ handles ++ map (λ (logon : ObjNo × ℕ). Logon logon.0 logon.1) logons) 0
+first_of_parts [] [] None [] [] = refl
+first_of_parts [] [] None [] (logon ∷ logons) = refl
+first_of_parts [] [] None (handle ∷ handles) logons = refl
+first_of_parts [] [] (Some o) handles logons = refl
+first_of_parts [] (what ∷ work) used handles logons = refl
+first_of_parts (o ∷ mutexes) work used handles logons = refl
 
-pub first_of_all : (S : State) (t : ObjNo) (row : ThreadRow) → thread_of S t ≡ Some row
-    → first_of (slice_get (held_of S t) 0) (slice_get (held_handles (InThread t) 0 (table_of S t) ++ process_handles S t row.process) 0) ≡ slice_get (holdings S t row) 0
-first_of_all S t row is =
+first_of_all : (S : State) (t : ObjNo) (row : ThreadRow)
+    → first_of (slice_get (slice_index_or S.mutexes t.0 []) 0) (slice_get (held_servers S t) 0) row.uses (slice_get (held_handles (InThread t) 0 (table_of S t) ++ process_handles S t row.process) 0) (slice_get (logons_on S.logons t) 0)
+    ≡ slice_get (holdings S t row) 0
+first_of_all S t row =
     let own = held_handles (InThread t) 0 (table_of S t) in
     let shared = process_handles S t row.process in
-    let mutexes = slice_index_or S.mutexes t.0 [] in
-    let logons = logons_on S.logons t in
-    let used : use_of S t ≡ row.uses = ap use_of_row is in
-    ap (λ (u : Option ObjNo). first_of (slice_get (map (λ o. held.Mutex o) mutexes ++ use_held u ++ map (λ (logon : ObjNo × ℕ). held.Logon logon.0 logon.1) logons) 0) (slice_get (own ++ shared) 0)) used
-    ∙ first_of_parts mutexes row.uses (own ++ shared) logons
-    ∙ ap (λ (l : List Holding). slice_get (l ++ held_logons S t) 0) (sym (append_assoc (held_mutexes S t ++ held_use row.uses) own shared))
+    first_of_parts (slice_index_or S.mutexes t.0 []) (held_servers S t) row.uses (own ++ shared) (logons_on S.logons t)
+    ∙ ap (λ (l : List Holding). slice_get (l ++ held_logons S t) 0) (sym (append_assoc (held_mutexes S t ++ held_servers S t ++ held_use row.uses) own shared))
+
+-- so it is a mutex, or else of its closing servers, or else what its call uses, or else a handle, or else a logon
+by_parts : (S : State) (t : ObjNo) (row : ThreadRow) (mutex : Option ObjNo) (work : Option Holding) (used : Option ObjNo) (handle : Option Holding) (logon : Option (ObjNo × ℕ))
+    → slice_get (slice_index_or S.mutexes t.0 []) 0 ≡ mutex → slice_get (held_servers S t) 0 ≡ work → row.uses ≡ used → slice_get (held_handles (InThread t) 0 (table_of S t) ++ process_handles S t row.process) 0 ≡ handle → slice_get (logons_on S.logons t) 0 ≡ logon
+    → slice_get (holdings S t row) 0 ≡ first_of mutex work used handle logon
+by_parts S t row mutex work used handle logon m w u h l = rw (sym m, sym w, sym u, sym h, sym l) (sym (first_of_all S t row))
+
+pub of_mutex : (S : State) (t : ObjNo) (row : ThreadRow) (o : ObjNo) → slice_get (slice_index_or S.mutexes t.0 []) 0 ≡ Some o → slice_get (holdings S t row) 0 ≡ Some (Mutex o)
+of_mutex S t row o m = by_parts S t row (Some o) _ _ _ _ m refl refl refl refl
+
+pub of_work : (S : State) (t : ObjNo) (row : ThreadRow) (what : Holding) → slice_get (slice_index_or S.mutexes t.0 []) 0 ≡ None → slice_get (held_servers S t) 0 ≡ Some what → slice_get (holdings S t row) 0 ≡ Some what
+of_work S t row what m w = by_parts S t row None (Some what) _ _ _ m w refl refl refl
+
+pub of_use : (S : State) (t : ObjNo) (row : ThreadRow) (o : ObjNo) → slice_get (slice_index_or S.mutexes t.0 []) 0 ≡ None → slice_get (held_servers S t) 0 ≡ None → row.uses ≡ Some o → slice_get (holdings S t row) 0 ≡ Some (Use o)
+of_use S t row o m w u = by_parts S t row None None (Some o) _ _ m w u refl refl
+
+pub of_handle : (S : State) (t : ObjNo) (row : ThreadRow) (handle : Holding) → slice_get (slice_index_or S.mutexes t.0 []) 0 ≡ None → slice_get (held_servers S t) 0 ≡ None → row.uses ≡ None → slice_get (held_handles (InThread t) 0 (table_of S t) ++ process_handles S t row.process) 0 ≡ Some handle → slice_get (holdings S t row) 0 ≡ Some handle
+of_handle S t row handle m w u h = by_parts S t row None None None (Some handle) _ m w u h refl
+
+pub of_logon : (S : State) (t : ObjNo) (row : ThreadRow) (logon : ObjNo × ℕ) → slice_get (slice_index_or S.mutexes t.0 []) 0 ≡ None → slice_get (held_servers S t) 0 ≡ None → row.uses ≡ None → slice_get (held_handles (InThread t) 0 (table_of S t) ++ process_handles S t row.process) 0 ≡ None → slice_get (logons_on S.logons t) 0 ≡ Some logon → slice_get (holdings S t row) 0 ≡ Some (Logon logon.0 logon.1)
+of_logon S t row logon m w u h l = by_parts S t row None None None None (Some logon) m w u h l
+
+pub of_none : (S : State) (t : ObjNo) (row : ThreadRow) → slice_get (slice_index_or S.mutexes t.0 []) 0 ≡ None → slice_get (held_servers S t) 0 ≡ None → row.uses ≡ None → slice_get (held_handles (InThread t) 0 (table_of S t) ++ process_handles S t row.process) 0 ≡ None → slice_get (logons_on S.logons t) 0 ≡ None → slice_get (holdings S t row) 0 ≡ None
+of_none S t row m w u h l = by_parts S t row None None None None None m w u h l
+
+-- the work of a live thread's closing servers, where there is any
+pub work_first : (work : List Holding) (what : Holding) (own : Task) → slice_get work 0 ≡ Some what → work_or work own ≡ GiveUp what
+work_first [] what own is = absurd (cc)
+work_first (x ∷ work) what own is = cc
+
+pub work_none : (work : List Holding) (own : Task) → slice_get work 0 ≡ None → work_or work own ≡ own
+work_none [] own none = refl
+work_none (x ∷ work) own none = absurd (cc)
 
 -- the task of a doomed thread, by the first of what it has
 pub dying_first : (has : List Holding) (what : Holding) → slice_get has 0 ≡ Some what → dying_task has ≡ GiveUp what

@@ -1,14 +1,13 @@
 //! Bodies: what interrupts and deferred function calls do, one operation after the other, each decided in the state
 //! that the earlier ones left (Symbian OS Internals, the chapter on interrupts).
-ghost use Rattle.std.specs.Prelude.{◌≡◌, ◌==◌, ◌<◌, ◌≤◌, [], ◌∷◌, if◌then◌else◌, length, option_copied, position, IfSome};
-ghost use Rattle.machine.specs.Bodies.{add_call, queue_immediate, queue_to_move, queue_call, signal_row, signal_object, ends_wait, end_wait, complete, op_moves, irq_of, ops_of_irq, ops_of, step_of_body, leave_queue};
-ghost use Rattle.machine.specs.declared.moves.Move.TheVariants.{Wake};
+ghost use Rattle.std.specs.Prelude.{◌≡◌, ◌==◌, ◌<◌, ◌≤◌, length, option_copied, position, IfSome};
+ghost use Rattle.machine.specs.Bodies.{add_call, queue_immediate, queue_to_move, queue_call, signal_row, signal_object, complete, op_moves, irq_of, ops_of_irq, ops_of, step_of_body, leave_queue};
 ghost use Rattle.script_types.specs.Shape.{IsShaped};
 ghost use Rattle.script_types.specs.declared.declaration.IrqBody.{IrqBody};
 
-use decisions::{add_call, is_pending, signal_move};
+use decisions::{add_call, is_woken, signal_move};
 use entry_log::Step;
-use machine::{Body, DeferredMove, Move, Moves, RequestMove, ThreadRow, Waiting};
+use machine::{Body, DeferredMove, Move, Moves, RequestMove, ThreadRow};
 use readings::Reads;
 use script_types::{IrqBody, Op, Script};
 use state_rows::{Request, Stage, dfc_named, idfc_named};
@@ -68,27 +67,6 @@ fn signal_object<R: Reads>(moves: &mut Moves, reads: &R, found: Option<ObjNo>)
     match found {
         Some(other) => signal_row(moves, other, reads.thread(other).copied()),
         None => moves.clear(),
-    }
-}
-
-/// Whether a thread's wait ends when one of its statuses is completed.
-fn ends_wait<R: Reads>(reads: &R, thread: ThreadNo, status: u8, waiting: Waiting) -> bool
-    ensures { result ≡ ends_wait (R.state reads.now) thread status waiting }
-{
-    match waiting {
-        Waiting::Any => true,
-        Waiting::Status(other) => other == status || !is_pending(reads, thread, other),
-        _ => false,
-    }
-}
-
-/// Whether the wait of the thread of this row ends then.
-pub fn is_woken<R: Reads>(reads: &R, thread: ThreadNo, status: u8, row: Option<ThreadRow>) -> bool
-    ensures { end_wait (R.state reads.now) thread status row ≡ (if result then Wake thread ∷ [] else []) }
-{
-    match row {
-        Some(row) => ends_wait(reads, thread, status, row.waiting),
-        None => false,
     }
 }
 

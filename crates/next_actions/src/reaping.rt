@@ -1,26 +1,27 @@
-//! How a doomed thread gives up what it has, one thing an action, and is cleaned and buried at last. The order is this
-//! project's own.
+//! How a doomed thread gives up what it has, one thing an action, and is cleaned and buried at last; and how a live thread gives up
+//! what it has of its closing servers. The order is this project's own.
 ghost use Rattle.std.specs.Prelude.{◌≡◌, ◌++◌, [], ◌∷◌, Some, None, slice_get};
 ghost use Rattle.entry_log.specs.declared.effect.Holder.TheVariants.{InThread};
+ghost use Rattle.entry_log.specs.declared.step.Step.TheVariants as step;
 ghost use Rattle.machine.specs.declared.moves.Move.TheVariants as move;
+ghost use Rattle.machine.specs.Closing.{close_moves};
 ghost use Rattle.machine.specs.Holdings.{held_handles, holdings, process_handles};
-ghost use Rattle.machine.specs.Reaping.{free_mutex, tell_logon, give_up, clean, bury};
+ghost use Rattle.machine.specs.Reaping.{free_mutex, tell_logon, finish_message, stop, give_up, clean, bury};
 ghost use Rattle.machine.specs.Rows.{table_of, thread_of};
 ghost use Rattle.machine.specs.Steps.{decision_of_row, decision_of_task};
 ghost use Rattle.machine.specs.Task.{dying_task};
-ghost use Rattle.next_actions.specs.FirstHolding.{first_of};
 ghost use Rattle.next_actions.specs.NextActions.{IsDoomed, dying_at, has_any, holdings_at};
 
-use crate::bodies::is_woken;
-use decisions::{add_call, nothing, reason_of};
+use decisions::{add_call, close_moves, finish, is_woken, nothing, reason_of};
 use entry_log::{Holder, Step};
 use machine::{
-    DeathMove, Decision, DeferredMove, Holding, LockMove, LogonMove, Move, RequestMove, ThreadRow,
+    DeathMove, Decision, DeferredMove, Holding, LockMove, LogonMove, Move, RequestMove, ServerMove,
+    ThreadRow,
 };
 use readings::{Reads, burial_of};
 use script_types::Script;
-use state_rows::{Held, Stage};
-use sym_base::{ObjNo, ThreadNo};
+use state_rows::{Message, Stage};
+use sym_base::{Error, ObjNo, ThreadNo};
 
 /// The first handle of a thread's own table.
 #[tactic(auto, using(crate::proofs::First::handles_first))]
@@ -62,28 +63,28 @@ fn first_handle<R: Reads>(reads: &R, thread: ThreadNo, row: &ThreadRow) -> Optio
     }
 }
 
-/// The first of all, of the first of what isn't a handle and the first handle: handles come behind what a call uses, and
-/// before the logons.
-fn first_of(held: Option<Held>, handle: Option<Holding>) -> Option<Holding>
-    ensures { result ≡ first_of held handle }
-{
-    match held {
-        Some(Held::Mutex(mutex)) => Some(Holding::Mutex(mutex)),
-        Some(Held::Temp(object)) => Some(Holding::Use(object)),
-        Some(Held::Logon(by, status)) => handle.or(Some(Holding::Logon(by, status))),
-        Some(Held::Server(_)) | None => handle,
-    }
-}
-
 /// The first of what the doomed thread of a row still has.
-#[tactic(auto, using(crate::proofs::First::first_of_all))]
+#[tactic(auto, using(crate::proofs::First::of_mutex, crate::proofs::First::of_work, crate::proofs::First::of_use, crate::proofs::First::of_handle, crate::proofs::First::of_logon, crate::proofs::First::of_none))]
 fn first_holding<R: Reads>(reads: &R, thread: ThreadNo, row: &ThreadRow) -> Option<Holding>
     requires readable { R.is_readable reads.now }
     requires row { thread_of (R.state reads.now) thread ≡ Some row.now }
     requires doomed { row.now.stage ≡ Stage.Doomed }
     ensures { result ≡ slice_get (holdings (R.state reads.now) thread row.now) 0 }
 {
-    first_of(reads.first_held(thread), first_handle(reads, thread, row))
+    if let Some(mutex) = reads.first_mutex(thread) {
+        return Some(Holding::Mutex(mutex));
+    }
+    if let Some(work) = reads.first_work(thread) {
+        return Some(work);
+    }
+    if let Some(object) = row.uses {
+        return Some(Holding::Use(object));
+    }
+    if let Some(handle) = first_handle(reads, thread, row) {
+        return Some(handle);
+    }
+    let (by, status) = reads.first_logon(thread)?;
+    Some(Holding::Logon(by, status))
 }
 
 /// A mutex goes, with all its levels at once, and the waiter that gets it waits no longer.
@@ -134,8 +135,49 @@ fn tell_logon<R: Reads>(
     decision.answer = None;
 }
 
+/// A message of a closing server is finished, where it is outstanding.
+fn finish_message<R: Reads>(decision: &mut Decision, reads: &R, found: Option<Message>)
+    ensures { decision.new ≡ finish_message (R.state reads.now) found }
+{
+    let Some(message) = found else {
+        return nothing(decision);
+    };
+    decision.step = Step::Finish;
+    decision.moves.clear();
+    let code = Error::ServerTerminated.code();
+    finish(&mut decision.moves, reads, &message, code);
+    decision.answer = None;
+}
+
+/// A closing server ends, of which nothing else is left.
+fn stop(decision: &mut Decision, thread: ThreadNo, server: ObjNo)
+    ensures { decision.new ≡ stop thread server }
+{
+    decision.step = Step::Stop;
+    decision.moves.clear();
+    decision.moves.push(Move::Servers(ServerMove::End(server)));
+    decision.moves.push(Move::Lose(Holder::Own(thread), server));
+    decision.answer = None;
+}
+
+/// A handle is closed.
+fn shut<R: Reads>(
+    decision: &mut Decision,
+    reads: &R,
+    thread: ThreadNo,
+    holder: Holder,
+    object: ObjNo,
+)
+    ensures { decision.new ≡ record { step = step.Shut; moves = close_moves (R.state reads.now) thread holder object; answer = None } }
+{
+    decision.step = Step::Shut;
+    decision.moves.clear();
+    close_moves(&mut decision.moves, reads, thread, holder, object);
+    decision.answer = None;
+}
+
 /// One thing goes that the thread of a row has.
-fn give_up<R: Reads>(
+pub fn give_up<R: Reads>(
     decision: &mut Decision,
     reads: &R,
     thread: ThreadNo,
@@ -149,8 +191,13 @@ fn give_up<R: Reads>(
         Holding::Mutex(mutex) => {
             free_mutex(decision, thread, mutex, reads.best_waiter(mutex));
         }
+        Holding::Message(number) => finish_message(decision, reads, reads.message(number)),
+        Holding::Link(session, server) => {
+            lose(decision, Step::Detach, Holder::Link(session), server);
+        }
+        Holding::Server(server) => stop(decision, thread, server),
         Holding::Use(object) => lose(decision, Step::Drop, Holder::Temp(thread), object),
-        Holding::Handle(holder, object) => lose(decision, Step::Shut, holder, object),
+        Holding::Handle(holder, object) => shut(decision, reads, thread, holder, object),
         Holding::Logon(other, status) => {
             tell_logon(decision, reads, thread, row, other, status);
         }

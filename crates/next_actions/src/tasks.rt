@@ -1,4 +1,5 @@
-//! What a thread does next: its return, what it owes, a call of its queue, its instruction, or what is left at its list's end.
+//! What a thread does next: its return, what it owes, a call of its queue, the work of its closing servers, its instruction, or what is
+//! left at its list's end.
 ghost use Rattle.std.specs.Prelude.{◌≡◌, true, IsTrue, Some, if◌then◌else◌, option_copied, option_map};
 ghost use Rattle.script_types.specs.Shape.{IsShaped};
 ghost use Rattle.state_rows.specs.Nano.{is_protected};
@@ -10,14 +11,14 @@ ghost use Rattle.machine.specs.Steps.{pay_step, pay, decision_of_task, decision_
 ghost use Rattle.machine.specs.Task.{call_task, end_task, task_of_row, task_of, is_able};
 ghost use Rattle.next_actions.specs.NextActions.{IsStepOf, Suits, SuitsRow, decided_by};
 ghost use Rattle.next_actions.specs.Planned.{planned};
-ghost use Rattle.next_actions.specs.TaskParts.{task_alive, task_at_stage, task_behind_return};
+ghost use Rattle.next_actions.specs.TaskParts.{own_task, task_alive, task_at_stage, task_behind_return};
 ghost use Rattle.sym_base.specs.declared.number.ObjNo.{ObjNo};
 ghost use Rattle.script_types.specs.declared.script.Script.{Script};
 ghost use Rattle.machine.specs.declared.state.State.{State};
 ghost use Rattle.state_rows.specs.declared.thread.Stage.TheVariants.{Live};
 ghost use Rattle.state_rows.specs.declared.thread.ThreadRow.{ThreadRow};
 
-use crate::reaping::{bury, reap};
+use crate::reaping::{bury, give_up, reap};
 use decisions::{decide_step, end, flush, nothing, return_of};
 use entry_log::Step;
 use machine::{Body, Decision, Move, Owed, ThreadRow};
@@ -31,7 +32,7 @@ const FIRST_BURIAL: u8 = 64;
 
 /// What an able thread does next.
 pub enum NextAction<'a> {
-    /// What was decided: a return, a payment, or what protects it and is given up at its list's end.
+    /// What was decided: a return, a payment, the work of a closing server, or what protects it and is given up at its list's end.
     Decided,
     /// A body of a deferred function call runs.
     Runs(Body),
@@ -96,27 +97,48 @@ fn serve<'a>(decision: &mut Decision, call: Option<u8>) -> NextAction<'a>
     }
 }
 
-/// What a live thread does that owes nothing: a call of its queue, its instruction, or what is left at its list's end.
-fn live<'a, R: Reads>(
+/// What a live thread does that owes nothing and serves no queue: the work of its closing servers, its instruction, or what is left at
+/// its list's end.
+#[tactic(auto, using(crate::proofs::First::work_first, crate::proofs::First::work_none))]
+fn work_or_step<'a, R: Reads>(
     decision: &mut Decision,
-    script: &Script,
     reads: &R,
     thread: ThreadNo,
     row: &ThreadRow,
     instr: Option<&'a Instr>,
 ) -> NextAction<'a>
     requires { R.is_readable reads.now }
-    ensures decided { let S = R.state reads.now in decided_by script.now thread S (Some row.now) decision.new result ≡ decision_of_row script.now S thread (Some row.now) (task_alive S thread row.now (option_copied instr.entry)) }
+    ensures decided { (script : Script) → let S = R.state reads.now in decided_by script thread S (Some row.now) decision.new result ≡ decision_of_row script S thread (Some row.now) (Some (own_task S thread (option_copied instr.entry))) }
+    ensures step { IsStepOf (Some (own_task (R.state reads.now) thread (option_copied instr.entry))) result }
+    ensures suits { row.now.stage ≡ Live → SuitsRow (R.state reads.now) thread row.now result }
+{
+    if let Some(what) = reads.first_work(thread) {
+        give_up(decision, reads, thread, row, what);
+        return NextAction::Decided;
+    }
+    match instr {
+        Some(instr) => NextAction::Steps(instr),
+        None => end_of_list(decision, reads, thread),
+    }
+}
+
+/// What a live thread does that owes nothing: a call of its queue, or what is its own to do.
+fn live<'a, R: Reads>(
+    decision: &mut Decision,
+    reads: &R,
+    thread: ThreadNo,
+    row: &ThreadRow,
+    instr: Option<&'a Instr>,
+) -> NextAction<'a>
+    requires { R.is_readable reads.now }
+    ensures decided { (script : Script) → let S = R.state reads.now in decided_by script thread S (Some row.now) decision.new result ≡ decision_of_row script S thread (Some row.now) (task_alive S thread row.now (option_copied instr.entry)) }
     ensures step { IsStepOf (task_alive (R.state reads.now) thread row.now (option_copied instr.entry)) result }
     ensures suits { row.now.stage ≡ Live → SuitsRow (R.state reads.now) thread row.now result }
 {
     if serves_queue(row.role) {
         return serve(decision, next_call(reads, row.role));
     }
-    match instr {
-        Some(instr) => NextAction::Steps(instr),
-        None => end_of_list(decision, reads, thread),
-    }
+    work_or_step(decision, reads, thread, row, instr)
 }
 
 /// What a thread does that owes nothing, by its stage.
@@ -135,7 +157,7 @@ fn run_or_step<'a, R: Reads>(
     ensures suits { SuitsRow (R.state reads.now) thread row.now result }
 {
     match row.stage {
-        Stage::Live => live(decision, script, reads, thread, row, instr),
+        Stage::Live => live(decision, reads, thread, row, instr),
         Stage::Doomed => NextAction::Dies,
         Stage::Cleaned | Stage::Buried => {
             nothing(decision);
@@ -214,7 +236,7 @@ pub fn next_action<'a, R: Reads>(
 }
 
 /// What an able thread does next, with its instruction's step decided.
-#[tactic(auto, using(move_laws::proofs::Numbers::Registers::task_has_registers))]
+#[tactic(auto, using(machine::proofs::Instructions::task_has_registers, machine::proofs::Instructions::task_has_ranges))]
 fn decide_able<R: Reads>(
     decision: &mut Decision,
     script: &Script,

@@ -6,11 +6,11 @@ use Rattle.script_types.specs.declared.declaration.Op.{Op}
 use Rattle.script_types.specs.declared.script.Script.{Script}
 use Rattle.machine.specs.declared.moves.Move.{Move}
 use Rattle.machine.specs.declared.state.State.{State}
-use Rattle.readings.specs.Readable.{AreSmallRows}
 use Rattle.machine.specs.Arrivals.{arrive, arrivals, touched, taken_out}
 use Rattle.machine.specs.Bodies.{op_moves, ops_moves}
 use Rattle.machine.specs.Moves.{moved, told, perform, tell}
 use Rattle.machine.specs.Room.{HasRoom}
+use Rattle.plain_machine.specs.Allowed.{IsSmall}
 use Rattle.plain_machine.specs.declared.course.Course.{Course}
 use Rattle.plain_machine.specs.Courses.{course_after}
 use Rattle.plain_machine.proofs.Rooms.{room_moved, room_less}
@@ -45,9 +45,11 @@ pub room_performed : (t : ObjNo) (moves : List Move) (n : ℕ) (S : State) → H
 room_performed t [] n S room = subst (λ (k : ℕ). HasRoom k S) (omega arith) room
 room_performed t (m ∷ moves) n S room = room_performed t moves n (moved t m S) (room_moved t m (length moves + n) S (subst (λ (k : ℕ). HasRoom k S) (omega arith) room))
 
-pub small_performed : (t : ObjNo) (moves : List Move) (S : State) → AreSmallRows S.nano → AreSmallRows (perform t moves S).nano
-small_performed t [] S small = small
-small_performed t (m ∷ moves) S small = small_performed t moves (moved t m S) (small_moved t m S small)
+pub small_performed : (t : ObjNo) (moves : List Move) (n : ℕ) (S : State) → HasRoom (length moves + n) S → IsSmall S → IsSmall (perform t moves S)
+small_performed t [] n S room small = small
+small_performed t (m ∷ moves) n S room small =
+    let one : HasRoom (length moves + n + 1) S = subst (λ (k : ℕ). HasRoom k S) (omega arith) room in
+    small_performed t moves n (moved t m S) (room_moved t m (length moves + n) S one) (small_moved t m (length moves + n) S one small)
 
 -- Of the moves of an action the later ones are left: they lead from this state and course to those at the end, and there is
 -- room for so many.
@@ -55,7 +57,7 @@ pub record IsUnderWay (script : Script) (t : ObjNo) (end : State) (whole : Cours
   pub rows : perform t later S ≡ end
   pub course : course_after script t later S now ≡ whole
   pub room : HasRoom n S
-  pub small : AreSmallRows S.nano
+  pub small : IsSmall S
 
 -- several moves more
 pub goes_on : (script : Script) (t : ObjNo) (end : State) (whole : Course) (moves later : List Move) (n : ℕ) (S : State) (now : Course)
@@ -64,7 +66,7 @@ goes_on script t end whole moves later n S now way = record {
   rows = perform_both t moves later S ∙ way.rows;
   course = course_both script t moves later S now ∙ way.course;
   room = room_performed t moves n S way.room;
-  small = small_performed t moves S way.small;
+  small = small_performed t moves n S way.room way.small;
 }
 
 -- what they tell has room

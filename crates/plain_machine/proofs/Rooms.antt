@@ -11,15 +11,21 @@ use Rattle.state_rows.specs.ObjectRows.{dead_row}
 use Rattle.machine.specs.declared.death_move.DeathMove.{DeathMove}
 use Rattle.machine.specs.declared.death_move.DeathMove.TheVariants.{Note, Doom, Clean, Bury}
 use Rattle.machine.specs.declared.moves.Move.{Move}
-use Rattle.machine.specs.declared.moves.Move.TheVariants.{Make, Gain, Lose, Find, Miss, GoOn, Write, Advance, Wait, Wake, SetPriority, Nano, Deferred, Requests, Locks, Logons, Death, Fill, Pay}
+use Rattle.machine.specs.declared.moves.Move.TheVariants.{Make, Gain, Lose, Find, Miss, GoOn, Keep, Write, WriteMessage, PutDown, Advance, Wait, Wake, SetPriority, Nano, Deferred, Requests, Locks, Logons, Death, Servers, Messages, Fill, Pay}
 use Rattle.state_rows.specs.declared.handle_slot.HandleSlot.{HandleSlot}
 use Rattle.state_rows.specs.declared.thread.Waiting.TheVariants.{Nothing}
 use Rattle.state_rows.specs.declared.thread.ThreadRow.{ThreadRow}
 use Rattle.machine.specs.declared.state.State.{State}
+use Rattle.sym_base.specs.declared.number.MsgNo.{MsgNo}
 use Rattle.state_rows.specs.HandleSlots.{slot_at, fresh_slot}
+use Rattle.state_rows.specs.declared.messages.MessageRows.{MessageRows}
+use Rattle.state_rows.specs.MessageChanges.{next_of, taken}
+use Rattle.machine.specs.declared.message_move.MessageMove.{MessageMove}
+use Rattle.machine.specs.declared.message_move.MessageMove.TheVariants.{Accept, Take, Finish}
+use Rattle.machine.specs.MessageMoves.{messages_moved}
 use Rattle.machine.specs.DeathMoves.{death_row, death_thread}
 use Rattle.machine.specs.Handles.{with_slot, taken_slot, freed_slot}
-use Rattle.machine.specs.Moves.{moved, with_use, unlinked, with_found, with_part, with_register, advanced, with_waiting, with_priority, tables_gain, tables_lose, threads_gain, threads_lose, threads_closed, objects_closed, next_object, new_object}
+use Rattle.machine.specs.Moves.{moved, with_use, unlinked, with_found, with_kept, with_part, with_register, with_message, advanced, with_waiting, with_priority, tables_gain, tables_lose, threads_gain, threads_lose, threads_closed, objects_closed, next_object, new_object}
 use Rattle.machine.specs.References.{is_last}
 use Rattle.machine.specs.Room.{HasRoom, IsSmallTable, AreSmallTables, MayAdvance}
 use Rattle.machine.specs.Rows.{with_row}
@@ -137,7 +143,10 @@ threads_long t (Lose h o) S = long_closed (is_last S o) o (threads_lose h S.thre
 threads_long t (Find u o) S = long_row S.threads u (with_found o)
 threads_long t (Miss o) S = refl
 threads_long t (GoOn u part) S = long_row S.threads u (with_part part)
+threads_long t (Keep u number) S = long_row S.threads u (with_kept number)
 threads_long t (Write u x value) S = long_row S.threads u (with_register x value)
+threads_long t (WriteMessage u y number) S = long_row S.threads u (with_message y number)
+threads_long t (PutDown u) S = long_row S.threads u (with_use None)
 threads_long t (Advance u) S = long_row S.threads u advanced
 threads_long t (Wait u what) S = long_row S.threads u (with_waiting what)
 threads_long t (Wake u) S = long_row S.threads u (with_waiting Nothing)
@@ -148,6 +157,8 @@ threads_long t (Requests m) S = refl
 threads_long t (Locks m) S = refl
 threads_long t (Logons m) S = refl
 threads_long t (Death m) S = long_row S.threads (death_thread m) (death_row m)
+threads_long t (Servers m) S = refl
+threads_long t (Messages m) S = refl
 threads_long t (Fill p at long byte) S = refl
 threads_long t (Pay (Close h o)) S = long_closed (is_last S o) o S.threads
 threads_long t (Pay (Sweep o)) S = length-set S.threads o.0 None
@@ -159,15 +170,27 @@ room_less m n S le room = record {
   threads = room.threads;
   instructions = threads_less m n le S.threads room.instructions;
   tables = room.tables;
+  messages = let few = room.messages in omega arith;
 }
 
+-- one message more at most is accepted
+accepts_one : (m : MessageMove) (r : MessageRows) → (messages_moved m r).accepted ≤ r.accepted + 1
+accepts_one (Accept slots row) r = omega arith
+accepts_one (Finish m code) r = omega arith
+accepts_one (Take o) r = accepts_same (next_of r o)
+  where
+    accepts_same : (found : Option MsgNo) → (taken r found).accepted ≤ r.accepted + 1
+    accepts_same None = omega arith
+    accepts_same (Some m) = omega arith
+
 -- room after a move that changes the rows of threads alone
-with_threads : (n : ℕ) (S T : State) → T.objects ≡ S.objects → T.handles ≡ S.handles → length T.threads ≡ length S.threads → MayAdvance n T.threads → HasRoom (n + 1) S → HasRoom n T
-with_threads n S T same tables long may room = record {
+with_threads : (n : ℕ) (S T : State) → T.objects ≡ S.objects → T.handles ≡ S.handles → T.messages.accepted ≤ S.messages.accepted + 1 → length T.threads ≡ length S.threads → MayAdvance n T.threads → HasRoom (n + 1) S → HasRoom n T
+with_threads n S T same tables accepted long may room = record {
   objects = let few = room.objects in let made = ap (λ (xs : List (Option ObjectRow)). length xs) same in omega arith;
   threads = let few = room.threads in omega arith;
   instructions = may;
   tables = subst AreSmallTables (sym tables) room.tables;
+  messages = let few = room.messages in omega arith;
 }
 
 -- a death stays at the instruction
@@ -184,43 +207,53 @@ room_moved t (Make kind name h) n S room = record {
   threads = let few = room.threads in let long = threads_long t (Make kind name h) S in omega arith;
   instructions = threads_gained h (next_object S) n S.threads (threads_less n (n + 1) (omega arith) S.threads room.instructions);
   tables = tables_gained h (next_object S) S.handles room.tables;
+  messages = let few = room.messages in omega arith;
 }
 room_moved t (Gain h o) n S room = record {
   objects = let few = room.objects in omega arith;
   threads = let few = room.threads in let long = threads_long t (Gain h o) S in omega arith;
   instructions = threads_gained h o n S.threads (threads_less n (n + 1) (omega arith) S.threads room.instructions);
   tables = tables_gained h o S.handles room.tables;
+  messages = let few = room.messages in omega arith;
 }
 room_moved t (Lose h o) n S room = record {
   objects = let few = room.objects in let long = length_closed (is_last S o) o S.objects in omega arith;
   threads = let few = room.threads in let long = threads_long t (Lose h o) S in omega arith;
   instructions = threads_unlinked (is_last S o) o n (threads_lose h S.threads) (threads_lost h n S.threads (threads_less n (n + 1) (omega arith) S.threads room.instructions));
   tables = tables_lost h S.handles room.tables;
+  messages = let few = room.messages in omega arith;
 }
-room_moved t (Find u o) n S room = with_threads n S (moved t (Find u o) S) refl refl (threads_long t (Find u o) S) (row_goes (with_found o) (λ row. omega arith) n S.threads u room.instructions) room
+room_moved t (Find u o) n S room = with_threads n S (moved t (Find u o) S) refl refl (omega arith) (threads_long t (Find u o) S) (row_goes (with_found o) (λ row. omega arith) n S.threads u room.instructions) room
 room_moved t (Miss o) n S room = room_less n (n + 1) S (omega arith) room
-room_moved t (GoOn u part) n S room = with_threads n S (moved t (GoOn u part) S) refl refl (threads_long t (GoOn u part) S) (row_goes (with_part part) (λ row. omega arith) n S.threads u room.instructions) room
-room_moved t (Write u x value) n S room = with_threads n S (moved t (Write u x value) S) refl refl (threads_long t (Write u x value) S) (row_goes (with_register x value) (λ row. omega arith) n S.threads u room.instructions) room
-room_moved t (Advance u) n S room = with_threads n S (moved t (Advance u) S) refl refl (threads_long t (Advance u) S) (row_goes advanced (λ row. omega arith) n S.threads u room.instructions) room
-room_moved t (Wait u what) n S room = with_threads n S (moved t (Wait u what) S) refl refl (threads_long t (Wait u what) S) (row_goes (with_waiting what) (λ row. omega arith) n S.threads u room.instructions) room
-room_moved t (Wake u) n S room = with_threads n S (moved t (Wake u) S) refl refl (threads_long t (Wake u) S) (row_goes (with_waiting Nothing) (λ row. omega arith) n S.threads u room.instructions) room
-room_moved t (SetPriority u priority) n S room = with_threads n S (moved t (SetPriority u priority) S) refl refl (threads_long t (SetPriority u priority) S) (row_goes (with_priority priority) (λ row. omega arith) n S.threads u room.instructions) room
-room_moved t (Nano m) n S room = with_threads n S (moved t (Nano m) S) refl refl (threads_long t (Nano m) S) (threads_less n (n + 1) (omega arith) S.threads room.instructions) room
-room_moved t (Deferred m) n S room = with_threads n S (moved t (Deferred m) S) refl refl (threads_long t (Deferred m) S) (threads_less n (n + 1) (omega arith) S.threads room.instructions) room
-room_moved t (Requests m) n S room = with_threads n S (moved t (Requests m) S) refl refl (threads_long t (Requests m) S) (threads_less n (n + 1) (omega arith) S.threads room.instructions) room
-room_moved t (Locks m) n S room = with_threads n S (moved t (Locks m) S) refl refl (threads_long t (Locks m) S) (threads_less n (n + 1) (omega arith) S.threads room.instructions) room
-room_moved t (Logons m) n S room = with_threads n S (moved t (Logons m) S) refl refl (threads_long t (Logons m) S) (threads_less n (n + 1) (omega arith) S.threads room.instructions) room
-room_moved t (Death m) n S room = with_threads n S (moved t (Death m) S) refl refl (threads_long t (Death m) S) (row_stays (death_row m) (death_stays m) n S.threads (death_thread m) (threads_less n (n + 1) (omega arith) S.threads room.instructions)) room
-room_moved t (Fill p at long byte) n S room = with_threads n S (moved t (Fill p at long byte) S) refl refl (threads_long t (Fill p at long byte) S) (threads_less n (n + 1) (omega arith) S.threads room.instructions) room
+room_moved t (GoOn u part) n S room = with_threads n S (moved t (GoOn u part) S) refl refl (omega arith) (threads_long t (GoOn u part) S) (row_goes (with_part part) (λ row. omega arith) n S.threads u room.instructions) room
+room_moved t (Keep u number) n S room = with_threads n S (moved t (Keep u number) S) refl refl (omega arith) (threads_long t (Keep u number) S) (row_goes (with_kept number) (λ row. omega arith) n S.threads u room.instructions) room
+room_moved t (Write u x value) n S room = with_threads n S (moved t (Write u x value) S) refl refl (omega arith) (threads_long t (Write u x value) S) (row_goes (with_register x value) (λ row. omega arith) n S.threads u room.instructions) room
+room_moved t (WriteMessage u y number) n S room = with_threads n S (moved t (WriteMessage u y number) S) refl refl (omega arith) (threads_long t (WriteMessage u y number) S) (row_goes (with_message y number) (λ row. omega arith) n S.threads u room.instructions) room
+room_moved t (PutDown u) n S room = with_threads n S (moved t (PutDown u) S) refl refl (omega arith) (threads_long t (PutDown u) S) (row_goes (with_use None) (λ row. omega arith) n S.threads u room.instructions) room
+room_moved t (Advance u) n S room = with_threads n S (moved t (Advance u) S) refl refl (omega arith) (threads_long t (Advance u) S) (row_goes advanced (λ row. omega arith) n S.threads u room.instructions) room
+room_moved t (Wait u what) n S room = with_threads n S (moved t (Wait u what) S) refl refl (omega arith) (threads_long t (Wait u what) S) (row_goes (with_waiting what) (λ row. omega arith) n S.threads u room.instructions) room
+room_moved t (Wake u) n S room = with_threads n S (moved t (Wake u) S) refl refl (omega arith) (threads_long t (Wake u) S) (row_goes (with_waiting Nothing) (λ row. omega arith) n S.threads u room.instructions) room
+room_moved t (SetPriority u priority) n S room = with_threads n S (moved t (SetPriority u priority) S) refl refl (omega arith) (threads_long t (SetPriority u priority) S) (row_goes (with_priority priority) (λ row. omega arith) n S.threads u room.instructions) room
+room_moved t (Nano m) n S room = with_threads n S (moved t (Nano m) S) refl refl (omega arith) (threads_long t (Nano m) S) (threads_less n (n + 1) (omega arith) S.threads room.instructions) room
+room_moved t (Deferred m) n S room = with_threads n S (moved t (Deferred m) S) refl refl (omega arith) (threads_long t (Deferred m) S) (threads_less n (n + 1) (omega arith) S.threads room.instructions) room
+room_moved t (Requests m) n S room = with_threads n S (moved t (Requests m) S) refl refl (omega arith) (threads_long t (Requests m) S) (threads_less n (n + 1) (omega arith) S.threads room.instructions) room
+room_moved t (Locks m) n S room = with_threads n S (moved t (Locks m) S) refl refl (omega arith) (threads_long t (Locks m) S) (threads_less n (n + 1) (omega arith) S.threads room.instructions) room
+room_moved t (Logons m) n S room = with_threads n S (moved t (Logons m) S) refl refl (omega arith) (threads_long t (Logons m) S) (threads_less n (n + 1) (omega arith) S.threads room.instructions) room
+room_moved t (Death m) n S room = with_threads n S (moved t (Death m) S) refl refl (omega arith) (threads_long t (Death m) S) (row_stays (death_row m) (death_stays m) n S.threads (death_thread m) (threads_less n (n + 1) (omega arith) S.threads room.instructions)) room
+room_moved t (Servers m) n S room = with_threads n S (moved t (Servers m) S) refl refl (omega arith) (threads_long t (Servers m) S) (threads_less n (n + 1) (omega arith) S.threads room.instructions) room
+room_moved t (Messages m) n S room = with_threads n S (moved t (Messages m) S) refl refl (accepts_one m S.messages) (threads_long t (Messages m) S) (threads_less n (n + 1) (omega arith) S.threads room.instructions) room
+room_moved t (Fill p at long byte) n S room = with_threads n S (moved t (Fill p at long byte) S) refl refl (omega arith) (threads_long t (Fill p at long byte) S) (threads_less n (n + 1) (omega arith) S.threads room.instructions) room
 room_moved t (Pay (Close h o)) n S room = record {
   objects = let few = room.objects in let long = length_closed (is_last S o) o S.objects in omega arith;
   threads = let few = room.threads in let long = threads_long t (Pay (Close h o)) S in omega arith;
   instructions = threads_unlinked (is_last S o) o n S.threads (threads_less n (n + 1) (omega arith) S.threads room.instructions);
   tables = room.tables;
+  messages = let few = room.messages in omega arith;
 }
 room_moved t (Pay (Sweep o)) n S room = record {
   objects = let few = room.objects in let long = length-set S.objects o.0 None in omega arith;
   threads = let few = room.threads in let long = threads_long t (Pay (Sweep o)) S in omega arith;
   instructions = set_keeps (CanGo n) S.threads o.0 None None (λ row e. absurd (cc)) (threads_less n (n + 1) (omega arith) S.threads room.instructions);
   tables = room.tables;
+  messages = let few = room.messages in omega arith;
 }

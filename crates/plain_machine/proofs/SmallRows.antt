@@ -1,15 +1,28 @@
 -- The rows of threads that synchronize stay small: a change keeps the number of fast mutexes, and no suspend count
--- rises above 127.
-use Rattle.std.proofs.Common.{◌≡◌, ℕ, ◌+◌, ◌-◌, ◌≤◌, List, length, get_or, arith, refl, Bool, true, false, Some, None}
+-- rises above 127. So do the numbers of messages, while there is room.
+use Rattle.std.proofs.Common.{◌≡◌, ℕ, ◌+◌, ◌-◌, ◌<◌, ◌≤◌, List, length, get_or, arith, refl, sym, subst, Bool, true, false, not, Option, Some, None}
 use Rattle.std.specs.Prelude.{◌==◌, if◌then◌else◌, slice_set}
+use Rattle.std.proofs.lemmas.List.Elements.{All-push, All-weaker, All-map, All-filter}
 use Rattle.std.proofs.lemmas.List.{length-set}
 use Rattle.sym_base.specs.declared.number.ObjNo.{ObjNo}
 use Rattle.state_rows.specs.declared.duty.Owed.TheVariants.{Close, Sweep}
 use Rattle.state_rows.specs.declared.nano.NanoRows.{NanoRows}
 use Rattle.state_rows.specs.Nano.{suspend_count, is_free, is_holder}
-use Rattle.readings.specs.Readable.{AreSmallRows}
+use Rattle.sym_base.specs.declared.kind.Slots.{Slots}
+use Rattle.sym_base.specs.declared.number.MsgNo.{MsgNo}
+use Rattle.state_rows.specs.declared.messages.Message.{Message}
+use Rattle.state_rows.specs.declared.messages.MessageRows.{MessageRows}
+use Rattle.state_rows.specs.declared.messages.MsgRow.{MsgRow}
+use Rattle.state_rows.specs.MessageChanges.{next_number, next_of, added, edited, taken, taken_row}
+use Rattle.state_rows.specs.MessageRows.{has_number}
+use Rattle.readings.specs.Readable.{AreSmallRows, AreSmallNumbers}
+use Rattle.machine.specs.declared.message_move.MessageMove.{MessageMove}
+use Rattle.machine.specs.declared.message_move.MessageMove.TheVariants.{Accept, Take as TakeMessage, Finish}
+use Rattle.machine.specs.MessageMoves.{messages_moved}
+use Rattle.machine.specs.Room.{HasRoom}
+use Rattle.plain_machine.specs.Allowed.{IsSmall}
 use Rattle.machine.specs.declared.moves.Move.{Move}
-use Rattle.machine.specs.declared.moves.Move.TheVariants.{Make, Gain, Lose, Find, Miss, GoOn, Write, Advance, Wait, Wake, SetPriority, Nano, Deferred, Requests, Locks, Logons, Death, Fill, Pay}
+use Rattle.machine.specs.declared.moves.Move.TheVariants.{Make, Gain, Lose, Find, Miss, GoOn, Keep, Write, WriteMessage, PutDown, Advance, Wait, Wake, SetPriority, Nano, Deferred, Requests, Locks, Logons, Death, Servers, Messages, Fill, Pay}
 use Rattle.machine.specs.declared.nano_move.NanoMove.{NanoMove}
 use Rattle.machine.specs.declared.nano_move.NanoMove.TheVariants.{Take, Give, Want, Enter, Leave, LeaveAll, Suspend, Resume, Release, Raise, Lower}
 use Rattle.machine.specs.declared.state.State.{State}
@@ -20,6 +33,10 @@ use Rattle.move_laws.proofs.Lists.Sets.{set_keeps}
 length_where : {A : Type 0} (changes : Bool) (xs : List A) (k : ℕ) (x : A) → length (if changes then slice_set xs k x else xs) ≡ length xs
 length_where true xs k x = length-set xs k x
 length_where false xs k x = refl
+
+-- a message whose number has 31 bits
+abbrev pub IsSmallNumber : Message → Type 0
+IsSmallNumber message = message.number.0 < 2147483648
 
 -- counts of at most 127
 abbrev AreLimited : List ℕ → Type 0
@@ -48,25 +65,55 @@ small_nano (Release t) r small = record { mutexes = small.mutexes; suspensions =
 small_nano (Raise t) r small = record { mutexes = small.mutexes; suspensions = small.suspensions }
 small_nano (Lower t) r small = record { mutexes = small.mutexes; suspensions = small.suspensions }
 
--- so they stay after each move
-pub small_moved : (t : ObjNo) (m : Move) (S : State) → AreSmallRows S.nano → AreSmallRows (moved t m S).nano
-small_moved t (Nano m) S small = small_nano m S.nano small
-small_moved t (Pay (Close h o)) S small = small
-small_moved t (Pay (Sweep o)) S small = small
-small_moved t (Make kind name h) S small = small
-small_moved t (Gain h o) S small = small
-small_moved t (Lose h o) S small = small
-small_moved t (Find u o) S small = small
-small_moved t (Miss o) S small = small
-small_moved t (GoOn u part) S small = small
-small_moved t (Write u x value) S small = small
-small_moved t (Advance u) S small = small
-small_moved t (Wait u what) S small = small
-small_moved t (Wake u) S small = small
-small_moved t (SetPriority u priority) S small = small
-small_moved t (Deferred m) S small = small
-small_moved t (Requests m) S small = small
-small_moved t (Locks m) S small = small
-small_moved t (Logons m) S small = small
-small_moved t (Death m) S small = small
-small_moved t (Fill p at long byte) S small = small
+-- The numbers of messages stay small: the next one has room.
+small_added : (n : ℕ) (r : MessageRows) (slots : Slots) (row : MsgRow) → r.accepted + (n + 1) ≤ 2147483647 → AreSmallNumbers r.outstanding → AreSmallNumbers (added r slots row).outstanding
+small_added n r slots row room small =
+    let message : Message = record { number = next_number r; slots = slots; row = row } in
+    All-push IsSmallNumber r.outstanding message small (omega arith)
+
+small_edited : (m : MsgNo) (message : Message) → IsSmallNumber message → IsSmallNumber (edited m taken_row message)
+small_edited m message few = small_where (has_number m message)
+  where
+    small_where : (same : Bool) → IsSmallNumber (if same then record message { row = taken_row message.row } else message)
+    small_where true = few
+    small_where false = few
+
+small_taken : (r : MessageRows) (found : Option MsgNo) → AreSmallNumbers r.outstanding → AreSmallNumbers (taken r found).outstanding
+small_taken r None small = small
+small_taken r (Some m) small = All-map IsSmallNumber (edited m taken_row) r.outstanding (All-weaker IsSmallNumber (λ (message : Message). IsSmallNumber (edited m taken_row message)) (small_edited m) r.outstanding small)
+
+small_messages : (m : MessageMove) (n : ℕ) (r : MessageRows) → r.accepted + (n + 1) ≤ 2147483647 → AreSmallNumbers r.outstanding → AreSmallNumbers (messages_moved m r).outstanding
+small_messages (Accept slots row) n r room small = small_added n r slots row room small
+small_messages (TakeMessage o) n r room small = small_taken r (next_of r o) small
+small_messages (Finish m code) n r room small = All-filter (λ (message : Message). not (has_number m message)) IsSmallNumber r.outstanding small
+
+-- so both stay after each move
+same_rows : (S T : State) → T.nano ≡ S.nano → T.messages ≡ S.messages → IsSmall S → IsSmall T
+same_rows S T same messages small = record { nano = subst AreSmallRows (sym same) small.nano; messages = subst (λ (r : MessageRows). AreSmallNumbers r.outstanding) (sym messages) small.messages }
+
+pub small_moved : (t : ObjNo) (m : Move) (n : ℕ) (S : State) → HasRoom (n + 1) S → IsSmall S → IsSmall (moved t m S)
+small_moved t (Nano m) n S room small = record { nano = small_nano m S.nano small.nano; messages = small.messages }
+small_moved t (Messages m) n S room small = record { nano = small.nano; messages = small_messages m n S.messages room.messages small.messages }
+small_moved t (Pay (Close h o)) n S room small = same_rows S (moved t (Pay (Close h o)) S) refl refl small
+small_moved t (Pay (Sweep o)) n S room small = same_rows S (moved t (Pay (Sweep o)) S) refl refl small
+small_moved t (Make kind name h) n S room small = same_rows S (moved t (Make kind name h) S) refl refl small
+small_moved t (Gain h o) n S room small = same_rows S (moved t (Gain h o) S) refl refl small
+small_moved t (Lose h o) n S room small = same_rows S (moved t (Lose h o) S) refl refl small
+small_moved t (Find u o) n S room small = same_rows S (moved t (Find u o) S) refl refl small
+small_moved t (Miss o) n S room small = same_rows S (moved t (Miss o) S) refl refl small
+small_moved t (GoOn u part) n S room small = same_rows S (moved t (GoOn u part) S) refl refl small
+small_moved t (Keep u number) n S room small = same_rows S (moved t (Keep u number) S) refl refl small
+small_moved t (Write u x value) n S room small = same_rows S (moved t (Write u x value) S) refl refl small
+small_moved t (WriteMessage u y number) n S room small = same_rows S (moved t (WriteMessage u y number) S) refl refl small
+small_moved t (PutDown u) n S room small = same_rows S (moved t (PutDown u) S) refl refl small
+small_moved t (Advance u) n S room small = same_rows S (moved t (Advance u) S) refl refl small
+small_moved t (Wait u what) n S room small = same_rows S (moved t (Wait u what) S) refl refl small
+small_moved t (Wake u) n S room small = same_rows S (moved t (Wake u) S) refl refl small
+small_moved t (SetPriority u priority) n S room small = same_rows S (moved t (SetPriority u priority) S) refl refl small
+small_moved t (Deferred m) n S room small = same_rows S (moved t (Deferred m) S) refl refl small
+small_moved t (Requests m) n S room small = same_rows S (moved t (Requests m) S) refl refl small
+small_moved t (Locks m) n S room small = same_rows S (moved t (Locks m) S) refl refl small
+small_moved t (Logons m) n S room small = same_rows S (moved t (Logons m) S) refl refl small
+small_moved t (Death m) n S room small = same_rows S (moved t (Death m) S) refl refl small
+small_moved t (Servers m) n S room small = same_rows S (moved t (Servers m) S) refl refl small
+small_moved t (Fill p at long byte) n S room small = same_rows S (moved t (Fill p at long byte) S) refl refl small

@@ -1,7 +1,9 @@
 -- The plain machine after one more entry.
 use Rattle.std.proofs.Common.{◌≡◌, ℕ, ◌+◌, ◌≤◌, List, [], ◌∷◌, ◌++◌, length, get_or, arith, ap, subst, sym, ◌∙◌, inl, inr, Option, Some, None, refl}
 use Rattle.std.proofs.lemmas.Bool.{cases_lt}
+use Rattle.std.specs.Prelude.{Contains}
 use Rattle.std.proofs.lemmas.List.{get_or_past}
+use Rattle.std.proofs.lemmas.List.Elements.{All-weaker, All-contains_itself}
 use Rattle.sym_base.specs.declared.number.ObjNo.{ObjNo}
 use Rattle.script_types.specs.declared.declaration.ThreadDecl.{ThreadDecl}
 use Rattle.script_types.specs.declared.script.Script.{Script}
@@ -18,7 +20,7 @@ use Rattle.state_rows.specs.declared.thread.Role.TheVariants.{Supervisor, Queue,
 use Rattle.machine.specs.declared.state.State.{State}
 use Rattle.machine.specs.History.{next, entry_by, IsNext}
 use Rattle.plain_machine.specs.PlainView.{IsPlain}
-use Rattle.plain_machine.specs.Allowed.{TellsFew, AllowsAction}
+use Rattle.plain_machine.specs.Allowed.{IsSmall, TellsFew, AllowsAction}
 use Rattle.state_rows.specs.Deferred.{next_immediate}
 use Rattle.machine.specs.declared.plan.Body.TheVariants.{Interrupt}
 use Rattle.machine.specs.declared.plan.Plan.TheVariants.{Runs}
@@ -31,9 +33,11 @@ use Rattle.machine.specs.Slots.{IsDeclared}
 use Rattle.machine.specs.Steps.{decision_of}
 use Rattle.machine.specs.Task.{declared_of, instructions_in}
 use Rattle.machine.specs.WellFormed.{AreRows, AreTables, IsWellFormed}
+use Rattle.plain_machine.proofs.SmallRows.{IsSmallNumber}
 use Rattle.machine_laws.proofs.Fitting.Actions.{fits-action}
 use Rattle.machine_laws.proofs.Fitting.Bodies.{Goes}
 use Rattle.machine_laws.proofs.Fitting.Interrupts.{goes-immediate, goes-interrupt}
+use Rattle.move_laws.proofs.Numbers.Instructions.{few_instructions}
 use Rattle.move_laws.proofs.Numbers.FewEffects.{tell_few}
 use Rattle.machine_laws.proofs.Reached.AfterHistory.{well_formed-after}
 use Rattle.machine_laws.proofs.Reached.Histories.{after-push, legal-push, slot_can}
@@ -45,28 +49,30 @@ small_table tables are k = elim (cases_lt k (length tables)) [
   | inr past ↦ subst IsSmallTable (sym (get_or_past tables k [] past)) (record { size = omega arith; instances = λ i. omega arith })
 ]
 
--- a thread has at most 16,384 instructions
-few_in : (script : Script) → IsShaped script → (role : Role) (declared : Option ThreadDecl) → declared_of script role ≡ declared → length (instructions_in declared) ≤ 16384
-few_in script shaped role None at = omega arith
-few_in script shaped Supervisor (Some declared) at = absurd (cc)
-few_in script shaped (Queue queue) (Some declared) at = absurd (cc)
-few_in script shaped (Declared k) (Some declared) at = (shaped.threads k declared at).size
-
 -- a well-formed state has room for an action
 room_of_rows : (script : Script) (S : State) → IsShaped script → AreRows script S → HasRoom 9 S
 room_of_rows script S shaped rows = record {
   objects = let few = rows.sized.objects_few in omega arith;
   threads = let few = rows.sized.threads_few in omega arith;
-  instructions = λ k row is. let next = (rows.threads.rows k row is).next_instruction in let few = few_in script shaped row.role _ refl in omega arith;
+  instructions = λ k row is. let next = (rows.threads.rows k row is).next_instruction in let few = few_instructions script row.role shaped in omega arith;
   tables = small_table S.handles rows.tables;
+  messages = let few = rows.messages.numbered in omega arith;
 }
 
 -- its rows of threads that synchronize are small
-small_of_rows : (script : Script) (S : State) → AreRows script S → AreSmallRows S.nano
-small_of_rows script S rows = record {
+small_nano : (script : Script) (S : State) → AreRows script S → AreSmallRows S.nano
+small_nano script S rows = record {
   mutexes = let few = rows.nano.rows.few in omega arith;
   suspensions = rows.nano.rows.limited;
 }
+
+small_of_rows : (script : Script) (S : State) → IsShaped script → AreRows script S → IsSmall S
+small_of_rows script S shaped rows =
+    let room = room_of_rows script S shaped rows in
+    record {
+      nano = small_nano script S rows;
+      messages = All-weaker (Contains S.messages.outstanding) IsSmallNumber (λ message is. let few = room.messages in let given = rows.messages.given message is in omega arith) S.messages.outstanding (All-contains_itself S.messages.outstanding);
+    }
 
 -- an action of a thread tells four effects at most, and so does what is done without one
 few_effects : (script : Script) (S : State) (t : ObjNo) → IsShaped script → AreRows script S → TellsFew t S (decision_of script S t)
@@ -81,7 +87,7 @@ few_told script S d goes = let few = tell_few supervisor d.moves S in let most =
 pub allows_action : (script : Script) (S : State) → IsShaped script → AreRows script S → AllowsAction script S
 allows_action script S shaped rows = record {
   room = room_of_rows script S shaped rows;
-  small = small_of_rows script S rows;
+  small = small_of_rows script S shaped rows;
   threads = λ t. few_effects script S t shaped rows;
   immediate = let found = next_immediate S.deferred in few_told script S (decision_by script supervisor S (immediate_plan script S found)) (goes-immediate script S found shaped rows refl);
   interrupts = λ k. few_told script S (decision_by script supervisor S (Runs (Interrupt k))) (goes-interrupt script S k shaped rows);

@@ -1,13 +1,12 @@
 //! Actions, made on the plain machine's lists move by move.
 ghost use Rattle.std.specs.Prelude.{◌≡◌, ◌+◌, ◌*◌, ◌≤◌, length, IfOk, OnOk};
 ghost use Rattle.script_types.specs.Shape.{IsShaped};
-ghost use Rattle.readings.specs.Readable.{AreSmallRows};
 ghost use Rattle.next_actions.specs.Planned.{planned};
 ghost use Rattle.machine.specs.Bodies.{ops_moves, run_body, decision_by};
 ghost use Rattle.machine.specs.Moves.{perform, tell};
 ghost use Rattle.machine.specs.Room.{HasRoom};
 ghost use Rattle.machine.specs.Transition.{carried_out, left};
-ghost use Rattle.plain_machine.specs.Allowed.{TellsFew};
+ghost use Rattle.plain_machine.specs.Allowed.{IsSmall, TellsFew};
 ghost use Rattle.plain_machine.specs.Courses.{course_after};
 
 use crate::arrivals::{arrive_touched, take_out};
@@ -30,7 +29,7 @@ fn make_moves(
     course: &mut Course,
 ) -> Result<(), NoMemory>
     requires room { HasRoom (length moves.now) state.old }
-    requires small { AreSmallRows state.old.nano }
+    requires small { IsSmall state.old }
     requires few { length course.old.effects + length (tell thread moves.now state.old) ≤ 4 }
     ensures state { OnOk result (state.new ≡ perform thread moves.now state.old) }
     ensures course { OnOk result (course.new ≡ course_after script.now thread moves.now state.old course.old) }
@@ -55,7 +54,7 @@ fn run_operations(
 ) -> Result<(), NoMemory>
     requires shaped { IsShaped script.now }
     requires room { HasRoom (2 * length ops.now) state.old }
-    requires small { AreSmallRows state.old.nano }
+    requires small { IsSmall state.old }
     requires few { length course.old.effects + length (tell thread (ops_moves script.now thread state.old ops.now) state.old) ≤ 4 }
     ensures state { OnOk result (state.new ≡ perform thread (ops_moves script.now thread state.old ops.now) state.old) }
     ensures course { OnOk result (course.new ≡ course_after script.now thread (ops_moves script.now thread state.old ops.now) state.old course.old) }
@@ -78,7 +77,7 @@ pub fn run_body(
 ) -> Result<Outcome, NoMemory>
     requires shaped { IsShaped script.now }
     requires room { HasRoom 9 state.old }
-    requires small { AreSmallRows state.old.nano }
+    requires small { IsSmall state.old }
     requires few { TellsFew thread state.old (run_body script.now thread state.old body) }
     ensures { IfOk result (λ outcome. left state.new outcome ≡ carried_out script.now thread state.old (run_body script.now thread state.old body)) }
 {
@@ -106,7 +105,7 @@ fn carry_out(
     decision: Decision,
 ) -> Result<Outcome, NoMemory>
     requires room { HasRoom 9 state.old }
-    requires small { AreSmallRows state.old.nano }
+    requires small { IsSmall state.old }
     requires few { TellsFew thread state.old decision }
     ensures { IfOk result (λ outcome. left state.new outcome ≡ carried_out script.now thread state.old decision) }
 {
@@ -131,7 +130,7 @@ pub fn follow(
 ) -> Result<Outcome, NoMemory>
     requires shaped { IsShaped script.now }
     requires room { HasRoom 9 state.old }
-    requires small { AreSmallRows state.old.nano }
+    requires small { IsSmall state.old }
     requires few { TellsFew thread state.old (decision_by script.now thread state.old (planned decision body)) }
     ensures { IfOk result (λ outcome. left state.new outcome ≡ carried_out script.now thread state.old (decision_by script.now thread state.old (planned decision body))) }
 {

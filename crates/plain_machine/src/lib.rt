@@ -4,10 +4,12 @@
 mod action;
 mod arrivals;
 mod choice;
+mod closes;
 mod course;
 mod final_rows;
 mod perform;
 mod plain;
+mod slots;
 mod tick;
 mod transition;
 

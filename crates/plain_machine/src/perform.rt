@@ -1,88 +1,22 @@
 //! The moves of an action, made on the plain machine's lists.
 ghost use Rattle.std.specs.Prelude.{◌≡◌, ◌+◌, ◌≤◌, length, OnOk};
-ghost use Rattle.readings.specs.Readable.{AreSmallRows};
-ghost use Rattle.machine.specs.Handles.{taken_slot, freed_slot, with_slot};
-ghost use Rattle.machine.specs.Moves.{tables_gain, threads_gain, tables_lose, threads_lose, link_of, use_of, objects_closed, moved};
+ghost use Rattle.machine.specs.Moves.{use_of, moved};
 ghost use Rattle.machine.specs.Room.{HasRoom, AreSmallTables};
+ghost use Rattle.plain_machine.specs.Allowed.{IsSmall};
 
+use crate::closes::{lose, pay};
+use crate::slots::gain_slot;
 use entry_log::Holder;
-use machine::{
-    HandleSlot, Move, Owed, State, Waiting, is_last, object_of, set_row, set_slot, table_of,
-    thread_in,
-};
+use machine::{Move, State, Waiting, thread_in};
 use plain_rows::{
-    drop_first_owed, fill_memory, make_death_move, make_deferred_move, make_lock_move,
-    make_logon_move, make_nano_move, make_request_move, owe_close, owe_use, threads_advance,
-    threads_closed, threads_find, threads_gain, threads_go_on, threads_lose, threads_set_priority,
-    threads_wait, threads_write,
+    fill_memory, make_death_move, make_deferred_move, make_lock_move, make_logon_move,
+    make_message_move, make_nano_move, make_request_move, make_server_move, owe_use, owned_gain,
+    threads_advance, threads_find, threads_gain, threads_go_on, threads_keep, threads_lose,
+    threads_set_priority, threads_wait, threads_write, threads_write_message,
 };
-use state_rows::{ObjectRow, dead_row, next_instance, slot_at};
+use state_rows::ObjectRow;
 use std::alloc::Global;
 use sym_base::{Kind, Name, NoMemory, ObjNo, ThreadNo};
-
-/// The slot of an index takes a handle of the object.
-fn take_slot(state: &mut State, owner: ObjNo, index: usize, object: ObjNo)
-    requires { AreSmallTables state.old.handles }
-    ensures { state.new ≡ record state.old { handles = with_slot state.old.handles owner index (taken_slot object) } }
-{
-    let slot = slot_at(table_of(state, owner), index);
-    let taken = HandleSlot {
-        instance: next_instance(slot.instance),
-        object: Some(object),
-    };
-    set_slot(&mut state.handles, owner, index, taken);
-}
-
-/// The handle of the slot of an index goes.
-fn free_slot(state: &mut State, owner: ObjNo, index: usize)
-    ensures { state.new ≡ record state.old { handles = with_slot state.old.handles owner index freed_slot } }
-{
-    let freed = HandleSlot {
-        object: None,
-        ..slot_at(table_of(state, owner), index)
-    };
-    set_slot(&mut state.handles, owner, index, freed);
-}
-
-/// A holder gets a reference: where it is a handle, that stands in its slot.
-fn gain_slot(state: &mut State, holder: Holder, object: ObjNo)
-    requires { AreSmallTables state.old.handles }
-    ensures { state.new ≡ record state.old { handles = tables_gain holder object state.old.handles } }
-{
-    match holder {
-        Holder::InProcess(owner, index) => take_slot(state, owner, index as usize, object),
-        Holder::InThread(owner, index) => take_slot(state, owner, index as usize, object),
-        _ => {}
-    }
-}
-
-/// A holder gives its reference up: where it is a handle, that goes.
-fn lose_slot(state: &mut State, holder: Holder)
-    ensures { state.new ≡ record state.old { handles = tables_lose holder state.old.handles } }
-{
-    match holder {
-        Holder::InProcess(owner, index) => free_slot(state, owner, index as usize),
-        Holder::InThread(owner, index) => free_slot(state, owner, index as usize),
-        _ => {}
-    }
-}
-
-/// With its last reference an object dies.
-fn close_object(state: &mut State, last: bool, object: ObjNo)
-    ensures { state.new ≡ record state.old { objects = objects_closed last object state.old.objects } }
-{
-    if last {
-        let dead = dead_row(object_of(state, object));
-        set_row(&mut state.objects, object, dead);
-    }
-}
-
-/// An object's own reference: a thread's link to its process.
-fn link_of(state: &State, object: ObjNo) -> Option<ObjNo>
-    ensures { result ≡ link_of state.now object }
-{
-    thread_in(&state.threads, object)?.link
-}
 
 /// The object that a thread's instruction uses.
 fn use_of(state: &State, thread: ThreadNo) -> Option<ObjNo>
@@ -111,20 +45,7 @@ fn make(
     state.objects.push(Some(row))?;
     gain_slot(state, holder, object);
     threads_gain(&mut state.threads, holder, object);
-    Ok(())
-}
-
-/// A holder gives its reference up, and the thread owes what a last one leaves to do.
-fn lose(state: &mut State, thread: ThreadNo, holder: Holder, object: ObjNo) -> Result<(), NoMemory>
-    ensures { OnOk result (state.new ≡ moved thread (Move.Lose holder object) state.old) }
-{
-    let last = is_last(state, object);
-    let link = link_of(state, object);
-    lose_slot(state, holder);
-    threads_lose(&mut state.threads, holder);
-    close_object(state, last, object);
-    threads_closed(&mut state.threads, last, object);
-    owe_close(&mut state.owed, thread, last, object, link)
+    owned_gain(&mut state.owned, holder, object)
 }
 
 /// The thread goes on to its next instruction, and owes the close of what it used.
@@ -137,43 +58,13 @@ fn advance(state: &mut State, thread: ThreadNo, other: ThreadNo) -> Result<(), N
     owe_use(&mut state.owed, other, uses)
 }
 
-/// The thread pays a close that it owes.
-fn pay_close(
-    state: &mut State,
-    thread: ThreadNo,
-    holder: Holder,
-    object: ObjNo,
-) -> Result<(), NoMemory>
-    ensures { OnOk result (state.new ≡ moved thread (Move.Pay (Owed.Close holder object)) state.old) }
+/// The thread owes the close of what it used, and doesn't use it any more.
+fn put_down(state: &mut State, thread: ThreadNo, other: ThreadNo) -> Result<(), NoMemory>
+    ensures { OnOk result (state.new ≡ moved thread (Move.PutDown other) state.old) }
 {
-    let last = is_last(state, object);
-    let link = link_of(state, object);
-    close_object(state, last, object);
-    threads_closed(&mut state.threads, last, object);
-    drop_first_owed(&mut state.owed, thread);
-    owe_close(&mut state.owed, thread, last, object, link)
-}
-
-/// The thread removes the row of a dead object.
-fn pay_sweep(state: &mut State, thread: ThreadNo, object: ObjNo)
-    ensures { state.new ≡ moved thread (Move.Pay (Owed.Sweep object)) state.old }
-{
-    set_row(&mut state.objects, object, None);
-    set_row(&mut state.threads, object, None);
-    drop_first_owed(&mut state.owed, thread);
-}
-
-/// The thread pays the oldest of what it owes.
-fn pay(state: &mut State, thread: ThreadNo, what: Owed) -> Result<(), NoMemory>
-    ensures { OnOk result (state.new ≡ moved thread (Move.Pay what) state.old) }
-{
-    match what {
-        Owed::Close(holder, object) => pay_close(state, thread, holder, object),
-        Owed::Sweep(object) => {
-            pay_sweep(state, thread, object);
-            Ok(())
-        }
-    }
+    let uses = use_of(state, other);
+    threads_lose(&mut state.threads, Holder::Temp(other));
+    owe_use(&mut state.owed, other, uses)
 }
 
 /// A holder gets a reference.
@@ -193,23 +84,31 @@ pub fn make_move(
     change: Move,
 ) -> Result<(), NoMemory>
     requires room { HasRoom 1 state.old }
-    requires small { AreSmallRows state.old.nano }
+    requires small { IsSmall state.old }
     ensures { OnOk result (state.new ≡ moved thread change state.old) }
 {
     match change {
         Move::Make(kind, name, holder) => return make(state, thread, kind, name, holder),
-        Move::Lose(holder, object) => return lose(state, thread, holder, object),
+        Move::Lose(holder, object) => return lose(alloc, state, thread, holder, object),
+        Move::PutDown(other) => return put_down(state, thread, other),
         Move::Advance(other) => return advance(state, thread, other),
-        Move::Pay(what) => return pay(state, thread, what),
+        Move::Pay(what) => return pay(alloc, state, thread, what),
         Move::Gain(holder, object) => gain(state, thread, holder, object),
         Move::Miss(_) => {}
         Move::Find(other, object) => threads_find(&mut state.threads, other, object),
         Move::GoOn(other, part) => threads_go_on(&mut state.threads, other, part),
+        Move::Keep(other, number) => threads_keep(&mut state.threads, other, number),
         Move::Write(other, register, value) => threads_write(
             &mut state.threads,
             other,
             register,
             value,
+        ),
+        Move::WriteMessage(other, register, number) => threads_write_message(
+            &mut state.threads,
+            other,
+            register,
+            number,
         ),
         Move::Wait(other, what) => threads_wait(&mut state.threads, other, what),
         Move::Wake(other) => threads_wait(&mut state.threads, other, Waiting::Nothing),
@@ -224,6 +123,8 @@ pub fn make_move(
         Move::Locks(change) => return make_lock_move(alloc, state, thread, change),
         Move::Logons(change) => return make_logon_move(alloc, &mut state.logons, change),
         Move::Death(change) => return make_death_move(state, thread, &change),
+        Move::Servers(change) => return make_server_move(state, thread, change),
+        Move::Messages(change) => return make_message_move(alloc, state, thread, change),
         Move::Fill(process, at, length, byte) => {
             return fill_memory(alloc, &mut state.memories, process, at, length, byte);
         }

@@ -20,8 +20,8 @@ fn push_close(
     if !last {
         return Ok(());
     }
-    if let Some(process) = link {
-        duties.push(Owed::Close(Holder::Link(object), process))?;
+    if let Some(linked) = link {
+        duties.push(Owed::Close(Holder::Link(object), linked))?;
     }
     duties.push(Owed::Sweep(object))?;
     Ok(())

@@ -7,7 +7,7 @@ ghost use Rattle.machine.specs.LockMoves.{lock_moved, mutexes_moved, owed_moved}
 ghost use Rattle.state_rows.specs.Locks.{count_at, waiters_at, without};
 ghost use Rattle.state_rows.specs.LockChanges.{after_new_row, after_free, after_lock, after_remove, after_unlock, after_wait, after_signal, owner_after_lock, owner_after_unlock, once, counted};
 
-use crate::lists::unlisted;
+use crate::lists::{push_to, remove_from, unlisted};
 use crate::mutexes::{give_up, owe_own, set_holding};
 use crate::nano::{one_more, set_count};
 use machine::{LockMove, LockRows, Move, Owed, State, row_of, set_row};
@@ -27,11 +27,7 @@ fn count_at(rows: &LockRows, object: ObjNo) -> u32
 fn join(rows: &mut LockRows, object: ObjNo, thread: ThreadNo) -> Result<(), NoMemory>
     ensures { OnOk result (rows.new ≡ record rows.old { waiters = slice_set rows.old.waiters object.0 (waiters_at rows.old object ++ thread ∷ []) }) }
 {
-    let at = object.0 as usize;
-    if at < rows.waiters.len() {
-        rows.waiters.get_mut(at).push(thread)?;
-    }
-    Ok(())
+    push_to(&mut rows.waiters, object, thread)
 }
 
 /// A thread doesn't stand among the waiters of an object any more.
@@ -43,12 +39,7 @@ fn leave(
 ) -> Result<(), NoMemory>
     ensures { OnOk result (rows.new ≡ record rows.old { waiters = slice_set rows.old.waiters object.0 (without thread (waiters_at rows.old object)) }) }
 {
-    let at = object.0 as usize;
-    if at < rows.waiters.len() {
-        let waiters = rows.waiters.get_mut(at);
-        *waiters = Items::new(unlisted(alloc, thread, waiters.as_slice())?);
-    }
-    Ok(())
+    remove_from(alloc, &mut rows.waiters, object, thread)
 }
 
 /// The waiters of each object without a thread.

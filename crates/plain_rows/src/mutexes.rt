@@ -6,7 +6,7 @@ ghost use Rattle.state_rows.specs.Locks.{without};
 ghost use Rattle.state_rows.specs.declared.duty.Owed.TheVariants.{Close};
 ghost use Rattle.entry_log.specs.declared.effect.Holder.TheVariants.{Own};
 
-use crate::lists::unlisted;
+use crate::lists::{push_to, remove_from};
 use entry_log::Holder;
 use machine::Owed;
 use std::alloc::Global;
@@ -20,11 +20,7 @@ pub fn set_holding(
 ) -> Result<(), NoMemory>
     ensures { OnOk result (mutexes.new ≡ holding mutexes.old thread mutex) }
 {
-    let at = thread.0 as usize;
-    if at < mutexes.len() {
-        mutexes.get_mut(at).push(mutex)?;
-    }
-    Ok(())
+    push_to(mutexes, thread, mutex)
 }
 
 /// A thread doesn't hold a mutex any more.
@@ -36,12 +32,7 @@ fn set_not_holding(
 ) -> Result<(), NoMemory>
     ensures { OnOk result (mutexes.new ≡ not_holding mutexes.old thread mutex) }
 {
-    let at = thread.0 as usize;
-    if at < mutexes.len() {
-        let held = mutexes.get_mut(at);
-        *held = Items::new(unlisted(alloc, mutex, held.as_slice())?);
-    }
-    Ok(())
+    remove_from(alloc, mutexes, thread, mutex)
 }
 
 /// A thread owes the close of its ownership of a mutex.

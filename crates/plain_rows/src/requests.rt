@@ -121,6 +121,7 @@ pub fn make_request_move(
         RequestMove::Signal(thread, status, code) => signal(state, thread, status, code),
         RequestMove::DropAll(thread) => return drop_all(alloc, state, thread),
         RequestMove::TakeSignal(thread) => take_signal(state, thread),
+        RequestMove::Reply(thread, code) => set_count(&mut state.requests.replies, thread, code),
     }
     Ok(())
 }

@@ -1,7 +1,7 @@
 //! Changes of threads' rows. A number without a row stays without one.
 ghost use Rattle.std.specs.Prelude.{◌≡◌, ◌<◌, Some, option_map, slice_set};
 ghost use Rattle.std.specs.List.{slice_index_or};
-ghost use Rattle.machine.specs.Moves.{with_use, unlinked, with_found, with_part, with_register, advanced, with_waiting, with_priority, threads_gain, threads_lose, threads_closed};
+ghost use Rattle.machine.specs.Moves.{with_use, unlinked, with_found, with_kept, with_part, with_register, with_message, advanced, with_waiting, with_priority, threads_gain, threads_lose, threads_closed};
 ghost use Rattle.machine.specs.Room.{MayAdvance};
 ghost use Rattle.machine.specs.Rows.{with_row};
 ghost use Rattle.state_rows.specs.declared.thread.ThreadRow.{ThreadRow};
@@ -37,6 +37,15 @@ fn with_found(row: &mut Option<ThreadRow>, object: ObjNo)
     }
 }
 
+/// The row has a number that was found.
+fn with_kept(row: &mut Option<ThreadRow>, number: u32)
+    ensures { row.new ≡ option_map (with_kept number) row.old }
+{
+    if let Some(row) = row {
+        row.found = number;
+    }
+}
+
 /// The row has another next step.
 fn with_part(row: &mut Option<ThreadRow>, part: Part)
     ensures { row.new ≡ option_map (with_part part) row.old }
@@ -62,6 +71,15 @@ fn with_register(row: &mut Option<ThreadRow>, register: u8, value: u32)
 {
     if let Some(row) = row {
         set_register(&mut row.registers, register, value);
+    }
+}
+
+/// The row has the number of a message in a register.
+fn with_message(row: &mut Option<ThreadRow>, register: u8, number: u32)
+    ensures { row.new ≡ option_map (with_message register number) row.old }
+{
+    if let Some(row) = row {
+        set_register(&mut row.messages, register, number);
     }
 }
 
@@ -142,6 +160,16 @@ pub fn threads_find(threads: &mut Items<Option<ThreadRow>>, thread: ThreadNo, ob
     }
 }
 
+/// The thread keeps a number that it found.
+pub fn threads_keep(threads: &mut Items<Option<ThreadRow>>, thread: ThreadNo, number: u32)
+    ensures { threads.new ≡ with_row threads.old thread (with_kept number) }
+{
+    let at = thread.0 as usize;
+    if at < threads.len() {
+        with_kept(threads.get_mut(at), number);
+    }
+}
+
 /// The thread goes on to this step.
 pub fn threads_go_on(threads: &mut Items<Option<ThreadRow>>, thread: ThreadNo, part: Part)
     ensures { threads.new ≡ with_row threads.old thread (with_part part) }
@@ -164,6 +192,21 @@ pub fn threads_write(
     let at = thread.0 as usize;
     if at < threads.len() {
         with_register(threads.get_mut(at), register, value);
+    }
+}
+
+/// The thread's register for messages gets the number of one.
+pub fn threads_write_message(
+    threads: &mut Items<Option<ThreadRow>>,
+    thread: ThreadNo,
+    register: u8,
+    number: u32,
+)
+    ensures { threads.new ≡ with_row threads.old thread (with_message register number) }
+{
+    let at = thread.0 as usize;
+    if at < threads.len() {
+        with_message(threads.get_mut(at), register, number);
     }
 }
 

@@ -1,4 +1,2 @@
 pub mod Active
-pub mod Best
-pub mod BurialNumbers
-pub mod First
+pub mod Numbers

@@ -1,2 +1,1 @@
-pub mod BestSoFar
 pub mod Readable

@@ -5,15 +5,17 @@ ghost use Rattle.machine.specs.NanoMoves.{nano_told};
 ghost use Rattle.machine.specs.RequestMoves.{request_told};
 ghost use Rattle.machine.specs.DeathMoves.{death_told};
 ghost use Rattle.machine.specs.LockMoves.{lock_told};
-ghost use Rattle.entry_log.specs.declared.effect.Effect.TheVariants.{Plus, Take};
-ghost use Rattle.entry_log.specs.declared.effect.Holder.TheVariants.{Own};
+ghost use Rattle.machine.specs.ServerMoves.{server_told};
+ghost use Rattle.machine.specs.MessageMoves.{message_told};
+ghost use Rattle.entry_log.specs.declared.effect.Effect.TheVariants.{Plus, Take, Accept};
+ghost use Rattle.entry_log.specs.declared.effect.Holder.TheVariants.{Own, Message};
 ghost use Rattle.entry_log.specs.declared.effect.LockNo.TheVariants.{Object};
 
 use crate::reads::Reads;
 use entry_log::{Effect, Effects, Holder, LockNo, StatusNo};
-use machine::{DeathMove, LockMove, Move, NanoMove, Owed, RequestMove};
+use machine::{DeathMove, LockMove, MessageMove, Move, NanoMove, Owed, RequestMove, ServerMove};
 use state_rows::{Locked, Unlocked};
-use sym_base::{ObjNo, ThreadNo};
+use sym_base::{MsgNo, ObjNo, ThreadNo};
 
 /// Tells a close: with its last reference an object dies.
 fn tell_close(effects: &mut Effects, last: bool, holder: Holder, object: ObjNo)
@@ -71,6 +73,9 @@ fn tell_request(effects: &mut Effects, change: RequestMove)
         RequestMove::Signal(thread, status, code) => {
             effects.push(Effect::Signal(thread, StatusNo::Async(status), code));
         }
+        RequestMove::Reply(thread, code) => {
+            effects.push(Effect::Signal(thread, StatusNo::Sync, code));
+        }
         RequestMove::Begin(_, _, _)
         | RequestMove::SetPending(_, _)
         | RequestMove::DropAll(_)
@@ -123,6 +128,49 @@ fn tell_death(effects: &mut Effects, change: DeathMove)
     }
 }
 
+/// Tells a move in the rows of servers and sessions: a session's link to its server, and the end of a server.
+fn tell_server(effects: &mut Effects, change: ServerMove)
+    requires { length effects.old + length (server_told change) ≤ 4 }
+    ensures { effects.new ≡ effects.old ++ server_told change }
+{
+    match change {
+        ServerMove::Join(session, server, _, _) => {
+            effects.push(Effect::Plus(Holder::Link(session), server));
+        }
+        ServerMove::End(server) => effects.push(Effect::Terminated(server)),
+        ServerMove::Start(_, _)
+        | ServerMove::Close(_)
+        | ServerMove::CloseAll(_)
+        | ServerMove::SetOpen(_, _) => {}
+    }
+}
+
+/// Tells that a message is accepted under a number, and refers to its session and its client.
+fn tell_accepted(effects: &mut Effects, number: MsgNo, session: ObjNo, client: ThreadNo)
+    requires { length effects.old + 3 ≤ 4 }
+    ensures { effects.new ≡ effects.old ++ Accept number ∷ Plus (Message number) session ∷ Plus (Message number) client ∷ [] }
+{
+    effects.push(Effect::Accept(number));
+    effects.push(Effect::Plus(Holder::Message(number), session));
+    effects.push(Effect::Plus(Holder::Message(number), client));
+}
+
+/// Tells a move in the rows of messages, from the state before it: which message is accepted, or finished with which code.
+fn tell_message<R: Reads>(effects: &mut Effects, reads: &R, change: &MessageMove)
+    requires readable { R.is_readable reads.now }
+    requires few { length effects.old + length (message_told change.now (R.state reads.now).messages) ≤ 4 }
+    ensures { effects.new ≡ effects.old ++ message_told change.now (R.state reads.now).messages }
+{
+    match *change {
+        MessageMove::Accept(_, row) => {
+            let number = MsgNo(reads.accepted() + 1);
+            tell_accepted(effects, number, row.session, row.client);
+        }
+        MessageMove::Take(_) => {}
+        MessageMove::Finish(number, code) => effects.push(Effect::Finish(number, code)),
+    }
+}
+
 /// Tells a move, from the state before it, behind the effects so far.
 pub fn tell<R: Reads>(effects: &mut Effects, reads: &R, change: &Move)
     requires readable { R.is_readable reads.now }
@@ -142,8 +190,13 @@ pub fn tell<R: Reads>(effects: &mut Effects, reads: &R, change: &Move)
         Move::Requests(change) => tell_request(effects, change),
         Move::Locks(change) => tell_lock(effects, change),
         Move::Death(change) => tell_death(effects, change),
+        Move::Servers(change) => tell_server(effects, change),
+        Move::Messages(change) => tell_message(effects, reads, &change),
         Move::GoOn(_, _)
+        | Move::Keep(_, _)
         | Move::Write(_, _, _)
+        | Move::WriteMessage(_, _, _)
+        | Move::PutDown(_)
         | Move::Advance(_)
         | Move::Wait(_, _)
         | Move::Wake(_)

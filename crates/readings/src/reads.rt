@@ -1,8 +1,9 @@
 //! What decisions read of a state. The plain machine keeps it as lists and the kernel as tables of its own,
 //! and both decide by the same functions.
-ghost use Rattle.std.specs.Prelude.{◌≡◌, ◌<◌, ◌≤◌, length, IfSome, is_some, option_copied, slice_get};
+ghost use Rattle.std.specs.Prelude.{◌≡◌, ◌<◌, ◌≤◌, [], length, IfSome, is_some, option_copied, slice_get, slice_index_or};
 ghost use Rattle.machine.specs.Find.{find_object};
-ghost use Rattle.machine.specs.Holdings.{first_used, has_one_left, held_of};
+ghost use Rattle.machine.specs.Holdings.{first_used, has_one_left, held_servers};
+ghost use Rattle.machine.specs.LogonMoves.{logons_on};
 ghost use Rattle.machine.specs.Reaping.{buried_by};
 ghost use Rattle.state_rows.specs.HandleSlots.{look};
 ghost use Rattle.machine.specs.Choice.{priority_of};
@@ -13,15 +14,18 @@ ghost use Rattle.state_rows.specs.Locks.{owner_at, count_at, best_waiter};
 ghost use Rattle.machine.specs.References.{is_last};
 ghost use Rattle.machine.specs.Rows.{object_of, thread_of, table_of, first_owed};
 ghost use Rattle.state_rows.specs.declared.deferred.Item.TheVariants.{Move};
-ghost use Rattle.state_rows.specs.Deferred.{next_of, next_immediate, is_queued, queue_of};
+ghost use Rattle.state_rows.specs.Deferred.{next_of as next_call_of, next_immediate, is_queued, queue_of};
+ghost use Rattle.state_rows.specs.MessageRows.{message_of, is_full};
+ghost use Rattle.state_rows.specs.MessageChanges.{next_of};
+ghost use Rattle.state_rows.specs.ServerRows.{server_at, session_at};
 ghost use Rattle.state_rows.specs.Nano.{signal_count, suspend_count, critical_count, want_of, holder_of, held_by, is_protected};
 ghost use Rattle.state_rows.specs.ObjectRows.{is_taken};
-ghost use Rattle.state_rows.specs.Requests.{request_at, value_of, signal_count as request_signals};
+ghost use Rattle.state_rows.specs.Requests.{request_at, value_of, reply_of, signal_count as request_signals};
 
-use machine::{NewHandle, Owed, ThreadRow};
+use machine::{Holding, NewHandle, Owed, ThreadRow};
 use script_types::Script;
-use state_rows::{Held, Item, ObjectRow, Owner, Request};
-use sym_base::{Kind, Name, ObjNo, ThreadNo};
+use state_rows::{Item, Message, ObjectRow, Owner, Request, ServerRow, SessionRow};
+use sym_base::{Kind, MsgNo, Name, ObjNo, Slots, ThreadNo};
 
 /// A state that can be read. A number without a row reads as none, and a count without one as 0.
 pub trait Reads {
@@ -50,7 +54,8 @@ pub trait Reads {
     fn handle(&self, owner: ObjNo, handle: u32) -> Option<ObjNo>
         requires { is_readable self.now }
         ensures object { result ≡ look (is_local handle) (table_of (state self.now) owner) handle }
-        ensures index { IfSome result (λ o. index_of handle < 256) };
+        ensures index { IfSome result (λ o. index_of handle < 256) }
+        ensures positive { IfSome result (λ o. handle < 2147483648) };
 
     /// The handle that a process's table gives next, None where no slot is free.
     fn process_handle(&self, process: ObjNo) -> Option<NewHandle>
@@ -119,7 +124,7 @@ pub trait Reads {
 
     /// The call of a queue of deferred function calls that runs next.
     fn next_call(&self, queue: u8) -> Option<u8>
-        ensures { result ≡ next_of (state self.now).deferred queue };
+        ensures { result ≡ next_call_of (state self.now).deferred queue };
 
     /// The item of the immediate queue that comes next.
     fn next_immediate(&self) -> Option<Item>
@@ -158,10 +163,53 @@ pub trait Reads {
         requires { is_readable self.now }
         ensures { result ≡ best_waiter (priority_of (state self.now)) (state self.now).locks object };
 
-    /// The first of what a thread has beside its duties and its handles: of its mutexes, of what its call uses, and of the
-    /// logons on it, in this order.
-    fn first_held(&self, thread: ThreadNo) -> Option<Held>
-        ensures { result ≡ slice_get (held_of (state self.now) thread) 0 };
+    /// The first of the mutexes that a thread holds.
+    fn first_mutex(&self, thread: ThreadNo) -> Option<ObjNo>
+        ensures { result ≡ slice_get (slice_index_or (state self.now).mutexes thread.0 []) 0 };
+
+    /// The first of the logons on a thread: the thread that made it, and its status.
+    fn first_logon(&self, thread: ThreadNo) -> Option<(ThreadNo, u8)>
+        ensures { result ≡ slice_get (logons_on (state self.now).logons thread) 0 };
+
+    /// The first of what a thread has of its closing servers: a message, a linked session, or a server of which nothing else
+    /// is left.
+    fn first_work(&self, thread: ThreadNo) -> Option<Holding>
+        requires { is_readable self.now }
+        ensures { result ≡ slice_get (held_servers (state self.now) thread) 0 };
+
+    /// The row of a server.
+    fn server(&self, object: ObjNo) -> Option<ServerRow>
+        ensures { result ≡ server_at (state self.now).servers object };
+
+    /// The row of a session.
+    fn session(&self, object: ObjNo) -> Option<SessionRow>
+        ensures { result ≡ session_at (state self.now).servers object };
+
+    /// An outstanding message.
+    fn message(&self, number: MsgNo) -> Option<Message>
+        requires { is_readable self.now }
+        ensures { result ≡ message_of (state self.now).messages number };
+
+    /// The first message that a server hasn't taken.
+    fn next_message(&self, server: ObjNo) -> Option<MsgNo>
+        requires { is_readable self.now }
+        ensures message { result ≡ next_of (state self.now).messages server }
+        ensures positive { IfSome result (λ message. message.0 < 2147483648) };
+
+    /// Whether all the slots that a session may use are used.
+    fn is_full(&self, session: ObjNo, slots: Slots) -> bool
+        requires { is_readable self.now }
+        ensures { result ≡ is_full (state self.now).messages session slots };
+
+    /// The greatest message number so far, 0 where no message was accepted.
+    fn accepted(&self) -> u32
+        requires { is_readable self.now }
+        ensures number { result ≡ (state self.now).messages.accepted }
+        ensures positive { result < 2147483648 };
+
+    /// The reply to a thread's synchronous message.
+    fn reply_of(&self, thread: ThreadNo) -> i32
+        ensures { result ≡ reply_of (state self.now).requests thread };
 
     /// The first handle, by index, of the table of a process or a thread, and its object.
     fn first_handle(&self, owner: ObjNo) -> Option<(u8, ObjNo)>

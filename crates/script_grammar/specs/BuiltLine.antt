@@ -43,10 +43,18 @@ is_built_instr (instr.Panic x category reason) = true
 is_built_instr (instr.ExitType x) = true
 is_built_instr (instr.Logon x s) = true
 is_built_instr (instr.Exit reason) = true
+is_built_instr (instr.Server name x) = true
+is_built_instr (instr.Connect name slots x) = true
+is_built_instr (instr.Send x function y args) = true
+is_built_instr (instr.Call x function args) = true
+is_built_instr (instr.Receive x y) = true
+is_built_instr (instr.Complete y code) = true
+is_built_instr (instr.Function y) = true
 is_built_instr _ = false
 
 abbrev pub is_built_line : SourceLine → Bool
 is_built_line line.Header = true
+is_built_line (line.Pool slots) = true
 is_built_line (line.Fast count) = true
 is_built_line (line.Queue name priority) = true
 is_built_line (line.Dfc name queue priority ops) = true
@@ -61,4 +69,3 @@ is_built_line (line.Go count) = true
 is_built_line (line.IrqSlot k) = true
 is_built_line line.Tick = true
 is_built_line line.End = true
-is_built_line _ = false

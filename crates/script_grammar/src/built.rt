@@ -47,6 +47,13 @@ fn is_built_instr(what: &Instr) -> bool
             | Instr::ExitType(_)
             | Instr::Logon(..)
             | Instr::Exit(_)
+            | Instr::Server(..)
+            | Instr::Connect(..)
+            | Instr::Send(..)
+            | Instr::Call(..)
+            | Instr::Receive(..)
+            | Instr::Complete(..)
+            | Instr::Function(_)
     )
 }
 
@@ -56,6 +63,7 @@ pub fn is_built_line(line: &SourceLine) -> bool
 {
     match line {
         SourceLine::Header
+        | SourceLine::Pool(_)
         | SourceLine::Fast(_)
         | SourceLine::Queue(..)
         | SourceLine::Dfc(..)
@@ -70,6 +78,5 @@ pub fn is_built_line(line: &SourceLine) -> bool
         | SourceLine::Tick
         | SourceLine::End => true,
         SourceLine::Instr(what) => is_built_instr(what),
-        _ => false,
     }
 }

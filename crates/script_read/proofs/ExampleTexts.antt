@@ -90,6 +90,6 @@ unfolding read_text text_lines first_reason after_text words_of keyword_of line_
 bad_end = refl
 
 -- messages
-bad_unbuilt : first_bad (codes "eka2 1" ∷ codes "process p" ∷ codes "thread a 10" ∷ codes "send r0 1 s0 d:0:1:2 -5 0 0" ∷ codes "send r0 1" ∷ []) ≡ Some (4, reason.Unbuilt)
+bad_unbuilt : first_bad (codes "eka2 1" ∷ codes "process p" ∷ codes "thread a 10" ∷ codes "read m0 1 2 3 4" ∷ codes "read m0 1" ∷ []) ≡ Some (4, reason.Unbuilt)
 unfolding read_text text_lines first_reason after_text words_of keyword_of line_as word_text
 bad_unbuilt = refl

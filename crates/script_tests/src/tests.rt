@@ -88,7 +88,7 @@ const BAD_TEXTS: [BadText; 13] = [
         reason: Reason::End,
     },
     BadText {
-        text: "eka2 1\nprocess p\nthread a 10\nreceive r0 m0\nthread a 64\n",
+        text: "eka2 1\nprocess p\nthread a 10\nread m0 0 0 0 0\nthread a 64\n",
         line: 4,
         reason: Reason::Unbuilt,
     },

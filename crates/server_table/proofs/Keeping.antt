@@ -9,10 +9,10 @@ use Rattle.sym_base.specs.declared.kind.Slots.{Slots}
 use Rattle.links.specs.Linked.{Linked, list_at, with_list, pushed_back, empty_lists}
 use Rattle.links.specs.Linked as nodes
 use Rattle.links.proofs.Marks.{listed_from}
-use Rattle.server_table.specs.declared.rows.ServerRow.{ServerRow}
-use Rattle.server_table.specs.declared.rows.SessionRow.{SessionRow}
-use Rattle.server_table.specs.ServerRows.{link_of, holds}
-use Rattle.server_table.specs.Calls.{new_session, detached, after_add_session, after_detach}
+use Rattle.state_rows.specs.declared.servers.ServerRow.{ServerRow}
+use Rattle.state_rows.specs.declared.servers.SessionRow.{SessionRow}
+use Rattle.state_rows.specs.ServerRows.{link_of, holds}
+use Rattle.state_rows.specs.ServerChanges.{new_session, detached, after_add_session, after_detach}
 use Rattle.server_table.specs.Kept.{AreKept, object, link_at, rows_of, sessions_of}
 use Rattle.server_table.proofs.Numbers.{holds_last, holds_before, holds_gone, holds_rest, listed_at, replicated, stands_at}
 use Rattle.server_table.proofs.Sessions.{holds_at_server, session_added, session_left}

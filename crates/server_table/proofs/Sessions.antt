@@ -4,8 +4,8 @@ use Rattle.std.specs.Prelude.{Option, option_map, slice_get}
 use Rattle.sym_base.specs.declared.number.ObjNo.{ObjNo}
 use Rattle.links.specs.Linked as nodes
 use Rattle.links.proofs.Seen.{seen_at, seen_fresh, seen_first, seen_pushed, seen_holds, seen_removed}
-use Rattle.server_table.specs.ServerRows.{holds}
-use Rattle.server_table.specs.Calls.{without}
+use Rattle.state_rows.specs.ServerRows.{holds}
+use Rattle.state_rows.specs.ServerChanges.{without}
 use Rattle.server_table.specs.Kept.{object, sessions_of}
 
 -- whether a server has a session

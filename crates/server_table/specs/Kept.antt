@@ -2,9 +2,10 @@
 use Rattle.std.specs.Prelude.{◌≡◌, ℕ, ◌<◌, ◌^◌, List, Option, Some, None, length, map, slice_index_or, IsTrue}
 use Rattle.sym_base.specs.declared.number.ObjNo.{ObjNo}
 use Rattle.links.specs.Linked.{Linked, holds, list_at}
-use Rattle.server_table.specs.declared.rows.ServerRow.{ServerRow}
-use Rattle.server_table.specs.declared.rows.SessionRow.{SessionRow}
-use Rattle.server_table.specs.ServerRows.{ServerRows, link_of}
+use Rattle.state_rows.specs.declared.servers.ServerRow.{ServerRow}
+use Rattle.state_rows.specs.declared.servers.SessionRow.{SessionRow}
+use Rattle.state_rows.specs.declared.servers.ServerRows.{ServerRows}
+use Rattle.state_rows.specs.ServerRows.{link_of}
 
 -- the object whose number a node is
 abbrev pub object : ℕ → ObjNo

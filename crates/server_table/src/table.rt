@@ -1,11 +1,11 @@
 //! The table of servers and sessions, and its calls.
 ghost use Rattle.std.specs.Prelude.{◌≡◌, ◌<◌, ◌↔◌, false, [], length, slice_get, IsTrue, IsNone, IsSome, IfOk, IfSome, Some};
 ghost use Rattle.sym_base.specs.declared.number.ObjNo.{ObjNo};
-ghost use Rattle.server_table.specs.ServerRows.{IsServer, IsSession, server_at, session_at, linked_at, owner_of, is_closing, link_of, server_of, is_open, holds};
-ghost use Rattle.server_table.specs.Calls.{no_rows, IsAlone, after_add_server, after_add_session, after_closing, after_detach, after_set_open};
+ghost use Rattle.state_rows.specs.ServerRows.{IsServer, IsSession, server_at, session_at, linked_at, owner_of, is_closing, link_of, server_of, is_open, holds};
+ghost use Rattle.state_rows.specs.ServerChanges.{no_rows, IsAlone, after_add_server, after_add_session, after_closing, after_detach, after_set_open};
 
-use crate::rows::{ServerRow, SessionRow};
 use links::Links;
+use state_rows::{ServerRow, SessionRow};
 use std::alloc::Global;
 use std::marker::Model;
 use sym_base::{NoMemory, ObjNo, Slots, ThreadNo};
@@ -26,7 +26,7 @@ pub struct ServerTable {
 }
 
 impl Model for ServerTable {
-    ghost use Rattle.server_table.specs.ServerRows.{ServerRows};
+    ghost use Rattle.state_rows.specs.declared.servers.ServerRows.{ServerRows};
     ghost use Rattle.server_table.specs.Kept.{AreKept, rows_of};
 
     ghost Value = { ServerRows };
@@ -94,6 +94,20 @@ impl ServerTable {
             is_closing: true,
             ..row
         });
+    }
+
+    /// The row of a server; None for every other object.
+    pub fn server_at(&self, o: ObjNo) -> Option<ServerRow>
+        ensures { result ≡ server_at self.now o }
+    {
+        *self.servers.get(o.0 as usize)?
+    }
+
+    /// The row of a session; None for every other object.
+    pub fn session_at(&self, o: ObjNo) -> Option<SessionRow>
+        ensures { result ≡ session_at self.now o }
+    {
+        *self.sessions.get(o.0 as usize)?
     }
 
     /// Whether an object is a closing server.

@@ -1,5 +1,6 @@
 //! A worked example: two sessions of a server are detached in order of making, once it is closing.
-use crate::{ServerTable, SessionRow};
+use crate::ServerTable;
+use state_rows::SessionRow;
 use std::test::Fail;
 use sym_base::{ObjNo, Slots};
 

@@ -5,6 +5,8 @@ pub mod HandleNumbers
 pub mod HandleSlots
 pub mod LockChanges
 pub mod Locks
+pub mod MessageChanges
+pub mod MessageRows
 pub mod Nano
 pub mod NanoChanges
 pub mod NanoSound
@@ -12,4 +14,6 @@ pub mod ObjectRows
 pub mod RequestChanges
 pub mod RequestSound
 pub mod Requests
+pub mod ServerChanges
+pub mod ServerRows
 pub mod ThreadRows

@@ -6,9 +6,11 @@ mod deferred;
 mod duty;
 mod handle_slot;
 mod locks;
+mod messages;
 mod nano;
 mod object;
 mod requests;
+mod servers;
 mod thread;
 
 pub use declared_calls::{calls_of, declared_places, dfc_named, idfc_named};
@@ -18,7 +20,9 @@ pub use handle_slot::{
     HandleSlot, free_index, handle_number, index_of, is_local, look, next_instance, slot_at,
 };
 pub use locks::{LockRows, Locked, MAX_COUNT, Owner, Signalled, Unlocked};
+pub use messages::{Message, MessageRows, MsgRow, Way};
 pub use nano::NanoRows;
 pub use object::{MAX_OBJECTS, ObjectRow, dead_row, has_name, is_dead_row, is_session};
 pub use requests::{PENDING, Request, RequestRows, STATUSES};
+pub use servers::{ServerRow, ServerRows, SessionRow};
 pub use thread::{MEMORY, REGISTERS, Role, Stage, ThreadRow, Waiting};

@@ -5,3 +5,4 @@ pub mod Dying
 pub mod LogonMoved
 pub mod NanoMoved
 pub mod RequestMoved
+pub mod Owning

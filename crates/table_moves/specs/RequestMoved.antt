@@ -4,7 +4,7 @@ use Rattle.sym_base.specs.declared.number.ObjNo.{ObjNo}
 use Rattle.state_rows.specs.declared.requests.RequestRows.{RequestRows}
 use Rattle.state_rows.specs.Requests.{is_pending}
 use Rattle.machine.specs.declared.request_move.RequestMove.{RequestMove}
-use Rattle.machine.specs.declared.request_move.RequestMove.TheVariants.{Begin, Complete, SetPending, Signal, DropAll, TakeSignal}
+use Rattle.machine.specs.declared.request_move.RequestMove.TheVariants.{Begin, Complete, SetPending, Signal, DropAll, TakeSignal, Reply}
 
 -- a device, a thread and a status of the table
 abbrev pub IsKnown : RequestRows → ℕ → ObjNo → ℕ → Type 0
@@ -18,3 +18,4 @@ CanRequest (SetPending t s) r = (t.0 < length r.signals) × (s < 16)
 CanRequest (Signal t s code) r = (t.0 < length r.signals) × (s < 16) × IsTrue (is_pending r t s)
 CanRequest (DropAll t) r = t.0 < length r.signals
 CanRequest (TakeSignal t) r = t.0 < length r.signals
+CanRequest (Reply t code) r = t.0 < length r.signals

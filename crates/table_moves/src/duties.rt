@@ -1,6 +1,8 @@
 //! What threads owe, in the lists that their deaths read.
 ghost use Rattle.std.specs.Prelude.{◌≡◌, ◌+◌, ◌≤◌, [], ◌∷◌, length};
 ghost use Rattle.cleanup.specs.Lists.{list_of};
+ghost use Rattle.entry_log.specs.declared.effect.Holder.TheVariants as holder;
+ghost use Rattle.state_rows.specs.declared.duty.Owed.TheVariants as owed;
 ghost use Rattle.machine.specs.Moves.{owed_by_close, owed_link, owed_use};
 ghost use Rattle.machine.specs.Rows.{owing, without_first, first_of};
 ghost use Rattle.table_moves.specs.Noted.{with_duties};
@@ -8,7 +10,7 @@ ghost use Rattle.table_moves.specs.Noted.{with_duties};
 use cleanup::Cleanup;
 use entry_log::Holder;
 use machine::Owed;
-use sym_base::{ObjNo, ThreadNo};
+use sym_base::{MsgNo, ObjNo, ThreadNo};
 
 /// A thread owes one thing more.
 pub fn owe(cleanup: &mut Cleanup, thread: ThreadNo, what: Owed)
@@ -46,6 +48,29 @@ pub fn owe_close(
         owe_link(cleanup, thread, object, link);
         owe(cleanup, thread, Owed::Sweep(object));
     }
+}
+
+/// A thread owes the closes of a finished message's references, to its session and to its client.
+pub fn owe_message(
+    cleanup: &mut Cleanup,
+    thread: ThreadNo,
+    number: MsgNo,
+    session: ObjNo,
+    client: ThreadNo,
+)
+    requires { length (list_of cleanup.old.duties thread) + 2 ≤ 16 }
+    ensures { cleanup.new ≡ with_duties cleanup.old (owing cleanup.old.duties thread (owed.Close (holder.Message number) session ∷ owed.Close (holder.Message number) client ∷ [])) }
+{
+    owe(
+        cleanup,
+        thread,
+        Owed::Close(Holder::Message(number), session),
+    );
+    owe(
+        cleanup,
+        thread,
+        Owed::Close(Holder::Message(number), client),
+    );
 }
 
 /// A thread owes the close of its temporary reference, where it has one.

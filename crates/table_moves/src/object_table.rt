@@ -5,8 +5,8 @@ ghost use Rattle.sym_base.specs.declared.limits.TheConstants.Limits.{OBJECTS};
 ghost use Rattle.ref_words.specs.Words.{NoneCreated};
 ghost use Rattle.objects.specs.Calls.{found};
 ghost use Rattle.state_rows.specs.ObjectRows.{is_taken};
-ghost use Rattle.objects.specs.Rows.{is_there};
-ghost use Rattle.state_rows.specs.ObjectRows.{is_dead_row, is_session, dead_row};
+ghost use Rattle.objects.specs.Rows.{is_there, kept_name};
+ghost use Rattle.state_rows.specs.ObjectRows.{is_dead_row, dead_row};
 
 use objects::Made;
 use ref_words::{Closed, RefWords};
@@ -59,9 +59,9 @@ impl<W: RefWords + Drop> ObjectTable<W> {
         self.table.find(kind, name)
     }
 
-    /// Makes an object with one reference. It answers the number, the next one.
+    /// Makes an object with one reference. It answers the number, the next one. A session has no name: the one given is empty.
     pub fn make(&mut self, kind: Kind, name: &Name) -> ObjNo
-        requires named { is_session kind ≡ false }
+        requires named { kept_name kind name.now ≡ name.now }
         requires fresh { is_taken kind name.now self.old.rows ≡ false }
         requires room { length self.old.rows < OBJECTS }
         ensures number { result.0 ≡ length self.old.rows }

@@ -43,5 +43,6 @@ pub fn move_request(requests: &mut Requests, change: RequestMove)
         RequestMove::TakeSignal(thread) => {
             let _ = requests.take_signal(thread);
         }
+        RequestMove::Reply(thread, code) => requests.signal_sync(thread, code),
     }
 }

@@ -1,6 +1,6 @@
 //! Rows of threads: one change of a thread's row each, and none where there is no such thread.
 ghost use Rattle.std.specs.Prelude.{◌≡◌, ◌+◌, ◌<◌, ◌≤◌, None, Some, slice_set};
-ghost use Rattle.machine.specs.Moves.{with_use, unlinked, with_found, with_part, with_register, advanced, with_waiting, with_priority, threads_gain, threads_lose, threads_closed};
+ghost use Rattle.machine.specs.Moves.{with_use, unlinked, with_found, with_kept, with_message, with_part, with_register, advanced, with_waiting, with_priority, threads_gain, threads_lose, threads_closed};
 ghost use Rattle.machine.specs.Memory.{filled, with_memory};
 ghost use Rattle.machine.specs.Room.{MayAdvance};
 ghost use Rattle.machine.specs.Rows.{with_row};
@@ -56,6 +56,15 @@ pub fn threads_find(procs: &mut Procs, thread: ThreadNo, object: ObjNo)
     }
 }
 
+/// A thread keeps a number that a step of its instruction found.
+pub fn threads_keep(procs: &mut Procs, thread: ThreadNo, number: u32)
+    ensures { procs.new ≡ with_threads procs.old (with_row procs.old.threads thread (with_kept number)) }
+{
+    if procs.is_thread(thread) {
+        procs.set_found(thread, number);
+    }
+}
+
 /// A thread goes on to a step of its instruction.
 pub fn threads_go_on(procs: &mut Procs, thread: ThreadNo, part: Part)
     ensures { procs.new ≡ with_threads procs.old (with_row procs.old.threads thread (with_part part)) }
@@ -72,6 +81,16 @@ pub fn threads_write(procs: &mut Procs, thread: ThreadNo, register: u8, value: u
 {
     if procs.is_thread(thread) {
         procs.set_register(thread, register, value);
+    }
+}
+
+/// A register of a thread for messages gets the number of one.
+pub fn threads_write_message(procs: &mut Procs, thread: ThreadNo, register: u8, number: u32)
+    requires { register < 8 }
+    ensures { procs.new ≡ with_threads procs.old (with_row procs.old.threads thread (with_message register number)) }
+{
+    if procs.is_thread(thread) {
+        procs.set_message(thread, register, number);
     }
 }
 

@@ -4,7 +4,9 @@ ghost use Rattle.std.specs.Prelude.{◌≡◌, ◌+◌, ◌≤◌, ◌++◌, len
 ghost use Rattle.machine.specs.Dooms.{doom, doom_noted, doom_or_note, doom_where, end, killed, noted_of, plain_exit};
 
 use entry_log::Step;
-use machine::{DeathMove, Decision, LockMove, LogonMove, Move, Moves, NanoMove, RequestMove};
+use machine::{
+    DeathMove, Decision, LockMove, LogonMove, Move, Moves, NanoMove, RequestMove, ServerMove,
+};
 use readings::Reads;
 use sym_base::{Exit, ExitKind, Name, ThreadNo};
 
@@ -21,14 +23,15 @@ pub fn plain_exit(kind: ExitKind, reason: i32) -> Exit
 
 /// The doom of a thread, behind the moves before.
 pub fn doom(moves: &mut Moves, thread: ThreadNo, exit: Exit)
-    requires { length moves.old + 5 ≤ 8 }
+    requires { length moves.old + 6 ≤ 8 }
     ensures moves { moves.new ≡ moves.old ++ doom thread exit }
-    ensures few { length moves.new ≤ length moves.old + 5 }
+    ensures few { length moves.new ≤ length moves.old + 6 }
 {
     moves.push(Move::Locks(LockMove::Leave(thread)));
     moves.push(Move::Nano(NanoMove::Release(thread)));
     moves.push(Move::Requests(RequestMove::DropAll(thread)));
     moves.push(Move::Logons(LogonMove::Drop(thread)));
+    moves.push(Move::Servers(ServerMove::CloseAll(thread)));
     moves.push(Move::Death(DeathMove::Doom(thread, exit)));
 }
 
@@ -41,9 +44,9 @@ pub fn noted_of<R: Reads>(reads: &R, thread: ThreadNo) -> Option<Exit>
 
 /// A protected thread's exit is noted, and another thread is doomed.
 pub fn doom_or_note<R: Reads>(moves: &mut Moves, reads: &R, thread: ThreadNo, exit: Exit)
-    requires { length moves.old + 5 ≤ 8 }
+    requires { length moves.old + 6 ≤ 8 }
     ensures moves { moves.new ≡ moves.old ++ doom_or_note (R.state reads.now) thread exit }
-    ensures few { length moves.new ≤ length moves.old + 5 }
+    ensures few { length moves.new ≤ length moves.old + 6 }
 {
     if reads.is_protected(thread) {
         moves.push(Move::Death(DeathMove::Note(thread, exit)));
@@ -54,9 +57,9 @@ pub fn doom_or_note<R: Reads>(moves: &mut Moves, reads: &R, thread: ThreadNo, ex
 
 /// The doom of a thread that nothing protects any more, where an exit is noted.
 pub fn doom_noted(moves: &mut Moves, thread: ThreadNo, noted: Option<Exit>)
-    requires { length moves.old + 5 ≤ 8 }
+    requires { length moves.old + 6 ≤ 8 }
     ensures moves { moves.new ≡ moves.old ++ doom_noted thread noted }
-    ensures few { length moves.new ≤ length moves.old + 5 }
+    ensures few { length moves.new ≤ length moves.old + 6 }
 {
     if let Some(exit) = noted {
         doom(moves, thread, exit);
@@ -65,9 +68,9 @@ pub fn doom_noted(moves: &mut Moves, thread: ThreadNo, noted: Option<Exit>)
 
 /// The same, where this ends the protection.
 pub fn doom_where(moves: &mut Moves, unprotected: bool, thread: ThreadNo, noted: Option<Exit>)
-    requires { length moves.old + 5 ≤ 8 }
+    requires { length moves.old + 6 ≤ 8 }
     ensures moves { moves.new ≡ moves.old ++ doom_where unprotected thread noted }
-    ensures few { length moves.new ≤ length moves.old + 5 }
+    ensures few { length moves.new ≤ length moves.old + 6 }
 {
     if unprotected {
         doom_noted(moves, thread, noted);

@@ -21,6 +21,7 @@ pub fn object_at<R: Reads>(
     requires { R.is_readable reads.now }
     ensures object { result ≡ object_at (R.state reads.now) thread row.now handle }
     ensures index { IfSome result (λ o. index_of handle < 256) }
+    ensures positive { IfSome result (λ o. handle < 2147483648) }
 {
     reads.handle(owner_of(thread, row, handle), handle)
 }
@@ -62,7 +63,7 @@ pub fn look<R: Reads>(
 }
 
 /// Whether an object is of a kind.
-fn is_of_kind(kind: Kind, row: Option<ObjectRow>) -> bool
+pub fn is_of_kind(kind: Kind, row: Option<ObjectRow>) -> bool
     ensures { result ≡ is_of_kind kind row }
 {
     match row {

@@ -7,16 +7,19 @@ use Rattle.entry_log.specs.declared.effect.Holder.TheVariants.{InProcess, InThre
 use Rattle.script_types.specs.declared.script.Script.{Script}
 use Rattle.script_types.specs.Shape.{IsShaped}
 use Rattle.machine.specs.declared.boot.Born.{Born}
+use Rattle.sym_base.specs.declared.limits.TheConstants.Limits.{OBJECTS}
+use Rattle.state_rows.specs.ServerChanges.{no_rows}
 use Rattle.state_rows.specs.declared.handle_slot.HandleSlot.{HandleSlot}
 use Rattle.state_rows.specs.declared.thread.ThreadRow.{ThreadRow}
 use Rattle.machine.specs.Boot.{boot, boot_of, born}
 use Rattle.state_rows.specs.HandleSlots.{slot_at, fresh_slot}
-use Rattle.machine.specs.HeldIn.{own_slot, use_names, rows_hold, owed_by, held_in}
+use Rattle.machine.specs.HeldIn.{own_slot, use_names, rows_hold, servers_hold, owed_by, held_in}
 use Rattle.machine.specs.Holding.{held_at_boot}
-use Rattle.machine.specs.References.{total, option_names, mutex_names}
+use Rattle.machine.specs.References.{total, option_names, mutex_names, session_names}
 use Rattle.machine.specs.WellFormed.{dead_bit}
 use Rattle.move_laws.proofs.Lives.Bits.{gone, gone_bit, unmade}
 use Rattle.machine_laws.proofs.AtBoot.BootLocks.{nothing_at}
+use Rattle.machine_laws.proofs.AtBoot.BootServing.{no_session}
 use Rattle.machine_laws.proofs.AtBoot.BootRows.{total-const, const_either}
 use Rattle.machine_laws.proofs.AtBoot.Born.{EachBorn, each_born, born_row}
 
@@ -41,7 +44,7 @@ nothing_used_by script n bs i x (Some row) h is = ap (option_names x) (born_row 
 -- at boot the references are the links of threads to their processes, and the kernel's own to threads
 pub held-boot : (script : Script) → IsShaped script → (g : Holder) (x : ObjNo) → held_in (boot script) g x ≡ held_at_boot script g x
 unfolding boot_of
-held-boot script shaped g x = let a = rows g in let b = owed in omega arith
+held-boot script shaped g x = let a = rows g in let b = owed in let c = served g in omega arith
   where
     bs : List Born
     bs = born script
@@ -60,6 +63,12 @@ held-boot script shaped g x = let a = rows g in let b = owed in omega arith
     rows (Link t) = refl
     rows (Message m) = refl
     rows Kernel = refl
+
+    served : (g : Holder) → servers_hold (map (λ _. []) bs) (no_rows OBJECTS).sessions [] g x ≡ 0
+    served (Own t) = nothing_at bs (λ (l : List ObjNo). total (mutex_names x) l ≡ 0) t.0 refl
+    served (Link s) = ap (session_names x) (no_session OBJECTS s)
+    served (Message m) = refl
+    served _ = refl
 
 born_not_gone : (script : Script) (n : ℕ) (bs : List Born) (i : ℕ) → EachBorn script n bs → gone_bit (get_or (map (λ b. Some b.object) bs) i unmade) ≡ 0
 born_not_gone script n [] i h = refl

@@ -48,9 +48,9 @@ suspended_at (b ∷ bs) zero = held_count_is b.held
 suspended_at (b ∷ bs) (suc i) = suspended_at bs i
 
 -- a thread is stopped at boot exactly where it is held
-pub stopped-boot : (fast : ℕ) (calls : DeferredRows) (bs : List Born) (t : ObjNo) → is_stopped (boot_of fast calls bs) t ≡ is_held_at bs t.0
+pub stopped-boot : (pool fast : ℕ) (calls : DeferredRows) (bs : List Born) (t : ObjNo) → is_stopped (boot_of pool fast calls bs) t ≡ is_held_at bs t.0
 unfolding boot_of
-stopped-boot fast calls bs t = ap (λ (protected : Bool). not (get_or (map held_count bs) t.0 0 == 0) && not protected) (unprotected fast bs t) ∙ (and-true (not (get_or (map held_count bs) t.0 0 == 0)) ∙ suspended_at bs t.0)
+stopped-boot pool fast calls bs t = ap (λ (protected : Bool). not (get_or (map held_count bs) t.0 0 == 0) && not protected) (unprotected fast bs t) ∙ (and-true (not (get_or (map held_count bs) t.0 0 == 0)) ∙ suspended_at bs t.0)
 
 held_count_few : (held : Bool) → (if held then 1 else 0) ≤ 127
 held_count_few true = omega arith

@@ -91,6 +91,6 @@ ready-boot script shaped =
     record {
       exact = λ u. listed_at 0 bs u.0 u (omega arith) ∙ works_is script (length bs) bs u.0 each
           ∙ sym (ready_is (is_waiting (boot script) u) (is_stopped (boot script) u) (is_some (task_of script (boot script) u)) (is_held_at bs u.0) _
-          (goes_on script (length bs) bs u.0 each) (stopped-boot script.fast (calls_of script) bs u) (task-boot script u));
+          (goes_on script (length bs) bs u.0 each) (stopped-boot script.pool script.fast (calls_of script) bs u) (task-boot script u));
       once = ready_apart 0 bs;
     }

@@ -9,6 +9,8 @@ use Rattle.script_types.specs.Source.{IsWellFormed as IsWellFormedScript}
 use Rattle.script_types.proofs.ShapeLaws.{formed_is_shaped}
 use Rattle.sym_base.specs.declared.limits.TheConstants.Limits.{DEVICES, OBJECTS}
 use Rattle.state_rows.specs.RequestChanges.{new_rows as request_rows}
+use Rattle.state_rows.specs.LockChanges.{new_rows as lock_rows}
+use Rattle.state_rows.specs.ServerChanges.{no_rows}
 use Rattle.state_rows.specs.declared.duty.Owed.{Owed}
 use Rattle.machine.specs.declared.boot.Born.{Born}
 use Rattle.state_rows.specs.declared.handle_slot.HandleSlot.{HandleSlot}
@@ -18,7 +20,7 @@ use Rattle.state_rows.specs.HandleSlots.{fresh_slot, slot_at}
 use Rattle.machine.specs.References.{total, option_names, slot_names, thread_names, kernel_names, owed_names, mutex_names, count_of, kernel_holds}
 use Rattle.machine.specs.Rows.{thread_of}
 use Rattle.state_rows.specs.HandleSlots.{IsTable}
-use Rattle.machine.specs.WellFormed.{EachMayOwe, AreLogons, AreRequests, AreRows, IsWellFormed, IsAlive, is_dead, dead_bit, owed_sweeps, weight, is_spent}
+use Rattle.machine.specs.WellFormed.{EachMayOwe, AreLogons, AreRequests, AreRows, IsWellFormed, IsAlive, IsUntold, is_dead, dead_bit, owed_sweeps, weight, is_spent}
 use Rattle.machine_laws.proofs.AtBoot.BootCounts.{counted-boot}
 use Rattle.machine_laws.proofs.AtBoot.BootLinks.{each_linked, linked_at}
 use Rattle.machine_laws.proofs.AtBoot.BootLocks.{locks-boot, memories-boot, nothing_at}
@@ -26,15 +28,12 @@ use Rattle.machine_laws.proofs.AtBoot.BootNano.{synchronized-boot}
 use Rattle.machine_laws.proofs.AtBoot.BootReady.{ready-boot}
 use Rattle.machine_laws.proofs.AtBoot.BootRequests.{no_request, requests-boot}
 use Rattle.machine_laws.proofs.AtBoot.BootServers.{servers-boot}
+use Rattle.machine_laws.proofs.AtBoot.BootServing.{messages-boot, rows_of_servers-boot, total-replicate}
 use Rattle.machine.proofs.BornFew.{born_few}
 use Rattle.machine_laws.proofs.AtBoot.Born.{IsNewThread, EachBorn, each_born, born_role, born_row}
 use Rattle.move_laws.proofs.RowLaws.Logons.{logons-boot, none_logged}
 use Rattle.move_laws.proofs.Lists.Copies.{copy_at}
 use Rattle.move_laws.proofs.References.Same.{same_other}
-
-total-replicate : {A : Type 0} (f : A → ℕ) (x : A) (n : ℕ) → f x ≡ 0 → total f (replicate n x) ≡ 0
-total-replicate f x zero h = refl
-total-replicate f x (suc n) h = let r = total-replicate f x n h in omega arith
 
 pub total-const : {A B : Type 0} (f : B → ℕ) (y : B) (xs : List A) → f y ≡ 0 → total f (map (λ _. y) xs) ≡ 0
 total-const f y [] h = refl
@@ -134,7 +133,7 @@ rows-boot script valid =
         servers = λ k queue row is serves. servers-boot script k queue row is serves;
       };
       duties = record {
-        own = λ k. nothing_at bs (EachMayOwe (map (λ b. b.thread) bs) k) k tt;
+        own = λ k. nothing_at bs (EachMayOwe (map (λ b. b.thread) bs) (no_rows OBJECTS) 0 k) k tt;
         few = λ k. nothing_at bs (λ (l : List Owed). total weight l ≤ 12) k (omega arith);
         returns = λ k _. nothing_at bs (λ (l : List Owed). l ≡ []) k refl;
       };
@@ -153,6 +152,8 @@ rows-boot script valid =
         logons = λ u s some. let none = none_logged u s bs in absurd (omega arith);
         waits = λ k row o is waits. (born_row script (length bs) bs k row each is).live;
       };
+      servers = rows_of_servers-boot (λ row. is_spent row.stage) (length (map (λ b. Some b.object) bs)) OBJECTS (lock_rows OBJECTS) bs refl;
+      messages = messages-boot script (IsUntold (request_rows (length bs) DEVICES) (map (λ _. []) bs)) OBJECTS script.pool shaped refl;
       lives = record {
         alive = λ o c. elim (cases_lt o.0 (length bs)) [
           | inl lt ↦ born_alive script (length bs) bs o.0 each lt

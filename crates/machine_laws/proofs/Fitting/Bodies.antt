@@ -1,5 +1,5 @@
 -- The moves of bodies fit: those of each operation in the state that the earlier ones left.
-use Rattle.std.proofs.Common.{◌≡◌, ℕ, ◌+◌, ◌≤◌, List, [], ◌∷◌, ◌++◌, length, arith, refl, ap, ◌∙◌, Option, Some, None, Bool, true, false}
+use Rattle.std.proofs.Common.{◌≡◌, ℕ, ◌+◌, ◌≤◌, List, [], ◌∷◌, ◌++◌, length, get_or, arith, refl, sym, ap, ◌∙◌, Option, Some, None, Bool, true, false}
 use Rattle.std.specs.Prelude.{ℤ, is_some, if◌then◌else◌, option_and_then, slice_get}
 use Rattle.std.proofs.lemmas.Bool.{leb-true}
 use Rattle.sym_base.specs.declared.kind.Kind.TheVariants.{Thread}
@@ -29,24 +29,28 @@ use Rattle.machine.specs.Bodies.{complete, end_wait, ends_wait, irq_of, leave_qu
 use Rattle.machine.specs.FastSemaphore.{signal_move}
 use Rattle.machine.specs.Find.{find_object}
 use Rattle.machine.specs.Fits.{EachFits, Sane, WaitsNowhere, most_owed, most_told}
+use Rattle.machine.specs.FitsServers.{IsUncalled}
 use Rattle.machine.specs.Moves.{perform, tell}
 use Rattle.machine.specs.References.{total}
 use Rattle.machine.specs.Rows.{owed_of, thread_of}
+use Rattle.machine.specs.Serving.{times_called}
 use Rattle.machine.specs.ThreadCalls.{is_live}
 use Rattle.machine.specs.WellFormed.{AreRows, weight}
+use Rattle.machine.proofs.Instructions.{all_at}
 use Rattle.move_laws.proofs.Lists.Cases.{if_cases}
 use Rattle.move_laws.proofs.Lists.Totals.{inside, total-append}
 use Rattle.move_laws.proofs.MoveLaws.Run.{each-sound, sane-after}
-use Rattle.move_laws.proofs.Numbers.Registers.{all_at}
+use Rattle.move_laws.proofs.Numbers.FewEffects.{tell_few}
 use Rattle.move_laws.proofs.RowLaws.Declared.{dfc_inside, idfc_inside, queue_inside}
 use Rattle.machine_laws.proofs.Fitting.Stepping.{fits-both}
+use Rattle.machine_laws.proofs.Fitting.Uncalled.{is_uncalled}
 use Rattle.machine_laws.proofs.Fitting.Waiters.{waits_nowhere}
 
 -- the moves fit one by one, what they may owe has room, and they tell at most four effects
 pub record Goes (script : Script) (t : ObjNo) (S : State) (ms : List Move) : Type 0 where
   pub each : EachFits script t ms S
   pub few : total weight (owed_of S t) + total most_owed ms ≤ 12
-  pub told : total most_told ms ≤ 4
+  pub told : length (tell t ms S) ≤ 4
 
 -- moves that fit one by one, owe nothing, and tell at most so many effects
 pub record OwesNothing (script : Script) (t : ObjNo) (S : State) (ms : List Move) (most : ℕ) : Type 0 where
@@ -59,7 +63,7 @@ pub light_few : (script : Script) (S : State) (t : ObjNo) (ms : List Move) → A
 light_few script S t ms rows light = let few = rows.duties.few t.0 in omega arith
 
 pub goes-light : (script : Script) (S : State) (t : ObjNo) (ms : List Move) → AreRows script S → OwesNothing script t S ms 4 → Goes script t S ms
-goes-light script S t ms rows h = record { each = h.each; few = light_few script S t ms rows h.light; told = h.told }
+goes-light script S t ms rows h = record { each = h.each; few = light_few script S t ms rows h.light; told = let few = h.told in let most = tell_few t ms S in omega arith }
 
 -- moves, and others in the state that they leave
 pub light-then : (script : Script) (S : State) (t : ObjNo) (xs ys : List Move) (n m most : ℕ) → n + m ≤ most → OwesNothing script t S xs n → OwesNothing script t (perform t xs S) ys m → OwesNothing script t S (xs ++ ys) most
@@ -76,12 +80,12 @@ light-then script S t xs ys n m most fits h more =
 pub sane-light : (script : Script) (S : State) (t : ObjNo) (ms : List Move) (n : ℕ) → OwesNothing script t S ms n → Sane script t S → Sane script t (perform t ms S)
 sane-light script S t ms n h s = sane-after script S (perform t ms S) t (tell t ms S) s (each-sound script S t ms h.each (light_few script S t ms s.rows h.light) s)
 
-no_moves : (script : Script) (S : State) (t : ObjNo) (n : ℕ) → OwesNothing script t S [] n
+pub no_moves : (script : Script) (S : State) (t : ObjNo) (n : ℕ) → OwesNothing script t S [] n
 no_moves script S t n = record { each = tt; told = omega arith; light = refl }
 
 -- a signal of a thread's fast semaphore
 light-signal : (script : Script) (S : State) (t u : ObjNo) (row : ThreadRow) (what : Waiting) → AreRows script S → thread_of S u ≡ Some row → row.waiting ≡ what → OwesNothing script t S (signal_move u what ∷ []) 1
-light-signal script S t u row waiting.Fast rows is waits = record { each = (waits_nowhere script S u row rows is (λ o e. absurd (cc)), tt); told = omega arith; light = refl }
+light-signal script S t u row waiting.Fast rows is waits = record { each = ((waits_nowhere script S u row rows is (λ o e. absurd (cc)), is_uncalled script S u row rows is (λ e. absurd (cc))), tt); told = omega arith; light = refl }
 light-signal script S t u row _ rows is waits = record { each = ((ap is_some is, tt), tt); told = omega arith; light = refl }
 
 light-named : (script : Script) (S : State) (t : ObjNo) (named : Option ObjNo) → AreRows script S → OwesNothing script t S (signal_object S named) 1
@@ -97,15 +101,22 @@ ends_no_lock : (S : State) (u : ObjNo) (s : ℕ) (what : Waiting) (o : ObjNo) �
 ends_no_lock S u s (waiting.Lock x) o ends is = cc
 ends_no_lock S u s _ o ends is = cc
 
-pub light-end : (script : Script) (S T : State) (t u : ObjNo) (s : ℕ) (row : Option ThreadRow) → AreRows script S → T.locks ≡ S.locks → thread_of S u ≡ row → OwesNothing script t T (end_wait S u s row) 0
-light-end script S T t u s None rows same is = no_moves script T t 0
-light-end script S T t u s (Some row) rows same is = by (ends_wait S u s row.waiting) refl
+ends_no_reply : (S : State) (u : ObjNo) (s : ℕ) (what : Waiting) → ends_wait S u s what ≡ true → what ≡ waiting.Reply → ⊥
+ends_no_reply S u s waiting.Reply ends is = cc
+ends_no_reply S u s _ ends is = cc
+
+pub light-end : (script : Script) (S T : State) (t u : ObjNo) (s : ℕ) (row : Option ThreadRow) → AreRows script S → T.locks ≡ S.locks → T.threads ≡ S.threads → times_called T.messages.outstanding u ≤ times_called S.messages.outstanding u → thread_of S u ≡ row → OwesNothing script t T (end_wait S u s row) 0
+light-end script S T t u s None rows same threads fewer is = no_moves script T t 0
+light-end script S T t u s (Some row) rows same threads fewer is = by (ends_wait S u s row.waiting) refl
   where
     nowhere : ends_wait S u s row.waiting ≡ true → WaitsNowhere T u
     nowhere ends o = ap (λ (r : LockRows). is_among u (waiters_at r o)) same ∙ waits_nowhere script S u row rows is (λ x waits. ends_no_lock S u s row.waiting x ends waits) o
 
+    calls : ends_wait S u s row.waiting ≡ true → IsUncalled T u
+    calls ends = λ r at live. let none = is_uncalled script S u row rows is (λ waits. ends_no_reply S u s row.waiting ends waits) r (ap (λ (threads : List (Option ThreadRow)). get_or threads u.0 None) (sym threads) ∙ at) live in omega arith
+
     by : (b : Bool) → ends_wait S u s row.waiting ≡ b → OwesNothing script t T (if b then move.Wake u ∷ [] else []) 0
-    by true ends = record { each = (nowhere ends, tt); told = omega arith; light = refl }
+    by true ends = record { each = ((nowhere ends, calls ends), tt); told = omega arith; light = refl }
     by false ends = no_moves script T t 0
 
 light-complete : (script : Script) (S : State) (t : ObjNo) (d : ℕ) (code : ℤ) (request : Option Request) → AreRows script S → request_at S.requests d ≡ request → OwesNothing script t S (complete S d code request) 1
@@ -113,7 +124,7 @@ light-complete script S t d code None rows is = no_moves script S t 1
 light-complete script S t d code (Some request) rows is =
     light-then script S t (move.Requests (Complete d request.thread request.status code) ∷ []) _ 1 0 1 (omega arith)
     (record { each = (((inside S.requests.devices d request is, is), tt), tt); told = omega arith; light = refl })
-    (light-end script S _ t request.thread request.status (thread_of S request.thread) rows refl refl)
+    (light-end script S _ t request.thread request.status (thread_of S request.thread) rows refl refl (omega arith) refl)
 
 -- an operation
 pub light-op : (script : Script) (S : State) (t : ObjNo) (operation : Op) → AreRows script S → OwesNothing script t S (op_moves script S operation) 1

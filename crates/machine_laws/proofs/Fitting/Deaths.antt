@@ -46,6 +46,7 @@ use Rattle.move_laws.proofs.Lists.Totals.{inside}
 use Rattle.move_laws.proofs.Numbers.Registers.{logon_small}
 use Rattle.machine_laws.proofs.Fitting.Dooms.{GoOnAfter, after-doom, fits-after, may_die, unprotected_unheld}
 use Rattle.machine_laws.proofs.Fitting.KernelThreads.{fits-answer, fits-look_kind}
+use Rattle.machine_laws.proofs.Fitting.Uncalled.{not_sent}
 use Rattle.machine_laws.proofs.Fitting.Stepping.{FitsDecision, IsStepping, at-with_row, fits-answers, fits-nothing, fits-refuse, has_signals, live_thread}
 
 -- a thread on which a call isn't refused is live
@@ -108,7 +109,7 @@ fits-exit {script = script} {S = S} {t = t} {row = row} reason h going =
     record { each = after.each; told = let few = after.told in omega arith; light = let none = after.light in omega arith })
 
 -- a status that comes to be pending is awaited, and no logon has it
-set_awaited : (count : ℕ) (r : RequestRows) (t : ObjNo) (s : ℕ) → AreRequests count r → t.0 < length r.signals → s < 16 → is_pending r t s ≡ false → IsAwaited (after_set_pending r t s) t s
+pub set_awaited : (count : ℕ) (r : RequestRows) (t : ObjNo) (s : ℕ) → AreRequests count r → t.0 < length r.signals → s < 16 → is_pending r t s ≡ false → IsAwaited (after_set_pending r t s) t s
 set_awaited count r t s h known small done = record {
   thread = known;
   status = small;
@@ -121,7 +122,7 @@ set_awaited count r t s h known small done = record {
   alone = λ d has. let waits = h.pending d _ has in absurd (cc);
 }
 
-not_logged : (count : ℕ) (r : RequestRows) (logons : List (List (ObjNo × ℕ))) (t : ObjNo) (s : ℕ) → AreLogons count r logons → is_pending r t s ≡ false → times_logged logons t s ≡ 0
+pub not_logged : (count : ℕ) (r : RequestRows) (logons : List (List (ObjNo × ℕ))) (t : ObjNo) (s : ℕ) → AreLogons count r logons → is_pending r t s ≡ false → times_logged logons t s ≡ 0
 not_logged count r logons t s h done = elim (cases_lt 0 (times_logged logons t s)) as (λ _. times_logged logons t s ≡ 0) [
   | inl some ↦ let waits = (h.waits t s some).waits in absurd (cc)
   | inr none ↦ omega arith
@@ -142,10 +143,10 @@ fits-logon_do {script = script} {S = S} {t = t} {row = row} s u r h going small 
         (record { row = row; is = ap (λ (threads : List (Option ThreadRow)). get_or threads t.0 None) same ∙ h.is; next = h.next }) (omega arith) (omega arith)
 
     added : is_spent r.stage ≡ false → FitsDecision script t S (answer t (step.Of word.Logon part.Do) (move.Requests (SetPending t s) ∷ move.Logons (Add u t s) ∷ []) (pos 0))
-    added unspent = with (move.Logons (Add u t s)) (inside S.threads u.0 r is, awaited, unlogged, live_thread h going, λ x at. let same : r ≡ x = (let a = is in cc) in subst (λ (y : ThreadRow). is_spent y.stage ≡ false) same unspent) refl (omega arith) refl
+    added unspent = with (move.Logons (Add u t s)) (inside S.threads u.0 r is, awaited, unlogged, not_sent script S t s h.rows done, live_thread h going, λ x at. let same : r ≡ x = (let a = is in cc) in subst (λ (y : ThreadRow). is_spent y.stage ≡ false) same unspent) refl (omega arith) refl
 
     signalled : FitsDecision script t S (answer t (step.Of word.Logon part.Do) (move.Requests (SetPending t s) ∷ move.Requests (Signal t s (reason_of r.exit)) ∷ []) (pos 0))
-    signalled = with (move.Requests (Signal t s (reason_of r.exit))) ((awaited, unlogged), live_thread h going) refl (omega arith) refl
+    signalled = with (move.Requests (Signal t s (reason_of r.exit))) ((awaited, unlogged), (live_thread h going, not_sent script S t s h.rows done)) refl (omega arith) refl
 
     by : (stage : Stage) → r.stage ≡ stage → FitsDecision script t S (answer t (step.Of word.Logon part.Do) (move.Requests (SetPending t s) ∷ logon_move t u s r.exit stage ∷ []) (pos 0))
     by Live at = added (ap is_spent at)

@@ -36,11 +36,15 @@ use Rattle.machine.specs.Fits.{EachFits, FitsMove, IsAtInstruction, most_owed, m
 use Rattle.machine.specs.Moves.{moved, perform}
 use Rattle.machine.specs.References.{total}
 use Rattle.machine.specs.Rows.{thread_of}
+use Rattle.machine.specs.ServerMoves.{owned_by}
+use Rattle.machine.specs.Serving.{times_owned}
+use Rattle.state_rows.specs.ServerRows.{IsServer}
 use Rattle.machine.specs.Task.{is_returning}
 use Rattle.machine.specs.WellFormed.{AreRows}
 use Rattle.move_laws.proofs.Lists.Cases.{if_cases}
 use Rattle.move_laws.proofs.Lists.Totals.{inside}
 use Rattle.move_laws.proofs.Numbers.FewEffects.{nano-tells}
+use Rattle.machine_laws.proofs.Fitting.ClosingServers.{closed_all, owned_server}
 use Rattle.machine_laws.proofs.Fitting.KernelThreads.{held_holder, mutex_inside, none_is, none_of}
 use Rattle.machine_laws.proofs.Fitting.Stepping.{FitsDecision, IsStepping, at_instruction, at-with_row, fits-answers, fits-refuse, has_signals}
 use Rattle.machine_laws.proofs.Fitting.Waiters.{without_apart}
@@ -53,12 +57,13 @@ pub record MayDie (S : State) (u : ObjNo) : Type 0 where
   pub live : row.stage ≡ Live
   pub signals : u.0 < length S.requests.signals
   pub unheld : held_by S.nano u ≡ None
+  pub servers : (o : ObjNo) → 0 < times_owned S.owned u o → IsServer S.servers o
 
 pub may_die : (script : Script) (S : State) (u : ObjNo) (row : ThreadRow) → AreRows script S → thread_of S u ≡ Some row → row.stage ≡ Live → held_by S.nano u ≡ None → MayDie S u
 may_die script S u row rows is live unheld =
     let within = inside S.threads u.0 row is in
     let long = rows.requests.sized in
-    record { row = row; is = is; live = live; signals = omega arith; unheld = unheld }
+    record { row = row; is = is; live = live; signals = omega arith; unheld = unheld; servers = owned_server script S u rows }
 
 -- what nothing protects holds no fast mutex
 pub unprotected_unheld : (r : NanoRows) (u : ObjNo) → is_protected r u ≡ false → held_by r u ≡ None
@@ -75,7 +80,7 @@ pub each-doom : (script : Script) (S : State) (t u : ObjNo) (exit : Exit) → Ma
 each-doom script S t u exit h =
     let there : is_some (thread_of S u) ≡ true = ap is_some h.is in
     let within = inside S.threads u.0 h.row h.is in
-    (there, ((there, tt), ((h.signals, tt), (within, ((record { row = h.row; is = h.is; at = h.live }, h.unheld, λ o. left_nowhere S.locks.waiters u o.0, record { requests = λ d request is at. dropped_none u S.requests.devices d request is at; logons = λ s. undropped u s S.logons }), tt)))))
+    (there, ((there, tt), ((h.signals, tt), (within, (tt, ((record { row = h.row; is = h.is; at = h.live }, h.unheld, λ o. left_nowhere S.locks.waiters u o.0, record { requests = λ d request is at. dropped_none u S.requests.devices d request is at; logons = λ s. undropped u s S.logons }, λ o some. closed_all (owned_by S.owned u) S.servers o (h.servers o some) some), tt))))))
 
 -- and leave a thread at its instruction
 doomed_at : (script : Script) (S : State) (t u : ObjNo) (exit : Exit) → IsAtInstruction script S t → IsAtInstruction script (perform t (doom u exit) S) t
@@ -132,7 +137,7 @@ fits-funlock {script = script} {S = S} {t = t} {row = row} f h going =
     given : f < length S.nano.holders → holder_of S.nano f ≡ Some t → FitsDecision script t S (answer t (step.Of word.Funlock part.Do) (move.Nano (nano.Give t f) ∷ doom_where (critical_count S.nano t == 0) t (noted_of S t)) (pos 0))
     given known holds =
         fits-then_dies (step.Of word.Funlock part.Do) (nano.Give t f) (critical_count S.nano t == 0) h (ap is_some h.is, (known, holds))
-        (λ _. record { row = row; is = h.is; live = h.live going; signals = has_signals h; unheld = gives_unheld script S t f h.rows known holds })
+        (λ _. record { row = row; is = h.is; live = h.live going; signals = has_signals h; unheld = gives_unheld script S t f h.rows known holds; servers = owned_server script S t h.rows })
 
 -- `leave`
 pub fits-leave : {script : Script} {S : State} {t : ObjNo} {row : ThreadRow} {instr : Instr} → IsStepping script S t row instr → is_returning row.part ≡ false → FitsDecision script t S (leave_do S t)
@@ -140,7 +145,7 @@ fits-leave {script = script} {S = S} {t = t} {row = row} h going =
     if_cases (FitsDecision script t S) (critical_count S.nano t == 0) _ _
     (λ _. fits-refuse (step.Of word.Leave part.Do) error.General h)
     (λ _. fits-then_dies (step.Of word.Leave part.Do) (nano.Leave t) (is_unprotected S t) h (ap is_some h.is, tt)
-    (λ free. record { row = row; is = h.is; live = h.live going; signals = has_signals h; unheld = none_is (held_by S.nano t) (and_parts (critical_count S.nano t == 1) (is_none (held_by S.nano t)) free).1 }))
+    (λ free. record { row = row; is = h.is; live = h.live going; signals = has_signals h; unheld = none_is (held_by S.nano t) (and_parts (critical_count S.nano t == 1) (is_none (held_by S.nano t)) free).1; servers = owned_server script S t h.rows }))
 
 -- at its list's end a thread gives up what protects it
 pub fits-flush : (script : Script) (S : State) (t : ObjNo) (row : ThreadRow) → AreRows script S → thread_of S t ≡ Some row → row.stage ≡ Live → FitsDecision script t S (flush S t)
@@ -154,12 +159,12 @@ fits-flush script S t row rows is live = given (held_by S.nano t) refl
 
     given : (held : Option ℕ) → held_by S.nano t ≡ held → FitsDecision script t S (record { step = step.Flush; moves = give_held t held ++ move.Nano (nano.LeaveAll t) ∷ doom_noted t (noted_of S t); answer = None })
     given None e =
-        let after = after-noted script (moved t (move.Nano (nano.LeaveAll t)) S) t (noted_of S t) (record { row = row; is = is; live = live; signals = within; unheld = e }) in
+        let after = after-noted script (moved t (move.Nano (nano.LeaveAll t)) S) t (noted_of S t) (record { row = row; is = is; live = live; signals = within; unheld = e; servers = owned_server script S t rows }) in
         record { each = ((there, tt), after.each); told = let few = after.told in omega arith; light = let none = after.light in omega arith }
     given (Some f) e =
         let holds = held_holder S.nano t f e in
         let after = after-noted script (moved t (move.Nano (nano.LeaveAll t)) (moved t (move.Nano (nano.Give t f)) S)) t (noted_of S t)
-        (record { row = row; is = is; live = live; signals = within; unheld = gives_unheld script S t f rows holds.0 holds.1 }) in
+        (record { row = row; is = is; live = live; signals = within; unheld = gives_unheld script S t f rows holds.0 holds.1; servers = owned_server script S t rows }) in
         record { each = ((there, holds), ((there, tt), after.each)); told = let few = after.told in omega arith; light = let none = after.light in omega arith }
 
 -- at its list's end a thread that nothing protects ends

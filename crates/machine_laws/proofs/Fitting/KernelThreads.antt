@@ -20,6 +20,7 @@ use Rattle.entry_log.specs.declared.step.Step.TheVariants as step
 use Rattle.state_rows.specs.declared.nano.NanoRows.{NanoRows}
 use Rattle.state_rows.specs.Nano.{suspend_count, signal_count, want_of, holder_of, is_thread, is_free, held_by}
 use Rattle.state_rows.proofs.Soundness.{is_thread-true}
+use Rattle.move_laws.proofs.RowLaws.MessagesKept.{begun_one}
 use Rattle.machine.specs.declared.decision.Decision.{Decision}
 use Rattle.machine.specs.declared.moves.Move.{Move}
 use Rattle.machine.specs.declared.moves.Move.TheVariants as move
@@ -51,6 +52,7 @@ use Rattle.move_laws.proofs.RowLaws.Tables.{object_of_is}
 use Rattle.machine_laws.proofs.Fitting.Living.{handle_is_alive}
 use Rattle.machine_laws.proofs.Fitting.Shared.{IsCheap}
 use Rattle.machine_laws.proofs.Fitting.Stepping.{FitsDecision, IsStepping, fits-nothing, fits-refuse, fits-use, at_instruction, at-with_row, serves_none, live-changed, stepping_live, unspent}
+use Rattle.machine_laws.proofs.Fitting.Uncalled.{is_uncalled, stepping_uncalled}
 use Rattle.machine_laws.proofs.Fitting.Waiters.{waits_nowhere, stepping_nowhere}
 
 pub none_of : {A : Type 0} (x : Option A) → is_some x ≡ false → x ≡ None
@@ -98,7 +100,7 @@ own_row h = ap is_some h.is
 -- the last step comes next, with a move that fits then
 pub fits-later : {script : Script} {S : State} {t : ObjNo} {row : ThreadRow} {instr : Instr} (told : Step) (m : Move) → IsStepping script S t row instr → IsCheap m → FitsMove script t m (moved t (move.GoOn t part.Done) S) → FitsDecision script t S (go_on t told m part.Done)
 fits-later told m h cheap fits = record {
-  each = (record { unused = λ r is e. absurd (cc); paid = λ e. absurd (cc); unspent = unspent h; at = λ e. absurd (cc) }, (fits, tt));
+  each = ((record { unused = λ r is e. absurd (cc); paid = λ e. absurd (cc); unspent = unspent h; at = λ e. absurd (cc); ends = λ r is. begun_one r.part }, tt), (fits, tt));
   told = let a = cheap.told in omega arith;
   light = let a = cheap.light in omega arith;
 }
@@ -139,14 +141,14 @@ pub fits-fswait : {script : Script} {S : State} {t : ObjNo} {row : ThreadRow} {i
 fits-fswait {script = script} {S = S} {t = t} None h going =
     fits-unless (step.Of word.Fswait part.Do) _ h (λ none.
     if_cases (FitsDecision script t S) (signal_count S.nano t == 0) _ _
-    (λ _. fits-later (step.Of word.Fswait part.Do) (move.Wait t waiting.Fast) h (record { told = omega arith; light = refl }) (none, stepping_nowhere h, live-changed S (moved t (move.GoOn t part.Done) S) t (with_part part.Done) (λ r. refl) refl (stepping_live h going)))
+    (λ _. fits-later (step.Of word.Fswait part.Do) (move.Wait t waiting.Fast) h (record { told = omega arith; light = refl }) (none, stepping_nowhere h, live-changed S (moved t (move.GoOn t part.Done) S) t (with_part part.Done) (λ r. refl) refl (stepping_live h going), λ r at live. stepping_uncalled h going))
     (λ _. fits-nano (step.Of word.Fswait part.Do) (nano.Lower t) (pos 0) h (own_row h) tt))
 fits-fswait (Some p) h going = fits-answer (step.Of word.Fswait part.Done) (pos 0) h
 
 -- `fssignal`
 signalled : {script : Script} {S : State} {t : ObjNo} {row : ThreadRow} {instr : Instr} (u : ObjNo) (r : ThreadRow) (what : Waiting) → IsStepping script S t row instr → thread_of S u ≡ Some r → r.waiting ≡ what → FitsDecision script t S (answer t (step.Of word.Fssignal part.Do) (signal_move u what ∷ []) (pos 0))
 signalled {script = script} {S = S} {t = t} u r waiting.Fast h is waits =
-    fits-move (step.Of word.Fssignal part.Do) (move.Wake u) (pos 0) h (record { told = omega arith; light = refl }) (waits_nowhere script S u r h.rows is (λ o e. absurd (cc)))
+    fits-move (step.Of word.Fssignal part.Do) (move.Wake u) (pos 0) h (record { told = omega arith; light = refl }) (waits_nowhere script S u r h.rows is (λ o e. absurd (cc)), is_uncalled script S u r h.rows is (λ e. absurd (cc)))
     (at-with_row script S (moved t (move.Wake u) S) t u (with_waiting waiting.Nothing) (record { role = λ r. refl; next = λ r. refl }) refl (at_instruction h))
 signalled u r _ h is waits = fits-nano (step.Of word.Fssignal part.Do) (nano.Raise u) (pos 0) h (ap is_some is) tt
 
@@ -180,7 +182,7 @@ fits-look_kind {script = script} {S = S} {t = t} {row = row} kind word x h befor
   where
     found : (named : Option ObjNo) → of_kind S kind (object_at S t row (slice_index row.registers x)) ≡ named → FitsDecision script t S (look_at t word named)
     found None e = fits-refuse (step.Of word part.Look) error.BadHandle h
-    found (Some o) e = fits-use (step.Of word part.Look) o part.Do h before refl (handle_is_alive S _ _ o h.rows.lives (object_of_is _ _ _ o (of_kind_is S kind _ o e)))
+    found (Some o) e = fits-use (step.Of word part.Look) o part.Do h before refl tt (handle_is_alive S _ _ o h.rows.lives (object_of_is _ _ _ o (of_kind_is S kind _ o e)))
 
 -- a move of a call on a thread that is there
 pub record FitsCall (script : Script) (S : State) (t : ObjNo) (m : Move) : Type 0 where

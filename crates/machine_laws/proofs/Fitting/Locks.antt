@@ -21,8 +21,11 @@ use Rattle.state_rows.specs.declared.locks.Signalled.{Signalled}
 use Rattle.state_rows.specs.declared.locks.Signalled.TheVariants as signalled
 use Rattle.state_rows.specs.declared.locks.Unlocked.{Unlocked}
 use Rattle.state_rows.specs.declared.locks.Unlocked.TheVariants.{Level, Freed, Passed, NotOwner}
+use Rattle.state_rows.specs.ServerRows.{server_at}
+use Rattle.state_rows.specs.declared.servers.ServerRow.{ServerRow}
 use Rattle.state_rows.specs.declared.thread.Waiting.TheVariants as waiting
 use Rattle.state_rows.specs.declared.thread.ThreadRow.{ThreadRow}
+use Rattle.move_laws.proofs.RowLaws.MessagesKept.{begun_one}
 use Rattle.machine.specs.declared.lock_move.LockMove.{LockMove}
 use Rattle.machine.specs.declared.lock_move.LockMove.TheVariants.{Lock, Unlock, WaitOn, Signal}
 use Rattle.machine.specs.declared.moves.Move.TheVariants as move
@@ -30,8 +33,9 @@ use Rattle.machine.specs.declared.state.State.{State}
 use Rattle.machine.specs.Choice.{priority_of}
 use Rattle.machine.specs.Decide.{answer, wait_at}
 use Rattle.machine.specs.Fits.{FitsLocks, MayJoin, WaitsNowhere, IsLive}
+use Rattle.machine.specs.FitsServers.{IsUncalled}
 use Rattle.machine.specs.Moves.{moved, with_part, with_waiting}
-use Rattle.machine.specs.MutexCalls.{lock_by, lock_do, lock_step, unlock_by, unlock_do, unlock_step}
+use Rattle.machine.specs.MutexCalls.{lock_by, lock_do, lock_step, unless_server, unlock_by, unlock_do, unlock_step}
 use Rattle.machine.specs.Rows.{object_of, thread_of}
 use Rattle.machine.specs.SemaphoreCalls.{wait_on, wait_do, wait_step, signal_by, signal_do, signal_step}
 use Rattle.machine.specs.Task.{is_returning}
@@ -43,14 +47,15 @@ use Rattle.move_laws.proofs.Readiness.FirstReady.{greatest_listed}
 use Rattle.machine_laws.proofs.Fitting.KernelThreads.{fits-answer, fits-look_kind, fits-unless}
 use Rattle.machine_laws.proofs.Fitting.Living.{alive_inside, use_is_alive}
 use Rattle.machine_laws.proofs.Fitting.Stepping.{FitsDecision, IsStepping, fits-answers, fits-nothing, fits-refuse, at_instruction, at-with_row, live-changed, stepping_live, unspent}
+use Rattle.machine_laws.proofs.Fitting.Uncalled.{stepping_uncalled, waiter_uncalled}
 use Rattle.machine_laws.proofs.Fitting.Waiters.{passed_is, stepping_nowhere, struck_nowhere, woke_is}
 
 -- an answer after a move in the rows of mutexes and semaphores, and where a waiter goes on after it
 fits-locked : {script : Script} {S : State} {t : ObjNo} {row : ThreadRow} {instr : Instr} (told : Step) (m : LockMove) → IsStepping script S t row instr → FitsLocks t m S → FitsDecision script t S (answer t told (move.Locks m ∷ []) (pos 0))
 fits-locked {row = row} told m h fits = fits-answers told (move.Locks m ∷ []) (pos 0) (fits, tt) (record { row = row; is = h.is; next = h.next }) (let few = lock-tells m in omega arith) (let few = lock-owes m in omega arith)
 
-fits-woken : {script : Script} {S : State} {t : ObjNo} {row : ThreadRow} {instr : Instr} (told : Step) (m : LockMove) (w : ObjNo) → IsStepping script S t row instr → FitsLocks t m S → WaitsNowhere (moved t (move.Locks m) S) w → FitsDecision script t S (answer t told (move.Locks m ∷ move.Wake w ∷ []) (pos 0))
-fits-woken {script = script} {S = S} {t = t} told m w h fits nowhere = fits-answers told (move.Locks m ∷ move.Wake w ∷ []) (pos 0) (fits, (nowhere, tt))
+fits-woken : {script : Script} {S : State} {t : ObjNo} {row : ThreadRow} {instr : Instr} (told : Step) (m : LockMove) (w : ObjNo) → IsStepping script S t row instr → FitsLocks t m S → WaitsNowhere (moved t (move.Locks m) S) w → IsUncalled S w → FitsDecision script t S (answer t told (move.Locks m ∷ move.Wake w ∷ []) (pos 0))
+fits-woken {script = script} {S = S} {t = t} told m w h fits nowhere calls = fits-answers told (move.Locks m ∷ move.Wake w ∷ []) (pos 0) (fits, ((nowhere, calls), tt))
     (at-with_row script S _ t w (with_waiting waiting.Nothing) (record { role = λ r. refl; next = λ r. refl }) refl (at_instruction h)) (let few = lock-tells m in omega arith) (let few = lock-owes m in omega arith)
 
 -- the state in which the thread waits for an object, and comes to stand among its waiters
@@ -71,22 +76,26 @@ waiting_live {S = S} {t = t} o h going =
 fits-wait_at : {script : Script} {S : State} {t : ObjNo} {row : ThreadRow} {instr : Instr} (told : Step) (o : ObjNo) (m : LockMove) → IsStepping script S t row instr → is_returning row.part ≡ false → held_by S.nano t ≡ None → (MayJoin (waiting_at S t o) o t → FitsLocks t m (waiting_at S t o)) → FitsDecision script t S (wait_at t told o m)
 fits-wait_at {S = S} {t = t} {row = row} told o m h going none fits = record {
   each = (
-    record { unused = λ r is e. absurd (cc); paid = λ e. absurd (cc); unspent = unspent h; at = λ e. absurd (cc) },
-    ((none, stepping_nowhere h, live-changed S (moved t (move.GoOn t part.Done) S) t (with_part part.Done) (λ r. refl) refl (stepping_live h going)), (fits (record { waits = record { row = with_waiting (waiting.Lock o) (with_part part.Done row); is = waits_there o h; waits = refl }; nowhere = stepping_nowhere h; paid = h.paid }), tt)),
+    (record { unused = λ r is e. absurd (cc); paid = λ e. absurd (cc); unspent = unspent h; at = λ e. absurd (cc); ends = λ r is. begun_one r.part }, tt),
+    ((none, stepping_nowhere h, live-changed S (moved t (move.GoOn t part.Done) S) t (with_part part.Done) (λ r. refl) refl (stepping_live h going), λ r at live. stepping_uncalled h going), (fits (record { waits = record { row = with_waiting (waiting.Lock o) (with_part part.Done row); is = waits_there o h; waits = refl }; nowhere = stepping_nowhere h; paid = h.paid }), tt)),
   );
   told = let few = lock-tells m in omega arith;
   light = let few = lock-owes m in omega arith;
 }
 
 -- `lock`
-fits-lock_by : {script : Script} {S : State} {t : ObjNo} {row : ThreadRow} {instr : Instr} (o : ObjNo) (locked : Locked) → IsStepping script S t row instr → is_returning row.part ≡ false → held_by S.nano t ≡ None → IsAlive (object_of S o) → locked ≡ lock_answer (owner_at S.locks o) t → FitsDecision script t S (lock_by t o locked)
-fits-lock_by o Waits h going none alive e = fits-wait_at (Of word.Lock part.Do) o (Lock o _ Waits) h going none (λ joins. record { alive = alive; thread = ap is_some joins.waits.is; live = waiting_live o h going; paid = h.paid; answer = e; joins = λ _. joins })
-fits-lock_by o Taken h going none alive e = fits-locked (Of word.Lock part.Do) (Lock o _ Taken) h (record { alive = alive; thread = ap is_some h.is; live = stepping_live h going; paid = h.paid; answer = e; joins = λ e. absurd (cc) })
-fits-lock_by o Again h going none alive e = fits-locked (Of word.Lock part.Do) (Lock o _ Again) h (record { alive = alive; thread = ap is_some h.is; live = stepping_live h going; paid = h.paid; answer = e; joins = λ e. absurd (cc) })
+fits-lock_by : {script : Script} {S : State} {t : ObjNo} {row : ThreadRow} {instr : Instr} (o : ObjNo) (locked : Locked) → IsStepping script S t row instr → is_returning row.part ≡ false → held_by S.nano t ≡ None → IsAlive (object_of S o) → server_at S.servers o ≡ None → locked ≡ lock_answer (owner_at S.locks o) t → FitsDecision script t S (lock_by t o locked)
+fits-lock_by o Waits h going none alive other e = fits-wait_at (Of word.Lock part.Do) o (Lock o _ Waits) h going none (λ joins. record { alive = alive; thread = ap is_some joins.waits.is; live = waiting_live o h going; paid = h.paid; other = other; answer = e; joins = λ _. joins })
+fits-lock_by o Taken h going none alive other e = fits-locked (Of word.Lock part.Do) (Lock o _ Taken) h (record { alive = alive; thread = ap is_some h.is; live = stepping_live h going; paid = h.paid; other = other; answer = e; joins = λ e. absurd (cc) })
+fits-lock_by o Again h going none alive other e = fits-locked (Of word.Lock part.Do) (Lock o _ Again) h (record { alive = alive; thread = ap is_some h.is; live = stepping_live h going; paid = h.paid; other = other; answer = e; joins = λ e. absurd (cc) })
 
 fits-lock_do : {script : Script} {S : State} {t : ObjNo} {row : ThreadRow} {instr : Instr} (uses : Option ObjNo) → IsStepping script S t row instr → is_returning row.part ≡ false → row.uses ≡ uses → FitsDecision script t S (lock_do S t uses)
 fits-lock_do {script = script} {S = S} {t = t} None h going e = fits-nothing script S t
-fits-lock_do {S = S} {t = t} {row = row} (Some o) h going e = fits-unless (Of word.Lock part.Do) _ h (λ none. fits-lock_by o _ h going none (use_is_alive S t row o h.rows.lives h.is e) refl)
+fits-lock_do {script = script} {S = S} {t = t} {row = row} (Some o) h going e = fits-unless (Of word.Lock part.Do) _ h (λ none. unserved none (server_at S.servers o) refl)
+  where
+    unserved : held_by S.nano t ≡ None → (server : Option ServerRow) → server_at S.servers o ≡ server → FitsDecision script t S (unless_server server (lock_by t o (lock_answer (owner_at S.locks o) t)))
+    unserved none None other = fits-lock_by o _ h going none (use_is_alive S t row o h.rows.lives h.is e) other refl
+    unserved none (Some server) other = fits-nothing script S t
 
 pub fits-lock : {script : Script} {S : State} {t : ObjNo} {row : ThreadRow} {instr : Instr} (x : ℕ) (p : Option Part) → IsStepping script S t row instr → is_returning row.part ≡ false → row.part ≡ p → FitsDecision script t S (lock_step S t row x p)
 fits-lock x None h going at = fits-unless (Of word.Lock part.Look) _ h (λ _. fits-look_kind Mutex word.Lock x h (ap is_before_use at))
@@ -113,7 +122,7 @@ fits-unlock_by {script = script} {S = S} {t = t} {row = row} o unlocked h going 
     by Freed fits = fits-locked (Of word.Unlock part.Do) (Unlock o t Freed) h fits
     by (Passed w) fits =
         let best = passed_is (owner_at S.locks o) t (best_waiter (priority_of S) S.locks o) w (sym fits.1.answer) in
-        fits-woken (Of word.Unlock part.Do) (Unlock o t (Passed w)) w h fits (struck_nowhere script S o w h.rows (greatest_listed (priority_of S) (waiters_at S.locks o) w best))
+        fits-woken (Of word.Unlock part.Do) (Unlock o t (Passed w)) w h fits (struck_nowhere script S o w h.rows (greatest_listed (priority_of S) (waiters_at S.locks o) w best)) (waiter_uncalled script S o w h.rows (greatest_listed (priority_of S) (waiters_at S.locks o) w best))
 
 fits-unlock_do : {script : Script} {S : State} {t : ObjNo} {row : ThreadRow} {instr : Instr} (uses : Option ObjNo) → IsStepping script S t row instr → is_returning row.part ≡ false → row.uses ≡ uses → FitsDecision script t S (unlock_do S t uses)
 fits-unlock_do {script = script} {S = S} {t = t} None h going e = fits-nothing script S t
@@ -148,7 +157,7 @@ fits-signal_by {script = script} {S = S} {t = t} o answer h alive e = by answer 
     by signalled.Counted fits = fits-locked (Of word.Signal part.Do) (Signal o signalled.Counted) h fits
     by (signalled.Woke w) fits =
         let best = woke_is (best_waiter (priority_of S) S.locks o) (count_at S.locks o) w (sym fits.answer) in
-        fits-woken (Of word.Signal part.Do) (Signal o (signalled.Woke w)) w h fits (struck_nowhere script S o w h.rows (greatest_listed (priority_of S) (waiters_at S.locks o) w best))
+        fits-woken (Of word.Signal part.Do) (Signal o (signalled.Woke w)) w h fits (struck_nowhere script S o w h.rows (greatest_listed (priority_of S) (waiters_at S.locks o) w best)) (waiter_uncalled script S o w h.rows (greatest_listed (priority_of S) (waiters_at S.locks o) w best))
 
 fits-signal_do : {script : Script} {S : State} {t : ObjNo} {row : ThreadRow} {instr : Instr} (uses : Option ObjNo) → IsStepping script S t row instr → row.uses ≡ uses → FitsDecision script t S (signal_do S t uses)
 fits-signal_do {script = script} {S = S} {t = t} None h e = fits-nothing script S t

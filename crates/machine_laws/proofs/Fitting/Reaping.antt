@@ -27,15 +27,17 @@ use Rattle.machine.specs.declared.moves.Move.TheVariants as move
 use Rattle.machine.specs.declared.request_move.RequestMove.TheVariants.{Signal}
 use Rattle.machine.specs.declared.state.State.{State}
 use Rattle.machine.specs.Choice.{priority_of}
-use Rattle.machine.specs.Fits.{EachFits, FitsLocks, Holds, IsAtStage, MayOweMore}
-use Rattle.machine.specs.Holdings.{held_handles, held_logons, held_mutexes, held_slot, held_use, left_of, holdings, process_handles}
+use Rattle.machine.specs.Fits.{EachFits, FitsLocks, Holds, IsAtStage, MayOweMore, OwnsNothing}
+use Rattle.machine.specs.Holdings.{held_handles, held_logons, held_mutexes, held_servers, held_slot, held_use, left_of, holdings, process_handles}
 use Rattle.machine.specs.LogonCalls.{reason_of}
 use Rattle.machine.specs.LogonMoves.{is_logon, logons_on, without_logon}
 use Rattle.machine.specs.Moves.{moved}
 use Rattle.machine.specs.Reaping.{buried_by, bury, bury_found, clean, free_mutex, give_up, is_buried_by, is_cleaned, tell_logon, burial_of}
-use Rattle.machine.specs.References.{mutex_names, total}
+use Rattle.machine.specs.References.{mutex_names, stage_holds, total}
 use Rattle.machine.specs.Rows.{table_of, thread_of}
+use Rattle.machine.specs.ServerMoves.{owned_by}
 use Rattle.machine.specs.Task.{is_returning}
+use Rattle.machine.specs.ThreadCalls.{is_live}
 use Rattle.machine.specs.WellFormed.{AreRows, IsSpent, logon_names, part_of, times_held, times_logged}
 use Rattle.move_laws.proofs.Lists.Cases.{if_cases}
 use Rattle.move_laws.proofs.Lists.Totals.{inside, total-set, total_at_least}
@@ -44,8 +46,11 @@ use Rattle.move_laws.proofs.References.Same.{same_self}
 use Rattle.move_laws.proofs.RowLaws.Declared.{all-both, burial_inside, queue_inside}
 use Rattle.machine_laws.proofs.Fitting.Bodies.{light-end}
 use Rattle.machine_laws.proofs.Fitting.KernelThreads.{held_holder}
-use Rattle.machine_laws.proofs.Fitting.Stepping.{FitsDecision}
+use Rattle.machine_laws.proofs.Fitting.Closing.{IsHandle, closes, handle_of_process, handle_of_thread}
+use Rattle.machine_laws.proofs.Fitting.Stepping.{FitsDecision, FitsStep, by_kinds}
+use Rattle.machine_laws.proofs.Fitting.Uncalled.{logged_unsent, waiter_uncalled}
 use Rattle.machine_laws.proofs.Fitting.Waiters.{struck_nowhere, waits_nowhere}
+use Rattle.machine_laws.proofs.Fitting.Working.{OfFirst, empty_left, empty_right, first-all, first-both, fits-work, no-items, none-owned}
 
 -- a doomed thread that acts: it waits for nothing, and isn't between a find and its return
 pub record IsDying (script : Script) (S : State) (t : ObjNo) (row : ThreadRow) : Type 0 where
@@ -80,7 +85,7 @@ gives-mutex {script = script} {S = S} {t = t} {row = row} o h some = by (best_wa
 
     by : (best : Option ObjNo) → best_waiter (priority_of S) S.locks o ≡ best → FitsDecision script t S (free_mutex t o best)
     by None e = record { each = (fits None e, tt); told = omega arith; light = omega arith }
-    by (Some w) e = record { each = (fits (Some w) e, (struck_nowhere script S o w h.rows (greatest_listed (priority_of S) (waiters_at S.locks o) w e), tt)); told = omega arith; light = omega arith }
+    by (Some w) e = record { each = (fits (Some w) e, ((struck_nowhere script S o w h.rows (greatest_listed (priority_of S) (waiters_at S.locks o) w e), waiter_uncalled script S o w h.rows (greatest_listed (priority_of S) (waiters_at S.locks o) w e)), tt)); told = omega arith; light = omega arith }
 
 -- a reference that it has
 loses : {script : Script} {S : State} {t : ObjNo} {row : ThreadRow} (holder : Holder) (o : ObjNo) → IsDying script S t row → Holds S holder o → EachFits script t (move.Lose holder o ∷ []) S
@@ -89,8 +94,10 @@ loses holder o h holds = ((ap (λ (r : Option ThreadRow). is_returning (part_of 
 gives-use : {script : Script} {S : State} {t : ObjNo} {row : ThreadRow} (o : ObjNo) → IsDying script S t row → row.uses ≡ Some o → FitsDecision script t S (give_up S t row (Use o))
 gives-use {t = t} {row = row} o h uses = record { each = loses (Temp t) o h (record { row = row; is = h.is; uses = uses }); told = omega arith; light = omega arith }
 
-gives-handle : {script : Script} {S : State} {t : ObjNo} {row : ThreadRow} (holder : Holder) (o : ObjNo) → IsDying script S t row → Holds S holder o → FitsDecision script t S (give_up S t row (Handle holder o))
-gives-handle holder o h holds = record { each = loses holder o h holds; told = omega arith; light = omega arith }
+gives-handle : {script : Script} {S : State} {t : ObjNo} {row : ThreadRow} (holder : Holder) (o : ObjNo) → IsDying script S t row → IsHandle S holder o → FitsStep script t S (give_up S t row (Handle holder o))
+gives-handle {script = script} {S = S} {t = t} {row = row} holder o h handle =
+    let done = closes script S t holder o (record { rows = h.rows; row = row; is = h.is; waits = h.waits; held = ap stage_holds h.doomed; going = h.going }) handle in
+    record { each = done.each; told = done.told; light = let few = done.light in omega arith }
 
 -- a logon goes, and no other has its status
 names-none : (u : ObjNo) (s : ℕ) (logons : List (ObjNo × ℕ)) → total (logon_names u s) (without_logon u s logons) ≡ 0
@@ -117,9 +124,9 @@ gives-logon {script = script} {S = S} {t = t} {row = row} u s h some =
     let awaited = h.rows.logons.waits u s (omega arith) in
     let known = awaited.thread in
     let told = moved t (move.Logons (Remove t u s)) S in
-    let wakes = light-end script S (moved t (move.Requests (Signal u s (reason_of row.exit))) told) t u s (thread_of S u) h.rows refl refl in
+    let wakes = light-end script S (moved t (move.Requests (Signal u s (reason_of row.exit))) told) t u s (thread_of S u) h.rows refl refl (omega arith) refl in
     record {
-      each = ((within, omega arith, awaited.status), (((awaited, unlogged script S t u s h.rows within some), h.rows.awaited.logons u s (omega arith)), wakes.each));
+      each = ((within, omega arith, awaited.status), (((awaited, unlogged script S t u s h.rows within some), (h.rows.awaited.logons u s (omega arith), logged_unsent script S u s h.rows (omega arith))), wakes.each));
       told = let few = wakes.told in omega arith;
       light = let none = wakes.light in omega arith;
     }
@@ -127,7 +134,11 @@ gives-logon {script = script} {S = S} {t = t} {row = row} u s h some =
 -- each of what it has is given up
 module _ (script : Script) (S : State) (t : ObjNo) (row : ThreadRow) (h : IsDying script S t row) where
   abbrev Gives : Holding → Type 0
-  Gives what = FitsDecision script t S (give_up S t row what)
+  Gives what = FitsStep script t S (give_up S t row what)
+
+  -- what its kinds of moves say
+  kinds : (what : Holding) → FitsDecision script t S (give_up S t row what) → Gives what
+  kinds what fits = by_kinds script S t (give_up S t row what) fits
 
   all-mutexes : (mutexes : List ObjNo) → ((o : ObjNo) → 0 < total (mutex_names o) mutexes → Gives (Mutex o)) → AllByRecursion Gives (map (λ o. Mutex o) mutexes)
   all-mutexes [] each = tt
@@ -158,32 +169,27 @@ module _ (script : Script) (S : State) (t : ObjNo) (row : ThreadRow) (h : IsDyin
       logon_self u s = rw (eq-eqb u.0 u.0 refl, eq-eqb s s refl) refl
 
   all-own : AllByRecursion Gives (held_handles (InThread t) 0 (table_of S t))
-  all-own = all-handles (InThread t) 0 (table_of S t) (λ j o is. numbered (InThread t) j o (gives-handle (InThread t j) o h (ap is_some h.is, is)))
+  all-own = all-handles (InThread t) 0 (table_of S t) (λ j o is. numbered (InThread t) j o (gives-handle (InThread t j) o h (handle_of_thread S t j o (ap is_some h.is) is)))
 
   all-process : AllByRecursion Gives (process_handles S t row.process)
   all-process = if_cases (AllByRecursion Gives) (total (left_of row.process) S.threads == left_of row.process (thread_of S t)) _ _
-      (λ _. all-handles (InProcess row.process) 0 (table_of S row.process) (λ j o is. numbered (InProcess row.process) j o (gives-handle (InProcess row.process j) o h (h.rows.threads.processes t.0 row h.is, is)))) (λ _. tt)
+      (λ _. all-handles (InProcess row.process) 0 (table_of S row.process) (λ j o is. numbered (InProcess row.process) j o (gives-handle (InProcess row.process j) o h (handle_of_process S row.process j o (h.rows.threads.processes t.0 row h.is) is)))) (λ _. tt)
 
-  all-given : AllByRecursion Gives (holdings S t row)
-  all-given =
-      all-both Gives (held_mutexes S t ++ held_use row.uses ++ held_handles (InThread t) 0 (table_of S t) ++ process_handles S t row.process) (held_logons S t)
-      (all-both Gives (held_mutexes S t ++ held_use row.uses ++ held_handles (InThread t) 0 (table_of S t)) (process_handles S t row.process)
-      (all-both Gives (held_mutexes S t ++ held_use row.uses) (held_handles (InThread t) 0 (table_of S t))
-      (all-both Gives (held_mutexes S t) (held_use row.uses) (all-mutexes (get_or S.mutexes t.0 []) (λ o some. gives-mutex o h some)) (all-use row.uses (λ o uses. gives-use o h uses)))
-      all-own) all-process) (all-logons (logons_on S.logons t) (λ u s some. gives-logon u s h some))
+  -- so is the first of it; the work of closing servers goes in its order
+  first-given : OfFirst Gives (holdings S t row)
+  first-given =
+      first-both Gives (held_mutexes S t ++ held_servers S t ++ held_use row.uses ++ held_handles (InThread t) 0 (table_of S t) ++ process_handles S t row.process) (held_logons S t)
+      (first-both Gives (held_mutexes S t ++ held_servers S t ++ held_use row.uses ++ held_handles (InThread t) 0 (table_of S t)) (process_handles S t row.process)
+      (first-both Gives (held_mutexes S t ++ held_servers S t ++ held_use row.uses) (held_handles (InThread t) 0 (table_of S t))
+      (first-both Gives (held_mutexes S t ++ held_servers S t) (held_use row.uses)
+      (first-both Gives (held_mutexes S t) (held_servers S t) (first-all Gives (held_mutexes S t) (all-mutexes (get_or S.mutexes t.0 []) (λ o some. kinds (Mutex o) (gives-mutex o h some))))
+      (λ _ what rest e. kinds what (fits-work what rest (record { rows = h.rows; is = h.is; going = h.going }) e)))
+      (λ _. first-all Gives (held_use row.uses) (all-use row.uses (λ o uses. kinds (Use o) (gives-use o h uses)))))
+      (λ _. first-all Gives (held_handles (InThread t) 0 (table_of S t)) all-own)) (λ _. first-all Gives (process_handles S t row.process) all-process))
+      (λ _. first-all Gives (held_logons S t) (all-logons (logons_on S.logons t) (λ u s some. kinds (Logon u s) (gives-logon u s h some))))
 
--- so is the first of it
-pub fits-give_up : {script : Script} {S : State} {t : ObjNo} {row : ThreadRow} (what : Holding) (rest : List Holding) → IsDying script S t row → holdings S t row ≡ what ∷ rest → FitsDecision script t S (give_up S t row what)
-fits-give_up {script = script} {S = S} {t = t} {row = row} what rest h has = (subst (AllByRecursion (λ (x : Holding). FitsDecision script t S (give_up S t row x))) has (all-given script S t row h)).0
-
--- of nothing both parts are nothing
-pub empty_left : {A : Type 0} (xs ys : List A) → xs ++ ys ≡ [] → xs ≡ []
-empty_left [] ys e = refl
-empty_left (x ∷ xs) ys e = absurd (cc)
-
-pub empty_right : {A : Type 0} (xs ys : List A) → xs ++ ys ≡ [] → ys ≡ []
-empty_right [] ys e = e
-empty_right (x ∷ xs) ys e = absurd (cc)
+pub fits-give_up : {script : Script} {S : State} {t : ObjNo} {row : ThreadRow} (what : Holding) (rest : List Holding) → IsDying script S t row → holdings S t row ≡ what ∷ rest → FitsStep script t S (give_up S t row what)
+fits-give_up {script = script} {S = S} {t = t} {row = row} what rest h has = first-given script S t row h what rest has
 
 pub no-use : (uses : Option ObjNo) → held_use uses ≡ [] → uses ≡ None
 no-use None e = refl
@@ -198,35 +204,36 @@ no-handles holder i [] e j = refl
 no-handles holder i (slot ∷ rest) e zero = no-slot (holder i) slot.object (empty_left (held_slot (holder i) slot.object) (held_handles holder (i + 1) rest) e)
 no-handles holder i (slot ∷ rest) e (suc j) = no-handles holder (i + 1) rest (empty_right (held_slot (holder i) slot.object) (held_handles holder (i + 1) rest) e) j
 
--- a thread that has nothing left holds no mutex, uses nothing, and has no handle and no logon
+-- a thread that has nothing left holds no mutex, has nothing of closing servers, uses nothing, and has no handle and no logon
 pub record HasNothing (S : State) (t : ObjNo) (row : ThreadRow) : Type 0 where
   pub mutexes : get_or S.mutexes t.0 [] ≡ []
+  pub servers : held_servers S t ≡ []
   pub unused : row.uses ≡ None
   pub empty : (i : ℕ) → (slot_at (table_of S t) i).object ≡ None
   pub process : process_handles S t row.process ≡ []
   pub logons : logons_on S.logons t ≡ []
 
-no-items : {A : Type 0} (f : A → Holding) (xs : List A) → map f xs ≡ [] → xs ≡ []
-no-items f [] e = refl
-no-items f (x ∷ xs) e = absurd (cc)
-
 pub has-nothing : (S : State) (t : ObjNo) (row : ThreadRow) → holdings S t row ≡ [] → HasNothing S t row
 has-nothing S t row nothing = record {
-  mutexes = no-items (λ (o : ObjNo). Mutex o) (get_or S.mutexes t.0 []) (empty_left (held_mutexes S t) (held_use row.uses) second);
-  unused = no-use row.uses (empty_right (held_mutexes S t) (held_use row.uses) second);
-  empty = no-handles (InThread t) 0 (table_of S t) (empty_right (held_mutexes S t ++ held_use row.uses) (held_handles (InThread t) 0 (table_of S t)) third);
-  process = empty_right (held_mutexes S t ++ held_use row.uses ++ held_handles (InThread t) 0 (table_of S t)) (process_handles S t row.process) fourth;
-  logons = no-items (λ (logon : ObjNo × ℕ). Logon logon.0 logon.1) (logons_on S.logons t) (empty_right (held_mutexes S t ++ held_use row.uses ++ held_handles (InThread t) 0 (table_of S t) ++ process_handles S t row.process) (held_logons S t) nothing);
+  mutexes = no-items (λ (o : ObjNo). Mutex o) (get_or S.mutexes t.0 []) (empty_left (held_mutexes S t) (held_servers S t) first);
+  servers = empty_right (held_mutexes S t) (held_servers S t) first;
+  unused = no-use row.uses (empty_right (held_mutexes S t ++ held_servers S t) (held_use row.uses) second);
+  empty = no-handles (InThread t) 0 (table_of S t) (empty_right (held_mutexes S t ++ held_servers S t ++ held_use row.uses) (held_handles (InThread t) 0 (table_of S t)) third);
+  process = empty_right (held_mutexes S t ++ held_servers S t ++ held_use row.uses ++ held_handles (InThread t) 0 (table_of S t)) (process_handles S t row.process) fourth;
+  logons = no-items (λ (logon : ObjNo × ℕ). Logon logon.0 logon.1) (logons_on S.logons t) (empty_right (held_mutexes S t ++ held_servers S t ++ held_use row.uses ++ held_handles (InThread t) 0 (table_of S t) ++ process_handles S t row.process) (held_logons S t) nothing);
 }
   where
-    fourth : held_mutexes S t ++ held_use row.uses ++ held_handles (InThread t) 0 (table_of S t) ++ process_handles S t row.process ≡ []
-    fourth = empty_left (held_mutexes S t ++ held_use row.uses ++ held_handles (InThread t) 0 (table_of S t) ++ process_handles S t row.process) (held_logons S t) nothing
+    fourth : held_mutexes S t ++ held_servers S t ++ held_use row.uses ++ held_handles (InThread t) 0 (table_of S t) ++ process_handles S t row.process ≡ []
+    fourth = empty_left (held_mutexes S t ++ held_servers S t ++ held_use row.uses ++ held_handles (InThread t) 0 (table_of S t) ++ process_handles S t row.process) (held_logons S t) nothing
 
-    third : held_mutexes S t ++ held_use row.uses ++ held_handles (InThread t) 0 (table_of S t) ≡ []
-    third = empty_left (held_mutexes S t ++ held_use row.uses ++ held_handles (InThread t) 0 (table_of S t)) (process_handles S t row.process) fourth
+    third : held_mutexes S t ++ held_servers S t ++ held_use row.uses ++ held_handles (InThread t) 0 (table_of S t) ≡ []
+    third = empty_left (held_mutexes S t ++ held_servers S t ++ held_use row.uses ++ held_handles (InThread t) 0 (table_of S t)) (process_handles S t row.process) fourth
 
-    second : held_mutexes S t ++ held_use row.uses ≡ []
-    second = empty_left (held_mutexes S t ++ held_use row.uses) (held_handles (InThread t) 0 (table_of S t)) third
+    second : held_mutexes S t ++ held_servers S t ++ held_use row.uses ≡ []
+    second = empty_left (held_mutexes S t ++ held_servers S t ++ held_use row.uses) (held_handles (InThread t) 0 (table_of S t)) third
+
+    first : held_mutexes S t ++ held_servers S t ≡ []
+    first = empty_left (held_mutexes S t ++ held_servers S t) (held_use row.uses) second
 
 -- a doomed thread holds no fast mutex
 dying_unheld : {script : Script} {S : State} {t : ObjNo} {row : ThreadRow} → IsDying script S t row → held_by S.nano t ≡ None
@@ -245,13 +252,16 @@ dying_unheld {script = script} {S = S} {t = t} {row = row} h = by (held_by S.nan
 -- nothing is left, and it is cleaned
 pub fits-clean : {script : Script} {S : State} {t : ObjNo} {row : ThreadRow} → IsDying script S t row → holdings S t row ≡ [] → FitsDecision script t S (clean script S t row)
 fits-clean {script = script} {S = S} {t = t} {row = row} h nothing = record {
-  each = ((record { row = row; is = h.is; at = h.doomed }, (dying_unheld h, λ r is. let same_row : row ≡ r = (let one = h.is in cc) in subst (IsSpent S.handles t.0) same_row spent, λ r is. let same_row : row ≡ r = (let one = h.is in cc) in subst (λ (x : ThreadRow). process_handles S t x.process ≡ []) same_row has.process), refl), ((burial_inside script S.deferred row.role h.rows.deferred (h.rows.threads.rows t.0 row h.is).declared, refl), tt));
+  each = ((record { row = row; is = h.is; at = h.doomed }, (dying_unheld h, λ r is. let same_row : row ≡ r = (let one = h.is in cc) in subst (IsSpent S.handles t.0) same_row spent, λ r is. let same_row : row ≡ r = (let one = h.is in cc) in subst (λ (x : ThreadRow). process_handles S t x.process ≡ []) same_row has.process, owns), refl), ((burial_inside script S.deferred row.role h.rows.deferred (h.rows.threads.rows t.0 row h.is).declared, refl), tt));
   told = omega arith;
   light = omega arith;
 }
   where
     has : HasNothing S t row
     has = has-nothing S t row nothing
+
+    owns : OwnsNothing S t
+    owns = none-owned S (owned_by S.owned t) (λ o some. h.rows.servers.closing t.0 row o h.is (ap is_live h.doomed) some) has.servers
 
     spent : IsSpent S.handles t.0 row
     spent = record { unused = has.unused; waits = h.waits; going = h.going; empty = has.empty }

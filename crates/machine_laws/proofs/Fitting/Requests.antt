@@ -38,6 +38,7 @@ use Rattle.move_laws.proofs.References.Same.{same_object}
 use Rattle.move_laws.proofs.RowLaws.Declared.{dfc_inside}
 use Rattle.machine_laws.proofs.Fitting.KernelThreads.{none_of, fits-answer, fits-move, fits-later, fits-unless}
 use Rattle.machine_laws.proofs.Fitting.Stepping.{FitsDecision, IsStepping, fits-nothing, has_signals, fits-refuse, live-changed, live_thread, stepping_live}
+use Rattle.machine_laws.proofs.Fitting.Uncalled.{stepping_uncalled}
 use Rattle.machine_laws.proofs.Fitting.Waiters.{stepping_nowhere}
 use Rattle.machine.specs.Task.{is_returning}
 use Rattle.machine.specs.Moves.{moved, with_part}
@@ -94,7 +95,7 @@ fits-cancel {script = script} {S = S} {t = t} d h = found (status_of t (request_
 fits-waits : {script : Script} {S : State} {t : ObjNo} {row : ThreadRow} {instr : Instr} (told : Step) (waits : Bool) (what : Waiting) (code : ℤ) → IsStepping script S t row instr → is_returning row.part ≡ false → FitsDecision script t S (unless_holding S t told (if waits then wait_for t told what else answer t told (move.Requests (TakeSignal t) ∷ []) code))
 fits-waits {script = script} {S = S} {t = t} told waits what code h going =
     fits-unless told _ h (λ none. if_cases (FitsDecision script t S) waits _ _
-    (λ _. fits-later told (move.Wait t what) h (record { told = omega arith; light = refl }) (none, stepping_nowhere h, live-changed S (moved t (move.GoOn t part.Done) S) t (with_part part.Done) (λ r. refl) refl (stepping_live h going)))
+    (λ _. fits-later told (move.Wait t what) h (record { told = omega arith; light = refl }) (none, stepping_nowhere h, live-changed S (moved t (move.GoOn t part.Done) S) t (with_part part.Done) (λ r. refl) refl (stepping_live h going), λ r at live. stepping_uncalled h going))
     (λ _. fits-changed told (TakeSignal t) code h (has_signals h) tt))
 
 -- `waitany` and `waitfor`

@@ -25,6 +25,7 @@ use Rattle.machine.specs.Find.{seek, seek_object, find_object, found_object, mis
 use Rattle.machine.specs.Look.{look, look_at}
 use Rattle.machine.specs.ThreadCalls.{is_live}
 use Rattle.machine.specs.Fits.{IsFree, most_told, most_owed}
+use Rattle.machine.specs.FitsServers.{MaySend}
 use Rattle.machine.specs.WellFormed.{IsAlive, is_before_use, is_spent}
 use Rattle.move_laws.proofs.Lists.Cases.{if_cases}
 use Rattle.move_laws.proofs.RowLaws.Tables.{free_index_inside, object_of_is}
@@ -43,7 +44,7 @@ fits-look {script = script} {S = S} {t = t} {row = row} word x h before = found 
   where
     found : (named : Option ObjNo) → object_at S t row (slice_index row.registers x) ≡ named → FitsDecision script t S (look_at t word named)
     found None e = fits-refuse (Of word Look) BadHandle h
-    found (Some o) e = fits-use (Of word Look) o Do h before refl (handle_is_alive S _ _ o h.rows.lives (object_of_is _ _ _ o e))
+    found (Some o) e = fits-use (Of word Look) o Do h before refl tt (handle_is_alive S _ _ o h.rows.lives (object_of_is _ _ _ o e))
 
 -- a find by name
 pub fits-seek : {script : Script} {S : State} {t : ObjNo} {row : ThreadRow} {instr : Instr} (word : Word) (kind : Kind) (name : List ℕ) → IsStepping script S t row instr → is_before_use row.part ≡ true → FitsDecision script t S (seek S t word kind name)
@@ -51,18 +52,18 @@ fits-seek {script = script} {S = S} {t = t} word kind name h before = found (fin
   where
     found : (named : Option ObjNo) → find_object S kind name ≡ named → FitsDecision script t S (seek_object t word named)
     found None e = fits-refuse (Of word Seek) NotFound h
-    found (Some o) e = record { each = (may_go_on Return h before, (found_inside S kind name o e, tt)); told = omega arith; light = omega arith }
+    found (Some o) e = record { each = (may_go_on Return h before tt, (found_inside S kind name o e, tt)); told = omega arith; light = omega arith }
 
 -- and its return
-pub fits-return : {script : Script} {S : State} {t : ObjNo} {row : ThreadRow} {instr : Instr} (word : Word) (part : Part) → IsStepping script S t row instr → is_before_use row.part ≡ true → is_before_use (Some part) ≡ false → FitsDecision script t S (return_to S t row word part)
-fits-return {script = script} {S = S} {t = t} {row = row} word part h before later =
+pub fits-return : {script : Script} {S : State} {t : ObjNo} {row : ThreadRow} {instr : Instr} (word : Word) (part : Part) → IsStepping script S t row instr → is_before_use row.part ≡ true → is_before_use (Some part) ≡ false → MaySend (Some part) S → FitsDecision script t S (return_to S t row word part)
+fits-return {script = script} {S = S} {t = t} {row = row} word part h before later sends =
     if_cases (FitsDecision script t S) (is_open (object_of S (found_object row))) _ _
-    (λ e. fits-use (Of word Return) (found_object row) part h before later (open_is_alive (object_of S (found_object row)) e))
+    (λ e. fits-use (Of word Return) (found_object row) part h before later sends (open_is_alive (object_of S (found_object row)) e))
     (λ _. missed (is_live row.stage))
   where
     missed : (live : Bool) → FitsDecision script t S (miss t word part (found_object row) live)
     missed true = record { each = (tt, ((refl, at_instruction h), tt)); told = omega arith; light = omega arith }
-    missed false = record { each = (may_go_on part h before, (tt, tt)); told = omega arith; light = omega arith }
+    missed false = record { each = (may_go_on part h before sends, (tt, tt)); told = omega arith; light = omega arith }
 
 -- a thread of its process isn't cleaned: itself
 not_cleaned : (stage : Stage) → is_spent stage ≡ false → stage_left stage ≡ 1

@@ -1,7 +1,8 @@
 -- What is known where a thread makes a step of an instruction, and how its answers fit.
 use Rattle.state_rows.specs.Nano.{wanted_holder}
-use Rattle.std.proofs.Common.{◌≡◌, ℕ, ℤ, ◌<◌, ◌≤◌, List, [], ◌∷◌, ◌++◌, length, get_or, arith, refl, sym, ap, subst, ◌∙◌, Option, Some, None, true, false, Bool}
+use Rattle.std.proofs.Common.{◌≡◌, ℕ, ℤ, ◌<◌, ◌≤◌, List, [], ◌∷◌, ◌++◌, ◌+◌, length, get_or, arith, refl, sym, ap, subst, ◌∙◌, Option, Some, None, true, false, Bool, ◌-◌, ◌*◌}
 use Rattle.std.specs.Prelude.{option_map}
+use Rattle.std.proofs.lemmas.List.{length-append}
 use Rattle.sym_base.specs.declared.error.Error.{Error}
 use Rattle.sym_base.specs.declared.number.ObjNo.{ObjNo}
 use Rattle.script_types.specs.declared.script.Script.{Script}
@@ -13,6 +14,8 @@ use Rattle.script_types.specs.Shape.{HasRegisters}
 use Rattle.entry_log.specs.declared.effect.Holder.TheVariants.{Temp}
 use Rattle.entry_log.specs.declared.step.Part.{Part}
 use Rattle.entry_log.specs.declared.step.Step.{Step}
+use Rattle.entry_log.specs.declared.step.Part.TheVariants.{Return, Done}
+use Rattle.machine.specs.Serving.{begun, numbers_left}
 use Rattle.machine.specs.declared.decision.Decision.{Decision}
 use Rattle.machine.specs.declared.moves.Move.{Move}
 use Rattle.machine.specs.declared.moves.Move.TheVariants.{GoOn, Gain, Write, Advance}
@@ -23,15 +26,17 @@ use Rattle.state_rows.specs.declared.thread.Waiting.TheVariants as waiting
 use Rattle.state_rows.specs.declared.thread.ThreadRow.{ThreadRow}
 use Rattle.machine.specs.declared.state.State.{State}
 use Rattle.machine.specs.Rows.{object_of, thread_of, owed_of, with_row}
-use Rattle.machine.specs.Moves.{moved, perform, with_part, with_register}
+use Rattle.machine.specs.Moves.{moved, perform, tell, told, with_part, with_register}
 use Rattle.machine.specs.Decide.{nothing, answer, answer_handle, refuse, go_on}
 use Rattle.machine.specs.References.{total}
 use Rattle.machine.specs.HeldIn.{owed_by}
 use Rattle.machine.specs.Task.{is_returning, instructions_of, served_queue}
 use Rattle.machine.specs.Fits.{EachFits, most_told, most_owed, IsAtInstruction, MayGoOn, IsFree, IsLive, IsUnspent}
+use Rattle.machine.specs.FitsServers.{MaySend}
 use Rattle.machine.specs.WellFormed.{IsAlive, AreRows, is_before_use, is_spent, IsLiveThread}
 use Rattle.move_laws.proofs.Holders.ThreadRows.{row-here}
-use Rattle.move_laws.proofs.Lists.Totals.{inside, total-append}
+use Rattle.move_laws.proofs.Lists.Totals.{inside, total-append, total-with}
+use Rattle.move_laws.proofs.Numbers.FewEffects.{tell_few}
 use Rattle.move_laws.proofs.RowLaws.Threads.{row-kept, map_some}
 
 -- the moves of a decision fit, and what they tell and owe is little
@@ -39,6 +44,15 @@ pub record FitsDecision (script : Script) (t : ObjNo) (S : State) (d : Decision)
   pub each : EachFits script t d.moves S
   pub told : total most_told d.moves ≤ 4
   pub light : total most_owed d.moves ≤ 12
+
+-- the same of moves that tell no more than that, although each of their kinds may tell more
+pub record FitsStep (script : Script) (t : ObjNo) (S : State) (d : Decision) : Type 0 where
+  pub each : EachFits script t d.moves S
+  pub told : length (tell t d.moves S) ≤ 4
+  pub light : total most_owed d.moves ≤ 12
+
+pub by_kinds : (script : Script) (S : State) (t : ObjNo) (d : Decision) → FitsDecision script t S d → FitsStep script t S d
+by_kinds script S t d fits = record { each = fits.each; told = let few = fits.told in let most = tell_few t d.moves S in omega arith; light = fits.light }
 
 -- thread t is about to make a step of this instruction: it is live, but for one that comes back from a find, owes nothing, doesn't wait, and wants no fast mutex that is
 -- held; and the instruction is one of a well-formed script
@@ -53,6 +67,7 @@ pub record IsStepping (script : Script) (S : State) (t : ObjNo) (row : ThreadRow
   pub live : is_returning row.part ≡ false → row.stage ≡ Live
   pub waits : row.waiting ≡ waiting.Nothing
   pub free : wanted_holder S.nano t ≡ None
+  pub early : row.next_instruction < 16384
 
 pub fits-nothing : (script : Script) (S : State) (t : ObjNo) → FitsDecision script t S nothing
 fits-nothing script S t = record { each = tt; told = omega arith; light = omega arith }
@@ -69,6 +84,14 @@ serves_none script (Declared k) n lt = refl
 
 pub at_instruction : {script : Script} {S : State} {t : ObjNo} {row : ThreadRow} {instr : Instr} → IsStepping script S t row instr → IsAtInstruction script S t
 at_instruction {row = row} h = record { row = row; is = h.is; next = h.next }
+
+-- its last step leaves two messages fewer to its instructions
+pub fewer-left : {script : Script} {S : State} {t : ObjNo} {row : ThreadRow} {instr : Instr} → IsStepping script S t row instr → begun row.part ≡ 0 → total numbers_left (with_row S.threads t (with_part Done)) + 2 ≤ total numbers_left S.threads
+fewer-left {S = S} {t = t} {row = row} h first =
+    let all = total-with numbers_left (option_map (with_part Done)) None S.threads t.0 refl in
+    let old : numbers_left (thread_of S t) ≡ 2 * (16384 - (row.next_instruction + 0)) = ap numbers_left h.is ∙ ap (λ (n : ℕ). 2 * (16384 - (row.next_instruction + n))) first in
+    let new : numbers_left (option_map (with_part Done) (thread_of S t)) ≡ 2 * (16384 - (row.next_instruction + 1)) = ap (λ (r : Option ThreadRow). numbers_left (option_map (with_part Done) r)) h.is in
+    let early = h.early in omega arith
 
 -- a change of a row that leaves the thread at its instruction
 pub record KeepsInstruction (f : ThreadRow → ThreadRow) : Type 0 where
@@ -110,19 +133,29 @@ live-changed S T t f keeps same h = λ r is.
     let was = map_some f (thread_of S t) r (sym (row-here S.threads t f t.0 refl) ∙ (ap (λ (threads : List (Option ThreadRow)). get_or threads t.0 None) (sym same) ∙ is)) in
     subst (λ (x : ThreadRow). x.stage ≡ Live) was.2 (keeps was.0 ∙ h was.0 was.1)
 
+-- a step before the use of anything is the last of no instruction
+before_begins : (p : Option Part) → is_before_use p ≡ true → begun p ≡ 0
+before_begins None e = refl
+before_begins (Some Return) e = refl
+before_begins (Some _) e = absurd (cc)
+
 -- a thread that made no step but a find goes on to a step
-pub may_go_on : {script : Script} {S : State} {t : ObjNo} {row : ThreadRow} {instr : Instr} (part : Part) → IsStepping script S t row instr → is_before_use row.part ≡ true → MayGoOn script S t (Some part)
-may_go_on {S = S} {t = t} {row = row} part h before = record {
-  unused = λ r is _. let same_row : row ≡ r = let a = h.is in cc in subst (λ (x : ThreadRow). x.uses ≡ None) same_row ((h.rows.threads.rows t.0 row h.is).unused before);
-  paid = λ _. h.paid;
-  unspent = unspent h;
-  at = λ _. at_instruction h;
-}
+pub may_go_on : {script : Script} {S : State} {t : ObjNo} {row : ThreadRow} {instr : Instr} (part : Part) → IsStepping script S t row instr → is_before_use row.part ≡ true → MaySend (Some part) S → MayGoOn script S t (Some part) × MaySend (Some part) S
+may_go_on {S = S} {t = t} {row = row} part h before sends = (
+  record {
+    unused = λ r is _. let same_row : row ≡ r = let a = h.is in cc in subst (λ (x : ThreadRow). x.uses ≡ None) same_row ((h.rows.threads.rows t.0 row h.is).unused before);
+    paid = λ _. h.paid;
+    unspent = unspent h;
+    at = λ _. at_instruction h;
+    ends = λ r is. let same_row : row ≡ r = let a = h.is in cc in subst (λ (x : ThreadRow). begun x.part ≤ begun (Some part)) same_row (let none = before_begins row.part before in omega arith);
+  },
+  sends,
+)
 
 -- and uses an object from then on
-pub fits-use : {script : Script} {S : State} {t : ObjNo} {row : ThreadRow} {instr : Instr} (told : Step) (o : ObjNo) (part : Part) → IsStepping script S t row instr → is_before_use row.part ≡ true → is_before_use (Some part) ≡ false → IsAlive (object_of S o) → FitsDecision script t S (go_on t told (Gain (Temp t) o) part)
-fits-use {script = script} {S = S} {t = t} {row = row} told o part h before later alive = record {
-  each = (may_go_on part h before, ((free, alive), tt));
+pub fits-use : {script : Script} {S : State} {t : ObjNo} {row : ThreadRow} {instr : Instr} (told : Step) (o : ObjNo) (part : Part) → IsStepping script S t row instr → is_before_use row.part ≡ true → is_before_use (Some part) ≡ false → MaySend (Some part) S → IsAlive (object_of S o) → FitsDecision script t S (go_on t told (Gain (Temp t) o) part)
+fits-use {script = script} {S = S} {t = t} {row = row} told o part h before later sends alive = record {
+  each = (may_go_on part h before sends, ((free, alive), tt));
   told = omega arith;
   light = omega arith;
 }
@@ -150,6 +183,21 @@ perform-append t (m ∷ xs) ys S = perform-append t xs ys (moved t m S)
 pub fits-answers : {script : Script} {S : State} {t : ObjNo} (told : Step) (ms : List Move) (code : ℤ) → EachFits script t ms S → IsAtInstruction script (perform t ms S) t → total most_told ms ≤ 4 → total most_owed ms ≤ 8 → FitsDecision script t S (answer t told ms code)
 fits-answers {script = script} {S = S} {t = t} told ms code each at few light =
     let all_told = total-append most_told ms (Advance t ∷ []) in
+    let all_owed = total-append most_owed ms (Advance t ∷ []) in
+    record { each = fits-both script S t ms (Advance t ∷ []) each ((refl, at), tt); told = omega arith; light = omega arith }
+
+-- what moves tell and what others tell behind them
+tell-append : (t : ObjNo) (ms more : List Move) (S : State) → length (tell t (ms ++ more) S) ≡ length (tell t ms S) + length (tell t more (perform t ms S))
+tell-append t [] more S = omega arith
+tell-append t (m ∷ ms) more S =
+    let rest = tell-append t ms more (moved t m S) in
+    let whole = length-append (told m S) (tell t (ms ++ more) (moved t m S)) in
+    let first = length-append (told m S) (tell t ms (moved t m S)) in omega arith
+
+-- the same after moves of which it is known what they tell
+pub answers_step : {script : Script} {S : State} {t : ObjNo} (named : Step) (ms : List Move) (code : ℤ) → EachFits script t ms S → IsAtInstruction script (perform t ms S) t → length (tell t ms S) ≤ 4 → total most_owed ms ≤ 8 → FitsStep script t S (answer t named ms code)
+answers_step {script = script} {S = S} {t = t} named ms code each at few light =
+    let all_told = tell-append t ms (Advance t ∷ []) S in
     let all_owed = total-append most_owed ms (Advance t ∷ []) in
     record { each = fits-both script S t ms (Advance t ∷ []) each ((refl, at), tt); told = omega arith; light = omega arith }
 

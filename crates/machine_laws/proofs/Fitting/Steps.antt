@@ -1,8 +1,8 @@
 -- The steps of each instruction.
-use Rattle.std.proofs.Common.{◌≡◌, ◌≢◌, ℕ, ◌<◌, ◌≤◌, List, ◌∷◌, length, get_or, arith, refl, ap, ◌∙◌, Option, Some, None, Bool, true, false}
+use Rattle.std.proofs.Common.{◌≡◌, ◌≢◌, ℕ, ◌<◌, ◌≤◌, List, ◌∷◌, length, arith, refl, ap, Option, Some, None, Bool, true, false}
 use Rattle.std.proofs.lemmas.Bool.{eq-eqb}
 use Rattle.std.proofs.lemmas.List.{length_push}
-use Rattle.std.specs.Prelude.{◌==◌, if◌then◌else◌, is_some, slice_index}
+use Rattle.std.specs.Prelude.{pos, ◌==◌, if◌then◌else◌, is_some, slice_index}
 use Rattle.sym_base.specs.declared.error.Error.TheVariants.{AlreadyExists, Overflow, PermissionDenied, BadHandle}
 use Rattle.sym_base.specs.declared.kind.Kind.{Kind}
 use Rattle.sym_base.specs.declared.kind.Kind.TheVariants.{Mutex, Semaphore}
@@ -13,7 +13,7 @@ use Rattle.sym_base.specs.declared.word.Word.TheVariants as word
 use Rattle.script_types.specs.declared.script.Script.{Script}
 use Rattle.script_types.specs.declared.instruction.Instr.{Instr}
 use Rattle.script_types.specs.declared.instruction.Instr.TheVariants as instr
-use Rattle.state_rows.specs.ObjectRows.{is_taken, is_session}
+use Rattle.state_rows.specs.ObjectRows.{is_taken}
 use Rattle.entry_log.specs.declared.effect.Holder.TheVariants.{InProcess, InThread}
 use Rattle.entry_log.specs.declared.step.Part.{Part}
 use Rattle.entry_log.specs.declared.step.Part.TheVariants as part
@@ -21,30 +21,33 @@ use Rattle.entry_log.specs.declared.step.Step.TheVariants.{Of}
 use Rattle.machine.specs.declared.handles.NewHandle.{NewHandle}
 use Rattle.machine.specs.declared.lock_move.LockMove.{LockMove}
 use Rattle.machine.specs.declared.lock_move.LockMove.TheVariants.{Start}
-use Rattle.machine.specs.declared.moves.Move.TheVariants.{Make, Lose}
+use Rattle.machine.specs.declared.moves.Move.TheVariants.{Make}
 use Rattle.state_rows.specs.declared.thread.ThreadRow.{ThreadRow}
 use Rattle.machine.specs.declared.state.State.{State}
 use Rattle.machine.specs.Rows.{object_of, table_of}
 use Rattle.machine.specs.Handles.{object_at, holder_of}
 use Rattle.state_rows.specs.HandleSlots.{slot_at}
 use Rattle.state_rows.specs.HandleNumbers.{index_of, is_local}
-use Rattle.machine.specs.Moves.{moved, perform, next_object, new_object, unlinked, threads_closed, threads_lose}
-use Rattle.machine.specs.References.{total, is_last}
+use Rattle.machine.specs.Closing.{close_moves}
+use Rattle.machine.specs.Moves.{moved, perform, next_object, new_object}
+use Rattle.machine.specs.References.{stage_holds, total}
 use Rattle.machine.specs.Close.{close_do, close_handle}
 use Rattle.machine.specs.Create.{start_moves, create_do, create_mutex_do, create_semaphore_do, make_with_handle}
 use Rattle.machine.specs.Decide.{give_handle}
 use Rattle.machine.specs.Dup.{dup_do, dup_step, duplocal_step, stays_with_thread}
 use Rattle.machine.specs.Open.{open_do, open_step, open_return}
 use Rattle.machine.specs.Task.{is_returning}
-use Rattle.machine.specs.Fits.{EachFits, Holds, IsAtInstruction, IsFree, most_told, most_owed}
-use Rattle.machine.specs.WellFormed.{IsAlive, is_before_use, part_of}
+use Rattle.machine.specs.Fits.{EachFits, HasName, IsFree, most_told, most_owed}
+use Rattle.machine.specs.WellFormed.{IsAlive, is_before_use}
 use Rattle.move_laws.proofs.Numbers.FewEffects.{lock-tells, lock-owes}
 use Rattle.move_laws.proofs.Lists.Cases.{if_cases}
 use Rattle.move_laws.proofs.Numbers.Registers.{count_few}
 use Rattle.move_laws.proofs.RowLaws.Tables.{object_of_is}
+use Rattle.machine_laws.proofs.Fitting.Closing.{IsHandle, MayClose, closes, handle_of_process, handle_of_thread, stay-close}
 use Rattle.machine_laws.proofs.Fitting.Living.{use_is_alive}
 use Rattle.machine_laws.proofs.Fitting.KernelThreads.{fits-unless}
-use Rattle.machine_laws.proofs.Fitting.Stepping.{FitsDecision, IsStepping, fits-nothing, fits-refuse, fits-handle, at_instruction, at-with_row}
+use Rattle.machine_laws.proofs.Fitting.Stepping.{FitsDecision, FitsStep, IsStepping, answers_step, at_instruction, by_kinds, fits-handle, fits-nothing, fits-refuse}
+use Rattle.machine_laws.proofs.Fitting.Staying.{stay-perform}
 use Rattle.machine_laws.proofs.Fitting.Shared.{fits-look, fits-seek, fits-return, fits-give, fits-give_own, of_process_handle}
 
 -- what follows the making of an object fits then, and leaves the threads
@@ -60,26 +63,29 @@ start_owed : (start : Option LockMove) → total most_owed (start_moves start) �
 start_owed None = omega arith
 start_owed (Some m) = let few = lock-owes m in omega arith
 
+-- there is room for an object where objects aren't full
+pub room_left : {script : Script} {S : State} {t : ObjNo} {row : ThreadRow} {instr : Instr} → IsStepping script S t row instr → (length S.objects == OBJECTS) ≡ false → length S.objects < OBJECTS
+room_left {S = S} h room = let few = h.rows.sized.objects_few in let apart : length S.objects ≢ OBJECTS = λ e. cc (eq-eqb (length S.objects) OBJECTS e) in omega arith
+
 -- `create`
-fits-create : {script : Script} {S : State} {t : ObjNo} {row : ThreadRow} {instr : Instr} (kind : Kind) (name : List ℕ) (start : Option LockMove) (x : ℕ) → IsStepping script S t row instr → x < 8 → is_session kind ≡ false
+fits-create : {script : Script} {S : State} {t : ObjNo} {row : ThreadRow} {instr : Instr} (kind : Kind) (name : List ℕ) (start : Option LockMove) (x : ℕ) → HasName kind name → IsStepping script S t row instr → x < 8
     → ((i : ℕ) → Begins script t start (moved t (Make kind name (InProcess row.process i)) S)) → FitsDecision script t S (create_do S t row kind name start x)
-fits-create {script = script} {S = S} {t = t} {row = row} kind name start x h register named begins =
+fits-create {script = script} {S = S} {t = t} {row = row} kind name start x named h register begins =
     if_cases (FitsDecision script t S) (is_taken kind name S.objects) _ _ (λ _. fits-refuse (Of word.Create part.Do) AlreadyExists h)
     (λ new. if_cases (FitsDecision script t S) (length S.objects == OBJECTS) _ _ (λ _. fits-refuse (Of word.Create part.Do) Overflow h)
-    (λ room. of_process_handle (λ handle. FitsDecision script t S (make_with_handle t kind name start x handle)) h (fits-refuse (Of word.Create part.Do) Overflow h) (made new
-    (let few = h.rows.sized.objects_few in let apart : length S.objects ≢ OBJECTS = λ e. cc (eq-eqb (length S.objects) OBJECTS e) in omega arith))))
+    (λ room. of_process_handle (λ handle. FitsDecision script t S (make_with_handle t kind name start x handle)) h (fits-refuse (Of word.Create part.Do) Overflow h) (made new (room_left h room))))
   where
     made : is_taken kind name S.objects ≡ false → length S.objects < OBJECTS → (i number : ℕ) → IsFree S (InProcess row.process i) → FitsDecision script t S (make_with_handle t kind name start x (Some (record { holder = InProcess row.process i; number = number })))
     made new room i number free =
         let told = start_told start in
         let owed = start_owed start in
-        fits-handle (Of word.Create part.Do) (Make kind name (InProcess row.process i) ∷ start_moves start) x number h register ((record { room = room; new = new; named = named }, free), (begins i).each) (begins i).threads (omega arith) (omega arith)
+        fits-handle (Of word.Create part.Do) (Make kind name (InProcess row.process i) ∷ start_moves start) x number h register ((record { room = room; new = new }, free, named), (begins i).each) (begins i).threads (omega arith) (omega arith)
 
 pub fits-create_mutex : {script : Script} {S : State} {t : ObjNo} {row : ThreadRow} (name : List ℕ) (x : ℕ) → IsStepping script S t row (instr.CreateMutex name x) → FitsDecision script t S (create_mutex_do S t row name x)
-fits-create_mutex name x h = fits-create Mutex name None x h h.registers refl (λ i. record { each = tt; threads = refl })
+fits-create_mutex name x h = fits-create Mutex name None x (λ e. absurd (cc)) h h.registers (λ i. record { each = tt; threads = refl })
 
 pub fits-create_semaphore : {script : Script} {S : State} {t : ObjNo} {row : ThreadRow} (name : List ℕ) (count x : ℕ) → IsStepping script S t row (instr.CreateSemaphore name count x) → FitsDecision script t S (create_semaphore_do S t row name count x)
-fits-create_semaphore {S = S} name count x h = fits-create Semaphore name (Some (Start (next_object S) count)) x h h.registers refl (λ i. record {
+fits-create_semaphore {S = S} name count x h = fits-create Semaphore name (Some (Start (next_object S) count)) x (λ e. absurd (cc)) h h.registers (λ i. record {
   each = (
     record {
       object = let longer = length_push S.objects (Some (new_object Semaphore name)) in omega arith;
@@ -118,32 +124,26 @@ fits-open kind name x None h register at = fits-unless (Of word.Open part.Seek) 
 fits-open {row = row} kind name x (Some p) h register at = fits-open_do x row.uses h register refl
 
 pub fits-open_return : {script : Script} {S : State} {t : ObjNo} {row : ThreadRow} {instr : Instr} → IsStepping script S t row instr → is_before_use row.part ≡ true → FitsDecision script t S (open_return S t row)
-fits-open_return h before = fits-return word.Open part.Do h before refl
+fits-open_return h before = fits-return word.Open part.Do h before refl tt
 
--- the holder of a handle holds its object, and the thread is at its instruction still once that is lost
-handle_holds : {script : Script} {S : State} {t : ObjNo} {row : ThreadRow} {instr : Instr} (local : Bool) (i : ℕ) (o : ObjNo) → IsStepping script S t row instr → (slot_at (table_of S (if local then t else row.process)) i).object ≡ Some o → Holds S (if local then InThread t i else InProcess row.process i) o
-handle_holds true i o h e = (ap is_some h.is, e)
-handle_holds {t = t} {row = row} false i o h e = (h.rows.threads.processes t.0 row h.is, e)
+-- the handle of an object stands in the table of the thread or of its process
+handle_by : {script : Script} {S : State} {t : ObjNo} {row : ThreadRow} {instr : Instr} (local : Bool) (i : ℕ) (o : ObjNo) → IsStepping script S t row instr → (slot_at (table_of S (if local then t else row.process)) i).object ≡ Some o → IsHandle S (if local then InThread t i else InProcess row.process i) o
+handle_by {S = S} {t = t} true i o h is = handle_of_thread S t i o (ap is_some h.is) is
+handle_by {S = S} {t = t} {row = row} false i o h is = handle_of_process S row.process i o (h.rows.threads.processes t.0 row h.is) is
 
-kept-lose : (local : Bool) (p t : ObjNo) (i : ℕ) (threads : List (Option ThreadRow)) → threads_lose (if local then InThread t i else InProcess p i) threads ≡ threads
-kept-lose true p t i threads = refl
-kept-lose false p t i threads = refl
-
-at-closed : {script : Script} {S : State} {t : ObjNo} {row : ThreadRow} {instr : Instr} (local last : Bool) (i : ℕ) (o : ObjNo) (T : State) → IsStepping script S t row instr → T.threads ≡ threads_closed last o (threads_lose (if local then InThread t i else InProcess row.process i) S.threads) → IsAtInstruction script T t
-at-closed {script = script} {S = S} {t = t} {row = row} local true i o T h e = at-with_row script S T t o unlinked (record { role = λ r. refl; next = λ r. refl }) (e ∙ ap (threads_closed true o) (kept-lose local row.process t i S.threads)) (at_instruction h)
-at-closed {script = script} {S = S} {t = t} {row = row} local false i o T h e = record { row = row; is = ap (λ (threads : List (Option ThreadRow)). get_or threads t.0 None) (e ∙ kept-lose local row.process t i S.threads) ∙ h.is; next = h.next }
+pub handle_named : {script : Script} {S : State} {t : ObjNo} {row : ThreadRow} {instr : Instr} (handle : ℕ) (o : ObjNo) → IsStepping script S t row instr → object_at S t row handle ≡ Some o → IsHandle S (holder_of t row handle) o
+handle_named handle o h is = handle_by (is_local handle) (index_of handle) o h (object_of_is _ _ _ o is)
 
 -- `close`
-pub fits-close : {script : Script} {S : State} {t : ObjNo} {row : ThreadRow} {instr : Instr} (x : ℕ) → IsStepping script S t row instr → is_returning row.part ≡ false → FitsDecision script t S (close_do S t row x)
+pub fits-close : {script : Script} {S : State} {t : ObjNo} {row : ThreadRow} {instr : Instr} (x : ℕ) → IsStepping script S t row instr → is_returning row.part ≡ false → FitsStep script t S (close_do S t row x)
 fits-close {script = script} {S = S} {t = t} {row = row} x h going = closed (slice_index row.registers x) (object_at S t row (slice_index row.registers x)) refl
   where
-    closed : (handle : ℕ) (named : Option ObjNo) → object_at S t row handle ≡ named → FitsDecision script t S (close_handle t row handle named)
-    closed handle None e = fits-refuse (Of word.Close part.Do) BadHandle h
-    closed handle (Some o) e = record {
-      each = (
-        (ap (λ (r : Option ThreadRow). is_returning (part_of r)) h.is ∙ going, handle_holds (is_local handle) (index_of handle) o h (object_of_is _ _ _ o e)),
-        ((refl, at-closed (is_local handle) (is_last S o) (index_of handle) o (moved t (Lose (holder_of t row handle) o) S) h refl), tt),
-      );
-      told = omega arith;
-      light = omega arith;
-    }
+    may_close : MayClose script S t
+    may_close = record { rows = h.rows; row = row; is = h.is; waits = h.waits; held = ap stage_holds (h.live going); going = going }
+
+    closed : (handle : ℕ) (named : Option ObjNo) → object_at S t row handle ≡ named → FitsStep script t S (close_handle S t row handle named)
+    closed handle None e = by_kinds script S t _ (fits-refuse (Of word.Close part.Do) BadHandle h)
+    closed handle (Some o) e =
+        let holder = holder_of t row handle in
+        let done = closes script S t holder o may_close (handle_named handle o h e) in
+        answers_step (Of word.Close part.Do) (close_moves S t holder o) (pos 0) done.each (stay-perform script t (close_moves S t holder o) S (stay-close script S t holder o) (at_instruction h)) done.told (let few = done.light in omega arith)

@@ -49,6 +49,8 @@ rows-ready script S qs h = record {
   logons = h.logons;
   spent = h.spent;
   awaited = h.awaited;
+  servers = h.servers;
+  messages = h.messages;
   lives = record { alive = h.lives.alive; counted = h.lives.counted; sweeps = h.lives.sweeps };
 }
 

@@ -58,7 +58,7 @@ without-empty u (x ∷ xs) (suc k) e = without-empty u xs k e
 
 unlogged-move : (script : Script) (S : State) (a : ObjNo) (m : Move) (t : ObjNo) → FitsMove script a m S → row_bit stage_left (thread_of S t) ≡ 0 → ((k : ℕ) (row : ThreadRow) → get_or (moved a m S).threads k None ≡ Some row → WasIn S.threads k row) → IsUnlogged S t → IsUnlogged (moved a m S) t
 unlogged-move script S a (Logons (logon.Add v w s)) t fits left were h row is = elim (cases_eq t.0 v.0) as (λ _. logons_on (moved a (Logons (logon.Add v w s)) S).logons t ≡ []) [
-  | inl at ↦ absurd (unspent-left S t row is (fits.4 row (ap (λ (n : ℕ). get_or S.threads n None) (sym at) ∙ is)) left)
+  | inl at ↦ absurd (unspent-left S t row is (fits.5 row (ap (λ (n : ℕ). get_or S.threads n None) (sym at) ∙ is)) left)
   | inr apart ↦ get_or-set_other S.logons v.0 t.0 _ [] apart ∙ h row is
 ]
 unlogged-move script S a (Logons (logon.Remove v w s)) t fits left were h row is = elim (set_either S.logons v.0 (without_logon w s (logons_on S.logons v)) t.0 []) as (λ _. logons_on (moved a (Logons (logon.Remove v w s)) S).logons t ≡ []) [

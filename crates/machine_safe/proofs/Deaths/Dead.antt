@@ -18,7 +18,7 @@ use Rattle.machine.specs.declared.holding.Holding.TheVariants.{Mutex, Logon}
 use Rattle.machine.specs.declared.state.State.{State}
 use Rattle.machine.specs.Boot.{boot, boot_of, born}
 use Rattle.machine.specs.History.{after, after_from, next, IsLegal, IsLegalFrom}
-use Rattle.machine.specs.Holdings.{held_handles, held_logons, held_mutexes, held_slot, held_use, holdings, left_of, process_handles, stage_left}
+use Rattle.machine.specs.Holdings.{closing_holdings, held_handles, held_logons, held_mutexes, held_servers, held_slot, held_use, holdings, left_of, process_handles, stage_left}
 use Rattle.machine.specs.References.{mutex_names, total}
 use Rattle.machine.specs.Rows.{table_of, thread_of}
 use Rattle.machine.specs.WellFormed.{AreRows, IsSpent}
@@ -64,13 +64,16 @@ both-none {A = A} xs ys left right = ap (λ (l : List A). l ++ ys) left ∙ righ
 -- a thread that is gone has nothing left
 has-none : (script : Script) (S : State) (t : ObjNo) (row : ThreadRow) → AreRows script S → IsGone S t → AreEmptied S → thread_of S t ≡ Some row → holdings S t row ≡ []
 has-none script S t row rows h emptied is =
-    both-none (held_mutexes S t ++ held_use row.uses ++ held_handles (InThread t) 0 (table_of S t) ++ process_handles S t row.process) (held_logons S t)
-    (both-none (held_mutexes S t ++ held_use row.uses ++ held_handles (InThread t) 0 (table_of S t)) (process_handles S t row.process)
-    (both-none (held_mutexes S t ++ held_use row.uses) (held_handles (InThread t) 0 (table_of S t)) (both-none (held_mutexes S t) (held_use row.uses) mutexes (ap held_use spent.unused)) (no-handles-held (InThread t) 0 (table_of S t) spent.empty)) (process (total (left_of row.process) S.threads == left_of row.process (thread_of S t)) refl))
+    both-none (held_mutexes S t ++ held_servers S t ++ held_use row.uses ++ held_handles (InThread t) 0 (table_of S t) ++ process_handles S t row.process) (held_logons S t)
+    (both-none (held_mutexes S t ++ held_servers S t ++ held_use row.uses ++ held_handles (InThread t) 0 (table_of S t)) (process_handles S t row.process)
+    (both-none (held_mutexes S t ++ held_servers S t ++ held_use row.uses) (held_handles (InThread t) 0 (table_of S t)) (both-none (held_mutexes S t ++ held_servers S t) (held_use row.uses) (both-none (held_mutexes S t) (held_servers S t) mutexes servers) (ap held_use spent.unused)) (no-handles-held (InThread t) 0 (table_of S t) spent.empty)) (process (total (left_of row.process) S.threads == left_of row.process (thread_of S t)) refl))
     (ap (map (λ (logon : ObjNo × ℕ). Logon logon.0 logon.1)) (h.bare.logged row is))
   where
     spent : IsSpent S.handles t.0 row
     spent = rows.spent.rows t.0 row is (not-left row.stage (sym (ap (row_bit stage_left) is) ∙ h.left))
+
+    servers : held_servers S t ≡ []
+    servers = ap (closing_holdings S) (rows.servers.none t.0 row is (not-left row.stage (sym (ap (row_bit stage_left) is) ∙ h.left)))
 
     mutexes : held_mutexes S t ≡ []
     mutexes = ap (map (λ (o : ObjNo). Mutex o)) (no-mutexes (get_or S.mutexes t.0 []) h.bare.held)

@@ -26,8 +26,10 @@ use Rattle.machine.specs.declared.death_move.DeathMove.TheVariants.{Note, Doom, 
 use Rattle.machine.specs.declared.holding.Holding.{Holding}
 use Rattle.machine.specs.declared.lock_move.LockMove.{LockMove}
 use Rattle.machine.specs.declared.lock_move.LockMove.TheVariants.{Unlock, Free}
+use Rattle.machine.specs.declared.message_move.MessageMove.{MessageMove}
+use Rattle.machine.specs.declared.message_move.MessageMove.TheVariants.{Finish}
 use Rattle.machine.specs.declared.moves.Move.{Move}
-use Rattle.machine.specs.declared.moves.Move.TheVariants.{Lose, Advance, Locks, Death, Pay}
+use Rattle.machine.specs.declared.moves.Move.TheVariants.{Lose, PutDown, Advance, Locks, Death, Messages, Pay}
 use Rattle.machine.specs.declared.plan.Body.{Body}
 use Rattle.machine.specs.declared.plan.Body.TheVariants.{Interrupt, Immediate}
 use Rattle.machine.specs.declared.state.State.{State}
@@ -76,11 +78,19 @@ owed-death script S t (Note v exit) u none = refl
 owed-death script S t (Doom v exit) u none = refl
 owed-death script S t (Clean v) u none = refl
 
+owed-message : (S : State) (t : ObjNo) (m : MessageMove) (u : ObjNo) → OwesNoMore t u (most_owed (Messages m)) → owed_of (moved t (Messages m) S) u ≡ owed_of S u
+owed-message S t (Finish n code) u (inl apart) = get_or-set_other S.owed t.0 u.0 _ [] apart
+owed-message S t (Finish n code) u (inr none) = absurd (omega arith)
+owed-message S t m u none = refl
+
 owed-move : (script : Script) (S : State) (t : ObjNo) (m : Move) (u : ObjNo) → FitsMove script t m S → OwesNoMore t u (most_owed m) → owed_of (moved t m S) u ≡ owed_of S u
 owed-move script S t (Lose h o) u fits (inl apart) = get_or-set_other S.owed t.0 u.0 _ [] apart
 owed-move script S t (Lose h o) u fits (inr none) = absurd (omega arith)
 owed-move script S t (Advance v) u fits (inl apart) = get_or-set_other S.owed v.0 u.0 _ [] (λ e. apart (e ∙ ap (λ (x : ObjNo). x.0) fits.0))
 owed-move script S t (Advance v) u fits (inr none) = absurd (omega arith)
+owed-move script S t (PutDown v) u fits (inl apart) = get_or-set_other S.owed v.0 u.0 _ [] (λ e. apart (e ∙ ap (λ (x : ObjNo). x.0) fits.0))
+owed-move script S t (PutDown v) u fits (inr none) = absurd (omega arith)
+owed-move script S t (Messages m) u fits none = owed-message S t m u none
 owed-move script S t (Locks m) u fits none = owed-lock script S t m u fits none
 owed-move script S t (Death m) u fits none = owed-death script S t m u none
 owed-move script S t (Pay what) u fits none = absurd fits

@@ -67,7 +67,7 @@ exact-run script S place (e ∷ es) t shaped rows legal =
     let more = exact-run script (next script S e.actor) (place + 1) es t shaped (sound-next script S e.actor shaped rows).rows legal.1 in omega arith
 
 -- a cleaning tells nothing
-silent-act : (script : Script) (S : State) (t : ObjNo) → IsCleaning script S t (decision_of script S t).moves → (act script S t).outcome.effects ≡ []
+silent-act : (script : Script) (S : State) (t : ObjNo) → IsCleaning script S t (decision_of script S t) → (act script S t).outcome.effects ≡ []
 unfolding act
 silent-act script S t c = ap (λ (ms : List Move). tell t ms S) c.moves
 

@@ -20,8 +20,12 @@ use Rattle.machine.specs.History.{after, IsLegal}
 use Rattle.machine.specs.Holdings.{held_handles, left_of, process_handles, stage_left}
 use Rattle.machine.specs.References.{mutex_names, option_names, total}
 use Rattle.machine.specs.Rows.{owed_of, table_of, thread_of}
+use Rattle.machine.specs.ServerMoves.{owned_by}
+use Rattle.machine.specs.Serving.{times_owned}
+use Rattle.machine.specs.ThreadCalls.{is_live}
 use Rattle.machine.specs.WellFormed.{AreRows, times_held}
 use Rattle.machine_laws.proofs.Fitting.Reaping.{HasNothing, has-nothing, no-handles}
+use Rattle.machine_laws.proofs.Fitting.Working.{none-owned}
 use Rattle.move_laws.proofs.RowLaws.Duties.{none_owed, none_owed_by}
 use Rattle.move_laws.proofs.References.Same.{same_object}
 use Rattle.machine_safe.specs.CountAfter.{effects_of}
@@ -42,17 +46,20 @@ pub record IsEmpty (S : State) (t : ObjNo) : Type 0 where
   pub left : stage_left row.stage ≡ 1
   pub paid : owed_of S t ≡ []
   pub has : HasNothing S t row
+  pub owned : owned_by S.owned t ≡ []
 
-pub empty-cleaning : (script : Script) (S : State) (e : Entry) (t : ObjNo) → Cleans script S e t → IsEmpty S t
-empty-cleaning script S e t c =
+pub empty-cleaning : (script : Script) (S : State) (e : Entry) (t : ObjNo) → AreRows script S → Cleans script S e t → IsEmpty S t
+empty-cleaning script S e t rows c =
     let known = is-cleaning script S t c.step in
+    let left = has-nothing S t known.row known.nothing in
     record {
       row = known.row;
       is = known.is;
       dead = ap (row_bit stage_live) known.is ∙ ap stage_live known.doomed;
       left = ap stage_left known.doomed;
       paid = known.paid;
-      has = has-nothing S t known.row known.nothing;
+      has = left;
+      owned = none-owned S (owned_by S.owned t) (λ o some. rows.servers.closing t.0 known.row o known.is (ap is_live known.doomed) some) left.servers;
     }
 
 -- it has no lock
@@ -70,19 +77,20 @@ unheld-own : (script : Script) (S : State) (t : ObjNo) (h : Holder) (o : ObjNo) 
 unheld-own script S t (InThread u i) o rows h own =
     let at : t ≡ u = sym (same_object u t (eqb-true u.0 t.0 own)) in
     let slot = no-slot-names (not (is_some (thread_of S u))) o (slot_at (table_of S u) i) (ap (λ (v : ObjNo). (slot_at (table_of S v) i).object) (sym at) ∙ h.has.empty i) in
-    let owed = none_owed S.threads S.owed (InThread u i) o rows.duties (λ k y own. own) in omega arith
+    let owed = none_owed S.threads S.servers S.messages.accepted S.owed (InThread u i) o rows.duties (λ k y own. own) in omega arith
 unheld-own script S t (Temp u) o rows h own =
     let at : t ≡ u = sym (same_object u t (eqb-true u.0 t.0 own)) in
     let uses : use_names o (thread_of S u) ≡ 0 = ap (λ (v : ObjNo). use_names o (thread_of S v)) (sym at) ∙ (ap (use_names o) h.is ∙ ap (option_names o) h.has.unused) in
-    let owed = none_owed_by S.threads S.owed u (Temp u) o rows.duties (λ k y own. own) (ap (λ (v : ObjNo). total (owed_by (Temp u) o) (owed_of S v)) (sym at) ∙ ap (total (owed_by (Temp u) o)) h.paid) in omega arith
+    let owed = none_owed_by S.threads S.servers S.messages.accepted S.owed u (Temp u) o rows.duties (λ k y own. own) (ap (λ (v : ObjNo). total (owed_by (Temp u) o) (owed_of S v)) (sym at) ∙ ap (total (owed_by (Temp u) o)) h.paid) in omega arith
 unheld-own script S t (Own u) o rows h own =
     let at : t ≡ u = sym (same_object u t (eqb-true u.0 t.0 own)) in
     let held : times_held S.mutexes u o ≡ 0 = ap (λ (v : ObjNo). times_held S.mutexes v o) (sym at) ∙ ap (total (mutex_names o)) h.has.mutexes in
-    let owed = none_owed_by S.threads S.owed u (Own u) o rows.duties (λ k y own. own) (ap (λ (v : ObjNo). total (owed_by (Own u) o) (owed_of S v)) (sym at) ∙ ap (total (owed_by (Own u) o)) h.paid) in omega arith
+    let owned : times_owned S.owned u o ≡ 0 = ap (λ (v : ObjNo). times_owned S.owned v o) (sym at) ∙ ap (total (mutex_names o)) h.owned in
+    let owed = none_owed_by S.threads S.servers S.messages.accepted S.owed u (Own u) o rows.duties (λ k y own. own) (ap (λ (v : ObjNo). total (owed_by (Own u) o) (owed_of S v)) (sym at) ∙ ap (total (owed_by (Own u) o)) h.paid) in omega arith
 unheld-own script S t _ o rows h own = absurd (cc)
 
 -- numbers that are all 0
-total-none : {A : Type 0} (f : A → ℕ) (xs : List A) (d : A) → ((j : ℕ) → f (get_or xs j d) ≡ 0) → total f xs ≡ 0
+pub total-none : {A : Type 0} (f : A → ℕ) (xs : List A) (d : A) → ((j : ℕ) → f (get_or xs j d) ≡ 0) → total f xs ≡ 0
 total-none f [] d none = refl
 total-none f (x ∷ xs) d none = let first : f x ≡ 0 = none zero in let rest = total-none f xs d (λ j. none (suc j)) in omega arith
 
@@ -128,24 +136,24 @@ handles-none S t p only none = by (total (left_of p) S.threads == left_of p (thr
 table-free : {script : Script} (S : State) (p : ObjNo) (i : ℕ) (o : ObjNo) → (slot_at (table_of S p) i).object ≡ None → AreRows script S → held_in S (InProcess p i) o ≡ 0
 table-free S p i o none rows =
     let slot = no-slot-names (is_some (thread_of S p)) o (slot_at (table_of S p) i) none in
-    let owed = none_owed S.threads S.owed (InProcess p i) o rows.duties (λ k y own. own) in omega arith
+    let owed = none_owed S.threads S.servers S.messages.accepted S.owed (InProcess p i) o rows.duties (λ k y own. own) in omega arith
 
 pub clean-leaves : (script : Script) (history : List Entry) (t : ObjNo) → IsWellFormed script → IsLegal script history → CleanLeaves script history t
 clean-leaves script history t valid legal = record {
   locks = λ before e later lock is some.
       let c = cut script history before e later valid legal is in
       let S = after script before in
-      let free = unlocked script S t lock c.rows (empty-cleaning script S e t (cleans-here script before e later t c some)) in
+      let free = unlocked script S t lock c.rows (empty-cleaning script S e t c.rows (cleans-here script before e later t c some)) in
       let start = unlocked-boot script t lock in
       let moves = c.front.locks t lock in omega arith;
   own = λ before e later h o is some own.
       let c = cut script history before e later valid legal is in
       let S = after script before in
-      sym (held_as_told script before valid c.legal_before h o) ∙ unheld-own script S t h o c.rows (empty-cleaning script S e t (cleans-here script before e later t c some)) own;
+      sym (held_as_told script before valid c.legal_before h o) ∙ unheld-own script S t h o c.rows (empty-cleaning script S e t c.rows (cleans-here script before e later t c some)) own;
   handles = λ before e later row i o is some at others.
       let c = cut script history before e later valid legal is in
       let S = after script before in
-      let h = empty-cleaning script S e t (cleans-here script before e later t c some) in
+      let h = empty-cleaning script S e t c.rows (cleans-here script before e later t c some) in
       let was = c.front.were t.0 h.row h.is in
       let same_row : was.old ≡ row = (let a = was.was in cc) in
       let process : h.row.process ≡ row.process = sym was.process ∙ ap (λ (r : ThreadRow). r.process) same_row in

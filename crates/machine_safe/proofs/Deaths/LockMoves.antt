@@ -59,7 +59,7 @@ chosen-zero true n e = e
 chosen-zero false n e = refl
 
 -- an ownership of a live thread is none of one that isn't
-gains-own : (S : State) (w o : ObjNo) → IsLiveThread S.threads w → (t : ObjNo) (h : Holder) (x : ObjNo) → row_bit stage_left (thread_of S t) ≡ 0 → is_own t h ≡ true → same_pair (Own w) o h x ≡ 0
+pub gains-own : (S : State) (w o : ObjNo) → IsLiveThread S.threads w → (t : ObjNo) (h : Holder) (x : ObjNo) → row_bit stage_left (thread_of S t) ≡ 0 → is_own t h ≡ true → same_pair (Own w) o h x ≡ 0
 gains-own S w o live t h x none own = by (is_one (Own w) h) refl
   where
     by : (b : Bool) → is_one (Own w) h ≡ b → (if b then same o x else 0) ≡ 0

@@ -1,12 +1,15 @@
 -- What each move tells of deaths.
 use Rattle.std.proofs.Common.{◌≡◌, ◌<◌, List, [], ◌∷◌, length, arith, refl, sym, ap, subst, ◌∙◌, Option, Some, None, Bool, true, false}
-use Rattle.std.specs.Prelude.{◌==◌, if◌then◌else◌, is_some}
+use Rattle.std.specs.Prelude.{ℤ, ◌==◌, if◌then◌else◌, is_some}
 use Rattle.std.proofs.lemmas.Bool.{eqb-true}
+use Rattle.sym_base.specs.declared.number.MsgNo.{MsgNo}
 use Rattle.sym_base.specs.declared.number.ObjNo.{ObjNo}
 use Rattle.script_types.specs.declared.script.Script.{Script}
 use Rattle.entry_log.specs.declared.effect.Effect.TheVariants as effect
 use Rattle.entry_log.specs.declared.effect.Holder.{Holder}
-use Rattle.entry_log.specs.declared.effect.Holder.TheVariants.{InProcess, InThread, Temp}
+use Rattle.entry_log.specs.declared.effect.Holder.TheVariants.{InProcess, InThread, Temp, Own, Link, Message}
+use Rattle.entry_log.specs.declared.effect.StatusNo.{StatusNo}
+use Rattle.entry_log.specs.declared.effect.StatusNo.TheVariants.{Async, Sync}
 use Rattle.state_rows.specs.declared.duty.Owed.{Owed}
 use Rattle.state_rows.specs.declared.duty.Owed.TheVariants.{Close, Sweep}
 use Rattle.state_rows.specs.declared.thread.Stage.{Stage}
@@ -15,25 +18,33 @@ use Rattle.state_rows.specs.declared.thread.ThreadRow.{ThreadRow}
 use Rattle.state_rows.specs.declared.thread.Waiting.TheVariants as waiting
 use Rattle.machine.specs.declared.death_move.DeathMove.{DeathMove}
 use Rattle.machine.specs.declared.death_move.DeathMove.TheVariants.{Note, Doom, Clean, Bury}
+use Rattle.machine.specs.declared.message_move.MessageMove.{MessageMove}
+use Rattle.machine.specs.declared.message_move.MessageMove.TheVariants.{Accept, Finish}
 use Rattle.machine.specs.declared.moves.Move.{Move}
-use Rattle.machine.specs.declared.moves.Move.TheVariants.{Make, Gain, Lose, Find, Miss, GoOn, Write, Advance, Wait, Wake, SetPriority, Nano, Deferred, Requests, Locks, Logons, Death, Fill, Pay}
+use Rattle.machine.specs.declared.moves.Move.TheVariants.{Make, Gain, Lose, Find, Miss, GoOn, Keep, Write, WriteMessage, PutDown, Advance, Wait, Wake, SetPriority, Nano, Requests, Locks, Death, Servers, Messages, Pay}
 use Rattle.machine.specs.declared.request_move.RequestMove.{RequestMove}
-use Rattle.machine.specs.declared.request_move.RequestMove.TheVariants.{Complete, Signal}
+use Rattle.machine.specs.declared.request_move.RequestMove.TheVariants.{Complete, Signal, Reply}
+use Rattle.machine.specs.declared.server_move.ServerMove.{ServerMove}
+use Rattle.machine.specs.declared.server_move.ServerMove.TheVariants.{Join, End}
 use Rattle.machine.specs.declared.state.State.{State}
 use Rattle.machine.specs.DeathMoves.{death_row, death_told}
-use Rattle.machine.specs.Fits.{FitsMove, IsFree}
-use Rattle.machine.specs.Holding.{is_holder}
+use Rattle.machine.specs.Fits.{FitsMove, IsFree, MayMakeWith}
+use Rattle.machine.specs.Holding.{is_holder, same_pair}
 use Rattle.machine.specs.Holdings.{stage_left}
-use Rattle.machine.specs.Moves.{advanced, closed_effects, moved, next_object, threads_closed, threads_gain, threads_lose, told, unlinked, with_found, with_part, with_priority, with_register, with_use, with_waiting}
+use Rattle.machine.specs.MessageMoves.{message_told}
+use Rattle.machine.specs.Moves.{advanced, closed_effects, moved, next_object, threads_closed, threads_gain, threads_lose, told, unlinked, with_found, with_kept, with_message, with_part, with_priority, with_register, with_use, with_waiting}
 use Rattle.machine.specs.References.{is_last, same, stage_holds}
-use Rattle.machine.specs.RequestMoves.{request_told}
+use Rattle.machine.specs.RequestMoves.{request_moved, request_told}
 use Rattle.machine.specs.Rows.{owed_of, thread_of}
-use Rattle.machine.specs.WellFormed.{AreRows, is_spent}
+use Rattle.machine.specs.ServerMoves.{server_told}
+use Rattle.machine.specs.WellFormed.{AreRows, IsLiveThread, is_spent}
+use Rattle.state_rows.specs.MessageChanges.{next_number}
+use Rattle.state_rows.specs.declared.requests.RequestRows.{RequestRows}
 use Rattle.move_laws.proofs.MoveLaws.Pays.{sweep-unheld}
 use Rattle.move_laws.proofs.References.Same.{if_zero, same_object}
 use Rattle.machine_safe.specs.SafeDeaths.{is_own}
 use Rattle.machine_safe.proofs.Deaths.Dies.{Dies, GainsNone, IsCalm, dies-calm}
-use Rattle.machine_safe.proofs.Deaths.LockMoves.{calm-none, dies-locks, dies-nano, only-live}
+use Rattle.machine_safe.proofs.Deaths.LockMoves.{calm-none, dies-locks, dies-nano, gains-own, only-live}
 use Rattle.machine_safe.proofs.Deaths.Rows.{KeepsRows, bit-less, bit-swept, held-is, keeps-same, keeps-then, keeps-with_row, left-held, live-left, row_bit, stage_live, were-swept, were-with_row}
 use Rattle.machine_safe.proofs.Held.{is_holder_is}
 
@@ -50,6 +61,30 @@ pub keeps-closed : (last : Bool) (o : ObjNo) (threads : List (Option ThreadRow))
 keeps-closed true o threads = keeps-with_row threads o unlinked (λ row. refl) (λ row. refl)
 keeps-closed false o threads = keeps-same threads
 
+-- a move in the row of a thread that dies
+abbrev pub is_death : Move → Bool
+is_death (Death m) = true
+is_death _ = false
+
+-- every other one leaves stages
+pub keeps-move : (script : Script) (S : State) (t : ObjNo) (m : Move) → FitsMove script t m S → is_death m ≡ false → KeepsRows S.threads (moved t m S).threads
+keeps-move script S t (Make kind name h) fits other = keeps-gain h (next_object S) S.threads
+keeps-move script S t (Gain h o) fits other = keeps-gain h o S.threads
+keeps-move script S t (Lose h o) fits other = keeps-then S.threads (threads_lose h S.threads) (threads_closed (is_last S o) o (threads_lose h S.threads)) (keeps-lose h S.threads) (keeps-closed (is_last S o) o (threads_lose h S.threads))
+keeps-move script S t (Find u o) fits other = keeps-with_row S.threads u (with_found o) (λ row. refl) (λ row. refl)
+keeps-move script S t (GoOn u part) fits other = keeps-with_row S.threads u (with_part part) (λ row. refl) (λ row. refl)
+keeps-move script S t (Keep u number) fits other = keeps-with_row S.threads u (with_kept number) (λ row. refl) (λ row. refl)
+keeps-move script S t (Write u x value) fits other = keeps-with_row S.threads u (with_register x value) (λ row. refl) (λ row. refl)
+keeps-move script S t (WriteMessage u y number) fits other = keeps-with_row S.threads u (with_message y number) (λ row. refl) (λ row. refl)
+keeps-move script S t (PutDown u) fits other = keeps-with_row S.threads u (with_use None) (λ row. refl) (λ row. refl)
+keeps-move script S t (Advance u) fits other = keeps-with_row S.threads u advanced (λ row. refl) (λ row. refl)
+keeps-move script S t (Wait u what) fits other = keeps-with_row S.threads u (with_waiting what) (λ row. refl) (λ row. refl)
+keeps-move script S t (Wake u) fits other = keeps-with_row S.threads u (with_waiting waiting.Nothing) (λ row. refl) (λ row. refl)
+keeps-move script S t (SetPriority u priority) fits other = keeps-with_row S.threads u (with_priority priority) (λ row. refl) (λ row. refl)
+keeps-move script S t (Death m) fits other = absurd (cc)
+keeps-move script S t (Pay what) fits other = absurd fits
+keeps-move script S t _ fits other = keeps-same S.threads
+
 -- effects that tell of references alone
 calm-plus : (h : Holder) (o : ObjNo) → IsCalm (effect.Plus h o ∷ [])
 calm-plus h o = record { dooms = λ t. refl; burials = λ t. refl; takes = λ t lock. refl; gives = λ t lock. refl; signals = λ t. refl }
@@ -63,6 +98,15 @@ calm-found o = record { dooms = λ t. refl; burials = λ t. refl; takes = λ t l
 
 calm-missed : (o : ObjNo) → IsCalm (effect.Missed o ∷ [])
 calm-missed o = record { dooms = λ t. refl; burials = λ t. refl; takes = λ t lock. refl; gives = λ t lock. refl; signals = λ t. refl }
+
+calm-accepted : (n : MsgNo) (s u : ObjNo) → IsCalm (effect.Accept n ∷ effect.Plus (Message n) s ∷ effect.Plus (Message n) u ∷ [])
+calm-accepted n s u = record { dooms = λ t. refl; burials = λ t. refl; takes = λ t lock. refl; gives = λ t lock. refl; signals = λ t. refl }
+
+calm-finished : (n : MsgNo) (code : ℤ) → IsCalm (effect.Finish n code ∷ [])
+calm-finished n code = record { dooms = λ t. refl; burials = λ t. refl; takes = λ t lock. refl; gives = λ t lock. refl; signals = λ t. refl }
+
+calm-ended : (o : ObjNo) → IsCalm (effect.Terminated o ∷ [])
+calm-ended o = record { dooms = λ t. refl; burials = λ t. refl; takes = λ t lock. refl; gives = λ t lock. refl; signals = λ t. refl }
 
 -- a close gives nobody a reference
 close-gains : (S : State) (last : Bool) (h : Holder) (o : ObjNo) → GainsNone S (closed_effects last h o)
@@ -98,33 +142,54 @@ plus-gains S g o free t h x none own = let a = by (is_holder g h) refl in omega 
     by false e = refl
     by true e = absurd (free-apart S g t free none (ap (is_own t) (is_holder_is g h e) ∙ own))
 
+-- a server that is made is a live thread's
+make-gains : (S : State) (g : Holder) (o : ObjNo) → MayMakeWith S g → GainsNone S (effect.Plus g o ∷ [])
+make-gains S (Own u) o may t h x none own = let a = gains-own S u o may.owner t h x none own in omega arith
+make-gains S g o may t h x none own = plus-gains S g o may t h x none own
+
+-- a holder that is no thread's own
+foreign : (t : ObjNo) (g h : Holder) (o x : ObjNo) → is_own t g ≡ false → is_own t h ≡ true → same_pair g o h x ≡ 0
+foreign t g h o x other own = by (is_holder g h) refl
+  where
+    by : (b : Bool) → is_holder g h ≡ b → (if b then same o x else 0) ≡ 0
+    by false e = refl
+    by true e = let also : is_own t g ≡ true = ap (is_own t) (is_holder_is g h e) ∙ own in absurd (cc)
+
 -- rows change that tell of nothing
 dies-row : (S T : State) → KeepsRows S.threads T.threads → T.nano.holders ≡ S.nano.holders → T.mutexes ≡ S.mutexes → Dies S T []
 dies-row S T rows holders mutexes = dies-calm S T [] rows holders mutexes calm-none (λ t h o none own. refl)
 
 -- a signal is a live thread's
+dies-signal : (S : State) (r : RequestRows) (u : ObjNo) (s : StatusNo) (code : ℤ) → IsLiveThread S.threads u → Dies S (record S { requests = r }) (effect.Signal u s code ∷ [])
+dies-signal S r u s code live = record {
+  live = λ v. omega arith;
+  left = λ v. omega arith;
+  held = λ v. omega arith;
+  locks = λ v lock. refl;
+  takes_none = λ v lock none. refl;
+  signals_none = λ v none. let a = only-live S u v live none in omega arith;
+  gains_none = λ v h o none own. refl;
+  were = (keeps-same S.threads).were;
+}
+
 dies-request : (script : Script) (S : State) (t : ObjNo) (m : RequestMove) → AreRows script S → FitsMove script t (Requests m) S → Dies S (moved t (Requests m) S) (request_told m)
-dies-request script S t (Complete d u s code) rows fits = record {
-  live = λ v. omega arith;
-  left = λ v. omega arith;
-  held = λ v. omega arith;
-  locks = λ v lock. refl;
-  takes_none = λ v lock none. refl;
-  signals_none = λ v none. let a = only-live S u v (rows.awaited.requests d _ fits.0.1) none in omega arith;
-  gains_none = λ v h o none own. refl;
-  were = (keeps-same S.threads).were;
-}
-dies-request script S t (Signal u s code) rows fits = record {
-  live = λ v. omega arith;
-  left = λ v. omega arith;
-  held = λ v. omega arith;
-  locks = λ v lock. refl;
-  takes_none = λ v lock none. refl;
-  signals_none = λ v none. let a = only-live S u v fits.1 none in omega arith;
-  gains_none = λ v h o none own. refl;
-  were = (keeps-same S.threads).were;
-}
+dies-request script S t (Complete d u s code) rows fits = dies-signal S (request_moved (Complete d u s code) S.requests) u (Async s) code (rows.awaited.requests d _ fits.0.1)
+dies-request script S t (Signal u s code) rows fits = dies-signal S (request_moved (Signal u s code) S.requests) u (Async s) code fits.1.0
+dies-request script S t (Reply u code) rows fits = dies-signal S (request_moved (Reply u code) S.requests) u Sync code fits.1
 dies-request script S t m rows fits = dies-row S (moved t (Requests m) S) (keeps-same S.threads) refl refl
+
+-- servers and messages tell of no thread
+dies-servers : (S : State) (t : ObjNo) (m : ServerMove) → Dies S (moved t (Servers m) S) (server_told m)
+dies-servers S t (Join s o slots u) = dies-calm S _ _ (keeps-same S.threads) refl refl (calm-plus (Link s) o) (λ v h x none own. let a = foreign v (Link s) h o x refl own in omega arith)
+dies-servers S t (End o) = dies-calm S _ _ (keeps-same S.threads) refl refl (calm-ended o) (λ v h x none own. refl)
+dies-servers S t m = dies-row S (moved t (Servers m) S) (keeps-same S.threads) refl refl
+
+dies-messages : (S : State) (t : ObjNo) (m : MessageMove) → Dies S (moved t (Messages m) S) (message_told m S.messages)
+dies-messages S t (Accept slots row) =
+    let n = next_number S.messages in
+    dies-calm S _ _ (keeps-same S.threads) refl refl (calm-accepted n row.session row.client) (λ v h x none own. let a = foreign v (Message n) h row.session x refl own in let b = foreign v (Message n) h row.client x refl own in omega arith)
+dies-messages S t (Finish n code) = dies-calm S _ _ (keeps-same S.threads) refl refl (calm-finished n code) (λ v h x none own. refl)
+dies-messages S t m = dies-row S (moved t (Messages m) S) (keeps-same S.threads) refl refl
 
 -- a row goes on to another stage
 dies-death : (script : Script) (S : State) (t : ObjNo) (m : DeathMove) → FitsMove script t (Death m) S → Dies S (moved t (Death m) S) (death_told m)
@@ -171,26 +236,19 @@ dies-death script S t (Bury u) fits =
 
 -- what a move tells that fits
 pub dies-move : (script : Script) (S : State) (t : ObjNo) (m : Move) → AreRows script S → FitsMove script t m S → Dies S (moved t m S) (told m S)
-dies-move script S t (Make kind name h) rows fits = dies-calm S _ _ (keeps-gain h (next_object S) S.threads) refl refl (calm-plus h (next_object S)) (plus-gains S h (next_object S) fits.1)
-dies-move script S t (Gain h o) rows fits = dies-calm S _ _ (keeps-gain h o S.threads) refl refl (calm-plus h o) (plus-gains S h o fits.0)
-dies-move script S t (Lose h o) rows fits =
-    dies-calm S _ _ (keeps-then S.threads (threads_lose h S.threads) (threads_closed (is_last S o) o (threads_lose h S.threads)) (keeps-lose h S.threads) (keeps-closed (is_last S o) o (threads_lose h S.threads))) refl refl (calm-close (is_last S o) h o) (close-gains S (is_last S o) h o)
-dies-move script S t (Find u o) rows fits = dies-calm S _ _ (keeps-with_row S.threads u (with_found o) (λ row. refl) (λ row. refl)) refl refl (calm-found o) (λ v h x none own. refl)
+dies-move script S t (Make kind name h) rows fits = dies-calm S _ _ (keeps-move script S t (Make kind name h) fits refl) refl refl (calm-plus h (next_object S)) (make-gains S h (next_object S) fits.1)
+dies-move script S t (Gain h o) rows fits = dies-calm S _ _ (keeps-move script S t (Gain h o) fits refl) refl refl (calm-plus h o) (plus-gains S h o fits.0)
+dies-move script S t (Lose h o) rows fits = dies-calm S _ _ (keeps-move script S t (Lose h o) fits refl) refl refl (calm-close (is_last S o) h o) (close-gains S (is_last S o) h o)
+dies-move script S t (Find u o) rows fits = dies-calm S _ _ (keeps-move script S t (Find u o) fits refl) refl refl (calm-found o) (λ v h x none own. refl)
 dies-move script S t (Miss o) rows fits = dies-calm S _ _ (keeps-same S.threads) refl refl (calm-missed o) (λ v h x none own. refl)
-dies-move script S t (GoOn u part) rows fits = dies-row S _ (keeps-with_row S.threads u (with_part part) (λ row. refl) (λ row. refl)) refl refl
-dies-move script S t (Write u x value) rows fits = dies-row S _ (keeps-with_row S.threads u (with_register x value) (λ row. refl) (λ row. refl)) refl refl
-dies-move script S t (Advance u) rows fits = dies-row S _ (keeps-with_row S.threads u advanced (λ row. refl) (λ row. refl)) refl refl
-dies-move script S t (Wait u what) rows fits = dies-row S _ (keeps-with_row S.threads u (with_waiting what) (λ row. refl) (λ row. refl)) refl refl
-dies-move script S t (Wake u) rows fits = dies-row S _ (keeps-with_row S.threads u (with_waiting waiting.Nothing) (λ row. refl) (λ row. refl)) refl refl
-dies-move script S t (SetPriority u priority) rows fits = dies-row S _ (keeps-with_row S.threads u (with_priority priority) (λ row. refl) (λ row. refl)) refl refl
 dies-move script S t (Nano m) rows fits = dies-nano script S t m fits
-dies-move script S t (Deferred m) rows fits = dies-row S _ (keeps-same S.threads) refl refl
 dies-move script S t (Requests m) rows fits = dies-request script S t m rows fits
 dies-move script S t (Locks m) rows fits = dies-locks script S t m rows fits
-dies-move script S t (Logons m) rows fits = dies-row S _ (keeps-same S.threads) refl refl
 dies-move script S t (Death m) rows fits = dies-death script S t m fits
-dies-move script S t (Fill p at long byte) rows fits = dies-row S _ (keeps-same S.threads) refl refl
+dies-move script S t (Servers m) rows fits = dies-servers S t m
+dies-move script S t (Messages m) rows fits = dies-messages S t m
 dies-move script S t (Pay what) rows fits = absurd fits
+dies-move script S t m rows fits = dies-row S (moved t m S) (keeps-move script S t m fits refl) refl refl
 
 -- and what a payment tells
 pub dies-pay : (script : Script) (S : State) (t : ObjNo) (what : Owed) (rest : List Owed) → owed_of S t ≡ what ∷ rest → t.0 < length S.owed → AreRows script S → Dies S (moved t (Pay what) S) (told (Pay what) S)

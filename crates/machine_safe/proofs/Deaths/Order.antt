@@ -67,7 +67,7 @@ pub record IsAfter (S T : State) (t : ObjNo) : Type 0 where
   pub mutexes : T.mutexes ≡ S.mutexes
   pub logons : T.logons ≡ S.logons
 
-after-act : (script : Script) (S : State) (t : ObjNo) → IsCleaning script S t (decision_of script S t).moves → IsAfter S (act script S t).state t
+after-act : (script : Script) (S : State) (t : ObjNo) → IsCleaning script S t (decision_of script S t) → IsAfter S (act script S t).state t
 unfolding act
 after-act script S t c = record {
   threads = ap (λ (ms : List Move). (perform t ms S).threads) c.moves;

@@ -1,12 +1,12 @@
 -- A process has no handles where none of its threads is left.
-use Rattle.std.proofs.Common.{◌≡◌, inl, inr, ℕ, ◌<◌, List, [], ◌∷◌, length, get_or, set, arith, refl, sym, ap, subst, ◌∙◌, Option, Some, None, Bool, true, false}
+use Rattle.std.proofs.Common.{◌≡◌, inl, inr, ℕ, suc, ◌<◌, List, [], ◌∷◌, length, get_or, set, arith, refl, sym, ap, subst, ◌∙◌, Option, Some, None, Bool, true, false}
 use Rattle.std.specs.Prelude.{◌==◌, if◌then◌else◌, is_some, option_map}
 use Rattle.std.proofs.lemmas.Bool.{cases_eq, cases_lt, eqb-true}
 use Rattle.std.proofs.lemmas.List.{get_or-set_other, set_past}
 use Rattle.sym_base.specs.declared.number.ObjNo.{ObjNo}
 use Rattle.script_types.specs.declared.script.Script.{Script}
 use Rattle.entry_log.specs.declared.effect.Holder.{Holder}
-use Rattle.entry_log.specs.declared.effect.Holder.TheVariants.{InProcess, InThread, Temp}
+use Rattle.entry_log.specs.declared.effect.Holder.TheVariants.{InProcess, InThread, Own}
 use Rattle.state_rows.specs.HandleSlots.{fresh_slot, slot_at}
 use Rattle.state_rows.specs.declared.duty.Owed.{Owed}
 use Rattle.state_rows.specs.declared.duty.Owed.TheVariants.{Close, Sweep}
@@ -14,17 +14,16 @@ use Rattle.state_rows.specs.declared.handle_slot.HandleSlot.{HandleSlot}
 use Rattle.state_rows.specs.declared.thread.Stage.{Stage}
 use Rattle.state_rows.specs.declared.thread.Stage.TheVariants.{Doomed}
 use Rattle.state_rows.specs.declared.thread.ThreadRow.{ThreadRow}
-use Rattle.state_rows.specs.declared.thread.Waiting.TheVariants as waiting
 use Rattle.state_rows.proofs.SoundChanges.{set_item}
 use Rattle.machine.specs.declared.death_move.DeathMove.TheVariants.{Note, Doom, Clean, Bury}
 use Rattle.machine.specs.declared.moves.Move.{Move}
-use Rattle.machine.specs.declared.moves.Move.TheVariants.{Make, Gain, Lose, Find, GoOn, Write, Advance, Wait, Wake, SetPriority, Death, Pay}
+use Rattle.machine.specs.declared.moves.Move.TheVariants.{Make, Gain, Lose, Death, Pay}
 use Rattle.machine.specs.declared.state.State.{State}
 use Rattle.machine.specs.DeathMoves.{death_row}
-use Rattle.machine.specs.Fits.{FitsMove, IsAtStage, IsFree}
+use Rattle.machine.specs.Fits.{FitsMove, IsAtStage, IsFree, MayMakeWith}
 use Rattle.machine.specs.Handles.{freed_slot, taken_slot, with_slot}
 use Rattle.machine.specs.Holdings.{left_of, process_handles, stage_left}
-use Rattle.machine.specs.Moves.{advanced, moved, next_object, tables_gain, tables_lose, threads_closed, threads_gain, threads_lose, unlinked, with_found, with_part, with_priority, with_register, with_use, with_waiting}
+use Rattle.machine.specs.Moves.{moved, next_object, tables_gain, tables_lose, threads_closed}
 use Rattle.machine.specs.References.{is_last, stage_holds, total}
 use Rattle.machine.specs.Rows.{owed_of, thread_of, with_row}
 use Rattle.machine.specs.WellFormed.{AreRows}
@@ -34,19 +33,14 @@ use Rattle.move_laws.proofs.MoveLaws.DeathMoves.{row-is}
 use Rattle.move_laws.proofs.MoveLaws.Pays.{sweep-unheld}
 use Rattle.move_laws.proofs.References.Same.{if_zero, same_object}
 use Rattle.machine_safe.proofs.Deaths.Gone.{not-left}
-use Rattle.machine_safe.proofs.Deaths.Leaves.{handles-none}
-use Rattle.machine_safe.proofs.Deaths.Rows.{held-is, left-held, row_bit}
+use Rattle.machine_safe.proofs.Deaths.Leaves.{handles-none, total-none}
+use Rattle.machine_safe.proofs.Deaths.Moves.{is_death, keeps-closed, keeps-move}
+use Rattle.machine_safe.proofs.Deaths.Rows.{KeepsRows, held-is, left-held, row_bit}
 
 -- how many threads of a process are left stays, and who isn't a thread
 record KeepsLeft (threads other : List (Option ThreadRow)) : Type 0 where
   pub left : (p : ObjNo) → total (left_of p) other ≡ total (left_of p) threads
   pub none : (k : ℕ) → get_or other k None ≡ None → get_or threads k None ≡ None
-
-left-same : (threads : List (Option ThreadRow)) → KeepsLeft threads threads
-left-same threads = record { left = λ p. refl; none = λ k e. e }
-
-left-then : (threads other third : List (Option ThreadRow)) → KeepsLeft threads other → KeepsLeft other third → KeepsLeft threads third
-left-then threads other third h g = record { left = λ p. g.left p ∙ h.left p; none = λ k e. h.none k (g.none k e) }
 
 mapped-none : (f : ThreadRow → ThreadRow) (x : Option ThreadRow) → option_map f x ≡ None → x ≡ None
 mapped-none f None e = refl
@@ -68,17 +62,28 @@ left-with_row threads u f stage process = record {
     mapped p None is = refl
     mapped p (Some row) is = ap (λ (q : ObjNo). if q.0 == p.0 then stage_left (f row).stage else 0) (process row) ∙ ap (λ (n : ℕ). if row.process.0 == p.0 then n else 0) (stage row is)
 
-left-gain : (h : Holder) (o : ObjNo) (threads : List (Option ThreadRow)) → KeepsLeft threads (threads_gain h o threads)
-left-gain (Temp t) o threads = left-with_row threads t (with_use (Some o)) (λ row is. refl) (λ row. refl)
-left-gain _ o threads = left-same threads
+-- so it is where stages and processes stay
+there-too : (x : Option ThreadRow) → row_bit (λ _. 1) x ≡ 0 → x ≡ None
+there-too None e = refl
+there-too (Some row) e = absurd (omega arith)
 
-left-lose : (h : Holder) (threads : List (Option ThreadRow)) → KeepsLeft threads (threads_lose h threads)
-left-lose (Temp t) threads = left-with_row threads t (with_use None) (λ row is. refl) (λ row. refl)
-left-lose _ threads = left-same threads
+total-same : {A : Type 0} (f : A → ℕ) (xs ys : List A) (d : A) → f d ≡ 0 → ((j : ℕ) → f (get_or ys j d) ≡ f (get_or xs j d)) → total f ys ≡ total f xs
+total-same f [] ys d none same = total-none f ys d (λ j. same j ∙ none)
+total-same f (x ∷ xs) [] d none same = sym (total-none f (x ∷ xs) d (λ j. sym (same j) ∙ none))
+total-same f (x ∷ xs) (y ∷ ys) d none same = let first : f y ≡ f x = same 0 in let rest = total-same f xs ys d none (λ j. same (suc j)) in omega arith
 
-left-closed : (last : Bool) (o : ObjNo) (threads : List (Option ThreadRow)) → KeepsLeft threads (threads_closed last o threads)
-left-closed true o threads = left-with_row threads o unlinked (λ row is. refl) (λ row. refl)
-left-closed false o threads = left-same threads
+left-rows : (threads other : List (Option ThreadRow)) → KeepsRows threads other → KeepsLeft threads other
+left-rows threads other h = record { left = λ p. total-same (left_of p) threads other None refl (λ k. by p k (get_or other k None) refl); none = none }
+  where
+    none : (k : ℕ) → get_or other k None ≡ None → get_or threads k None ≡ None
+    none k e = there-too (get_or threads k None) (sym (h.stages (λ _. 1) k) ∙ ap (row_bit (λ _. 1)) e)
+
+    by : (p : ObjNo) (k : ℕ) (x : Option ThreadRow) → get_or other k None ≡ x → left_of p x ≡ left_of p (get_or threads k None)
+    by p k None is = sym (ap (left_of p) (none k is))
+    by p k (Some row) is =
+        let was = h.were k row is in
+        let left : stage_left row.stage ≡ stage_left was.old.stage = sym (ap (row_bit stage_left) is) ∙ (h.stages stage_left k ∙ ap (row_bit stage_left) was.was) in
+        ap (λ (n : ℕ). if row.process.0 == p.0 then n else 0) left ∙ (ap (λ (q : ObjNo). if q.0 == p.0 then stage_left was.old.stage else 0) (sym was.process) ∙ sym (ap (left_of p) was.was))
 
 -- a table without an object
 abbrev pub IsEmptyTable : List (List HandleSlot) → ObjNo → Type 0
@@ -102,6 +107,11 @@ gained-table : (S : State) (h : Holder) (o : ObjNo) → IsFree S h → (p : ObjN
 gained-table S (InProcess q j) o free p none zero empty = other-slot S.handles q p j (taken_slot o) (λ at. let same = same_object p q at in let some = free.2 in let left : total (left_of q) S.threads ≡ 0 = ap (λ (x : ObjNo). total (left_of x) S.threads) (sym same) ∙ zero in omega arith) empty
 gained-table S (InThread u j) o free p none zero empty = other-slot S.handles u p j (taken_slot o) (λ at. let same = same_object p u at in let there = free.0 in let is : thread_of S u ≡ None = ap (thread_of S) (sym same) ∙ none in let gone = ap is_some is in cc) empty
 gained-table S _ o free p none zero empty = empty
+
+-- a server that is made is in no table
+made-table : (S : State) (h : Holder) (o : ObjNo) → MayMakeWith S h → (p : ObjNo) → thread_of S p ≡ None → total (left_of p) S.threads ≡ 0 → IsEmptyTable S.handles p → IsEmptyTable (tables_gain h o S.handles) p
+made-table S (Own t) o may p none zero empty = empty
+made-table S h o may p none zero empty = gained-table S h o may p none zero empty
 
 freed-table : (tables : List (List HandleSlot)) (q : ObjNo) (j : ℕ) (p : ObjNo) → IsEmptyTable tables p → IsEmptyTable (with_slot tables q j freed_slot) p
 freed-table tables q j p empty i = set_item (λ (table : List HandleSlot). (slot_at table i).object ≡ None) tables q.0 p.0 _ []
@@ -134,24 +144,19 @@ emptied-clean script S t u fits h p none zero = by (at.row.process.0 == p.0) ref
         handles-none S u p (left ∙ sym own) (subst (λ (q : ObjNo). process_handles S u q ≡ []) same (fits.1.2 at.row at.is))
 
 -- a process keeps none, move by move
+left-move : (script : Script) (S : State) (t : ObjNo) (m : Move) → FitsMove script t m S → is_death m ≡ false → KeepsLeft S.threads (moved t m S).threads
+left-move script S t m fits other = left-rows S.threads (moved t m S).threads (keeps-move script S t m fits other)
+
 pub emptied-move : (script : Script) (S : State) (t : ObjNo) (m : Move) → AreRows script S → FitsMove script t m S → AreEmptied S → AreEmptied (moved t m S)
-emptied-move script S t (Make kind name h) rows fits e = emptied-kept S (moved t (Make kind name h) S) (left-gain h (next_object S) S.threads) (gained-table S h (next_object S) fits.1) e
-emptied-move script S t (Gain h o) rows fits e = emptied-kept S (moved t (Gain h o) S) (left-gain h o S.threads) (gained-table S h o fits.0) e
-emptied-move script S t (Lose h o) rows fits e =
-    emptied-kept S (moved t (Lose h o) S) (left-then S.threads (threads_lose h S.threads) (threads_closed (is_last S o) o (threads_lose h S.threads)) (left-lose h S.threads) (left-closed (is_last S o) o (threads_lose h S.threads))) (λ p none zero empty. lost-table h S.handles p empty) e
-emptied-move script S t (Find u o) rows fits e = emptied-rows S (moved t (Find u o) S) (left-with_row S.threads u (with_found o) (λ row is. refl) (λ row. refl)) refl e
-emptied-move script S t (GoOn u part) rows fits e = emptied-rows S (moved t (GoOn u part) S) (left-with_row S.threads u (with_part part) (λ row is. refl) (λ row. refl)) refl e
-emptied-move script S t (Write u x value) rows fits e = emptied-rows S (moved t (Write u x value) S) (left-with_row S.threads u (with_register x value) (λ row is. refl) (λ row. refl)) refl e
-emptied-move script S t (Advance u) rows fits e = emptied-rows S (moved t (Advance u) S) (left-with_row S.threads u advanced (λ row is. refl) (λ row. refl)) refl e
-emptied-move script S t (Wait u what) rows fits e = emptied-rows S (moved t (Wait u what) S) (left-with_row S.threads u (with_waiting what) (λ row is. refl) (λ row. refl)) refl e
-emptied-move script S t (Wake u) rows fits e = emptied-rows S (moved t (Wake u) S) (left-with_row S.threads u (with_waiting waiting.Nothing) (λ row is. refl) (λ row. refl)) refl e
-emptied-move script S t (SetPriority u priority) rows fits e = emptied-rows S (moved t (SetPriority u priority) S) (left-with_row S.threads u (with_priority priority) (λ row is. refl) (λ row. refl)) refl e
+emptied-move script S t (Make kind name h) rows fits e = emptied-kept S (moved t (Make kind name h) S) (left-move script S t (Make kind name h) fits refl) (made-table S h (next_object S) fits.1) e
+emptied-move script S t (Gain h o) rows fits e = emptied-kept S (moved t (Gain h o) S) (left-move script S t (Gain h o) fits refl) (gained-table S h o fits.0) e
+emptied-move script S t (Lose h o) rows fits e = emptied-kept S (moved t (Lose h o) S) (left-move script S t (Lose h o) fits refl) (λ p none zero empty. lost-table h S.handles p empty) e
 emptied-move script S t (Death (Note u exit)) rows fits e = emptied-rows S (moved t (Death (Note u exit)) S) (left-with_row S.threads u (death_row (Note u exit)) (λ row is. refl) (λ row. refl)) refl e
 emptied-move script S t (Death (Doom u exit)) rows fits e = emptied-rows S (moved t (Death (Doom u exit)) S) (left-with_row S.threads u (death_row (Doom u exit)) (λ row is. sym (ap stage_left (row-is fits.0 row is))) (λ row. refl)) refl e
 emptied-move script S t (Death (Bury u)) rows fits e = emptied-rows S (moved t (Death (Bury u)) S) (left-with_row S.threads u (death_row (Bury u)) (λ row is. sym (ap stage_left (row-is fits.0 row is))) (λ row. refl)) refl e
 emptied-move script S t (Death (Clean u)) rows fits e = emptied-clean script S t u fits e
 emptied-move script S t (Pay what) rows fits e = absurd fits
-emptied-move script S t m rows fits e = emptied-rows S (moved t m S) (left-same S.threads) refl e
+emptied-move script S t m rows fits e = emptied-rows S (moved t m S) (left-move script S t m fits refl) refl e
 
 -- and where a row is swept
 pub left-none : (p : ObjNo) (x : Option ThreadRow) → row_bit stage_left x ≡ 0 → left_of p x ≡ 0
@@ -175,7 +180,7 @@ emptied-swept script S o rows gone h p none zero = by (get_or S.threads p.0 None
     ]
 
 pub emptied-pay : (script : Script) (S : State) (t : ObjNo) (what : Owed) (rest : List Owed) → AreRows script S → owed_of S t ≡ what ∷ rest → t.0 < length S.owed → AreEmptied S → AreEmptied (moved t (Pay what) S)
-emptied-pay script S t (Close h o) rest rows owes here e = emptied-rows S (moved t (Pay (Close h o)) S) (left-closed (is_last S o) o S.threads) refl e
+emptied-pay script S t (Close h o) rest rows owes here e = emptied-rows S (moved t (Pay (Close h o)) S) (left-rows S.threads (threads_closed (is_last S o) o S.threads) (keeps-closed (is_last S o) o S.threads)) refl e
 emptied-pay script S t (Sweep o) rest rows owes here e =
     let unheld : row_bit stage_holds (thread_of S o) ≡ 0 = sym (held-is (thread_of S o)) ∙ sweep-unheld script S t o rest owes here rows in
     emptied-swept script S o.0 rows (let le = left-held (thread_of S o) in omega arith) e

@@ -47,3 +47,15 @@ pub get-with : {A : Type 0} (g : A → A) (d : A) (xs : List A) (i : ℕ) → g 
 get-with g d [] i h = sym h
 get-with g d (x ∷ xs) zero h = refl
 get-with g d (x ∷ xs) (suc i) h = get-with g d xs i h
+
+-- so it is wherever, where what isn't there counts for nothing
+pub total_any : {A : Type 0} (f : A → ℕ) (xs : List A) (i : ℕ) (d : A) → f d ≡ 0 → f (get_or xs i d) ≤ total f xs
+total_any f [] i d none = omega arith
+total_any f (x ∷ xs) zero d none = omega arith
+total_any f (x ∷ xs) (suc i) d none = let r = total_any f xs i d none in omega arith
+
+-- the sum over a list of several is at most that over all
+pub total_within : {A : Type 0} (f : A → ℕ) (xs : List (List A)) (i : ℕ) → total f (get_or xs i []) ≤ total (total f) xs
+total_within f [] i = omega arith
+total_within f (x ∷ xs) zero = omega arith
+total_within f (x ∷ xs) (suc i) = let a = total_within f xs i in omega arith

@@ -1,7 +1,8 @@
 -- A reference is given up. With the last one its object dies, and the close of the object's own link is owed, and its sweep.
-use Rattle.std.proofs.Common.{◌≡◌, inr, ℕ, ◌+◌, ◌<◌, ◌≤◌, List, [], ◌∷◌, ◌++◌, length, get_or, arith, refl, sym, subst, ap, ◌∙◌, Option, Some, None, Bool, true, false}
-use Rattle.std.specs.Prelude.{option_map, if◌then◌else◌, slice_set}
-use Rattle.std.proofs.lemmas.List.{length-set}
+use Rattle.std.proofs.Common.{◌≡◌, ◌⊎◌, inl, inr, ℕ, ◌+◌, ◌<◌, ◌≤◌, List, [], ◌∷◌, ◌++◌, length, get_or, arith, refl, sym, subst, ap, ◌∙◌, Option, Some, None, Bool, true, false}
+use Rattle.std.specs.Prelude.{option_map, if◌then◌else◌, is_some, slice_set}
+use Rattle.std.proofs.lemmas.Bool.{cases_lt}
+use Rattle.std.proofs.lemmas.List.{get_or_past, length-set}
 use Rattle.sym_base.specs.declared.number.ObjNo.{ObjNo}
 use Rattle.script_types.specs.declared.script.Script.{Script}
 use Rattle.entry_log.specs.declared.effect.Holder.{Holder}
@@ -10,15 +11,23 @@ use Rattle.state_rows.specs.ObjectRows.{dead_row}
 use Rattle.state_rows.specs.declared.duty.Owed.{Owed}
 use Rattle.state_rows.specs.declared.duty.Owed.TheVariants.{Sweep}
 use Rattle.state_rows.specs.declared.handle_slot.HandleSlot.{HandleSlot}
+use Rattle.state_rows.specs.ServerChanges.{after_detach, detached}
+use Rattle.state_rows.specs.ServerRows.{IsSession, link_of as link_of_session, server_of, session_at}
+use Rattle.state_rows.specs.declared.locks.LockRows.{LockRows}
+use Rattle.state_rows.specs.declared.messages.Message.{Message}
+use Rattle.state_rows.specs.declared.servers.ServerRows.{ServerRows}
+use Rattle.state_rows.specs.declared.servers.SessionRow.{SessionRow}
 use Rattle.state_rows.specs.declared.thread.ThreadRow.{ThreadRow}
 use Rattle.machine.specs.declared.state.State.{State}
 use Rattle.machine.specs.Rows.{object_of, with_row, owing}
-use Rattle.machine.specs.Moves.{link_of, link_of_row, objects_closed, threads_closed, owed_link, owed_by_close, closed_effects}
+use Rattle.machine.specs.Moves.{link_of, link_of_row, link_or, objects_closed, threads_closed, owed_link, owed_by_close, closed_effects}
 use Rattle.machine.specs.References.{total, same, thread_names, owed_names, option_names, count_of, is_last}
 use Rattle.machine.specs.Holding.{is_holder, same_pair, link_names}
 use Rattle.machine.specs.HeldIn.{held_in, use_names, owed_by}
 use Rattle.machine.specs.Task.{is_returning}
-use Rattle.machine.specs.WellFormed.{IsAlive, AreTables, AreThreads, AreDuties, AreSynchronized, AreMemories, EachMayOwe, AreRows, weight, owed_sweeps, sweeps_of, part_of, AreSpent, AreAwaited}
+use Rattle.machine.specs.WellFormed.{IsAlive, AreTables, AreThreads, AreDuties, AreSynchronized, AreMemories, EachMayOwe, AreRows, IsUntold, weight, owed_sweeps, sweeps_of, part_of, AreSpent, AreAwaited, is_spent}
+use Rattle.machine.specs.ServerMoves.{servers_closed}
+use Rattle.machine.specs.Serving.{AreMessages, AreServers, IsUnlinked, MayBeLinked, open_bit, session_bit, sessions_there, sessions_used}
 use Rattle.move_laws.proofs.Lives.Closes.{lives-closed}
 use Rattle.move_laws.proofs.Holders.HoldersMove.{holders-closed}
 use Rattle.move_laws.proofs.Holders.ThreadRows.{rows-with_row}
@@ -32,24 +41,34 @@ use Rattle.move_laws.proofs.RowLaws.Memories.{memories-with_row}
 use Rattle.move_laws.proofs.MoveLaws.Sound.{Sound, sound-of}
 use Rattle.move_laws.proofs.RowLaws.Spent.{spent-died}
 use Rattle.move_laws.proofs.RowLaws.Awaited.{awaited-kept}
+use Rattle.move_laws.proofs.Holders.Serving.{holds-detached}
+use Rattle.move_laws.proofs.Lists.Mapped.{mapped-none, mapped-some}
+use Rattle.move_laws.proofs.Lists.Totals.{inside, total-with}
+use Rattle.move_laws.proofs.References.Serving.{count-detached}
+use Rattle.move_laws.proofs.RowLaws.MessagesKept.{messages-kept, messages-sessions}
+use Rattle.move_laws.proofs.RowLaws.ServerDuties.{duties-servers}
+use Rattle.move_laws.proofs.RowLaws.Servers.{servers-detach}
+use Rattle.move_laws.proofs.RowLaws.ServersKept.{servers-kept, servers-more}
 
 -- the rows in the middle of a close of an object: a holder's reference to it isn't there any more
-pub record HasLost (script : Script) (S : State) (t : ObjNo) (h : Holder) (o : ObjNo) (handles : List (List HandleSlot)) (threads : List (Option ThreadRow)) (owed : List (List Owed)) : Type 0 where
-  pub counts : (p : ObjNo) → count_of (record S { handles = handles; threads = threads; owed = owed }) p + same o p ≡ count_of S p
-  pub held : (g : Holder) (x : ObjNo) → held_in (record S { handles = handles; threads = threads; owed = owed }) g x + same_pair h o g x ≡ held_in S g x
+pub record HasLost (script : Script) (S : State) (t : ObjNo) (h : Holder) (o : ObjNo) (handles : List (List HandleSlot)) (threads : List (Option ThreadRow)) (owed : List (List Owed)) (servers : ServerRows) (owned : List (List ObjNo)) : Type 0 where
+  pub counts : (p : ObjNo) → count_of (record S { handles = handles; threads = threads; owed = owed; servers = servers; owned = owned }) p + same o p ≡ count_of S p
+  pub held : (g : Holder) (x : ObjNo) → held_in (record S { handles = handles; threads = threads; owed = owed; servers = servers; owned = owned }) g x + same_pair h o g x ≡ held_in S g x
   pub sweeps : (p : ObjNo) → total (total (owed_sweeps p)) owed ≡ sweeps_of S p
-  pub link : link_of_row (get_or threads o.0 None) ≡ link_of S o
+  pub link : link_or (link_of_row (get_or threads o.0 None)) (server_of servers o) ≡ link_of S o
   pub handles_long : length handles ≡ length S.handles
   pub threads_long : length threads ≡ length S.threads
   pub owed_long : length owed ≡ length S.owed
   pub tables : AreTables handles
   pub threads_are : AreThreads script threads
-  pub duties : AreDuties threads owed
+  pub duties : AreDuties threads servers S.messages.accepted owed
   pub nano : AreSynchronized script threads S.nano
   pub locks : LeavesLocks S.threads threads S.owed owed S.locks
   pub memories : AreMemories threads S.memories
   pub spent : AreSpent S.objects handles threads
   pub awaited : AreAwaited threads S.requests S.logons
+  pub servers_are : AreServers (λ row. is_spent row.stage) (length S.objects) threads S.locks owned servers
+  pub messages : AreMessages (IsUntold S.requests S.logons) threads servers S.messages
   pub going : is_returning (part_of (get_or threads t.0 None)) ≡ false
   pub few : total weight (get_or owed t.0 []) + total weight (owed_by_close (is_last S o) o (link_of S o)) ≤ 12
 
@@ -70,6 +89,10 @@ link_owed_by : (o : ObjNo) (link : Option ObjNo) (g : Holder) (x : ObjNo) → to
 link_owed_by o None g x = sym (if_zero (is_holder (Link o) g) 0 refl)
 link_owed_by o (Some p) g x = omega arith
 
+if_both : (b : Bool) (x y z : ℕ) → x + y ≡ z → (if b then x else 0) + (if b then y else 0) ≡ (if b then z else 0)
+if_both true x y z e = e
+if_both false x y z e = omega arith
+
 -- that is no close of an ownership
 link_unowned : (o : ObjNo) (link : Option ObjNo) (t x : ObjNo) → total (owed_by (Own t) x) (owed_link o link ++ Sweep o ∷ []) ≡ 0
 link_unowned o None t x = refl
@@ -79,17 +102,64 @@ linked_row : (x : Option ThreadRow) (p : ObjNo) → link_of_row x ≡ Some p →
 linked_row None p e = absurd (cc)
 linked_row (Some row) p e = (row, refl, e)
 
--- what is linked to isn't a thread
-may_owe_link : (script : Script) (threads other : List (Option ThreadRow)) (t o : ObjNo) (link : Option ObjNo) → link_of_row (get_or threads o.0 None) ≡ link → AreThreads script threads → ((k : ℕ) → get_or threads k None ≡ None → get_or other k None ≡ None) → EachMayOwe other t.0 (owed_link o link ++ Sweep o ∷ [])
-may_owe_link script threads other t o None e h none = tt
-may_owe_link script threads other t o (Some p) e h none =
-    let r = linked_row (get_or threads o.0 None) p e in
-    let at : p.0 ≡ r.0.process.0 = (h.rows o.0 r.0 r.1).link p r.2 in
-    (none p.0 (subst (λ (n : ℕ). get_or threads n None ≡ None) (sym at) (h.processes o.0 r.0 r.1)), tt)
+linked_session : (x : Option SessionRow) (p : ObjNo) → link_of_session x ≡ Some p → is_some x ≡ true
+linked_session None p e = absurd (cc)
+linked_session (Some row) p e = refl
 
-pub sound-closed : (last : Bool) (script : Script) (S : State) (t : ObjNo) (h : Holder) (o : ObjNo) (handles : List (List HandleSlot)) (threads : List (Option ThreadRow)) (owed : List (List Owed)) → is_last S o ≡ last → t.0 < length S.threads → HasLost script S t h o handles threads owed → AreRows script S → Sound script S (record S { objects = objects_closed last o S.objects; handles = handles; threads = threads_closed last o threads; owed = owing owed t (owed_by_close last o (link_of S o)) }) (closed_effects last h o)
-sound-closed false script S t h o handles threads owed e inside lost rows =
-    let T : State = record S { handles = handles; threads = threads; owed = owing owed t [] } in
+-- what an object refers to is what its thread's link names, or its session's: it hasn't both
+names_link : (a b : Option ObjNo) (p : ObjNo) → (a ≡ None) ⊎ (b ≡ None) → option_names p (link_or a b) ≡ option_names p a + option_names p b
+names_link None b p one = omega arith
+names_link (Some x) None p one = omega arith
+names_link (Some x) (Some y) p one = elim one as (λ _. option_names p (link_or (Some x) (Some y)) ≡ option_names p (Some x) + option_names p (Some y)) [ inl e ↦ absurd (cc) | inr e ↦ absurd (cc) ]
+
+one_link : (objects : ℕ) (threads : List (Option ThreadRow)) (locks : LockRows) (owned : List (List ObjNo)) (servers : ServerRows) (o : ObjNo) → AreServers (λ row. is_spent row.stage) objects threads locks owned servers → (link_of_row (get_or threads o.0 None) ≡ None) ⊎ (server_of servers o ≡ None)
+one_link objects threads locks owned servers o h = elim (cases_lt o.0 (length threads)) [
+  | inl inside ↦ inr (ap link_of_session (h.sessions_later o inside))
+  | inr past ↦ inl (ap link_of_row (get_or_past threads o.0 None past))
+]
+
+-- what is linked to has no link itself
+record MayLink (threads other : List (Option ThreadRow)) (servers new : ServerRows) : Type 0 where
+  pub long : length other ≡ length threads
+  pub threads_none : (k : ℕ) → get_or threads k None ≡ None → get_or other k None ≡ None
+  pub sessions_none : (x : ObjNo) → session_at servers x ≡ None → session_at new x ≡ None
+  pub sessions_some : (x : ObjNo) → IsSession servers x → IsSession new x
+
+may_owe_link : (script : Script) (objects : ℕ) (threads other : List (Option ThreadRow)) (locks : LockRows) (owned : List (List ObjNo)) (servers new : ServerRows) (accepted : ℕ) (t o : ObjNo) (a b link : Option ObjNo) → link_of_row (get_or threads o.0 None) ≡ a → server_of servers o ≡ b → link_or a b ≡ link
+    → AreThreads script threads → AreServers (λ row. is_spent row.stage) objects threads locks owned servers → MayLink threads other servers new → EachMayOwe other new accepted t.0 (owed_link o link ++ Sweep o ∷ [])
+may_owe_link script objects threads other locks owned servers new accepted t o a b None ea eb e h s m = tt
+may_owe_link script objects threads other locks owned servers new accepted t o (Some q) b (Some p) ea eb e h s m =
+    let own : q ≡ p = cc in
+    let r = linked_row (get_or threads o.0 None) q ea in
+    let at : q.0 ≡ r.0.process.0 = (h.rows o.0 r.0 r.1).link q r.2 in
+    let process = (h.rows o.0 r.0 r.1).process in
+    let inside_o = inside threads o.0 r.0 r.1 in
+    let long = m.long in
+    let free : IsUnlinked other new q × MayBeLinked other new o =
+    ((m.threads_none q.0 (subst (λ (n : ℕ). get_or threads n None ≡ None) (sym at) (h.processes o.0 r.0 r.1)), m.sessions_none q (s.sessions_later q (omega arith))), λ past. absurd (omega arith)) in
+    (subst (λ (y : ObjNo). IsUnlinked other new y × MayBeLinked other new o) own free, tt)
+may_owe_link script objects threads other locks owned servers new accepted t o None (Some q) (Some p) ea eb e h s m =
+    let own : q ≡ p = cc in
+    let free = s.unlinked q (s.sessions o q eb) in
+    (subst (λ (y : ObjNo). IsUnlinked other new y × MayBeLinked other new o) own ((m.threads_none q.0 free.0, m.sessions_none q free.1), λ past. m.sessions_some o (linked_session (session_at servers o) q eb)), tt)
+may_owe_link script objects threads other locks owned servers new accepted t o None None (Some p) ea eb e h s m = absurd (cc)
+
+open_detached : (x : Option SessionRow) → (open_bit (option_map detached x) ≡ open_bit x) × (session_bit (option_map detached x) ≡ session_bit x)
+open_detached None = (refl, refl)
+open_detached (Some row) = (refl, refl)
+
+-- a session that is detached is open, or isn't, as before
+pub detached_bits : (threads : List (Option ThreadRow)) (servers : ServerRows) (outstanding : List Message) (o : ObjNo) → (sessions_used threads (after_detach servers o) outstanding ≡ sessions_used threads servers outstanding) × (sessions_there (after_detach servers o) ≡ sessions_there servers)
+detached_bits threads servers outstanding o =
+    let a = total-with open_bit (option_map detached) None servers.sessions o.0 refl in
+    let b = total-with session_bit (option_map detached) None servers.sessions o.0 refl in
+    let c = open_detached (get_or servers.sessions o.0 None) in
+    let d = c.0 in let e = c.1 in (omega arith, omega arith)
+
+pub sound-closed : (last : Bool) (script : Script) (S : State) (t : ObjNo) (h : Holder) (o : ObjNo) (handles : List (List HandleSlot)) (threads : List (Option ThreadRow)) (owed : List (List Owed)) (servers : ServerRows) (owned : List (List ObjNo)) → is_last S o ≡ last → t.0 < length S.threads → HasLost script S t h o handles threads owed servers owned → AreRows script S
+    → Sound script S (record S { objects = objects_closed last o S.objects; handles = handles; threads = threads_closed last o threads; owed = owing owed t (owed_by_close last o (link_of S o)); servers = servers_closed last o servers; owned = owned }) (closed_effects last h o)
+sound-closed false script S t h o handles threads owed servers owned e inside_t lost rows =
+    let T : State = record S { handles = handles; threads = threads; owed = owing owed t []; servers = servers; owned = owned } in
     let here : t.0 < length owed = let a = rows.sized.duties in let b = lost.owed_long in omega arith in
     let few = lost.duties.few t.0 in
     let alive : IsAlive (object_of S o) = rows.lives.alive o (let a = lost.counts o in let b = same_self o in omega arith) in
@@ -100,7 +170,7 @@ sound-closed false script S t h o handles threads owed e inside lost rows =
       objects_few = rows.sized.objects_few;
       tables = lost.tables;
       threads = lost.threads_are;
-      duties = duties-owing threads owed t [] tt (omega arith) lost.going lost.duties;
+      duties = duties-owing threads servers S.messages.accepted owed t [] tt (omega arith) lost.going lost.duties;
       nano = lost.nano;
       deferred = rows.deferred;
       requests = rows.requests;
@@ -110,22 +180,32 @@ sound-closed false script S t h o handles threads owed e inside lost rows =
       logons = rows.logons;
       spent = lost.spent;
       awaited = lost.awaited;
+      servers = lost.servers_are;
+      messages = lost.messages;
     })
     (lives-closed false S T h o e alive refl
     (λ p. let a = total-owing (owed_names p) owed t [] here in let b = lost.counts p in omega arith)
     (λ p. let a = total-owing (owed_sweeps p) owed t [] here in let b = lost.sweeps p in omega arith))
     (holders-closed false S T h o (λ g x. let a = total-owing (owed_by g x) owed t [] here in let b = lost.held g x in omega arith))
-sound-closed true script S t h o handles threads owed e inside lost rows =
+sound-closed true script S t h o handles threads owed servers owned e inside_t lost rows =
     let f = unlinked in
     let link = link_of S o in
     let more = owed_link o link ++ Sweep o ∷ [] in
     let other = with_row threads o f in
+    let new = after_detach servers o in
     let old = get_or threads o.0 None in
-    let T : State = record S { objects = slice_set S.objects o.0 (dead_row (get_or S.objects o.0 None)); handles = handles; threads = other; owed = owing owed t more } in
+    let objects = slice_set S.objects o.0 (dead_row (get_or S.objects o.0 None)) in
+    let T : State = record S { objects = objects; handles = handles; threads = other; owed = owing owed t more; servers = new; owned = owned } in
     let here : t.0 < length owed = let a = rows.sized.duties in let b = lost.owed_long in omega arith in
     let few : total weight (get_or owed t.0 []) + total weight more ≤ 12 = subst (λ (last : Bool). total weight (get_or owed t.0 []) + total weight (owed_by_close last o link) ≤ 12) e lost.few in
     let alive : IsAlive (object_of S o) = rows.lives.alive o (let a = lost.counts o in let b = same_self o in omega arith) in
-    let named : (p : ObjNo) → option_names p (link_of_row old) ≡ option_names p link = λ p. ap (option_names p) lost.link in
+    let named : (p : ObjNo) → option_names p (link_of_row old) + option_names p (server_of servers o) ≡ option_names p link = λ p.
+    let a = names_link (link_of_row old) (server_of servers o) p (one_link (length S.objects) threads S.locks owned servers o lost.servers_are) in
+    let b = ap (option_names p) lost.link in omega arith in
+    let may : MayLink threads other servers new = record { long = length-with_row threads o f; threads_none = none-with_row threads o f; sessions_none = λ x none. mapped-none detached servers.sessions o.0 x.0 none; sessions_some = λ x is. mapped-some detached servers.sessions o.0 x.0 ∙ is } in
+    let bits = detached_bits other servers S.messages.outstanding o in
+    let used = bits.0 in let there = bits.1 in
+    let kept = messages-kept (IsUntold S.requests S.logons) threads servers S.messages o f (record { live = λ row live. live; waits = λ row live. refl; sends = λ row. omega arith; left = λ row. omega arith }) lost.messages in
     sound-of script S T (closed_effects true h o) rows (record {
       handles_long = lost.handles_long;
       threads_long = length-with_row threads o f ∙ lost.threads_long;
@@ -137,8 +217,10 @@ sound-closed true script S t h o handles threads owed e inside lost rows =
         process = refl;
         role = refl;
       }) lost.threads_are;
-      duties = duties-owing other owed t more (may_owe_link script threads other t o link lost.link lost.threads_are (none-with_row threads o f)) few ((paid-with_row threads o f (λ row r. r) t.0).going lost.going)
-          (duties-threads threads other owed (λ k. inr (paid-with_row threads o f (λ row r. r) k)) lost.duties);
+      duties = duties-owing other new S.messages.accepted owed t more
+          (may_owe_link script (length S.objects) threads other S.locks owned servers new S.messages.accepted t o (link_of_row old) (server_of servers o) link refl refl lost.link lost.threads_are lost.servers_are may) few ((paid-with_row threads o f (λ row r. r) t.0).going lost.going)
+          (duties-servers other servers new S.messages.accepted S.messages.accepted owed (omega arith) (λ x _. may.sessions_none x) may.sessions_some
+          (duties-threads threads other servers S.messages.accepted owed (λ k. inr (paid-with_row threads o f (λ row r. r) k)) lost.duties));
       nano = synchronized-with_row script threads o f S.nano (λ row r. r) lost.nano;
       deferred = rows.deferred;
       requests = rows.requests;
@@ -148,12 +230,16 @@ sound-closed true script S t h o handles threads owed e inside lost rows =
       logons = rows.logons;
       spent = spent-died S.objects handles threads o (dead_row (get_or S.objects o.0 None)) lost.spent;
       awaited = awaited-kept threads o f S.requests S.logons (λ row. refl) (λ row. refl) lost.awaited;
+      servers = servers-more (λ row. is_spent row.stage) (length S.objects) (length objects) other S.locks owned new (let a = length-set S.objects o.0 (dead_row (get_or S.objects o.0 None)) in omega arith)
+          (servers-detach (λ row. is_spent row.stage) (length S.objects) other S.locks owned servers o (servers-kept (λ row. is_spent row.stage) (length S.objects) threads S.locks owned servers o f (λ row. refl) (λ row. refl) lost.servers_are));
+      messages = messages-sessions (IsUntold S.requests S.logons) other servers new S.messages may.sessions_some (let a = kept.few in omega arith) (let a = kept.numbered in omega arith) kept;
     })
     (lives-closed true S T h o e alive refl
     (λ p.
     let a = count-with_row threads o f p in
     let b = kernel-with_row threads o f p (λ row is. refl) in
     let c = (without_link old p).0 in
+    let k = count-detached servers.sessions o p in
     let d = total-owing (owed_names p) owed t more here in
     let g = (link_owed o link p).0 in
     let i = named p in
@@ -164,7 +250,8 @@ sound-closed true script S t h o handles threads owed e inside lost rows =
     let n = without_link old x in
     let b : (if is_holder (Temp o) g then use_names x (option_map f old) else 0) ≡ (if is_holder (Temp o) g then use_names x old else 0) = ap (λ (y : ℕ). if is_holder (Temp o) g then y else 0) n.1 in
     let c = if_zero (is_holder (Link o) g) (link_names x (option_map f old)) n.2 in
-    let d : (if is_holder (Link o) g then link_names x old else 0) ≡ (if is_holder (Link o) g then option_names x link else 0) = ap (λ (y : ℕ). if is_holder (Link o) g then y else 0) (n.3 ∙ named x) in
+    let d : (if is_holder (Link o) g then link_names x old else 0) + (if is_holder (Link o) g then option_names x (server_of servers o) else 0) ≡ (if is_holder (Link o) g then option_names x link else 0) = if_both (is_holder (Link o) g) (link_names x old) (option_names x (server_of servers o)) (option_names x link) (let m = n.3 in let q = named x in omega arith) in
+    let s = holds-detached owned servers.sessions S.messages.outstanding o g x in
     let i = total-owing (owed_by g x) owed t more here in
     let j = link_owed_by o link g x in
     let k = lost.held g x in omega arith))

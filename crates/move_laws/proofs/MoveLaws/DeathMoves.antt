@@ -17,6 +17,8 @@ use Rattle.machine.specs.declared.moves.Move.TheVariants.{Death}
 use Rattle.machine.specs.declared.state.State.{State}
 use Rattle.machine.specs.DeathMoves.{death_row, death_thread, death_told, death_owed, wait_ended}
 use Rattle.machine.specs.Fits.{FitsDeath, FitsMove, IsAtStage, death_owes}
+use Rattle.machine.specs.Serving.{AreServers}
+use Rattle.machine.specs.ThreadCalls.{is_live}
 use Rattle.machine.specs.Moves.{moved, told}
 use Rattle.machine.specs.Rows.{with_row, owed_of, owing, thread_of}
 use Rattle.machine.specs.Task.{is_returning}
@@ -25,17 +27,19 @@ use Rattle.move_laws.proofs.RowLaws.Duties.{paid-with_row, duties-owing, duties-
 use Rattle.move_laws.proofs.RowLaws.Locks.{LeavesLocks, leaves-nowhere, leaves-with_row, leaves-owing, leaves-then, locks-left}
 use Rattle.move_laws.proofs.RowLaws.Synchronized.{synchronized-with_row, synchronized-unheld, synchronized-apart}
 use Rattle.move_laws.proofs.RowLaws.Threads.{KeepsThread, length-with_row, threads-with_row}
-use Rattle.move_laws.proofs.MoveLaws.RowMoves.{IsSilent, KeepsReferences, silent, sound-row}
+use Rattle.move_laws.proofs.MoveLaws.RowMoves.{IsSilent, KeepsReferences, messaging-kept, serving-kept, silent, sound-row}
 use Rattle.move_laws.proofs.MoveLaws.Sound.{Sound, sound-of}
 use Rattle.move_laws.proofs.RowLaws.Spent.{spent-going, spent-kept, spent-with_row}
 use Rattle.machine.specs.HeldIn.{held_in, owed_by, use_names}
 use Rattle.machine.specs.Holding.{is_holder, link_names, same_pair}
-use Rattle.machine.specs.References.{count_of, kernel_holds, owed_names, same, stage_holds, thread_names, total}
+use Rattle.machine.specs.References.{count_of, kernel_holds, mutex_names, owed_names, same, stage_holds, thread_names, total}
 use Rattle.move_laws.proofs.Holders.ThreadRows.{kernel-changed, row_holds, row_kept, rows-changed}
 use Rattle.move_laws.proofs.References.Counts.{count-with_row, total-owing}
 use Rattle.move_laws.proofs.References.Same.{if_zero}
 use Rattle.move_laws.proofs.Lives.Kinds.{lives-quiet}
 use Rattle.move_laws.proofs.RowLaws.Memories.{memories-with_row}
+use Rattle.move_laws.proofs.RowLaws.MessagesKept.{KeepsMessages}
+use Rattle.move_laws.proofs.RowLaws.ServersKept.{servers-with_row}
 use Rattle.move_laws.proofs.Lists.Totals.{inside}
 use Rattle.state_rows.specs.declared.thread.Waiting.{Waiting}
 use Rattle.state_rows.specs.declared.thread.Waiting.TheVariants as waiting
@@ -112,6 +116,22 @@ awaited-death S t (Doom u exit) fits h = awaited-doom S.threads u (death_row (Do
 awaited-death S t (Clean u) fits h = awaited-later S.threads u (death_row (Clean u)) S.requests S.logons (λ row is live. not-doomed row.stage live (row-is fits.0 row is)) (λ row. refl) h
 awaited-death S t (Bury u) fits h = awaited-later S.threads u (death_row (Bury u)) S.requests S.logons (λ row is live. not-live row.stage live (row-is fits.0 row is)) (λ row. refl) h
 
+-- what a thread owns is closing by its doom, and it is nothing by its cleaning
+serving-death : (script : Script) (S : State) (t : ObjNo) (m : DeathMove) → FitsDeath t m S → AreRows script S → AreServers (λ row. is_spent row.stage) (length S.objects) (with_row S.threads (death_thread m) (death_row m)) S.locks S.owned S.servers
+serving-death script S t (Note u exit) fits rows = serving-kept script S u (death_row (Note u exit)) (λ row. refl) rows
+serving-death script S t (Doom u exit) fits rows = servers-with_row (λ row. is_spent row.stage) (length S.objects) S.threads S.locks S.owned S.servers u (death_row (Doom u exit)) (λ row is has. record { closing = λ dead o some. fits.4 o some; none = λ gone. absurd (cc) }) rows.servers
+serving-death script S t (Clean u) fits rows = servers-with_row (λ row. is_spent row.stage) (length S.objects) S.threads S.locks S.owned S.servers u (death_row (Clean u))
+    (λ row is has. record { closing = λ dead o some. let none = ap (total (mutex_names o)) fits.1.3 in absurd (omega arith); none = λ gone. fits.1.3 }) rows.servers
+serving-death script S t (Bury u) fits rows = servers-with_row (λ row. is_spent row.stage) (length S.objects) S.threads S.locks S.owned S.servers u (death_row (Bury u))
+    (λ row is has. record { closing = λ dead o some. has.closing (ap is_live (row-is fits.0 row is)) o some; none = λ gone. has.none (ap is_spent (row-is fits.0 row is)) }) rows.servers
+
+-- nobody is brought back to life
+keeps-messages : (m : DeathMove) → KeepsMessages (death_row m)
+keeps-messages (Note t exit) = record { live = λ row live. live; waits = λ row live. refl; sends = λ row. omega arith; left = λ row. omega arith }
+keeps-messages (Doom t exit) = record { live = λ row live. absurd (cc); waits = λ row live. absurd (cc); sends = λ row. omega arith; left = λ row. omega arith }
+keeps-messages (Clean t) = record { live = λ row live. absurd (cc); waits = λ row live. refl; sends = λ row. omega arith; left = λ row. omega arith }
+keeps-messages (Bury t) = record { live = λ row live. absurd (cc); waits = λ row live. refl; sends = λ row. omega arith; left = λ row. omega arith }
+
 leaves-locks : (S : State) (t : ObjNo) (m : DeathMove) → FitsDeath t m S → LeavesLocks S.threads (with_row S.threads (death_thread m) (death_row m)) S.owed S.owed S.locks
 leaves-locks S t (Note u exit) fits = leaves-with_row S.threads u (death_row (Note u exit)) S.owed S.locks (λ row. refl)
 leaves-locks S t (Doom u exit) fits = leaves-nowhere S.threads u (death_row (Doom u exit)) S.owed S.locks fits.2
@@ -122,7 +142,8 @@ leaves-locks S t (Bury u) fits = leaves-with_row S.threads u (death_row (Bury u)
 sound-dying : (script : Script) (S : State) (t : ObjNo) (m : DeathMove) → FitsDeath t m S → ((row : ThreadRow) → thread_of S (death_thread m) ≡ Some row → stage_holds (death_row m row).stage ≡ stage_holds row.stage) → AreRows script S → Sound script S (record S { threads = with_row S.threads (death_thread m) (death_row m) }) (death_told m)
 sound-dying script S t m fits holds rows = sound-row script S (death_thread m) (death_row m) (death_told m) (keeps-references m) holds
     (λ row is h. keeps-thread script _ m row h)
-    (λ k. inr (paid-with_row S.threads (death_thread m) (death_row m) (keeps-going m) k)) (death_silent S m) (synchronized-death script S t m fits rows.nano) (leaves-locks S t m fits) (spent-death script S t m fits rows.spent) (awaited-death S t m fits rows.awaited) rows
+    (λ k. inr (paid-with_row S.threads (death_thread m) (death_row m) (keeps-going m) k)) (death_silent S m) (synchronized-death script S t m fits rows.nano) (leaves-locks S t m fits) (spent-death script S t m fits rows.spent) (awaited-death S t m fits rows.awaited)
+    (serving-death script S t m fits rows) (messaging-kept script S (death_thread m) (death_row m) (keeps-messages m) rows) rows
 
 -- what the row of a cleaned thread names
 buried-names : (x : Option ThreadRow) (u p : ObjNo) → (thread_names p (option_map (death_row (Bury u)) x) ≡ thread_names p x) × (use_names p (option_map (death_row (Bury u)) x) ≡ use_names p x) × (link_names p (option_map (death_row (Bury u)) x) ≡ link_names p x)
@@ -173,8 +194,8 @@ sound-bury script S t u fits few rows =
       objects_few = rows.sized.objects_few;
       tables = rows.tables;
       threads = threads-with_row script S.threads u f (λ row is h. keeps-thread script _ (Bury u) row h) rows.threads;
-      duties = duties-owing other S.owed t more (tt, tt) (omega arith) ((paid-with_row S.threads u f (λ row h. h) t.0).going fits.1.going)
-          (duties-threads S.threads other S.owed (λ k. inr (paid-with_row S.threads u f (λ row h. h) k)) rows.duties);
+      duties = duties-owing other S.servers S.messages.accepted S.owed t more (tt, tt) (omega arith) ((paid-with_row S.threads u f (λ row h. h) t.0).going fits.1.going)
+          (duties-threads S.threads other S.servers S.messages.accepted S.owed (λ k. inr (paid-with_row S.threads u f (λ row h. h) k)) rows.duties);
       nano = synchronized-death script S t (Bury u) fits rows.nano;
       deferred = rows.deferred;
       requests = rows.requests;
@@ -184,6 +205,8 @@ sound-bury script S t u fits few rows =
       logons = rows.logons;
       spent = spent-death script S t (Bury u) fits rows.spent;
       awaited = awaited-death S t (Bury u) fits rows.awaited;
+      servers = serving-death script S t (Bury u) fits rows;
+      messages = messaging-kept script S u f (keeps-messages (Bury u)) rows;
     })
     (lives-quiet S T (effect.Bury u ∷ []) refl (record { minuses = λ p. refl; deaths = λ p. refl; removals = λ p. refl }) (λ o. let a = counts o in omega arith) sweeps (λ o h. absurd (omega arith)) (λ o h. absurd (omega arith)))
     (record { fits = (tt, tt); moves = λ g x. sym (held g x) })

@@ -1,14 +1,16 @@
 -- A holder gets a reference: to an object that there is, or to a new one.
-use Rattle.std.proofs.Common.{◌≡◌, inr, ℕ, ◌+◌, List, length, arith, refl, ap, ◌∙◌, Option, Some, None, Bool, true, false, subst}
+use Rattle.std.proofs.Common.{◌≡◌, inr, ℕ, ◌+◌, List, [], ◌∷◌, ◌++◌, length, arith, refl, ap, ◌∙◌, Option, Some, None, Bool, true, false, subst}
 use Rattle.std.specs.Prelude.{option_map, is_some, if◌then◌else◌}
 use Rattle.std.proofs.lemmas.List.{length_push}
 use Rattle.sym_base.specs.declared.number.ObjNo.{ObjNo}
 use Rattle.sym_base.specs.declared.kind.Kind.{Kind}
 use Rattle.script_types.specs.declared.script.Script.{Script}
 use Rattle.entry_log.specs.declared.effect.Holder.{Holder}
-use Rattle.entry_log.specs.declared.effect.Holder.TheVariants.{InProcess, InThread, Temp, Link}
+use Rattle.entry_log.specs.declared.effect.Holder.TheVariants.{InProcess, InThread, Temp, Own, Link}
+use Rattle.entry_log.specs.declared.effect.Effect.TheVariants.{Plus}
 use Rattle.machine.specs.declared.moves.Move.TheVariants.{Gain, Make}
 use Rattle.state_rows.specs.declared.handle_slot.HandleSlot.{HandleSlot}
+use Rattle.state_rows.specs.declared.servers.ServerRows.{ServerRows}
 use Rattle.state_rows.specs.declared.thread.ThreadRow.{ThreadRow}
 use Rattle.machine.specs.declared.state.State.{State}
 use Rattle.machine.specs.Rows.{table_of, thread_of, with_row}
@@ -17,9 +19,10 @@ use Rattle.machine.specs.Handles.{taken_slot, with_slot}
 use Rattle.machine.specs.Moves.{moved, told, tables_gain, threads_gain, next_object, new_object}
 use Rattle.machine.specs.References.{same, thread_names, option_names, slot_names, count_of}
 use Rattle.machine.specs.Holding.{is_holder, same_pair}
-use Rattle.machine.specs.HeldIn.{held_in, use_names, own_slot, rows_hold}
-use Rattle.machine.specs.Fits.{FitsMove, IsFree, IsFreeSlot, UsesNothing, IsUnspent}
-use Rattle.machine.specs.WellFormed.{AreTables, AreThreads, AreDuties, AreSynchronized, AreMemories, AreRows, MayOwe, AreSpent, is_spent, AreAwaited}
+use Rattle.machine.specs.HeldIn.{held_in, use_names, own_slot, rows_hold, servers_hold}
+use Rattle.machine.specs.Fits.{FitsMove, IsFree, IsFreeSlot, MayMake, UsesNothing, IsUnspent}
+use Rattle.machine.specs.Serving.{AreMessages, AreServers}
+use Rattle.machine.specs.WellFormed.{AreTables, AreThreads, AreDuties, AreSynchronized, AreMemories, AreRows, MayOwe, AreSpent, is_spent, IsUntold, AreAwaited}
 use Rattle.move_laws.proofs.Lives.Kinds.{lives-plus, lives-made}
 use Rattle.move_laws.proofs.Holders.HoldersMove.{holders-plus}
 use Rattle.move_laws.proofs.Holders.SlotRows.{slot_holder, rows-with_slot}
@@ -32,9 +35,12 @@ use Rattle.move_laws.proofs.RowLaws.Duties.{paid-with_row, duties-threads, none_
 use Rattle.move_laws.proofs.RowLaws.Synchronized.{synchronized-with_row}
 use Rattle.move_laws.proofs.RowLaws.Locks.{LeavesLocks, leaves-none, leaves-with_row, locks-left}
 use Rattle.move_laws.proofs.RowLaws.Memories.{memories-with_row}
+use Rattle.move_laws.proofs.MoveLaws.RowMoves.{messaging-kept, serving-kept}
+use Rattle.move_laws.proofs.MoveLaws.Owns.{sound-owned}
 use Rattle.move_laws.proofs.MoveLaws.Sound.{Sound, sound-of}
 use Rattle.move_laws.proofs.RowLaws.Spent.{made-dead, spent-going, spent-objects, spent-slot}
 use Rattle.move_laws.proofs.RowLaws.Awaited.{awaited-kept}
+use Rattle.move_laws.proofs.RowLaws.ServersKept.{servers-more}
 
 -- the tables and threads where a holder got a reference
 pub record HasGained (script : Script) (S : State) (h : Holder) (o : ObjNo) (handles : List (List HandleSlot)) (threads : List (Option ThreadRow)) : Type 0 where
@@ -45,12 +51,14 @@ pub record HasGained (script : Script) (S : State) (h : Holder) (o : ObjNo) (han
   pub threads_long : length threads ≡ length S.threads
   pub tables : AreTables handles
   pub threads_are : AreThreads script threads
-  pub duties : AreDuties threads S.owed
+  pub duties : AreDuties threads S.servers S.messages.accepted S.owed
   pub nano : AreSynchronized script threads S.nano
   pub locks : LeavesLocks S.threads threads S.owed S.owed S.locks
   pub memories : AreMemories threads S.memories
   pub spent : AreSpent S.objects handles threads
   pub awaited : AreAwaited threads S.requests S.logons
+  pub servers : AreServers (λ row. is_spent row.stage) (length S.objects) threads S.locks S.owned S.servers
+  pub messages : AreMessages (IsUntold S.requests S.logons) threads S.servers S.messages
 
 empty_slot : (c : Bool) (x : ObjNo) (slot : HandleSlot) → slot.object ≡ None → own_slot c x slot ≡ 0
 empty_slot true x slot e = refl
@@ -60,9 +68,14 @@ empty_holder : (thread : Bool) (S : State) (owner : ObjNo) (i : ℕ) (x : ObjNo)
 empty_holder true S owner i x e = empty_slot _ x (slot_at (table_of S owner) i) e
 empty_holder false S owner i x e = empty_slot _ x (slot_at (table_of S owner) i) e
 
-unowed : (thread : Bool) (threads : List (Option ThreadRow)) (owner : ObjNo) (i k : ℕ) (y : ObjNo) → MayOwe threads k (slot_holder thread owner i) y → ⊥
-unowed true threads owner i k y own = own
-unowed false threads owner i k y own = own
+unowed : (thread : Bool) (threads : List (Option ThreadRow)) (r : ServerRows) (accepted : ℕ) (owner : ObjNo) (i k : ℕ) (y : ObjNo) → MayOwe threads r accepted k (slot_holder thread owner i) y → ⊥
+unowed true threads r accepted owner i k y own = own
+unowed false threads r accepted owner i k y own = own
+
+-- a handle is none of servers, sessions and messages
+unserved : (S : State) (thread : Bool) (owner : ObjNo) (i : ℕ) (x : ObjNo) → servers_hold S.owned S.servers.sessions S.messages.outstanding (slot_holder thread owner i) x ≡ 0
+unserved S true owner i x = refl
+unserved S false owner i x = refl
 
 gained-slot : (script : Script) (S : State) (thread : Bool) (owner : ObjNo) (i : ℕ) (o : ObjNo) → is_some (thread_of S owner) ≡ thread → IsUnspent S owner → IsFreeSlot S owner i → AreRows script S → HasGained script S (slot_holder thread owner i) o (with_slot S.handles owner i (taken_slot o)) S.threads
 gained-slot script S thread owner i o is unspent fits rows =
@@ -72,7 +85,7 @@ gained-slot script S thread owner i o is unspent fits rows =
     let free : old.object ≡ None = ap (λ (n : ℕ). (slot_at (table_of S owner) n).object) fits.least ∙ free_index_is_free (table_of S owner) in
     record {
       counts = λ p. let a = count-with_slot S.handles owner i (taken_slot o) p there fits.inside in let b : slot_names p old ≡ 0 = ap (option_names p) free in omega arith;
-      none = let a = empty_holder thread S owner i o free in let b = none_owed S.threads S.owed h o rows.duties (unowed thread S.threads owner i) in omega arith;
+      none = let a = empty_holder thread S owner i o free in let b = none_owed S.threads S.servers S.messages.accepted S.owed h o rows.duties (unowed thread S.threads S.servers S.messages.accepted owner i) in let c = unserved S thread owner i o in omega arith;
       held = λ g x.
           let a = rows-with_slot S.handles S.threads S.mutexes owner i (taken_slot o) thread is there fits.inside g x in
           let b = if_zero (is_holder h g) (slot_names x old) (ap (option_names x) free) in omega arith;
@@ -86,6 +99,8 @@ gained-slot script S thread owner i o is unspent fits rows =
       memories = rows.memories;
       spent = spent-slot S.objects S.handles S.threads owner i (taken_slot o) unspent rows.spent;
       awaited = rows.awaited;
+      servers = rows.servers;
+      messages = rows.messages;
     }
 
 gained-use : (script : Script) (S : State) (u o : ObjNo) → UsesNothing S u → AreRows script S → HasGained script S (Temp u) o S.handles (with_row S.threads u (λ row. record row { uses = Some o }))
@@ -100,7 +115,7 @@ gained-use script S u o fits rows =
           let c : thread_names p (thread_of S u) ≡ option_names p row.link + option_names p row.uses = ap (thread_names p) fits.is in
           let d : thread_names p (option_map f (thread_of S u)) ≡ option_names p row.link + same o p = ap (λ (x : Option ThreadRow). thread_names p (option_map f x)) fits.is in
           let e = unused p in omega arith;
-      none = let a : use_names o (thread_of S u) ≡ option_names o row.uses = ap (use_names o) fits.is in let b = unused o in let c = none_owed_by S.threads S.owed u (Temp u) o rows.duties (λ k y own. own) (fits.paid o) in omega arith;
+      none = let a : use_names o (thread_of S u) ≡ option_names o row.uses = ap (use_names o) fits.is in let b = unused o in let c = none_owed_by S.threads S.servers S.messages.accepted S.owed u (Temp u) o rows.duties (λ k y own. own) (fits.paid o) in omega arith;
       held = λ g x.
           let a = rows-with_row S.handles S.threads S.mutexes u f g x (λ r is. refl) in
           let b : row_holds u (thread_of S u) g x ≡ (if is_holder (Temp u) g then option_names x row.uses else 0) + (if is_holder (Link u) g then option_names x row.link else 0) = ap (λ (y : Option ThreadRow). row_holds u y g x) fits.is in
@@ -123,12 +138,14 @@ gained-use script S u o fits rows =
         process = refl;
         role = refl;
       }) rows.threads;
-      duties = duties-threads S.threads (with_row S.threads u f) S.owed (λ k. inr (paid-with_row S.threads u f (λ r h. h) k)) rows.duties;
+      duties = duties-threads S.threads (with_row S.threads u f) S.servers S.messages.accepted S.owed (λ k. inr (paid-with_row S.threads u f (λ r h. h) k)) rows.duties;
       nano = synchronized-with_row script S.threads u f S.nano (λ r h. h) rows.nano;
       locks = leaves-with_row S.threads u f S.owed S.locks (λ r. refl);
       memories = memories-with_row S.threads u f S.memories (λ r is. refl) rows.memories;
       spent = spent-going S.objects S.handles S.threads u f (λ r is. let same_row : row ≡ r = let a = fits.is in cc in subst (λ (x : ThreadRow). is_spent x.stage ≡ false) same_row fits.unspent) (λ r none. none) rows.spent;
       awaited = awaited-kept S.threads u f S.requests S.logons (λ row. refl) (λ row. refl) rows.awaited;
+      servers = serving-kept script S u f (λ row. refl) rows;
+      messages = messaging-kept script S u f (record { live = λ row live. live; waits = λ row live. refl; sends = λ row. omega arith; left = λ row. omega arith }) rows;
     }
 
 is_some_of : (x : Option ThreadRow) → x ≡ None → is_some x ≡ false
@@ -145,16 +162,27 @@ sound-gain script S t h o fits rows =
     let T = moved t (Gain h o) S in
     let g = gained script S h o fits.0 rows in
     sound-of script S T (told (Gain h o) S) rows
-    (record { handles_long = g.handles_long; threads_long = g.threads_long; owed_long = refl; objects_few = rows.sized.objects_few; tables = g.tables; threads = g.threads_are; duties = g.duties; nano = g.nano; deferred = rows.deferred; requests = rows.requests; locks = locks-left (length S.objects) (length S.objects) S.threads (threads_gain h o S.threads) S.mutexes S.owed S.owed S.locks (omega arith) g.locks rows.locks; memories = g.memories; logons = rows.logons; spent = g.spent; awaited = g.awaited })
+    (record { handles_long = g.handles_long; threads_long = g.threads_long; owed_long = refl; objects_few = rows.sized.objects_few; tables = g.tables; threads = g.threads_are; duties = g.duties; nano = g.nano; deferred = rows.deferred; requests = rows.requests; locks = locks-left (length S.objects) (length S.objects) S.threads (threads_gain h o S.threads) S.mutexes S.owed S.owed S.locks (omega arith) g.locks rows.locks; memories = g.memories; logons = rows.logons; spent = g.spent; awaited = g.awaited; servers = g.servers; messages = g.messages })
     (lives-plus S T h o refl g.counts (λ p. refl) fits.1) (holders-plus S T h o g.none g.held)
 
-pub sound-make : (script : Script) (S : State) (t : ObjNo) (kind : Kind) (name : List ℕ) (h : Holder) → FitsMove script t (Make kind name h) S → AreRows script S → Sound script S (moved t (Make kind name h) S) (told (Make kind name h) S)
-sound-make script S t kind name h fits rows =
-    let T = moved t (Make kind name h) S in
+-- an object is made, with its first reference in a handle or in use
+abbrev making : State → Kind → List ℕ → Holder → State
+making S kind name h = record S { objects = S.objects ++ Some (new_object kind name) ∷ []; handles = tables_gain h (next_object S) S.handles; threads = threads_gain h (next_object S) S.threads }
+
+sound-made : (script : Script) (S : State) (t : ObjNo) (kind : Kind) (name : List ℕ) (h : Holder) → MayMake S kind name → IsFree S h → AreRows script S → Sound script S (making S kind name h) (Plus h (next_object S) ∷ [])
+sound-made script S t kind name h may free rows =
+    let T = making S kind name h in
     let o = next_object S in
-    let g = gained script S h o fits.1 rows in
-    let room = fits.0.room in
+    let g = gained script S h o free rows in
+    let room = may.room in
     let long = length_push S.objects (Some (new_object kind name)) in
-    sound-of script S T (told (Make kind name h) S) rows
-    (record { handles_long = g.handles_long; threads_long = g.threads_long; owed_long = refl; objects_few = omega arith; tables = g.tables; threads = g.threads_are; duties = g.duties; nano = g.nano; deferred = rows.deferred; requests = rows.requests; locks = locks-left (length S.objects) (length T.objects) S.threads (threads_gain h o S.threads) S.mutexes S.owed S.owed S.locks (omega arith) g.locks rows.locks; memories = g.memories; logons = rows.logons; spent = spent-objects S.objects T.objects T.handles T.threads (made-dead S.objects (new_object kind name) refl) g.spent; awaited = g.awaited })
+    sound-of script S T (Plus h o ∷ []) rows
+    (record { handles_long = g.handles_long; threads_long = g.threads_long; owed_long = refl; objects_few = omega arith; tables = g.tables; threads = g.threads_are; duties = g.duties; nano = g.nano; deferred = rows.deferred; requests = rows.requests; locks = locks-left (length S.objects) (length T.objects) S.threads (threads_gain h o S.threads) S.mutexes S.owed S.owed S.locks (omega arith) g.locks rows.locks; memories = g.memories; logons = rows.logons; spent = spent-objects S.objects T.objects T.handles T.threads (made-dead S.objects (new_object kind name) refl) g.spent; awaited = g.awaited; servers = servers-more (λ row. is_spent row.stage) (length S.objects) (length T.objects) T.threads S.locks S.owned S.servers (omega arith) g.servers; messages = g.messages })
     (lives-made S T (new_object kind name) h o refl refl refl g.counts (λ p. refl)) (holders-plus S T h o g.none g.held)
+
+pub sound-make : (script : Script) (S : State) (t : ObjNo) (kind : Kind) (name : List ℕ) (h : Holder) → FitsMove script t (Make kind name h) S → AreRows script S → Sound script S (moved t (Make kind name h) S) (told (Make kind name h) S)
+sound-make script S t kind name (InProcess p i) fits rows = sound-made script S t kind name (InProcess p i) fits.0 fits.1 rows
+sound-make script S t kind name (InThread u i) fits rows = sound-made script S t kind name (InThread u i) fits.0 fits.1 rows
+sound-make script S t kind name (Temp u) fits rows = sound-made script S t kind name (Temp u) fits.0 fits.1 rows
+sound-make script S t kind name (Own u) fits rows = sound-owned script S kind name u fits.0 fits.1 rows
+sound-make script S t kind name _ fits rows = absurd fits.1

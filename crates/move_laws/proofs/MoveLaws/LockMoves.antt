@@ -18,7 +18,8 @@ use Rattle.state_rows.specs.declared.locks.LockRows.{LockRows}
 use Rattle.state_rows.specs.declared.locks.Owner.{Owner}
 use Rattle.state_rows.specs.declared.locks.Unlocked.{Unlocked}
 use Rattle.state_rows.specs.declared.locks.Unlocked.TheVariants.{Level, Freed, Passed, NotOwner}
-use Rattle.state_rows.specs.LockChanges.{after_lock, after_unlock, lock_answer, passed, unlock_answer}
+use Rattle.state_rows.specs.LockChanges.{after_lock, after_unlock, lock_answer, owner_after_lock, owner_after_unlock, passed, unlock_answer}
+use Rattle.state_rows.specs.ServerRows.{IsServer, server_at}
 use Rattle.state_rows.specs.Locks.{best_waiter, is_among, owner_at, waiters_at, without}
 use Rattle.machine.specs.declared.lock_move.LockMove.{LockMove}
 use Rattle.machine.specs.declared.lock_move.LockMove.TheVariants.{Start, Lock, Unlock, Free, Leave, WaitOn, Signal}
@@ -33,7 +34,7 @@ use Rattle.machine.specs.References.{mutex_names, owed_names, same, total}
 use Rattle.machine.specs.Rows.{object_of, owed_of, owing, thread_of}
 use Rattle.machine.specs.Task.{is_returning}
 use Rattle.machine.specs.Told.{removals}
-use Rattle.machine.specs.WellFormed.{AreDuties, AreLocks, AreRows, IsAlive, owed_sweeps, part_of, sweeps_of, weight}
+use Rattle.machine.specs.WellFormed.{AreDuties, AreLocks, AreRows, IsAlive, is_spent, owed_sweeps, part_of, sweeps_of, weight}
 use Rattle.move_laws.proofs.Holders.HoldersMove.{HoldersMove, holders-none, holders-plus}
 use Rattle.move_laws.proofs.Holders.MutexRows.{rows-holding, rows-not_holding}
 use Rattle.move_laws.proofs.Lists.Totals.{inside, total_at_least}
@@ -50,16 +51,17 @@ use Rattle.move_laws.proofs.RowLaws.Duties.{duties-owing, none_owed_by, weight-o
 use Rattle.move_laws.proofs.RowLaws.LockChanges.{LockParts, MayStand}
 use Rattle.move_laws.proofs.RowLaws.LockMoves.{given_none, held_once, locks-again, locks-freed, locks-given, locks-leave, locks-level, locks-not_owner, locks-signal, locks-start, locks-taken, locks-wait, locks-waits, none_held}
 use Rattle.move_laws.proofs.RowLaws.Locks.{thread_inside}
+use Rattle.move_laws.proofs.RowLaws.ServersKept.{servers-locks, unlocked-set, unowned-locked, unowned-other}
 
 -- the parts of a state that such a move changes
 abbrev parts : State → LockParts
 parts S = record { rows = S.locks; mutexes = S.mutexes; owed = S.owed }
 
 -- the rows of mutexes and semaphores change alone
-sound-alone : (script : Script) (S : State) (new : LockRows) → AreLocks (length S.objects) S.threads S.mutexes S.owed new → AreRows script S → Sound script S (record S { locks = new }) []
-sound-alone script S new locks rows =
+sound-alone : (script : Script) (S : State) (new : LockRows) → AreLocks (length S.objects) S.threads S.mutexes S.owed new → ((o : ObjNo) → IsServer S.servers o → owner_at new o ≡ None) → AreRows script S → Sound script S (record S { locks = new }) []
+sound-alone script S new locks unlocked rows =
     let T : State = record S { locks = new } in
-    sound-of script S T [] rows (record { handles_long = refl; threads_long = refl; owed_long = refl; objects_few = rows.sized.objects_few; tables = rows.tables; threads = rows.threads; duties = rows.duties; nano = rows.nano; deferred = rows.deferred; requests = rows.requests; locks = locks; memories = rows.memories; logons = rows.logons; spent = rows.spent; awaited = rows.awaited })
+    sound-of script S T [] rows (record { handles_long = refl; threads_long = refl; owed_long = refl; objects_few = rows.sized.objects_few; tables = rows.tables; threads = rows.threads; duties = rows.duties; nano = rows.nano; deferred = rows.deferred; requests = rows.requests; locks = locks; memories = rows.memories; logons = rows.logons; spent = rows.spent; awaited = rows.awaited; servers = servers-locks (λ row. is_spent row.stage) (length S.objects) S.threads S.locks new S.owned S.servers unlocked rows.servers; messages = rows.messages })
     (lives-none S T refl (λ o. refl) (λ o. refl)) (holders-none S T (λ g x. refl))
 
 -- that a thread takes or gives a mutex tells of no reference and no death
@@ -74,13 +76,14 @@ silent-pass S t w o = record { quiet = record { minuses = λ p. refl; deaths = �
 
 -- it is told before a change
 sound-told : (script : Script) (S T : State) (es fs : List Effect) → IsSilent S es → ((p : ObjNo) → removals fs p ≡ 0) → AreRows script S → Sound script S T fs → Sound script S T (es ++ fs)
-sound-told script S T es fs quiet none rows sound = sound-then script S S T es fs (sound-rest script S S.nano S.deferred S.requests S.logons S.memories es quiet rows.nano rows.deferred rows.requests rows.logons rows.memories rows.awaited rows) sound none
+sound-told script S T es fs quiet none rows sound = sound-then script S S T es fs (sound-rest script S S.nano S.deferred S.requests S.logons S.memories es quiet rows.nano rows.deferred rows.requests rows.logons rows.memories rows.awaited rows.messages rows) sound none
 
 -- mutexes, duties and the rows of mutexes and semaphores change
 record ArePassed (script : Script) (S : State) (mutexes : List (List ObjNo)) (owed : List (List Owed)) (new : LockRows) : Type 0 where
   pub long : length owed ≡ length S.owed
-  pub duties : AreDuties S.threads owed
+  pub duties : AreDuties S.threads S.servers S.messages.accepted owed
   pub locks : AreLocks (length S.objects) S.threads mutexes owed new
+  pub unlocked : (o : ObjNo) → IsServer S.servers o → owner_at new o ≡ None
   pub sweeps : (p : ObjNo) → total (total (owed_sweeps p)) owed ≡ sweeps_of S p
 
 abbrev passing : State → List (List ObjNo) → List (List Owed) → LockRows → State
@@ -103,6 +106,8 @@ sound-passed script S mutexes owed new effects h lives holders rows = sound-of s
   logons = rows.logons;
   spent = rows.spent;
   awaited = rows.awaited;
+  servers = servers-locks (λ row. is_spent row.stage) (length S.objects) S.threads S.locks new S.owned S.servers h.unlocked rows.servers;
+  messages = rows.messages;
 }) lives holders
 
 -- a mutex is taken exactly where it is free
@@ -154,8 +159,10 @@ may_stand : (S : State) (t o : ObjNo) → MayJoin S o t → MayStand S.threads S
 may_stand S t o joins = record { waits = joins.waits; paid = ap (total (owed_by (Own t) o)) joins.paid }
 
 sound-lock : (script : Script) (S : State) (t o u : ObjNo) (locked : Locked) → MayLock S o u locked → AreRows script S → Sound script S (moved t (Locks (Lock o u locked)) S) (lock_told (Lock o u locked))
-sound-lock script S t o u Again may rows = sound-alone script S _ (locks-again (length S.objects) S.threads (parts S) rows.locks rows.sized.objects_few o (alive_not_gone S.objects o may.alive).1 u) rows
-sound-lock script S t o u Waits may rows = sound-alone script S _ (locks-waits (length S.objects) S.threads (parts S) rows.locks rows.sized.objects_few o (alive_not_gone S.objects o may.alive).1 u (may_stand S u o (may.joins refl))) rows
+sound-lock script S t o u Again may rows = sound-alone script S _ (locks-again (length S.objects) S.threads (parts S) rows.locks rows.sized.objects_few o (alive_not_gone S.objects o may.alive).1 u)
+    (unlocked-set S.locks S.servers o _ (λ is none. ap (λ (w : Option Owner). owner_after_lock w u Again) none) rows.servers.unlocked) rows
+sound-lock script S t o u Waits may rows = sound-alone script S _ (locks-waits (length S.objects) S.threads (parts S) rows.locks rows.sized.objects_few o (alive_not_gone S.objects o may.alive).1 u (may_stand S u o (may.joins refl)))
+    (unlocked-set S.locks S.servers o _ (λ is none. ap (λ (w : Option Owner). owner_after_lock w u Waits) none) rows.servers.unlocked) rows
 sound-lock script S t o u Taken may rows =
     let made = (alive_not_gone S.objects o may.alive).1 in
     let free = taken_free (owner_at S.locks o) u may.answer in
@@ -166,16 +173,17 @@ sound-lock script S t o u Taken may rows =
     let few = rows.sized.objects_few in
     let none : held_in S (Own u) o ≡ 0 =
     let a = none_held (length S.objects) S.threads (parts S) rows.locks few o made free u in
-    let b = none_owed_by S.threads S.owed u (Own u) o rows.duties (λ k y own. own) (ap (total (owed_by (Own u) o)) may.paid) in omega arith in
+    let b = none_owed_by S.threads S.servers S.messages.accepted S.owed u (Own u) o rows.duties (λ k y own. own) (ap (total (owed_by (Own u) o)) may.paid) in
+    let c = unowned-other (λ row. is_spent row.stage) (length S.objects) S.threads S.locks S.owned S.servers u o may.other rows.servers in omega arith in
     sound-told script S T (Take u (Object o) ∷ []) (Plus (Own u) o ∷ []) (silent-take S u o) (λ p. refl) rows
     (sound-passed script S mutexes S.owed new (Plus (Own u) o ∷ [])
-    (record { long = refl; duties = rows.duties; locks = locks-taken (length S.objects) S.threads (parts S) rows.locks few o made u free there; sweeps = λ p. refl })
+    (record { long = refl; duties = rows.duties; locks = locks-taken (length S.objects) S.threads (parts S) rows.locks few o made u free there; unlocked = unlocked-set S.locks S.servers o _ (λ is none. let no : is_some (server_at S.servers o) ≡ false = ap is_some may.other in absurd (cc)) rows.servers.unlocked; sweeps = λ p. refl })
     (lives-plus S T (Own u) o refl (λ p. let a = count-holding S.mutexes u o p there in omega arith) (λ p. refl) may.alive)
     (holders-plus S T (Own u) o none (λ g x. let a = rows-holding S.handles S.threads S.mutexes u o there g x in omega arith)) rows)
 
 -- who gives a mutex up owes the close of its ownership
-duties-close : (script : Script) (S : State) (t o : ObjNo) → Gives S o t → total weight (owed_of S t) + 4 ≤ 12 → AreRows script S → AreDuties S.threads (owing S.owed t (Close (Own t) o ∷ []))
-duties-close script S t o may few rows = duties-owing S.threads S.owed t (Close (Own t) o ∷ []) (refl, tt) (omega arith) may.going rows.duties
+duties-close : (script : Script) (S : State) (t o : ObjNo) → Gives S o t → total weight (owed_of S t) + 4 ≤ 12 → AreRows script S → AreDuties S.threads S.servers S.messages.accepted (owing S.owed t (Close (Own t) o ∷ []))
+duties-close script S t o may few rows = duties-owing S.threads S.servers S.messages.accepted S.owed t (Close (Own t) o ∷ []) (refl, tt) (omega arith) may.going rows.duties
 
 sound-freed : (script : Script) (S : State) (t o : ObjNo) → Gives S o t → total weight (owed_of S t) + 4 ≤ 12 → AreRows script S → Sound script S (moved t (Locks (Unlock o t Freed)) S) (lock_told (Unlock o t Freed))
 sound-freed script S t o may few rows =
@@ -192,7 +200,7 @@ sound-freed script S t o may few rows =
     let sweeps : (p : ObjNo) → total (total (owed_sweeps p)) owed ≡ sweeps_of S p = λ p. let a = total-owing (owed_sweeps p) S.owed t (Close (Own t) o ∷ []) owes in omega arith in
     sound-told script S T (Give t (Object o) ∷ []) [] (silent-give S t o) (λ p. refl) rows
     (sound-passed script S mutexes owed new []
-    (record { long = length-set S.owed t.0 _; duties = duties-close script S t o may few rows; locks = locks-freed (length S.objects) S.threads (parts S) rows.locks small o may.object t own.own own.is own.thread there (may.nowhere o); sweeps = sweeps })
+    (record { long = length-set S.owed t.0 _; duties = duties-close script S t o may few rows; locks = locks-freed (length S.objects) S.threads (parts S) rows.locks small o may.object t own.own own.is own.thread there (may.nowhere o); unlocked = unlocked-set S.locks S.servers o _ (λ is none. ap (λ (w : Option Owner). owner_after_unlock w Freed) none) rows.servers.unlocked; sweeps = sweeps })
     (lives-none S T refl (λ p. let a = count-not_holding S.mutexes t o p there once in let b = total-owing (owed_names p) S.owed t (Close (Own t) o ∷ []) owes in omega arith) sweeps)
     (holders-none S T (λ g x. let a = rows-not_holding S.handles S.threads S.mutexes t o there once g x in let b = total-owing (owed_by g x) S.owed t (Close (Own t) o ∷ []) owes in omega arith)) rows)
 
@@ -218,12 +226,13 @@ sound-given script S t o w may best few rows =
     let a = given_none (length S.objects) S.threads (parts S) rows.locks small o may.object t own.own own.is own.thread there (may.nowhere o) w in
     let b = held-not_holding S.mutexes t o w o there once in
     let c = if_not (t.0 == w.0) (same o o) (eqb_apart t.0 w.0 apart) in
-    let d = none_owed_by S.threads S.owed w (Own w) o rows.duties (λ k y own. own) (rows.locks.paid w o among) in omega arith in
+    let d = none_owed_by S.threads S.servers S.messages.accepted S.owed w (Own w) o rows.duties (λ k y own. own) (rows.locks.paid w o among) in
+    let e = unowned-locked (λ row. is_spent row.stage) (length S.objects) S.threads S.locks S.owned S.servers w o own.own own.is rows.servers in omega arith in
     let alive : IsAlive (object_of S o) = rows.lives.alive o (let a = total_at_least (total (mutex_names o)) S.mutexes t.0 [] there in omega arith) in
     let sweeps : (p : ObjNo) → total (total (owed_sweeps p)) owed ≡ sweeps_of S p = λ p. let a = total-owing (owed_sweeps p) S.owed t (Close (Own t) o ∷ []) owes in omega arith in
     sound-told script S T (Give t (Object o) ∷ Take w (Object o) ∷ []) (Plus (Own w) o ∷ []) (silent-pass S t w o) (λ p. refl) rows
     (sound-passed script S mutexes owed new (Plus (Own w) o ∷ [])
-    (record { long = length-set S.owed t.0 _; duties = duties-close script S t o may few rows; locks = locks-given (length S.objects) S.threads (parts S) rows.locks small o may.object t own.own own.is own.thread there (may.nowhere o) w waiter; sweeps = sweeps })
+    (record { long = length-set S.owed t.0 _; duties = duties-close script S t o may few rows; locks = locks-given (length S.objects) S.threads (parts S) rows.locks small o may.object t own.own own.is own.thread there (may.nowhere o) w waiter; unlocked = unlocked-set S.locks S.servers o _ (λ is none. let held = own.is in absurd (cc)) rows.servers.unlocked; sweeps = sweeps })
     (lives-plus S T (Own w) o refl (λ p. let a = count-not_holding S.mutexes t o p there once in let b = count-holding left w o p behind in let c = total-owing (owed_names p) S.owed t (Close (Own t) o ∷ []) owes in omega arith) sweeps alive)
     (holders-plus S T (Own w) o none (λ g x. let a = rows-not_holding S.handles S.threads S.mutexes t o there once g x in let b = rows-holding S.handles S.threads left w o behind g x in let c = total-owing (owed_by g x) S.owed t (Close (Own t) o ∷ []) owes in omega arith)) rows)
 
@@ -234,8 +243,10 @@ gives_all : (S : State) (o t : ObjNo) (best : Option ObjNo) → MayFree S o t be
 gives_all S o t best may = record { object = may.object; thread = may.thread; nowhere = may.nowhere; going = may.going; owns = record { own = may.owns.owner; is = may.owns.is; thread = may.owns.thread } }
 
 sound-unlock : (script : Script) (S : State) (t o : ObjNo) (unlocked : Unlocked) → MayUnlock S o t unlocked → total weight (owed_of S t) + 4 ≤ 12 → AreRows script S → Sound script S (moved t (Locks (Unlock o t unlocked)) S) (lock_told (Unlock o t unlocked))
-sound-unlock script S t o Level may few rows = sound-alone script S _ (locks-level (length S.objects) S.threads (parts S) rows.locks rows.sized.objects_few o may.object) rows
-sound-unlock script S t o NotOwner may few rows = sound-alone script S _ (locks-not_owner (length S.objects) S.threads (parts S) rows.locks rows.sized.objects_few o may.object) rows
+sound-unlock script S t o Level may few rows = sound-alone script S _ (locks-level (length S.objects) S.threads (parts S) rows.locks rows.sized.objects_few o may.object)
+    (unlocked-set S.locks S.servers o _ (λ is none. ap (λ (w : Option Owner). owner_after_unlock w Level) none) rows.servers.unlocked) rows
+sound-unlock script S t o NotOwner may few rows = sound-alone script S _ (locks-not_owner (length S.objects) S.threads (parts S) rows.locks rows.sized.objects_few o may.object)
+    (unlocked-set S.locks S.servers o _ (λ is none. ap (λ (w : Option Owner). owner_after_unlock w NotOwner) none) rows.servers.unlocked) rows
 sound-unlock script S t o Freed may few rows =
     let owns = freed_by (owner_at S.locks o) t (best_waiter (priority_of S) S.locks o) may.answer in
     sound-freed script S t o (gives S o t Freed may owns) few rows
@@ -249,13 +260,13 @@ sound-free script S t o None may few rows = sound-freed script S t o (gives_all 
 sound-free script S t o (Some w) may few rows = sound-given script S t o w (gives_all S o t (Some w) may) (sym may.chosen) few rows
 
 pub sound-locks : (script : Script) (S : State) (t : ObjNo) (m : LockMove) → FitsMove script t (Locks m) S → total weight (owed_of S t) + lock_owes m ≤ 12 → AreRows script S → Sound script S (moved t (Locks m) S) (told (Locks m) S)
-sound-locks script S t (Start o count) fits few rows = sound-alone script S _ (locks-start (length S.objects) S.threads (parts S) rows.locks rows.sized.objects_few o fits.object count fits.few) rows
+sound-locks script S t (Start o count) fits few rows = sound-alone script S _ (locks-start (length S.objects) S.threads (parts S) rows.locks rows.sized.objects_few o fits.object count fits.few) rows.servers.unlocked rows
 sound-locks script S t (Lock o u locked) fits few rows = sound-lock script S t o u locked fits rows
 sound-locks script S t (Unlock o u unlocked) fits few rows = subst (λ (y : ObjNo). Sound script S (moved t (Locks (Unlock o y unlocked)) S) (lock_told (Unlock o y unlocked))) (sym fits.0) (sound-unlock script S t o unlocked (subst (λ (y : ObjNo). MayUnlock S o y unlocked) fits.0 fits.1) few rows)
 sound-locks script S t (Free o u best) fits few rows = subst (λ (y : ObjNo). Sound script S (moved t (Locks (Free o y best)) S) (lock_told (Free o y best))) (sym fits.0) (sound-free script S t o best (subst (λ (y : ObjNo). MayFree S o y best) fits.0 fits.1) few rows)
-sound-locks script S t (Leave u) fits few rows = sound-alone script S _ (locks-leave (length S.objects) S.threads (parts S) u rows.locks) rows
-sound-locks script S t (WaitOn o u) fits few rows = sound-alone script S _ (locks-wait (length S.objects) S.threads (parts S) rows.locks rows.sized.objects_few o (alive_not_gone S.objects o fits.alive).1 u (λ zero. may_stand S u o (fits.joins zero))) rows
-sound-locks script S t (Signal o signalled) fits few rows = sound-alone script S _ (locks-signal (length S.objects) S.threads (parts S) rows.locks rows.sized.objects_few o fits.object signalled) rows
+sound-locks script S t (Leave u) fits few rows = sound-alone script S _ (locks-leave (length S.objects) S.threads (parts S) u rows.locks) rows.servers.unlocked rows
+sound-locks script S t (WaitOn o u) fits few rows = sound-alone script S _ (locks-wait (length S.objects) S.threads (parts S) rows.locks rows.sized.objects_few o (alive_not_gone S.objects o fits.alive).1 u (λ zero. may_stand S u o (fits.joins zero))) rows.servers.unlocked rows
+sound-locks script S t (Signal o signalled) fits few rows = sound-alone script S _ (locks-signal (length S.objects) S.threads (parts S) rows.locks rows.sized.objects_few o fits.object signalled) rows.servers.unlocked rows
 
 -- what such a move adds to the weight of what its thread owes
 close_weight : (owed : List (List Owed)) (t u o : ObjNo) → u ≡ t → total weight (get_or (owing owed u (Close (Own u) o ∷ [])) t.0 []) ≤ total weight (get_or owed t.0 []) + 4

@@ -51,4 +51,4 @@ nano_silent S (Give t f) = record { quiet = record { minuses = λ p. refl; death
 nano_silent S _ = silent S
 
 pub sound-nano : (script : Script) (S : State) (t : ObjNo) (m : NanoMove) → FitsMove script t (Nano m) S → AreRows script S → Sound script S (moved t (Nano m) S) (told (Nano m) S)
-sound-nano script S t m fits rows = sound-rest script S (nano_moved m S.nano) S.deferred S.requests S.logons S.memories (nano_told m) (nano_silent S m) (synchronized-nano script S m fits.1 rows.nano) rows.deferred rows.requests rows.logons rows.memories rows.awaited rows
+sound-nano script S t m fits rows = sound-rest script S (nano_moved m S.nano) S.deferred S.requests S.logons S.memories (nano_told m) (nano_silent S m) (synchronized-nano script S m fits.1 rows.nano) rows.deferred rows.requests rows.logons rows.memories rows.awaited rows.messages rows

@@ -1,7 +1,7 @@
--- Moves that change a thread's row, and no reference: a find, another step, a register, a wait and its end, a priority; and a
--- miss and a fill.
-use Rattle.std.proofs.Common.{◌≡◌, ◌⊎◌, inl, inr, ℕ, ◌+◌, ◌<◌, Bool, true, List, [], ◌∷◌, length, get_or, arith, refl, sym, subst, ap, ◌∙◌, Option, Some, None}
-use Rattle.std.specs.Prelude.{option_map, if◌then◌else◌, slice_set}
+-- Moves that change a thread's row, and no reference: a find, a number that is kept, another step, a register, a wait and its end, a priority;
+-- and a miss and a fill.
+use Rattle.std.proofs.Common.{◌≡◌, ◌⊎◌, inl, inr, ℕ, ◌+◌, ◌<◌, ◌≤◌, Bool, true, List, [], ◌∷◌, length, get_or, arith, refl, sym, subst, ap, ◌∙◌, Option, Some, None}
+use Rattle.std.specs.Prelude.{option_map, if◌then◌else◌}
 use Rattle.std.proofs.lemmas.Bool.{cases_Bool, cases_eq}
 use Rattle.std.proofs.lemmas.List.{length-set}
 use Rattle.sym_base.specs.declared.number.ObjNo.{ObjNo}
@@ -11,32 +11,38 @@ use Rattle.entry_log.specs.declared.effect.Holder.TheVariants.{Temp, Link}
 use Rattle.entry_log.specs.declared.effect.Effect.{Effect}
 use Rattle.entry_log.specs.declared.effect.Effect.TheVariants.{Seek, Missed}
 use Rattle.entry_log.specs.declared.step.Part.{Part}
+use Rattle.entry_log.specs.declared.step.Part.TheVariants.{Send}
 use Rattle.state_rows.specs.declared.deferred.DeferredRows.{DeferredRows}
 use Rattle.state_rows.specs.declared.nano.NanoRows.{NanoRows}
 use Rattle.state_rows.specs.declared.requests.RequestRows.{RequestRows}
-use Rattle.machine.specs.declared.moves.Move.TheVariants.{Find, Miss, GoOn, Write, Wait, Wake, SetPriority, Fill}
+use Rattle.machine.specs.declared.moves.Move.TheVariants.{Find, Miss, GoOn, Keep, Write, WriteMessage, Wait, Wake, SetPriority, Fill}
 use Rattle.state_rows.specs.declared.thread.Waiting.{Waiting}
 use Rattle.state_rows.specs.declared.thread.Waiting.TheVariants as waiting
 use Rattle.state_rows.specs.declared.thread.ThreadRow.{ThreadRow}
 use Rattle.machine.specs.declared.state.State.{State}
 use Rattle.machine.specs.Rows.{thread_of, with_row}
 use Rattle.machine.specs.Memory.{filled, with_memory}
-use Rattle.machine.specs.Moves.{moved, told, with_found, with_waiting, with_priority}
+use Rattle.machine.specs.Moves.{moved, told, with_found, with_kept, with_message, with_part, with_register, with_waiting, with_priority}
 use Rattle.machine.specs.References.{thread_names, count_of, pluses, stage_holds}
 use Rattle.machine.specs.Told.{finds}
 use Rattle.machine.specs.Holding.{is_holder, held_after_all, EachFitsHolders, link_names}
 use Rattle.machine.specs.HeldIn.{held_in, use_names}
 use Rattle.machine.specs.Task.{instructions_of, is_returning}
 use Rattle.machine.specs.Fits.{FitsMove, IsAtInstruction, WaitsNowhere}
-use Rattle.machine.specs.WellFormed.{IsThread, AreSynchronized, AreCalls, AreLogons, AreMemories, AreRequests, AreRows, part_of, AreSpent, AreAwaited, is_spent}
+use Rattle.machine.specs.FitsServers.{IsUncalled, MaySend}
+use Rattle.machine.specs.Serving.{AreMessages, AreServers, numbers_left, sending_bit, sessions_there, sessions_used}
+use Rattle.machine.specs.WellFormed.{IsThread, AreSynchronized, AreCalls, AreLogons, AreMemories, AreRequests, AreRows, part_of, AreSpent, AreAwaited, IsUntold, is_spent}
 use Rattle.move_laws.proofs.Lives.Kinds.{IsQuiet, lives-quiet}
 use Rattle.move_laws.proofs.Holders.ThreadRows.{row_holds, rows-with_row, row-other}
+use Rattle.move_laws.proofs.Lists.Totals.{total-with}
 use Rattle.move_laws.proofs.References.Counts.{count-with_row, kernel-with_row}
 use Rattle.move_laws.proofs.References.Same.{same_is}
 use Rattle.move_laws.proofs.RowLaws.Threads.{KeepsThread, length-with_row, threads-with_row, none-with_row}
 use Rattle.move_laws.proofs.RowLaws.Duties.{IsPaidIn, paid-with_row, duties-threads}
 use Rattle.move_laws.proofs.RowLaws.Locks.{LeavesLocks, leaves-nowhere, leaves-with_row, locks-left}
 use Rattle.move_laws.proofs.RowLaws.Memories.{memories-filled, memories-with_row}
+use Rattle.move_laws.proofs.RowLaws.MessagesKept.{KeepsMessages, messages-kept, messages-with_row, fewer-with_row}
+use Rattle.move_laws.proofs.RowLaws.ServersKept.{servers-kept}
 use Rattle.move_laws.proofs.RowLaws.Synchronized.{synchronized-with_row, synchronized-unheld}
 use Rattle.move_laws.proofs.MoveLaws.Sound.{Sound, sound-of}
 use Rattle.move_laws.proofs.RowLaws.Spent.{spent-going, spent-kept}
@@ -64,8 +70,17 @@ names-map : (f : ThreadRow → ThreadRow) (x : Option ThreadRow) (o : ObjNo) →
 names-map f None o h = (refl, refl, refl)
 names-map f (Some row) o h = let a = h.uses row in let b = h.link row in (cc, cc, cc)
 
-pub sound-row : (script : Script) (S : State) (u : ObjNo) (f : ThreadRow → ThreadRow) (effects : List Effect) → KeepsReferences f → ((row : ThreadRow) → thread_of S u ≡ Some row → stage_holds (f row).stage ≡ stage_holds row.stage) → ((row : ThreadRow) → thread_of S u ≡ Some row → IsThread script (length S.threads) row → KeepsThread script (length S.threads) row (f row)) → ((k : ℕ) → (get_or S.owed k [] ≡ []) ⊎ IsPaidIn S.threads (with_row S.threads u f) k) → IsSilent S effects → AreSynchronized script (with_row S.threads u f) S.nano → LeavesLocks S.threads (with_row S.threads u f) S.owed S.owed S.locks → AreSpent S.objects S.handles (with_row S.threads u f) → AreAwaited (with_row S.threads u f) S.requests S.logons → AreRows script S → Sound script S (record S { threads = with_row S.threads u f }) effects
-sound-row script S u f effects keeps holds thread paid quiet nano leaves spent awaited rows =
+-- a change that leaves its stage leaves the rows of servers
+pub serving-kept : (script : Script) (S : State) (u : ObjNo) (f : ThreadRow → ThreadRow) → ((row : ThreadRow) → (f row).stage ≡ row.stage) → AreRows script S → AreServers (λ row. is_spent row.stage) (length S.objects) (with_row S.threads u f) S.locks S.owned S.servers
+serving-kept script S u f stage rows = servers-kept (λ row. is_spent row.stage) (length S.objects) S.threads S.locks S.owned S.servers u f stage (λ row. ap is_spent (stage row)) rows.servers
+
+-- and one that begins no sending leaves those of messages
+pub messaging-kept : (script : Script) (S : State) (u : ObjNo) (f : ThreadRow → ThreadRow) → KeepsMessages f → AreRows script S → AreMessages (IsUntold S.requests S.logons) (with_row S.threads u f) S.servers S.messages
+messaging-kept script S u f keeps rows = messages-kept (IsUntold S.requests S.logons) S.threads S.servers S.messages u f keeps rows.messages
+
+pub sound-row : (script : Script) (S : State) (u : ObjNo) (f : ThreadRow → ThreadRow) (effects : List Effect) → KeepsReferences f → ((row : ThreadRow) → thread_of S u ≡ Some row → stage_holds (f row).stage ≡ stage_holds row.stage) → ((row : ThreadRow) → thread_of S u ≡ Some row → IsThread script (length S.threads) row → KeepsThread script (length S.threads) row (f row)) → ((k : ℕ) → (get_or S.owed k [] ≡ []) ⊎ IsPaidIn S.threads (with_row S.threads u f) k) → IsSilent S effects → AreSynchronized script (with_row S.threads u f) S.nano → LeavesLocks S.threads (with_row S.threads u f) S.owed S.owed S.locks → AreSpent S.objects S.handles (with_row S.threads u f) → AreAwaited (with_row S.threads u f) S.requests S.logons
+    → AreServers (λ row. is_spent row.stage) (length S.objects) (with_row S.threads u f) S.locks S.owned S.servers → AreMessages (IsUntold S.requests S.logons) (with_row S.threads u f) S.servers S.messages → AreRows script S → Sound script S (record S { threads = with_row S.threads u f }) effects
+sound-row script S u f effects keeps holds thread paid quiet nano leaves spent awaited servers messages rows =
     let T : State = record S { threads = with_row S.threads u f } in
     let old = thread_of S u in
     let counts : (o : ObjNo) → count_of T o ≡ count_of S o = λ o.
@@ -83,7 +98,7 @@ sound-row script S u f effects keeps holds thread paid quiet nano leaves spent a
       objects_few = rows.sized.objects_few;
       tables = rows.tables;
       threads = threads-with_row script S.threads u f thread rows.threads;
-      duties = duties-threads S.threads (with_row S.threads u f) S.owed paid rows.duties;
+      duties = duties-threads S.threads (with_row S.threads u f) S.servers S.messages.accepted S.owed paid rows.duties;
       nano = nano;
       deferred = rows.deferred;
       requests = rows.requests;
@@ -92,6 +107,8 @@ sound-row script S u f effects keeps holds thread paid quiet nano leaves spent a
       logons = rows.logons;
       spent = spent;
       awaited = awaited;
+      servers = servers;
+      messages = messages;
     })
     (lives-quiet S T effects refl quiet.quiet (λ o. let a = counts o in let b = quiet.pluses o in let c = quiet.quiet.minuses o in omega arith) (λ o. refl) (λ o h. let b = quiet.pluses o in absurd (omega arith)) quiet.found)
     (record { fits = quiet.fits; moves = λ g x. quiet.after g x ∙ sym (held g x) })
@@ -106,12 +123,22 @@ sound-find script S t u o fits rows = sound-row script S u (with_found o) (Seek 
       found = λ p h. subst (λ (y : ObjNo). y.0 < length S.objects) (same_is o p (omega arith)) fits;
       fits = (tt, tt);
       after = λ g x. refl;
-    }) (synchronized-with_row script S.threads u (with_found o) S.nano (λ row h. h) rows.nano) (leaves-with_row S.threads u (with_found o) S.owed S.locks (λ row. refl)) (spent-kept S.objects S.handles S.threads u (with_found o) (record { stage = λ row. refl; unused = λ row e. e; waits = λ row e. e; going = λ row e. e; link = λ row e. e }) rows.spent) (awaited-kept S.threads u (with_found o) S.requests S.logons (λ row. refl) (λ row. refl) rows.awaited) rows
+    }) (synchronized-with_row script S.threads u (with_found o) S.nano (λ row h. h) rows.nano) (leaves-with_row S.threads u (with_found o) S.owed S.locks (λ row. refl)) (spent-kept S.objects S.handles S.threads u (with_found o) (record { stage = λ row. refl; unused = λ row e. e; waits = λ row e. e; going = λ row e. e; link = λ row e. e }) rows.spent) (awaited-kept S.threads u (with_found o) S.requests S.logons (λ row. refl) (λ row. refl) rows.awaited) (serving-kept script S u (with_found o) (λ row. refl) rows) (messaging-kept script S u (with_found o) (record { live = λ row live. live; waits = λ row live. refl; sends = λ row. omega arith; left = λ row. omega arith }) rows) rows
 
 pub sound-write : (script : Script) (S : State) (t u : ObjNo) (x value : ℕ) → FitsMove script t (Write u x value) S → AreRows script S → Sound script S (moved t (Write u x value) S) (told (Write u x value) S)
-sound-write script S t u x value fits rows = sound-row script S u (λ row. record row { registers = slice_set row.registers x value }) [] (record { link = λ row. refl; uses = λ row. refl }) (λ row is. refl)
+sound-write script S t u x value fits rows = sound-row script S u (with_register x value) [] (record { link = λ row. refl; uses = λ row. refl }) (λ row is. refl)
     (λ row is h. record { thread = record { process = h.process; link = h.link; priority = h.priority; next_instruction = h.next_instruction; unused = h.unused; registers = length-set row.registers x value ∙ h.registers; declared = h.declared; returns = h.returns }; process = refl; role = refl })
-    (λ k. inr (paid-with_row S.threads u (λ row. record row { registers = slice_set row.registers x value }) (λ row h. h) k)) (silent S) (synchronized-with_row script S.threads u (λ row. record row { registers = slice_set row.registers x value }) S.nano (λ row h. h) rows.nano) (leaves-with_row S.threads u (λ row. record row { registers = slice_set row.registers x value }) S.owed S.locks (λ row. refl)) (spent-kept S.objects S.handles S.threads u (λ row. record row { registers = slice_set row.registers x value }) (record { stage = λ row. refl; unused = λ row e. e; waits = λ row e. e; going = λ row e. e; link = λ row e. e }) rows.spent) (awaited-kept S.threads u (λ row. record row { registers = slice_set row.registers x value }) S.requests S.logons (λ row. refl) (λ row. refl) rows.awaited) rows
+    (λ k. inr (paid-with_row S.threads u (with_register x value) (λ row h. h) k)) (silent S) (synchronized-with_row script S.threads u (with_register x value) S.nano (λ row h. h) rows.nano) (leaves-with_row S.threads u (with_register x value) S.owed S.locks (λ row. refl)) (spent-kept S.objects S.handles S.threads u (with_register x value) (record { stage = λ row. refl; unused = λ row e. e; waits = λ row e. e; going = λ row e. e; link = λ row e. e }) rows.spent) (awaited-kept S.threads u (with_register x value) S.requests S.logons (λ row. refl) (λ row. refl) rows.awaited) (serving-kept script S u (with_register x value) (λ row. refl) rows) (messaging-kept script S u (with_register x value) (record { live = λ row live. live; waits = λ row live. refl; sends = λ row. omega arith; left = λ row. omega arith }) rows) rows
+
+pub sound-keep : (script : Script) (S : State) (t u : ObjNo) (number : ℕ) → AreRows script S → Sound script S (moved t (Keep u number) S) (told (Keep u number) S)
+sound-keep script S t u number rows = sound-row script S u (with_kept number) [] (record { link = λ row. refl; uses = λ row. refl }) (λ row is. refl)
+    (λ row is h. record { thread = record { process = h.process; link = h.link; priority = h.priority; next_instruction = h.next_instruction; unused = h.unused; registers = h.registers; declared = h.declared; returns = h.returns }; process = refl; role = refl })
+    (λ k. inr (paid-with_row S.threads u (with_kept number) (λ row h. h) k)) (silent S) (synchronized-with_row script S.threads u (with_kept number) S.nano (λ row h. h) rows.nano) (leaves-with_row S.threads u (with_kept number) S.owed S.locks (λ row. refl)) (spent-kept S.objects S.handles S.threads u (with_kept number) (record { stage = λ row. refl; unused = λ row e. e; waits = λ row e. e; going = λ row e. e; link = λ row e. e }) rows.spent) (awaited-kept S.threads u (with_kept number) S.requests S.logons (λ row. refl) (λ row. refl) rows.awaited) (serving-kept script S u (with_kept number) (λ row. refl) rows) (messaging-kept script S u (with_kept number) (record { live = λ row live. live; waits = λ row live. refl; sends = λ row. omega arith; left = λ row. omega arith }) rows) rows
+
+pub sound-write_message : (script : Script) (S : State) (t u : ObjNo) (y number : ℕ) → AreRows script S → Sound script S (moved t (WriteMessage u y number) S) (told (WriteMessage u y number) S)
+sound-write_message script S t u y number rows = sound-row script S u (with_message y number) [] (record { link = λ row. refl; uses = λ row. refl }) (λ row is. refl)
+    (λ row is h. record { thread = record { process = h.process; link = h.link; priority = h.priority; next_instruction = h.next_instruction; unused = h.unused; registers = h.registers; declared = h.declared; returns = h.returns }; process = refl; role = refl })
+    (λ k. inr (paid-with_row S.threads u (with_message y number) (λ row h. h) k)) (silent S) (synchronized-with_row script S.threads u (with_message y number) S.nano (λ row h. h) rows.nano) (leaves-with_row S.threads u (with_message y number) S.owed S.locks (λ row. refl)) (spent-kept S.objects S.handles S.threads u (with_message y number) (record { stage = λ row. refl; unused = λ row e. e; waits = λ row e. e; going = λ row e. e; link = λ row e. e }) rows.spent) (awaited-kept S.threads u (with_message y number) S.requests S.logons (λ row. refl) (λ row. refl) rows.awaited) (serving-kept script S u (with_message y number) (λ row. refl) rows) (messaging-kept script S u (with_message y number) (record { live = λ row live. live; waits = λ row live. refl; sends = λ row. omega arith; left = λ row. omega arith }) rows) rows
 
 -- a thread that goes on to a return is at its instruction
 returning_at : (script : Script) (S : State) (u : ObjNo) (row : ThreadRow) {returns : Bool} → thread_of S u ≡ Some row → (returns ≡ true → IsAtInstruction script S u) → returns ≡ true → row.next_instruction < length (instructions_of script row.role)
@@ -119,49 +146,64 @@ returning_at script S u row is at returns =
     let here = at returns in
     let same : here.row ≡ row = let a = here.is in cc in subst (λ (r : ThreadRow). r.next_instruction < length (instructions_of script r.role)) same here.next
 
+-- so begins a sending at most
+begins_sending : (S : State) (u : ObjNo) (part : Part) → MaySend (Some part) S → sessions_used S.threads S.servers S.messages.outstanding ≤ sessions_there S.servers → sessions_used (with_row S.threads u (with_part part)) S.servers S.messages.outstanding ≤ sessions_there S.servers
+begins_sending S u Send spare few =
+    let a = total-with sending_bit (option_map (with_part Send)) None S.threads u.0 refl in let b = one (thread_of S u) in omega arith
+  where
+    one : (x : Option ThreadRow) → sending_bit (option_map (with_part Send) x) ≤ 1
+    one None = omega arith
+    one (Some row) = omega arith
+begins_sending S u part spare few = let a = fewer-with_row sending_bit S.threads u (with_part part) (λ row is. omega arith) in omega arith
+
 pub sound-go_on : (script : Script) (S : State) (t u : ObjNo) (part : Part) → FitsMove script t (GoOn u part) S → AreRows script S → Sound script S (moved t (GoOn u part) S) (told (GoOn u part) S)
 sound-go_on script S t u part fits rows =
     let f : ThreadRow → ThreadRow = λ row. record row { part = Some part } in
     sound-row script S u f [] (record { link = λ row. refl; uses = λ row. refl }) (λ row is. refl)
-    (λ row is h. record { thread = record { process = h.process; link = h.link; priority = h.priority; next_instruction = h.next_instruction; unused = fits.unused row is; registers = h.registers; declared = h.declared; returns = returning_at script S u row is fits.at }; process = refl; role = refl })
+    (λ row is h. record { thread = record { process = h.process; link = h.link; priority = h.priority; next_instruction = h.next_instruction; unused = fits.0.unused row is; registers = h.registers; declared = h.declared; returns = returning_at script S u row is fits.0.at }; process = refl; role = refl })
     (λ k. elim (cases_Bool (is_returning (Some part))) as (λ _. (get_or S.owed k [] ≡ []) ⊎ IsPaidIn S.threads (with_row S.threads u f) k) [
       | inr going ↦ inr (paid-with_row S.threads u f (λ row h. going) k)
       | inl returns ↦ elim (cases_eq u.0 k) as (λ _. (get_or S.owed k [] ≡ []) ⊎ IsPaidIn S.threads (with_row S.threads u f) k) [
-        | inl at ↦ inl (ap (λ (n : ℕ). get_or S.owed n []) (sym at) ∙ fits.paid returns)
+        | inl at ↦ inl (ap (λ (n : ℕ). get_or S.owed n []) (sym at) ∙ fits.0.paid returns)
         | inr apart ↦ inr (record {
+          long = length-with_row S.threads u f;
           none = none-with_row S.threads u f;
           going = λ h. ap (λ (y : Option ThreadRow). is_returning (part_of y)) (row-other S.threads u f k apart) ∙ h;
         })
       ]
-    ]) (silent S) (synchronized-with_row script S.threads u f S.nano (λ row h. h) rows.nano) (leaves-with_row S.threads u f S.owed S.locks (λ row. refl)) (spent-going S.objects S.handles S.threads u f fits.unspent (λ row e. e) rows.spent) (awaited-kept S.threads u f S.requests S.logons (λ row. refl) (λ row. refl) rows.awaited) rows
+    ]) (silent S) (synchronized-with_row script S.threads u f S.nano (λ row h. h) rows.nano) (leaves-with_row S.threads u f S.owed S.locks (λ row. refl)) (spent-going S.objects S.handles S.threads u f fits.0.unspent (λ row e. e) rows.spent) (awaited-kept S.threads u f S.requests S.logons (λ row. refl) (λ row. refl) rows.awaited)
+    (serving-kept script S u f (λ row. refl) rows) (messages-with_row (IsUntold S.requests S.logons) S.threads S.servers S.messages u f (λ row is called was live. was live) (begins_sending S u part fits.1 rows.messages.few)
+    (fewer-with_row numbers_left S.threads u f (λ row is. let a = fits.0.ends row is in omega arith)) rows.messages) rows
 
 -- a change of what a thread waits for that stands among no waiters
-sound-waiting : (script : Script) (S : State) (u : ObjNo) (what : Waiting) → WaitsNowhere S u → AreSynchronized script (with_row S.threads u (with_waiting what)) S.nano → AreSpent S.objects S.handles (with_row S.threads u (with_waiting what)) → ((row : ThreadRow) (o : ObjNo) → thread_of S u ≡ Some row → what ≡ waiting.Lock o → row.stage ≡ Live) → AreRows script S → Sound script S (record S { threads = with_row S.threads u (with_waiting what) }) []
-sound-waiting script S u what nowhere nano spent live rows = sound-row script S u (with_waiting what) [] (record { link = λ row. refl; uses = λ row. refl }) (λ row is. refl)
+sound-waiting : (script : Script) (S : State) (u : ObjNo) (what : Waiting) → WaitsNowhere S u → IsUncalled S u → AreSynchronized script (with_row S.threads u (with_waiting what)) S.nano → AreSpent S.objects S.handles (with_row S.threads u (with_waiting what)) → ((row : ThreadRow) (o : ObjNo) → thread_of S u ≡ Some row → what ≡ waiting.Lock o → row.stage ≡ Live) → AreRows script S → Sound script S (record S { threads = with_row S.threads u (with_waiting what) }) []
+sound-waiting script S u what nowhere uncalled nano spent live rows = sound-row script S u (with_waiting what) [] (record { link = λ row. refl; uses = λ row. refl }) (λ row is. refl)
     (λ row is h. record { thread = record { process = h.process; link = h.link; priority = h.priority; next_instruction = h.next_instruction; unused = h.unused; registers = h.registers; declared = h.declared; returns = h.returns }; process = refl; role = refl })
-    (λ k. inr (paid-with_row S.threads u (with_waiting what) (λ row h. h) k)) (silent S) nano (leaves-nowhere S.threads u (with_waiting what) S.owed S.locks nowhere) spent (awaited-with_row S.threads u (with_waiting what) S.requests S.logons (λ row is live. live) (λ row o is was e. live row o is e) rows.awaited) rows
+    (λ k. inr (paid-with_row S.threads u (with_waiting what) (λ row h. h) k)) (silent S) nano (leaves-nowhere S.threads u (with_waiting what) S.owed S.locks nowhere) spent (awaited-with_row S.threads u (with_waiting what) S.requests S.logons (λ row is live. live) (λ row o is was e. live row o is e) rows.awaited) (serving-kept script S u (with_waiting what) (λ row. refl) rows)
+    (messages-with_row (IsUntold S.requests S.logons) S.threads S.servers S.messages u (with_waiting what) (λ row is called was live. absurd (let none = uncalled row is live in omega arith))
+    (let a = fewer-with_row sending_bit S.threads u (with_waiting what) (λ row is. omega arith) in let b = rows.messages.few in omega arith) (fewer-with_row numbers_left S.threads u (with_waiting what) (λ row is. omega arith)) rows.messages) rows
 
 pub sound-wait : (script : Script) (S : State) (t u : ObjNo) (what : Waiting) → FitsMove script t (Wait u what) S → AreRows script S → Sound script S (moved t (Wait u what) S) (told (Wait u what) S)
-sound-wait script S t u what fits rows = sound-waiting script S u what fits.1 (synchronized-unheld script S.threads u (with_waiting what) S.nano fits.0 rows.nano) (spent-going S.objects S.handles S.threads u (with_waiting what) (λ row is. ap is_spent (fits.2 row is)) (λ row e. e) rows.spent) (λ row o is e. fits.2 row is) rows
+sound-wait script S t u what fits rows = sound-waiting script S u what fits.1 fits.3 (synchronized-unheld script S.threads u (with_waiting what) S.nano fits.0 rows.nano) (spent-going S.objects S.handles S.threads u (with_waiting what) (λ row is. ap is_spent (fits.2 row is)) (λ row e. e) rows.spent) (λ row o is e. fits.2 row is) rows
 
 pub sound-wake : (script : Script) (S : State) (t u : ObjNo) → FitsMove script t (Wake u) S → AreRows script S → Sound script S (moved t (Wake u) S) (told (Wake u) S)
-sound-wake script S t u fits rows = sound-waiting script S u waiting.Nothing fits (synchronized-with_row script S.threads u (with_waiting waiting.Nothing) S.nano (λ row h. (refl, h.1, h.2)) rows.nano) (spent-kept S.objects S.handles S.threads u (with_waiting waiting.Nothing) (record { stage = λ row. refl; unused = λ row e. e; waits = λ row e. refl; going = λ row e. e; link = λ row e. e }) rows.spent) (λ row o is e. absurd (cc)) rows
+sound-wake script S t u fits rows = sound-waiting script S u waiting.Nothing fits.0 fits.1 (synchronized-with_row script S.threads u (with_waiting waiting.Nothing) S.nano (λ row h. (refl, h.1, h.2)) rows.nano) (spent-kept S.objects S.handles S.threads u (with_waiting waiting.Nothing) (record { stage = λ row. refl; unused = λ row e. e; waits = λ row e. refl; going = λ row e. e; link = λ row e. e }) rows.spent) (λ row o is e. absurd (cc)) rows
 
 pub sound-priority : (script : Script) (S : State) (t u : ObjNo) (priority : ℕ) → FitsMove script t (SetPriority u priority) S → AreRows script S → Sound script S (moved t (SetPriority u priority) S) (told (SetPriority u priority) S)
 sound-priority script S t u priority fits rows = sound-row script S u (with_priority priority) [] (record { link = λ row. refl; uses = λ row. refl }) (λ row is. refl)
     (λ row is h. record { thread = record { process = h.process; link = h.link; priority = fits; next_instruction = h.next_instruction; unused = h.unused; registers = h.registers; declared = h.declared; returns = h.returns }; process = refl; role = refl })
-    (λ k. inr (paid-with_row S.threads u (with_priority priority) (λ row h. h) k)) (silent S) (synchronized-with_row script S.threads u (with_priority priority) S.nano (λ row h. h) rows.nano) (leaves-with_row S.threads u (with_priority priority) S.owed S.locks (λ row. refl)) (spent-kept S.objects S.handles S.threads u (with_priority priority) (record { stage = λ row. refl; unused = λ row e. e; waits = λ row e. e; going = λ row e. e; link = λ row e. e }) rows.spent) (awaited-kept S.threads u (with_priority priority) S.requests S.logons (λ row. refl) (λ row. refl) rows.awaited) rows
+    (λ k. inr (paid-with_row S.threads u (with_priority priority) (λ row h. h) k)) (silent S) (synchronized-with_row script S.threads u (with_priority priority) S.nano (λ row h. h) rows.nano) (leaves-with_row S.threads u (with_priority priority) S.owed S.locks (λ row. refl)) (spent-kept S.objects S.handles S.threads u (with_priority priority) (record { stage = λ row. refl; unused = λ row e. e; waits = λ row e. e; going = λ row e. e; link = λ row e. e }) rows.spent) (awaited-kept S.threads u (with_priority priority) S.requests S.logons (λ row. refl) (λ row. refl) rows.awaited) (serving-kept script S u (with_priority priority) (λ row. refl) rows) (messaging-kept script S u (with_priority priority) (record { live = λ row live. live; waits = λ row live. refl; sends = λ row. omega arith; left = λ row. omega arith }) rows) rows
 
 -- a change of the rows of threads that synchronize, of deferred function calls, of requests and of memories leaves all else
-pub sound-rest : (script : Script) (S : State) (nano : NanoRows) (calls : DeferredRows) (requests : RequestRows) (logons : List (List (ObjNo × ℕ))) (memories : List (Option (List ℕ))) (effects : List Effect) → IsSilent S effects → AreSynchronized script S.threads nano → AreCalls script calls → AreRequests (length S.threads) requests → AreLogons (length S.threads) requests logons → AreMemories S.threads memories → AreAwaited S.threads requests logons → AreRows script S → Sound script S (record S { nano = nano; deferred = calls; requests = requests; logons = logons; memories = memories }) effects
-sound-rest script S nano calls requests logons memories effects quiet sound called requested logged kept awaited rows =
+pub sound-rest : (script : Script) (S : State) (nano : NanoRows) (calls : DeferredRows) (requests : RequestRows) (logons : List (List (ObjNo × ℕ))) (memories : List (Option (List ℕ))) (effects : List Effect) → IsSilent S effects → AreSynchronized script S.threads nano → AreCalls script calls → AreRequests (length S.threads) requests → AreLogons (length S.threads) requests logons → AreMemories S.threads memories → AreAwaited S.threads requests logons → AreMessages (IsUntold requests logons) S.threads S.servers S.messages → AreRows script S → Sound script S (record S { nano = nano; deferred = calls; requests = requests; logons = logons; memories = memories }) effects
+sound-rest script S nano calls requests logons memories effects quiet sound called requested logged kept awaited messages rows =
     let T : State = record S { nano = nano; deferred = calls; requests = requests; logons = logons; memories = memories } in
-    sound-of script S T effects rows (record { handles_long = refl; threads_long = refl; owed_long = refl; objects_few = rows.sized.objects_few; tables = rows.tables; threads = rows.threads; duties = rows.duties; nano = sound; deferred = called; requests = requested; locks = rows.locks; logons = logged; memories = kept; spent = rows.spent; awaited = awaited })
+    sound-of script S T effects rows (record { handles_long = refl; threads_long = refl; owed_long = refl; objects_few = rows.sized.objects_few; tables = rows.tables; threads = rows.threads; duties = rows.duties; nano = sound; deferred = called; requests = requested; locks = rows.locks; logons = logged; memories = kept; spent = rows.spent; awaited = awaited; servers = rows.servers; messages = messages })
     (lives-quiet S T effects refl quiet.quiet (λ o. let b = quiet.pluses o in let c = quiet.quiet.minuses o in omega arith) (λ o. refl) (λ o h. let b = quiet.pluses o in absurd (omega arith)) quiet.found)
     (record { fits = quiet.fits; moves = quiet.after })
 
 pub sound-miss : (script : Script) (S : State) (t o : ObjNo) → AreRows script S → Sound script S (moved t (Miss o) S) (told (Miss o) S)
-sound-miss script S t o rows = sound-rest script S S.nano S.deferred S.requests S.logons S.memories (Missed o ∷ []) (record { quiet = record { minuses = λ p. refl; deaths = λ p. refl; removals = λ p. refl }; pluses = λ p. refl; found = λ p h. absurd (omega arith); fits = (tt, tt); after = λ g x. refl }) rows.nano rows.deferred rows.requests rows.logons rows.memories rows.awaited rows
+sound-miss script S t o rows = sound-rest script S S.nano S.deferred S.requests S.logons S.memories (Missed o ∷ []) (record { quiet = record { minuses = λ p. refl; deaths = λ p. refl; removals = λ p. refl }; pluses = λ p. refl; found = λ p h. absurd (omega arith); fits = (tt, tt); after = λ g x. refl }) rows.nano rows.deferred rows.requests rows.logons rows.memories rows.awaited rows.messages rows
 
 pub sound-fill : (script : Script) (S : State) (t p : ObjNo) (at long byte : ℕ) → FitsMove script t (Fill p at long byte) S → AreRows script S → Sound script S (moved t (Fill p at long byte) S) (told (Fill p at long byte) S)
-sound-fill script S t p at long byte fits rows = sound-rest script S S.nano S.deferred S.requests S.logons (with_memory S.memories p (filled at long byte)) [] (silent S) rows.nano rows.deferred rows.requests rows.logons (memories-filled S.threads S.memories p at long byte fits rows.memories) rows.awaited rows
+sound-fill script S t p at long byte fits rows = sound-rest script S S.nano S.deferred S.requests S.logons (with_memory S.memories p (filled at long byte)) [] (silent S) rows.nano rows.deferred rows.requests rows.logons (memories-filled S.threads S.memories p at long byte fits rows.memories) rows.awaited rows.messages rows

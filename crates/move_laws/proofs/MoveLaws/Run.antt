@@ -7,7 +7,7 @@ use Rattle.entry_log.specs.declared.effect.Effect.{Effect}
 use Rattle.state_rows.specs.declared.duty.Owed.{Owed}
 use Rattle.state_rows.specs.declared.duty.Owed.TheVariants.{Close, Sweep}
 use Rattle.machine.specs.declared.moves.Move.{Move}
-use Rattle.machine.specs.declared.moves.Move.TheVariants.{Make, Gain, Lose, Find, Miss, GoOn, Write, Advance, Wait, Wake, SetPriority, Nano, Deferred, Requests, Locks, Logons, Death, Fill, Pay}
+use Rattle.machine.specs.declared.moves.Move.TheVariants.{Make, Gain, Lose, Find, Miss, GoOn, Keep, Write, WriteMessage, PutDown, Advance, Wait, Wake, SetPriority, Nano, Deferred, Requests, Locks, Logons, Death, Servers, Messages, Fill, Pay}
 use Rattle.machine.specs.declared.state.State.{State}
 use Rattle.machine.specs.Rows.{owed_of}
 use Rattle.machine.specs.Moves.{moved, told, perform, tell, closed_effects, link_of, owed_by_close, owed_use, use_of}
@@ -22,10 +22,12 @@ use Rattle.move_laws.proofs.MoveLaws.NanoMoves.{sound-nano, nano_silent}
 use Rattle.move_laws.proofs.MoveLaws.CallMoves.{sound-deferred, request_silent, sound-requests, sound-logons}
 use Rattle.move_laws.proofs.MoveLaws.DeathMoves.{death_silent, death_weight, sound-death}
 use Rattle.move_laws.proofs.MoveLaws.LockMoves.{lock_removes, lock_weight, sound-locks}
-use Rattle.move_laws.proofs.MoveLaws.RowMoves.{sound-fill, sound-find, sound-miss, sound-go_on, sound-write, sound-wait, sound-wake, sound-priority}
-use Rattle.move_laws.proofs.MoveLaws.Advance.{sound-advance, use_weight}
+use Rattle.move_laws.proofs.MoveLaws.RowMoves.{sound-fill, sound-find, sound-keep, sound-miss, sound-go_on, sound-write, sound-write_message, sound-wait, sound-wake, sound-priority}
+use Rattle.move_laws.proofs.MoveLaws.Advance.{sound-advance, sound-put_down, use_weight}
 use Rattle.move_laws.proofs.MoveLaws.Gains.{sound-gain, sound-make}
 use Rattle.move_laws.proofs.MoveLaws.Closes.{close_weight}
+use Rattle.move_laws.proofs.MoveLaws.MessageMoves.{message_removes, message_weight, sound-messages}
+use Rattle.move_laws.proofs.MoveLaws.ServerMoves.{server_removes, sound-servers}
 use Rattle.move_laws.proofs.MoveLaws.Loses.{sound-lose}
 use Rattle.move_laws.proofs.MoveLaws.Pays.{sound-pay_close, sound-pay_sweep}
 
@@ -37,6 +39,11 @@ sound-move script S t (Lose h o) fits few s = sound-lose script S t h o fits few
 sound-move script S t (Find u o) fits few s = sound-find script S t u o fits s.rows
 sound-move script S t (Miss o) fits few s = sound-miss script S t o s.rows
 sound-move script S t (GoOn u part) fits few s = sound-go_on script S t u part fits s.rows
+sound-move script S t (Keep u number) fits few s = sound-keep script S t u number s.rows
+sound-move script S t (WriteMessage u y number) fits few s = sound-write_message script S t u y number s.rows
+sound-move script S t (PutDown u) fits few s = sound-put_down script S t u fits (subst (λ (y : ObjNo). total weight (owed_of S y) + 4 ≤ 12) (sym fits.0) few) (subst (λ (y : ObjNo). y.0 < length S.threads) (sym fits.0) s.inside) s.rows
+sound-move script S t (Servers m) fits few s = sound-servers script S t m fits s.rows
+sound-move script S t (Messages m) fits few s = sound-messages script S t m fits few s.rows
 sound-move script S t (Write u x value) fits few s = sound-write script S t u x value fits s.rows
 sound-move script S t (Advance u) fits few s = sound-advance script S t u fits (subst (λ (y : ObjNo). total weight (owed_of S y) + 4 ≤ 12) (sym fits.0) few) (subst (λ (y : ObjNo). y.0 < length S.threads) (sym fits.0) s.inside) s.rows
 sound-move script S t (Wait u what) fits few s = sound-wait script S t u what fits s.rows
@@ -61,6 +68,9 @@ pub weight-move : (script : Script) (S : State) (t : ObjNo) (m : Move) → FitsM
 weight-move script S t (Lose h o) fits = let a = weight-owing S.owed t (owed_by_close (is_last S o) o (link_of S o)) in let b = close_weight (is_last S o) o (link_of S o) in omega arith
 weight-move script S t (Advance u) fits = subst (λ (y : ObjNo). total weight (owed_of (moved t (Advance u) S) y) ≤ total weight (owed_of S y) + 4) fits.0
     (let a = weight-owing S.owed u (owed_use u (use_of S u)) in let b = use_weight u (use_of S u) in omega arith)
+weight-move script S t (PutDown u) fits = subst (λ (y : ObjNo). total weight (owed_of (moved t (PutDown u) S) y) ≤ total weight (owed_of S y) + 4) fits.0
+    (let a = weight-owing S.owed u (owed_use u (use_of S u)) in let b = use_weight u (use_of S u) in omega arith)
+weight-move script S t (Messages m) fits = message_weight S t m
 weight-move script S t (Locks m) fits = lock_weight script S t m fits
 weight-move script S t (Death m) fits = death_weight S t m
 weight-move script S t (Pay what) fits = absurd fits
@@ -77,6 +87,8 @@ move_removes script S t (Nano m) p fits = (nano_silent S m).quiet.removals p
 move_removes script S t (Requests m) p fits = (request_silent S m).quiet.removals p
 move_removes script S t (Locks m) p fits = lock_removes m p
 move_removes script S t (Death m) p fits = (death_silent S m).quiet.removals p
+move_removes script S t (Servers m) p fits = server_removes m p
+move_removes script S t (Messages m) p fits = message_removes m S p
 move_removes script S t (Pay what) p fits = absurd fits
 move_removes script S t _ p fits = refl
 

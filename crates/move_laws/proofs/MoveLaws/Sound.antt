@@ -6,7 +6,8 @@ use Rattle.script_types.specs.declared.script.Script.{Script}
 use Rattle.entry_log.specs.declared.effect.Effect.{Effect}
 use Rattle.machine.specs.declared.state.State.{State}
 use Rattle.machine.specs.Told.{removals}
-use Rattle.machine.specs.WellFormed.{AreTables, AreThreads, AreDuties, AreSynchronized, AreCalls, AreRequests, AreLocks, AreLogons, AreMemories, AreRows, AreSpent, AreAwaited}
+use Rattle.machine.specs.WellFormed.{AreTables, AreThreads, AreDuties, AreSynchronized, AreCalls, AreRequests, AreLocks, AreLogons, AreMemories, AreRows, AreSpent, AreAwaited, IsUntold, is_spent}
+use Rattle.machine.specs.Serving.{AreServers, AreMessages}
 use Rattle.move_laws.proofs.Lives.LivesMove.{LivesMove, lives-then, lives-kept}
 use Rattle.move_laws.proofs.Lives.Kinds.{lives-none}
 use Rattle.move_laws.proofs.Holders.HoldersMove.{HoldersMove, holders-then, holders-none}
@@ -37,7 +38,7 @@ pub record AreParts (script : Script) (S T : State) : Type 0 where
   pub objects_few : length T.objects ≤ OBJECTS
   pub tables : AreTables T.handles
   pub threads : AreThreads script T.threads
-  pub duties : AreDuties T.threads T.owed
+  pub duties : AreDuties T.threads T.servers T.messages.accepted T.owed
   pub nano : AreSynchronized script T.threads T.nano
   pub deferred : AreCalls script T.deferred
   pub requests : AreRequests (length S.threads) T.requests
@@ -46,6 +47,8 @@ pub record AreParts (script : Script) (S T : State) : Type 0 where
   pub logons : AreLogons (length S.threads) T.requests T.logons
   pub spent : AreSpent T.objects T.handles T.threads
   pub awaited : AreAwaited T.threads T.requests T.logons
+  pub servers : AreServers (λ row. is_spent row.stage) (length T.objects) T.threads T.locks T.owned T.servers
+  pub messages : AreMessages (IsUntold T.requests T.logons) T.threads T.servers T.messages
 
 pub sound-of : (script : Script) (S T : State) (effects : List Effect) → AreRows script S → AreParts script S T → LivesMove S T effects → HoldersMove S T effects → Sound script S T effects
 sound-of script S T effects rows parts lives holders =
@@ -75,6 +78,8 @@ sound-of script S T effects rows parts lives holders =
         logons = subst (λ (n : ℕ). AreLogons n T.requests T.logons) (sym parts.threads_long) parts.logons;
         spent = parts.spent;
         awaited = parts.awaited;
+        servers = parts.servers;
+        messages = parts.messages;
         lives = lives-kept S T effects lives rows.lives;
       };
       long = parts.threads_long;

@@ -7,14 +7,17 @@ use Rattle.entry_log.specs.declared.effect.Holder.{Holder}
 use Rattle.entry_log.specs.declared.effect.Holder.TheVariants as holder
 use Rattle.state_rows.specs.declared.duty.Owed.{Owed}
 use Rattle.state_rows.specs.declared.duty.Owed.TheVariants.{Close, Sweep}
+use Rattle.state_rows.specs.declared.messages.Message.{Message}
+use Rattle.state_rows.specs.declared.servers.SessionRow.{SessionRow}
 use Rattle.state_rows.specs.declared.thread.ThreadRow.{ThreadRow}
 use Rattle.machine.specs.declared.state.State.{State}
 use Rattle.machine.specs.Rows.{thread_of}
 use Rattle.state_rows.specs.HandleSlots.{fresh_slot}
-use Rattle.machine.specs.References.{total, option_names, slot_names, thread_names, owed_names, mutex_names, kernel_names, count_of, kernel_holds, stage_holds}
-use Rattle.machine.specs.WellFormed.{AreRows, times_held, weight}
+use Rattle.machine.specs.References.{total, option_names, slot_names, thread_names, owed_names, mutex_names, session_names, message_names, kernel_names, count_of, kernel_holds, stage_holds}
+use Rattle.machine.specs.WellFormed.{AreRows, IsUntold, times_held, weight}
 use Rattle.move_laws.proofs.Lists.Totals.{total_at_most}
 use Rattle.move_laws.proofs.References.Same.{same_le}
+use Rattle.move_laws.proofs.RowLaws.FewMessages.{messages_few}
 use Rattle.state_rows.specs.declared.thread.Stage.{Stage}
 use Rattle.state_rows.specs.declared.thread.Stage.TheVariants.{Buried}
 
@@ -57,7 +60,17 @@ pub holds_le : (x : Option ThreadRow) → kernel_holds x ≤ 1
 holds_le None = omega arith
 holds_le (Some row) = stage_le row.stage
 
--- at most 256 references from a table, 2 from a thread and 1 for what it holds, 1 from the kernel and 12 from what a thread owes
+-- a session refers to its server, and a message to its session and its client
+session_le : (o : ObjNo) (row : Option SessionRow) → session_names o row ≤ 1
+session_le o None = omega arith
+session_le o (Some row) = option_le o row.server
+
+messages_le : (o : ObjNo) (messages : List Message) → total (message_names o) messages ≤ 2 * length messages
+messages_le o [] = omega arith
+messages_le o (message ∷ rest) = let a = same_le message.row.session o in let b = same_le message.row.client o in let c = messages_le o rest in omega arith
+
+-- at most 256 references from a table, 2 from a thread and 1 each for what it holds and owns, 1 from the kernel, 12 from what a thread owes, 1
+-- from a session and 2 from a message
 pub count_small : (script : Script) (S : State) → AreRows script S → (o : ObjNo) → count_of S o < 65536
 count_small script S rows o =
     let handles : total (total (slot_names o)) S.handles ≤ 256 * length S.handles = total_at_most (total (slot_names o)) 256 S.handles [] (λ k inside.
@@ -71,6 +84,12 @@ count_small script S rows o =
     omega arith) in
     let kernel : kernel_names S o ≤ 1 = holds_le (thread_of S o) in
     let mutexes : total (total (mutex_names o)) S.mutexes ≤ 1 * length S.mutexes = total_at_most (total (mutex_names o)) 1 S.mutexes [] (λ k _. held_le script S rows o k) in
+    let owned : total (total (mutex_names o)) S.owned ≤ 1 * length S.owned = total_at_most (total (mutex_names o)) 1 S.owned [] (λ k _. rows.servers.once (record { 0 = k }) o) in
+    let sessions : total (session_names o) S.servers.sessions ≤ 1 * length S.servers.sessions = total_at_most (session_names o) 1 S.servers.sessions None (λ k _. session_le o _) in
+    let messages = messages_le o S.messages.outstanding in
+    let few = messages_few (IsUntold S.requests S.logons) (λ u s untold. untold.0.status) S.threads S.servers S.messages rows.messages rows.servers.sessions_sized in
+    let sessions_sized = rows.servers.sessions_sized in
+    let owned_sized = rows.servers.owned_sized in
     let held = rows.locks.mutexes_sized in
     let tables = rows.sized.tables in
     let duties = rows.sized.duties in

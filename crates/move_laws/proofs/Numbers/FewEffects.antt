@@ -10,18 +10,25 @@ use Rattle.machine.specs.declared.death_move.DeathMove.TheVariants.{Doom, Bury}
 use Rattle.machine.specs.declared.lock_move.LockMove.{LockMove}
 use Rattle.machine.specs.declared.lock_move.LockMove.TheVariants.{Lock, Unlock, Free}
 use Rattle.machine.specs.declared.moves.Move.{Move}
-use Rattle.machine.specs.declared.moves.Move.TheVariants.{Lose, Nano, Requests, Locks, Death, Pay}
+use Rattle.machine.specs.declared.moves.Move.TheVariants.{Lose, Nano, Requests, Locks, Death, Servers, Messages, Pay}
 use Rattle.machine.specs.declared.nano_move.NanoMove.{NanoMove}
 use Rattle.machine.specs.declared.nano_move.NanoMove.TheVariants.{Take, Give}
 use Rattle.machine.specs.declared.request_move.RequestMove.{RequestMove}
-use Rattle.machine.specs.declared.request_move.RequestMove.TheVariants.{Complete, Signal}
+use Rattle.machine.specs.declared.request_move.RequestMove.TheVariants.{Complete, Signal, Reply}
+use Rattle.machine.specs.declared.message_move.MessageMove.{MessageMove}
+use Rattle.machine.specs.declared.message_move.MessageMove.TheVariants.{Accept, Finish}
+use Rattle.machine.specs.declared.server_move.ServerMove.{ServerMove}
+use Rattle.machine.specs.declared.server_move.ServerMove.TheVariants.{Join, End}
 use Rattle.machine.specs.declared.state.State.{State}
-use Rattle.machine.specs.Fits.{nano_most, request_most, lock_most, death_most, lock_owes, most_told}
+use Rattle.state_rows.specs.declared.messages.MessageRows.{MessageRows}
+use Rattle.machine.specs.Fits.{nano_most, request_most, lock_most, death_most, server_most, message_most, lock_owes, most_told}
 use Rattle.machine.specs.DeathMoves.{death_told}
 use Rattle.machine.specs.LockMoves.{lock_told}
 use Rattle.machine.specs.Moves.{moved, told, tell, closed_effects}
+use Rattle.machine.specs.MessageMoves.{message_told}
 use Rattle.machine.specs.NanoMoves.{nano_told}
 use Rattle.machine.specs.RequestMoves.{request_told}
+use Rattle.machine.specs.ServerMoves.{server_told}
 use Rattle.machine.specs.References.{total, is_last}
 
 closed_few : (last : Bool) (h : Holder) (o : ObjNo) → length (closed_effects last h o) ≤ 2
@@ -36,6 +43,7 @@ nano_few _ = omega arith
 request_few : (m : RequestMove) → length (request_told m) ≤ request_most m
 request_few (Complete d t s code) = omega arith
 request_few (Signal t s code) = omega arith
+request_few (Reply t code) = omega arith
 request_few _ = omega arith
 
 lock_few : (m : LockMove) → length (lock_told m) ≤ lock_most m
@@ -45,6 +53,16 @@ lock_few (Unlock o t (Passed w)) = omega arith
 lock_few (Free o t None) = omega arith
 lock_few (Free o t (Some w)) = omega arith
 lock_few _ = omega arith
+
+server_few : (m : ServerMove) → length (server_told m) ≤ server_most m
+server_few (Join s o slots t) = omega arith
+server_few (End o) = omega arith
+server_few _ = omega arith
+
+message_few : (m : MessageMove) (r : MessageRows) → length (message_told m r) ≤ message_most m
+message_few (Accept slots row) r = omega arith
+message_few (Finish n code) r = omega arith
+message_few _ r = omega arith
 
 death_few : (m : DeathMove) → length (death_told m) ≤ death_most m
 death_few (Doom t exit) = omega arith
@@ -59,6 +77,8 @@ told_few (Nano m) S = nano_few m
 told_few (Requests m) S = request_few m
 told_few (Locks m) S = lock_few m
 told_few (Death m) S = death_few m
+told_few (Servers m) S = server_few m
+told_few (Messages m) S = message_few m S.messages
 told_few _ S = omega arith
 
 pub tell_few : (t : ObjNo) (ms : List Move) (S : State) → length (tell t ms S) ≤ total most_told ms
@@ -79,6 +99,7 @@ nano-tells _ = omega arith
 pub request-tells : (m : RequestMove) → request_most m ≤ 1
 request-tells (Complete d t s code) = omega arith
 request-tells (Signal t s code) = omega arith
+request-tells (Reply t code) = omega arith
 request-tells _ = omega arith
 
 pub lock-tells : (m : LockMove) → lock_most m ≤ 3

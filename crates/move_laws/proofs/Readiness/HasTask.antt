@@ -12,9 +12,9 @@ use Rattle.state_rows.specs.declared.thread.Role.TheVariants.{Supervisor, Queue,
 use Rattle.state_rows.specs.declared.thread.Stage.{Stage}
 use Rattle.state_rows.specs.declared.thread.Stage.TheVariants.{Live, Doomed, Cleaned, Buried}
 use Rattle.state_rows.specs.declared.thread.ThreadRow.{ThreadRow}
-use Rattle.machine.specs.Holdings.{holdings}
+use Rattle.machine.specs.Holdings.{held_servers, holdings}
 use Rattle.machine.specs.Rows.{first_owed}
-use Rattle.machine.specs.Task.{by_stage, instruction, is_returning, live_task, next_call, pay_or, return_or, step_or_end, task_of_row}
+use Rattle.machine.specs.Task.{by_stage, instruction, is_returning, live_task, next_call, pay_or, return_or, step_or_end, task_of_row, work_or}
 use Rattle.machine.specs.declared.holding.Holding.{Holding}
 use Rattle.machine.specs.declared.state.State.{State}
 use Rattle.machine.specs.declared.task.Task.{Task}
@@ -49,4 +49,4 @@ some-task false at None stage has role call own = some-stage stage has role call
 
 pub task_is : (script : Script) (S : State) (u : ObjNo) (row : Option ThreadRow) → is_some (task_of_row script S u row) ≡ has_task script S.deferred (first_owed S u) row
 task_is script S u None = refl
-task_is script S u (Some row) = some-task (is_returning row.part) (instruction script row) (first_owed S u) row.stage (holdings S u row) row.role (next_call S.deferred row.role) (step_or_end (is_protected S.nano u) (instruction script row))
+task_is script S u (Some row) = some-task (is_returning row.part) (instruction script row) (first_owed S u) row.stage (holdings S u row) row.role (next_call S.deferred row.role) (work_or (held_servers S u) (step_or_end (is_protected S.nano u) (instruction script row)))

@@ -18,11 +18,12 @@ use Rattle.state_rows.specs.Nano.{suspend_count, critical_count, held_by, is_pro
 use Rattle.state_rows.specs.NanoChanges.{after_suspend}
 use Rattle.state_rows.proofs.OtherThreads.{held_by-after_take, held_by-after_give, count-other}
 use Rattle.machine.specs.declared.moves.Move.{Move}
-use Rattle.machine.specs.declared.moves.Move.TheVariants.{Make, Gain, Lose, Find, Miss, GoOn, Write, Advance, Wait, Wake, SetPriority, Nano, Deferred, Requests, Locks, Logons, Death, Fill, Pay}
+use Rattle.machine.specs.declared.moves.Move.TheVariants.{Make, Gain, Lose, Find, Miss, GoOn, Keep, Write, WriteMessage, PutDown, Advance, Wait, Wake, SetPriority, Nano, Deferred, Requests, Locks, Logons, Death, Servers, Messages, Fill, Pay}
 use Rattle.machine.specs.declared.deferred_move.DeferredMove.{DeferredMove}
 use Rattle.machine.specs.declared.deferred_move.DeferredMove.TheVariants.{Add, Take as TakeCall}
 use Rattle.machine.specs.declared.lock_move.LockMove.{LockMove}
 use Rattle.machine.specs.declared.lock_move.LockMove.TheVariants.{Unlock, Free}
+use Rattle.machine.specs.declared.message_move.MessageMove.TheVariants.{Finish}
 use Rattle.machine.specs.declared.nano_move.NanoMove.{NanoMove}
 use Rattle.machine.specs.declared.nano_move.NanoMove.TheVariants.{Take, Give, Enter, Leave, LeaveAll, Suspend, Resume, Release}
 use Rattle.state_rows.specs.declared.thread.Waiting.TheVariants as waiting
@@ -30,7 +31,7 @@ use Rattle.state_rows.specs.declared.thread.ThreadRow.{ThreadRow}
 use Rattle.state_rows.specs.declared.locks.Unlocked.TheVariants.{Freed, Level, NotOwner, Passed}
 use Rattle.machine.specs.declared.state.State.{State}
 use Rattle.machine.specs.Rows.{thread_of, first_of, first_owed, with_row}
-use Rattle.machine.specs.Moves.{moved, threads_gain, threads_lose, threads_closed, next_object, with_use, unlinked, with_found, with_part, with_register, with_waiting, with_priority, advanced}
+use Rattle.machine.specs.Moves.{moved, threads_gain, threads_lose, threads_closed, next_object, with_use, unlinked, with_found, with_kept, with_message, with_part, with_register, with_waiting, with_priority, advanced}
 use Rattle.machine.specs.declared.death_move.DeathMove.TheVariants.{Note, Doom, Clean, Bury}
 use Rattle.machine.specs.DeathMoves.{death_row}
 use Rattle.machine.specs.LockMoves.{owed_moved}
@@ -178,6 +179,14 @@ ready-untouched script S t (Lose h o) u threads joins none =
 ready-untouched script S t (Find v o) u threads joins none = ready-with_row script S.deferred S.nano (first_owed S u) S.threads v (with_found o) u (record { waiting = λ row. refl; task = λ script calls first row. refl })
 ready-untouched script S t (Miss o) u threads joins none = refl
 ready-untouched script S t (GoOn v part) u threads joins none = ap (ready_row script S.deferred S.nano u (first_owed S u)) (row-other S.threads v (with_part part) u.0 (apart_of v u none))
+ready-untouched script S t (Keep v number) u threads joins none = ready-with_row script S.deferred S.nano (first_owed S u) S.threads v (with_kept number) u (record { waiting = λ row. refl; task = λ script calls first row. refl })
+ready-untouched script S t (WriteMessage v y number) u threads joins none = ready-with_row script S.deferred S.nano (first_owed S u) S.threads v (with_message y number) u (record { waiting = λ row. refl; task = λ script calls first row. refl })
+ready-untouched script S t (PutDown v) u threads joins none =
+    ready-by script S (moved t (PutDown v) S) u refl refl (owed-other S.owed v u _ (apart_of v u none))
+    (ap (ready_row script S.deferred S.nano u (first_owed S u)) (row-other S.threads v (with_use None) u.0 (apart_of v u none)))
+ready-untouched script S t (Servers m) u threads joins none = refl
+ready-untouched script S t (Messages (Finish m code)) u threads joins none = ready-by script S (moved t (Messages (Finish m code)) S) u refl refl (owed-other S.owed t u _ (apart_of t u none)) refl
+ready-untouched script S t (Messages m) u threads joins none = refl
 ready-untouched script S t (Write v x value) u threads joins none = ready-with_row script S.deferred S.nano (first_owed S u) S.threads v (with_register x value) u (record { waiting = λ row. refl; task = λ script calls first row. refl })
 ready-untouched script S t (Advance v) u threads joins none =
     ready-by script S (moved t (Advance v) S) u refl refl (owed-other S.owed v u _ (apart_of v u none))

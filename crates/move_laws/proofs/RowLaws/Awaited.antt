@@ -15,7 +15,7 @@ use Rattle.state_rows.specs.declared.thread.Waiting.TheVariants as waiting
 use Rattle.machine.specs.declared.logon_move.LogonMove.{LogonMove}
 use Rattle.machine.specs.declared.logon_move.LogonMove.TheVariants as logon
 use Rattle.machine.specs.declared.request_move.RequestMove.{RequestMove}
-use Rattle.machine.specs.declared.request_move.RequestMove.TheVariants.{Begin, Complete, SetPending, Signal, DropAll, TakeSignal}
+use Rattle.machine.specs.declared.request_move.RequestMove.TheVariants.{Begin, Complete, SetPending, Signal, DropAll, TakeSignal, Reply}
 use Rattle.machine.specs.declared.state.State.{State}
 use Rattle.machine.specs.Fits.{FitsLogons, FitsRequests, IsOfLive}
 use Rattle.machine.specs.LogonMoves.{is_logon, is_made_by, logons_moved, logons_on, without_logon, without_maker}
@@ -103,6 +103,7 @@ awaited-requests S (SetPending t s) fits live h = awaited-asked S _ h.requests h
 awaited-requests S (Signal t s code) fits live h = awaited-asked S _ h.requests h
 awaited-requests S (DropAll t) fits live h = awaited-asked S _ (λ d request at. h.requests d request (dropped t S.requests.devices d request at)) h
 awaited-requests S (TakeSignal t) fits live h = awaited-asked S _ h.requests h
+awaited-requests S (Reply t code) fits live h = awaited-asked S _ h.requests h
 
 -- fewer logons
 awaited-fewer : (S : State) (other : List (List (ObjNo × ℕ))) → ((u : ObjNo) (s : ℕ) → times_logged other u s ≤ times_logged S.logons u s) → AreAwaited S.threads S.requests S.logons → AreAwaited S.threads S.requests other
@@ -115,7 +116,7 @@ awaited-logons S (logon.Add t u s) fits rows h = record {
   logons = λ v w some.
       let a = logon-added S.logons t u s (let long = rows.sized in let inside = fits.0 in omega arith) v w in
       elim (cases_lt 0 (logon_names v w (u, s))) as (λ _. IsLiveThread S.threads v) [
-        | inl one ↦ let own = the_logon v w u s one in subst (λ (x : ObjNo). IsLiveThread S.threads x) own.0 fits.3
+        | inl one ↦ let own = the_logon v w u s one in subst (λ (x : ObjNo). IsLiveThread S.threads x) own.0 fits.4
         | inr no_name ↦ h.logons v w (omega arith)
       ];
   waits = h.waits;

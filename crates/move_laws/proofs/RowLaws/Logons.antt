@@ -13,7 +13,7 @@ use Rattle.state_rows.proofs.SoundRequests.{status_item}
 use Rattle.machine.specs.declared.logon_move.LogonMove.{LogonMove}
 use Rattle.machine.specs.declared.logon_move.LogonMove.TheVariants as logon
 use Rattle.machine.specs.declared.request_move.RequestMove.{RequestMove}
-use Rattle.machine.specs.declared.request_move.RequestMove.TheVariants.{Begin, Complete, SetPending, Signal, DropAll, TakeSignal}
+use Rattle.machine.specs.declared.request_move.RequestMove.TheVariants.{Begin, Complete, SetPending, Signal, DropAll, TakeSignal, Reply}
 use Rattle.machine.specs.declared.state.State.{State}
 use Rattle.machine.specs.Fits.{FitsLogons, FitsRequests}
 use Rattle.machine.specs.LogonMoves.{is_logon, is_made_by, logons_moved, logons_on, without_logon, without_maker}
@@ -99,8 +99,12 @@ logons-moved S (logon.Drop u) fits h =
     (λ v w. filtered_each (logon_names v w) (λ (x : ObjNo × ℕ). not (is_made_by u x)) S.logons) h
 
 -- statuses that are awaited stay so where a request begins or is completed, and where another status is written
-still_awaited : (count : ℕ) (r : RequestRows) (m : RequestMove) (logons : List (List (ObjNo × ℕ))) (u : ObjNo) (s : ℕ) → AreRequests count r → FitsRequests m r logons → 0 < times_logged logons u s → IsAwaited r u s → IsAwaited (request_moved m r) u s
-still_awaited count r (Begin d t w) logons u s rows fits logged h = by (is_some (request_at r d)) (ap is_some fits.free)
+abbrev pub Spares : RequestMove → ObjNo → ℕ → Type 0
+Spares (Signal t w code) u s = u.0 ≡ t.0 → s ≡ w → ⊥
+Spares _ u s = Unit {0}
+
+pub still_awaited : (count : ℕ) (r : RequestRows) (m : RequestMove) (logons : List (List (ObjNo × ℕ))) (u : ObjNo) (s : ℕ) → AreRequests count r → FitsRequests m r logons → Spares m u s → IsAwaited r u s → IsAwaited (request_moved m r) u s
+still_awaited count r (Begin d t w) logons u s rows fits spares h = by (is_some (request_at r d)) (ap is_some fits.free)
   where
     by : (had : Bool) → had ≡ false → IsAwaited (record r { devices = if had then r.devices else set r.devices d (Some (of_status t w)); statuses = with_status r.statuses t w pending }) u s
     by true is = absurd (cc)
@@ -116,30 +120,36 @@ still_awaited count r (Begin d t w) logons u s rows fits logged h = by (is_some 
         | inr had ↦ h.alone e had
       ];
     }
-still_awaited count r (Complete d t w code) logons u s rows fits logged h = record {
+still_awaited count r (Complete d t w code) logons u s rows fits spares h = record {
   thread = let long : length (request_moved (Complete d t w code) r).signals ≡ length r.signals = length-set r.signals t.0 _ in let a = h.thread in omega arith;
   status = h.status;
   waits = status_item (λ (value : ℤ). int_eq value pending ≡ true) r.statuses t w code u s (λ thread status. absurd (h.alone d (fits.1 ∙ ap Some (ap (λ (x : ObjNo). of_status x w) (sym (same_object u t thread)) ∙ ap (of_status u) (sym status))))) h.waits;
   alone = λ e at. h.alone e (device_had r.devices d e (of_status u s) fits.0 at).1;
 }
-still_awaited count r (SetPending t w) logons u s rows fits logged h = record {
+still_awaited count r (SetPending t w) logons u s rows fits spares h = record {
   thread = h.thread;
   status = h.status;
   waits = status_item (λ (value : ℤ). int_eq value pending ≡ true) r.statuses t w pending u s (λ _ _. refl) h.waits;
   alone = h.alone;
 }
-still_awaited count r (Signal t w code) logons u s rows fits logged h = record {
+still_awaited count r (Signal t w code) logons u s rows fits spares h = record {
   thread = let long : length (request_moved (Signal t w code) r).signals ≡ length r.signals = length-set r.signals t.0 _ in let a = h.thread in omega arith;
   status = h.status;
   waits = status_item (λ (value : ℤ). int_eq value pending ≡ true) r.statuses t w code u s
-      (λ thread status. let none : times_logged logons u s ≡ 0 = ap (λ (x : ObjNo). times_logged logons x s) (same_object u t thread) ∙ (ap (times_logged logons t) status ∙ fits.1) in absurd (omega arith)) h.waits;
+      (λ thread status. absurd (spares thread status)) h.waits;
   alone = h.alone;
 }
-still_awaited count r (DropAll t) logons u s rows fits logged h = record { thread = h.thread; status = h.status; waits = h.waits; alone = λ d at. h.alone d (dropped t r.devices d (of_status u s) at) }
-still_awaited count r (TakeSignal t) logons u s rows fits logged h = record { thread = let long : length (request_moved (TakeSignal t) r).signals ≡ length r.signals = length-set r.signals t.0 _ in let a = h.thread in omega arith; status = h.status; waits = h.waits; alone = h.alone }
+still_awaited count r (DropAll t) logons u s rows fits spares h = record { thread = h.thread; status = h.status; waits = h.waits; alone = λ d at. h.alone d (dropped t r.devices d (of_status u s) at) }
+still_awaited count r (TakeSignal t) logons u s rows fits spares h = record { thread = let long : length (request_moved (TakeSignal t) r).signals ≡ length r.signals = length-set r.signals t.0 _ in let a = h.thread in omega arith; status = h.status; waits = h.waits; alone = h.alone }
+still_awaited count r (Reply t code) logons u s rows fits spares h = record { thread = h.thread; status = h.status; waits = h.waits; alone = h.alone }
+
+-- the status of a logon is no other that is completed
+spares_logged : (r : RequestRows) (m : RequestMove) (logons : List (List (ObjNo × ℕ))) (u : ObjNo) (s : ℕ) → FitsRequests m r logons → 0 < times_logged logons u s → Spares m u s
+spares_logged r (Signal t w code) logons u s fits some = λ thread status. let none : times_logged logons u s ≡ 0 = ap (λ (x : ObjNo). times_logged logons x s) (same_object u t thread) ∙ (ap (times_logged logons t) status ∙ fits.1) in absurd (omega arith)
+spares_logged r _ logons u s fits some = tt
 
 pub logons-requests : (count : ℕ) (r : RequestRows) (m : RequestMove) (logons : List (List (ObjNo × ℕ))) → AreRequests count r → FitsRequests m r logons → AreLogons count r logons → AreLogons count (request_moved m r) logons
-logons-requests count r m logons rows fits h = record { sized = h.sized; once = h.once; waits = λ u s some. still_awaited count r m logons u s rows fits some (h.waits u s some) }
+logons-requests count r m logons rows fits h = record { sized = h.sized; once = h.once; waits = λ u s some. still_awaited count r m logons u s rows fits (spares_logged r m logons u s fits some) (h.waits u s some) }
 
 -- none at boot
 pub none_logged : {B : Type 0} (u : ObjNo) (s : ℕ) (bs : List B) → times_logged (map (λ _. []) bs) u s ≡ 0

@@ -11,7 +11,7 @@ use Rattle.state_rows.specs.RequestChanges.{with_status, without}
 use Rattle.state_rows.specs.Requests.{pending, request_at, is_pending}
 use Rattle.state_rows.proofs.SoundRequests.{status_item, sixteen-with_status, sound-requests}
 use Rattle.machine.specs.declared.request_move.RequestMove.{RequestMove}
-use Rattle.machine.specs.declared.request_move.RequestMove.TheVariants.{Begin, Complete, SetPending, Signal, DropAll, TakeSignal}
+use Rattle.machine.specs.declared.request_move.RequestMove.TheVariants.{Begin, Complete, SetPending, Signal, DropAll, TakeSignal, Reply}
 use Rattle.machine.specs.RequestMoves.{request_moved}
 use Rattle.machine.specs.Fits.{FitsRequests, MayBegin}
 use Rattle.machine.specs.WellFormed.{AreRequests}
@@ -149,3 +149,10 @@ requests-moved count (TakeSignal t) r logons fits h =
       pending = h.pending;
       apart = h.apart;
     }
+requests-moved count (Reply t code) r logons fits h = record {
+  rows = record { statuses_sized = h.rows.statuses_sized; replies_sized = length-set r.replies t.0 code ∙ h.rows.replies_sized; sixteen = h.rows.sixteen; requests_known = h.rows.requests_known };
+  sized = h.sized;
+  devices = h.devices;
+  pending = h.pending;
+  apart = h.apart;
+}

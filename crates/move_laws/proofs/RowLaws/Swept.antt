@@ -14,6 +14,7 @@ use Rattle.state_rows.specs.declared.duty.Owed.{Owed}
 use Rattle.state_rows.specs.declared.handle_slot.HandleSlot.{HandleSlot}
 use Rattle.state_rows.specs.declared.locks.LockRows.{LockRows}
 use Rattle.state_rows.specs.declared.nano.NanoRows.{NanoRows}
+use Rattle.state_rows.specs.declared.servers.ServerRows.{ServerRows}
 use Rattle.state_rows.specs.declared.thread.ThreadRow.{ThreadRow}
 use Rattle.state_rows.specs.declared.thread.Waiting.TheVariants as waiting
 use Rattle.machine.specs.HeldIn.{own_slot, rows_hold, use_names}
@@ -48,8 +49,9 @@ threads-swept script threads o h = record {
   servers = λ k queue row is serves. h.servers k queue row (was-there threads o k row is) serves;
 }
 
-pub duties-swept : (threads : List (Option ThreadRow)) (owed : List (List Owed)) (o : ℕ) → AreDuties threads owed → AreDuties (set threads o None) owed
-duties-swept threads owed o h = duties-threads threads (set threads o None) owed (λ k. inr (record {
+pub duties-swept : (threads : List (Option ThreadRow)) (r : ServerRows) (accepted : ℕ) (owed : List (List Owed)) (o : ℕ) → AreDuties threads r accepted owed → AreDuties (set threads o None) r accepted owed
+duties-swept threads r accepted owed o h = duties-threads threads (set threads o None) r accepted owed (λ k. inr (record {
+  long = length-set threads o None;
   none = λ j none. none-there threads o j none;
   going = λ going. set_item (λ (x : Option ThreadRow). is_returning (part_of x) ≡ false) threads o k None None (λ at. refl) going;
 })) h

@@ -5,15 +5,20 @@ use Rattle.eka2_app.specs.Readings.{IsReading}
 use Rattle.eka2_app.specs.StatusNumber.{status_of}
 use Rattle.eka2_app.specs.declared.words.Command.TheVariants as command
 use Rattle.eka2_app.proofs.Ended.{read_fault_is, write_fault_is, memory_is, large_is, not_usage, ran_script, never_read, never_large, took_nothing, wrote_text}
-use Rattle.eka2_app.proofs.OneReading.{one_reading, same_made}
+use Rattle.eka2_app.proofs.OneReading.{one_reading, same_made, same_load}
 use Rattle.runner.specs.Complete.{Stayed}
-use Rattle.runner.specs.MadeText.{made_text}
+use Rattle.runner.specs.MadeText.{made_text, load_text}
 use Rattle.runner.specs.RunText.{run_text, brief_text}
 use Rattle.eka2_app.proofs.top.eka2_main.Goals as goal
 
 pub write_made-requires : goal.write_made-requires
 write_made-requires g c =
     let reading = subst (IsReading (map string_bytes c.args.words.now)) c.in-Make.is c.in-Some.ensures in
+    record { some = reading.numbers.some; few = reading.numbers.few }
+
+pub run_load-requires : goal.run_load-requires
+run_load-requires g c =
+    let reading = subst (IsReading (map string_bytes c.args.words.now)) c.in-Load.is c.in-Some.ensures in
     record { some = reading.numbers.some; few = reading.numbers.few }
 
 pub returns-in-Run : goal.returns-in-Run
@@ -30,6 +35,8 @@ returns-in-Run g c =
       brief = λ other. let same = one_reading words command.Run command.Brief reading other in cc;
       make = λ seed size other. let same = one_reading words command.Run (command.Make seed size) reading other in cc;
       make_reads_nothing = λ seed size other. let same = one_reading words command.Run (command.Make seed size) reading other in cc;
+      load = λ seed size other. let same = one_reading words command.Run (command.Load seed size) reading other in cc;
+      load_reads_nothing = λ seed size other. let same = one_reading words command.Run (command.Load seed size) reading other in cc;
       large = λ same. said.large (large_is r (sym c.of.ensures ∙ same));
       few = λ other. said.few (λ same. other (c.of.ensures ∙ ap status_of same));
       read_fault = λ same. said.read_fault (read_fault_is r (sym c.of.ensures ∙ same));
@@ -53,6 +60,8 @@ returns-in-Brief g c =
       brief = λ _. rw c.of-in-Brief.ensures (ran_script brief_text _ _ _ _ _ _ r said.done said.at_end said.refused said.refused_at_end said.front said.accepted said.bad said.too_large);
       make = λ seed size other. let same = one_reading words command.Brief (command.Make seed size) reading other in cc;
       make_reads_nothing = λ seed size other. let same = one_reading words command.Brief (command.Make seed size) reading other in cc;
+      load = λ seed size other. let same = one_reading words command.Brief (command.Load seed size) reading other in cc;
+      load_reads_nothing = λ seed size other. let same = one_reading words command.Brief (command.Load seed size) reading other in cc;
       large = λ same. said.large (large_is r (sym c.of-in-Brief.ensures ∙ same));
       few = λ other. said.few (λ same. other (c.of-in-Brief.ensures ∙ ap status_of same));
       read_fault = λ same. said.read_fault (read_fault_is r (sym c.of-in-Brief.ensures ∙ same));
@@ -76,6 +85,8 @@ returns-in-Make g c =
       brief = λ other. let same = one_reading words (command.Make c.in-Make.seed c.in-Make.size) command.Brief reading other in cc;
       make = λ seed size other. same_made (λ (s n : ℕ). WroteText (made_text s n) (g.K.Sink.written c.args.sink.now) (g.K.Sink.written c.write_made.new.sink) (Stayed (g.K.Sink.faults c.args.sink.now) (g.K.Sink.faults c.write_made.new.sink)) c.of-in-Make.result) words c.in-Make.seed c.in-Make.size seed size reading other (rw c.of-in-Make.ensures (wrote_text _ _ _ _ r said.done said.front said.faults said.complete));
       make_reads_nothing = λ seed size other. refl;
+      load = λ seed size other. let same = one_reading words (command.Make c.in-Make.seed c.in-Make.size) (command.Load seed size) reading other in cc;
+      load_reads_nothing = λ seed size other. let same = one_reading words (command.Make c.in-Make.seed c.in-Make.size) (command.Load seed size) reading other in cc;
       large = λ same. absurd (never_large r said.faults (large_is r (sym c.of-in-Make.ensures ∙ same)));
       few = λ other. took_nothing (g.S.Source.left c.args.source.now);
       read_fault = λ same. absurd (never_read r said.faults (read_fault_is r (sym c.of-in-Make.ensures ∙ same)));
@@ -83,6 +94,31 @@ returns-in-Make g c =
       read_silent = λ same. absurd (never_read r said.faults (read_fault_is r (sym c.of-in-Make.ensures ∙ same)));
       large_silent = λ same. absurd (never_large r said.faults (large_is r (sym c.of-in-Make.ensures ∙ same)));
       memory_silent = λ same. said.memory_silent (memory_is r (sym c.of-in-Make.ensures ∙ same));
+    }
+
+pub returns-in-Load : goal.returns-in-Load
+returns-in-Load g c =
+    let words = map string_bytes c.args.words.now in
+    let r = c.run_load.result in
+    let said = c.run_load.ensures in
+    let reading : IsReading words (command.Load c.in-Load.seed c.in-Load.size) = subst (IsReading words) c.in-Load.is c.in-Some.ensures in
+    record {
+      usage = (λ same. absurd (not_usage r (sym c.of-in-Load.ensures ∙ same)), λ none. absurd (none (command.Load c.in-Load.seed c.in-Load.size) reading));
+      source_untouched = λ same. absurd (not_usage r (sym c.of-in-Load.ensures ∙ same));
+      sink_untouched = λ same. absurd (not_usage r (sym c.of-in-Load.ensures ∙ same));
+      run = λ other. let same = one_reading words (command.Load c.in-Load.seed c.in-Load.size) command.Run reading other in cc;
+      brief = λ other. let same = one_reading words (command.Load c.in-Load.seed c.in-Load.size) command.Brief reading other in cc;
+      make = λ seed size other. let same = one_reading words (command.Load c.in-Load.seed c.in-Load.size) (command.Make seed size) reading other in cc;
+      make_reads_nothing = λ seed size other. let same = one_reading words (command.Load c.in-Load.seed c.in-Load.size) (command.Make seed size) reading other in cc;
+      load = λ seed size other. same_load (λ (s n : ℕ). WroteText (load_text s n) (g.K.Sink.written c.args.sink.now) (g.K.Sink.written c.run_load.new.sink) (Stayed (g.K.Sink.faults c.args.sink.now) (g.K.Sink.faults c.run_load.new.sink)) c.of-in-Load.result) words c.in-Load.seed c.in-Load.size seed size reading other (rw c.of-in-Load.ensures (wrote_text _ _ _ _ r said.done said.front said.faults said.complete));
+      load_reads_nothing = λ seed size other. refl;
+      large = λ same. absurd (never_large r said.faults (large_is r (sym c.of-in-Load.ensures ∙ same)));
+      few = λ other. took_nothing (g.S.Source.left c.args.source.now);
+      read_fault = λ same. absurd (never_read r said.faults (read_fault_is r (sym c.of-in-Load.ensures ∙ same)));
+      write_fault = λ same. said.write_fault (write_fault_is r (sym c.of-in-Load.ensures ∙ same));
+      read_silent = λ same. absurd (never_read r said.faults (read_fault_is r (sym c.of-in-Load.ensures ∙ same)));
+      large_silent = λ same. absurd (never_large r said.faults (large_is r (sym c.of-in-Load.ensures ∙ same)));
+      memory_silent = λ same. said.memory_silent (memory_is r (sym c.of-in-Load.ensures ∙ same));
     }
 
 pub returns-in_default-clause-run : goal.returns-in_default-clause-run
@@ -93,3 +129,6 @@ returns-in_default-clause-brief g c = λ reading. absurd (c.in_default.ensures c
 
 pub returns-in_default-clause-make : goal.returns-in_default-clause-make
 returns-in_default-clause-make g c = λ seed size reading. absurd (c.in_default.ensures (command.Make seed size) reading)
+
+pub returns-in_default-clause-load : goal.returns-in_default-clause-load
+returns-in_default-clause-load g c = λ seed size reading. absurd (c.in_default.ensures (command.Load seed size) reading)

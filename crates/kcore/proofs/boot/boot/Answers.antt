@@ -3,6 +3,7 @@ use Rattle.std.specs.Prelude.{slice_index}
 use Rattle.sym_base.specs.declared.limits.TheConstants.Limits.{BOOT_OBJECTS}
 use Rattle.sym_base.specs.declared.number.ObjNo.{ObjNo}
 use Rattle.script_types.proofs.ShapeLaws.{formed_is_shaped}
+use Rattle.state_rows.specs.declared.messages.MessageRows.{MessageRows}
 use Rattle.machine.specs.declared.boot.Born.{Born}
 use Rattle.machine.specs.declared.state.State.{State}
 use Rattle.machine.specs.Arrivals.{is_listed}
@@ -19,7 +20,7 @@ use Rattle.kcore.specs.BootTable.{AreNew, FirstStand}
 use Rattle.kernel_tables.specs.Counts.{Agrees}
 use Rattle.kernel_tables.specs.ReadyQueues.{AreReady}
 use Rattle.kernel_tables.specs.StateOf.{slots_of}
-use Rattle.kcore.proofs.BootFields.{fields_at_boot, no_locks_are, threads_at_boot}
+use Rattle.kcore.proofs.BootFields.{fields_at_boot, no_locks_are, no_servers_are, threads_at_boot}
 use Rattle.kcore.proofs.BootReady.{listed_known, listed_ranged}
 use Rattle.kcore.proofs.BootTables.{new_at_boot, agrees_at_boot}
 use Rattle.kcore.proofs.BootUses.{none_used}
@@ -83,8 +84,8 @@ returns-clause-state g c =
     let made = c.in_ok-tables.ensures in
     let all : c.as_slice-2.result.now ≡ c.as_slice.result.now = c.as_slice-2.ensures ∙ sym c.as_slice.ensures in
     let rows = subst (λ (bs : List Born). tables.objects.rows ≡ take (length bs) (map (λ (b : Born). Some b.object) bs)) (sym all) (ap (λ o. o.rows) made.objects ∙ c.in_ok-objects.ensures.rows_are) in
-    fields_at_boot script c.as_slice-2.result.now c.in_ok-state.state tables.objects.rows (slots_of tables.handles) tables.procs.threads tables.cleanup.duties tables.nano tables.deferred tables.requests tables.locks.rows tables.cleanup.mutexes tables.cleanup.logons tables.procs.processes
-    (c.as_slice-2.ensures ∙ c.in_ok-all.ensures) c.in_ok-state.ensures rows made.handles (ap (λ p. p.threads) made.procs) made.owed made.nano made.deferred made.requests (no_locks_are tables.locks.rows made.locks) made.mutexes made.logons (ap (λ p. p.processes) made.procs)
+    fields_at_boot script c.as_slice-2.result.now c.in_ok-state.state tables.objects.rows (slots_of tables.handles) tables.procs.threads tables.cleanup.duties tables.nano tables.deferred tables.requests tables.locks.rows tables.cleanup.mutexes tables.cleanup.logons tables.servers tables.cleanup.servers tables.messages tables.procs.processes
+    (c.as_slice-2.ensures ∙ c.in_ok-all.ensures) c.in_ok-state.ensures rows made.handles (ap (λ p. p.threads) made.procs) made.owed made.nano made.deferred made.requests (no_locks_are tables.locks.rows made.locks) made.mutexes made.logons (no_servers_are tables.servers made.servers) made.owned made.messages (ap (λ p. p.processes) made.procs)
 
 pub returns-clause-kept : goal.returns-clause-kept
 returns-clause-kept g c =
@@ -105,6 +106,7 @@ returns-clause-kept g c =
         listed = made.listed;
         ranked = made.ranked;
       };
+      numbered = let accepted = ap (λ (r : MessageRows). r.accepted) made.messages in omega arith;
     }
 
 pub returns-clause-queues : goal.returns-clause-queues

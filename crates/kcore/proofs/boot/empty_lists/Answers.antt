@@ -21,3 +21,9 @@ returns-clause-logons c =
     let all = c.args.all.now in
     if_ok c.new.result (λ lists. lists ≡ empty_lists (length all) 4096) (λ lists. lists.logons ≡ map (λ (b : Born). []) all)
     (λ lists is. ap (λ (s : Lists). s.logons) is ∙ none_logged all) c.new.ensures
+
+pub returns-clause-owned : goal.returns-clause-owned
+returns-clause-owned c =
+    let all = c.args.all.now in
+    if_ok c.new.result (λ lists. lists ≡ empty_lists (length all) 4096) (λ lists. lists.servers ≡ map (λ (b : Born). []) all)
+    (λ lists is. ap (λ (s : Lists). s.servers) is ∙ none_listed all) c.new.ensures

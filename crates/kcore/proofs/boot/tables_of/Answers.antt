@@ -18,8 +18,11 @@ returns g c =
       uses = over.uses;
       mutexes = over.mutexes;
       logons = over.logons;
+      owned = over.owned;
       listed = over.listed;
       nano = over.nano;
       deferred = over.deferred;
       requests = over.requests;
+      servers = over.servers;
+      messages = over.messages;
     }

@@ -11,8 +11,11 @@ returns g c = record {
   uses = c.in_ok-empty.ensures.uses;
   mutexes = c.in_ok-empty.ensures.mutexes;
   logons = c.in_ok-empty.ensures.logons;
+  owned = c.in_ok-empty.ensures.owned;
   listed = c.in_ok-empty.ensures.objects;
   nano = c.in_ok-calls.ensures.nano;
   deferred = c.in_ok-calls.ensures.deferred;
   requests = c.in_ok-calls.ensures.requests;
+  servers = c.in_ok-serving.ensures.servers;
+  messages = c.in_ok-serving.ensures.messages;
 }

@@ -1,14 +1,20 @@
 use Rattle.std.proofs.Common.{refl, ◌∙◌}
 use Rattle.std.specs.Prelude.{◌==◌, slice_index}
 use Rattle.kernel_tables.proofs.FirstCount.{counts-less}
-use Rattle.kernel_tables.proofs.Noting.{duties_lost, mutexes_lost, logons_lost}
+use Rattle.kernel_tables.proofs.Noting.{duties_lost, mutexes_lost, logons_lost, servers_lost}
+use Rattle.kernel_tables.proofs.Owning.{may_disown, may_lost}
 use Rattle.kernel_tables.proofs.Tying.{tied_lost}
 use Rattle.kernel_tables.proofs.moves.lose.Goals as goal
+
+pub owned_lose-requires : goal.owned_lose-requires
+owned_lose-requires g c =
+    let old = c.args.tables.now.cleanup in
+    rw c.note_lost.ensures (may_lost old c.args.holder c.args.object (may_disown old c.args.holder c.args.object c.requires.kept.tied.listed c.requires.can.2))
 
 pub close-requires-clause-tied : goal.close-requires-clause-tied
 close-requires-clause-tied g c =
     let old = c.args.tables.now in
-    rw (c.threads_lose.ensures, c.note_lost.ensures) (tied_lost old.cleanup old.locks.priorities old.procs.threads c.args.holder c.requires.kept.tied)
+    rw (c.threads_lose.ensures, c.owned_lose.ensures, c.note_lost.ensures) (tied_lost old.cleanup old.locks.priorities old.procs.threads c.args.holder c.requires.kept.tied)
 
 pub returns : goal.returns
 returns g c =
@@ -17,7 +23,7 @@ returns g c =
     let known = c.requires.can.0.known in
     let agree = c.requires.kept.counts c.args.object in
     record {
-      state = c.close.ensures.state ∙ rw (c.lose_slot.ensures, c.threads_lose.ensures, c.note_lost.ensures, c.link_of-link.ensures, duties_lost old.cleanup c.args.holder, mutexes_lost old.cleanup c.args.holder, logons_lost old.cleanup c.args.holder, agree) refl;
+      state = c.close.ensures.state ∙ rw (c.lose_slot.ensures, c.threads_lose.ensures, c.servers_lose.ensures, c.owned_lose.ensures, c.note_lost.ensures, c.link_of-link.ensures, servers_lost old.cleanup c.args.holder, duties_lost old.cleanup c.args.holder, mutexes_lost old.cleanup c.args.holder, logons_lost old.cleanup c.args.holder, agree) refl;
       counts = rw (c.close.ensures.counts, ← agree) (counts-less old.objects.counts c.args.object c.args.holder (count == 1) (rw agree known));
       tied = c.close.ensures.tied;
     }

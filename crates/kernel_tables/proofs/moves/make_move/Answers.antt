@@ -1,5 +1,5 @@
 use Rattle.std.proofs.Common.{refl}
-use Rattle.machine.specs.Moves.{with_found, with_part, with_register, with_waiting}
+use Rattle.machine.specs.Moves.{with_found, with_kept, with_message, with_part, with_register, with_waiting}
 use Rattle.state_rows.specs.declared.thread.Waiting.TheVariants as waiting
 use Rattle.kernel_tables.proofs.Tying.{tied_row}
 use Rattle.kernel_tables.proofs.FirstCount.{nano_counts, request_counts}
@@ -98,3 +98,30 @@ returns-in-Requests g c =
       counts = request_counts c.args.tables.now.objects.counts c.in-Requests.change;
       tied = c.requires.kept.tied;
     })
+
+pub returns-in-Keep : goal.returns-in-Keep
+returns-in-Keep g c =
+    let old = c.args.tables.now in
+    rw c.in-Keep.is (record {
+      state = rw c.threads_keep.ensures refl;
+      counts = λ o. refl;
+      tied = rw c.threads_keep.ensures (tied_row old.cleanup old.locks.priorities old.procs.threads c.in-Keep.other (with_kept c.in-Keep.number) (λ r. refl) (λ r. refl) c.requires.kept.tied);
+    })
+
+pub returns-in-WriteMessage : goal.returns-in-WriteMessage
+returns-in-WriteMessage g c =
+    let old = c.args.tables.now in
+    rw c.in-WriteMessage.is (record {
+      state = rw c.threads_write_message.ensures refl;
+      counts = λ o. refl;
+      tied = rw c.threads_write_message.ensures (tied_row old.cleanup old.locks.priorities old.procs.threads c.in-WriteMessage.other (with_message c.in-WriteMessage.register c.in-WriteMessage.number) (λ r. refl) (λ r. refl) c.requires.kept.tied);
+    })
+
+pub returns-in-PutDown : goal.returns-in-PutDown
+returns-in-PutDown g c = rw c.in-PutDown.is (c.put_down.ensures c.args.thread)
+
+pub returns-in-Servers : goal.returns-in-Servers
+returns-in-Servers g c = rw c.in-Servers.is (c.move_server.ensures c.args.thread)
+
+pub returns-in-Messages : goal.returns-in-Messages
+returns-in-Messages g c = rw c.in-Messages.is c.move_message.ensures

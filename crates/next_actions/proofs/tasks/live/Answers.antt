@@ -2,6 +2,3 @@ use Rattle.next_actions.proofs.tasks.live.Goals as goal
 
 pub returns-then-serves_queue-clause-suits : goal.returns-then-serves_queue-clause-suits
 returns-then-serves_queue-clause-suits g c = λ live. c.serve.ensures.suits (g.R.Reads.state c.args.reads.now) c.args.thread c.args.row.now
-
-pub returns-in-None-clause-suits : goal.returns-in-None-clause-suits
-returns-in-None-clause-suits g c = λ live. c.end_of_list.ensures.suits c.args.row.now live

@@ -2,6 +2,7 @@ use Rattle.std.proofs.Common.{◌≡◌, ap, subst, ◌∙◌}
 use Rattle.load_maker.specs.Made.{made}
 use Rattle.machine.specs.History.{IsLegal}
 use Rattle.machine.specs.Run.{run}
+use Rattle.machine_safe.specs.Safe.{IsSafe}
 use Rattle.runner.specs.MadeText.{summary_of}
 use Rattle.runner.proofs.load.load.Goals as goal
 use Rattle.script_types.specs.declared.script.Script.{Script}
@@ -14,3 +15,8 @@ pub returns-clause-legal : goal.returns-clause-legal
 returns-clause-legal c =
     let same : c.in_ok-kernel.kernel.script ≡ made c.args.seed c.args.size = c.in_ok-kernel.ensures.script ∙ c.in_ok-script.ensures.made in
     subst (λ (script : Script). IsLegal script (run script)) same c.summary_of.ensures.legal
+
+pub returns-clause-safe : goal.returns-clause-safe
+returns-clause-safe c =
+    let same : c.in_ok-kernel.kernel.script ≡ made c.args.seed c.args.size = c.in_ok-kernel.ensures.script ∙ c.in_ok-script.ensures.made in
+    subst (λ (script : Script). IsSafe script (run script)) same c.summary_of.ensures.safe

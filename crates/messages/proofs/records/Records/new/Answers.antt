@@ -1,5 +1,5 @@
 use Rattle.std.proofs.Common.{arith}
-use Rattle.messages.specs.MessageRows.{most_messages}
+use Rattle.state_rows.specs.MessageRows.{most_messages}
 use Rattle.messages.proofs.Storing.{kept_none}
 use Rattle.messages.proofs.records.Records.new.Goals as goal
 

@@ -1,5 +1,5 @@
 use Rattle.std.proofs.Common.{◌≡◌, take, count_by}
-use Rattle.messages.specs.MessageRows.{takes_slot}
+use Rattle.state_rows.specs.MessageRows.{takes_slot}
 use Rattle.messages.specs.Kept.{stored_at}
 use Rattle.messages.proofs.records.Records.used.Given as goal
 

@@ -1,5 +1,5 @@
 use Rattle.std.proofs.Common.{length}
-use Rattle.messages.specs.MessageRows.{is_at, waits_at}
+use Rattle.state_rows.specs.MessageRows.{is_at, waits_at}
 use Rattle.messages.proofs.Queueing.{queued_free}
 use Rattle.messages.proofs.table.Messages.add.Goals as goal
 

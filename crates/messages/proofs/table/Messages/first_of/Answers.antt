@@ -1,10 +1,10 @@
-use Rattle.std.proofs.Common.{refl, sym, ap, ◌∙◌}
+use Rattle.std.proofs.Common.{length, refl, sym, ap, ◌∙◌, arith}
 use Rattle.std.specs.Prelude.{List, slice_get}
-use Rattle.messages.specs.declared.rows.Message.{Message}
-use Rattle.messages.specs.MessageRows.{is_at}
-use Rattle.messages.specs.Calls.{number_of}
+use Rattle.state_rows.specs.declared.messages.Message.{Message}
+use Rattle.state_rows.specs.MessageRows.{is_at}
+use Rattle.state_rows.specs.MessageChanges.{number_of}
 use Rattle.messages.proofs.Queueing.{where_stands}
-use Rattle.messages.proofs.Seen.{seen_first, seen_none, seen_some}
+use Rattle.messages.proofs.Seen.{past_none, seen_first, seen_none, seen_some}
 use Rattle.messages.proofs.table.Messages.first_of.Goals as goal
 
 pub returns-in_err-key-clause-first : goal.returns-in_err-key-clause-first
@@ -28,3 +28,13 @@ returns-clause-first c =
 pub returns-clause-none : goal.returns-clause-none
 returns-clause-none c =
     rw (← c.self.view_is) (seen_some (is_at c.args.server.0) (record { key = c.in_ok-key.key; message = c.message.result }) c.self.inside.records.stored (sym (rw (c.self.invariant.all.listed c.args.server.0) at c.in_ok-key.ensures.first)) c.message.ensures.same)
+
+pub returns-then-server-self-clause-first : goal.returns-then-server-self-clause-first
+returns-then-server-self-clause-first c =
+    let none = past_none is_at c.self.inside.records (length c.self.inside.outstanding.lists) c.args.server.0 c.self.inside.outstanding c.self.invariant.all (omega (arith, c.self.invariant.sized, c.if-server-self.true)) in
+    rw (← c.self.view_is) (sym (ap (λ (messages : List Message). number_of (slice_get messages 0)) none))
+
+pub returns-then-server-self-clause-none : goal.returns-then-server-self-clause-none
+returns-then-server-self-clause-none c =
+    let none = past_none is_at c.self.inside.records (length c.self.inside.outstanding.lists) c.args.server.0 c.self.inside.outstanding c.self.invariant.all (omega (arith, c.self.invariant.sized, c.if-server-self.true)) in
+    rw (← c.self.view_is) (λ is. none, λ empty. refl)

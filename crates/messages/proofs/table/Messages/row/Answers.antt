@@ -1,6 +1,6 @@
 use Rattle.std.proofs.Common.{sym, ap, ◌∙◌}
 use Rattle.std.specs.Prelude.{Some, None, option_map}
-use Rattle.messages.specs.declared.rows.Message.{Message}
+use Rattle.state_rows.specs.declared.messages.Message.{Message}
 use Rattle.messages.proofs.Seen.{seen_of}
 use Rattle.messages.proofs.table.Messages.row.Goals as goal
 

@@ -1,7 +1,7 @@
 use Rattle.std.proofs.Common.{refl, ap}
 use Rattle.std.specs.Prelude.{List}
-use Rattle.messages.specs.declared.rows.Message.{Message}
-use Rattle.messages.specs.Calls.{resized}
+use Rattle.state_rows.specs.declared.messages.Message.{Message}
+use Rattle.state_rows.specs.MessageChanges.{resized}
 use Rattle.messages.specs.Queued.{rows_of}
 use Rattle.messages.proofs.Queueing.{messages_edited}
 use Rattle.messages.proofs.Seen.{alike_found, seen_edited, seen_there}
@@ -13,7 +13,7 @@ unreachable-requires c =
 
 pub invariant_of-self : goal.invariant_of-self
 invariant_of-self c =
-    rw c.set_row.ensures (messages_edited c.self.inside.accepted c.self.inside.records c.self.inside.outstanding c.self.inside.untaken c.self.invariant c.in-Some.field-0 _ c.in-Some.ensures.under.same refl refl)
+    rw c.set_row.ensures (messages_edited c.self.inside.objects c.self.inside.accepted c.self.inside.records c.self.inside.outstanding c.self.inside.untaken c.self.invariant c.in-Some.field-0 _ c.in-Some.ensures.under.same refl refl)
 
 pub returns : goal.returns
 returns c =

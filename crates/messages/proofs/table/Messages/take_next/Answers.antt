@@ -2,9 +2,9 @@ use Rattle.std.proofs.Common.{refl, sym, ap, ◌∙◌}
 use Rattle.std.specs.Prelude.{List, Option, slice_get}
 use Rattle.sym_base.specs.declared.number.MsgNo.{MsgNo}
 use Rattle.links.proofs.Marks.{held_at}
-use Rattle.messages.specs.declared.rows.Message.{Message}
-use Rattle.messages.specs.MessageRows.{waits_at}
-use Rattle.messages.specs.Calls.{number_of, taken, taken_row}
+use Rattle.state_rows.specs.declared.messages.Message.{Message}
+use Rattle.state_rows.specs.MessageRows.{waits_at}
+use Rattle.state_rows.specs.MessageChanges.{number_of, taken, taken_row}
 use Rattle.messages.specs.Queued.{rows_of}
 use Rattle.messages.proofs.Queueing.{messages_taken, where_stands}
 use Rattle.messages.proofs.Seen.{seen_edited, seen_first, seen_none, seen_some}
@@ -35,7 +35,7 @@ message-message-requires c =
 
 pub invariant_of-self : goal.invariant_of-self
 invariant_of-self c =
-    rw (c.unlink.ensures.unlinked, c.set_row.ensures) (messages_taken c.self.inside.accepted c.self.inside.records c.self.inside.outstanding c.self.inside.untaken c.self.invariant (record { key = c.in_ok-key.key; message = c.message-message.result }) (taken_row c.message-message.result.row) c.message-message.ensures.same refl refl)
+    rw (c.unlink.ensures.unlinked, c.set_row.ensures) (messages_taken c.self.inside.objects c.self.inside.accepted c.self.inside.records c.self.inside.outstanding c.self.inside.untaken c.self.invariant (record { key = c.in_ok-key.key; message = c.message-message.result }) (taken_row c.message-message.result.row) c.message-message.ensures.same refl refl)
 
 pub returns-clause-first : goal.returns-clause-first
 returns-clause-first c =

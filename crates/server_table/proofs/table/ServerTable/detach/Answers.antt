@@ -1,7 +1,7 @@
 use Rattle.std.proofs.Common.{◌∙◌, get_or, refl, sym, ap, arith}
 use Rattle.std.specs.Prelude.{None}
 use Rattle.links.proofs.Marks.{held_at}
-use Rattle.server_table.specs.ServerRows.{link_of, session_at}
+use Rattle.state_rows.specs.ServerRows.{link_of, session_at}
 use Rattle.server_table.specs.Kept.{link_at}
 use Rattle.server_table.proofs.Keeping.{kept_left, linked_server, linked_session, linked_stands, rows_left}
 use Rattle.server_table.proofs.Numbers.{some_below}

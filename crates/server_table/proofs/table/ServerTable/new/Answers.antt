@@ -1,7 +1,7 @@
 use Rattle.std.proofs.Common.{◌≡◌, replicate, refl, rules, arith}
 use Rattle.std.specs.Prelude.{Option, None}
-use Rattle.server_table.specs.declared.rows.ServerRow.{ServerRow}
-use Rattle.server_table.specs.declared.rows.SessionRow.{SessionRow}
+use Rattle.state_rows.specs.declared.servers.ServerRow.{ServerRow}
+use Rattle.state_rows.specs.declared.servers.SessionRow.{SessionRow}
 use Rattle.server_table.proofs.Keeping.{kept_new}
 use Rattle.server_table.proofs.Sessions.{none_linked}
 use Rattle.server_table.proofs.table.ServerTable.new.Goals as goal

@@ -1,7 +1,7 @@
 use Rattle.std.proofs.Common.{◌∙◌, ap}
 use Rattle.std.specs.Prelude.{None}
 use Rattle.std.proofs.lemmas.List.{get_or_read}
-use Rattle.server_table.specs.ServerRows.{link_of}
+use Rattle.state_rows.specs.ServerRows.{link_of}
 use Rattle.server_table.proofs.Keeping.{server_known, server_tells}
 use Rattle.server_table.proofs.Numbers.{some_below}
 use Rattle.server_table.proofs.table.ServerTable.server_of.Goals as goal

@@ -1,5 +1,5 @@
 use Rattle.std.proofs.Common.{refl, ap, length-set}
-use Rattle.server_table.specs.ServerRows.{link_of}
+use Rattle.state_rows.specs.ServerRows.{link_of}
 use Rattle.server_table.proofs.Keeping.{kept_rows, link_stays}
 use Rattle.server_table.proofs.table.ServerTable.set_open.Goals as goal
 

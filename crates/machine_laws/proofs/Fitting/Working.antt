@@ -1,0 +1,133 @@
+-- What a thread does for its closing servers fits: it finishes their messages, detaches their sessions, and at last stops them.
+use Rattle.std.proofs.Common.{◌≡◌, ◌<◌, List, [], ◌∷◌, ◌++◌, map, arith, refl, ap, subst, ◌∙◌, Option, Some, None, Bool, true, false}
+use Rattle.std.specs.List.{AllByRecursion}
+use Rattle.std.specs.Prelude.{◌||◌, is_some, if◌then◌else◌}
+use Rattle.std.proofs.lemmas.Bool.{eq-eqb}
+use Rattle.sym_base.specs.ErrorCode.{error_code}
+use Rattle.sym_base.specs.declared.error.Error.TheVariants.{ServerTerminated}
+use Rattle.sym_base.specs.declared.number.MsgNo.{MsgNo}
+use Rattle.sym_base.specs.declared.number.ObjNo.{ObjNo}
+use Rattle.script_types.specs.declared.script.Script.{Script}
+use Rattle.state_rows.specs.MessageRows.{message_of, messages_at}
+use Rattle.state_rows.specs.ServerRows.{holds, is_closing, linked_at, server_of}
+use Rattle.state_rows.specs.declared.messages.Message.{Message}
+use Rattle.state_rows.specs.declared.thread.ThreadRow.{ThreadRow}
+use Rattle.machine.specs.declared.holding.Holding.{Holding}
+use Rattle.machine.specs.declared.holding.Holding.TheVariants.{Message as OfMessage, Link as OfLink, Server as OfServer}
+use Rattle.machine.specs.declared.state.State.{State}
+use Rattle.machine.specs.Holdings.{closing_holdings, held_servers, server_holdings}
+use Rattle.machine.specs.Reaping.{finish_message, give_up}
+use Rattle.machine.specs.References.{mutex_names, total}
+use Rattle.machine.specs.Rows.{thread_of}
+use Rattle.machine.specs.ServerMoves.{owned_by}
+use Rattle.machine.specs.Serving.{times_owned}
+use Rattle.machine.specs.Task.{is_returning}
+use Rattle.machine.specs.WellFormed.{AreRows, part_of}
+use Rattle.move_laws.proofs.Lists.Cases.{if_cases}
+use Rattle.move_laws.proofs.References.Same.{same_self}
+use Rattle.machine_laws.proofs.Fitting.Finishing.{finishes}
+use Rattle.machine_laws.proofs.Fitting.Stepping.{FitsDecision, fits-nothing}
+
+-- of nothing both parts are nothing
+pub empty_left : {A : Type 0} (xs ys : List A) → xs ++ ys ≡ [] → xs ≡ []
+empty_left [] ys e = refl
+empty_left (x ∷ xs) ys e = absurd (cc)
+
+pub empty_right : {A : Type 0} (xs ys : List A) → xs ++ ys ≡ [] → ys ≡ []
+empty_right [] ys e = e
+empty_right (x ∷ xs) ys e = absurd (cc)
+
+pub no-items : {A : Type 0} (f : A → Holding) (xs : List A) → map f xs ≡ [] → xs ≡ []
+no-items f [] e = refl
+no-items f (x ∷ xs) e = absurd (cc)
+
+-- what holds of the first of some things
+abbrev pub OfFirst : (Holding → Type 0) → List Holding → Type 0
+OfFirst P xs = (what : Holding) (rest : List Holding) → xs ≡ what ∷ rest → P what
+
+pub first-all : (P : Holding → Type 0) (xs : List Holding) → AllByRecursion P xs → OfFirst P xs
+first-all P [] all what rest e = absurd (cc)
+first-all P (x ∷ xs) all what rest e = let first : x ≡ what = cc in subst P first all.0
+
+pub first-both : (P : Holding → Type 0) (xs ys : List Holding) → OfFirst P xs → (xs ≡ [] → OfFirst P ys) → OfFirst P (xs ++ ys)
+first-both P [] ys first next what rest e = next refl what rest e
+first-both P (x ∷ xs) ys first next what rest e = let one : x ≡ what = cc in subst P one (first x xs refl)
+
+pub first-one : (P : Holding → Type 0) (x : Holding) → P x → OfFirst P (x ∷ [])
+first-one P x p what rest e = let one : x ≡ what = cc in subst P one p
+
+-- a thread that gives something up: it is there, and isn't between a find and its return
+pub record IsGiving (script : Script) (S : State) (t : ObjNo) (row : ThreadRow) : Type 0 where
+  pub rows : AreRows script S
+  pub is : thread_of S t ≡ Some row
+  pub going : is_returning row.part ≡ false
+
+module _ (script : Script) (S : State) (t : ObjNo) (row : ThreadRow) (h : IsGiving script S t row) where
+  abbrev Gives : Holding → Type 0
+  Gives what = FitsDecision script t S (give_up S t row what)
+
+  going : is_returning (part_of (thread_of S t)) ≡ false
+  going = ap (λ (r : Option ThreadRow). is_returning (part_of r)) h.is ∙ h.going
+
+  -- a message is finished
+  gives-message : (m : MsgNo) → Gives (OfMessage m)
+  gives-message m = by (message_of S.messages m) refl
+    where
+      by : (message : Option Message) → message_of S.messages m ≡ message → FitsDecision script t S (finish_message S message)
+      by None is = fits-nothing script S t
+      by (Some message) is =
+          let done = finishes script S t m message (error_code ServerTerminated) h.rows (record { thread = ap is_some h.is; going = going }) is in
+          record { each = done.each; told = let few = done.told in omega arith; light = let few = done.light in omega arith }
+
+  -- a session is detached
+  gives-link : (s o : ObjNo) → server_of S.servers s ≡ Some o → Gives (OfLink s o)
+  gives-link s o linked = record { each = ((going, linked), tt); told = omega arith; light = omega arith }
+
+  first-link : (o : ObjNo) (links : List ObjNo) → ((s : ObjNo) → holds s links ≡ true → server_of S.servers s ≡ Some o) → OfFirst Gives (map (λ s. OfLink s o) links)
+  first-link o [] linked what rest e = absurd (cc)
+  first-link o (s ∷ links) linked what rest e =
+      let one : OfLink s o ≡ what = cc in
+      subst Gives one (gives-link s o (linked s (ap (λ (b : Bool). b || holds s links) (eq-eqb s.0 s.0 refl))))
+
+  -- a server of which nothing is left stops
+  gives-server : (o : ObjNo) → is_closing S.servers o ≡ true → messages_at S.messages o ≡ [] → linked_at S.servers o ≡ [] → 0 < times_owned S.owned t o → Gives (OfServer o)
+  gives-server o closing finished detached owned = record { each = (record { closing = closing; finished = finished; detached = detached }, ((going, owned), tt)); told = omega arith; light = omega arith }
+
+  all-messages : (messages : List Message) → AllByRecursion Gives (map (λ (m : Message). OfMessage m.number) messages)
+  all-messages [] = tt
+  all-messages (m ∷ ms) = (gives-message m.number, all-messages ms)
+
+  -- the first of what is left of a server
+  first-server : (o : ObjNo) → is_closing S.servers o ≡ true → 0 < times_owned S.owned t o → OfFirst Gives (server_holdings S o)
+  first-server o closing owned =
+      let messages = map (λ (m : Message). OfMessage m.number) (messages_at S.messages o) in
+      let links = map (λ s. OfLink s o) (linked_at S.servers o) in
+      first-both Gives (messages ++ links) (OfServer o ∷ [])
+      (first-both Gives messages links (first-all Gives messages (all-messages (messages_at S.messages o))) (λ none. first-link o (linked_at S.servers o) (λ s among. h.rows.servers.linked s o among)))
+      (λ none. first-one Gives (OfServer o) (gives-server o closing (no-items (λ (m : Message). OfMessage m.number) (messages_at S.messages o) (empty_left messages links none)) (no-items (λ s. OfLink s o) (linked_at S.servers o) (empty_right messages links none)) owned))
+
+  -- and of what is left of all
+  first-closing : (os : List ObjNo) → ((o : ObjNo) → 0 < total (mutex_names o) os → 0 < times_owned S.owned t o) → OfFirst Gives (closing_holdings S os)
+  first-closing [] owned what rest e = absurd (cc)
+  first-closing (o ∷ os) owned what rest e =
+      first-both Gives (if is_closing S.servers o then server_holdings S o else []) (closing_holdings S os)
+      (if_cases (OfFirst Gives) (is_closing S.servers o) (server_holdings S o) [] (λ closing. first-server o closing (owned o (let self = same_self o in omega arith))) (λ other what rest e. absurd (cc)))
+      (λ none. first-closing os (λ x some. owned x (omega arith))) what rest e
+
+  first-work : OfFirst Gives (held_servers S t)
+  first-work = first-closing (owned_by S.owned t) (λ o some. some)
+
+pub fits-work : {script : Script} {S : State} {t : ObjNo} {row : ThreadRow} (what : Holding) (rest : List Holding) → IsGiving script S t row → held_servers S t ≡ what ∷ rest → FitsDecision script t S (give_up S t row what)
+fits-work {script = script} {S = S} {t = t} {row = row} what rest h has = first-work script S t row h what rest has
+
+-- where nothing is left of closing servers, and all are closing, there are none
+pub none-owned : (S : State) (os : List ObjNo) → ((o : ObjNo) → 0 < total (mutex_names o) os → is_closing S.servers o ≡ true) → closing_holdings S os ≡ [] → os ≡ []
+none-owned S [] closing e = refl
+none-owned S (o ∷ os) closing e = by (is_closing S.servers o) (closing o (let self = same_self o in omega arith)) (empty_left (if is_closing S.servers o then server_holdings S o else []) (closing_holdings S os) e)
+  where
+    ends : server_holdings S o ≡ [] → ⊥
+    ends none = let last = empty_right (map (λ (m : Message). OfMessage m.number) (messages_at S.messages o) ++ map (λ s. OfLink s o) (linked_at S.servers o)) (OfServer o ∷ []) none in cc
+
+    by : (b : Bool) → b ≡ true → (if b then server_holdings S o else []) ≡ [] → o ∷ os ≡ []
+    by true is none = absurd (ends none)
+    by false is none = absurd (cc)

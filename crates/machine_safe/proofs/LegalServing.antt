@@ -1,0 +1,95 @@
+-- In every legal history messages and servers are safe.
+use Rattle.entry_log.specs.declared.entry.Entry.{Entry}
+use Rattle.machine.specs.Boot.{boot, boot_of, born}
+use Rattle.machine.specs.History.{IsLegal, after}
+use Rattle.machine.specs.References.{mutex_names, total}
+use Rattle.machine_laws.proofs.AtBoot.Born.{born_row, each_born}
+use Rattle.machine_laws.proofs.Reached.Histories.{after_from-push}
+use Rattle.machine_safe.proofs.Deaths.Cut.{cut, dies-history}
+use Rattle.machine_safe.proofs.Deaths.Leaves.{empty-cleaning}
+use Rattle.machine_safe.proofs.Deaths.Order.{cleans-here}
+use Rattle.machine_safe.proofs.Deaths.Rows.{row_bit, stage_live}
+use Rattle.machine_safe.proofs.Serving.Books.{IsFated, book-boot, turn-entry}
+use Rattle.machine_safe.proofs.Serving.Turns.{Book, IsLawful}
+use Rattle.machine_safe.specs.CountAfter.{effects_of}
+use Rattle.machine_safe.specs.SafeDeaths.{StandsAt, cleanings}
+use Rattle.machine_safe.specs.SafeMessages.{IsSafeMessages, NothingLeft}
+use Rattle.machine_safe.specs.SafeServers.{IsSafeServers}
+use Rattle.machine_safe.specs.Sent.{finishes}
+use Rattle.machine_safe.specs.Served.{ends, owner_in, server_told}
+use Rattle.script_types.proofs.ShapeLaws.{formed_is_shaped}
+use Rattle.script_types.specs.declared.script.Script.{Script}
+use Rattle.std.proofs.Common.{List, Some, [], ap, append_assoc, arith, inl, inr, refl, subst, sym, ◌++◌, ◌<◌, ◌∙◌, ◌∷◌, ◌≡◌}
+use Rattle.std.proofs.lemmas.List.{append-nil}
+use Rattle.sym_base.specs.declared.number.ObjNo.{ObjNo}
+use Rattle.script_types.specs.Source.{IsWellFormed}
+
+-- a thread that is there is live, or was doomed once
+fated : (script : Script) (before : List Entry) → IsWellFormed script → IsLegal script before → IsFated before (after script before)
+unfolding boot_of
+fated script before valid legal u row is =
+    let front = dies-history script before valid legal in
+    let was = front.were u.0 row is in
+    let live = front.live u in
+    let now = ap (row_bit stage_live) is in
+    let first = ap (row_bit stage_live) was.was in
+    let born_live = ap stage_live (born_row script _ (born script) u.0 was.old (each_born script (formed_is_shaped script valid)) was.was).live in omega arith
+
+-- after each entry
+pub book-after : (script : Script) (before later : List Entry) → IsWellFormed script → IsLegal script (before ++ later) → Book script [] (boot script) → Book script before (after script before)
+book-after script before later valid legal book = by [] before refl book
+  where
+    by : (xs ys : List Entry) → before ≡ xs ++ ys → Book script xs (after script xs) → Book script before (after script before)
+    by xs [] e h = subst (λ (l : List Entry). Book script l (after script l)) (sym (e ∙ append-nil xs)) h
+    by xs (y ∷ ys) e h =
+        let cuts = cut script (before ++ later) xs y (ys ++ later) valid legal (ap (λ (l : List Entry). l ++ later) e ∙ append_assoc xs (y ∷ ys) later) in
+        let S = after script xs in
+        let turn = turn-entry script xs S cuts.place (formed_is_shaped script valid) cuts.rows h (fated script xs valid cuts.legal_before) y cuts.here in
+        by (xs ++ y ∷ []) ys (e ∙ sym (append_assoc xs (y ∷ []) ys)) (subst (Book script (xs ++ y ∷ [])) (sym (after_from-push script (boot script) xs y)) turn.book)
+
+-- each entry is lawful
+lawful : (script : Script) (history before : List Entry) (e : Entry) (later : List Entry) → IsWellFormed script → IsLegal script history → StandsAt history before e later → IsLawful script before e
+lawful script history before e later valid legal is =
+    let c = cut script history before e later valid legal is in
+    let shaped = formed_is_shaped script valid in
+    let book = book-after script before (e ∷ later) valid (subst (IsLegal script) is legal) (book-boot script shaped) in
+    (turn-entry script before (after script before) c.place shaped c.rows book (fated script before valid c.legal_before) e c.here).lawful
+
+pub legal_messages : (script : Script) (history : List Entry) → IsWellFormed script → IsLegal script history → IsSafeMessages script history
+legal_messages script history valid legal = record {
+  acceptances = λ before e later is some. (lawful script history before e later valid legal is).acceptance some;
+  finished = λ before e later m is some. (lawful script history before e later valid legal is).finish m some;
+  ended = λ before e later v is some. (lawful script history before e later valid legal is).end v some;
+}
+
+-- a thread that is cleaned made servers that ended, and nothing is left of these
+module _ (script : Script) (history before : List Entry) (e : Entry) (later : List Entry) (t v : ObjNo) (valid : IsWellFormed script) (legal : IsLegal script history) (is : StandsAt history before e later) (cleaned : 0 < cleanings (e ∷ []) t) (owns : owner_in before v ≡ Some t) where
+  book : Book script before (after script before)
+  book = book-after script before (e ∷ later) valid (subst (IsLegal script) is legal) (book-boot script (formed_is_shaped script valid))
+
+  server-ended : 0 < ends (effects_of before) v
+  server-ended = elim (book.served.made t v owns) as (λ _. 0 < ends (effects_of before) v) [
+    | inl owned ↦
+        let c = cut script history before e later valid legal is in
+        let empty = empty-cleaning script (after script before) e t c.rows (cleans-here script before e later t c cleaned) in
+        let none = ap (total (mutex_names v)) empty.owned in absurd (omega arith)
+    | inr over ↦ over
+  ]
+
+  nothing-left : NothingLeft before v
+  nothing-left m a linked = elim (book.letters.all m a) as (λ _. finishes (effects_of before) m ≡ 1) [
+    | inl done ↦ done
+    | inr out ↦
+        let known = book.letters.known out.post out.among in
+        let both : Some out.post.server ≡ Some v = sym known.linked ∙ (ap (server_told (effects_of before)) out.over ∙ linked) in
+        let own : out.post.server ≡ v = cc in
+        let same_end = ap (ends (effects_of before)) own in
+        let lasts = known.lasts in
+        let over = server-ended in absurd (omega arith)
+  ]
+
+pub legal_servers : (script : Script) (history : List Entry) → IsWellFormed script → IsLegal script history → IsSafeServers history
+legal_servers script history valid legal = record {
+  ended = λ before e later t v is cleaned owns. server-ended script history before e later t v valid legal is cleaned owns;
+  finished = λ before e later t v is cleaned owns. nothing-left script history before e later t v valid legal is cleaned owns;
+}

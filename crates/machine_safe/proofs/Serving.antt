@@ -1,0 +1,25 @@
+-- Who serves, and which messages are outstanding, read off the moves of actions.
+pub mod Acting
+pub mod Books
+pub mod Closing
+pub mod Deeds
+pub mod Doing
+pub mod EffectSums
+pub mod Fated
+pub mod Finished
+pub mod Founding
+pub mod Giving
+pub mod Joining
+pub mod Keeps
+pub mod Kept
+pub mod KeptRows
+pub mod Letters
+pub mod Making
+pub mod Posted
+pub mod Quiet
+pub mod Reading
+pub mod Sending
+pub mod Served
+pub mod Stopping
+pub mod Told
+pub mod Turns

@@ -1,0 +1,187 @@
+-- What a history tells of servers and messages is so after each of its entries.
+use Rattle.entry_log.specs.declared.entry.Actor.{Actor}
+use Rattle.entry_log.specs.declared.entry.Actor.TheVariants.{Idfc, Idle, Irq, Thread, Tick}
+use Rattle.entry_log.specs.declared.entry.Entry.{Entry}
+use Rattle.machine.specs.Arrivals.{ready_after}
+use Rattle.machine.specs.Bodies.{decision_by}
+use Rattle.machine.specs.Boot.{boot, boot_of, born}
+use Rattle.machine.specs.Decide.{answer}
+use Rattle.machine.specs.History.{IsNext, entry_by, entry_of, next}
+use Rattle.machine.specs.Interrupts.{done_by, immediate, immediate_plan, interrupt, supervisor}
+use Rattle.machine.specs.Moves.{perform, tell}
+use Rattle.machine.specs.References.{total}
+use Rattle.machine.specs.Rows.{thread_of}
+use Rattle.machine.specs.Steps.{decision_of}
+use Rattle.machine.specs.Task.{instruction, instructions_of}
+use Rattle.machine.specs.Tick.{tick}
+use Rattle.machine.specs.Transition.{act, idle}
+use Rattle.machine.specs.WellFormed.{AreRows}
+use Rattle.machine.specs.declared.decision.Decision.{Decision}
+use Rattle.machine.specs.declared.plan.Body.TheVariants.{Interrupt}
+use Rattle.machine.specs.declared.plan.Plan.{Plan}
+use Rattle.machine.specs.declared.plan.Plan.TheVariants.{Runs}
+use Rattle.machine.specs.declared.state.State.{State}
+use Rattle.machine_laws.proofs.AtBoot.BootServing.{no_session}
+use Rattle.machine_laws.proofs.AtBoot.Born.{born_row, each_born}
+use Rattle.machine_laws.proofs.Fitting.Bodies.{Goes}
+use Rattle.machine_laws.proofs.Fitting.Interrupts.{goes-immediate, goes-interrupt}
+use Rattle.machine_safe.proofs.Deaths.BodySteps.{none-body, none-planned}
+use Rattle.machine_safe.proofs.Deaths.Other.{CleansNone, advance_bit, none-nothing}
+use Rattle.machine_safe.proofs.Deaths.Rows.{row_bit, stage_live}
+use Rattle.machine_safe.proofs.Serving.Deeds.{OfEach, calm}
+use Rattle.machine_safe.proofs.Serving.Doing.{Doing, doing, doing-by, keeps-doing, lost-doing, quiet-doing}
+use Rattle.machine_safe.proofs.Serving.Fated.{doom-among, doom-told}
+use Rattle.machine_safe.proofs.Serving.Finished.{turn-finishes}
+use Rattle.machine_safe.proofs.Serving.Keeps.{changing-none, lost-none, message-none, steps_of}
+use Rattle.machine_safe.proofs.Serving.Letters.{letters-quiet, letters-ready, no-front}
+use Rattle.machine_safe.proofs.Serving.Posted.{turn-sends}
+use Rattle.machine_safe.proofs.Serving.Reading.{further, reading, same-entry}
+use Rattle.machine_safe.proofs.Serving.Served.{served-keeps, served-made, served-ready, served-same}
+use Rattle.machine_safe.proofs.Serving.Founding.{turn-makes}
+use Rattle.machine_safe.proofs.Serving.Joining.{turn-joins}
+use Rattle.machine_safe.proofs.Serving.Stopping.{turn-closes, turn-stops}
+use Rattle.machine_safe.proofs.Serving.Turns.{Book, IsTurn, entry_for, turn-keeps, unserving}
+use Rattle.machine_safe.specs.CountAfter.{effects_of, is_by}
+use Rattle.machine_safe.specs.SafeDeaths.{dooms}
+use Rattle.machine_safe.specs.Sent.{answers, at_place, instruction_in}
+use Rattle.machine_safe.specs.Served.{closes_handle, handles_lost}
+use Rattle.move_laws.proofs.Lists.Contents.{none_contained}
+use Rattle.move_laws.proofs.Lists.Copies.{copy_at}
+use Rattle.move_laws.proofs.MoveLaws.RowMoves.{silent}
+use Rattle.move_laws.proofs.References.Same.{if_zero}
+use Rattle.script_types.specs.Shape.{IsShaped}
+use Rattle.script_types.specs.declared.script.Script.{Script}
+use Rattle.state_rows.specs.Deferred.{next_immediate}
+use Rattle.state_rows.specs.ServerRows.{link_of}
+use Rattle.state_rows.specs.declared.deferred.Item.{Item}
+use Rattle.state_rows.specs.declared.servers.ServerRow.{ServerRow}
+use Rattle.state_rows.specs.declared.thread.Role.{Role}
+use Rattle.state_rows.specs.declared.thread.ThreadRow.{ThreadRow}
+use Rattle.std.proofs.Common.{Bool, List, None, Option, Some, [], arith, false, inr, refl, subst, sym, ℕ, ◌++◌, ◌+◌, ◌∙◌, ◌∷◌, ◌≡◌, ap, ℤ, true}
+use Rattle.std.specs.Prelude.{if◌then◌else◌, is_some, slice_get, ◌&&◌, ◌==◌}
+use Rattle.sym_base.specs.declared.limits.TheConstants.Limits.{OBJECTS}
+use Rattle.sym_base.specs.declared.number.ObjNo.{ObjNo}
+use Rattle.entry_log.specs.declared.step.Step.TheVariants as step
+use Rattle.state_rows.specs.declared.deferred.Item.TheVariants as item
+use Rattle.machine_safe.proofs.Serving.Giving.{deed-of}
+use Rattle.machine.specs.declared.moves.Move.{Move}
+
+-- such an action ends nobody's instruction
+unanswered : (t : ObjNo) (actor : Actor) (ms : List Move) (answer : Option ℤ) (k : ObjNo) → total advance_bit ms ≡ 0 → is_by k actor ≡ false → steps_of t ms k.0 ≡ (if is_by k actor && is_some answer then 1 else 0) + 0
+unanswered t actor ms answer k none nobody = by (t.0 == k.0) (is_by k actor) nobody
+  where
+    by : (b c : Bool) → c ≡ false → (if b then total advance_bit ms else 0) ≡ (if c && is_some answer then 1 else 0) + 0
+    by true false e = none
+    by false false e = refl
+    by b true e = absurd (cc)
+
+-- an action of which no thread is the actor: it answers nothing, and serves nobody
+pub turn-without : (script : Script) (before : List Entry) (S : State) (place : ℕ) (t : ObjNo) (actor : Actor) (d : Decision) → AreRows script S → Book script before S → ((u : ObjNo) → is_by u actor ≡ false) → d.answer ≡ None → CleansNone false d.moves → Doing script S t d.moves
+    → IsTurn script before (entry_of place actor (record { step = d.step; effects = tell t d.moves S; answer = d.answer })) (perform t d.moves S)
+turn-without script before S place t actor d rows book nobody silent calm does =
+    let e = entry_of place actor (record { step = d.step; effects = tell t d.moves S; answer = d.answer }) in
+    let fs = tell t d.moves S in
+    let k = keeps-doing script S t d.moves does rows (served-made script (reading before) S book.served) (changing-none d.moves (calm.calm refl)) in
+    let q = quiet-doing script S t d.moves does (message-none d.moves (calm.calm refl)) in
+    record {
+      book = record {
+        served = served-same script (further (reading before) d.step fs (steps_of t d.moves)) (reading (before ++ e ∷ [])) (perform t d.moves S)
+            (same-entry before e (steps_of t d.moves) (λ n. unanswered t actor d.moves d.answer (record { 0 = n }) calm.advances (nobody (record { 0 = n }))))
+            (served-keeps script (reading before) S (perform t d.moves S) t d.moves d.step fs book.served k
+            (λ v. let a = calm.dooms v in let b = doom-told t d.moves S v in omega arith) (λ v. doom-among t d.moves S v)
+            (λ v row there. if_zero (closes_handle d.step) (handles_lost fs v) (let most = lost-doing script S t d.moves v does rows in let none = lost-none v d.moves (calm.calm refl) in omega arith))
+            (λ _. calm.locks));
+        letters = letters-quiet script before S (perform t d.moves S) e book.letters (λ p among. k.unlinked p.session) q (λ p among. k.unended p.server);
+      };
+      lawful = unserving script before e q.accepts q.finishes k.unended;
+    }
+
+-- the ready list isn't looked at
+pub turn-ready : (script : Script) (before : List Entry) (e : Entry) (T : State) (qs : List ObjNo) → IsTurn script before e T → IsTurn script before e (record T { ready = qs })
+turn-ready script before e T qs h = record { book = record { served = served-ready script (reading (before ++ e ∷ [])) T qs h.book.served; letters = letters-ready script (before ++ e ∷ []) T qs h.book.letters }; lawful = h.lawful }
+
+-- each thread that is there is live, or was doomed once
+abbrev pub IsFated : List Entry → State → Type 0
+IsFated before S = (u : ObjNo) (row : ThreadRow) → thread_of S u ≡ Some row → row_bit stage_live (Some row) + dooms (effects_of before) u ≡ 1
+
+-- a thread is at the instruction of its place
+at-instruction : (script : Script) (before : List Entry) (S : State) (t : ObjNo) (row : ThreadRow) → Book script before S → thread_of S t ≡ Some row → instruction_in script before t ≡ instruction script row
+at-instruction script before S t row book is =
+    let p = book.served.places t.0 row is in
+    ap (at_place script (answers before t)) p.is ∙ (ap (λ (n : ℕ). slice_get (instructions_of script p.first.role) n) (sym p.place) ∙ ap (λ (r : Role). slice_get (instructions_of script r) row.next_instruction) p.role)
+
+module _ (script : Script) (before : List Entry) (S : State) (place : ℕ) (shaped : IsShaped script) (rows : AreRows script S) (book : Book script before S) (fate : IsFated before S) where
+  -- an action of a thread
+  each-turn : (t : ObjNo) → OfEach S t (instruction_in script before t) (λ (d : Decision). Doing script S t d.moves → IsTurn script before (entry_for place t S d) (perform t d.moves S))
+  each-turn t = record {
+    keeps = λ d is. turn-keeps script before S place t rows book d is;
+    sends = λ d is. turn-sends script before S place t rows book d is;
+    finishes = λ d is does. turn-finishes script before S place t rows book d is does fate;
+    makes = λ d is does. turn-makes script before S place t rows book d is does (λ u live. let a = fate u live.row live.is in let b = ap stage_live live.live in omega arith);
+    joins = λ d is. turn-joins script before S place t rows book d is;
+    closes = λ d is. turn-closes script before S place t rows book d is;
+    stops = λ d is. turn-stops script before S place t rows book d is;
+  }
+
+  turn-act : (t : ObjNo) → IsTurn script before (entry_of place (Thread t) (act script S t).outcome) (act script S t).state
+  unfolding act
+  turn-act t = turn-ready script before (entry_for place t S (decision_of script S t)) (perform t (decision_of script S t).moves S) (ready_after script t (decision_of script S t).moves S)
+      (deed-of script S t rows (instruction_in script before t) _ (each-turn t) (λ row is. at-instruction script before S t row book is) (doing script S t shaped rows))
+
+  turn-done : (actor : Actor) (plan : Plan) → ((u : ObjNo) → is_by u actor ≡ false) → (decision_by script supervisor S plan).answer ≡ None → CleansNone false (decision_by script supervisor S plan).moves → Goes script supervisor S (decision_by script supervisor S plan).moves → IsTurn script before (entry_of place actor (done_by script S plan).outcome) (done_by script S plan).state
+  turn-done actor plan nobody silent calm goes =
+      let d = decision_by script supervisor S plan in
+      turn-ready script before (entry_of place actor (record { step = d.step; effects = tell supervisor d.moves S; answer = d.answer })) (perform supervisor d.moves S) (ready_after script supervisor d.moves S)
+      (turn-without script before S place supervisor actor d rows book nobody silent calm (doing-by script S plan rows goes))
+
+  turn-interrupt : (k : ℕ) → IsTurn script before (entry_of place (Irq k) (interrupt script S k).outcome) (interrupt script S k).state
+  unfolding interrupt
+  turn-interrupt k = turn-done (Irq k) (Runs (Interrupt k)) (λ u. refl) refl (none-body script supervisor S (Interrupt k)) (goes-interrupt script S k shaped rows)
+
+  silent-plan : (found : Option Item) → (decision_by script supervisor S (immediate_plan script S found)).answer ≡ None
+  silent-plan None = refl
+  silent-plan (Some (item.Idfc call)) = refl
+  silent-plan (Some (item.Move dfc)) = refl
+
+  turn-immediate : IsTurn script before (entry_of place Idfc (immediate script S).outcome) (immediate script S).state
+  unfolding immediate
+  turn-immediate =
+      let found = next_immediate S.deferred in turn-done Idfc (immediate_plan script S found) (λ u. refl) (silent-plan found) (none-planned script supervisor S found) (goes-immediate script S found shaped rows refl)
+
+  turn-tick : IsTurn script before (entry_of place Tick (tick S).outcome) (tick S).state
+  unfolding tick
+  turn-tick = turn-ready script before _ S _ (turn-without script before S place supervisor Tick (record { step = step.Turn; moves = []; answer = None }) rows book (λ u. refl) refl none-nothing (inr (inr refl)))
+
+  turn-idle : IsTurn script before (entry_of place Idle (idle S).outcome) (idle S).state
+  turn-idle = turn-without script before S place supervisor Idle (record { step = step.Wait; moves = []; answer = None }) rows book (λ u. refl) refl none-nothing (inr (inr refl))
+
+  turn-next : (actor : Actor) → IsTurn script before (entry_by script S place actor) (next script S actor)
+  turn-next (Thread t) = turn-act t
+  turn-next (Irq k) = turn-interrupt k
+  turn-next Idfc = turn-immediate
+  turn-next Tick = turn-tick
+  turn-next Idle = turn-idle
+
+  -- and of whichever actor
+  pub turn-entry : (e : Entry) → IsNext script S place e → IsTurn script before e (next script S e.actor)
+  turn-entry e here = subst (λ (x : Entry). IsTurn script before x (next script S e.actor)) (sym here.told) (turn-next e.actor)
+
+-- at boot nothing was told
+pub book-boot : (script : Script) → IsShaped script → Book script [] (boot script)
+unfolding boot_of
+book-boot script shaped = record {
+  served = record {
+    rows = λ o row is. let none = copy_at {A = Option ServerRow} None OBJECTS o.0 in absurd (cc);
+    links = λ s o is. let none = ap link_of (no_session OBJECTS s) in absurd (cc);
+    ended = λ o some. absurd (omega arith);
+    made = λ t o is. absurd (cc);
+    unmade = λ o past. refl;
+    places = λ k row is. record { first = row; is = is; role = refl; place = (born_row script _ (born script) k row (each_born script shaped) is).next_instruction };
+  };
+  letters = record {
+    accepted = refl;
+    known = λ p among. absurd (none_contained p among);
+    all = λ m a. absurd (no-front a.before a.later a.at a.stands);
+    later = λ m above. refl;
+  };
+}

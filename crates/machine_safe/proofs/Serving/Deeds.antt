@@ -1,0 +1,158 @@
+-- What an action of a thread does to servers and messages: by its decision it sends or finishes a message, makes, closes or stops a server, joins a
+-- session, or leaves all that.
+use Rattle.entry_log.specs.declared.effect.Holder.{Holder}
+use Rattle.entry_log.specs.declared.effect.Holder.TheVariants.{Own}
+use Rattle.entry_log.specs.declared.effect.StatusNo.{StatusNo}
+use Rattle.machine.specs.Messaging.{finish}
+use Rattle.machine.specs.Moves.{next_object, tell}
+use Rattle.machine.specs.References.{total}
+use Rattle.machine.specs.declared.decision.Decision.{Decision}
+use Rattle.machine.specs.declared.message_move.MessageMove.TheVariants.{Accept}
+use Rattle.machine.specs.declared.moves.Move.{Move}
+use Rattle.machine.specs.declared.moves.Move.TheVariants.{Advance, Gain, Lose, Make, Messages, Servers}
+use Rattle.machine.specs.declared.server_move.ServerMove.TheVariants.{Start, Join, Close, End}
+use Rattle.machine.specs.declared.state.State.{State}
+use Rattle.machine_safe.proofs.Deaths.Other.{IsOther, serving_bit, advance_bit, answer_bit, closed_bit, doomed_bit, mutex_bit}
+use Rattle.machine_safe.proofs.Serving.Keeps.{changing-none, changing_bit, lost-none, lost_bit, message-none, message_bit}
+use Rattle.machine_safe.specs.SafeMessages.{code_by}
+use Rattle.machine_safe.specs.Sent.{status_by}
+use Rattle.machine_safe.specs.Served.{closes_handle, is_handle, makes_server}
+use Rattle.script_types.specs.declared.instruction.Instr.{Instr}
+use Rattle.state_rows.specs.MessageRows.{message_of}
+use Rattle.state_rows.specs.ServerRows.{is_closing, owner_of, server_at, server_of}
+use Rattle.state_rows.specs.declared.messages.Message.{Message}
+use Rattle.state_rows.specs.declared.messages.MsgRow.{MsgRow}
+use Rattle.state_rows.specs.declared.messages.Way.{Way}
+use Rattle.state_rows.specs.declared.messages.Way.TheVariants.{Async, Disconnect, Sync}
+use Rattle.state_rows.specs.declared.servers.ServerRow.{ServerRow}
+use Rattle.std.proofs.Common.{Bool, List, None, Option, Some, [], arith, false, refl, true, ℕ, ℤ, ◌++◌, ◌<◌, ◌∷◌, ◌≡◌}
+use Rattle.sym_base.specs.declared.kind.Slots.{Slots}
+use Rattle.sym_base.specs.declared.number.ObjNo.{ObjNo}
+use Rattle.sym_base.specs.declared.kind.Kind.TheVariants as kind
+use Rattle.entry_log.specs.declared.effect.StatusNo.TheVariants as status
+
+-- what stands behind the moves of a call that answers
+abbrev pub behind : Bool → ObjNo → List Move
+behind true t = Advance t ∷ []
+behind false t = []
+
+-- the status of a way
+abbrev pub status_of_way : Way → Option StatusNo
+status_of_way (Async s) = Some (status.Async s)
+status_of_way Sync = Some status.Sync
+status_of_way Disconnect = None
+
+-- a handle goes with a close only of what is no server
+abbrev pub ClosesOthers : State → Decision → Type 0
+ClosesOthers S d = closes_handle d.step ≡ true → (v : ObjNo) → 0 < total (lost_bit v) d.moves → server_at S.servers v ≡ None
+
+-- a thread is answered where its instruction ends, servers begin to close exactly of threads that are doomed, and a server isn't made with a mutex
+pub record IsEven (d : Decision) : Type 0 where
+  pub answers : total advance_bit d.moves ≡ answer_bit d.answer
+  pub dooms : (v : ObjNo) → total (closed_bit v) d.moves ≡ total (doomed_bit v) d.moves
+  pub making : makes_server d.step ≡ true → total mutex_bit d.moves ≡ 0
+
+pub even : {b : Bool} {d : Decision} → IsOther b d → IsEven d
+even h = record { answers = h.answers; dooms = h.dooms; making = h.making }
+
+-- neither servers nor messages change
+pub record IsKeeping (S : State) (d : Decision) : Type 0 where
+  pub even : IsEven d
+  pub changing : total changing_bit d.moves ≡ 0
+  pub still : total message_bit d.moves ≡ 0
+  pub closed : ClosesOthers S d
+
+-- thread t, at an instruction, sends a message
+pub record IsSending (S : State) (t : ObjNo) (at : Option Instr) (d : Decision) : Type 0 where
+  pub even : IsEven d
+  pub front : List Move
+  pub back : List Move
+  pub slots : Slots
+  pub row : MsgRow
+  pub moves : d.moves ≡ front ++ Messages (Accept slots row) ∷ back
+  pub silent : tell t front S ≡ []
+  pub quiet : total serving_bit front ≡ 0
+  pub changing : total changing_bit back ≡ 0
+  pub still : total message_bit back ≡ 0
+  pub client : row.client ≡ t
+  pub linked : server_of S.servers row.session ≡ Some row.server
+  pub accepting : is_closing S.servers row.server ≡ false
+  pub way : status_by d.step at ≡ status_of_way row.way
+  pub closed : ClosesOthers S d
+
+-- it finishes one
+pub record IsFinishing (S : State) (t : ObjNo) (at : Option Instr) (d : Decision) : Type 0 where
+  pub even : IsEven d
+  pub message : Message
+  pub code : ℤ
+  pub answers : Bool
+  pub there : message_of S.messages message.number ≡ Some message
+  pub moves : d.moves ≡ finish S message code ++ behind answers t
+  pub owner : owner_of S.servers message.row.server ≡ Some t
+  pub cause : code_by d.step (is_closing S.servers message.row.server) at ≡ Some code
+  pub step : closes_handle d.step ≡ false
+
+-- it makes a server
+pub record IsMaking (S : State) (t : ObjNo) (d : Decision) : Type 0 where
+  pub even : IsEven d
+  pub name : List ℕ
+  pub holder : Holder
+  pub back : List Move
+  pub moves : d.moves ≡ Servers (Start (next_object S) t) ∷ Make kind.Server name (Own t) ∷ Gain holder (next_object S) ∷ back
+  pub quiet : total serving_bit back ≡ 0
+  pub makes : makes_server d.step ≡ true
+  pub step : closes_handle d.step ≡ false
+
+-- it joins a session at a server
+pub record IsJoining (S : State) (t : ObjNo) (d : Decision) : Type 0 where
+  pub even : IsEven d
+  pub server : ObjNo
+  pub slots : Slots
+  pub holder : Holder
+  pub back : List Move
+  pub moves : d.moves ≡ Make kind.Session [] holder ∷ Servers (Join (next_object S) server slots t) ∷ back
+  pub quiet : total serving_bit back ≡ 0
+  pub makes : makes_server d.step ≡ false
+  pub step : closes_handle d.step ≡ false
+
+-- it closes the handle of a server
+pub record IsClosing (S : State) (t : ObjNo) (d : Decision) : Type 0 where
+  pub even : IsEven d
+  pub server : ObjNo
+  pub row : ServerRow
+  pub is : server_at S.servers server ≡ Some row
+  pub holder : Holder
+  pub handle : is_handle holder ≡ true
+  pub answers : Bool
+  pub moves : d.moves ≡ Servers (Close server) ∷ Lose holder server ∷ behind answers t
+  pub makes : makes_server d.step ≡ false
+  pub step : closes_handle d.step ≡ true
+
+-- it stops one
+pub record IsStopping (S : State) (t : ObjNo) (d : Decision) : Type 0 where
+  pub even : IsEven d
+  pub server : ObjNo
+  pub moves : d.moves ≡ Servers (End server) ∷ Lose (Own t) server ∷ []
+  pub makes : makes_server d.step ≡ false
+  pub step : closes_handle d.step ≡ false
+
+-- whatever holds of each kind of action
+pub record OfEach (S : State) (t : ObjNo) (at : Option Instr) (P : Decision → Type 0) : Type 0 where
+  pub keeps : (d : Decision) → IsKeeping S d → P d
+  pub sends : (d : Decision) → IsSending S t at d → P d
+  pub finishes : (d : Decision) → IsFinishing S t at d → P d
+  pub makes : (d : Decision) → IsMaking S t d → P d
+  pub joins : (d : Decision) → IsJoining S t d → P d
+  pub closes : (d : Decision) → IsClosing S t d → P d
+  pub stops : (d : Decision) → IsStopping S t d → P d
+
+pub keeping : {S : State} (d : Decision) → IsOther false d → IsKeeping S d
+keeping {S = S} d h = record {
+  even = even h;
+  changing = changing-none d.moves (h.calm refl);
+  still = message-none d.moves (h.calm refl);
+  closed = λ closes v some. let none = lost-none v d.moves (h.calm refl) in absurd (omega arith);
+}
+
+pub calm : {S : State} {t : ObjNo} {at : Option Instr} {P : Decision → Type 0} → OfEach S t at P → (d : Decision) → IsOther false d → P d
+calm each d h = each.keeps d (keeping d h)

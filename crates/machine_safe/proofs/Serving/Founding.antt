@@ -1,0 +1,109 @@
+-- A server is made: what is told stays as it is.
+use Rattle.sym_base.specs.declared.kind.Kind.TheVariants as kind
+use Rattle.entry_log.specs.declared.effect.Effect.{Effect}
+use Rattle.entry_log.specs.declared.effect.Effect.TheVariants.{Plus}
+use Rattle.entry_log.specs.declared.effect.Holder.TheVariants.{Own}
+use Rattle.entry_log.specs.declared.entry.Entry.{Entry}
+use Rattle.machine.specs.FitsServers.{MayStartServer}
+use Rattle.machine.specs.Moves.{moved, next_object, perform, tell}
+use Rattle.machine.specs.References.{total}
+use Rattle.machine.specs.WellFormed.{AreRows, IsLiveThread}
+use Rattle.machine.specs.declared.decision.Decision.{Decision}
+use Rattle.machine.specs.declared.moves.Move.{Move}
+use Rattle.machine.specs.declared.moves.Move.TheVariants.{Gain, Make, Servers}
+use Rattle.machine.specs.declared.server_move.ServerMove.TheVariants.{Start}
+use Rattle.machine.specs.declared.state.State.{State}
+use Rattle.machine_safe.proofs.Deaths.Other.{advance_bit, closed_bit, doomed_bit, mutex_bit, serving_bit}
+use Rattle.machine_safe.proofs.Serving.Deeds.{IsMaking}
+use Rattle.machine_safe.proofs.Serving.Doing.{Doing, IsGoing, going, going-then, keeps-going, quiet-doing}
+use Rattle.machine_safe.proofs.Serving.Fated.{doom-among, doom-told}
+use Rattle.machine_safe.proofs.Serving.Keeps.{Keeps, changing-none, message-none, message_bit, steps_of}
+use Rattle.machine_safe.proofs.Serving.Kept.{AreMade}
+use Rattle.machine_safe.proofs.Serving.Letters.{letters-quiet}
+use Rattle.machine_safe.proofs.Serving.Making.{served-made_server}
+use Rattle.machine_safe.proofs.Serving.Quiet.{IsQuiet}
+use Rattle.machine_safe.proofs.Serving.Reading.{IsSame, further, reading, same-both, same-entry, same-then}
+use Rattle.machine_safe.proofs.Serving.Served.{Served, served-keeps, served-made, served-same}
+use Rattle.machine_safe.proofs.Serving.Turns.{Book, IsTurn, entry_for, unserving, counts}
+use Rattle.machine_safe.specs.CountAfter.{effects_of}
+use Rattle.machine_safe.specs.SafeDeaths.{dooms}
+use Rattle.machine_safe.specs.Served.{ends, handles_lost, server_told}
+use Rattle.script_types.specs.declared.script.Script.{Script}
+use Rattle.std.proofs.Common.{Bool, List, None, [], ap, arith, subst, sym, ℕ, ◌++◌, ◌+◌, ◌∙◌, ◌∷◌, ◌≡◌}
+use Rattle.std.specs.Prelude.{if◌then◌else◌}
+use Rattle.sym_base.specs.declared.number.ObjNo.{ObjNo}
+
+module _ (script : Script) (before : List Entry) (S : State) (place : ℕ) (t : ObjNo) (rows : AreRows script S) (book : Book script before S) where
+  made : AreMade S
+  made = served-made script (reading before) S book.served
+
+  -- a server is made
+  pub turn-makes : (d : Decision) → IsMaking S t d → Doing script S t d.moves → ((u : ObjNo) → IsLiveThread S.threads u → dooms (effects_of before) u ≡ 0) → IsTurn script before (entry_for place t S d) (perform t d.moves S)
+  turn-makes d is does undoomed = record {
+    book = record {
+      served = served-same script (further (further (reading before) d.step fs (λ k. 0)) d.step gs (steps_of t rest)) (reading (before ++ e ∷ [])) (perform t d.moves S) same whole;
+      letters = letters-quiet script before S (perform t d.moves S) e book.letters (λ p among. unlinked p.session) q (λ p among. unended p.server);
+    };
+    lawful = unserving script before e q.accepts q.finishes unended;
+  }
+    where
+      o : ObjNo
+      o = next_object S
+
+      rest : List Move
+      rest = Gain is.holder (next_object S) ∷ is.back
+
+      ms : List Move
+      ms = Servers (Start (next_object S) t) ∷ Make kind.Server is.name (Own t) ∷ rest
+
+      e : Entry
+      e = entry_for place t S d
+
+      mid : State
+      mid = moved t (Make kind.Server is.name (Own t)) (moved t (Servers (Start (next_object S) t)) S)
+
+      fs : List Effect
+      fs = Plus (Own t) (next_object S) ∷ []
+
+      gs : List Effect
+      gs = tell t rest mid
+
+      goes : IsGoing script S t ms
+      goes = subst (IsGoing script S t) is.moves (going script S t d.moves does (let a = ap (total serving_bit) is.moves in omega arith))
+
+      start : MayStartServer S (next_object S) t
+      start = goes.each.0
+
+      middle : IsGoing script mid t rest
+      middle = going-then script (moved t (Servers (Start (next_object S) t)) S) t (Make kind.Server is.name (Own t)) rest (going-then script S t (Servers (Start (next_object S) t)) (Make kind.Server is.name (Own t) ∷ rest) goes)
+
+      first : Served script (further (reading before) d.step fs (λ k. 0)) mid
+      first = served-made_server script (reading before) S t d.step book.served rows is.name start (let a = goes.sane.inside in let b = rows.servers.owned_sized in omega arith) is.makes is.step (undoomed t start.owner)
+
+      keeps : Keeps mid (perform t rest mid) t rest gs
+      keeps = keeps-going script mid t rest middle (served-made script (further (reading before) d.step fs (λ k. 0)) mid first) (changing-none rest (let a = is.quiet in omega arith))
+
+      whole : Served script (further (further (reading before) d.step fs (λ k. 0)) d.step gs (steps_of t rest)) (perform t d.moves S)
+      whole = subst (λ (l : List Move). Served script (further (further (reading before) d.step fs (λ k. 0)) d.step gs (steps_of t rest)) (perform t l S)) (sym is.moves)
+          (served-keeps script (further (reading before) d.step fs (λ k. 0)) mid (perform t rest mid) t rest d.step gs first keeps
+          (λ v. let a = is.even.dooms v in let b = ap (total (closed_bit v)) is.moves in let c = ap (total (doomed_bit v)) is.moves in let f = doom-told t rest mid v in omega arith)
+          (λ v. doom-among t rest mid v)
+          (λ v row there. ap (λ (b : Bool). if b then handles_lost gs v else 0) is.step)
+          (λ makes. let a = is.even.making makes in let b = ap (total mutex_bit) is.moves in omega arith))
+
+      told : e.effects ≡ fs ++ gs
+      told = ap (λ (l : List Move). tell t l S) is.moves
+
+      same : IsSame (further (further (reading before) d.step fs (λ k. 0)) d.step gs (steps_of t rest)) (reading (before ++ e ∷ []))
+      same = same-then _ (further (reading before) d.step e.effects (λ k. 0 + steps_of t rest k)) _
+          (subst (λ (l : List Effect). IsSame (further (further (reading before) d.step fs (λ k. 0)) d.step gs (steps_of t rest)) (further (reading before) d.step l (λ k. 0 + steps_of t rest k))) (sym told) (same-both (reading before) d.step fs gs (λ k. 0) (steps_of t rest)))
+          (same-entry before e (λ k. 0 + steps_of t rest k) (λ k. let a = counts t rest d k (let a = is.even.answers in let b = ap (total advance_bit) is.moves in omega arith) in omega arith))
+
+      unlinked : (s : ObjNo) → server_told e.effects s ≡ None
+      unlinked s = ap (λ (l : List Effect). server_told l s) told ∙ keeps.unlinked s
+
+      unended : (v : ObjNo) → ends e.effects v ≡ 0
+      unended v = ap (λ (l : List Effect). ends l v) told ∙ keeps.unended v
+
+      q : IsQuiet S (perform t d.moves S) e.effects
+      q = quiet-doing script S t d.moves does (let a = ap (total message_bit) is.moves in let b = message-none rest (let c = is.quiet in omega arith) in omega arith)

@@ -1,0 +1,154 @@
+-- A session joins a server: what is told stays as it is.
+use Rattle.sym_base.specs.declared.kind.Kind.TheVariants as kind
+use Rattle.entry_log.specs.declared.effect.Effect.{Effect}
+use Rattle.entry_log.specs.declared.effect.Effect.TheVariants.{Plus}
+use Rattle.entry_log.specs.declared.effect.Holder.TheVariants.{Link}
+use Rattle.entry_log.specs.declared.entry.Entry.{Entry}
+use Rattle.machine.specs.Moves.{moved, next_object, perform, tell}
+use Rattle.machine.specs.References.{total}
+use Rattle.machine.specs.WellFormed.{AreRows}
+use Rattle.machine.specs.declared.decision.Decision.{Decision}
+use Rattle.machine.specs.declared.moves.Move.{Move}
+use Rattle.machine.specs.declared.moves.Move.TheVariants.{Make, Servers}
+use Rattle.machine.specs.declared.server_move.ServerMove.TheVariants.{Join}
+use Rattle.machine.specs.declared.state.State.{State}
+use Rattle.machine_safe.proofs.Deaths.Other.{advance_bit, closed_bit, doomed_bit, serving_bit}
+use Rattle.machine_safe.proofs.Serving.Deeds.{IsJoining}
+use Rattle.machine_safe.proofs.Serving.Doing.{Doing, IsGoing, going, going-then, keeps-going, quiet-doing}
+use Rattle.machine_safe.proofs.Serving.EffectSums.{ends-append, server_told-append}
+use Rattle.machine_safe.proofs.Serving.Fated.{doom-among, doom-told}
+use Rattle.machine_safe.proofs.Serving.Keeps.{Keeps, changing-none, message-none, message_bit, steps_of}
+use Rattle.machine_safe.proofs.Serving.Kept.{AreMade, keeps-move}
+use Rattle.machine_safe.proofs.Serving.Letters.{letters-quiet}
+use Rattle.machine_safe.proofs.Serving.Making.{served-joined}
+use Rattle.machine_safe.proofs.Serving.Quiet.{IsQuiet, Post, post_of, posts}
+use Rattle.machine_safe.proofs.Serving.Reading.{IsSame, Reading, further, reading, same-both, same-entry, same-then}
+use Rattle.machine_safe.proofs.Serving.Served.{Served, served-keeps, served-made, served-same}
+use Rattle.machine_safe.proofs.Serving.Turns.{Book, IsTurn, counts, entry_for, unserving}
+use Rattle.machine_safe.specs.Served.{ends, handles_lost, one_if, or_before, server_told}
+use Rattle.move_laws.proofs.Lists.Contents.{contains_map}
+use Rattle.move_laws.proofs.References.Same.{eqb_apart, if_zero}
+use Rattle.script_types.specs.declared.script.Script.{Script}
+use Rattle.state_rows.specs.ServerRows.{server_at, session_at}
+use Rattle.state_rows.specs.declared.messages.Message.{Message}
+use Rattle.state_rows.specs.declared.servers.ServerRow.{ServerRow}
+use Rattle.std.proofs.Common.{Bool, List, None, Option, Some, [], arith, length, refl, sym, true, ℕ, ◌++◌, ◌+◌, ◌∙◌, ◌∷◌, ◌≡◌, ◌≤◌, subst, ap}
+use Rattle.std.specs.Prelude.{Contains, if◌then◌else◌, is_some, ◌==◌}
+use Rattle.sym_base.specs.declared.number.ObjNo.{ObjNo}
+
+no-server : (S : State) (o : ObjNo) → AreMade S → length S.objects ≤ o.0 → server_at S.servers o ≡ None
+no-server S o made past = by (server_at S.servers o) refl
+  where
+    by : (x : Option ServerRow) → server_at S.servers o ≡ x → x ≡ None
+    by None e = refl
+    by (Some row) e = let below = made o row e in absurd (omega arith)
+
+module _ (script : Script) (before : List Entry) (S : State) (place : ℕ) (t : ObjNo) (rows : AreRows script S) (book : Book script before S) where
+  made : AreMade S
+  made = served-made script (reading before) S book.served
+
+  posted : (p : Post) → Contains (posts S) p → (m : Message) × Contains S.messages.outstanding m × (post_of m ≡ p)
+  posted p among = contains_map post_of S.messages.outstanding p among
+
+  -- a session joins a server
+  pub turn-joins : (d : Decision) → IsJoining S t d → Doing script S t d.moves → IsTurn script before (entry_for place t S d) (perform t d.moves S)
+  turn-joins d is does = record {
+    book = record {
+      served = served-same script _ (reading (before ++ e ∷ [])) (perform t d.moves S) same whole;
+      letters = letters-quiet script before S (perform t d.moves S) e book.letters unlinked q (λ p among. unended p.server);
+    };
+    lawful = unserving script before e q.accepts q.finishes unended;
+  }
+    where
+      e : Entry
+      e = entry_for place t S d
+
+      one : Move
+      one = Make kind.Session [] is.holder
+
+      two : Move
+      two = Servers (Join (next_object S) is.server is.slots t)
+
+      ms : List Move
+      ms = one ∷ two ∷ is.back
+
+      T : State
+      T = moved t one S
+
+      mid : State
+      mid = moved t two T
+
+      fs : List Effect
+      fs = Plus is.holder (next_object S) ∷ []
+
+      hs : List Effect
+      hs = Plus (Link (next_object S)) is.server ∷ []
+
+      gs : List Effect
+      gs = tell t is.back mid
+
+      goes : IsGoing script S t ms
+      goes = subst (IsGoing script S t) is.moves (going script S t d.moves does (let a = ap (total serving_bit) is.moves in omega arith))
+
+      later : IsGoing script T t (two ∷ is.back)
+      later = going-then script S t one (two ∷ is.back) goes
+
+      last : IsGoing script mid t is.back
+      last = going-then script T t two is.back later
+
+      makes : Keeps S T t (one ∷ []) fs
+      makes = keeps-move script S t one rows made goes.each.0 refl
+
+      r1 : Reading
+      r1 = further (reading before) d.step fs (steps_of t (one ∷ []))
+
+      served1 : Served script r1 T
+      served1 = served-keeps script (reading before) S T t (one ∷ []) d.step fs book.served makes (λ v. omega arith) (λ v. omega arith)
+          (λ v row there. ap (λ (b : Bool). if b then handles_lost fs v else 0) is.step) (λ making. refl)
+
+      r2 : Reading
+      r2 = further r1 d.step hs (λ k. 0)
+
+      served2 : Served script r2 mid
+      served2 = served-joined script r1 T t d.step served1 later.sane.rows (next_object S) is.server is.slots later.each.0 (no-server S (next_object S) made (omega arith)) is.makes is.step
+
+      keeps : Keeps mid (perform t is.back mid) t is.back gs
+      keeps = keeps-going script mid t is.back last (served-made script r2 mid served2) (changing-none is.back is.quiet)
+
+      r3 : Reading
+      r3 = further r2 d.step gs (steps_of t is.back)
+
+      whole : Served script r3 (perform t d.moves S)
+      whole = subst (λ (l : List Move). Served script r3 (perform t l S)) (sym is.moves)
+          (served-keeps script r2 mid (perform t is.back mid) t is.back d.step gs served2 keeps
+          (λ v. let a = is.even.dooms v in let b = ap (total (closed_bit v)) is.moves in let c = ap (total (doomed_bit v)) is.moves in let f = doom-told t is.back mid v in omega arith)
+          (λ v. doom-among t is.back mid v)
+          (λ v row there. ap (λ (b : Bool). if b then handles_lost gs v else 0) is.step)
+          (λ making. absurd (cc)))
+
+      told_all : e.effects ≡ fs ++ (hs ++ gs)
+      told_all = ap (λ (l : List Move). tell t l S) is.moves
+
+      same : IsSame r3 (reading (before ++ e ∷ []))
+      same = same-then r3 (further r1 d.step (hs ++ gs) (λ k. 0 + steps_of t is.back k)) (reading (before ++ e ∷ [])) (same-both r1 d.step hs gs (λ k. 0) (steps_of t is.back))
+          (same-then (further r1 d.step (hs ++ gs) (λ k. 0 + steps_of t is.back k)) (further (reading before) d.step e.effects (λ k. steps_of t (one ∷ []) k + (0 + steps_of t is.back k))) (reading (before ++ e ∷ []))
+          (subst (λ (l : List Effect). IsSame (further r1 d.step (hs ++ gs) (λ k. 0 + steps_of t is.back k)) (further (reading before) d.step l (λ k. steps_of t (one ∷ []) k + (0 + steps_of t is.back k)))) (sym told_all) (same-both (reading before) d.step fs (hs ++ gs) (steps_of t (one ∷ [])) (λ k. 0 + steps_of t is.back k)))
+          (same-entry before e (λ k. steps_of t (one ∷ []) k + (0 + steps_of t is.back k)) (λ k. let a = counts t is.back d k (let b = is.even.answers in let c = ap (total advance_bit) is.moves in omega arith) in let none = if_zero (t.0 == k) (total advance_bit (one ∷ [])) refl in omega arith)))
+
+      apart : (p : Post) → Contains (posts S) p → (length S.objects ≡ p.session.0 → ⊥)
+      apart p among at =
+          let was = posted p among in
+          let session : is_some (session_at S.servers p.session) ≡ true = ap (λ (x : Post). is_some (session_at S.servers x.session)) (sym was.2) ∙ rows.messages.sessions was.0 was.1 in
+          let none : session_at S.servers p.session ≡ None = rows.servers.sessions_made p.session (omega arith) in
+          let no_session = ap is_some none in absurd (cc)
+
+      unlinked : (p : Post) → Contains (posts S) p → server_told e.effects p.session ≡ None
+      unlinked p among =
+          ap (λ (l : List Effect). server_told l p.session) told_all ∙ (server_told-append fs (hs ++ gs) p.session ∙ (ap (λ (x : Option ObjNo). or_before x (server_told fs p.session)) (server_told-append hs gs p.session
+          ∙ (ap (λ (x : Option ObjNo). or_before x (server_told hs p.session)) (keeps.unlinked p.session) ∙ ap (λ (b : Bool). one_if b is.server) (eqb_apart (length S.objects) p.session.0 (apart p among)))) ∙ makes.unlinked p.session))
+
+      unended : (v : ObjNo) → ends e.effects v ≡ 0
+      unended v = let a = ap (λ (l : List Effect). ends l v) told_all in let b = ends-append fs (hs ++ gs) v in let c = makes.unended v in let f = keeps.unended v in omega arith
+
+      q : IsQuiet S (perform t d.moves S) e.effects
+      q = quiet-doing script S t d.moves does (let a = ap (total message_bit) is.moves in let b = message-none is.back is.quiet in omega arith)

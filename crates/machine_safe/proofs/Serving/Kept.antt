@@ -1,0 +1,111 @@
+-- What moves that fit leave of servers and sessions, one after the other, and what a payment does.
+use Rattle.entry_log.specs.declared.effect.Effect.{Effect}
+use Rattle.entry_log.specs.declared.effect.Holder.TheVariants.{InProcess, InThread}
+use Rattle.machine.specs.Fits.{EachFits, FitsMove, Sane, most_owed}
+use Rattle.machine.specs.Moves.{moved, perform, tell, told}
+use Rattle.machine.specs.References.{is_last, same, total}
+use Rattle.machine.specs.Rows.{owed_of, table_of}
+use Rattle.machine.specs.WellFormed.{AreRows, weight}
+use Rattle.machine.specs.declared.moves.Move.{Move}
+use Rattle.machine.specs.declared.moves.Move.TheVariants.{Lose, Pay, Death}
+use Rattle.machine.specs.declared.state.State.{State}
+use Rattle.machine_laws.proofs.Fitting.Living.{alive_inside, handle_is_alive}
+use Rattle.machine_safe.proofs.Serving.Keeps.{Keeps, changing_bit, keeps-none, keeps-then}
+use Rattle.machine_safe.proofs.Serving.KeptRows.{at-closed, at-move, at-same, at-steps, closed-long, link-closed, link-move, objects-move, owned-move, server-move, server-same, there-move}
+use Rattle.machine_safe.proofs.Serving.Quiet.{lost-move, pay-lost}
+use Rattle.machine_safe.proofs.Serving.Told.{unlinking-close, unlinking-move, unowned-close, unowned-move}
+use Rattle.machine_safe.specs.Served.{handles_lost}
+use Rattle.move_laws.proofs.Lives.LivesMove.{zero_or}
+use Rattle.move_laws.proofs.MoveLaws.Run.{sane-after, sound-move, weight-move}
+use Rattle.move_laws.proofs.References.Same.{same_is}
+use Rattle.script_types.specs.declared.script.Script.{Script}
+use Rattle.state_rows.proofs.SoundChanges.{set_item}
+use Rattle.state_rows.specs.HandleSlots.{slot_at}
+use Rattle.state_rows.specs.ServerRows.{server_at, is_closing}
+use Rattle.state_rows.specs.declared.duty.Owed.{Owed}
+use Rattle.state_rows.specs.declared.duty.Owed.TheVariants.{Close, Sweep}
+use Rattle.state_rows.specs.declared.servers.ServerRow.{ServerRow}
+use Rattle.state_rows.specs.declared.thread.ThreadRow.{ThreadRow}
+use Rattle.std.proofs.Common.{List, None, Option, Some, [], ap, arith, get_or, length, length-set, refl, ℕ, ◌+◌, ◌<◌, ◌∷◌, ◌≡◌, ◌≤◌, subst, sym, true}
+use Rattle.sym_base.specs.declared.number.ObjNo.{ObjNo}
+use Rattle.machine.specs.Serving.{times_owned}
+use Rattle.machine_safe.proofs.Deaths.Other.{doomed_bit}
+use Rattle.machine.specs.declared.death_move.DeathMove.TheVariants.{Doom}
+
+-- each server was made
+abbrev pub AreMade : State → Type 0
+AreMade S = (o : ObjNo) (row : ServerRow) → server_at S.servers o ≡ Some row → o.0 < length S.objects
+
+-- a handle that goes is one of an object that was made
+slot-made : (script : Script) (S : State) (owner o v : ObjNo) (i n : ℕ) → AreRows script S → (slot_at (table_of S owner) i).object ≡ Some o → length S.objects ≤ v.0 → n ≤ same o v → n ≡ 0
+slot-made script S owner o v i n rows is past most = zero_or n (λ some.
+    let own = same_is o v (omega arith) in
+    let inside = alive_inside S.objects o.0 (handle_is_alive S owner i o rows.lives is) in
+    let at : o.0 ≡ v.0 = ap (λ (x : ObjNo). x.0) own in absurd (omega arith))
+
+handle-made : (script : Script) (S : State) (t : ObjNo) (m : Move) → AreRows script S → FitsMove script t m S → (v : ObjNo) → length S.objects ≤ v.0 → handles_lost (told m S) v ≡ 0
+handle-made script S t (Lose (InProcess p i) o) rows fits v past = slot-made script S p o v i _ rows fits.1.1 past (lost-move script S t (Lose (InProcess p i) o) v fits)
+handle-made script S t (Lose (InThread u i) o) rows fits v past = slot-made script S u o v i _ rows fits.1.1 past (lost-move script S t (Lose (InThread u i) o) v fits)
+handle-made script S t (Pay what) rows fits v past = absurd fits
+handle-made script S t m rows fits v past = let a = lost-move script S t m v fits in omega arith
+
+-- who is doomed owns closing servers alone
+doomed-move : (script : Script) (S : State) (t : ObjNo) (m : Move) → FitsMove script t m S → (u o : ObjNo) → 0 < total (doomed_bit u) (m ∷ []) → 0 < times_owned (moved t m S).owned u o → is_closing (moved t m S).servers o ≡ true
+doomed-move script S t (Death (Doom v exit)) fits u o some owned = let own : v ≡ u = same_is v u (omega arith) in fits.4 o (subst (λ (x : ObjNo). 0 < times_owned S.owned x o) (sym own) owned)
+doomed-move script S t m fits u o some owned = absurd (omega arith)
+
+pub keeps-move : (script : Script) (S : State) (t : ObjNo) (m : Move) → AreRows script S → AreMade S → FitsMove script t m S → changing_bit m ≡ 0 → Keeps S (moved t m S) t (m ∷ []) (told m S)
+keeps-move script S t m rows made fits none = record {
+  servers = server-move script S t m rows fits none;
+  there = there-move script S t m fits none;
+  links = link-move script S t m fits none;
+  owned = owned-move script S t m made fits none;
+  doomed = doomed-move script S t m fits;
+  objects = objects-move script S t m fits;
+  threads = at-move script S t m fits;
+  unlinked = (unlinking-move script S t m fits none).unlinked;
+  unended = (unlinking-move script S t m fits none).unended;
+  lost = λ v past. handle-made script S t m rows fits v (let a = objects-move script S t m fits in omega arith);
+  unowned = λ unlocked v. unowned-move script S t m made fits none (omega arith) v;
+}
+
+pub made-kept : (S T : State) (t : ObjNo) (ms : List Move) (effects : List Effect) → AreMade S → Keeps S T t ms effects → AreMade T
+made-kept S T t ms effects made keeps o row is = let was = keeps.servers o row is in let a = made o was.old was.was in let b = keeps.objects in omega arith
+
+pub keeps-each : (script : Script) (S : State) (t : ObjNo) (ms : List Move) → EachFits script t ms S → total weight (owed_of S t) + total most_owed ms ≤ 12 → Sane script t S → AreMade S → total changing_bit ms ≡ 0 → Keeps S (perform t ms S) t ms (tell t ms S)
+keeps-each script S t [] fits few s made none = keeps-none S t
+keeps-each script S t (m ∷ ms) fits few s made none =
+    let T = moved t m S in
+    let one = sound-move script S t m fits.0 (omega arith) s in
+    let w = weight-move script S t m fits.0 in
+    let first = keeps-move script S t m s.rows made fits.0 (omega arith) in
+    keeps-then S T (perform t ms T) t m ms (told m S) (tell t ms T) first (keeps-each script T t ms fits.1 (omega arith) (sane-after script S T t (told m S) s one) (made-kept S T t (m ∷ []) (told m S) made first) (omega arith))
+
+-- a payment
+pub keeps-pay : (script : Script) (S : State) (t : ObjNo) (what : Owed) (rest : List Owed) → AreRows script S → owed_of S t ≡ what ∷ rest → Keeps S (moved t (Pay what) S) t (Pay what ∷ []) (told (Pay what) S)
+keeps-pay script S t (Close h o) rest rows owes = record {
+  servers = λ x row is. server-same S.servers (Pay (Close h o) ∷ []) x row is;
+  there = λ x is. is;
+  links = λ s x is. link-closed (is_last S o) o S.servers s x is;
+  owned = refl;
+  doomed = λ u x some owned. absurd (omega arith);
+  objects = let a = closed-long (is_last S o) o S.objects in omega arith;
+  threads = λ k row is. at-steps S.threads t (Pay (Close h o) ∷ []) k row refl (at-closed (is_last S o) o S.threads k row is);
+  unlinked = (unlinking-close (is_last S o) h o).unlinked;
+  unended = (unlinking-close (is_last S o) h o).unended;
+  lost = λ v past. pay-lost script S t (Close h o) rest v rows owes;
+  unowned = λ none v. unowned-close (is_last S o) h o v;
+}
+keeps-pay script S t (Sweep o) rest rows owes = record {
+  servers = λ x row is. server-same S.servers (Pay (Sweep o) ∷ []) x row is;
+  there = λ x is. is;
+  links = λ s x is. is;
+  owned = refl;
+  doomed = λ u x some owned. absurd (omega arith);
+  objects = let a = length-set S.objects o.0 None in omega arith;
+  threads = λ k row is. at-steps S.threads t (Pay (Sweep o) ∷ []) k row refl (at-same S.threads k row (set_item (λ (x : Option ThreadRow). x ≡ Some row → get_or S.threads k None ≡ Some row) S.threads o.0 k None None (λ at e. absurd (cc)) (λ e. e) is));
+  unlinked = λ s. refl;
+  unended = λ v. refl;
+  lost = λ v past. refl;
+  unowned = λ none v. refl;
+}

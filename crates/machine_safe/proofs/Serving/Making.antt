@@ -1,0 +1,203 @@
+-- A server that is made, a session that joins one, a server whose handle is closed, and one that stops: they are as what is told says.
+use Rattle.sym_base.specs.declared.kind.Kind.TheVariants as kind
+use Rattle.entry_log.specs.declared.effect.Effect.{Effect}
+use Rattle.entry_log.specs.declared.effect.Effect.TheVariants.{Plus}
+use Rattle.entry_log.specs.declared.effect.Holder.TheVariants.{Link, Own}
+use Rattle.entry_log.specs.declared.step.Step.{Step}
+use Rattle.machine.specs.FitsServers.{MayJoinServer, MayStartServer}
+use Rattle.machine.specs.Moves.{moved, new_object, next_object}
+use Rattle.machine.specs.Serving.{times_owned}
+use Rattle.machine.specs.WellFormed.{AreRows}
+use Rattle.machine.specs.declared.moves.Move.TheVariants.{Make, Servers}
+use Rattle.machine.specs.declared.server_move.ServerMove.TheVariants.{Join, Start}
+use Rattle.machine.specs.declared.state.State.{State}
+use Rattle.machine_safe.proofs.Deaths.EffectSums.{dooms-append}
+use Rattle.machine_safe.proofs.Serving.EffectSums.{ends-append, server_told-append}
+use Rattle.machine_safe.proofs.Serving.Keeps.{closing-row}
+use Rattle.machine_safe.proofs.Serving.Reading.{Reading, closing_by, further}
+use Rattle.machine_safe.proofs.Serving.Served.{IsServed, Served, closing-count}
+use Rattle.machine_safe.specs.SafeDeaths.{dooms}
+use Rattle.machine_safe.specs.Served.{closes_handle, ends, handles_lost, makes_server, one_if, or_before, owner_told, server_told}
+use Rattle.move_laws.proofs.References.Mutexes.{held-holding}
+use Rattle.move_laws.proofs.References.Same.{eqb_apart, if_is}
+use Rattle.script_types.specs.declared.script.Script.{Script}
+use Rattle.state_rows.proofs.SoundChanges.{set_item}
+use Rattle.state_rows.specs.ServerChanges.{new_session}
+use Rattle.state_rows.specs.ServerRows.{closes, is_closing, link_of, server_at, server_of}
+use Rattle.state_rows.specs.declared.object.ObjectRow.{ObjectRow}
+use Rattle.state_rows.specs.declared.servers.ServerRow.{ServerRow}
+use Rattle.state_rows.specs.declared.servers.SessionRow.{SessionRow}
+use Rattle.std.proofs.Common.{Bool, List, None, Option, Some, [], ap, arith, false, get_or, get_or-set_other, get_or-set_same, inr, length, length-append, refl, sym, true, ℕ, ◌++◌, ◌+◌, ◌<◌, ◌∙◌, ◌∷◌, ◌≡◌, ◌≤◌, ◌⊎◌, inl, subst}
+use Rattle.std.proofs.lemmas.Bool.{cases_eq, eq-eqb}
+use Rattle.std.specs.Prelude.{if◌then◌else◌, nat_lt, ◌==◌}
+use Rattle.sym_base.specs.declared.kind.Slots.{Slots}
+use Rattle.sym_base.specs.declared.number.ObjNo.{ObjNo}
+use Rattle.machine.specs.References.{same}
+
+-- a thread that is live was doomed in nothing that was told
+abbrev pub Undoomed : Reading → ObjNo → Type 0
+Undoomed r t = dooms r.effects t ≡ 0
+
+-- objects that become one more
+pub more-objects : (S : State) (x : Option ObjectRow) → length (S.objects ++ x ∷ []) ≡ length S.objects + 1
+more-objects S x = length-append S.objects (x ∷ [])
+
+module _ (script : Script) (r : Reading) (S : State) (t : ObjNo) (done : Step) (h : Served script r S) (rows : AreRows script S) where
+  -- a server is made and owned
+  abbrev started : State
+  started = moved t (Servers (Start (next_object S) t)) S
+
+  abbrev made : List ℕ → State
+  made name = moved t (Make kind.Server name (Own t)) started
+
+  abbrev new_server : ServerRow
+  new_server = record { owner = t; is_closing = false }
+
+  pub served-made_server : (name : List ℕ) → MayStartServer S (next_object S) t → t.0 < length S.owned → makes_server done ≡ true → closes_handle done ≡ false → Undoomed r t → Served script (further r done (Plus (Own t) (next_object S) ∷ []) (λ k. 0)) (made name)
+  served-made_server name may inside makes other undoomed = record {
+    rows = λ o row is. elim (cases_eq o.0 (length S.objects)) as (λ _. IsServed told (made name) o row) [
+      | inl at ↦ own_row o row at is
+      | inr apart ↦ old_row o row apart (sym (get_or-set_other S.servers.servers (length S.objects) o.0 (Some new_server) None apart) ∙ is)
+    ];
+    links = λ s o is. server_told-append r.effects fs s ∙ h.links s o (link-kept s o is);
+    ended = λ o some. let a = ends-append r.effects fs o in closing_kept o (h.ended o (omega arith));
+    made = λ u o is. elim (cases_eq (length S.objects) o.0) as (λ _. (0 < times_owned (made name).owned u o) ⊎ (0 < ends told.effects o)) [
+      | inl at ↦
+          let now : told.owner o ≡ Some t = owner_here o at in
+          let both : Some u ≡ Some t = sym is ∙ now in
+          let own : u ≡ t = cc in
+          inl (subst (λ (x : ObjNo). 0 < times_owned (made name).owned x o) (sym own) (let own_count = owns_new o at in omega arith))
+      | inr apart ↦ elim (h.made u o (sym (owner_other o apart) ∙ is)) as (λ _. (0 < times_owned (made name).owned u o) ⊎ (0 < ends told.effects o)) [
+        | inl owned ↦ inl (let more = held-holding S.owned t (next_object S) u o inside in omega arith)
+        | inr over ↦ inr (let a = ends-append r.effects fs o in omega arith)
+      ]
+    ];
+    unmade = λ o past. let a = more-objects S (Some (new_object kind.Server name)) in let old = h.unmade o (omega arith) in let none = closings_same o in omega arith;
+    places = λ k row is. let old = h.places k row is in record { first = old.first; is = old.is; role = old.role; place = let a = old.place in omega arith };
+  }
+    where
+      fs : List Effect
+      fs = Plus (Own t) (next_object S) ∷ []
+
+      told : Reading
+      told = further r done fs (λ k. 0)
+
+      owner_there : (v : ObjNo) (b : Bool) → b ≡ true → or_before (if b then owner_told fs v else None) (r.owner v) ≡ or_before (one_if (length S.objects == v.0) t) (r.owner v)
+      owner_there v true e = refl
+      owner_there v false e = absurd (cc)
+
+      owner_here : (v : ObjNo) → length S.objects ≡ v.0 → told.owner v ≡ Some t
+      owner_here v at = owner_there v (makes_server done) makes ∙ ap (λ (b : Bool). or_before (one_if b t) (r.owner v)) (eq-eqb (length S.objects) v.0 at)
+
+      owner_other : (v : ObjNo) → (length S.objects ≡ v.0 → ⊥) → told.owner v ≡ r.owner v
+      owner_other v apart = owner_there v (makes_server done) makes ∙ ap (λ (b : Bool). or_before (one_if b t) (r.owner v)) (eqb_apart (length S.objects) v.0 apart)
+
+      closings_same : (v : ObjNo) → told.closings v ≡ r.closings v
+      closings_same v = let a = ap (λ (b : Bool). r.closings v + (if b then handles_lost fs v else 0)) other in omega arith
+
+      closing_same : (v w : ObjNo) → told.owner v ≡ Some w → closing_by told v ≡ nat_lt 0 (r.closings v + dooms r.effects w)
+      closing_same v w is =
+          let a = closings_same v in
+          let b = dooms-append r.effects fs w in
+          closing-count told v w is ∙ ap (nat_lt 0) (let same : told.closings v + dooms told.effects w ≡ r.closings v + dooms r.effects w = omega arith in same)
+
+      owns_new : (o : ObjNo) → length S.objects ≡ o.0 → 1 ≤ times_owned (made name).owned t o
+      owns_new o at =
+          let more = held-holding S.owned t (next_object S) t o inside in
+          let self = if_is (t.0 == t.0) (same (next_object S) o) (eq-eqb t.0 t.0 refl) in
+          let one : same (next_object S) o ≡ 1 = ap (λ (b : Bool). if b then 1 else 0) (eq-eqb (length S.objects) o.0 at) in omega arith
+
+      own_row : (o : ObjNo) (row : ServerRow) → o.0 ≡ length S.objects → server_at (made name).servers o ≡ Some row → IsServed told (made name) o row
+      own_row o row at is =
+          let few = may.room in
+          let sized = rows.servers.servers_sized in
+          let here : server_at (made name).servers o ≡ Some new_server = ap (λ (n : ℕ). get_or (made name).servers.servers n None) at ∙ get_or-set_same S.servers.servers (length S.objects) (Some new_server) None (omega arith) in
+          let both : Some row ≡ Some new_server = sym is ∙ here in
+          let own : row ≡ new_server = cc in
+          subst (IsServed told (made name) o) (sym own) (record {
+            made = let a = more-objects S (Some (new_object kind.Server name)) in omega arith;
+            owner = owner_here o (sym at);
+            closing = sym (closing_same o t (owner_here o (sym at)) ∙ ap (nat_lt 0) (let old = h.unmade o (omega arith) in let none : r.closings o + dooms r.effects t ≡ 0 = omega arith in none));
+            owned = λ not. let a = owns_new o (sym at) in omega arith;
+          })
+
+      old_row : (o : ObjNo) (row : ServerRow) → (o.0 ≡ length S.objects → ⊥) → server_at S.servers o ≡ Some row → IsServed told (made name) o row
+      old_row o row apart is =
+          let old = h.rows o row is in
+          let owner = owner_other o (λ e. apart (sym e)) ∙ old.owner in
+          record {
+            made = let a = more-objects S (Some (new_object kind.Server name)) in let b = old.made in omega arith;
+            owner = owner;
+            closing = old.closing ∙ (closing-count r o row.owner old.owner ∙ sym (closing_same o row.owner owner));
+            owned = λ not. let a = old.owned not in let more = held-holding S.owned t (next_object S) row.owner o inside in omega arith;
+          }
+
+      link-kept : (s o : ObjNo) → server_of (made name).servers s ≡ Some o → server_of S.servers s ≡ Some o
+      link-kept s o is = set_item (λ (x : Option SessionRow). link_of x ≡ Some o → link_of (get_or S.servers.sessions s.0 None) ≡ Some o) S.servers.sessions (length S.objects) s.0 None None (λ at e. absurd (cc)) (λ e. e) is
+
+      closing_kept : (o : ObjNo) → is_closing S.servers o ≡ true → is_closing (made name).servers o ≡ true
+      closing_kept o is = elim (cases_eq o.0 (length S.objects)) as (λ _. is_closing (made name).servers o ≡ true) [
+        | inl at ↦ let row = closing-row (server_at S.servers o) is in let made = (h.rows o row.0 row.1).made in absurd (omega arith)
+        | inr apart ↦ ap closes (get_or-set_other S.servers.servers (length S.objects) o.0 (Some new_server) None apart) ∙ is
+      ]
+
+  -- a session joins a server
+  abbrev joined : ObjNo → ObjNo → Slots → State
+  joined s v slots = moved t (Servers (Join s v slots t)) S
+
+  pub served-joined : (s v : ObjNo) (slots : Slots) → MayJoinServer S s v → server_at S.servers s ≡ None → makes_server done ≡ false → closes_handle done ≡ false → Served script (further r done (Plus (Link s) v ∷ []) (λ k. 0)) (joined s v slots)
+  served-joined s v slots may fresh makes other = record {
+    rows = λ o row is.
+        let was = server_was o row is in
+        let old = h.rows o row was in
+        record { made = old.made; owner = owner_same o ∙ old.owner; closing = old.closing ∙ (closing-count r o row.owner old.owner ∙ sym (closing_same o row.owner (owner_same o ∙ old.owner))); owned = old.owned };
+    links = λ x o is. elim (cases_eq s.0 x.0) as (λ _. server_told told.effects x ≡ Some o) [
+      | inl at ↦
+          let new : server_of (joined s v slots).servers x ≡ Some v = ap (λ (n : ℕ). link_of (get_or (joined s v slots).servers.sessions n None)) (sym at) ∙ ap link_of (get_or-set_same S.servers.sessions s.0 (Some (new_session v slots t)) None inside) in
+          let both : Some o ≡ Some v = sym is ∙ new in
+          let own : o ≡ v = cc in
+          server_told-append r.effects fs x ∙ (ap (λ (b : Bool). or_before (one_if b v) (server_told r.effects x)) (eq-eqb s.0 x.0 at) ∙ ap Some (sym own))
+      | inr apart ↦
+          server_told-append r.effects fs x ∙ (ap (λ (b : Bool). or_before (one_if b v) (server_told r.effects x)) (eqb_apart s.0 x.0 apart)
+          ∙ h.links x o (sym (ap link_of (get_or-set_other S.servers.sessions s.0 x.0 (Some (new_session v slots t)) None (λ e. apart (sym e)))) ∙ is))
+    ];
+    ended = λ o some. let a = ends-append r.effects fs o in closing_kept o (h.ended o (omega arith));
+    made = λ u o is. elim (h.made u o (sym (owner_same o) ∙ is)) as (λ _. (0 < times_owned S.owned u o) ⊎ (0 < ends told.effects o)) [
+      | inl owned ↦ inl owned
+      | inr over ↦ inr (let a = ends-append r.effects fs o in omega arith)
+    ];
+    unmade = λ o past. let old = h.unmade o past in let none = closings_same o in omega arith;
+    places = λ k row is. let old = h.places k row is in record { first = old.first; is = old.is; role = old.role; place = let a = old.place in omega arith };
+  }
+    where
+      fs : List Effect
+      fs = Plus (Link s) v ∷ []
+
+      told : Reading
+      told = further r done fs (λ k. 0)
+
+      inside : s.0 < length S.servers.sessions
+      inside = let a = may.made in let b = rows.sized.objects_few in let c = rows.servers.sessions_sized in omega arith
+
+      server_was : (o : ObjNo) (row : ServerRow) → server_at (joined s v slots).servers o ≡ Some row → server_at S.servers o ≡ Some row
+      server_was o row is = set_item (λ (x : Option ServerRow). x ≡ Some row → get_or S.servers.servers o.0 None ≡ Some row) S.servers.servers s.0 o.0 None None (λ at e. absurd (cc)) (λ e. e) is
+
+      owner_same : (o : ObjNo) → told.owner o ≡ r.owner o
+      owner_same o = ap (λ (b : Bool). or_before (if b then owner_told fs o else None) (r.owner o)) makes
+
+      closings_same : (o : ObjNo) → told.closings o ≡ r.closings o
+      closings_same o = let a = ap (λ (b : Bool). r.closings o + (if b then handles_lost fs o else 0)) other in omega arith
+
+      closing_same : (o w : ObjNo) → told.owner o ≡ Some w → closing_by told o ≡ nat_lt 0 (r.closings o + dooms r.effects w)
+      closing_same o w is =
+          let a = closings_same o in
+          let b = dooms-append r.effects fs w in
+          closing-count told o w is ∙ ap (nat_lt 0) (let same : told.closings o + dooms told.effects w ≡ r.closings o + dooms r.effects w = omega arith in same)
+
+      closing_kept : (o : ObjNo) → is_closing S.servers o ≡ true → is_closing (joined s v slots).servers o ≡ true
+      closing_kept o is =
+          let row = closing-row (server_at S.servers o) is in
+          elim (cases_eq o.0 s.0) as (λ _. is_closing (joined s v slots).servers o ≡ true) [
+            | inl at ↦ let none : server_at S.servers o ≡ None = ap (λ (n : ℕ). get_or S.servers.servers n None) at ∙ fresh in let same = row.1 in absurd (cc)
+            | inr apart ↦ ap closes (get_or-set_other S.servers.servers s.0 o.0 None None apart) ∙ is
+          ]

@@ -1,0 +1,199 @@
+-- Which steps send a message: those of `send`, `call` and `connect`, and the close of a session's handle.
+use Rattle.entry_log.specs.declared.step.Part.{Part}
+use Rattle.entry_log.specs.declared.step.Step.TheVariants.{Of}
+use Rattle.machine.specs.Decide.{answer}
+use Rattle.machine.specs.Handles.{holder_of, thread_handle}
+use Rattle.machine.specs.Messaging.{connects, no_args, open_server, post, slots_of, wake_receiver}
+use Rattle.machine.specs.Moves.{next_object, tell}
+use Rattle.machine.specs.References.{total}
+use Rattle.machine.specs.SessionCalls.{args_of, call_do, call_step, call_to, connect_done, connect_make, connect_send, connect_step, connect_to, fail_connect, make_session, send_connect, send_do, send_step, send_to, session_made}
+use Rattle.machine.specs.declared.decision.Decision.{Decision}
+use Rattle.machine.specs.declared.handles.NewHandle.{NewHandle}
+use Rattle.machine.specs.declared.message_move.MessageMove.TheVariants.{Accept}
+use Rattle.machine.specs.declared.moves.Move.TheVariants.{Advance, GoOn, Keep, Lose, Messages, PutDown, Requests, Servers, Wait}
+use Rattle.machine.specs.declared.request_move.RequestMove.TheVariants.{SetPending}
+use Rattle.machine.specs.declared.server_move.ServerMove.TheVariants.{SetOpen}
+use Rattle.machine.specs.declared.state.State.{State}
+use Rattle.machine_laws.proofs.Fitting.Posting.{linked_server}
+use Rattle.machine_safe.proofs.Deaths.Other.{IsOther, either, none-then, other-answers, other-look, other-seek, other-unless, serving_bit}
+use Rattle.machine_safe.proofs.Deaths.ServerSteps.{none-post, none-receiver, other-call_to, other-connecting, other-failed, other-made_session}
+use Rattle.machine_safe.proofs.Serving.Deeds.{ClosesOthers, IsSending, OfEach, behind, status_of_way, calm, even}
+use Rattle.machine_safe.proofs.Serving.Keeps.{changing-none, changing_bit, message-none, message_bit}
+use Rattle.machine_safe.specs.CountAfter.{opens}
+use Rattle.machine_safe.specs.Sent.{status_by}
+use Rattle.machine_safe.specs.Served.{closes_handle}
+use Rattle.move_laws.proofs.Lists.Cases.{if_cases}
+use Rattle.move_laws.proofs.Lists.Totals.{total-append}
+use Rattle.move_laws.proofs.MoveLaws.RowMoves.{silent}
+use Rattle.script_types.specs.declared.instruction.Args.{Args}
+use Rattle.state_rows.specs.HandleNumbers.{is_local}
+use Rattle.state_rows.specs.MessageChanges.{new_row}
+use Rattle.state_rows.specs.MessageRows.{is_full}
+use Rattle.state_rows.specs.Nano.{held_by}
+use Rattle.state_rows.specs.ObjectRows.{named}
+use Rattle.state_rows.specs.Requests.{is_pending, reply_of}
+use Rattle.state_rows.specs.ServerRows.{accepts, is_closing, owner_of, server_at, server_of}
+use Rattle.state_rows.specs.declared.messages.Way.{Way}
+use Rattle.state_rows.specs.declared.messages.Way.TheVariants.{Async, Sync}
+use Rattle.state_rows.specs.declared.servers.ServerRow.{ServerRow}
+use Rattle.state_rows.specs.declared.thread.ThreadRow.{ThreadRow}
+use Rattle.std.proofs.Common.{Bool, None, Some, [], ap, arith, false, length, pos, refl, subst, sym, true, ℕ, ℤ, ◌++◌, ◌∷◌, ◌≡◌, List, Option}
+use Rattle.std.proofs.lemmas.List.{append-nil}
+use Rattle.std.specs.Ordering.{int_eq}
+use Rattle.std.specs.Prelude.{if◌then◌else◌, is_some, not, ◌==◌}
+use Rattle.sym_base.specs.declared.kind.Arg.{Arg}
+use Rattle.sym_base.specs.declared.kind.Slots.{Slots}
+use Rattle.sym_base.specs.declared.limits.TheConstants.Limits.{OBJECTS}
+use Rattle.sym_base.specs.declared.word.Word.TheVariants as word
+use Rattle.entry_log.specs.declared.step.Part.TheVariants as part
+use Rattle.script_types.specs.declared.instruction.Instr.TheVariants as instr
+use Rattle.state_rows.specs.declared.thread.Waiting.TheVariants as waiting
+use Rattle.entry_log.specs.declared.effect.Holder.{Holder}
+use Rattle.machine.specs.declared.moves.Move.{Move}
+use Rattle.script_types.specs.declared.instruction.Instr.{Instr}
+use Rattle.sym_base.specs.declared.number.ObjNo.{ObjNo}
+
+-- the server that accepts is the session's, and isn't closing
+open_is : (S : State) (s o : ObjNo) → open_server S s ≡ Some o → is_closing S.servers o ≡ false
+open_is S s o e = by (server_of S.servers s) e
+  where
+    by : (v : Option ObjNo) → (if accepts S.servers v then v else None) ≡ Some o → is_closing S.servers o ≡ false
+    by None e = absurd (cc)
+    by (Some v) e = where_open (is_closing S.servers v) refl e
+      where
+        where_open : (b : Bool) → is_closing S.servers v ≡ b → (if not b then Some v else None) ≡ Some o → is_closing S.servers o ≡ false
+        where_open true is e = absurd (cc)
+        where_open false is e = let own : v ≡ o = cc in subst (λ (x : ObjNo). is_closing S.servers x ≡ false) own is
+
+-- a receiver that wakes
+pub woken-quiet : (S : State) (o : ObjNo) (rest : List Move) → total serving_bit rest ≡ 0 → total serving_bit (wake_receiver S o (owner_of S.servers o) ++ rest) ≡ 0
+woken-quiet S o rest none =
+    let wakes = (none-receiver S o (owner_of S.servers o)).calm refl in
+    let both = total-append serving_bit (wake_receiver S o (owner_of S.servers o)) rest in omega arith
+
+pub behind-quiet : (answers : Bool) (t : ObjNo) → total serving_bit (behind answers t) ≡ 0
+behind-quiet true t = refl
+behind-quiet false t = refl
+
+-- a sending whose moves are these: some before, that of the message, and a receiver that wakes
+pub sending : {S : State} {t : ObjNo} {at : Option Instr} (d : Decision) (front rest : List Move) (s o : ObjNo) (function : ℤ) (args : List Arg) (way : Way) → IsOther true d → d.moves ≡ front ++ (Messages (Accept (slots_of S s) (new_row s o t function args way)) ∷ (wake_receiver S o (owner_of S.servers o) ++ rest)) → tell t front S ≡ [] → total serving_bit front ≡ 0
+    → total changing_bit rest ≡ 0 → total message_bit rest ≡ 0 → open_server S s ≡ Some o → status_by d.step at ≡ status_of_way way → ClosesOthers S d → IsSending S t at d
+sending {S = S} {t = t} d front rest s o function args way other moves silent quiet changing still opens named closed =
+    let wakes = wake_receiver S o (owner_of S.servers o) in
+    let calm = (none-receiver S o (owner_of S.servers o)).calm refl in
+    record {
+      even = even (other);
+      front = front;
+      back = wakes ++ rest;
+      slots = slots_of S s;
+      row = new_row s o t function args way;
+      moves = moves;
+      silent = silent;
+      quiet = quiet;
+      changing = let a = total-append changing_bit wakes rest in let b = changing-none wakes calm in omega arith;
+      still = let a = total-append message_bit wakes rest in let b = message-none wakes calm in omega arith;
+      client = refl;
+      linked = linked_server S s o opens;
+      accepting = open_is S s o opens;
+      way = named;
+      closed = closed;
+    }
+
+-- `send`
+deed-send_to : (S : State) (t : ObjNo) (at : Option Instr) (P : Decision → Type 0) (s : ObjNo) (x function y : ℕ) (args : Args) (server : Option ObjNo) → at ≡ Some (instr.Send x function y args) → open_server S s ≡ server → OfEach S t at P → P (send_to S t s (pos function) y (args_of args) server)
+deed-send_to S t at P s x function y args None here e each = calm each _ (record { step = refl; cleans = refl; answers = refl; dooms = λ v. refl; calm = λ _. refl; making = λ _. refl })
+deed-send_to S t at P s x function y args (Some o) here e each = if_cases P (is_full S.messages s (slots_of S s)) _ _
+    (λ _. calm each _ (record { step = refl; cleans = refl; answers = refl; dooms = λ v. refl; calm = λ _. refl; making = λ _. refl }))
+    (λ _. each.sends _ (sending (answer t (Of word.Send part.Do) (GoOn t part.Done ∷ Requests (SetPending t y) ∷ post S t s o (pos function) (args_of args) (Async y)) (pos 0)) (GoOn t part.Done ∷ Requests (SetPending t y) ∷ []) (Advance t ∷ []) s o (pos function) (args_of args) (Async y)
+    (other-answers t _ (GoOn t part.Done ∷ Requests (SetPending t y) ∷ post S t s o (pos function) (args_of args) (Async y)) _ refl (none-then (record { cleans = refl; advances = refl; dooms = λ v. refl; calm = λ _. refl; locks = refl }) (none-then (record { cleans = refl; advances = refl; dooms = λ v. refl; calm = λ _. refl; locks = refl }) (none-post S t s o (pos function) (args_of args) (Async y)))))
+    refl refl refl refl refl e (ap (λ (i : Option Instr). status_by (Of word.Send part.Do) i) here) (λ closes. absurd (cc))))
+
+pub deed-send : (S : State) (t : ObjNo) (at : Option Instr) (P : Decision → Type 0) (row : ThreadRow) (x function y : ℕ) (args : Args) (p : Option Part) → at ≡ Some (instr.Send x function y args) → OfEach S t at P → P (send_step S t row x function y args p)
+deed-send S t at P row x function y args None here each = calm each _ (either (is_pending S.requests t y) _ _ (record { step = refl; cleans = refl; answers = refl; dooms = λ v. refl; calm = λ _. refl; making = λ _. refl }) (other-look t word.Send _))
+deed-send S t at P row x function y args (Some part.Done) here each = calm each _ (record { step = refl; cleans = refl; answers = refl; dooms = λ v. refl; calm = λ _. refl; making = λ _. refl })
+deed-send S t at P row x function y args (Some p) here each = by row.uses
+  where
+    by : (uses : Option ObjNo) → P (send_do S t (pos function) y (args_of args) uses)
+    by None = calm each _ (record { step = refl; cleans = refl; answers = refl; dooms = λ v. refl; calm = λ _. refl; making = λ _. refl })
+    by (Some s) = if_cases P (is_pending S.requests t y) _ _
+        (λ _. calm each _ (record { step = refl; cleans = refl; answers = refl; dooms = λ v. refl; calm = λ _. refl; making = λ _. refl }))
+        (λ _. deed-send_to S t at P s x function y args (open_server S s) here refl each)
+
+-- `call`
+deed-call_to : (S : State) (t : ObjNo) (at : Option Instr) (P : Decision → Type 0) (s : ObjNo) (function : ℤ) (args : List Arg) (server : Option ObjNo) → open_server S s ≡ server → OfEach S t at P → P (call_to S t s function args server)
+deed-call_to S t at P s function args None e each = calm each _ (record { step = refl; cleans = refl; answers = refl; dooms = λ v. refl; calm = λ _. refl; making = λ _. refl })
+deed-call_to S t at P s function args (Some o) e each = each.sends _ (sending (call_to S t s function args (Some o)) (GoOn t part.Done ∷ Wait t waiting.Reply ∷ []) [] s o function args Sync (other-call_to S t s function args (Some o))
+    (ap (λ (ms : List Move). GoOn t part.Done ∷ Wait t waiting.Reply ∷ Messages (Accept (slots_of S s) (new_row s o t function args Sync)) ∷ ms) (sym (append-nil (wake_receiver S o (owner_of S.servers o))))) refl refl refl refl e refl (λ closes. absurd (cc)))
+
+deed-call_do : (S : State) (t : ObjNo) (at : Option Instr) (P : Decision → Type 0) (function : ℤ) (args : List Arg) (uses : Option ObjNo) → OfEach S t at P → P (call_do S t function args uses)
+deed-call_do S t at P function args None each = calm each _ (record { step = refl; cleans = refl; answers = refl; dooms = λ v. refl; calm = λ _. refl; making = λ _. refl })
+deed-call_do S t at P function args (Some s) each = if_cases P (is_some (held_by S.nano t)) _ _
+    (λ _. calm each _ (record { step = refl; cleans = refl; answers = refl; dooms = λ v. refl; calm = λ _. refl; making = λ _. refl }))
+    (λ _. deed-call_to S t at P s function args (open_server S s) refl each)
+
+pub deed-call : (S : State) (t : ObjNo) (at : Option Instr) (P : Decision → Type 0) (row : ThreadRow) (x function : ℕ) (args : Args) (p : Option Part) → OfEach S t at P → P (call_step S t row x function args p)
+deed-call S t at P row x function args None each = calm each _ (other-unless S t word.Call part.Look _ (other-look t word.Call _))
+deed-call S t at P row x function args (Some part.Do) each = deed-call_do S t at P (pos function) (args_of args) row.uses each
+deed-call S t at P row x function args (Some _) each = calm each _ (record { step = refl; cleans = refl; answers = refl; dooms = λ v. refl; calm = λ _. refl; making = λ _. refl })
+
+-- `connect`
+deed-made_session : (S : State) (t : ObjNo) (at : Option Instr) (P : Decision → Type 0) (o : ObjNo) (slots : Slots) (handle : Option NewHandle) → OfEach S t at P → P (make_session t o slots (next_object S) handle)
+deed-made_session S t at P o slots None each = calm each _ (record { step = refl; cleans = refl; answers = refl; dooms = λ v. refl; calm = λ _. refl; making = λ _. refl })
+deed-made_session S t at P o slots (Some handle) each = each.joins _ (record {
+  even = even (other-made_session t o slots (next_object S) (Some handle));
+  server = o;
+  slots = slots;
+  holder = handle.holder;
+  back = Keep t handle.number ∷ PutDown t ∷ GoOn t part.Send ∷ [];
+  moves = refl;
+  quiet = refl;
+  makes = refl;
+  step = refl;
+})
+
+deed-connect_to : (S : State) (t : ObjNo) (at : Option Instr) (P : Decision → Type 0) (slots : Slots) (o : ObjNo) (server : Option ServerRow) → OfEach S t at P → P (connect_to S t slots o server)
+deed-connect_to S t at P slots o None each = calm each _ (record { step = refl; cleans = refl; answers = refl; dooms = λ v. refl; calm = λ _. refl; making = λ _. refl })
+deed-connect_to S t at P slots o (Some server) each = if_cases P server.is_closing _ _
+    (λ _. calm each _ (record { step = refl; cleans = refl; answers = refl; dooms = λ v. refl; calm = λ _. refl; making = λ _. refl }))
+    (λ _. if_cases P (length S.objects == OBJECTS) _ _
+    (λ _. calm each _ (record { step = refl; cleans = refl; answers = refl; dooms = λ v. refl; calm = λ _. refl; making = λ _. refl }))
+    (λ _. deed-made_session S t at P o slots (thread_handle S t) each))
+
+deed-connect_make : (S : State) (t : ObjNo) (at : Option Instr) (P : Decision → Type 0) (slots : Slots) (uses : Option ObjNo) → OfEach S t at P → P (connect_make S t slots uses)
+deed-connect_make S t at P slots None each = calm each _ (record { step = refl; cleans = refl; answers = refl; dooms = λ v. refl; calm = λ _. refl; making = λ _. refl })
+deed-connect_make S t at P slots (Some o) each = deed-connect_to S t at P slots o (server_at S.servers o) each
+
+-- one that fails loses a handle, which is no close
+unchanged-handle : (t : ObjNo) (row : ThreadRow) (handle : ℕ) (s : ObjNo) → changing_bit (Lose (holder_of t row handle) s) ≡ 0
+unchanged-handle t row handle s = if_cases (λ (h : Holder). changing_bit (Lose h s) ≡ 0) (is_local handle) _ _ (λ _. refl) (λ _. refl)
+
+deed-failed : (S : State) (t : ObjNo) (at : Option Instr) (P : Decision → Type 0) (row : ThreadRow) (s : ObjNo) (code : ℤ) (p : Part) → closes_handle (Of word.Connect p) ≡ false → OfEach S t at P → P (fail_connect t row p s code)
+deed-failed S t at P row s code p other each = each.keeps _ (record {
+  even = even (other-failed t row p s code);
+  changing = let a = unchanged-handle t row row.found s in omega arith;
+  still = refl;
+  closed = λ closes v some. absurd (cc);
+})
+
+deed-connecting : (S : State) (t : ObjNo) (at : Option Instr) (P : Decision → Type 0) (row : ThreadRow) (s : ObjNo) (server : Option ObjNo) → open_server S s ≡ server → OfEach S t at P → P (send_connect S t row s server)
+deed-connecting S t at P row s None e each = deed-failed S t at P row s _ part.Send refl each
+deed-connecting S t at P row s (Some o) e each = each.sends _ (sending (send_connect S t row s (Some o)) (GoOn t part.Done ∷ Servers (SetOpen s true) ∷ Wait t waiting.Reply ∷ []) [] s o connects no_args Sync (other-connecting S t row s (Some o))
+    (ap (λ (ms : List Move). GoOn t part.Done ∷ Servers (SetOpen s true) ∷ Wait t waiting.Reply ∷ Messages (Accept (slots_of S s) (new_row s o t connects no_args Sync)) ∷ ms) (sym (append-nil (wake_receiver S o (owner_of S.servers o))))) refl refl refl refl e refl (λ closes. absurd (cc)))
+
+deed-connect_send : (S : State) (t : ObjNo) (at : Option Instr) (P : Decision → Type 0) (row : ThreadRow) (session : Option ObjNo) → OfEach S t at P → P (connect_send S t row session)
+deed-connect_send S t at P row None each = calm each _ (record { step = refl; cleans = refl; answers = refl; dooms = λ v. refl; calm = λ _. refl; making = λ _. refl })
+deed-connect_send S t at P row (Some s) each = if_cases P (is_some (held_by S.nano t)) _ _
+    (λ _. calm each _ (record { step = refl; cleans = refl; answers = refl; dooms = λ v. refl; calm = λ _. refl; making = λ _. refl }))
+    (λ _. deed-connecting S t at P row s (open_server S s) refl each)
+
+deed-connect_done : (S : State) (t : ObjNo) (at : Option Instr) (P : Decision → Type 0) (row : ThreadRow) (x : ℕ) (session : Option ObjNo) → OfEach S t at P → P (connect_done S t row x session)
+deed-connect_done S t at P row x None each = calm each _ (record { step = refl; cleans = refl; answers = refl; dooms = λ v. refl; calm = λ _. refl; making = λ _. refl })
+deed-connect_done S t at P row x (Some s) each = if_cases P (int_eq (reply_of S.requests t) (pos 0)) _ _
+    (λ _. calm each _ (record { step = refl; cleans = refl; answers = refl; dooms = λ v. refl; calm = λ _. refl; making = λ _. refl }))
+    (λ _. deed-failed S t at P row s _ part.Done refl each)
+
+pub deed-connect : (S : State) (t : ObjNo) (at : Option Instr) (P : Decision → Type 0) (row : ThreadRow) (name : List ℕ) (slots : Slots) (x : ℕ) (p : Option Part) → OfEach S t at P → P (connect_step S t row name slots x p)
+deed-connect S t at P row name slots x None each = calm each _ (other-unless S t word.Connect part.Seek _ (other-seek t word.Connect _))
+deed-connect S t at P row name slots x (Some part.Make) each = deed-connect_make S t at P slots row.uses each
+deed-connect S t at P row name slots x (Some part.Send) each = deed-connect_send S t at P row (session_made S t row) each
+deed-connect S t at P row name slots x (Some _) each = deed-connect_done S t at P row x (session_made S t row) each

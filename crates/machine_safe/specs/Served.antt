@@ -1,0 +1,78 @@
+-- What the entries of a history tell of servers: who owns one, which server a session is at, and whether a server is
+-- closing or has ended.
+use Rattle.std.specs.Prelude.{ℕ, ◌+◌, ◌==◌, ◌||◌, Bool, true, false, nat_lt, if◌then◌else◌, List, [], ◌∷◌, Option, Some, None}
+use Rattle.sym_base.specs.declared.number.ObjNo.{ObjNo}
+use Rattle.sym_base.specs.declared.word.Word.TheVariants as word
+use Rattle.entry_log.specs.declared.effect.Effect.{Effect}
+use Rattle.entry_log.specs.declared.effect.Effect.TheVariants.{Plus, Minus, Terminated}
+use Rattle.entry_log.specs.declared.effect.Holder.{Holder}
+use Rattle.entry_log.specs.declared.effect.Holder.TheVariants.{InProcess, InThread, Own, Link}
+use Rattle.entry_log.specs.declared.entry.Entry.{Entry}
+use Rattle.entry_log.specs.declared.step.Part.TheVariants as part
+use Rattle.entry_log.specs.declared.step.Step.{Step}
+use Rattle.entry_log.specs.declared.step.Step.TheVariants as step
+use Rattle.machine.specs.References.{same}
+use Rattle.machine_safe.specs.CountAfter.{effects_of}
+use Rattle.machine_safe.specs.SafeDeaths.{dooms}
+
+-- what is told last, where something is
+abbrev pub or_before : Option ObjNo → Option ObjNo → Option ObjNo
+or_before None earlier = earlier
+or_before (Some o) earlier = Some o
+
+abbrev pub one_if : Bool → ObjNo → Option ObjNo
+one_if is o = if is then Some o else None
+
+-- the server of a session: what the session's link refers to
+abbrev pub server_told : List Effect → ObjNo → Option ObjNo
+server_told [] s = None
+server_told (Plus (Link x) v ∷ rest) s = or_before (server_told rest s) (one_if (x.0 == s.0) v)
+server_told (_ ∷ rest) s = server_told rest s
+
+-- the owner of a server: the thread that got it as its own in the entry that made it
+abbrev pub owner_told : List Effect → ObjNo → Option ObjNo
+owner_told [] v = None
+owner_told (Plus (Own t) o ∷ rest) v = or_before (owner_told rest v) (one_if (o.0 == v.0) t)
+owner_told (_ ∷ rest) v = owner_told rest v
+
+abbrev pub makes_server : Step → Bool
+makes_server (step.Of word.Server part.Do) = true
+makes_server _ = false
+
+abbrev pub owner_in : List Entry → ObjNo → Option ObjNo
+owner_in [] v = None
+owner_in (e ∷ es) v = or_before (owner_in es v) (if makes_server e.step then owner_told e.effects v else None)
+
+-- how often handles of an object are closed, by `close` or in the death of a thread
+abbrev pub is_handle : Holder → Bool
+is_handle (InProcess p i) = true
+is_handle (InThread t i) = true
+is_handle _ = false
+
+abbrev pub handles_lost : List Effect → ObjNo → ℕ
+handles_lost [] v = 0
+handles_lost (Minus h o ∷ rest) v = (if is_handle h then same o v else 0) + handles_lost rest v
+handles_lost (_ ∷ rest) v = handles_lost rest v
+
+abbrev pub closes_handle : Step → Bool
+closes_handle (step.Of word.Close part.Do) = true
+closes_handle step.Shut = true
+closes_handle _ = false
+
+abbrev pub closings : List Entry → ObjNo → ℕ
+closings [] v = 0
+closings (e ∷ es) v = (if closes_handle e.step then handles_lost e.effects v else 0) + closings es v
+
+-- a server is closing once its handle is closed or its owner is doomed
+abbrev pub is_doomed : List Effect → Option ObjNo → Bool
+is_doomed effects None = false
+is_doomed effects (Some t) = nat_lt 0 (dooms effects t)
+
+abbrev pub is_closing_in : List Entry → ObjNo → Bool
+is_closing_in es v = nat_lt 0 (closings es v) || is_doomed (effects_of es) (owner_in es v)
+
+-- how often a server ended
+abbrev pub ends : List Effect → ObjNo → ℕ
+ends [] v = 0
+ends (Terminated o ∷ rest) v = same o v + ends rest v
+ends (_ ∷ rest) v = ends rest v

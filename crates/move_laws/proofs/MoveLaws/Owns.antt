@@ -1,0 +1,96 @@
+-- A server is made, which a thread owns: it was set up before.
+use Rattle.std.proofs.Common.{◌≡◌, ℕ, ◌+◌, ◌<◌, ◌≤◌, List, [], ◌∷◌, ◌++◌, length, arith, refl, ap, subst, Some, false}
+use Rattle.std.proofs.lemmas.List.{length_push}
+use Rattle.sym_base.specs.declared.kind.Kind.{Kind}
+use Rattle.sym_base.specs.declared.number.ObjNo.{ObjNo}
+use Rattle.script_types.specs.declared.script.Script.{Script}
+use Rattle.entry_log.specs.declared.effect.Effect.TheVariants.{Plus}
+use Rattle.entry_log.specs.declared.effect.Holder.{Holder}
+use Rattle.entry_log.specs.declared.effect.Holder.TheVariants.{Own}
+use Rattle.state_rows.specs.declared.duty.Owed.{Owed}
+use Rattle.state_rows.specs.declared.duty.Owed.TheVariants.{Close, Sweep}
+use Rattle.state_rows.specs.declared.thread.Stage.TheVariants.{Live}
+use Rattle.state_rows.specs.declared.thread.ThreadRow.{ThreadRow}
+use Rattle.machine.specs.Fits.{MayMake, MayOwnNext}
+use Rattle.machine.specs.HeldIn.{held_in, owed_by}
+use Rattle.machine.specs.Holding.{is_holder}
+use Rattle.machine.specs.Moves.{new_object, next_object}
+use Rattle.machine.specs.References.{mutex_names, owed_names, same, total}
+use Rattle.machine.specs.ServerMoves.{owned_gain}
+use Rattle.machine.specs.ThreadCalls.{is_live}
+use Rattle.machine.specs.WellFormed.{AreRows, is_spent}
+use Rattle.machine.specs.declared.state.State.{State}
+use Rattle.move_laws.proofs.Holders.HoldersMove.{holders-plus}
+use Rattle.move_laws.proofs.Holders.Serving.{holds-owned}
+use Rattle.move_laws.proofs.Lists.Totals.{inside, total_within}
+use Rattle.move_laws.proofs.Lives.Kinds.{lives-made}
+use Rattle.move_laws.proofs.MoveLaws.ServerMoves.{unmade_uncounted}
+use Rattle.move_laws.proofs.MoveLaws.Sound.{Sound, sound-of}
+use Rattle.move_laws.proofs.References.Mutexes.{count-holding}
+use Rattle.move_laws.proofs.References.Same.{if_le}
+use Rattle.move_laws.proofs.RowLaws.Locks.{leaves-none, locks-left}
+use Rattle.move_laws.proofs.RowLaws.OwnedServers.{servers-owned}
+use Rattle.move_laws.proofs.RowLaws.Spent.{made-dead, spent-objects}
+
+-- a close that is owed of a holder's reference names the object
+owed_by_le : (g : Holder) (x : ObjNo) (what : List Owed) → total (owed_by g x) what ≤ total (owed_names x) what
+owed_by_le g x [] = omega arith
+owed_by_le g x (Close h o ∷ rest) = let a = if_le (is_holder h g) (same o x) in let b = owed_by_le g x rest in omega arith
+owed_by_le g x (Sweep o ∷ rest) = let b = owed_by_le g x rest in omega arith
+
+all_owed_by_le : (g : Holder) (x : ObjNo) (owed : List (List Owed)) → total (total (owed_by g x)) owed ≤ total (total (owed_names x)) owed
+all_owed_by_le g x [] = omega arith
+all_owed_by_le g x (what ∷ rest) = let a = owed_by_le g x what in let b = all_owed_by_le g x rest in omega arith
+
+abbrev owning : State → Kind → List ℕ → ObjNo → State
+owning S kind name u = record S { objects = S.objects ++ Some (new_object kind name) ∷ []; owned = owned_gain (Own u) (next_object S) S.owned }
+
+pub sound-owned : (script : Script) (S : State) (kind : Kind) (name : List ℕ) (u : ObjNo) → MayMake S kind name → MayOwnNext S u → AreRows script S → Sound script S (owning S kind name u) (Plus (Own u) (next_object S) ∷ [])
+sound-owned script S kind name u may own rows =
+    sound-of script S T (Plus (Own u) o ∷ []) rows (record {
+      handles_long = refl;
+      threads_long = refl;
+      owed_long = refl;
+      objects_few = let room = may.room in let l = long in omega arith;
+      tables = rows.tables;
+      threads = rows.threads;
+      duties = rows.duties;
+      nano = rows.nano;
+      deferred = rows.deferred;
+      requests = rows.requests;
+      locks = locks-left (length S.objects) (length T.objects) S.threads S.threads S.mutexes S.owed S.owed S.locks (let l = long in omega arith) (leaves-none S.threads S.owed S.locks) rows.locks;
+      memories = rows.memories;
+      logons = rows.logons;
+      spent = spent-objects S.objects T.objects S.handles S.threads (made-dead S.objects (new_object kind name) refl) rows.spent;
+      awaited = rows.awaited;
+      servers = servers-owned (λ row. is_spent row.stage) (length S.objects) (length T.objects) S.threads S.locks S.owned S.servers u o (let l = long in omega arith) (record {
+        server = record { row = record { owner = u; is_closing = false }; is = own.server; owner = refl };
+        live = λ row is. let same_row : own.owner.row ≡ row = (let a = own.owner.is in cc) in
+            let stage : row.stage ≡ Live = subst (λ (r : ThreadRow). r.stage ≡ Live) same_row own.owner.live in
+            (ap is_live stage, ap is_spent stage);
+        inside = inside_owned;
+        unowned = λ t. let none = unmade_uncounted script S o (omega arith) rows in let within = total_within (mutex_names o) S.owned t.0 in omega arith;
+      }) rows.servers;
+      messages = rows.messages;
+    })
+    (lives-made S T (new_object kind name) (Own u) o refl refl refl (λ p. let a = count-holding S.owned u o p inside_owned in omega arith) (λ p. refl))
+    (holders-plus S T (Own u) o unheld (λ g x. let a = holds-owned S.owned S.servers.sessions S.messages.outstanding u o inside_owned g x in omega arith))
+  where
+    o : ObjNo
+    o = next_object S
+
+    T : State
+    T = owning S kind name u
+
+    long : length T.objects ≡ length S.objects + 1
+    long = length_push S.objects (Some (new_object kind name))
+
+    inside_owned : u.0 < length S.owned
+    inside_owned = let a = inside S.threads u.0 own.owner.row own.owner.is in let b = rows.servers.owned_sized in omega arith
+
+    unheld : held_in S (Own u) o ≡ 0
+    unheld =
+        let none = unmade_uncounted script S o (omega arith) rows in
+        let a = total_within (mutex_names o) S.mutexes u.0 in
+        let b = all_owed_by_le (Own u) o S.owed in
+        let c = total_within (mutex_names o) S.owned u.0 in omega arith

@@ -1,0 +1,105 @@
+//! References that are given up, on the plain machine's lists.
+ghost use Rattle.std.specs.Prelude.{◌≡◌, OnOk};
+ghost use Rattle.machine.specs.Moves.{link_of, link_of_row, moved, objects_closed};
+ghost use Rattle.machine.specs.Rows.{thread_of};
+
+use crate::slots::lose_slot;
+use entry_log::Holder;
+use machine::{Move, Owed, State, is_last, object_of, set_row, thread_in};
+use plain_rows::{
+    drop_first_owed, owe_close, owned_lose, server_of, servers_closed, servers_lose,
+    threads_closed, threads_lose,
+};
+use state_rows::dead_row;
+use std::alloc::Global;
+use sym_base::{NoMemory, ObjNo, ThreadNo};
+
+/// With its last reference an object dies.
+fn close_object(state: &mut State, last: bool, object: ObjNo)
+    ensures { state.new ≡ record state.old { objects = objects_closed last object state.old.objects } }
+{
+    if last {
+        let dead = dead_row(object_of(state, object));
+        set_row(&mut state.objects, object, dead);
+    }
+}
+
+/// The link of a thread to its process.
+fn process_link(state: &State, object: ObjNo) -> Option<ObjNo>
+    ensures { result ≡ link_of_row (thread_of state.now object) }
+{
+    thread_in(&state.threads, object)?.link
+}
+
+/// An object's own reference: a thread's link to its process, or a session's to its server.
+fn link_of(state: &State, object: ObjNo) -> Option<ObjNo>
+    ensures { result ≡ link_of state.now object }
+{
+    match process_link(state, object) {
+        Some(process) => Some(process),
+        None => server_of(&state.servers, object),
+    }
+}
+
+/// A holder gives its reference up, and the thread owes what a last one leaves to do.
+pub fn lose(
+    alloc: Global,
+    state: &mut State,
+    thread: ThreadNo,
+    holder: Holder,
+    object: ObjNo,
+) -> Result<(), NoMemory>
+    ensures { OnOk result (state.new ≡ moved thread (Move.Lose holder object) state.old) }
+{
+    let last = is_last(state, object);
+    let link = link_of(state, object);
+    lose_slot(state, holder);
+    threads_lose(&mut state.threads, holder);
+    servers_lose(alloc, &mut state.servers, holder)?;
+    owned_lose(alloc, &mut state.owned, holder, object)?;
+    close_object(state, last, object);
+    threads_closed(&mut state.threads, last, object);
+    servers_closed(alloc, &mut state.servers, last, object)?;
+    owe_close(&mut state.owed, thread, last, object, link)
+}
+
+/// The thread pays a close that it owes.
+fn pay_close(
+    alloc: Global,
+    state: &mut State,
+    thread: ThreadNo,
+    holder: Holder,
+    object: ObjNo,
+) -> Result<(), NoMemory>
+    ensures { OnOk result (state.new ≡ moved thread (Move.Pay (Owed.Close holder object)) state.old) }
+{
+    let last = is_last(state, object);
+    let link = link_of(state, object);
+    close_object(state, last, object);
+    threads_closed(&mut state.threads, last, object);
+    servers_closed(alloc, &mut state.servers, last, object)?;
+    drop_first_owed(&mut state.owed, thread);
+    owe_close(&mut state.owed, thread, last, object, link)
+}
+
+/// The thread removes the row of a dead object.
+fn pay_sweep(state: &mut State, thread: ThreadNo, object: ObjNo)
+    ensures { state.new ≡ moved thread (Move.Pay (Owed.Sweep object)) state.old }
+{
+    set_row(&mut state.objects, object, None);
+    set_row(&mut state.threads, object, None);
+    drop_first_owed(&mut state.owed, thread);
+}
+
+/// The thread pays the oldest of what it owes.
+pub fn pay(alloc: Global, state: &mut State, thread: ThreadNo, what: Owed) -> Result<(), NoMemory>
+    ensures { OnOk result (state.new ≡ moved thread (Move.Pay what) state.old) }
+{
+    match what {
+        Owed::Close(holder, object) => pay_close(alloc, state, thread, holder, object),
+        Owed::Sweep(object) => {
+            pay_sweep(state, thread, object);
+            Ok(())
+        }
+    }
+}

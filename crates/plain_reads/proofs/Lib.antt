@@ -1,0 +1,4 @@
+pub mod Best
+pub mod BurialNumbers
+pub mod First
+pub mod Work

@@ -1,0 +1,63 @@
+-- Servers, sessions and their links, as lists.
+use Rattle.std.specs.Prelude.{Bool, false, not, ◌&&◌, ◌==◌, List, [], Option, None, Some, option_map, slice_index_or, IsSome}
+use Rattle.std.specs.List.{list_any}
+use Rattle.sym_base.specs.declared.number.ObjNo.{ObjNo}
+use Rattle.state_rows.specs.declared.servers.ServerRow.{ServerRow}
+use Rattle.state_rows.specs.declared.servers.SessionRow.{SessionRow}
+use Rattle.state_rows.specs.declared.servers.ServerRows.{ServerRows}
+
+-- the row of a server
+abbrev pub server_at : ServerRows → ObjNo → Option ServerRow
+server_at rows o = slice_index_or rows.servers o.0 None
+
+abbrev pub IsServer : ServerRows → ObjNo → Type 0
+IsServer rows o = IsSome (server_at rows o)
+
+-- the row of a session
+abbrev pub session_at : ServerRows → ObjNo → Option SessionRow
+session_at rows o = slice_index_or rows.sessions o.0 None
+
+abbrev pub IsSession : ServerRows → ObjNo → Type 0
+IsSession rows o = IsSome (session_at rows o)
+
+-- the sessions that are linked to a server, the one that was made first first
+abbrev pub linked_at : ServerRows → ObjNo → List ObjNo
+linked_at rows o = slice_index_or rows.linked o.0 []
+
+-- the thread that owns a server
+abbrev pub owner_of : ServerRows → ObjNo → Option ObjNo
+owner_of rows o = option_map (λ row. row.owner) (server_at rows o)
+
+-- whether a server is closing
+abbrev pub closes : Option ServerRow → Bool
+closes None = false
+closes (Some row) = row.is_closing
+
+abbrev pub is_closing : ServerRows → ObjNo → Bool
+is_closing rows o = closes (server_at rows o)
+
+-- the server that a session is linked to
+abbrev pub link_of : Option SessionRow → Option ObjNo
+link_of None = None
+link_of (Some row) = row.server
+
+abbrev pub server_of : ServerRows → ObjNo → Option ObjNo
+server_of rows s = link_of (session_at rows s)
+
+-- whether a session was opened and not closed since
+abbrev pub was_opened : Option SessionRow → Bool
+was_opened None = false
+was_opened (Some row) = row.is_open
+
+-- whether there is a server and it isn't closing
+abbrev pub accepts : ServerRows → Option ObjNo → Bool
+accepts rows None = false
+accepts rows (Some server) = not (is_closing rows server)
+
+-- whether a session is open: it was opened and not closed since, and is linked to a server that isn't closing
+abbrev pub is_open : ServerRows → ObjNo → Bool
+is_open rows s = was_opened (session_at rows s) && accepts rows (server_of rows s)
+
+-- whether a session is among some
+abbrev pub holds : ObjNo → List ObjNo → Bool
+holds s sessions = list_any (λ other. other.0 == s.0) sessions

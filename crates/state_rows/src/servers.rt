@@ -1,0 +1,36 @@
+//! Rows of servers and sessions.
+use sym_base::{Items, ObjNo, Slots, ThreadNo};
+
+/// What is kept of a server.
+#[derive(Clone, Copy, Debug, PartialEq, Eq)]
+pub struct ServerRow {
+    /// The thread that made the server, and that receives its messages.
+    pub owner: ThreadNo,
+    /// Whether its handle was closed or its owner was doomed. A closing server gets no session and accepts
+    /// no message.
+    pub is_closing: bool,
+}
+
+/// What is kept of a session.
+#[derive(Clone, Copy, Debug, PartialEq, Eq)]
+pub struct SessionRow {
+    /// The server that the session is linked to, None from when it is detached on.
+    pub server: Option<ObjNo>,
+    /// How many asynchronous messages it may have outstanding.
+    pub slots: Slots,
+    /// The thread that made the session.
+    pub client: ThreadNo,
+    /// Whether the session was opened and not closed since. Where its server is closing the session isn't
+    /// open whatever this says.
+    pub is_open: bool,
+}
+
+/// What the kernel keeps of servers and sessions (Symbian OS Internals, the chapter on inter-process communication): by
+/// object number the row of a server and the row of a session, None where it is no server or no session; and by the number of
+/// a server the sessions that are linked to it, in order of making.
+#[derive(Drop)]
+pub struct ServerRows {
+    pub servers: Items<Option<ServerRow>>,
+    pub sessions: Items<Option<SessionRow>>,
+    pub linked: Items<Items<ObjNo>>,
+}
