@@ -6,7 +6,7 @@ use Rattle.entry_log.specs.declared.entry.Entry.{Entry}
 use Rattle.machine.specs.History.{IsLegal}
 use Rattle.machine_safe.specs.Safe.{IsSafe}
 use Rattle.machine_safe.proofs.LegalDeaths.{legal_deaths}
-use Rattle.machine_safe.proofs.LegalServing.{legal_messages, legal_servers}
+use Rattle.machine_safe.proofs.LegalServing.{legal_busy, legal_messages, legal_servers}
 use Rattle.machine_safe.proofs.SafeHistories.{legal_safe}
 
 pub legal_safety : (script : Script) (history : List Entry) → IsWellFormed script → IsLegal script history → IsSafe script history
@@ -15,4 +15,5 @@ legal_safety script history valid legal = record {
   deaths = legal_deaths script history valid legal;
   messages = legal_messages script history valid legal;
   servers = legal_servers script history valid legal;
+  busy = legal_busy script history valid legal;
 }

@@ -23,6 +23,7 @@ use Rattle.std.proofs.Common.{List, Some, [], ap, append_assoc, arith, inl, inr,
 use Rattle.std.proofs.lemmas.List.{append-nil}
 use Rattle.sym_base.specs.declared.number.ObjNo.{ObjNo}
 use Rattle.script_types.specs.Source.{IsWellFormed}
+use Rattle.machine_safe.specs.SafeBusy.{IsSafeBusy}
 
 -- a thread that is there is live, or was doomed once
 fated : (script : Script) (before : List Entry) → IsWellFormed script → IsLegal script before → IsFated before (after script before)
@@ -54,6 +55,9 @@ lawful script history before e later valid legal is =
     let shaped = formed_is_shaped script valid in
     let book = book-after script before (e ∷ later) valid (subst (IsLegal script) is legal) (book-boot script shaped) in
     (turn-entry script before (after script before) c.place shaped c.rows book (fated script before valid c.legal_before) e c.here).lawful
+
+pub legal_busy : (script : Script) (history : List Entry) → IsWellFormed script → IsLegal script history → IsSafeBusy script history
+legal_busy script history valid legal = record { answers = λ before e later is sends. (lawful script history before e later valid legal is).send sends }
 
 pub legal_messages : (script : Script) (history : List Entry) → IsWellFormed script → IsLegal script history → IsSafeMessages script history
 legal_messages script history valid legal = record {

@@ -9,5 +9,6 @@ pub mod ReadyHolders
 pub mod Runs
 pub mod SafeHistories
 pub mod Serving
+pub mod UnsafeBusy
 pub mod UnsafeDeaths
 pub mod UnsafeMessages

@@ -13,6 +13,7 @@ pub mod Joining
 pub mod Keeps
 pub mod Kept
 pub mod KeptRows
+pub mod KeptUses
 pub mod Letters
 pub mod Making
 pub mod Posted
@@ -20,6 +21,7 @@ pub mod Quiet
 pub mod Reading
 pub mod Sending
 pub mod Served
+pub mod Slots
 pub mod Stopping
 pub mod Told
 pub mod Turns

@@ -32,60 +32,60 @@ use Rattle.machine.specs.Decide.{answer}
 use Rattle.machine_safe.specs.SafeServers.{IsSafeServers}
 
 -- Process 2 has thread 3, which serves, and process 4 has thread 5, its client.
-abbrev serving_thread : ThreadDecl
+abbrev pub serving_thread : ThreadDecl
 serving_thread = record { name = codes "sv"; priority = 20; held = false; process = Some 0; instrs = Server (codes "files") 0 ∷ Complete 0 (pos 0) ∷ Complete 1 (pos 5) ∷ Close 0 ∷ [] }
 
-abbrev client_thread : ThreadDecl
+abbrev pub client_thread : ThreadDecl
 client_thread = record { name = codes "c"; priority = 10; held = false; process = Some 1; instrs = Connect (codes "files") (slots.Own 1) 0 ∷ Send 0 1 0 (record { 0 = Number (pos 0); 1 = Number (pos 0); 2 = Number (pos 0); 3 = Number (pos 0) }) ∷ [] }
 
-abbrev served_script : Script
+abbrev pub served_script : Script
 served_script = record { version = 1; pool = 0; fast = 0; queues = []; dfcs = []; idfcs = []; irqs = []; processes = record { name = codes "ps" } ∷ record { name = codes "pc" } ∷ []; threads = serving_thread ∷ client_thread ∷ []; slots = [] }
 
 -- object n, message n, and an entry of thread t
-abbrev number : ℕ → ObjNo
+abbrev pub number : ℕ → ObjNo
 number n = record { 0 = n }
 
-abbrev message : ℕ → MsgNo
+abbrev pub message : ℕ → MsgNo
 message n = record { 0 = n }
 
-abbrev acts : ℕ → ℕ → Step → List Effect → Option ℤ → Entry
+abbrev pub acts : ℕ → ℕ → Step → List Effect → Option ℤ → Entry
 acts place t done effects answer = record { place = place; actor = Thread (number t); step = done; effects = effects; answer = answer }
 
 -- the server is object 6, and the session object 7
-abbrev accepted : ℕ → List Effect
+abbrev pub accepted : ℕ → List Effect
 accepted n = effect.Accept (message n) ∷ effect.Plus (holder.Message (message n)) (number 7) ∷ effect.Plus (holder.Message (message n)) (number 5) ∷ []
 
-abbrev serves : Entry
+abbrev pub serves : Entry
 serves = acts 1 3 (step.Of word.Server part.Do) (effect.Plus (holder.Own (number 3)) (number 6) ∷ effect.Plus (holder.InThread (number 3) 0) (number 6) ∷ []) (Some (pos 1073807360))
 
-abbrev joins : Entry
+abbrev pub joins : Entry
 joins = acts 2 5 (step.Of word.Connect part.Make) (effect.Plus (holder.InThread (number 5) 0) (number 7) ∷ effect.Plus (holder.Link (number 7)) (number 6) ∷ []) None
 
-abbrev connects : Entry
+abbrev pub connects : Entry
 connects = acts 3 5 (step.Of word.Connect part.Send) (accepted 1) None
 
-abbrev completes : ℕ → ℕ → List Effect → Entry
+abbrev pub completes : ℕ → ℕ → List Effect → Entry
 completes place n told = acts place 3 (step.Of word.Complete part.Do) told (Some (pos 0))
 
-abbrev first_end : Entry
+abbrev pub first_end : Entry
 first_end = completes 4 1 (effect.Finish (message 1) (pos 0) ∷ effect.Signal (number 5) status.Sync (pos 0) ∷ [])
 
-abbrev connected : Entry
+abbrev pub connected : Entry
 connected = acts 5 5 (step.Of word.Connect part.Done) [] (Some (pos 1073807360))
 
-abbrev sends : ℕ → ℕ → Entry
+abbrev pub sends : ℕ → ℕ → Entry
 sends place n = acts place 5 (step.Of word.Send part.Do) (accepted n) (Some (pos 0))
 
 abbrev second_end : Entry
 second_end = completes 7 2 (effect.Finish (message 2) (pos 5) ∷ effect.Signal (number 5) (status.Async 0) (pos 5) ∷ [])
 
-abbrev closes : ℕ → Entry
+abbrev pub closes : ℕ → Entry
 closes place = acts place 3 (step.Of word.Close part.Do) (effect.Minus (holder.InThread (number 3) 0) (number 6) ∷ []) (Some (pos 0))
 
 abbrev stops : Entry
 stops = acts 9 3 step.Stop (effect.Terminated (number 6) ∷ effect.Minus (holder.Own (number 3)) (number 6) ∷ effect.Dead (number 6) ∷ []) None
 
-abbrev opens : List Entry
+abbrev pub opens : List Entry
 opens = serves ∷ joins ∷ connects ∷ []
 
 abbrev served : List Entry

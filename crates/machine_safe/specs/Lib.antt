@@ -2,9 +2,11 @@ pub mod CountAfter
 pub mod Laws
 pub mod ReadyHolders
 pub mod Safe
+pub mod SafeBusy
 pub mod SafeDeaths
 pub mod SafeMessages
 pub mod SafeReferences
 pub mod SafeServers
 pub mod Sent
 pub mod Served
+pub mod Slotted

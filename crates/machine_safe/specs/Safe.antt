@@ -1,7 +1,8 @@
--- What is promised of every legal history: its references are safe, and so are its deaths, its messages, and the ends of its servers.
+-- What is promised of every legal history: its references are safe, and so are its deaths, its messages, the ends of its servers, and its busy answers.
 use Rattle.std.specs.Prelude.{List}
 use Rattle.script_types.specs.declared.script.Script.{Script}
 use Rattle.entry_log.specs.declared.entry.Entry.{Entry}
+use Rattle.machine_safe.specs.SafeBusy.{IsSafeBusy}
 use Rattle.machine_safe.specs.SafeDeaths.{IsSafeDeaths}
 use Rattle.machine_safe.specs.SafeMessages.{IsSafeMessages}
 use Rattle.machine_safe.specs.SafeReferences.{IsSafeReferences}
@@ -12,3 +13,4 @@ pub record IsSafe (script : Script) (history : List Entry) : Type 0 where
   pub deaths : IsSafeDeaths script history
   pub messages : IsSafeMessages script history
   pub servers : IsSafeServers history
+  pub busy : IsSafeBusy script history

@@ -1,6 +1,7 @@
 //! The laws of references, deaths, messages and servers over whole histories.
 ghost use Rattle.script_types.specs.Source.{IsWellFormed};
 ghost use Rattle.machine.specs.History.{IsLegal};
+ghost use Rattle.machine_safe.specs.SafeBusy.{IsSafeBusy};
 ghost use Rattle.machine_safe.specs.SafeDeaths.{IsSafeDeaths};
 ghost use Rattle.machine_safe.specs.SafeMessages.{IsSafeMessages};
 ghost use Rattle.machine_safe.specs.SafeReferences.{IsSafeReferences};
@@ -18,7 +19,8 @@ use script_types::Script;
 /// that server's owner, with the code of its `complete` or, where the server is closing, as terminated; beside that end
 /// stands what the client is told, and nothing else: the code, by the status that it sent the message with, unless it was
 /// doomed or the message disconnects. Where a server ends each of its messages is finished, and as a thread is cleaned
-/// each server that it made has ended. This call only states it, and changes nothing.
+/// each server that it made has ended. And a `send` to a server that isn't closing answers KErrServerBusy exactly where all
+/// slots of its session are used, and is accepted else. This call only states it, and changes nothing.
 pub fn legal_is_safe(script: &Script, history: &[Entry])
     requires valid { IsWellFormed script.now }
     requires legal { IsLegal script.now history.now }
@@ -26,4 +28,5 @@ pub fn legal_is_safe(script: &Script, history: &[Entry])
     ensures deaths { IsSafeDeaths script.now history.now }
     ensures messages { IsSafeMessages script.now history.now }
     ensures servers { IsSafeServers history.now }
+    ensures busy { IsSafeBusy script.now history.now }
 {}

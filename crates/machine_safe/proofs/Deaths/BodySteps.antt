@@ -24,6 +24,7 @@ use Rattle.machine.specs.Rows.{thread_of}
 use Rattle.machine.specs.ThreadCalls.{is_live}
 use Rattle.machine_safe.specs.SafeDeaths.{is_clean}
 use Rattle.machine_safe.proofs.Deaths.Other.{CleansNone, IsOther, none-both, none-end, none-then, other-of, none-if, none-signal}
+use Rattle.machine_safe.specs.Slotted.{is_send}
 
 -- an operation
 none-immediate : (found : Option ℕ) → CleansNone false (queue_immediate found)
@@ -82,5 +83,9 @@ other-run : (found : Option DfcDecl) → is_clean (run_dfc found) ≡ false
 other-run None = refl
 other-run (Some dfc) = refl
 
+unsent-run : (found : Option DfcDecl) → is_send (run_dfc found) ≡ false
+unsent-run None = refl
+unsent-run (Some dfc) = refl
+
 pub other-body : (script : Script) (t : ObjNo) (S : State) (dfc : ℕ) → IsOther false (run_body script t S (Deferred dfc))
-other-body script t S dfc = other-of (run_body script t S (Deferred dfc)) (other-run _) refl (none-body script t S (Deferred dfc))
+other-body script t S dfc = other-of (run_body script t S (Deferred dfc)) (other-run _) refl (λ _. unsent-run _) (none-body script t S (Deferred dfc))

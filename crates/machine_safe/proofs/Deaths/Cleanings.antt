@@ -50,7 +50,7 @@ module _ (script : Script) (S : State) (t : ObjNo) where
 
   -- a live thread's
   other-call : (row : ThreadRow) (call : Option ℕ) → IsOther true (decision_of_row script S t (Some row) (option_map call_task call))
-  other-call row None = record { step = refl; cleans = refl; answers = refl; dooms = λ v. refl; calm = λ _. refl; making = λ _. refl }
+  other-call row None = record { step = refl; cleans = refl; answers = refl; dooms = λ v. refl; calm = λ _. refl; making = λ _. refl; sends = λ _. refl }
   other-call row (Some dfc) = by (nat_lt dfc 64)
     where
       by : (declared : Bool) → IsOther true (decision_of_row script S t (Some row) (Some (if declared then RunDfc dfc else Bury dfc)))
@@ -59,7 +59,7 @@ module _ (script : Script) (S : State) (t : ObjNo) where
 
   other-end : (row : ThreadRow) (protected : Bool) → IsOther true (decision_of_task script S t row (end_task protected))
   other-end row true = served (other-flush S t)
-  other-end row false = served (other-of (end t) refl refl (none-doomed t (killed (pos 0))))
+  other-end row false = served (other-of (end t) refl refl (λ _. refl) (none-doomed t (killed (pos 0))))
 
   other-own : (row : ThreadRow) (protected : Bool) (at : Option Instr) → IsOther true (decision_of_task script S t row (step_or_end protected at))
   other-own row protected None = other-end row protected
@@ -82,8 +82,8 @@ module _ (script : Script) (S : State) (t : ObjNo) where
   known-stage : (row : ThreadRow) (stage : Stage) → thread_of S t ≡ Some row → row.stage ≡ stage → owed_of S t ≡ [] → IsKnown (Some row) (by_stage stage (holdings S t row) (own_task row))
   known-stage row Live is at paid = inl (other-live row row.role (next_call S.deferred row.role) (held_servers S t) (is_protected S.nano t) (instruction script row))
   known-stage row Doomed is at paid = known-dying row (holdings S t row) is at paid refl
-  known-stage row Cleaned is at paid = inl (record { step = refl; cleans = refl; answers = refl; dooms = λ v. refl; calm = λ _. refl; making = λ _. refl })
-  known-stage row Buried is at paid = inl (record { step = refl; cleans = refl; answers = refl; dooms = λ v. refl; calm = λ _. refl; making = λ _. refl })
+  known-stage row Cleaned is at paid = inl (record { step = refl; cleans = refl; answers = refl; dooms = λ v. refl; calm = λ _. refl; making = λ _. refl; sends = λ _. refl })
+  known-stage row Buried is at paid = inl (record { step = refl; cleans = refl; answers = refl; dooms = λ v. refl; calm = λ _. refl; making = λ _. refl; sends = λ _. refl })
 
   known-owed : (row : ThreadRow) (owed : List Owed) → thread_of S t ≡ Some row → owed_of S t ≡ owed → IsKnown (Some row) (pay_or (first_of owed) (by_stage row.stage (holdings S t row) (own_task row)))
   known-owed row [] is o = known-stage row row.stage is refl o
@@ -95,12 +95,12 @@ module _ (script : Script) (S : State) (t : ObjNo) where
   known-return row false at is = known-owed row (owed_of S t) is refl
 
   known-row : (x : Option ThreadRow) → thread_of S t ≡ x → IsKnown x (task_of_row script S t x)
-  known-row None is = inl (record { step = refl; cleans = refl; answers = refl; dooms = λ v. refl; calm = λ _. refl; making = λ _. refl })
+  known-row None is = inl (record { step = refl; cleans = refl; answers = refl; dooms = λ v. refl; calm = λ _. refl; making = λ _. refl; sends = λ _. refl })
   known-row (Some row) is = known-return row (is_returning row.part) (instruction script row) is
 
   known-able : (able : Bool) → IsOther true (decision_where script able S t (task_of script S t)) ⊎ IsCleaning script S t (decision_where script able S t (task_of script S t))
   known-able true = known-row (thread_of S t) refl
-  known-able false = inl (record { step = refl; cleans = refl; answers = refl; dooms = λ v. refl; calm = λ _. refl; making = λ _. refl })
+  known-able false = inl (record { step = refl; cleans = refl; answers = refl; dooms = λ v. refl; calm = λ _. refl; making = λ _. refl; sends = λ _. refl })
 
   -- where a thread's action is a cleaning, it owes nothing and has nothing left
   pub is-cleaning : is_clean (decision_of script S t).step ≡ true → IsCleaning script S t (decision_of script S t)

@@ -14,7 +14,7 @@ use Rattle.machine.specs.declared.death_move.DeathMove.TheVariants.{Clean, Doom}
 use Rattle.machine.specs.declared.lock_move.LockMove.TheVariants.{Lock, Unlock, Free}
 use Rattle.machine.specs.declared.message_move.MessageMove.TheVariants.{Take}
 use Rattle.machine.specs.declared.server_move.ServerMove.TheVariants.{CloseAll, SetOpen}
-use Rattle.entry_log.specs.declared.effect.Holder.TheVariants.{Temp, Link}
+use Rattle.entry_log.specs.declared.effect.Holder.TheVariants.{Temp}
 use Rattle.machine.specs.declared.decision.Decision.{Decision}
 use Rattle.machine.specs.declared.handles.NewHandle.{NewHandle}
 use Rattle.machine.specs.declared.moves.Move.{Move}
@@ -33,6 +33,7 @@ use Rattle.machine_safe.specs.SafeDeaths.{is_clean}
 use Rattle.machine_safe.specs.Served.{makes_server}
 use Rattle.sym_base.specs.declared.kind.Exit.{Exit}
 use Rattle.machine.specs.Dooms.{doom}
+use Rattle.machine_safe.specs.Slotted.{is_send}
 
 -- 1 for the move that cleans a thread
 abbrev pub cleaning_bit : Move → ℕ
@@ -59,11 +60,10 @@ mutex_bit (Locks (Unlock o t unlocked)) = 1
 mutex_bit (Locks (Free o t best)) = 1
 mutex_bit _ = 0
 
--- 1 for a move by which a server comes, closes or ends, a session is joined, a message is accepted or finished, or a handle or an
--- ownership goes
+-- 1 for a move by which a server comes, closes or ends, a session is joined, a message is accepted or finished, or a handle, a
+-- link or an ownership goes
 abbrev pub serving_bit : Move → ℕ
 serving_bit (Lose (Temp t) o) = 0
-serving_bit (Lose (Link s) o) = 0
 serving_bit (Lose h o) = 1
 serving_bit (Servers (CloseAll u)) = 0
 serving_bit (Servers (SetOpen s to)) = 0
@@ -94,20 +94,21 @@ pub record IsOther (served : Bool) (d : Decision) : Type 0 where
   pub dooms : (v : ObjNo) → total (closed_bit v) d.moves ≡ total (doomed_bit v) d.moves
   pub calm : served ≡ false → total serving_bit d.moves ≡ 0
   pub making : makes_server d.step ≡ true → total mutex_bit d.moves ≡ 0
+  pub sends : served ≡ false → is_send d.step ≡ false
 
 -- one where nothing is served
 pub looser : {b : Bool} {ms : List Move} → CleansNone false ms → CleansNone b ms
 looser h = record { cleans = h.cleans; advances = h.advances; dooms = h.dooms; calm = λ e. h.calm refl; locks = h.locks }
 
 pub loose : {b : Bool} {d : Decision} → IsOther false d → IsOther b d
-loose h = record { step = h.step; cleans = h.cleans; answers = h.answers; dooms = h.dooms; calm = λ e. h.calm refl; making = h.making }
+loose h = record { step = h.step; cleans = h.cleans; answers = h.answers; dooms = h.dooms; calm = λ e. h.calm refl; making = h.making; sends = λ e. h.sends refl }
 
 pub served : {b : Bool} {d : Decision} → IsOther b d → IsOther true d
-served h = record { step = h.step; cleans = h.cleans; answers = h.answers; dooms = h.dooms; calm = λ e. absurd (cc); making = h.making }
+served h = record { step = h.step; cleans = h.cleans; answers = h.answers; dooms = h.dooms; calm = λ e. absurd (cc); making = h.making; sends = λ e. absurd (cc) }
 
 -- one of such moves, without an answer
-pub other-of : {b : Bool} (d : Decision) → is_clean d.step ≡ false → d.answer ≡ None → CleansNone b d.moves → IsOther b d
-other-of d is none h = record { step = is; cleans = h.cleans; answers = h.advances ∙ sym (ap answer_bit none); dooms = h.dooms; calm = h.calm; making = λ _. h.locks }
+pub other-of : {b : Bool} (d : Decision) → is_clean d.step ≡ false → d.answer ≡ None → (b ≡ false → is_send d.step ≡ false) → CleansNone b d.moves → IsOther b d
+other-of d is none other h = record { step = is; cleans = h.cleans; answers = h.advances ∙ sym (ap answer_bit none); dooms = h.dooms; calm = h.calm; making = λ _. h.locks; sends = other }
 
 pub either : {s : Bool} (b : Bool) (x y : Decision) → IsOther s x → IsOther s y → IsOther s (if b then x else y)
 either true x y h g = h
@@ -149,34 +150,35 @@ pub none-doomed : (u : ObjNo) (exit : Exit) → CleansNone false (doom u exit)
 none-doomed u exit = record { cleans = refl; advances = refl; dooms = doom-closes u exit; calm = λ _. refl; locks = refl }
 
 -- steps that several instructions share
-pub other-answers : {b : Bool} (t : ObjNo) (done : Step) (ms : List Move) (code : ℤ) → is_clean done ≡ false → CleansNone b ms → IsOther b (answer t done ms code)
-other-answers t done ms code is none = record {
+pub other-answers : {b : Bool} (t : ObjNo) (done : Step) (ms : List Move) (code : ℤ) → is_clean done ≡ false → (b ≡ false → is_send done ≡ false) → CleansNone b ms → IsOther b (answer t done ms code)
+other-answers t done ms code is other none = record {
   step = is;
   cleans = let both = total-append cleaning_bit ms (Advance t ∷ []) in let p = none.cleans in omega arith;
   answers = let both = total-append advance_bit ms (Advance t ∷ []) in let p = none.advances in omega arith;
   dooms = λ v. let both = total-append (closed_bit v) ms (Advance t ∷ []) in let all = total-append (doomed_bit v) ms (Advance t ∷ []) in let p = none.dooms v in omega arith;
   calm = λ e. let both = total-append serving_bit ms (Advance t ∷ []) in let p = none.calm e in omega arith;
   making = λ _. let both = total-append mutex_bit ms (Advance t ∷ []) in let p = none.locks in omega arith;
+  sends = other;
 }
 
 pub other-look : (t : ObjNo) (word : Word) (found : Option ObjNo) → IsOther false (look_at t word found)
-other-look t word None = record { step = refl; cleans = refl; answers = refl; dooms = λ v. refl; calm = λ _. refl; making = λ _. refl }
-other-look t word (Some o) = record { step = refl; cleans = refl; answers = refl; dooms = λ v. refl; calm = λ _. refl; making = λ _. refl }
+other-look t word None = record { step = refl; cleans = refl; answers = refl; dooms = λ v. refl; calm = λ _. refl; making = λ _. refl; sends = λ _. refl }
+other-look t word (Some o) = record { step = refl; cleans = refl; answers = refl; dooms = λ v. refl; calm = λ _. refl; making = λ _. refl; sends = λ _. refl }
 
-pub other-unless : {s : Bool} (S : State) (t : ObjNo) (word : Word) (part : Part) (d : Decision) → IsOther s d → IsOther s (unless_holding S t (Of word part) d)
-other-unless S t word part d h = either (is_some (held_by S.nano t)) _ d (record { step = refl; cleans = refl; answers = refl; dooms = λ v. refl; calm = λ _. refl; making = λ _. refl }) h
+pub other-unless : {s : Bool} (S : State) (t : ObjNo) (word : Word) (part : Part) (d : Decision) → is_send (Of word part) ≡ false → IsOther s d → IsOther s (unless_holding S t (Of word part) d)
+other-unless S t word part d plain h = either (is_some (held_by S.nano t)) _ d (record { step = refl; cleans = refl; answers = refl; dooms = λ v. refl; calm = λ _. refl; making = λ _. refl; sends = λ _. plain }) h
 
-pub other-give : (t : ObjNo) (word : Word) (part : Part) (o : ObjNo) (x : ℕ) (handle : Option NewHandle) → IsOther false (give_handle t (Of word part) o x handle)
-other-give t word part o x None = record { step = refl; cleans = refl; answers = refl; dooms = λ v. refl; calm = λ _. refl; making = λ _. refl }
-other-give t word part o x (Some handle) = record { step = refl; cleans = refl; answers = refl; dooms = λ v. refl; calm = λ _. refl; making = λ _. refl }
+pub other-give : (t : ObjNo) (word : Word) (part : Part) (o : ObjNo) (x : ℕ) (handle : Option NewHandle) → is_send (Of word part) ≡ false → IsOther false (give_handle t (Of word part) o x handle)
+other-give t word part o x None plain = record { step = refl; cleans = refl; answers = refl; dooms = λ v. refl; calm = λ _. refl; making = λ _. refl; sends = λ _. plain }
+other-give t word part o x (Some handle) plain = record { step = refl; cleans = refl; answers = refl; dooms = λ v. refl; calm = λ _. refl; making = λ _. refl; sends = λ _. plain }
 
 pub other-seek : (t : ObjNo) (word : Word) (found : Option ObjNo) → IsOther false (seek_object t word found)
-other-seek t word None = record { step = refl; cleans = refl; answers = refl; dooms = λ v. refl; calm = λ _. refl; making = λ _. refl }
-other-seek t word (Some o) = record { step = refl; cleans = refl; answers = refl; dooms = λ v. refl; calm = λ _. refl; making = λ _. refl }
+other-seek t word None = record { step = refl; cleans = refl; answers = refl; dooms = λ v. refl; calm = λ _. refl; making = λ _. refl; sends = λ _. refl }
+other-seek t word (Some o) = record { step = refl; cleans = refl; answers = refl; dooms = λ v. refl; calm = λ _. refl; making = λ _. refl; sends = λ _. refl }
 
 other-miss : (t : ObjNo) (word : Word) (part : Part) (o : ObjNo) (live : Bool) → IsOther false (miss t word part o live)
-other-miss t word part o true = record { step = refl; cleans = refl; answers = refl; dooms = λ v. refl; calm = λ _. refl; making = λ _. refl }
-other-miss t word part o false = record { step = refl; cleans = refl; answers = refl; dooms = λ v. refl; calm = λ _. refl; making = λ _. refl }
+other-miss t word part o true = record { step = refl; cleans = refl; answers = refl; dooms = λ v. refl; calm = λ _. refl; making = λ _. refl; sends = λ _. refl }
+other-miss t word part o false = record { step = refl; cleans = refl; answers = refl; dooms = λ v. refl; calm = λ _. refl; making = λ _. refl; sends = λ _. refl }
 
 pub other-back : (S : State) (t : ObjNo) (row : ThreadRow) (word : Word) (part : Part) → IsOther false (return_to S t row word part)
-other-back S t row word part = either (is_open (object_of S (found_object row))) _ _ (record { step = refl; cleans = refl; answers = refl; dooms = λ v. refl; calm = λ _. refl; making = λ _. refl }) (other-miss t word part (found_object row) (is_live row.stage))
+other-back S t row word part = either (is_open (object_of S (found_object row))) _ _ (record { step = refl; cleans = refl; answers = refl; dooms = λ v. refl; calm = λ _. refl; making = λ _. refl; sends = λ _. refl }) (other-miss t word part (found_object row) (is_live row.stage))

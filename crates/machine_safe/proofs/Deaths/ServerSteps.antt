@@ -85,112 +85,112 @@ pub none-close : (S : State) (t : ObjNo) (h : Holder) (o : ObjNo) → CleansNone
 none-close S t h o = none-both (before_close S t o) (Lose h o ∷ []) (none-closing o (server_at S.servers o) (disconnect S t o (connected_to S o)) (none-disconnect S t o (connected_to S o))) (record { cleans = refl; advances = refl; dooms = λ v. refl; calm = λ e. absurd (cc); locks = refl })
 
 pub other-close : (S : State) (t : ObjNo) (row : ThreadRow) (handle : ℕ) (found : Option ObjNo) → IsOther true (close_handle S t row handle found)
-other-close S t row handle None = record { step = refl; cleans = refl; answers = refl; dooms = λ v. refl; calm = λ _. refl; making = λ _. refl }
-other-close S t row handle (Some o) = other-answers t _ (close_moves S t (holder_of t row handle) o) _ refl (none-close S t (holder_of t row handle) o)
+other-close S t row handle None = record { step = refl; cleans = refl; answers = refl; dooms = λ v. refl; calm = λ _. refl; making = λ _. refl; sends = λ _. refl }
+other-close S t row handle (Some o) = other-answers t _ (close_moves S t (holder_of t row handle) o) _ refl (λ _. refl) (none-close S t (holder_of t row handle) o)
 
 -- servers
 pub other-made_server : (t o : ObjNo) (name : List ℕ) (x : ℕ) (handle : Option NewHandle) → IsOther true (make_server t o name x handle)
-other-made_server t o name x None = record { step = refl; cleans = refl; answers = refl; dooms = λ v. refl; calm = λ _. refl; making = λ _. refl }
-other-made_server t o name x (Some handle) = record { step = refl; cleans = refl; answers = refl; dooms = λ v. refl; calm = λ e. absurd (cc); making = λ _. refl }
+other-made_server t o name x None = record { step = refl; cleans = refl; answers = refl; dooms = λ v. refl; calm = λ _. refl; making = λ _. refl; sends = λ _. refl }
+other-made_server t o name x (Some handle) = record { step = refl; cleans = refl; answers = refl; dooms = λ v. refl; calm = λ e. absurd (cc); making = λ _. refl; sends = λ _. refl }
 
 pub other-server : (S : State) (t : ObjNo) (name : List ℕ) (x : ℕ) → IsOther true (server_do S t name x)
-other-server S t name x = either (is_taken kind.Server name S.objects) _ _ (record { step = refl; cleans = refl; answers = refl; dooms = λ v. refl; calm = λ _. refl; making = λ _. refl }) (either (length S.objects == OBJECTS) _ _ (record { step = refl; cleans = refl; answers = refl; dooms = λ v. refl; calm = λ _. refl; making = λ _. refl }) (other-made_server t (next_object S) name x _))
+other-server S t name x = either (is_taken kind.Server name S.objects) _ _ (record { step = refl; cleans = refl; answers = refl; dooms = λ v. refl; calm = λ _. refl; making = λ _. refl; sends = λ _. refl }) (either (length S.objects == OBJECTS) _ _ (record { step = refl; cleans = refl; answers = refl; dooms = λ v. refl; calm = λ _. refl; making = λ _. refl; sends = λ _. refl }) (other-made_server t (next_object S) name x _))
 
 -- sessions
 pub other-made_session : (t o : ObjNo) (slots : Slots) (s : ObjNo) (handle : Option NewHandle) → IsOther true (make_session t o slots s handle)
-other-made_session t o slots s None = record { step = refl; cleans = refl; answers = refl; dooms = λ v. refl; calm = λ _. refl; making = λ _. refl }
-other-made_session t o slots s (Some handle) = record { step = refl; cleans = refl; answers = refl; dooms = λ v. refl; calm = λ e. absurd (cc); making = λ _. refl }
+other-made_session t o slots s None = record { step = refl; cleans = refl; answers = refl; dooms = λ v. refl; calm = λ _. refl; making = λ _. refl; sends = λ _. refl }
+other-made_session t o slots s (Some handle) = record { step = refl; cleans = refl; answers = refl; dooms = λ v. refl; calm = λ e. absurd (cc); making = λ _. refl; sends = λ _. refl }
 
 other-connect_to : (S : State) (t : ObjNo) (slots : Slots) (o : ObjNo) (server : Option ServerRow) → IsOther true (connect_to S t slots o server)
-other-connect_to S t slots o None = record { step = refl; cleans = refl; answers = refl; dooms = λ v. refl; calm = λ _. refl; making = λ _. refl }
-other-connect_to S t slots o (Some server) = either server.is_closing _ _ (record { step = refl; cleans = refl; answers = refl; dooms = λ v. refl; calm = λ _. refl; making = λ _. refl }) (either (length S.objects == OBJECTS) _ _ (record { step = refl; cleans = refl; answers = refl; dooms = λ v. refl; calm = λ _. refl; making = λ _. refl }) (other-made_session t o slots (next_object S) (thread_handle S t)))
+other-connect_to S t slots o None = record { step = refl; cleans = refl; answers = refl; dooms = λ v. refl; calm = λ _. refl; making = λ _. refl; sends = λ _. refl }
+other-connect_to S t slots o (Some server) = either server.is_closing _ _ (record { step = refl; cleans = refl; answers = refl; dooms = λ v. refl; calm = λ _. refl; making = λ _. refl; sends = λ _. refl }) (either (length S.objects == OBJECTS) _ _ (record { step = refl; cleans = refl; answers = refl; dooms = λ v. refl; calm = λ _. refl; making = λ _. refl; sends = λ _. refl }) (other-made_session t o slots (next_object S) (thread_handle S t)))
 
 other-connect_make : (S : State) (t : ObjNo) (slots : Slots) (uses : Option ObjNo) → IsOther true (connect_make S t slots uses)
-other-connect_make S t slots None = record { step = refl; cleans = refl; answers = refl; dooms = λ v. refl; calm = λ _. refl; making = λ _. refl }
+other-connect_make S t slots None = record { step = refl; cleans = refl; answers = refl; dooms = λ v. refl; calm = λ _. refl; making = λ _. refl; sends = λ _. refl }
 other-connect_make S t slots (Some o) = other-connect_to S t slots o (server_at S.servers o)
 
 pub other-failed : (t : ObjNo) (row : ThreadRow) (at : Part) (s : ObjNo) (code : ℤ) → IsOther true (fail_connect t row at s code)
-other-failed t row at s code = record { step = refl; cleans = refl; answers = refl; dooms = λ v. refl; calm = λ e. absurd (cc); making = λ _. refl }
+other-failed t row at s code = record { step = refl; cleans = refl; answers = refl; dooms = λ v. refl; calm = λ e. absurd (cc); making = λ _. refl; sends = λ e. absurd (cc) }
 
 pub other-connecting : (S : State) (t : ObjNo) (row : ThreadRow) (s : ObjNo) (server : Option ObjNo) → IsOther true (send_connect S t row s server)
 other-connecting S t row s None = other-failed t row part.Send s _
-other-connecting S t row s (Some o) = other-of _ refl refl (none-then (record { cleans = refl; advances = refl; dooms = λ v. refl; calm = λ _. refl; locks = refl }) (none-then (record { cleans = refl; advances = refl; dooms = λ v. refl; calm = λ _. refl; locks = refl }) (none-then (record { cleans = refl; advances = refl; dooms = λ v. refl; calm = λ _. refl; locks = refl }) (none-post S t s o connects no_args Sync))))
+other-connecting S t row s (Some o) = other-of _ refl refl (λ _. refl) (none-then (record { cleans = refl; advances = refl; dooms = λ v. refl; calm = λ _. refl; locks = refl }) (none-then (record { cleans = refl; advances = refl; dooms = λ v. refl; calm = λ _. refl; locks = refl }) (none-then (record { cleans = refl; advances = refl; dooms = λ v. refl; calm = λ _. refl; locks = refl }) (none-post S t s o connects no_args Sync))))
 
 other-connect_send : (S : State) (t : ObjNo) (row : ThreadRow) (session : Option ObjNo) → IsOther true (connect_send S t row session)
-other-connect_send S t row None = record { step = refl; cleans = refl; answers = refl; dooms = λ v. refl; calm = λ _. refl; making = λ _. refl }
-other-connect_send S t row (Some s) = other-unless S t word.Connect part.Send _ (other-connecting S t row s (open_server S s))
+other-connect_send S t row None = record { step = refl; cleans = refl; answers = refl; dooms = λ v. refl; calm = λ _. refl; making = λ _. refl; sends = λ _. refl }
+other-connect_send S t row (Some s) = other-unless S t word.Connect part.Send _ refl (other-connecting S t row s (open_server S s))
 
 other-connected : (t : ObjNo) (row : ThreadRow) (x : ℕ) (s : ObjNo) (code : ℤ) → IsOther true (end_connect t row x s code)
-other-connected t row x s code = either (int_eq code (pos 0)) _ _ (record { step = refl; cleans = refl; answers = refl; dooms = λ v. refl; calm = λ _. refl; making = λ _. refl }) (other-failed t row part.Done s code)
+other-connected t row x s code = either (int_eq code (pos 0)) _ _ (record { step = refl; cleans = refl; answers = refl; dooms = λ v. refl; calm = λ _. refl; making = λ _. refl; sends = λ _. refl }) (other-failed t row part.Done s code)
 
 other-connect_done : (S : State) (t : ObjNo) (row : ThreadRow) (x : ℕ) (session : Option ObjNo) → IsOther true (connect_done S t row x session)
-other-connect_done S t row x None = record { step = refl; cleans = refl; answers = refl; dooms = λ v. refl; calm = λ _. refl; making = λ _. refl }
+other-connect_done S t row x None = record { step = refl; cleans = refl; answers = refl; dooms = λ v. refl; calm = λ _. refl; making = λ _. refl; sends = λ _. refl }
 other-connect_done S t row x (Some s) = other-connected t row x s (reply_of S.requests t)
 
 pub other-connect : (S : State) (t : ObjNo) (row : ThreadRow) (name : List ℕ) (slots : Slots) (x : ℕ) (p : Option Part) → IsOther true (connect_step S t row name slots x p)
-other-connect S t row name slots x None = other-unless S t word.Connect part.Seek _ (loose (other-seek t word.Connect _))
+other-connect S t row name slots x None = other-unless S t word.Connect part.Seek _ refl (loose (other-seek t word.Connect _))
 other-connect S t row name slots x (Some part.Make) = other-connect_make S t slots row.uses
 other-connect S t row name slots x (Some part.Send) = other-connect_send S t row (session_made S t row)
 other-connect S t row name slots x (Some _) = other-connect_done S t row x (session_made S t row)
 
 -- messages
-other-send_to : (S : State) (t s : ObjNo) (function : ℤ) (y : ℕ) (args : List Arg) (server : Option ObjNo) → IsOther true (send_to S t s function y args server)
-other-send_to S t s function y args None = record { step = refl; cleans = refl; answers = refl; dooms = λ v. refl; calm = λ _. refl; making = λ _. refl }
-other-send_to S t s function y args (Some o) = either (is_full S.messages s (slots_of S s)) _ _ (record { step = refl; cleans = refl; answers = refl; dooms = λ v. refl; calm = λ _. refl; making = λ _. refl })
-    (other-answers t _ (GoOn t part.Done ∷ Requests (SetPending t y) ∷ post S t s o function args (Async y)) _ refl (none-then (record { cleans = refl; advances = refl; dooms = λ v. refl; calm = λ _. refl; locks = refl }) (none-then (record { cleans = refl; advances = refl; dooms = λ v. refl; calm = λ _. refl; locks = refl }) (none-post S t s o function args (Async y)))))
+pub other-send_to : (S : State) (t s : ObjNo) (function : ℤ) (y : ℕ) (args : List Arg) (server : Option ObjNo) → IsOther true (send_to S t s function y args server)
+other-send_to S t s function y args None = record { step = refl; cleans = refl; answers = refl; dooms = λ v. refl; calm = λ _. refl; making = λ _. refl; sends = λ e. absurd (cc) }
+other-send_to S t s function y args (Some o) = either (is_full S.messages s (slots_of S s)) _ _ (record { step = refl; cleans = refl; answers = refl; dooms = λ v. refl; calm = λ _. refl; making = λ _. refl; sends = λ e. absurd (cc) })
+    (other-answers t _ (GoOn t part.Done ∷ Requests (SetPending t y) ∷ post S t s o function args (Async y)) _ refl (λ e. absurd (cc)) (none-then (record { cleans = refl; advances = refl; dooms = λ v. refl; calm = λ _. refl; locks = refl }) (none-then (record { cleans = refl; advances = refl; dooms = λ v. refl; calm = λ _. refl; locks = refl }) (none-post S t s o function args (Async y)))))
 
 other-send_do : (S : State) (t : ObjNo) (function : ℤ) (y : ℕ) (args : List Arg) (uses : Option ObjNo) → IsOther true (send_do S t function y args uses)
-other-send_do S t function y args None = record { step = refl; cleans = refl; answers = refl; dooms = λ v. refl; calm = λ _. refl; making = λ _. refl }
-other-send_do S t function y args (Some s) = either (is_pending S.requests t y) _ _ (record { step = refl; cleans = refl; answers = refl; dooms = λ v. refl; calm = λ _. refl; making = λ _. refl }) (other-send_to S t s function y args (open_server S s))
+other-send_do S t function y args None = record { step = refl; cleans = refl; answers = refl; dooms = λ v. refl; calm = λ _. refl; making = λ _. refl; sends = λ _. refl }
+other-send_do S t function y args (Some s) = either (is_pending S.requests t y) _ _ (record { step = refl; cleans = refl; answers = refl; dooms = λ v. refl; calm = λ _. refl; making = λ _. refl; sends = λ _. refl }) (other-send_to S t s function y args (open_server S s))
 
 pub other-send : (S : State) (t : ObjNo) (row : ThreadRow) (x function y : ℕ) (args : Args) (p : Option Part) → IsOther true (send_step S t row x function y args p)
-other-send S t row x function y args None = either (is_pending S.requests t y) _ _ (record { step = refl; cleans = refl; answers = refl; dooms = λ v. refl; calm = λ _. refl; making = λ _. refl }) (loose (other-look t word.Send _))
-other-send S t row x function y args (Some part.Done) = record { step = refl; cleans = refl; answers = refl; dooms = λ v. refl; calm = λ _. refl; making = λ _. refl }
+other-send S t row x function y args None = either (is_pending S.requests t y) _ _ (record { step = refl; cleans = refl; answers = refl; dooms = λ v. refl; calm = λ _. refl; making = λ _. refl; sends = λ _. refl }) (loose (other-look t word.Send _))
+other-send S t row x function y args (Some part.Done) = record { step = refl; cleans = refl; answers = refl; dooms = λ v. refl; calm = λ _. refl; making = λ _. refl; sends = λ _. refl }
 other-send S t row x function y args (Some p) = other-send_do S t (pos function) y (args_of args) row.uses
 
 pub other-call_to : (S : State) (t s : ObjNo) (function : ℤ) (args : List Arg) (server : Option ObjNo) → IsOther true (call_to S t s function args server)
-other-call_to S t s function args None = record { step = refl; cleans = refl; answers = refl; dooms = λ v. refl; calm = λ _. refl; making = λ _. refl }
-other-call_to S t s function args (Some o) = other-of _ refl refl (none-then (record { cleans = refl; advances = refl; dooms = λ v. refl; calm = λ _. refl; locks = refl }) (none-then (record { cleans = refl; advances = refl; dooms = λ v. refl; calm = λ _. refl; locks = refl }) (none-post S t s o function args Sync)))
+other-call_to S t s function args None = record { step = refl; cleans = refl; answers = refl; dooms = λ v. refl; calm = λ _. refl; making = λ _. refl; sends = λ _. refl }
+other-call_to S t s function args (Some o) = other-of _ refl refl (λ _. refl) (none-then (record { cleans = refl; advances = refl; dooms = λ v. refl; calm = λ _. refl; locks = refl }) (none-then (record { cleans = refl; advances = refl; dooms = λ v. refl; calm = λ _. refl; locks = refl }) (none-post S t s o function args Sync)))
 
 other-call_do : (S : State) (t : ObjNo) (function : ℤ) (args : List Arg) (uses : Option ObjNo) → IsOther true (call_do S t function args uses)
-other-call_do S t function args None = record { step = refl; cleans = refl; answers = refl; dooms = λ v. refl; calm = λ _. refl; making = λ _. refl }
-other-call_do S t function args (Some s) = other-unless S t word.Call part.Do _ (other-call_to S t s function args (open_server S s))
+other-call_do S t function args None = record { step = refl; cleans = refl; answers = refl; dooms = λ v. refl; calm = λ _. refl; making = λ _. refl; sends = λ _. refl }
+other-call_do S t function args (Some s) = other-unless S t word.Call part.Do _ refl (other-call_to S t s function args (open_server S s))
 
 pub other-message_call : (S : State) (t : ObjNo) (row : ThreadRow) (x function : ℕ) (args : Args) (p : Option Part) → IsOther true (call_step S t row x function args p)
-other-message_call S t row x function args None = other-unless S t word.Call part.Look _ (loose (other-look t word.Call _))
+other-message_call S t row x function args None = other-unless S t word.Call part.Look _ refl (loose (other-look t word.Call _))
 other-message_call S t row x function args (Some part.Do) = other-call_do S t (pos function) (args_of args) row.uses
-other-message_call S t row x function args (Some _) = record { step = refl; cleans = refl; answers = refl; dooms = λ v. refl; calm = λ _. refl; making = λ _. refl }
+other-message_call S t row x function args (Some _) = record { step = refl; cleans = refl; answers = refl; dooms = λ v. refl; calm = λ _. refl; making = λ _. refl; sends = λ _. refl }
 
 other-next : (t o : ObjNo) (y : ℕ) (next : Option MsgNo) → IsOther true (receive_next t o y next)
-other-next t o y None = record { step = refl; cleans = refl; answers = refl; dooms = λ v. refl; calm = λ _. refl; making = λ _. refl }
-other-next t o y (Some m) = record { step = refl; cleans = refl; answers = refl; dooms = λ v. refl; calm = λ _. refl; making = λ _. refl }
+other-next t o y None = record { step = refl; cleans = refl; answers = refl; dooms = λ v. refl; calm = λ _. refl; making = λ _. refl; sends = λ _. refl }
+other-next t o y (Some m) = record { step = refl; cleans = refl; answers = refl; dooms = λ v. refl; calm = λ _. refl; making = λ _. refl; sends = λ _. refl }
 
 other-receive_do : (S : State) (t : ObjNo) (y : ℕ) (uses : Option ObjNo) → IsOther true (receive_do S t y uses)
-other-receive_do S t y None = record { step = refl; cleans = refl; answers = refl; dooms = λ v. refl; calm = λ _. refl; making = λ _. refl }
-other-receive_do S t y (Some o) = other-unless S t word.Receive part.Do _ (other-next t o y (next_of S.messages o))
+other-receive_do S t y None = record { step = refl; cleans = refl; answers = refl; dooms = λ v. refl; calm = λ _. refl; making = λ _. refl; sends = λ _. refl }
+other-receive_do S t y (Some o) = other-unless S t word.Receive part.Do _ refl (other-next t o y (next_of S.messages o))
 
 other-came : (t o : ObjNo) (y : ℕ) (next : Option MsgNo) → IsOther true (receive_came t o y next)
-other-came t o y None = record { step = refl; cleans = refl; answers = refl; dooms = λ v. refl; calm = λ _. refl; making = λ _. refl }
-other-came t o y (Some m) = record { step = refl; cleans = refl; answers = refl; dooms = λ v. refl; calm = λ _. refl; making = λ _. refl }
+other-came t o y None = record { step = refl; cleans = refl; answers = refl; dooms = λ v. refl; calm = λ _. refl; making = λ _. refl; sends = λ _. refl }
+other-came t o y (Some m) = record { step = refl; cleans = refl; answers = refl; dooms = λ v. refl; calm = λ _. refl; making = λ _. refl; sends = λ _. refl }
 
 other-receive_done : (S : State) (t : ObjNo) (y : ℕ) (uses : Option ObjNo) → IsOther true (receive_done S t y uses)
-other-receive_done S t y None = record { step = refl; cleans = refl; answers = refl; dooms = λ v. refl; calm = λ _. refl; making = λ _. refl }
+other-receive_done S t y None = record { step = refl; cleans = refl; answers = refl; dooms = λ v. refl; calm = λ _. refl; making = λ _. refl; sends = λ _. refl }
 other-receive_done S t y (Some o) = other-came t o y (next_of S.messages o)
 
 pub other-receive : (S : State) (t : ObjNo) (row : ThreadRow) (x y : ℕ) (p : Option Part) → IsOther true (receive_step S t row x y p)
-other-receive S t row x y None = other-unless S t word.Receive part.Look _ (loose (other-look t word.Receive _))
+other-receive S t row x y None = other-unless S t word.Receive part.Look _ refl (loose (other-look t word.Receive _))
 other-receive S t row x y (Some part.Do) = other-receive_do S t y row.uses
 other-receive S t row x y (Some _) = other-receive_done S t y row.uses
 
 pub other-complete : (S : State) (t : ObjNo) (code : ℤ) (message : Option Message) → IsOther true (complete_message S t code message)
-other-complete S t code None = record { step = refl; cleans = refl; answers = refl; dooms = λ v. refl; calm = λ _. refl; making = λ _. refl }
-other-complete S t code (Some message) = other-answers t _ (finish S message code) _ refl (none-finish S message code)
+other-complete S t code None = record { step = refl; cleans = refl; answers = refl; dooms = λ v. refl; calm = λ _. refl; making = λ _. refl; sends = λ _. refl }
+other-complete S t code (Some message) = other-answers t _ (finish S message code) _ refl (λ _. refl) (none-finish S message code)
 
 pub other-function : (t : ObjNo) (message : Option Message) → IsOther false (function_of t message)
-other-function t None = record { step = refl; cleans = refl; answers = refl; dooms = λ v. refl; calm = λ _. refl; making = λ _. refl }
-other-function t (Some message) = record { step = refl; cleans = refl; answers = refl; dooms = λ v. refl; calm = λ _. refl; making = λ _. refl }
+other-function t None = record { step = refl; cleans = refl; answers = refl; dooms = λ v. refl; calm = λ _. refl; making = λ _. refl; sends = λ _. refl }
+other-function t (Some message) = record { step = refl; cleans = refl; answers = refl; dooms = λ v. refl; calm = λ _. refl; making = λ _. refl; sends = λ _. refl }
 
 -- a message of a closing server
 pub other-finish : (S : State) (message : Option Message) → IsOther true (finish_message S message)
-other-finish S None = record { step = refl; cleans = refl; answers = refl; dooms = λ v. refl; calm = λ _. refl; making = λ _. refl }
-other-finish S (Some message) = other-of _ refl refl (none-finish S message (error_code ServerTerminated))
+other-finish S None = record { step = refl; cleans = refl; answers = refl; dooms = λ v. refl; calm = λ _. refl; making = λ _. refl; sends = λ _. refl }
+other-finish S (Some message) = other-of _ refl refl (λ _. refl) (none-finish S message (error_code ServerTerminated))

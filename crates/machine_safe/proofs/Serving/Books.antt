@@ -3,11 +3,11 @@ use Rattle.entry_log.specs.declared.entry.Actor.{Actor}
 use Rattle.entry_log.specs.declared.entry.Actor.TheVariants.{Idfc, Idle, Irq, Thread, Tick}
 use Rattle.entry_log.specs.declared.entry.Entry.{Entry}
 use Rattle.machine.specs.Arrivals.{ready_after}
-use Rattle.machine.specs.Bodies.{decision_by}
+use Rattle.machine.specs.Bodies.{decision_by, run_idfc}
 use Rattle.machine.specs.Boot.{boot, boot_of, born}
 use Rattle.machine.specs.Decide.{answer}
 use Rattle.machine.specs.History.{IsNext, entry_by, entry_of, next}
-use Rattle.machine.specs.Interrupts.{done_by, immediate, immediate_plan, interrupt, supervisor}
+use Rattle.machine.specs.Interrupts.{done_by, immediate, immediate_plan, interrupt, supervisor, step_of_move}
 use Rattle.machine.specs.Moves.{perform, tell}
 use Rattle.machine.specs.References.{total}
 use Rattle.machine.specs.Rows.{thread_of}
@@ -32,7 +32,7 @@ use Rattle.machine_safe.proofs.Serving.Deeds.{OfEach, calm}
 use Rattle.machine_safe.proofs.Serving.Doing.{Doing, doing, doing-by, keeps-doing, lost-doing, quiet-doing}
 use Rattle.machine_safe.proofs.Serving.Fated.{doom-among, doom-told}
 use Rattle.machine_safe.proofs.Serving.Finished.{turn-finishes}
-use Rattle.machine_safe.proofs.Serving.Keeps.{changing-none, lost-none, message-none, steps_of}
+use Rattle.machine_safe.proofs.Serving.Keeps.{changing-none, lost-none, message-none, steps_of, detach-none}
 use Rattle.machine_safe.proofs.Serving.Letters.{letters-quiet, letters-ready, no-front}
 use Rattle.machine_safe.proofs.Serving.Posted.{turn-sends}
 use Rattle.machine_safe.proofs.Serving.Reading.{further, reading, same-entry}
@@ -65,6 +65,10 @@ use Rattle.entry_log.specs.declared.step.Step.TheVariants as step
 use Rattle.state_rows.specs.declared.deferred.Item.TheVariants as item
 use Rattle.machine_safe.proofs.Serving.Giving.{deed-of}
 use Rattle.machine.specs.declared.moves.Move.{Move}
+use Rattle.machine_safe.proofs.Serving.Slots.{slotted-keeps}
+use Rattle.machine_safe.specs.Slotted.{is_send}
+use Rattle.script_types.specs.declared.declaration.DfcDecl.{DfcDecl}
+use Rattle.script_types.specs.declared.declaration.IdfcDecl.{IdfcDecl}
 
 -- such an action ends nobody's instruction
 unanswered : (t : ObjNo) (actor : Actor) (ms : List Move) (answer : Option ℤ) (k : ObjNo) → total advance_bit ms ≡ 0 → is_by k actor ≡ false → steps_of t ms k.0 ≡ (if is_by k actor && is_some answer then 1 else 0) + 0
@@ -76,9 +80,9 @@ unanswered t actor ms answer k none nobody = by (t.0 == k.0) (is_by k actor) nob
     by b true e = absurd (cc)
 
 -- an action of which no thread is the actor: it answers nothing, and serves nobody
-pub turn-without : (script : Script) (before : List Entry) (S : State) (place : ℕ) (t : ObjNo) (actor : Actor) (d : Decision) → AreRows script S → Book script before S → ((u : ObjNo) → is_by u actor ≡ false) → d.answer ≡ None → CleansNone false d.moves → Doing script S t d.moves
+pub turn-without : (script : Script) (before : List Entry) (S : State) (place : ℕ) (t : ObjNo) (actor : Actor) (d : Decision) → AreRows script S → Book script before S → ((u : ObjNo) → is_by u actor ≡ false) → d.answer ≡ None → is_send d.step ≡ false → CleansNone false d.moves → Doing script S t d.moves
     → IsTurn script before (entry_of place actor (record { step = d.step; effects = tell t d.moves S; answer = d.answer })) (perform t d.moves S)
-turn-without script before S place t actor d rows book nobody silent calm does =
+turn-without script before S place t actor d rows book nobody silent unsent calm does =
     let e = entry_of place actor (record { step = d.step; effects = tell t d.moves S; answer = d.answer }) in
     let fs = tell t d.moves S in
     let k = keeps-doing script S t d.moves does rows (served-made script (reading before) S book.served) (changing-none d.moves (calm.calm refl)) in
@@ -90,15 +94,16 @@ turn-without script before S place t actor d rows book nobody silent calm does =
             (served-keeps script (reading before) S (perform t d.moves S) t d.moves d.step fs book.served k
             (λ v. let a = calm.dooms v in let b = doom-told t d.moves S v in omega arith) (λ v. doom-among t d.moves S v)
             (λ v row there. if_zero (closes_handle d.step) (handles_lost fs v) (let most = lost-doing script S t d.moves v does rows in let none = lost-none v d.moves (calm.calm refl) in omega arith))
-            (λ _. calm.locks));
+            (λ _. calm.locks) (λ v some. let none = detach-none v d.moves (calm.calm refl) in absurd (omega arith)));
         letters = letters-quiet script before S (perform t d.moves S) e book.letters (λ p among. k.unlinked p.session) q (λ p among. k.unended p.server);
+        slotted = slotted-keeps script before e S (perform t d.moves S) book.slotted k.unlinked k.slots q.pool;
       };
-      lawful = unserving script before e q.accepts q.finishes k.unended;
+      lawful = unserving script before e q.accepts q.finishes k.unended (λ sends. absurd (cc));
     }
 
 -- the ready list isn't looked at
 pub turn-ready : (script : Script) (before : List Entry) (e : Entry) (T : State) (qs : List ObjNo) → IsTurn script before e T → IsTurn script before e (record T { ready = qs })
-turn-ready script before e T qs h = record { book = record { served = served-ready script (reading (before ++ e ∷ [])) T qs h.book.served; letters = letters-ready script (before ++ e ∷ []) T qs h.book.letters }; lawful = h.lawful }
+turn-ready script before e T qs h = record { book = record { served = served-ready script (reading (before ++ e ∷ [])) T qs h.book.served; letters = letters-ready script (before ++ e ∷ []) T qs h.book.letters; slotted = record { sessions = h.book.slotted.sessions; pool = h.book.slotted.pool } }; lawful = h.lawful }
 
 -- each thread that is there is live, or was doomed once
 abbrev pub IsFated : List Entry → State → Type 0
@@ -128,32 +133,45 @@ module _ (script : Script) (before : List Entry) (S : State) (place : ℕ) (shap
   turn-act t = turn-ready script before (entry_for place t S (decision_of script S t)) (perform t (decision_of script S t).moves S) (ready_after script t (decision_of script S t).moves S)
       (deed-of script S t rows (instruction_in script before t) _ (each-turn t) (λ row is. at-instruction script before S t row book is) (doing script S t shaped rows))
 
-  turn-done : (actor : Actor) (plan : Plan) → ((u : ObjNo) → is_by u actor ≡ false) → (decision_by script supervisor S plan).answer ≡ None → CleansNone false (decision_by script supervisor S plan).moves → Goes script supervisor S (decision_by script supervisor S plan).moves → IsTurn script before (entry_of place actor (done_by script S plan).outcome) (done_by script S plan).state
-  turn-done actor plan nobody silent calm goes =
+  turn-done : (actor : Actor) (plan : Plan) → ((u : ObjNo) → is_by u actor ≡ false) → (decision_by script supervisor S plan).answer ≡ None → is_send (decision_by script supervisor S plan).step ≡ false → CleansNone false (decision_by script supervisor S plan).moves → Goes script supervisor S (decision_by script supervisor S plan).moves → IsTurn script before (entry_of place actor (done_by script S plan).outcome) (done_by script S plan).state
+  turn-done actor plan nobody silent unsent calm goes =
       let d = decision_by script supervisor S plan in
       turn-ready script before (entry_of place actor (record { step = d.step; effects = tell supervisor d.moves S; answer = d.answer })) (perform supervisor d.moves S) (ready_after script supervisor d.moves S)
-      (turn-without script before S place supervisor actor d rows book nobody silent calm (doing-by script S plan rows goes))
+      (turn-without script before S place supervisor actor d rows book nobody silent unsent calm (doing-by script S plan rows goes))
 
   turn-interrupt : (k : ℕ) → IsTurn script before (entry_of place (Irq k) (interrupt script S k).outcome) (interrupt script S k).state
   unfolding interrupt
-  turn-interrupt k = turn-done (Irq k) (Runs (Interrupt k)) (λ u. refl) refl (none-body script supervisor S (Interrupt k)) (goes-interrupt script S k shaped rows)
+  turn-interrupt k = turn-done (Irq k) (Runs (Interrupt k)) (λ u. refl) refl refl (none-body script supervisor S (Interrupt k)) (goes-interrupt script S k shaped rows)
 
   silent-plan : (found : Option Item) → (decision_by script supervisor S (immediate_plan script S found)).answer ≡ None
   silent-plan None = refl
   silent-plan (Some (item.Idfc call)) = refl
   silent-plan (Some (item.Move dfc)) = refl
 
+  unsent-idfc : (found : Option IdfcDecl) → is_send (run_idfc found) ≡ false
+  unsent-idfc None = refl
+  unsent-idfc (Some call) = refl
+
+  unsent-move : (found : Option DfcDecl) → is_send (step_of_move found) ≡ false
+  unsent-move None = refl
+  unsent-move (Some dfc) = refl
+
+  unsent-plan : (found : Option Item) → is_send (decision_by script supervisor S (immediate_plan script S found)).step ≡ false
+  unsent-plan None = refl
+  unsent-plan (Some (item.Idfc call)) = unsent-idfc (slice_get script.idfcs call)
+  unsent-plan (Some (item.Move dfc)) = unsent-move (slice_get script.dfcs dfc)
+
   turn-immediate : IsTurn script before (entry_of place Idfc (immediate script S).outcome) (immediate script S).state
   unfolding immediate
   turn-immediate =
-      let found = next_immediate S.deferred in turn-done Idfc (immediate_plan script S found) (λ u. refl) (silent-plan found) (none-planned script supervisor S found) (goes-immediate script S found shaped rows refl)
+      let found = next_immediate S.deferred in turn-done Idfc (immediate_plan script S found) (λ u. refl) (silent-plan found) (unsent-plan found) (none-planned script supervisor S found) (goes-immediate script S found shaped rows refl)
 
   turn-tick : IsTurn script before (entry_of place Tick (tick S).outcome) (tick S).state
   unfolding tick
-  turn-tick = turn-ready script before _ S _ (turn-without script before S place supervisor Tick (record { step = step.Turn; moves = []; answer = None }) rows book (λ u. refl) refl none-nothing (inr (inr refl)))
+  turn-tick = turn-ready script before _ S _ (turn-without script before S place supervisor Tick (record { step = step.Turn; moves = []; answer = None }) rows book (λ u. refl) refl refl none-nothing (inr (inr refl)))
 
   turn-idle : IsTurn script before (entry_of place Idle (idle S).outcome) (idle S).state
-  turn-idle = turn-without script before S place supervisor Idle (record { step = step.Wait; moves = []; answer = None }) rows book (λ u. refl) refl none-nothing (inr (inr refl))
+  turn-idle = turn-without script before S place supervisor Idle (record { step = step.Wait; moves = []; answer = None }) rows book (λ u. refl) refl refl none-nothing (inr (inr refl))
 
   turn-next : (actor : Actor) → IsTurn script before (entry_by script S place actor) (next script S actor)
   turn-next (Thread t) = turn-act t
@@ -176,6 +194,9 @@ book-boot script shaped = record {
     ended = λ o some. absurd (omega arith);
     made = λ t o is. absurd (cc);
     unmade = λ o past. refl;
+    uses = λ u o row is used. let none = (born_row script _ (born script) u.0 row (each_born script shaped) is).uses in absurd (cc);
+    told_made = λ s v is. absurd (cc);
+    told_linked = λ s v is alive. absurd (cc);
     places = λ k row is. record { first = row; is = is; role = refl; place = (born_row script _ (born script) k row (each_born script shaped) is).next_instruction };
   };
   letters = record {
@@ -183,5 +204,7 @@ book-boot script shaped = record {
     known = λ p among. absurd (none_contained p among);
     all = λ m a. absurd (no-front a.before a.later a.at a.stands);
     later = λ m above. refl;
+    sends = refl;
   };
+  slotted = record { sessions = λ s row is. let none = no_session OBJECTS s in absurd (cc); pool = refl };
 }

@@ -12,7 +12,7 @@ use Rattle.machine.specs.declared.moves.Move.TheVariants.{Lose, Servers}
 use Rattle.machine.specs.declared.server_move.ServerMove.TheVariants.{End, Close}
 use Rattle.machine.specs.declared.state.State.{State}
 use Rattle.machine_safe.proofs.Deaths.EffectSums.{dooms-append}
-use Rattle.machine_safe.proofs.Serving.EffectSums.{ends-append, server_told-append}
+use Rattle.machine_safe.proofs.Serving.EffectSums.{ends-append, server_told-append, used_told-append}
 use Rattle.machine_safe.proofs.Serving.Keeps.{Keeps, closing-row, keeps-closing, steps_of, there-row}
 use Rattle.machine_safe.proofs.Serving.KeptRows.{at-closed, closed-long, closing-was, link-closed}
 use Rattle.machine_safe.proofs.Serving.Reading.{Reading, closing_by, further}
@@ -24,14 +24,17 @@ use Rattle.move_laws.proofs.Lists.Mapped.{mapped-some}
 use Rattle.move_laws.proofs.References.Mutexes.{held-not_holding}
 use Rattle.move_laws.proofs.References.Same.{eqb_apart, if_is, if_not, if_zero}
 use Rattle.script_types.specs.declared.script.Script.{Script}
-use Rattle.state_rows.specs.ServerChanges.{after_closing, closing}
-use Rattle.state_rows.specs.ServerRows.{closes, is_closing, server_at}
+use Rattle.state_rows.specs.ServerChanges.{after_closing, closing, detached}
+use Rattle.state_rows.specs.ServerRows.{closes, is_closing, server_at, server_of}
 use Rattle.state_rows.specs.declared.servers.ServerRow.{ServerRow}
 use Rattle.state_rows.specs.declared.servers.ServerRows.{ServerRows}
 use Rattle.std.proofs.Common.{Bool, List, None, Option, Some, [], ap, arith, false, get_or, inl, inr, length, refl, subst, sym, true, ℕ, ◌++◌, ◌+◌, ◌<◌, ◌∙◌, ◌∷◌, ◌≡◌, ◌⊎◌}
 use Rattle.std.proofs.lemmas.Bool.{cases_eq, eq-eqb}
 use Rattle.std.specs.Prelude.{if◌then◌else◌, is_some, nat_lt, ◌==◌}
 use Rattle.sym_base.specs.declared.number.ObjNo.{ObjNo}
+use Rattle.machine_safe.proofs.Serving.Acting.{undetached}
+use Rattle.machine_safe.proofs.Serving.KeptUses.{alive-closed, linked-closed, unused-close, using-closed}
+use Rattle.machine_safe.specs.Slotted.{used_told}
 
 -- what a close of a handle tells
 closed-lost : (last : Bool) (h : Holder) (o v : ObjNo) → is_handle h ≡ true → handles_lost (closed_effects last h o) v ≡ same o v
@@ -111,6 +114,9 @@ module _ (script : Script) (r : Reading) (S : State) (t : ObjNo) (done : Step) (
         some_now o b true false n m l so one two is equal = let at = if_is (v.0 == o.0) 1 (eq-eqb v.0 o.0 (two refl refl)) in omega arith
         some_now o b false d n m l so one two is equal = absurd (one so refl)
 
+    told_first : (s o : ObjNo) → server_told (r.effects ++ fs) s ≡ Some o → server_told r.effects s ≡ Some o
+    told_first s o is = sym (server_told-append r.effects fs s ∙ ap (λ (x : Option ObjNo). or_before x (server_told r.effects s)) (k.unlinked s)) ∙ is
+
     pub served-closing : Served script now_told gone
     served-closing = record {
       rows = row_now;
@@ -128,6 +134,24 @@ module _ (script : Script) (r : Reading) (S : State) (t : ObjNo) (done : Step) (
           let w = k.threads n row is in
           let old = h.places n w.old w.was in
           record { first = old.first; is = old.is; role = old.role ∙ w.role; place = let a = w.place in let b = old.place in omega arith };
+      uses = λ u o row is used. elim (k.uses u o row is used) as (λ _. used_told (r.effects ++ fs) u ≡ Some o) [
+        | inl now ↦ used_told-append r.effects fs u ∙ ap (λ (x : Option ObjNo). or_before x (used_told r.effects u)) now
+        | inr same ↦ used_told-append r.effects fs u ∙ (ap (λ (x : Option ObjNo). or_before x (used_told r.effects u)) same.0 ∙ h.uses u o same.1.old same.1.was same.1.uses)
+      ];
+      told_made = λ s o is. let more = k.objects in let inside = h.told_made s o (told_first s o is) in omega arith;
+      told_linked = λ s o is alive.
+          let was = told_first s o is in
+          let inside = h.told_made s o was in
+          elim (h.told_linked s o was (k.alive s inside alive)) as (λ _. (server_of gone.servers s ≡ Some o) ⊎ (is_closing gone.servers o ≡ true)) [
+            | inr closing ↦ inr (keeps-closing (begun v) gone t (Lose holder v ∷ []) fs o k (closing-stays v S.servers o closing))
+            | inl linked ↦ elim (k.linked s o inside linked) as (λ _. (server_of gone.servers s ≡ Some o) ⊎ (is_closing gone.servers o ≡ true)) [
+              | inl still ↦ inl still
+              | inr other ↦ elim other as (λ _. (server_of gone.servers s ≡ Some o) ⊎ (is_closing gone.servers o ≡ true)) [
+                | inl dead ↦ absurd (dead alive)
+                | inr detached ↦ let none = undetached holder v o handle in absurd (omega arith)
+              ]
+            ]
+          ];
     }
 
   -- a server stops
@@ -169,6 +193,9 @@ module _ (script : Script) (r : Reading) (S : State) (t : ObjNo) (done : Step) (
     ends_more : (o : ObjNo) → ends after.effects o ≡ ends r.effects o + same v o
     ends_more o = let a = ends-append r.effects told_then o in let b = (unlinking-close last (Own t) v).unended o in omega arith
 
+    told_earlier : (s o : ObjNo) → server_told (r.effects ++ told_then) s ≡ Some o → server_told r.effects s ≡ Some o
+    told_earlier s o is = sym (server_told-append r.effects told_then s ∙ ap (λ (x : Option ObjNo). or_before x (server_told r.effects s)) ((unlinking-close last (Own t) v).unlinked s)) ∙ is
+
     pub served-stopped : Served script after stopped
     served-stopped = record {
       rows = λ o row is.
@@ -199,4 +226,15 @@ module _ (script : Script) (r : Reading) (S : State) (t : ObjNo) (done : Step) (
           let w = at-closed last v S.threads n row is in
           let old = h.places n w.old w.was in
           record { first = old.first; is = old.is; role = old.role ∙ w.role; place = let a = w.place in let b = old.place in omega arith };
+      uses = λ u o row is used.
+          let w = using-closed last v S.threads u o row is used in
+          used_told-append r.effects told_then u ∙ (ap (λ (x : Option ObjNo). or_before x (used_told r.effects u)) (unused-close last (Own t) v u) ∙ h.uses u o w.old w.was w.uses);
+      told_made = λ s o is. let a = closed-long last v S.objects in let inside = h.told_made s o (told_earlier s o is) in omega arith;
+      told_linked = λ s o is alive. elim (h.told_linked s o (told_earlier s o is) (alive-closed last v S.objects s alive)) as (λ _. (server_of stopped.servers s ≡ Some o) ⊎ (is_closing stopped.servers o ≡ true)) [
+        | inl linked ↦ elim (linked-closed last v S.objects S.servers s o linked) as (λ _. (server_of stopped.servers s ≡ Some o) ⊎ (is_closing stopped.servers o ≡ true)) [
+          | inl still ↦ inl still
+          | inr dead ↦ absurd (dead alive)
+        ]
+        | inr closing ↦ inr closing
+      ];
     }

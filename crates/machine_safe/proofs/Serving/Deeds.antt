@@ -3,7 +3,7 @@
 use Rattle.entry_log.specs.declared.effect.Holder.{Holder}
 use Rattle.entry_log.specs.declared.effect.Holder.TheVariants.{Own}
 use Rattle.entry_log.specs.declared.effect.StatusNo.{StatusNo}
-use Rattle.machine.specs.Messaging.{finish}
+use Rattle.machine.specs.Messaging.{finish, open_server, slots_of}
 use Rattle.machine.specs.Moves.{next_object, tell}
 use Rattle.machine.specs.References.{total}
 use Rattle.machine.specs.declared.decision.Decision.{Decision}
@@ -13,23 +13,28 @@ use Rattle.machine.specs.declared.moves.Move.TheVariants.{Advance, Gain, Lose, M
 use Rattle.machine.specs.declared.server_move.ServerMove.TheVariants.{Start, Join, Close, End}
 use Rattle.machine.specs.declared.state.State.{State}
 use Rattle.machine_safe.proofs.Deaths.Other.{IsOther, serving_bit, advance_bit, answer_bit, closed_bit, doomed_bit, mutex_bit}
-use Rattle.machine_safe.proofs.Serving.Keeps.{changing-none, changing_bit, lost-none, lost_bit, message-none, message_bit}
+use Rattle.machine_safe.proofs.Serving.Keeps.{changing-none, changing_bit, lost-none, lost_bit, message-none, message_bit, detach-none, detach_bit}
 use Rattle.machine_safe.specs.SafeMessages.{code_by}
 use Rattle.machine_safe.specs.Sent.{status_by}
 use Rattle.machine_safe.specs.Served.{closes_handle, is_handle, makes_server}
 use Rattle.script_types.specs.declared.instruction.Instr.{Instr}
-use Rattle.state_rows.specs.MessageRows.{message_of}
+use Rattle.state_rows.specs.MessageRows.{message_of, is_async, is_full}
 use Rattle.state_rows.specs.ServerRows.{is_closing, owner_of, server_at, server_of}
 use Rattle.state_rows.specs.declared.messages.Message.{Message}
 use Rattle.state_rows.specs.declared.messages.MsgRow.{MsgRow}
 use Rattle.state_rows.specs.declared.messages.Way.{Way}
 use Rattle.state_rows.specs.declared.messages.Way.TheVariants.{Async, Disconnect, Sync}
 use Rattle.state_rows.specs.declared.servers.ServerRow.{ServerRow}
-use Rattle.std.proofs.Common.{Bool, List, None, Option, Some, [], arith, false, refl, true, ℕ, ℤ, ◌++◌, ◌<◌, ◌∷◌, ◌≡◌}
+use Rattle.std.proofs.Common.{Bool, List, None, Option, Some, [], arith, false, refl, true, ℕ, ℤ, ◌++◌, ◌<◌, ◌∷◌, ◌≡◌, pos, ◌⊎◌}
 use Rattle.sym_base.specs.declared.kind.Slots.{Slots}
 use Rattle.sym_base.specs.declared.number.ObjNo.{ObjNo}
 use Rattle.sym_base.specs.declared.kind.Kind.TheVariants as kind
 use Rattle.entry_log.specs.declared.effect.StatusNo.TheVariants as status
+use Rattle.machine.specs.Rows.{thread_of}
+use Rattle.machine_safe.specs.Slotted.{is_send, slots_of_connect}
+use Rattle.state_rows.specs.declared.thread.ThreadRow.{ThreadRow}
+use Rattle.sym_base.specs.ErrorCode.{error_code}
+use Rattle.sym_base.specs.declared.error.Error.TheVariants.{ServerBusy, ServerTerminated}
 
 -- what stands behind the moves of a call that answers
 abbrev pub behind : Bool → ObjNo → List Move
@@ -55,12 +60,39 @@ pub record IsEven (d : Decision) : Type 0 where
 pub even : {b : Bool} {d : Decision} → IsOther b d → IsEven d
 even h = record { answers = h.answers; dooms = h.dooms; making = h.making }
 
+-- a session is detached only from a server that is closing
+abbrev pub Detaches : State → Decision → Type 0
+Detaches S d = (v : ObjNo) → 0 < total (detach_bit v) d.moves → is_closing S.servers v ≡ true
+
+-- the session that a thread's `send` is over
+pub record IsSendOver (S : State) (t s : ObjNo) : Type 0 where
+  pub row : ThreadRow
+  pub is : thread_of S t ≡ Some row
+  pub uses : row.uses ≡ Some s
+
+-- why a `send` is refused: its server is closing, or it isn't and all slots are used
+abbrev pub RefusedBy : State → ObjNo → Option ℤ → Type 0
+RefusedBy S s answer = ((open_server S s ≡ None) × (answer ≡ Some (error_code ServerTerminated))) ⊎ ((o : ObjNo) × (open_server S s ≡ Some o) × (is_full S.messages s (slots_of S s) ≡ true) × (answer ≡ Some (error_code ServerBusy)))
+
+pub record IsRefusal (S : State) (t : ObjNo) (d : Decision) : Type 0 where
+  pub session : ObjNo
+  pub over : IsSendOver S t session
+  pub by : RefusedBy S session d.answer
+
 -- neither servers nor messages change
-pub record IsKeeping (S : State) (d : Decision) : Type 0 where
+pub record IsKeeping (S : State) (t : ObjNo) (d : Decision) : Type 0 where
   pub even : IsEven d
   pub changing : total changing_bit d.moves ≡ 0
   pub still : total message_bit d.moves ≡ 0
   pub closed : ClosesOthers S d
+  pub detaches : Detaches S d
+  pub send : is_send d.step ≡ true → IsRefusal S t d
+
+-- a `send` has a slot left, and is answered 0
+pub record IsAnswered (S : State) (t s : ObjNo) (slots : Slots) (d : Decision) : Type 0 where
+  pub over : IsSendOver S t s
+  pub answer : d.answer ≡ Some (pos 0)
+  pub free : is_full S.messages s slots ≡ false
 
 -- thread t, at an instruction, sends a message
 pub record IsSending (S : State) (t : ObjNo) (at : Option Instr) (d : Decision) : Type 0 where
@@ -79,6 +111,10 @@ pub record IsSending (S : State) (t : ObjNo) (at : Option Instr) (d : Decision) 
   pub accepting : is_closing S.servers row.server ≡ false
   pub way : status_by d.step at ≡ status_of_way row.way
   pub closed : ClosesOthers S d
+  pub detached : (v : ObjNo) → total (detach_bit v) d.moves ≡ 0
+  pub of_session : slots ≡ slots_of S row.session
+  pub asks : is_send d.step ≡ is_async row.way
+  pub send : is_send d.step ≡ true → IsAnswered S t row.session slots d
 
 -- it finishes one
 pub record IsFinishing (S : State) (t : ObjNo) (at : Option Instr) (d : Decision) : Type 0 where
@@ -91,6 +127,7 @@ pub record IsFinishing (S : State) (t : ObjNo) (at : Option Instr) (d : Decision
   pub owner : owner_of S.servers message.row.server ≡ Some t
   pub cause : code_by d.step (is_closing S.servers message.row.server) at ≡ Some code
   pub step : closes_handle d.step ≡ false
+  pub unsent : is_send d.step ≡ false
 
 -- it makes a server
 pub record IsMaking (S : State) (t : ObjNo) (d : Decision) : Type 0 where
@@ -102,18 +139,21 @@ pub record IsMaking (S : State) (t : ObjNo) (d : Decision) : Type 0 where
   pub quiet : total serving_bit back ≡ 0
   pub makes : makes_server d.step ≡ true
   pub step : closes_handle d.step ≡ false
+  pub unsent : is_send d.step ≡ false
 
 -- it joins a session at a server
-pub record IsJoining (S : State) (t : ObjNo) (d : Decision) : Type 0 where
+pub record IsJoining (S : State) (t : ObjNo) (at : Option Instr) (d : Decision) : Type 0 where
   pub even : IsEven d
   pub server : ObjNo
   pub slots : Slots
   pub holder : Holder
+  pub connects : slots_of_connect at ≡ Some slots
   pub back : List Move
   pub moves : d.moves ≡ Make kind.Session [] holder ∷ Servers (Join (next_object S) server slots t) ∷ back
   pub quiet : total serving_bit back ≡ 0
   pub makes : makes_server d.step ≡ false
   pub step : closes_handle d.step ≡ false
+  pub unsent : is_send d.step ≡ false
 
 -- it closes the handle of a server
 pub record IsClosing (S : State) (t : ObjNo) (d : Decision) : Type 0 where
@@ -127,6 +167,7 @@ pub record IsClosing (S : State) (t : ObjNo) (d : Decision) : Type 0 where
   pub moves : d.moves ≡ Servers (Close server) ∷ Lose holder server ∷ behind answers t
   pub makes : makes_server d.step ≡ false
   pub step : closes_handle d.step ≡ true
+  pub unsent : is_send d.step ≡ false
 
 -- it stops one
 pub record IsStopping (S : State) (t : ObjNo) (d : Decision) : Type 0 where
@@ -135,23 +176,26 @@ pub record IsStopping (S : State) (t : ObjNo) (d : Decision) : Type 0 where
   pub moves : d.moves ≡ Servers (End server) ∷ Lose (Own t) server ∷ []
   pub makes : makes_server d.step ≡ false
   pub step : closes_handle d.step ≡ false
+  pub unsent : is_send d.step ≡ false
 
 -- whatever holds of each kind of action
 pub record OfEach (S : State) (t : ObjNo) (at : Option Instr) (P : Decision → Type 0) : Type 0 where
-  pub keeps : (d : Decision) → IsKeeping S d → P d
+  pub keeps : (d : Decision) → IsKeeping S t d → P d
   pub sends : (d : Decision) → IsSending S t at d → P d
   pub finishes : (d : Decision) → IsFinishing S t at d → P d
   pub makes : (d : Decision) → IsMaking S t d → P d
-  pub joins : (d : Decision) → IsJoining S t d → P d
+  pub joins : (d : Decision) → IsJoining S t at d → P d
   pub closes : (d : Decision) → IsClosing S t d → P d
   pub stops : (d : Decision) → IsStopping S t d → P d
 
-pub keeping : {S : State} (d : Decision) → IsOther false d → IsKeeping S d
+pub keeping : {S : State} {t : ObjNo} (d : Decision) → IsOther false d → IsKeeping S t d
 keeping {S = S} d h = record {
   even = even h;
   changing = changing-none d.moves (h.calm refl);
   still = message-none d.moves (h.calm refl);
   closed = λ closes v some. let none = lost-none v d.moves (h.calm refl) in absurd (omega arith);
+  detaches = λ v some. let none = detach-none v d.moves (h.calm refl) in absurd (omega arith);
+  send = λ sends. let unsent = h.sends refl in absurd (cc);
 }
 
 pub calm : {S : State} {t : ObjNo} {at : Option Instr} {P : Decision → Type 0} → OfEach S t at P → (d : Decision) → IsOther false d → P d

@@ -5,9 +5,10 @@ use Rattle.sym_base.specs.declared.number.MsgNo.{MsgNo}
 use Rattle.sym_base.specs.declared.number.ObjNo.{ObjNo}
 use Rattle.entry_log.specs.declared.effect.Effect.{Effect}
 use Rattle.entry_log.specs.declared.effect.Effect.TheVariants.{Plus, Minus, Accept, Finish, Terminated}
-use Rattle.entry_log.specs.declared.effect.Holder.TheVariants.{Own, Link}
+use Rattle.entry_log.specs.declared.effect.Holder.TheVariants.{Own, Link, Temp}
 use Rattle.machine_safe.specs.Sent.{accepts, finishes}
 use Rattle.machine_safe.specs.Served.{ends, handles_lost, one_if, or_before, owner_told, server_told}
+use Rattle.machine_safe.specs.Slotted.{used_told}
 
 -- what is told last of three
 pub or-three : (a b c : Option ObjNo) → or_before (or_before a b) c ≡ or_before a (or_before b c)
@@ -47,3 +48,8 @@ pub finishes-append : (xs ys : List Effect) (m : MsgNo) → finishes (xs ++ ys) 
 finishes-append [] ys m = omega arith
 finishes-append (Finish n code ∷ rest) ys m = let r = finishes-append rest ys m in omega arith
 finishes-append (_ ∷ rest) ys m = finishes-append rest ys m
+
+pub used_told-append : (xs ys : List Effect) (t : ObjNo) → used_told (xs ++ ys) t ≡ or_before (used_told ys t) (used_told xs t)
+used_told-append [] ys t = sym (or-none (used_told ys t))
+used_told-append (Plus (Temp u) o ∷ rest) ys t = ap (λ (x : Option ObjNo). or_before x (one_if (u.0 == t.0) o)) (used_told-append rest ys t) ∙ or-three (used_told ys t) (used_told rest t) (one_if (u.0 == t.0) o)
+used_told-append (_ ∷ rest) ys t = used_told-append rest ys t

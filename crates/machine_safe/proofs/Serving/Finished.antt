@@ -23,7 +23,7 @@ use Rattle.machine_safe.proofs.Deaths.Rows.{row_bit, stage_live}
 use Rattle.machine_safe.proofs.Deaths.ServerSteps.{none-refused, none-replied}
 use Rattle.machine_safe.proofs.Serving.Deeds.{IsFinishing, status_of_way, behind}
 use Rattle.machine_safe.proofs.Serving.Doing.{Doing, IsGoing, going, keeps-doing}
-use Rattle.machine_safe.proofs.Serving.Keeps.{Keeps, changing-none, changing_bit, message-none}
+use Rattle.machine_safe.proofs.Serving.Keeps.{Keeps, changing-none, changing_bit, message-none, detach-none, detach_bit}
 use Rattle.machine_safe.proofs.Serving.Letters.{Known, letters-less, same_number}
 use Rattle.machine_safe.proofs.Serving.Quiet.{IsQuiet, Post, post_of, posts, quiet-each}
 use Rattle.machine_safe.proofs.Serving.Reading.{reading}
@@ -53,6 +53,7 @@ use Rattle.std.proofs.lemmas.Bool.{eq-eqb, eqb-true, le-ltb, lt-ltb}
 use Rattle.std.specs.Prelude.{Contains, filter, if◌then◌else◌, is_some, nat_lt, not, option_map, ◌==◌}
 use Rattle.sym_base.specs.declared.number.MsgNo.{MsgNo}
 use Rattle.sym_base.specs.declared.number.ObjNo.{ObjNo}
+use Rattle.machine_safe.proofs.Serving.Slots.{over, over-less, slotted-keeps}
 
 -- a message's number tells it among posts
 fewer-posts : (m : MsgNo) (xs : List Message) (x : Post) → Contains (map post_of (filter (λ z. not (has_number m z)) xs)) x → Contains (map post_of xs) x × (x.number.0 ≢ m.0)
@@ -130,6 +131,9 @@ notice-silent (Some s) true client code = (refl, λ m. refl)
 abbrev posts_of : State → List Post
 posts_of X = posts X
 
+abbrev pool_of : State → ℕ
+pool_of X = X.messages.pool
+
 abbrev accepted_of : State → ℕ
 accepted_of X = X.messages.accepted
 
@@ -145,11 +149,12 @@ module _ (script : Script) (before : List Entry) (S : State) (place : ℕ) (t : 
   pub turn-finishes : (d : Decision) → IsFinishing S t (instruction_in script before t) d → Doing script S t d.moves → ((u : ObjNo) (row : ThreadRow) → thread_of S u ≡ Some row → row_bit stage_live (Some row) + dooms (effects_of before) u ≡ 1) → IsTurn script before (entry_for place t S d) (perform t d.moves S)
   turn-finishes d is does fate = record {
     book = record {
-      served = served-doing script before S place t rows book d does changing is.even (λ closes v some. let not_so = is.step in absurd (cc));
+      served = served-doing script before S place t rows book d does changing is.even (λ closes v some. let not_so = is.step in absurd (cc)) (λ v some. let a = ap (total (detach_bit v)) is.moves in let b = detach-none v rest calm_rest in absurd (omega arith));
       letters = letters-less script before S T e book.letters (λ p among. keeps.unlinked p.session) post among
           (λ x there. fewer-posts m.number S.messages.outstanding x (subst (λ (l : List Post). Contains l x) left there))
           (λ x there apart. subst (λ (l : List Post). Contains l x) (sym left) (other-posts m.number S.messages.outstanding x there apart))
-          same_accepted (ap accepts told ∙ (notice-silent _ _ _ _).0) finishes_it keeps.unended (rows.messages.given m found);
+          same_accepted (ap accepts told ∙ (notice-silent _ _ _ _).0) finishes_it keeps.unended (rows.messages.given m found) (ap over left ∙ over-less m.number S.messages.outstanding);
+      slotted = slotted-keeps script before e S T book.slotted keeps.unlinked keeps.slots (ap (λ (l : List Move). pool_of (perform t l S)) is.moves ∙ quiet.pool);
     };
     lawful = record {
       acceptance = λ some. let a = ap accepts told in let b = (notice-silent (status_of_way m.row.way) (nat_lt 0 (dooms (effects_of before) m.row.client)) m.row.client is.code).0 in absurd (omega arith);
@@ -158,6 +163,7 @@ module _ (script : Script) (before : List Entry) (S : State) (place : ℕ) (t : 
           let own : m.number ≡ n = number_is n (omega arith) in
           subst (IsFinish script before e) own lawful_finish;
       end = λ v some. let a = keeps.unended v in absurd (omega arith);
+      send = λ sends. let unsent = is.unsent in absurd (cc);
     };
   }
     where

@@ -17,7 +17,7 @@ use Rattle.machine_safe.proofs.Deaths.Other.{advance_bit, closed_bit, doomed_bit
 use Rattle.machine_safe.proofs.Serving.Deeds.{IsMaking}
 use Rattle.machine_safe.proofs.Serving.Doing.{Doing, IsGoing, going, going-then, keeps-going, quiet-doing}
 use Rattle.machine_safe.proofs.Serving.Fated.{doom-among, doom-told}
-use Rattle.machine_safe.proofs.Serving.Keeps.{Keeps, changing-none, message-none, message_bit, steps_of}
+use Rattle.machine_safe.proofs.Serving.Keeps.{Keeps, changing-none, message-none, message_bit, steps_of, detach-none, WasSession}
 use Rattle.machine_safe.proofs.Serving.Kept.{AreMade}
 use Rattle.machine_safe.proofs.Serving.Letters.{letters-quiet}
 use Rattle.machine_safe.proofs.Serving.Making.{served-made_server}
@@ -29,9 +29,13 @@ use Rattle.machine_safe.specs.CountAfter.{effects_of}
 use Rattle.machine_safe.specs.SafeDeaths.{dooms}
 use Rattle.machine_safe.specs.Served.{ends, handles_lost, server_told}
 use Rattle.script_types.specs.declared.script.Script.{Script}
-use Rattle.std.proofs.Common.{Bool, List, None, [], ap, arith, subst, sym, ℕ, ◌++◌, ◌+◌, ◌∙◌, ◌∷◌, ◌≡◌}
+use Rattle.std.proofs.Common.{Bool, List, None, [], ap, arith, subst, sym, ℕ, ◌++◌, ◌+◌, ◌∙◌, ◌∷◌, ◌≡◌, Option, Some, get_or, length}
 use Rattle.std.specs.Prelude.{if◌then◌else◌}
 use Rattle.sym_base.specs.declared.number.ObjNo.{ObjNo}
+use Rattle.machine_safe.proofs.Serving.Slots.{slotted-keeps}
+use Rattle.state_rows.proofs.SoundChanges.{set_item}
+use Rattle.state_rows.specs.ServerRows.{session_at}
+use Rattle.state_rows.specs.declared.servers.SessionRow.{SessionRow}
 
 module _ (script : Script) (before : List Entry) (S : State) (place : ℕ) (t : ObjNo) (rows : AreRows script S) (book : Book script before S) where
   made : AreMade S
@@ -43,8 +47,9 @@ module _ (script : Script) (before : List Entry) (S : State) (place : ℕ) (t : 
     book = record {
       served = served-same script (further (further (reading before) d.step fs (λ k. 0)) d.step gs (steps_of t rest)) (reading (before ++ e ∷ [])) (perform t d.moves S) same whole;
       letters = letters-quiet script before S (perform t d.moves S) e book.letters (λ p among. unlinked p.session) q (λ p among. unended p.server);
+      slotted = slotted-keeps script before e S (perform t d.moves S) book.slotted unlinked slots q.pool;
     };
-    lawful = unserving script before e q.accepts q.finishes unended;
+    lawful = unserving script before e q.accepts q.finishes unended (λ sends. let unsent = is.unsent in absurd (cc));
   }
     where
       o : ObjNo
@@ -89,7 +94,8 @@ module _ (script : Script) (before : List Entry) (S : State) (place : ℕ) (t : 
           (λ v. let a = is.even.dooms v in let b = ap (total (closed_bit v)) is.moves in let c = ap (total (doomed_bit v)) is.moves in let f = doom-told t rest mid v in omega arith)
           (λ v. doom-among t rest mid v)
           (λ v row there. ap (λ (b : Bool). if b then handles_lost gs v else 0) is.step)
-          (λ makes. let a = is.even.making makes in let b = ap (total mutex_bit) is.moves in omega arith))
+          (λ makes. let a = is.even.making makes in let b = ap (total mutex_bit) is.moves in omega arith)
+          (λ v some. let none = detach-none v rest (let a = is.quiet in omega arith) in absurd (omega arith)))
 
       told : e.effects ≡ fs ++ gs
       told = ap (λ (l : List Move). tell t l S) is.moves
@@ -107,3 +113,8 @@ module _ (script : Script) (before : List Entry) (S : State) (place : ℕ) (t : 
 
       q : IsQuiet S (perform t d.moves S) e.effects
       q = quiet-doing script S t d.moves does (let a = ap (total message_bit) is.moves in let b = message-none rest (let c = is.quiet in omega arith) in omega arith)
+
+      slots : (s : ObjNo) (row : SessionRow) → session_at (perform t d.moves S).servers s ≡ Some row → WasSession S.servers s row
+      slots s row is_row =
+          let later = keeps.slots s row (ap (λ (l : List Move). session_at (perform t l S).servers s) (sym is.moves) ∙ is_row) in
+          record { old = later.old; was = set_item (λ (x : Option SessionRow). x ≡ Some later.old → get_or S.servers.sessions s.0 None ≡ Some later.old) S.servers.sessions (length S.objects) s.0 None None (λ at none. absurd (cc)) (λ same_row. same_row) later.was; slots = later.slots }

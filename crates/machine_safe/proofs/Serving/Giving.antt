@@ -23,7 +23,7 @@ use Rattle.machine_safe.specs.SafeMessages.{code_by}
 use Rattle.machine_safe.specs.Served.{is_handle}
 use Rattle.move_laws.proofs.Lists.Cases.{if_cases}
 use Rattle.move_laws.proofs.Lists.Contents.{contains_behind, contains_cases, contains_filter, contains_first, none_contained}
-use Rattle.move_laws.proofs.References.Same.{same_object, same_self}
+use Rattle.move_laws.proofs.References.Same.{same_object, same_self, same_is}
 use Rattle.move_laws.proofs.RowLaws.Rising.{found_one}
 use Rattle.script_types.specs.declared.instruction.Instr.{Instr}
 use Rattle.script_types.specs.declared.script.Script.{Script}
@@ -60,19 +60,24 @@ use Rattle.sym_base.specs.declared.number.ObjNo.{ObjNo}
 use Rattle.move_laws.proofs.RowLaws.Declared.{all-both}
 use Rattle.machine.specs.Dooms.{end, killed}
 use Rattle.machine_safe.proofs.Deaths.Other.{other-of, none-doomed}
+use Rattle.machine.specs.Moves.{unlinked}
 
 -- what a thread gives up of closing servers: a message of one of its own, or the server itself
 record Gives (S : State) (t : ObjNo) (what : Holding) : Type 0 where
   pub message : (m : MsgNo) → what ≡ OfMessage m → (message : Message) → message_of S.messages m ≡ Some message → (owner_of S.servers message.row.server ≡ Some t) × (is_closing S.servers message.row.server ≡ true)
   pub handle : (h : Holder) (o : ObjNo) → what ≡ Handle h o → is_handle h ≡ true
+  pub link : (s o : ObjNo) → what ≡ OfLink s o → is_closing S.servers o ≡ true
 
 -- what is no message and no handle
-gives-other : (S : State) (t : ObjNo) (what : Holding) → ((m : MsgNo) → what ≡ OfMessage m → ⊥) → ((h : Holder) (o : ObjNo) → what ≡ Handle h o → ⊥) → Gives S t what
-gives-other S t what other none = record { message = λ m e message is. absurd (other m e); handle = λ h o e. absurd (none h o e) }
+gives-other : (S : State) (t : ObjNo) (what : Holding) → ((m : MsgNo) → what ≡ OfMessage m → ⊥) → ((h : Holder) (o : ObjNo) → what ≡ Handle h o → ⊥) → ((s o : ObjNo) → what ≡ OfLink s o → ⊥) → Gives S t what
+gives-other S t what other none unlinked = record { message = λ m e message is. absurd (other m e); handle = λ h o e. absurd (none h o e); link = λ s o e. absurd (unlinked s o e) }
 
-all-links : (S : State) (t o : ObjNo) (links : List ObjNo) → AllByRecursion (Gives S t) (map (λ s. OfLink s o) links)
-all-links S t o [] = tt
-all-links S t o (s ∷ rest) = (gives-other S t (OfLink s o) (λ m e. absurd (cc)) (λ h x e. absurd (cc)), all-links S t o rest)
+gives-link : (S : State) (t s o : ObjNo) → is_closing S.servers o ≡ true → Gives S t (OfLink s o)
+gives-link S t s o closing = record { message = λ m e message is. absurd (cc); handle = λ h x e. absurd (cc); link = λ y x e. let same : o ≡ x = cc in subst (λ (z : ObjNo). is_closing S.servers z ≡ true) same closing }
+
+all-links : (S : State) (t o : ObjNo) (links : List ObjNo) → is_closing S.servers o ≡ true → AllByRecursion (Gives S t) (map (λ s. OfLink s o) links)
+all-links S t o [] closing = tt
+all-links S t o (s ∷ rest) closing = (gives-link S t s o closing, all-links S t o rest closing)
 
 -- a message of a server
 message-at : (o : ObjNo) (xs : List Message) (message : Message) → Contains (filter (is_at o.0) xs) message → message.row.server.0 ≡ o.0
@@ -100,6 +105,7 @@ module _ (script : Script) (S : State) (t : ObjNo) (rows : AreRows script S) whe
         let at : message.row.server ≡ o = ap (λ (z : Message). z.row.server) own ∙ same_object first.row.server o (message-at o S.messages.outstanding first there) in
         (ap (owner_of S.servers) at ∙ owner-of o owned, ap (is_closing S.servers) at ∙ closing);
     handle = λ h x e. absurd (cc);
+    link = λ s x e. absurd (cc);
   }
 
   all-messages : (o : ObjNo) → is_closing S.servers o ≡ true → 0 < times_owned S.owned t o → (messages : List Message) → ((message : Message) → Contains messages message → Contains (messages_at S.messages o) message) → AllByRecursion (Gives S t) (map (λ (m : Message). OfMessage m.number) messages)
@@ -111,8 +117,8 @@ module _ (script : Script) (S : State) (t : ObjNo) (rows : AreRows script S) whe
       let messages = map (λ (m : Message). OfMessage m.number) (messages_at S.messages o) in
       let links = map (λ s. OfLink s o) (linked_at S.servers o) in
       all-both (Gives S t) (messages ++ links) (OfServer o ∷ [])
-      (all-both (Gives S t) messages links (all-messages o closing owned (messages_at S.messages o) (λ m there. there)) (all-links S t o (linked_at S.servers o)))
-      (gives-other S t (OfServer o) (λ m e. absurd (cc)) (λ h x e. absurd (cc)), tt)
+      (all-both (Gives S t) messages links (all-messages o closing owned (messages_at S.messages o) (λ m there. there)) (all-links S t o (linked_at S.servers o) closing))
+      (gives-other S t (OfServer o) (λ m e. absurd (cc)) (λ h x e. absurd (cc)) (λ s x e. absurd (cc)), tt)
 
   all-closing : (os : List ObjNo) → ((o : ObjNo) → 0 < total (mutex_names o) os → 0 < times_owned S.owned t o) → AllByRecursion (Gives S t) (closing_holdings S os)
   all-closing [] owned = tt
@@ -126,14 +132,14 @@ module _ (script : Script) (S : State) (t : ObjNo) (rows : AreRows script S) whe
 
   all-mutexes : (os : List ObjNo) → AllByRecursion (Gives S t) (map (λ o. Mutex o) os)
   all-mutexes [] = tt
-  all-mutexes (o ∷ os) = (gives-other S t (Mutex o) (λ m e. absurd (cc)) (λ h x e. absurd (cc)), all-mutexes os)
+  all-mutexes (o ∷ os) = (gives-other S t (Mutex o) (λ m e. absurd (cc)) (λ h x e. absurd (cc)) (λ s x e. absurd (cc)), all-mutexes os)
 
   all-use : (uses : Option ObjNo) → AllByRecursion (Gives S t) (held_use uses)
   all-use None = tt
-  all-use (Some o) = (gives-other S t (Use o) (λ m e. absurd (cc)) (λ h x e. absurd (cc)), tt)
+  all-use (Some o) = (gives-other S t (Use o) (λ m e. absurd (cc)) (λ h x e. absurd (cc)) (λ s x e. absurd (cc)), tt)
 
   gives-handle : (h : Holder) (o : ObjNo) → is_handle h ≡ true → Gives S t (Handle h o)
-  gives-handle h o is = record { message = λ m e message found. absurd (cc); handle = λ g x e. let same : h ≡ g = cc in subst (λ (z : Holder). is_handle z ≡ true) same is }
+  gives-handle h o is = record { message = λ m e message found. absurd (cc); handle = λ g x e. let same : h ≡ g = cc in subst (λ (z : Holder). is_handle z ≡ true) same is; link = λ s x e. absurd (cc) }
 
   all-slot : (h : Holder) (object : Option ObjNo) → is_handle h ≡ true → AllByRecursion (Gives S t) (held_slot h object)
   all-slot h None is = tt
@@ -145,7 +151,7 @@ module _ (script : Script) (S : State) (t : ObjNo) (rows : AreRows script S) whe
 
   all-logons : (logons : List (ObjNo × ℕ)) → AllByRecursion (Gives S t) (map (λ (logon : ObjNo × ℕ). Logon logon.0 logon.1) logons)
   all-logons [] = tt
-  all-logons (logon ∷ rest) = (gives-other S t (Logon logon.0 logon.1) (λ m e. absurd (cc)) (λ h x e. absurd (cc)), all-logons rest)
+  all-logons (logon ∷ rest) = (gives-other S t (Logon logon.0 logon.1) (λ m e. absurd (cc)) (λ h x e. absurd (cc)) (λ s x e. absurd (cc)), all-logons rest)
 
   all-holdings : (row : ThreadRow) → AllByRecursion (Gives S t) (holdings S t row)
   all-holdings row =
@@ -165,7 +171,7 @@ module _ (script : Script) (S : State) (t : ObjNo) (rows : AreRows script S) whe
 
   module _ (at : Option Instr) (P : Decision → Type 0) (each : OfEach S t at P) (here : (row : ThreadRow) → thread_of S t ≡ Some row → at ≡ instruction script row) where
     deed-finish : (m : MsgNo) (message : Option Message) → Gives S t (OfMessage m) → message_of S.messages m ≡ message → P (finish_message S message)
-    deed-finish m None gives e = calm each _ (record { step = refl; cleans = refl; answers = refl; dooms = λ v. refl; calm = λ _. refl; making = λ _. refl })
+    deed-finish m None gives e = calm each _ (record { step = refl; cleans = refl; answers = refl; dooms = λ v. refl; calm = λ _. refl; making = λ _. refl; sends = λ _. refl })
     deed-finish m (Some message) gives e =
         let is = gives.message m refl message e in
         each.finishes _ (record {
@@ -178,14 +184,22 @@ module _ (script : Script) (S : State) (t : ObjNo) (rows : AreRows script S) whe
           owner = is.0;
           cause = ap (λ (b : Bool). code_by step.Finish b at) is.1;
           step = refl;
+          unsent = refl;
         })
 
     deed-give : (row : ThreadRow) (what : Holding) → Gives S t what → P (give_up S t row what)
     deed-give row (OfMessage m) gives = deed-finish m (message_of S.messages m) gives refl
-    deed-give row (OfServer o) gives = each.stops _ (record { even = even (other-give_up S t row (OfServer o)); server = o; moves = refl; makes = refl; step = refl })
-    deed-give row (Handle h o) gives = deed-handle S t at P h o false (give_up S t row (Handle h o)) (gives.handle h o refl) (other-give_up S t row (Handle h o)) refl refl refl each (sym (append-nil (close_moves S t h o)))
+    deed-give row (OfServer o) gives = each.stops _ (record { even = even (other-give_up S t row (OfServer o)); server = o; moves = refl; makes = refl; step = refl; unsent = refl })
+    deed-give row (Handle h o) gives = deed-handle S t at P h o false (give_up S t row (Handle h o)) (gives.handle h o refl) (other-give_up S t row (Handle h o)) refl refl refl refl each (sym (append-nil (close_moves S t h o)))
     deed-give row (Mutex o) gives = calm each _ (other-give_up S t row (Mutex o))
-    deed-give row (OfLink s o) gives = calm each _ (other-give_up S t row (OfLink s o))
+    deed-give row (OfLink s o) gives = each.keeps _ (record {
+      even = even (other-give_up S t row (OfLink s o));
+      changing = refl;
+      still = refl;
+      closed = λ closes v some. absurd (omega arith);
+      detaches = λ v some. let same : o ≡ v = same_is o v (omega arith) in subst (λ (z : ObjNo). is_closing S.servers z ≡ true) same (gives.link s o refl);
+      send = λ sends. absurd (cc);
+    })
     deed-give row (Use o) gives = calm each _ (other-give_up S t row (Use o))
     deed-give row (Logon u s) gives = calm each _ (other-give_up S t row (Logon u s))
 
@@ -197,7 +211,7 @@ module _ (script : Script) (S : State) (t : ObjNo) (rows : AreRows script S) whe
     own_task row = live_task row.role (next_call S.deferred row.role) (work_or (held_servers S t) (step_or_end (is_protected S.nano t) (instruction script row)))
 
     deed-call : (row : ThreadRow) (call : Option ℕ) → P (decision_of_row script S t (Some row) (option_map call_task call))
-    deed-call row None = calm each _ (record { step = refl; cleans = refl; answers = refl; dooms = λ v. refl; calm = λ _. refl; making = λ _. refl })
+    deed-call row None = calm each _ (record { step = refl; cleans = refl; answers = refl; dooms = λ v. refl; calm = λ _. refl; making = λ _. refl; sends = λ _. refl })
     deed-call row (Some dfc) = by (nat_lt dfc 64)
       where
         by : (declared : Bool) → P (decision_of_row script S t (Some row) (Some (if declared then RunDfc dfc else Bury dfc)))
@@ -206,30 +220,30 @@ module _ (script : Script) (S : State) (t : ObjNo) (rows : AreRows script S) whe
 
     deed-end : (row : ThreadRow) (protected : Bool) → P (decision_of_task script S t row (end_task protected))
     deed-end row true = calm each _ (other-flush S t)
-    deed-end row false = calm each _ (other-of (end t) refl refl (none-doomed t (killed (pos 0))))
+    deed-end row false = calm each _ (other-of (end t) refl refl (λ _. refl) (none-doomed t (killed (pos 0))))
 
-    deed-own : (row : ThreadRow) (protected : Bool) (next : Option Instr) → at ≡ next → P (decision_of_task script S t row (step_or_end protected next))
-    deed-own row protected None e = deed-end row protected
-    deed-own row protected (Some i) e = deed-step script S t at P row i row.part e each
+    deed-own : (row : ThreadRow) (protected : Bool) (next : Option Instr) → thread_of S t ≡ Some row → at ≡ next → P (decision_of_task script S t row (step_or_end protected next))
+    deed-own row protected None is e = deed-end row protected
+    deed-own row protected (Some i) is e = deed-step script S t at P row i row.part is e each
 
-    deed-work : (row : ThreadRow) (has : List Holding) (protected : Bool) (next : Option Instr) → at ≡ next → held_servers S t ≡ has → P (decision_of_task script S t row (work_or has (step_or_end protected next)))
-    deed-work row [] protected next e has = deed-own row protected next e
-    deed-work row (what ∷ rest) protected next e has = given row what rest (held_servers S t) has all-work
+    deed-work : (row : ThreadRow) (has : List Holding) (protected : Bool) (next : Option Instr) → thread_of S t ≡ Some row → at ≡ next → held_servers S t ≡ has → P (decision_of_task script S t row (work_or has (step_or_end protected next)))
+    deed-work row [] protected next is e has = deed-own row protected next is e
+    deed-work row (what ∷ rest) protected next is e has = given row what rest (held_servers S t) has all-work
 
-    deed-live : (row : ThreadRow) (role : Role) (call : Option ℕ) (protected : Bool) (next : Option Instr) → at ≡ next → P (decision_of_row script S t (Some row) (live_task role call (work_or (held_servers S t) (step_or_end protected next))))
-    deed-live row Supervisor call protected next e = deed-call row call
-    deed-live row (Queue queue) call protected next e = deed-call row call
-    deed-live row (Declared k) call protected next e = deed-work row (held_servers S t) protected next e refl
+    deed-live : (row : ThreadRow) (role : Role) (call : Option ℕ) (protected : Bool) (next : Option Instr) → thread_of S t ≡ Some row → at ≡ next → P (decision_of_row script S t (Some row) (live_task role call (work_or (held_servers S t) (step_or_end protected next))))
+    deed-live row Supervisor call protected next is e = deed-call row call
+    deed-live row (Queue queue) call protected next is e = deed-call row call
+    deed-live row (Declared k) call protected next is e = deed-work row (held_servers S t) protected next is e refl
 
     deed-dying : (row : ThreadRow) (has : List Holding) → holdings S t row ≡ has → P (decision_of_row script S t (Some row) (Some (dying_task has)))
-    deed-dying row [] has = each.keeps _ (record { even = record { answers = refl; dooms = λ v. refl; making = λ _. refl }; changing = refl; still = refl; closed = λ closes v some. absurd (cc) })
+    deed-dying row [] has = each.keeps _ (record { even = record { answers = refl; dooms = λ v. refl; making = λ _. refl }; changing = refl; still = refl; closed = λ closes v some. absurd (cc); detaches = λ v some. absurd (omega arith); send = λ sends. absurd (cc) })
     deed-dying row (what ∷ rest) has = given row what rest (holdings S t row) has (all-holdings row)
 
     deed-stage : (row : ThreadRow) (stage : Stage) → thread_of S t ≡ Some row → P (decision_of_row script S t (Some row) (by_stage stage (holdings S t row) (own_task row)))
-    deed-stage row Live is = deed-live row row.role (next_call S.deferred row.role) (is_protected S.nano t) (instruction script row) (here row is)
+    deed-stage row Live is = deed-live row row.role (next_call S.deferred row.role) (is_protected S.nano t) (instruction script row) is (here row is)
     deed-stage row Doomed is = deed-dying row (holdings S t row) refl
-    deed-stage row Cleaned is = calm each _ (record { step = refl; cleans = refl; answers = refl; dooms = λ v. refl; calm = λ _. refl; making = λ _. refl })
-    deed-stage row Buried is = calm each _ (record { step = refl; cleans = refl; answers = refl; dooms = λ v. refl; calm = λ _. refl; making = λ _. refl })
+    deed-stage row Cleaned is = calm each _ (record { step = refl; cleans = refl; answers = refl; dooms = λ v. refl; calm = λ _. refl; making = λ _. refl; sends = λ _. refl })
+    deed-stage row Buried is = calm each _ (record { step = refl; cleans = refl; answers = refl; dooms = λ v. refl; calm = λ _. refl; making = λ _. refl; sends = λ _. refl })
 
     deed-owed : (row : ThreadRow) (owed : List Owed) → thread_of S t ≡ Some row → P (decision_of_row script S t (Some row) (pay_or (first_of owed) (by_stage row.stage (holdings S t row) (own_task row))))
     deed-owed row [] is = deed-stage row row.stage is
@@ -241,12 +255,12 @@ module _ (script : Script) (S : State) (t : ObjNo) (rows : AreRows script S) whe
     deed-return row false next is = deed-owed row (owed_of S t) is
 
     deed-row : (x : Option ThreadRow) → thread_of S t ≡ x → P (decision_of_row script S t x (task_of_row script S t x))
-    deed-row None is = calm each _ (record { step = refl; cleans = refl; answers = refl; dooms = λ v. refl; calm = λ _. refl; making = λ _. refl })
+    deed-row None is = calm each _ (record { step = refl; cleans = refl; answers = refl; dooms = λ v. refl; calm = λ _. refl; making = λ _. refl; sends = λ _. refl })
     deed-row (Some row) is = deed-return row (is_returning row.part) (instruction script row) is
 
     deed-able : (able : Bool) → P (decision_where script able S t (task_of script S t))
     deed-able true = deed-row (thread_of S t) refl
-    deed-able false = calm each _ (record { step = refl; cleans = refl; answers = refl; dooms = λ v. refl; calm = λ _. refl; making = λ _. refl })
+    deed-able false = calm each _ (record { step = refl; cleans = refl; answers = refl; dooms = λ v. refl; calm = λ _. refl; making = λ _. refl; sends = λ _. refl })
 
     -- what the thread does
     pub deed-of : P (decision_of script S t)

@@ -17,7 +17,7 @@ use Rattle.machine_safe.proofs.Serving.Deeds.{IsJoining}
 use Rattle.machine_safe.proofs.Serving.Doing.{Doing, IsGoing, going, going-then, keeps-going, quiet-doing}
 use Rattle.machine_safe.proofs.Serving.EffectSums.{ends-append, server_told-append}
 use Rattle.machine_safe.proofs.Serving.Fated.{doom-among, doom-told}
-use Rattle.machine_safe.proofs.Serving.Keeps.{Keeps, changing-none, message-none, message_bit, steps_of}
+use Rattle.machine_safe.proofs.Serving.Keeps.{Keeps, changing-none, message-none, message_bit, steps_of, detach-none}
 use Rattle.machine_safe.proofs.Serving.Kept.{AreMade, keeps-move}
 use Rattle.machine_safe.proofs.Serving.Letters.{letters-quiet}
 use Rattle.machine_safe.proofs.Serving.Making.{served-joined}
@@ -32,9 +32,15 @@ use Rattle.script_types.specs.declared.script.Script.{Script}
 use Rattle.state_rows.specs.ServerRows.{server_at, session_at}
 use Rattle.state_rows.specs.declared.messages.Message.{Message}
 use Rattle.state_rows.specs.declared.servers.ServerRow.{ServerRow}
-use Rattle.std.proofs.Common.{Bool, List, None, Option, Some, [], arith, length, refl, sym, true, ℕ, ◌++◌, ◌+◌, ◌∙◌, ◌∷◌, ◌≡◌, ◌≤◌, subst, ap}
+use Rattle.std.proofs.Common.{Bool, List, None, Option, Some, [], arith, length, refl, sym, true, ℕ, ◌++◌, ◌+◌, ◌∙◌, ◌∷◌, ◌≡◌, ◌≤◌, subst, ap, get_or, get_or-set_other, get_or-set_same, inl, inr, ◌<◌}
 use Rattle.std.specs.Prelude.{Contains, if◌then◌else◌, is_some, ◌==◌}
 use Rattle.sym_base.specs.declared.number.ObjNo.{ObjNo}
+use Rattle.machine_safe.proofs.Serving.Slots.{slots-joined, slots-kept}
+use Rattle.machine_safe.specs.Sent.{instruction_in}
+use Rattle.machine_safe.specs.Slotted.{slots_in}
+use Rattle.state_rows.specs.ServerChanges.{new_session}
+use Rattle.state_rows.specs.declared.servers.SessionRow.{SessionRow}
+use Rattle.std.proofs.lemmas.Bool.{cases_eq, eq-eqb}
 
 no-server : (S : State) (o : ObjNo) → AreMade S → length S.objects ≤ o.0 → server_at S.servers o ≡ None
 no-server S o made past = by (server_at S.servers o) refl
@@ -51,13 +57,14 @@ module _ (script : Script) (before : List Entry) (S : State) (place : ℕ) (t : 
   posted p among = contains_map post_of S.messages.outstanding p among
 
   -- a session joins a server
-  pub turn-joins : (d : Decision) → IsJoining S t d → Doing script S t d.moves → IsTurn script before (entry_for place t S d) (perform t d.moves S)
+  pub turn-joins : (d : Decision) → IsJoining S t (instruction_in script before t) d → Doing script S t d.moves → IsTurn script before (entry_for place t S d) (perform t d.moves S)
   turn-joins d is does = record {
     book = record {
       served = served-same script _ (reading (before ++ e ∷ [])) (perform t d.moves S) same whole;
       letters = letters-quiet script before S (perform t d.moves S) e book.letters unlinked q (λ p among. unended p.server);
+      slotted = record { sessions = slots; pool = q.pool ∙ book.slotted.pool };
     };
-    lawful = unserving script before e q.accepts q.finishes unended;
+    lawful = unserving script before e q.accepts q.finishes unended (λ sends. let unsent = is.unsent in absurd (cc));
   }
     where
       e : Entry
@@ -104,7 +111,7 @@ module _ (script : Script) (before : List Entry) (S : State) (place : ℕ) (t : 
 
       served1 : Served script r1 T
       served1 = served-keeps script (reading before) S T t (one ∷ []) d.step fs book.served makes (λ v. omega arith) (λ v. omega arith)
-          (λ v row there. ap (λ (b : Bool). if b then handles_lost fs v else 0) is.step) (λ making. refl)
+          (λ v row there. ap (λ (b : Bool). if b then handles_lost fs v else 0) is.step) (λ making. refl) (λ v some. absurd (omega arith))
 
       r2 : Reading
       r2 = further r1 d.step hs (λ k. 0)
@@ -124,7 +131,7 @@ module _ (script : Script) (before : List Entry) (S : State) (place : ℕ) (t : 
           (λ v. let a = is.even.dooms v in let b = ap (total (closed_bit v)) is.moves in let c = ap (total (doomed_bit v)) is.moves in let f = doom-told t is.back mid v in omega arith)
           (λ v. doom-among t is.back mid v)
           (λ v row there. ap (λ (b : Bool). if b then handles_lost gs v else 0) is.step)
-          (λ making. absurd (cc)))
+          (λ making. absurd (cc)) (λ v some. let none = detach-none v is.back is.quiet in absurd (omega arith)))
 
       told_all : e.effects ≡ fs ++ (hs ++ gs)
       told_all = ap (λ (l : List Move). tell t l S) is.moves
@@ -152,3 +159,32 @@ module _ (script : Script) (before : List Entry) (S : State) (place : ℕ) (t : 
 
       q : IsQuiet S (perform t d.moves S) e.effects
       q = quiet-doing script S t d.moves does (let a = ap (total message_bit) is.moves in let b = message-none is.back is.quiet in omega arith)
+
+      session_room : length S.objects < length T.servers.sessions
+      session_room = let a = later.each.0.made in let b = later.sane.rows.sized.objects_few in let c = later.sane.rows.servers.sessions_sized in omega arith
+
+      link-told : (s : ObjNo) → length S.objects ≡ s.0 → server_told e.effects s ≡ Some is.server
+      link-told s at =
+          ap (λ (l : List Effect). server_told l s) told_all ∙ (server_told-append fs (hs ++ gs) s ∙ ap (λ (x : Option ObjNo). or_before x (server_told fs s)) (server_told-append hs gs s
+          ∙ (ap (λ (x : Option ObjNo). or_before x (server_told hs s)) (keeps.unlinked s) ∙ ap (λ (b : Bool). one_if b is.server) (eq-eqb (length S.objects) s.0 at))))
+
+      link-untold : (s : ObjNo) → (length S.objects ≡ s.0 → ⊥) → server_told e.effects s ≡ None
+      link-untold s other =
+          ap (λ (l : List Effect). server_told l s) told_all ∙ (server_told-append fs (hs ++ gs) s ∙ (ap (λ (x : Option ObjNo). or_before x (server_told fs s)) (server_told-append hs gs s
+          ∙ (ap (λ (x : Option ObjNo). or_before x (server_told hs s)) (keeps.unlinked s) ∙ ap (λ (b : Bool). one_if b is.server) (eqb_apart (length S.objects) s.0 other))) ∙ makes.unlinked s))
+
+      -- the session has the slots of the instruction, and the others theirs
+      slots : (s : ObjNo) (row : SessionRow) → session_at (perform t d.moves S).servers s ≡ Some row → slots_in script (before ++ e ∷ []) s ≡ Some row.slots
+      slots s row is_row =
+          let after = keeps.slots s row (ap (λ (l : List Move). session_at (perform t l S).servers s) (sym is.moves) ∙ is_row) in
+          elim (cases_eq (length S.objects) s.0) as (λ _. slots_in script (before ++ e ∷ []) s ≡ Some row.slots) [
+            | inl at ↦
+                let inside : length S.objects < length T.servers.sessions = session_room in
+                let new : session_at mid.servers s ≡ Some (new_session is.server is.slots t) = ap (λ (n : ℕ). get_or mid.servers.sessions n None) (sym at) ∙ get_or-set_same T.servers.sessions (length S.objects) (Some (new_session is.server is.slots t)) None inside in
+                let both : Some after.old ≡ Some (new_session is.server is.slots t) = sym after.was ∙ new in
+                let own : after.old ≡ new_session is.server is.slots t = cc in
+                slots-joined script before e s is.server is.slots (link-told s at) is.connects ∙ ap Some (sym (ap (λ (z : SessionRow). z.slots) own) ∙ after.slots)
+            | inr other ↦
+                let first = makes.slots s after.old (sym (get_or-set_other T.servers.sessions (length S.objects) s.0 (Some (new_session is.server is.slots t)) None (λ at. other (sym at))) ∙ after.was) in
+                slots-kept script before e s (link-untold s other) ∙ (book.slotted.sessions s first.old first.was ∙ ap Some (first.slots ∙ after.slots))
+          ]

@@ -1,5 +1,5 @@
 -- What the moves of an action leave of servers and sessions, where none of them makes or ends a server, closes its handle, or joins a session.
-use Rattle.std.proofs.Common.{◌≡◌, inl, inr, ℕ, ◌+◌, ◌<◌, ◌≤◌, List, [], ◌∷◌, ◌++◌, length, arith, refl, sym, ap, subst, ◌∙◌, Option, Some, None, Bool, true, false, get_or}
+use Rattle.std.proofs.Common.{◌≡◌, inl, inr, ℕ, ◌+◌, ◌<◌, ◌≤◌, List, [], ◌∷◌, ◌++◌, length, arith, refl, sym, ap, subst, ◌∙◌, Option, Some, None, Bool, true, false, get_or, ◌⊎◌}
 use Rattle.std.specs.Prelude.{◌==◌, if◌then◌else◌, is_some}
 use Rattle.sym_base.specs.declared.number.ObjNo.{ObjNo}
 use Rattle.entry_log.specs.declared.effect.Effect.{Effect}
@@ -7,7 +7,7 @@ use Rattle.entry_log.specs.declared.effect.Holder.TheVariants.{Own, Link, Temp}
 use Rattle.state_rows.specs.declared.servers.ServerRow.{ServerRow}
 use Rattle.state_rows.specs.declared.servers.ServerRows.{ServerRows}
 use Rattle.state_rows.specs.declared.thread.ThreadRow.{ThreadRow}
-use Rattle.state_rows.specs.ServerRows.{server_at, server_of, is_closing, closes}
+use Rattle.state_rows.specs.ServerRows.{server_at, server_of, is_closing, closes, session_at}
 use Rattle.machine.specs.declared.moves.Move.{Move}
 use Rattle.machine.specs.declared.moves.Move.TheVariants.{Lose, Servers, Messages}
 use Rattle.machine.specs.declared.message_move.MessageMove.TheVariants.{Take}
@@ -16,10 +16,16 @@ use Rattle.machine.specs.declared.state.State.{State}
 use Rattle.machine.specs.References.{same, total}
 use Rattle.machine_safe.specs.Served.{ends, owner_told, server_told, or_before, handles_lost, is_handle}
 use Rattle.machine_safe.proofs.Deaths.Other.{advance_bit, closed_bit, mutex_bit, serving_bit, doomed_bit}
-use Rattle.machine_safe.proofs.Serving.EffectSums.{ends-append, owner_told-append, server_told-append, handles_lost-append}
+use Rattle.machine_safe.proofs.Serving.EffectSums.{ends-append, owner_told-append, server_told-append, handles_lost-append, used_told-append}
 use Rattle.move_laws.proofs.References.Same.{if_zero}
 use Rattle.machine.specs.Serving.{times_owned}
 use Rattle.std.proofs.lemmas.Bool.{cases_lt}
+use Rattle.machine.specs.Moves.{told}
+use Rattle.machine.specs.Rows.{object_of}
+use Rattle.machine.specs.WellFormed.{IsAlive}
+use Rattle.machine_safe.specs.Slotted.{used_told}
+use Rattle.state_rows.specs.ServerChanges.{detached}
+use Rattle.state_rows.specs.declared.servers.SessionRow.{SessionRow}
 
 -- 1 for a move by which a server comes, closes by its handle or ends, or a session is joined
 abbrev pub changing_bit : Move → ℕ
@@ -39,6 +45,11 @@ abbrev pub lost_bit : ObjNo → Move → ℕ
 lost_bit v (Lose h o) = if is_handle h then same o v else 0
 lost_bit v _ = 0
 
+-- 1 where a session is detached from a server
+abbrev pub detach_bit : ObjNo → Move → ℕ
+detach_bit v (Lose (Link s) o) = same o v
+detach_bit v _ = 0
+
 -- such moves serve
 changing-serves : (m : Move) → changing_bit m ≤ serving_bit m
 changing-serves (Lose (Own t) o) = omega arith
@@ -54,9 +65,17 @@ message-serves _ = omega arith
 
 lost-serves : (v : ObjNo) (m : Move) → serving_bit m ≡ 0 → lost_bit v m ≡ 0
 lost-serves v (Lose (Temp t) o) none = refl
-lost-serves v (Lose (Link s) o) none = refl
 lost-serves v (Lose h o) none = absurd (omega arith)
 lost-serves v _ none = refl
+
+detach-serves : (v : ObjNo) (m : Move) → serving_bit m ≡ 0 → detach_bit v m ≡ 0
+detach-serves v (Lose (Temp t) o) none = refl
+detach-serves v (Lose h o) none = absurd (omega arith)
+detach-serves v _ none = refl
+
+pub detach-none : (v : ObjNo) (ms : List Move) → total serving_bit ms ≡ 0 → total (detach_bit v) ms ≡ 0
+detach-none v [] none = refl
+detach-none v (m ∷ ms) none = let a = detach-serves v m (omega arith) in let b = detach-none v ms (omega arith) in omega arith
 
 pub changing-none : (ms : List Move) → total serving_bit ms ≡ 0 → total changing_bit ms ≡ 0
 changing-none [] none = refl
@@ -85,6 +104,26 @@ pub record WasAt (threads : List (Option ThreadRow)) (k n : ℕ) (row : ThreadRo
   pub role : old.role ≡ row.role
   pub place : row.next_instruction ≡ old.next_instruction + n
 
+-- a thread that used an object before
+pub record WasUsing (threads : List (Option ThreadRow)) (u o : ObjNo) : Type 0 where
+  pub old : ThreadRow
+  pub was : get_or threads u.0 None ≡ Some old
+  pub uses : old.uses ≡ Some o
+
+-- what a thread uses is what was told last, or what it used before
+abbrev pub UsesTold : List (Option ThreadRow) → List Effect → ObjNo → ObjNo → Type 0
+UsesTold threads effects u o = (used_told effects u ≡ Some o) ⊎ ((used_told effects u ≡ None) × WasUsing threads u o)
+
+-- a session keeps its slots
+pub record WasSession (r : ServerRows) (s : ObjNo) (row : SessionRow) : Type 0 where
+  pub old : SessionRow
+  pub was : session_at r s ≡ Some old
+  pub slots : old.slots ≡ row.slots
+
+-- a session is at its server still, or it died, or was detached from that
+abbrev pub StillLinked : State → List Move → ObjNo → ObjNo → Type 0
+StillLinked T ms s v = (server_of T.servers s ≡ Some v) ⊎ ((IsAlive (object_of T s) → ⊥) ⊎ (0 < total (detach_bit v) ms))
+
 -- how far a thread goes where moves of thread t end its instructions
 abbrev pub steps_of : ObjNo → List Move → ℕ → ℕ
 steps_of t ms k = if t.0 == k then total advance_bit ms else 0
@@ -105,6 +144,10 @@ pub record Keeps (S T : State) (t : ObjNo) (ms : List Move) (effects : List Effe
   pub owned : T.owned ≡ S.owned
   pub doomed : (u o : ObjNo) → 0 < total (doomed_bit u) ms → 0 < times_owned T.owned u o → is_closing T.servers o ≡ true
   pub objects : length S.objects ≤ length T.objects
+  pub uses : (u o : ObjNo) (row : ThreadRow) → get_or T.threads u.0 None ≡ Some row → row.uses ≡ Some o → UsesTold S.threads effects u o
+  pub alive : (o : ObjNo) → o.0 < length S.objects → IsAlive (object_of T o) → IsAlive (object_of S o)
+  pub slots : (s : ObjNo) (row : SessionRow) → session_at T.servers s ≡ Some row → WasSession S.servers s row
+  pub linked : (s v : ObjNo) → s.0 < length S.objects → server_of S.servers s ≡ Some v → StillLinked T ms s v
   pub threads : (k : ℕ) (row : ThreadRow) → get_or T.threads k None ≡ Some row → WasAt S.threads k (steps_of t ms k) row
   pub unlinked : (s : ObjNo) → server_told effects s ≡ None
   pub unended : (v : ObjNo) → ends effects v ≡ 0
@@ -119,6 +162,10 @@ keeps-none S t = record {
   owned = refl;
   doomed = λ u o some owned. absurd (omega arith);
   objects = omega arith;
+  uses = λ u o row is uses. inr (refl, record { old = row; was = is; uses = uses });
+  alive = λ o made is. is;
+  slots = λ s row is. record { old = row; was = is; slots = refl };
+  linked = λ s v made is. inl is;
   threads = λ k row is. record { old = row; was = is; role = refl; place = let a = if_zero (t.0 == k) 0 refl in omega arith };
   unlinked = λ s. refl;
   unended = λ v. refl;
@@ -147,6 +194,15 @@ keeps-closing S T t ms effects o h is =
     let own : first.0 ≡ was.old = cc in
     ap closes now.1 ∙ was.still (sym (ap (λ (z : ServerRow). z.is_closing) own) ∙ first.2)
 
+uses-then : (first second : List (Option ThreadRow)) (es fs : List Effect) (u o : ObjNo) → ((old : ThreadRow) → get_or second u.0 None ≡ Some old → old.uses ≡ Some o → UsesTold first es u o) → UsesTold second fs u o → UsesTold first (es ++ fs) u o
+uses-then first second es fs u o before last = elim last as (λ _. UsesTold first (es ++ fs) u o) [
+  | inl told ↦ inl (used_told-append es fs u ∙ ap (λ (x : Option ObjNo). or_before x (used_told es u)) told)
+  | inr same ↦ elim (before same.1.old same.1.was same.1.uses) as (λ _. UsesTold first (es ++ fs) u o) [
+    | inl told ↦ inl (used_told-append es fs u ∙ (ap (λ (x : Option ObjNo). or_before x (used_told es u)) same.0 ∙ told))
+    | inr also ↦ inr (used_told-append es fs u ∙ (ap (λ (x : Option ObjNo). or_before x (used_told es u)) same.0 ∙ also.0), also.1)
+  ]
+]
+
 pub keeps-then : (S T U : State) (t : ObjNo) (m : Move) (ms : List Move) (es fs : List Effect) → Keeps S T t (m ∷ []) es → Keeps T U t ms fs → Keeps S U t (m ∷ ms) (es ++ fs)
 keeps-then S T U t m ms es fs h g = record {
   servers = λ o row is.
@@ -167,6 +223,22 @@ keeps-then S T U t m ms es fs h g = record {
     | inr none ↦ keeps-closing T U t ms fs o g (h.doomed u o (omega arith) (subst (λ (l : List (List ObjNo)). 0 < times_owned l u o) g.owned owned))
   ];
   objects = let a = h.objects in let b = g.objects in omega arith;
+  uses = λ u o row is used. uses-then S.threads T.threads es fs u o (λ old was uses. h.uses u o old was uses) (g.uses u o row is used);
+  alive = λ o made is. h.alive o made (g.alive o (let a = h.objects in omega arith) is);
+  slots = λ s row is. let two = g.slots s row is in let one = h.slots s two.old two.was in record { old = one.old; was = one.was; slots = one.slots ∙ two.slots };
+  linked = λ s v made is. elim (h.linked s v made is) as (λ _. StillLinked U (m ∷ ms) s v) [
+    | inl still ↦ elim (g.linked s v (let a = h.objects in omega arith) still) as (λ _. StillLinked U (m ∷ ms) s v) [
+      | inl linked ↦ inl linked
+      | inr other ↦ elim other as (λ _. StillLinked U (m ∷ ms) s v) [
+        | inl dead ↦ inr (inl dead)
+        | inr detached ↦ inr (inr (omega arith))
+      ]
+    ]
+    | inr other ↦ elim other as (λ _. StillLinked U (m ∷ ms) s v) [
+      | inl dead ↦ inr (inl (λ alive. dead (g.alive s (let a = h.objects in omega arith) alive)))
+      | inr detached ↦ inr (inr (omega arith))
+    ]
+  ];
   threads = λ k row is.
       let two = g.threads k row is in
       let one = h.threads k two.old two.was in

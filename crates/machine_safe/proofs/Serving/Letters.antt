@@ -18,9 +18,12 @@ use Rattle.script_types.specs.declared.script.Script.{Script}
 use Rattle.std.proofs.Common.{List, None, Option, Some, [], ap, append_assoc, arith, inl, inr, refl, subst, sym, ℕ, ◌++◌, ◌+◌, ◌<◌, ◌∙◌, ◌∷◌, ◌≡◌, ◌≢◌, ◌≤◌, ◌⊎◌}
 use Rattle.std.proofs.lemmas.Bool.{cases_eq, eq-eqb}
 use Rattle.std.proofs.lemmas.List.Elements.{Contains-push_cases}
-use Rattle.std.specs.Prelude.{Contains, if◌then◌else◌, ◌==◌}
+use Rattle.std.specs.Prelude.{Contains, if◌then◌else◌, ◌==◌, filter, not}
 use Rattle.sym_base.specs.declared.number.MsgNo.{MsgNo}
 use Rattle.sym_base.specs.declared.number.ObjNo.{ObjNo}
+use Rattle.machine_safe.proofs.Serving.Slots.{over-append, sends-less, sends-more, sends-quiet, sent_of, slots-kept, over}
+use Rattle.machine_safe.specs.Slotted.{SentOver, is_send, outstanding_in, sent_told, slots_in}
+use Rattle.std.proofs.lemmas.List.{append-nil}
 
 -- what is known of an outstanding message
 pub record Known (script : Script) (before : List Entry) (p : Post) : Type 0 where
@@ -31,6 +34,7 @@ pub record Known (script : Script) (before : List Entry) (p : Post) : Type 0 whe
   pub lasts : ends (effects_of before) p.server ≡ 0
   pub unfinished : finishes (effects_of before) p.number ≡ 0
   pub way : status_by accepted.at.step (instruction_in script accepted.before p.client) ≡ status_of_way p.way
+  pub slots : slots_in script before p.session ≡ Some p.slots
 
 -- a message that was accepted over a session is outstanding
 pub record IsOut (S : State) (m : MsgNo) (session : ObjNo) : Type 0 where
@@ -39,12 +43,14 @@ pub record IsOut (S : State) (m : MsgNo) (session : ObjNo) : Type 0 where
   pub number : post.number ≡ m
   pub over : post.session ≡ session
 
--- So many are accepted; what is outstanding is known; each that was accepted is finished once, or outstanding; and none that comes later is finished.
+-- So many are accepted; what is outstanding is known; each that was accepted is finished once, or outstanding; none that comes later is finished; and
+-- the sends that are outstanding are those among them.
 pub record Letters (script : Script) (before : List Entry) (S : State) : Type 0 where
   pub accepted : accepts (effects_of before) ≡ S.messages.accepted
   pub known : (p : Post) → Contains (posts S) p → Known script before p
   pub all : (m : MsgNo) (a : WasAccepted before m) → (finishes (effects_of before) m ≡ 1) ⊎ IsOut S m a.by.session
   pub later : (m : MsgNo) → S.messages.accepted < m.0 → finishes (effects_of before) m ≡ 0
+  pub sends : outstanding_in before ≡ over (posts S)
 
 pub letters-ready : (script : Script) (before : List Entry) (S : State) (qs : List ObjNo) → Letters script before S → Letters script before (record S { ready = qs })
 letters-ready script before S qs h = record {
@@ -55,6 +61,7 @@ letters-ready script before S qs h = record {
     | inr out ↦ inr (record { post = out.post; among = out.among; number = out.number; over = out.over })
   ];
   later = h.later;
+  sends = h.sends;
 }
 
 -- what stands in a list with one more behind it is that one, or stands in the list
@@ -107,6 +114,7 @@ known-on script before e p h unlinked unended unfinished =
       lasts = let a = ap (λ (l : List Effect). ends l p.server) es in let b = ends-append (effects_of before) e.effects p.server in let c = h.lasts in omega arith;
       unfinished = let a = ap (λ (l : List Effect). finishes l p.number) es in let b = finishes-append (effects_of before) e.effects p.number in let c = h.unfinished in omega arith;
       way = h.way;
+      slots = slots-kept script before e p.session unlinked ∙ h.slots;
     }
 
 -- an entry that accepts a message tells so
@@ -163,12 +171,13 @@ module _ (script : Script) (before : List Entry) (S T : State) (e : Entry) (h : 
           | inr out ↦ inr (record { post = out.post; among = subst (λ (l : List Post). Contains l out.post) (sym q.posts) out.among; number = out.number; over = out.over })
         ]);
     later = λ m above. let a = finished-then m in let b = q.finishes m in let c = q.accepted in let d = h.later m (omega arith) in omega arith;
+    sends = sends-quiet before e q.accepts q.finishes ∙ (h.sends ∙ ap over (sym q.posts));
   }
 
   -- a message comes
   pub letters-more : (p : Post) → posts T ≡ posts S ++ p ∷ [] → T.messages.accepted ≡ S.messages.accepted + 1 → (a : Accepts e p.number) → p.number.0 ≡ S.messages.accepted + 1 → accepts a.rest ≡ 0 → ((m : MsgNo) → finishes e.effects m ≡ 0) → a.session ≡ p.session → a.client ≡ p.client
-      → server_told (effects_of before) p.session ≡ Some p.server → server_told e.effects p.session ≡ None → ((v : ObjNo) → ends e.effects v ≡ 0) → ends (effects_of before) p.server ≡ 0 → status_by e.step (instruction_in script before p.client) ≡ status_of_way p.way → Letters script (before ++ e ∷ []) T
-  letters-more p posts_then more a number none unfinished session client linked unlinked_new unended lasts way = record {
+      → server_told (effects_of before) p.session ≡ Some p.server → server_told e.effects p.session ≡ None → ((v : ObjNo) → ends e.effects v ≡ 0) → ends (effects_of before) p.server ≡ 0 → status_by e.step (instruction_in script before p.client) ≡ status_of_way p.way → slots_in script before p.session ≡ Some p.slots → (if is_send e.step then sent_told e.effects else []) ≡ sent_of p.way p → Letters script (before ++ e ∷ []) T
+  letters-more p posts_then more a number none unfinished session client linked unlinked_new unended lasts way slots sends = record {
     accepted = let b = accepted-then in let c = ap accepts a.told in let d = h.accepted in omega arith;
     known = λ x among. elim (Contains-push_cases (posts S) p x (subst (λ (l : List Post). Contains l x) posts_then among)) as (λ _. Known script (before ++ e ∷ []) x) [
       | inl was ↦ known-on script before e x (h.known x was) (unlinked x was) (unended x.server) (unfinished x.number)
@@ -184,6 +193,7 @@ module _ (script : Script) (before : List Entry) (S T : State) (e : Entry) (h : 
           ]
     ];
     later = λ m above. let b = finished-then m in let c = unfinished m in let d = h.later m (omega arith) in omega arith;
+    sends = sends-more before e p [] unfinished new.unfinished sends ∙ (ap (λ (l : List SentOver). l ++ sent_of p.way p) h.sends ∙ (sym (ap (λ (l : List SentOver). over (posts S) ++ l) (append-nil (sent_of p.way p))) ∙ (sym (over-append (posts S) (p ∷ [])) ∙ ap over (sym posts_then))));
   }
     where
       es : effects_of (before ++ e ∷ []) ≡ effects_of before ++ e.effects
@@ -198,6 +208,7 @@ module _ (script : Script) (before : List Entry) (S T : State) (e : Entry) (h : 
         lasts = let b = ap (λ (l : List Effect). ends l p.server) es in let c = ends-append (effects_of before) e.effects p.server in let d = unended p.server in omega arith;
         unfinished = let b = finished-then p.number in let c = unfinished p.number in let d = h.later p.number (omega arith) in omega arith;
         way = way;
+        slots = slots-kept script before e p.session unlinked_new ∙ slots;
       }
 
       newly : (m : MsgNo) (at : Entry) (by : Accepts at m) → at ≡ e → IsOut T m by.session
@@ -213,8 +224,8 @@ module _ (script : Script) (before : List Entry) (S T : State) (e : Entry) (h : 
 
   -- a message goes
   pub letters-less : (p : Post) → Contains (posts S) p → ((x : Post) → Contains (posts T) x → Contains (posts S) x × (x.number.0 ≢ p.number.0)) → ((x : Post) → Contains (posts S) x → (x.number.0 ≢ p.number.0) → Contains (posts T) x) → T.messages.accepted ≡ S.messages.accepted
-      → accepts e.effects ≡ 0 → ((m : MsgNo) → finishes e.effects m ≡ (if p.number.0 == m.0 then 1 else 0)) → ((v : ObjNo) → ends e.effects v ≡ 0) → p.number.0 ≤ S.messages.accepted → Letters script (before ++ e ∷ []) T
-  letters-less p there fewer others same none goes unended given = record {
+      → accepts e.effects ≡ 0 → ((m : MsgNo) → finishes e.effects m ≡ (if p.number.0 == m.0 then 1 else 0)) → ((v : ObjNo) → ends e.effects v ≡ 0) → p.number.0 ≤ S.messages.accepted → over (posts T) ≡ filter (λ (x : SentOver). not (p.number.0 == x.number.0)) (over (posts S)) → Letters script (before ++ e ∷ []) T
+  letters-less p there fewer others same none goes unended given sends = record {
     accepted = let b = accepted-then in let d = h.accepted in omega arith;
     known = λ x among. let was = fewer x among in known-on script before e x (h.known x was.0) (unlinked x was.0) (unended x.server) (goes x.number ∙ if_not (p.number.0 == x.number.0) 1 (eqb_apart p.number.0 x.number.0 (λ e. was.1 (sym e))));
     all = λ m a. old-accepted before e m (λ (s : ObjNo). (finishes (effects_of (before ++ e ∷ [])) m ≡ 1) ⊎ IsOut T m s) none a (λ old.
@@ -235,4 +246,5 @@ module _ (script : Script) (before : List Entry) (S T : State) (e : Entry) (h : 
           ]
         ]);
     later = λ m above. let b = finished-then m in let c = goes m in let d = h.later m (omega arith) in let f = if_not (p.number.0 == m.0) 1 (eqb_apart p.number.0 m.0 (λ e. absurd (omega arith))) in omega arith;
+    sends = sends-less before e p none goes ∙ (ap (λ (l : List SentOver). filter (λ (x : SentOver). not (p.number.0 == x.number.0)) l) h.sends ∙ sym sends);
   }

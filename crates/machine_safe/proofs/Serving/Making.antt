@@ -7,12 +7,12 @@ use Rattle.entry_log.specs.declared.step.Step.{Step}
 use Rattle.machine.specs.FitsServers.{MayJoinServer, MayStartServer}
 use Rattle.machine.specs.Moves.{moved, new_object, next_object}
 use Rattle.machine.specs.Serving.{times_owned}
-use Rattle.machine.specs.WellFormed.{AreRows}
+use Rattle.machine.specs.WellFormed.{AreRows, IsAlive}
 use Rattle.machine.specs.declared.moves.Move.TheVariants.{Make, Servers}
 use Rattle.machine.specs.declared.server_move.ServerMove.TheVariants.{Join, Start}
 use Rattle.machine.specs.declared.state.State.{State}
 use Rattle.machine_safe.proofs.Deaths.EffectSums.{dooms-append}
-use Rattle.machine_safe.proofs.Serving.EffectSums.{ends-append, server_told-append}
+use Rattle.machine_safe.proofs.Serving.EffectSums.{ends-append, server_told-append, used_told-append}
 use Rattle.machine_safe.proofs.Serving.Keeps.{closing-row}
 use Rattle.machine_safe.proofs.Serving.Reading.{Reading, closing_by, further}
 use Rattle.machine_safe.proofs.Serving.Served.{IsServed, Served, closing-count}
@@ -22,7 +22,7 @@ use Rattle.move_laws.proofs.References.Mutexes.{held-holding}
 use Rattle.move_laws.proofs.References.Same.{eqb_apart, if_is}
 use Rattle.script_types.specs.declared.script.Script.{Script}
 use Rattle.state_rows.proofs.SoundChanges.{set_item}
-use Rattle.state_rows.specs.ServerChanges.{new_session}
+use Rattle.state_rows.specs.ServerChanges.{new_session, closing}
 use Rattle.state_rows.specs.ServerRows.{closes, is_closing, link_of, server_at, server_of}
 use Rattle.state_rows.specs.declared.object.ObjectRow.{ObjectRow}
 use Rattle.state_rows.specs.declared.servers.ServerRow.{ServerRow}
@@ -33,6 +33,7 @@ use Rattle.std.specs.Prelude.{if◌then◌else◌, nat_lt, ◌==◌}
 use Rattle.sym_base.specs.declared.kind.Slots.{Slots}
 use Rattle.sym_base.specs.declared.number.ObjNo.{ObjNo}
 use Rattle.machine.specs.References.{same}
+use Rattle.std.proofs.Math.ListN.{get_or-append}
 
 -- a thread that is live was doomed in nothing that was told
 abbrev pub Undoomed : Reading → ObjNo → Type 0
@@ -74,6 +75,15 @@ module _ (script : Script) (r : Reading) (S : State) (t : ObjNo) (done : Step) (
     ];
     unmade = λ o past. let a = more-objects S (Some (new_object kind.Server name)) in let old = h.unmade o (omega arith) in let none = closings_same o in omega arith;
     places = λ k row is. let old = h.places k row is in record { first = old.first; is = old.is; role = old.role; place = let a = old.place in omega arith };
+    uses = λ u o row is used. used_told-append r.effects fs u ∙ h.uses u o row is used;
+    told_made = λ s v is. let a = more-objects S (Some (new_object kind.Server name)) in let inside = h.told_made s v (sym (server_told-append r.effects fs s) ∙ is) in omega arith;
+    told_linked = λ s v is alive.
+        let was : server_told r.effects s ≡ Some v = sym (server_told-append r.effects fs s) ∙ is in
+        let inside = h.told_made s v was in
+        elim (h.told_linked s v was (subst IsAlive (get_or-append S.objects (Some (new_object kind.Server name) ∷ []) None s.0 inside) alive)) as (λ _. (server_of (made name).servers s ≡ Some v) ⊎ (is_closing (made name).servers v ≡ true)) [
+          | inl linked ↦ inl (ap link_of (get_or-set_other S.servers.sessions (length S.objects) s.0 None None (λ e. absurd (omega arith))) ∙ linked)
+          | inr closing ↦ inr (closing_kept v closing)
+        ];
   }
     where
       fs : List Effect
@@ -168,6 +178,21 @@ module _ (script : Script) (r : Reading) (S : State) (t : ObjNo) (done : Step) (
     ];
     unmade = λ o past. let old = h.unmade o past in let none = closings_same o in omega arith;
     places = λ k row is. let old = h.places k row is in record { first = old.first; is = old.is; role = old.role; place = let a = old.place in omega arith };
+    uses = λ u o row is used. used_told-append r.effects fs u ∙ h.uses u o row is used;
+    told_made = λ x o is. elim (cases_eq s.0 x.0) as (λ _. x.0 < length S.objects) [
+      | inl at ↦ let inside = may.made in omega arith
+      | inr apart ↦ h.told_made x o (before_join x o apart is)
+    ];
+    told_linked = λ x o is alive. elim (cases_eq s.0 x.0) as (λ _. (server_of (joined s v slots).servers x ≡ Some o) ⊎ (is_closing (joined s v slots).servers o ≡ true)) [
+      | inl at ↦
+          let new : server_of (joined s v slots).servers x ≡ Some v = ap (λ (n : ℕ). link_of (get_or (joined s v slots).servers.sessions n None)) (sym at) ∙ ap link_of (get_or-set_same S.servers.sessions s.0 (Some (new_session v slots t)) None inside) in
+          let now : server_told told.effects x ≡ Some v = server_told-append r.effects fs x ∙ ap (λ (b : Bool). or_before (one_if b v) (server_told r.effects x)) (eq-eqb s.0 x.0 at) in
+          inl (new ∙ (sym now ∙ is))
+      | inr apart ↦ elim (h.told_linked x o (before_join x o apart is) alive) as (λ _. (server_of (joined s v slots).servers x ≡ Some o) ⊎ (is_closing (joined s v slots).servers o ≡ true)) [
+        | inl linked ↦ inl (ap link_of (get_or-set_other S.servers.sessions s.0 x.0 (Some (new_session v slots t)) None (λ e. apart (sym e))) ∙ linked)
+        | inr closing ↦ inr (closing_kept o closing)
+      ]
+    ];
   }
     where
       fs : List Effect
@@ -175,6 +200,9 @@ module _ (script : Script) (r : Reading) (S : State) (t : ObjNo) (done : Step) (
 
       told : Reading
       told = further r done fs (λ k. 0)
+
+      before_join : (x o : ObjNo) → (s.0 ≡ x.0 → ⊥) → server_told told.effects x ≡ Some o → server_told r.effects x ≡ Some o
+      before_join x o apart is = sym (server_told-append r.effects fs x ∙ ap (λ (b : Bool). or_before (one_if b v) (server_told r.effects x)) (eqb_apart s.0 x.0 apart)) ∙ is
 
       inside : s.0 < length S.servers.sessions
       inside = let a = may.made in let b = rows.sized.objects_few in let c = rows.servers.sessions_sized in omega arith

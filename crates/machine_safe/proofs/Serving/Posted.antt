@@ -14,14 +14,14 @@ use Rattle.machine.specs.declared.moves.Move.{Move}
 use Rattle.machine.specs.declared.moves.Move.TheVariants.{Messages}
 use Rattle.machine.specs.declared.state.State.{State}
 use Rattle.machine_safe.proofs.Deaths.Other.{serving_bit}
-use Rattle.machine_safe.proofs.Serving.Deeds.{IsSending, status_of_way}
+use Rattle.machine_safe.proofs.Serving.Deeds.{IsSending, status_of_way, IsAnswered}
 use Rattle.machine_safe.proofs.Serving.Doing.{Doing, IsGoing, fits-front, going, keeps-doing, perform-append, tell-append}
 use Rattle.machine_safe.proofs.Serving.Keeps.{Keeps, changing-none, changing_bit, message-none, message_bit, there-row}
 use Rattle.machine_safe.proofs.Serving.Letters.{letters-more}
 use Rattle.machine_safe.proofs.Serving.Quiet.{Post, post_of, quiet-each, posts}
 use Rattle.machine_safe.proofs.Serving.Reading.{reading}
 use Rattle.machine_safe.proofs.Serving.Served.{served-made}
-use Rattle.machine_safe.proofs.Serving.Turns.{Book, IsTurn, entry_for, served-doing}
+use Rattle.machine_safe.proofs.Serving.Turns.{Book, IsTurn, entry_for, served-doing, sent-answer}
 use Rattle.machine_safe.specs.CountAfter.{effects_of, is_by}
 use Rattle.machine_safe.specs.Sent.{Accepts, accepts, finishes, instruction_in, status_by}
 use Rattle.machine_safe.specs.Served.{ends, is_closing_in, server_told}
@@ -30,21 +30,30 @@ use Rattle.move_laws.proofs.Lives.LivesMove.{zero_or}
 use Rattle.move_laws.proofs.MoveLaws.RowMoves.{silent}
 use Rattle.script_types.specs.declared.script.Script.{Script}
 use Rattle.state_rows.specs.MessageChanges.{next_number}
-use Rattle.state_rows.specs.ServerRows.{IsServer, closes, server_at}
+use Rattle.state_rows.specs.ServerRows.{IsServer, closes, server_at, link_of, session_at}
 use Rattle.state_rows.specs.declared.messages.MsgRow.{MsgRow}
 use Rattle.state_rows.specs.declared.servers.ServerRow.{ServerRow}
-use Rattle.std.proofs.Common.{List, Some, [], ap, arith, false, refl, subst, sym, ℕ, ◌++◌, ◌+◌, ◌<◌, ◌∙◌, ◌∷◌, ◌≡◌}
+use Rattle.std.proofs.Common.{List, Some, [], ap, arith, false, refl, subst, sym, ℕ, ◌++◌, ◌+◌, ◌<◌, ◌∙◌, ◌∷◌, ◌≡◌, Bool, None, Option}
 use Rattle.std.proofs.lemmas.Bool.{eq-eqb}
 use Rattle.sym_base.specs.declared.kind.Slots.{Slots}
 use Rattle.sym_base.specs.declared.number.MsgNo.{MsgNo}
 use Rattle.sym_base.specs.declared.number.ObjNo.{ObjNo}
 use Rattle.std.proofs.lemmas.List.{map-append}
+use Rattle.machine.specs.Messaging.{slots_of_row}
+use Rattle.machine_safe.proofs.Serving.Slots.{sent_of, slotted-keeps}
+use Rattle.machine_safe.specs.Slotted.{is_send, sent_told, slots_in}
+use Rattle.state_rows.specs.MessageRows.{is_async}
+use Rattle.state_rows.specs.declared.messages.Way.{Way}
+use Rattle.state_rows.specs.declared.messages.Way.TheVariants.{Async, Disconnect, Sync}
+use Rattle.state_rows.specs.declared.servers.SessionRow.{SessionRow}
+use Rattle.std.specs.Prelude.{if◌then◌else◌}
 
 -- what moves do in which one message is accepted
-record IsPosted (S T : State) (t : ObjNo) (row : MsgRow) (effects : List Effect) : Type 0 where
+record IsPosted (S T : State) (t : ObjNo) (slots : Slots) (row : MsgRow) (effects : List Effect) : Type 0 where
   pub number : MsgNo
   pub next : number.0 ≡ S.messages.accepted + 1
-  pub posts : posts T ≡ posts S ++ record { number = number; session = row.session; server = row.server; client = row.client; way = row.way } ∷ []
+  pub posts : posts T ≡ posts S ++ record { number = number; session = row.session; server = row.server; client = row.client; way = row.way; slots = slots } ∷ []
+  pub pool : T.messages.pool ≡ S.messages.pool
   pub more : T.messages.accepted ≡ S.messages.accepted + 1
   pub rest : List Effect
   pub told : effects ≡ effect.Accept number ∷ effect.Plus (holder.Message number) row.session ∷ effect.Plus (holder.Message number) row.client ∷ rest
@@ -55,7 +64,7 @@ abbrev posts_of : State → List Post
 posts_of X = posts X
 
 posted-moves : (script : Script) (S : State) (t : ObjNo) (front back : List Move) (slots : Slots) (row : MsgRow) → EachFits script t (front ++ Messages (Accept slots row) ∷ back) S → tell t front S ≡ [] → total message_bit front ≡ 0 → total message_bit back ≡ 0
-    → IsPosted S (perform t (front ++ Messages (Accept slots row) ∷ back) S) t row (tell t (front ++ Messages (Accept slots row) ∷ back) S)
+    → IsPosted S (perform t (front ++ Messages (Accept slots row) ∷ back) S) t slots row (tell t (front ++ Messages (Accept slots row) ∷ back) S)
 posted-moves script S t front back slots row fits silent quiet still =
     let T = perform t front S in
     let m : Move = Messages (Accept slots row) in
@@ -70,7 +79,8 @@ posted-moves script S t front back slots row fits silent quiet still =
     record {
       number = n;
       next = let a = before.accepted in omega arith;
-      posts = ap posts_of performed ∙ (behind.posts ∙ (map-append post_of T.messages.outstanding (record { number = n; slots = slots; row = row } ∷ []) ∙ ap (λ (l : List Post). l ++ record { number = n; session = row.session; server = row.server; client = row.client; way = row.way } ∷ []) before.posts));
+      posts = ap posts_of performed ∙ (behind.posts ∙ (map-append post_of T.messages.outstanding (record { number = n; slots = slots; row = row } ∷ []) ∙ ap (λ (l : List Post). l ++ record { number = n; session = row.session; server = row.server; client = row.client; way = row.way; slots = slots } ∷ []) before.posts));
+      pool = ap (λ (X : State). X.messages.pool) performed ∙ (behind.pool ∙ before.pool);
       more = ap (λ (X : State). X.messages.accepted) performed ∙ (let a = behind.accepted in let b = before.accepted in omega arith);
       rest = tell t back U;
       told = told;
@@ -78,12 +88,17 @@ posted-moves script S t front back slots row fits silent quiet still =
       unfinished = λ k. ap (λ (l : List Effect). finishes l k) told ∙ behind.finishes k;
     }
 
+session-row : (x : Option SessionRow) (v : ObjNo) → link_of x ≡ Some v → (row : SessionRow) × (x ≡ Some row)
+session-row None v e = absurd (cc)
+session-row (Some row) v e = (row, refl)
+
 module _ (script : Script) (before : List Entry) (S : State) (place : ℕ) (t : ObjNo) (rows : AreRows script S) (book : Book script before S) where
   pub turn-sends : (d : Decision) → IsSending S t (instruction_in script before t) d → Doing script S t d.moves → IsTurn script before (entry_for place t S d) (perform t d.moves S)
   turn-sends d is does = record {
     book = record {
-      served = served-doing script before S place t rows book d does changing is.even is.closed;
-      letters = letters-more script before S T e book.letters (λ p among. keeps.unlinked p.session) post p.posts p.more by p.next p.none p.unfinished refl refl linked (keeps.unlinked is.row.session) keeps.unended lasts way;
+      served = served-doing script before S place t rows book d does changing is.even is.closed (λ v some. let none = is.detached v in absurd (omega arith));
+      letters = letters-more script before S T e book.letters (λ p among. keeps.unlinked p.session) post p.posts p.more by p.next p.none p.unfinished refl refl linked (keeps.unlinked is.row.session) keeps.unended lasts way slots sends;
+      slotted = slotted-keeps script before e S T book.slotted keeps.unlinked keeps.slots p.pool;
     };
     lawful = record {
       acceptance = λ some. record {
@@ -99,6 +114,7 @@ module _ (script : Script) (before : List Entry) (S : State) (place : ℕ) (t : 
       };
       finish = λ m some. let a = p.unfinished m in absurd (omega arith);
       end = λ v some. let a = keeps.unended v in absurd (omega arith);
+      send = λ asked. sent-answer script before S place t d is.row.session is.row.server rows book is.linked is.accepting (let a = ap accepts p.told in let b = p.none in omega arith) (subst (λ (x : Slots). IsAnswered S t is.row.session x d) is.of_session (is.send asked));
     };
   }
     where
@@ -123,11 +139,11 @@ module _ (script : Script) (before : List Entry) (S : State) (place : ℕ) (t : 
       keeps : Keeps S T t d.moves e.effects
       keeps = keeps-doing script S t d.moves does rows (served-made script (reading before) S book.served) changing
 
-      p : IsPosted S T t is.row e.effects
-      p = subst (λ (l : List Move). IsPosted S (perform t l S) t is.row (tell t l S)) (sym is.moves) (posted-moves script S t is.front is.back is.slots is.row goes.each is.silent (message-none is.front is.quiet) is.still)
+      p : IsPosted S T t is.slots is.row e.effects
+      p = subst (λ (l : List Move). IsPosted S (perform t l S) t is.slots is.row (tell t l S)) (sym is.moves) (posted-moves script S t is.front is.back is.slots is.row goes.each is.silent (message-none is.front is.quiet) is.still)
 
       post : Post
-      post = record { number = p.number; session = is.row.session; server = is.row.server; client = is.row.client; way = is.row.way }
+      post = record { number = p.number; session = is.row.session; server = is.row.server; client = is.row.client; way = is.row.way; slots = is.slots }
 
       by : Accepts e p.number
       by = record { session = is.row.session; client = is.row.client; rest = p.rest; told = p.told }
@@ -150,3 +166,19 @@ module _ (script : Script) (before : List Entry) (S : State) (place : ℕ) (t : 
 
       way : status_by e.step (instruction_in script before is.row.client) ≡ status_of_way is.row.way
       way = ap (λ (u : ObjNo). status_by d.step (instruction_in script before u)) is.client ∙ is.way
+
+      -- its session has the slots that are told
+      session : (r : SessionRow) × (session_at S.servers is.row.session ≡ Some r)
+      session = session-row (session_at S.servers is.row.session) is.row.server is.linked
+
+      slots : slots_in script before is.row.session ≡ Some is.slots
+      slots = book.slotted.sessions is.row.session session.0 session.1 ∙ ap Some (sym (is.of_session ∙ ap slots_of_row session.1))
+
+      -- and it is one of the sends where it takes a slot
+      sends : (if is_send e.step then sent_told e.effects else []) ≡ sent_of is.row.way post
+      sends = ap (λ (b : Bool). if b then sent_told e.effects else []) is.asks ∙ by is.row.way
+        where
+          by : (way : Way) → (if is_async way then sent_told e.effects else []) ≡ sent_of way post
+          by (Async n) = ap sent_told p.told
+          by Sync = refl
+          by Disconnect = refl

@@ -31,6 +31,7 @@ use Rattle.std.specs.Prelude.{if◌then◌else◌}
 use Rattle.sym_base.specs.declared.number.MsgNo.{MsgNo}
 use Rattle.sym_base.specs.declared.number.ObjNo.{ObjNo}
 use Rattle.machine_safe.specs.Sent.{accepts, finishes}
+use Rattle.sym_base.specs.declared.kind.Slots.{Slots}
 
 -- what stays of an outstanding message until it is finished
 pub record Post : Type 0 where
@@ -39,9 +40,10 @@ pub record Post : Type 0 where
   pub server : ObjNo
   pub client : ObjNo
   pub way : Way
+  pub slots : Slots
 
 abbrev pub post_of : Message → Post
-post_of message = record { number = message.number; session = message.row.session; server = message.row.server; client = message.row.client; way = message.row.way }
+post_of message = record { number = message.number; session = message.row.session; server = message.row.server; client = message.row.client; way = message.row.way; slots = message.slots }
 
 abbrev pub posts : State → List Post
 posts S = map post_of S.messages.outstanding
@@ -49,16 +51,18 @@ posts S = map post_of S.messages.outstanding
 pub record IsQuiet (S T : State) (effects : List Effect) : Type 0 where
   pub posts : posts T ≡ posts S
   pub accepted : T.messages.accepted ≡ S.messages.accepted
+  pub pool : T.messages.pool ≡ S.messages.pool
   pub accepts : accepts effects ≡ 0
   pub finishes : (m : MsgNo) → finishes effects m ≡ 0
 
 pub quiet-none : (S : State) → IsQuiet S S []
-quiet-none S = record { posts = refl; accepted = refl; accepts = refl; finishes = λ m. refl }
+quiet-none S = record { posts = refl; accepted = refl; pool = refl; accepts = refl; finishes = λ m. refl }
 
 pub quiet-then : (S T U : State) (es fs : List Effect) → IsQuiet S T es → IsQuiet T U fs → IsQuiet S U (es ++ fs)
 quiet-then S T U es fs h g = record {
   posts = g.posts ∙ h.posts;
   accepted = g.accepted ∙ h.accepted;
+  pool = g.pool ∙ h.pool;
   accepts = let a = accepts-append es fs in let b = h.accepts in let c = g.accepts in omega arith;
   finishes = λ m. let a = finishes-append es fs m in let b = h.finishes m in let c = g.finishes m in omega arith;
 }
@@ -67,20 +71,21 @@ taken-posts : (m : MsgNo) (xs : List Message) → map post_of (map (edited m tak
 taken-posts m [] = refl
 taken-posts m (x ∷ xs) = ap (λ (p : Post). p ∷ map post_of (map (edited m taken_row) xs)) (edited-value post_of m taken_row x refl) ∙ ap (λ (l : List Post). post_of x ∷ l) (taken-posts m xs)
 
-quiet-take : (r : MessageRows) (next : Option MsgNo) → (map post_of (taken r next).outstanding ≡ map post_of r.outstanding) × ((taken r next).accepted ≡ r.accepted)
-quiet-take r None = (refl, refl)
-quiet-take r (Some m) = (taken-posts m r.outstanding, refl)
+quiet-take : (r : MessageRows) (next : Option MsgNo) → (map post_of (taken r next).outstanding ≡ map post_of r.outstanding) × ((taken r next).accepted ≡ r.accepted) × ((taken r next).pool ≡ r.pool)
+quiet-take r None = (refl, refl, refl)
+quiet-take r (Some m) = (taken-posts m r.outstanding, refl, refl)
 
 quiet-told : (S T : State) (effects : List Effect) → T.messages ≡ S.messages → accepts effects ≡ 0 → ((m : MsgNo) → finishes effects m ≡ 0) → IsQuiet S T effects
 quiet-told S T effects same accepts finishes = record {
   posts = ap (λ (r : MessageRows). map post_of r.outstanding) same;
   accepted = ap (λ (r : MessageRows). r.accepted) same;
+  pool = ap (λ (r : MessageRows). r.pool) same;
   accepts = accepts;
   finishes = finishes;
 }
 
 pub quiet-move : (script : Script) (S : State) (t : ObjNo) (m : Move) → FitsMove script t m S → message_bit m ≡ 0 → IsQuiet S (moved t m S) (told m S)
-quiet-move script S t (Messages (Take o)) fits none = let taken = quiet-take S.messages (next_of S.messages o) in record { posts = taken.0; accepted = taken.1; accepts = refl; finishes = λ m. refl }
+quiet-move script S t (Messages (Take o)) fits none = let taken = quiet-take S.messages (next_of S.messages o) in record { posts = taken.0; accepted = taken.1; pool = taken.2; accepts = refl; finishes = λ m. refl }
 quiet-move script S t (Messages m) fits none = absurd (omega arith)
 quiet-move script S t (Lose h o) fits none = quiet-told S (moved t (Lose h o) S) (told (Lose h o) S) refl (close-accepts (is_last S o) h o) (close-finishes (is_last S o) h o)
 quiet-move script S t (Servers m) fits none = quiet-told S (moved t (Servers m) S) (server_told m) refl (server-accepts m) (server-finishes m)
@@ -103,8 +108,8 @@ quiet-each script S t (m ∷ ms) fits none = quiet-then S (moved t m S) (perform
 
 -- what is owed is paid
 pub quiet-pay : (S : State) (t : ObjNo) (what : Owed) → IsQuiet S (moved t (Pay what) S) (told (Pay what) S)
-quiet-pay S t (Sweep o) = record { posts = refl; accepted = refl; accepts = refl; finishes = λ m. refl }
-quiet-pay S t (Close h o) = record { posts = refl; accepted = refl; accepts = close-accepts (is_last S o) h o; finishes = λ m. close-finishes (is_last S o) h o m }
+quiet-pay S t (Sweep o) = record { posts = refl; accepted = refl; pool = refl; accepts = refl; finishes = λ m. refl }
+quiet-pay S t (Close h o) = record { posts = refl; accepted = refl; pool = refl; accepts = close-accepts (is_last S o) h o; finishes = λ m. close-finishes (is_last S o) h o m }
 
 -- no payment is a close of a handle
 pub pay-lost : (script : Script) (S : State) (t : ObjNo) (what : Owed) (rest : List Owed) (v : ObjNo) → AreRows script S → owed_of S t ≡ what ∷ rest → handles_lost (told (Pay what) S) v ≡ 0

@@ -14,12 +14,12 @@ use Rattle.machine.specs.declared.moves.Move.TheVariants.{Lose, Servers}
 use Rattle.machine.specs.declared.server_move.ServerMove.TheVariants.{End, Close}
 use Rattle.machine.specs.declared.state.State.{State}
 use Rattle.machine_safe.proofs.Deaths.Other.{advance_bit, closed_bit, doomed_bit, serving_bit}
-use Rattle.machine_safe.proofs.Serving.Acting.{behind-still, changing-handle, lost-behind}
+use Rattle.machine_safe.proofs.Serving.Acting.{behind-still, changing-handle, lost-behind, undetached-behind}
 use Rattle.machine_safe.proofs.Serving.Deeds.{IsClosing, IsStopping, behind}
 use Rattle.machine_safe.proofs.Serving.Doing.{Doing, IsGoing, going, going-then, keeps-going, quiet-doing}
 use Rattle.machine_safe.proofs.Serving.EffectSums.{ends-append, server_told-append}
 use Rattle.machine_safe.proofs.Serving.Fated.{doom-among, doom-told}
-use Rattle.machine_safe.proofs.Serving.Keeps.{Keeps, message_bit, steps_of}
+use Rattle.machine_safe.proofs.Serving.Keeps.{Keeps, message_bit, steps_of, WasSession}
 use Rattle.machine_safe.proofs.Serving.Kept.{AreMade, keeps-move}
 use Rattle.machine_safe.proofs.Serving.KeptRows.{closing-was}
 use Rattle.machine_safe.proofs.Serving.Letters.{letters-quiet}
@@ -44,6 +44,10 @@ use Rattle.std.proofs.lemmas.List.{append-nil}
 use Rattle.std.specs.Prelude.{Contains, filter, if◌then◌else◌, ◌==◌}
 use Rattle.sym_base.specs.declared.number.ObjNo.{ObjNo}
 use Rattle.machine_safe.proofs.Serving.Closing.{served-stopped, served-closing}
+use Rattle.machine_safe.proofs.Serving.KeptUses.{session-closed}
+use Rattle.machine_safe.proofs.Serving.Slots.{slotted-keeps}
+use Rattle.state_rows.specs.ServerRows.{session_at}
+use Rattle.state_rows.specs.declared.servers.SessionRow.{SessionRow}
 
 -- how often two objects are one
 abbrev same_bit : ObjNo → ObjNo → ℕ
@@ -71,8 +75,9 @@ module _ (script : Script) (before : List Entry) (S : State) (place : ℕ) (t : 
     book = record {
       served = served-same script r2 (reading (before ++ e ∷ [])) (perform t d.moves S) same whole;
       letters = letters-quiet script before S (perform t d.moves S) e book.letters (λ p among. unlinked p.session) q (λ p among. unended p.server);
+      slotted = slotted-keeps script before e S (perform t d.moves S) book.slotted unlinked slots q.pool;
     };
-    lawful = unserving script before e q.accepts q.finishes unended;
+    lawful = unserving script before e q.accepts q.finishes unended (λ sends. let unsent = is.unsent in absurd (cc));
   }
     where
       e : Entry
@@ -132,7 +137,7 @@ module _ (script : Script) (before : List Entry) (S : State) (place : ℕ) (t : 
           (λ x. let a = is.even.dooms x in let b = ap (total (closed_bit x)) is.moves in let c = ap (total (doomed_bit x)) is.moves in let f = doom-told t back mid x in omega arith)
           (λ x. doom-among t back mid x)
           (λ x row there. if_zero (closes_handle d.step) (handles_lost gs x) (let a = lost-each script mid t back x last.each in let b = lost-behind is.answers t x in omega arith))
-          (λ making. absurd (cc)))
+          (λ making. absurd (cc)) (λ x some. let none = undetached-behind is.answers t x in absurd (omega arith)))
 
       told_all : e.effects ≡ fs ++ gs
       told_all = ap (λ (l : List Move). tell t l S) is.moves
@@ -151,6 +156,12 @@ module _ (script : Script) (before : List Entry) (S : State) (place : ℕ) (t : 
       q : IsQuiet S (perform t d.moves S) e.effects
       q = quiet-doing script S t d.moves does (let a = ap (total message_bit) is.moves in let b = (behind-still is.answers t).1 in omega arith)
 
+      slots : (s : ObjNo) (row : SessionRow) → session_at (perform t d.moves S).servers s ≡ Some row → WasSession S.servers s row
+      slots s row is_row =
+          let after = keeps.slots s row (ap (λ (l : List Move). session_at (perform t l S).servers s) (sym is.moves) ∙ is_row) in
+          let first = loses.slots s after.old after.was in
+          record { old = first.old; was = first.was; slots = first.slots ∙ after.slots }
+
   -- a server stops
   pub turn-stops : (d : Decision) → IsStopping S t d → Doing script S t d.moves → IsTurn script before (entry_for place t S d) (perform t d.moves S)
   turn-stops d is does = record {
@@ -158,6 +169,8 @@ module _ (script : Script) (before : List Entry) (S : State) (place : ℕ) (t : 
       served = served-same script r1 (reading (before ++ e ∷ [])) (perform t d.moves S) same whole;
       letters = letters-quiet script before S (perform t d.moves S) e book.letters (λ p among. unlinked p.session) q
           (λ p among. let a = ended p.server in let none : same_bit is.server p.server ≡ 0 = if_not (is.server.0 == p.server.0) 1 (eqb_apart is.server.0 p.server.0 (λ at. left p among (sym at))) in omega arith);
+      slotted = slotted-keeps script before e S (perform t d.moves S) book.slotted unlinked
+          (λ s row is_row. session-closed (is_last (moved t (Servers (End is.server)) S) is.server) is.server S.servers s row (ap (λ (l : List Move). session_at (perform t l S).servers s) (sym is.moves) ∙ is_row)) q.pool;
     };
     lawful = record {
       acceptance = λ some. let a = q.accepts in absurd (omega arith);
@@ -166,6 +179,7 @@ module _ (script : Script) (before : List Entry) (S : State) (place : ℕ) (t : 
           let a = ended u in
           let own : is.server ≡ u = same_is is.server u (omega arith) in
           subst (NothingLeft before) own nothing;
+      send = λ sends. let unsent = is.unsent in absurd (cc);
     };
   }
     where

@@ -100,7 +100,6 @@ unserved-move script S t (Make kind name h) fits none = record { links = record 
 unserved-move script S t (Gain (Link s) o) fits none = absurd fits.0
 unserved-move script S t (Gain h o) fits none = record { links = record { unlinked = λ s. refl; unended = λ v. refl }; accepts = refl; finishes = λ m. refl; lost = λ v. refl }
 unserved-move script S t (Lose (Temp u) o) fits none = unserved-close (is_last S o) (Temp u) o refl
-unserved-move script S t (Lose (Link s) o) fits none = unserved-close (is_last S o) (Link s) o refl
 unserved-move script S t (Lose h o) fits none = absurd (omega arith)
 unserved-move script S t (Nano m) fits none = unserved-nano m
 unserved-move script S t (Requests m) fits none = unserved-request m

@@ -1,0 +1,64 @@
+-- The definition of safe busy answers, tried on a session with one slot: a `send` that is accepted, and one that isn't while that is outstanding;
+-- and two histories, changed by hand, that aren't safe.
+use Rattle.entry_log.specs.declared.effect.Effect.TheVariants as effect
+use Rattle.entry_log.specs.declared.effect.Holder.TheVariants as holder
+use Rattle.entry_log.specs.declared.step.Part.TheVariants as part
+use Rattle.entry_log.specs.declared.step.Step.TheVariants as step
+use Rattle.sym_base.specs.declared.word.Word.TheVariants as word
+use Rattle.entry_log.specs.declared.entry.Entry.{Entry}
+use Rattle.machine.specs.Boot.{boot_of}
+use Rattle.machine_safe.proofs.UnsafeMessages.{connects, acts, connected, first_end, joins, number, sends, served_script, serves}
+use Rattle.machine_safe.specs.CountAfter.{effects_of}
+use Rattle.machine_safe.specs.SafeBusy.{IsSafeBusy, IsSendAnswer, accepted_of, accepts_in, is_full_in}
+use Rattle.machine_safe.specs.Served.{server_told}
+use Rattle.machine_safe.specs.Slotted.{slots_in, used_told}
+use Rattle.std.proofs.Common.{List, None, Some, [], arith, refl, subst, sym, ℕ, ◌++◌, ◌∷◌, ◌≡◌}
+use Rattle.sym_base.specs.ErrorCode.{error_code}
+use Rattle.sym_base.specs.declared.error.Error.TheVariants.{ServerBusy}
+use Rattle.sym_base.specs.declared.number.ObjNo.{ObjNo}
+
+-- the client's look finds its session
+abbrev looks : ℕ → Entry
+looks place = acts place 5 (step.Of word.Send part.Look) (effect.Plus (holder.Temp (number 5)) (number 7) ∷ []) None
+
+abbrev is_refused : ℕ → Entry
+is_refused place = acts place 5 (step.Of word.Send part.Do) [] (Some (error_code ServerBusy))
+
+-- with a slot left, and with none
+abbrev with_slot : List Entry
+with_slot = serves ∷ joins ∷ connects ∷ first_end ∷ connected ∷ looks 6 ∷ []
+
+abbrev without_slot : List Entry
+without_slot = serves ∷ joins ∷ connects ∷ first_end ∷ connected ∷ looks 6 ∷ sends 7 2 ∷ looks 8 ∷ []
+
+is_accepted : IsSendAnswer served_script with_slot (sends 7 2)
+unfolding boot_of
+is_accepted = record { thread = number 5; actor = refl; session = number 7; used = refl; answer = refl; accepted = refl }
+
+is_busy : IsSendAnswer served_script without_slot (is_refused 9)
+unfolding boot_of
+is_busy = record { thread = number 5; actor = refl; session = number 7; used = refl; answer = refl; accepted = refl }
+
+-- how many messages a `send` over the session accepts, as told
+abbrev wanted : List Entry → ObjNo → ℕ
+wanted before s = accepted_of (accepts_in before (server_told (effects_of before) s)) (is_full_in served_script before s (slots_in served_script before s))
+
+-- No `send` is refused as busy with a slot left.
+busy_with_slot : IsSafeBusy served_script (with_slot ++ is_refused 7 ∷ []) → ⊥
+unfolding boot_of
+busy_with_slot safe =
+    let a = safe.answers with_slot (is_refused 7) [] refl refl in
+    let thread : number 5 ≡ a.thread = cc in
+    let session : Some (number 7) ≡ Some a.session = subst (λ (u : ObjNo). used_told (effects_of with_slot) u ≡ Some a.session) (sym thread) a.used in
+    let own : number 7 ≡ a.session = cc in
+    let none : ◌≡◌ {A = ℕ} 0 1 = subst (λ (s : ObjNo). 0 ≡ wanted with_slot s) (sym own) a.accepted in absurd (omega arith)
+
+-- And none is accepted with all slots used.
+accepted_without_slot : IsSafeBusy served_script (without_slot ++ sends 9 3 ∷ []) → ⊥
+unfolding boot_of
+accepted_without_slot safe =
+    let a = safe.answers without_slot (sends 9 3) [] refl refl in
+    let thread : number 5 ≡ a.thread = cc in
+    let session : Some (number 7) ≡ Some a.session = subst (λ (u : ObjNo). used_told (effects_of without_slot) u ≡ Some a.session) (sym thread) a.used in
+    let own : number 7 ≡ a.session = cc in
+    let none : ◌≡◌ {A = ℕ} 1 0 = subst (λ (s : ObjNo). 1 ≡ wanted without_slot s) (sym own) a.accepted in absurd (omega arith)
