@@ -1,4 +1,4 @@
--- The function of a message that an instruction sends is one of 31 bits.
+-- The function of a message that an instruction sends is one of 31 bits, and an argument that it copies from or to one of four.
 use Rattle.std.proofs.Common.{◌≡◌, ℕ, ◌<◌, true, subst, arith}
 use Rattle.script_types.specs.declared.instruction.Args.{Args}
 use Rattle.script_types.specs.declared.instruction.Instr.{Instr}
@@ -19,3 +19,15 @@ call_small what x function args is ranges =
     let h = subst (λ (w : Instr). is_source_line (line.Instr w) ≡ true) is ranges in
     let v = in_form (instr_form (instr.Call x function args)) h in
     let few = (number_in 0 2147483647 function v.0.1.0).1 in omega arith
+
+pub read_small : (what : Instr) (x arg offset long at : ℕ) → what ≡ instr.Read x arg offset long at → is_source_line (line.Instr what) ≡ true → arg < 4
+read_small what x arg offset long at is ranges =
+    let h = subst (λ (w : Instr). is_source_line (line.Instr w) ≡ true) is ranges in
+    let v = in_form (instr_form (instr.Read x arg offset long at)) h in
+    let few = (number_in 0 3 arg v.0.1.0).1 in omega arith
+
+pub write_small : (what : Instr) (x arg offset long from : ℕ) → what ≡ instr.Write x arg offset long from → is_source_line (line.Instr what) ≡ true → arg < 4
+write_small what x arg offset long from is ranges =
+    let h = subst (λ (w : Instr). is_source_line (line.Instr w) ≡ true) is ranges in
+    let v = in_form (instr_form (instr.Write x arg offset long from)) h in
+    let few = (number_in 0 3 arg v.0.1.0).1 in omega arith

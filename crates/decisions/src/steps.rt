@@ -24,8 +24,8 @@ use machine::{Decision, ThreadRow};
 use readings::Reads;
 use script_types::{Instr, Script};
 use server_decisions::{
-    call_step, complete_do, connect_return, connect_step, function_do, receive_step, send_step,
-    server_do,
+    call_step, complete_do, connect_return, connect_step, function_do, read_step, receive_step,
+    send_step, server_do, write_step,
 };
 use sym_base::ThreadNo;
 use thread_decisions::{
@@ -205,7 +205,8 @@ fn server_step<R: Reads>(
     }
 }
 
-/// The next step of an instruction on bytes of memory. A copy isn't built yet and does nothing.
+/// The next step of an instruction on bytes of memory.
+#[tactic(auto, using(crate::proofs::Functions::read_small, crate::proofs::Functions::write_small))]
 fn memory_step<R: Reads>(
     decision: &mut Decision,
     reads: &R,
@@ -214,12 +215,20 @@ fn memory_step<R: Reads>(
     instr: &Instr,
 )
     requires group { group_of instr.now ≡ group.Memory }
+    requires readable { R.is_readable reads.now }
+    requires registers { HasRegisters instr.now }
+    requires ranges { IsTrue (is_source_line (line.Instr instr.now)) }
     ensures { (script : Script) → decision.new ≡ step_of script (R.state reads.now) thread row.now instr.now row.now.part }
 {
     match instr {
         Instr::Fill(at, length, byte) => fill_do(decision, thread, row, *at, *length, *byte),
         Instr::Peek(at) => peek_do(decision, reads, thread, row, *at),
-        Instr::Read(_, _, _, _, _) | Instr::Write(_, _, _, _, _) => nothing(decision),
+        Instr::Read(register, arg, offset, length, at) => read_step(
+            decision, reads, thread, row, *register, *arg, *offset, *length, *at,
+        ),
+        Instr::Write(register, arg, offset, length, from) => write_step(
+            decision, reads, thread, row, *register, *arg, *offset, *length, *from,
+        ),
         _ => unreachable!(),
     }
 }

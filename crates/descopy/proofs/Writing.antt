@@ -7,7 +7,7 @@ use Rattle.std.proofs.lemmas.List.Edits.{paste_all, paste_more, paste_none}
 use Rattle.sym_base.specs.declared.number.ObjNo.{ObjNo}
 use Rattle.procs.specs.ProcsRows.{ProcsRows}
 use Rattle.procs.specs.Rows.{bytes_of, is_process, no_bytes, with_process}
-use Rattle.descopy.specs.Memory.{overwritten, with_memory}
+use Rattle.copy_rules.specs.Memory.{overwritten, with_memory}
 
 -- bytes, of which the first k of a piece stand from an offset on
 abbrev pub pasted : ℕ → List ℕ → ℕ → List ℕ → List ℕ

@@ -1,10 +1,9 @@
 //! Copying bytes of memory.
 ghost use Rattle.std.specs.Prelude.{◌≡◌, ◌+◌, ◌^◌, ◌<◌, ◌≤◌, IsTrue, length, take};
 ghost use Rattle.procs.specs.Rows.{is_process};
-ghost use Rattle.descopy.specs.Memory.{bytes_from, copied, overwritten, with_memory};
+ghost use Rattle.copy_rules.specs.Memory.{bytes_from, copied, overwritten, with_memory};
 
-use crate::job::Place;
-use crate::sizes::PIECE;
+use copy_rules::{PIECE, Place};
 use procs::Procs;
 
 /// So many bytes of a process from a place on, in front of others that mean nothing.
@@ -31,14 +30,16 @@ fn write_bytes(procs: &mut Procs, to: Place, bytes: &[u8])
     }
 }
 
-/// Copies a piece of so many bytes. All are read before one is written.
+/// Copies a piece of so many bytes, where there is such a process. All are read before one is written.
 pub fn copy(procs: &mut Procs, from: Place, to: Place, count: u16)
-    requires process { IsTrue (is_process procs.old to.process) }
     requires few { count ≤ 64 }
     requires place { from.at + count < 2 ^ 16 }
     requires inside { to.at + count ≤ 1024 }
     ensures { procs.new ≡ record procs.old { processes = copied procs.old.processes from to count } }
 {
+    if !procs.is_process(to.process) {
+        return;
+    }
     let piece = read_bytes(procs, from, count);
     write_bytes(procs, to, &piece[..count as usize]);
 }

@@ -4,12 +4,8 @@
 mod bytes;
 mod copies;
 mod ends;
-mod job;
-mod places;
-mod refusals;
-mod sizes;
 #[cfg(test)]
 mod tests;
 
 pub use copies::Descopy;
-pub use job::{Job, Piece};
+pub use copy_rules::{Job, Piece};

@@ -1,10 +1,7 @@
 //! Worked examples: a server, thread 3 of process 2, that took message 1 of a client, thread 5 of process 4 or 2.
-ghost use Rattle.std.specs.Bool.{OnTrue};
-ghost use Rattle.descopy.specs.Ends.{IsAdded};
-
 use crate::ends::ends_of;
-use crate::sizes::read_size;
 use crate::{Descopy, Job, Piece};
+use copy_rules::read_size;
 use messages::Messages;
 use procs::Procs;
 use state_rows::{Stage, Way};
@@ -66,24 +63,13 @@ fn put(procs: &mut Procs, p: ObjNo, at: u16, byte: u8) {
     }
 }
 
-/// Whether a thread was added with its process.
-fn is_added(procs: &Procs, t: ThreadNo) -> bool
-    ensures { OnTrue result (IsAdded procs.now t) }
-{
-    procs.is_thread(t) && procs.is_process(procs.process_of(t))
-}
-
 /// A piece of a read, None where the tables don't have what it needs.
 fn read(procs: &mut Procs, messages: &mut Messages, job: Job) -> Option<Piece> {
-    let client = messages.row(job.m)?.client;
     if !messages.taken(job.m) || job.arg > 3 {
         return None;
     }
-    if !is_added(procs, job.caller) || !is_added(procs, client) {
-        return None;
-    }
     let ends = ends_of(procs, messages, &job);
-    if job.done != 0 && job.done >= read_size(&ends, &job) {
+    if job.done > read_size(&ends, &job) {
         return None;
     }
     let mut tables = Descopy { procs, messages };
@@ -92,11 +78,7 @@ fn read(procs: &mut Procs, messages: &mut Messages, job: Job) -> Option<Piece> {
 
 /// A piece of a write, None where the tables don't have what it needs.
 fn write(procs: &mut Procs, messages: &mut Messages, job: Job) -> Option<Piece> {
-    let client = messages.row(job.m)?.client;
-    if !messages.taken(job.m) || job.arg > 3 || (job.done != 0 && job.done >= job.len) {
-        return None;
-    }
-    if !is_added(procs, job.caller) || !is_added(procs, client) {
+    if !messages.taken(job.m) || job.arg > 3 || job.done > job.len {
         return None;
     }
     let mut tables = Descopy { procs, messages };

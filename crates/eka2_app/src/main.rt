@@ -7,6 +7,8 @@ mod command_tests;
 #[cfg(test)]
 mod compared;
 #[cfg(test)]
+mod copy_tests;
+#[cfg(test)]
 mod death_tests;
 #[cfg(test)]
 mod server_tests;

@@ -7,6 +7,7 @@ use Rattle.entry_log.specs.declared.step.Part.TheVariants as part
 use Rattle.script_types.specs.declared.instruction.Instr.{Instr}
 use Rattle.script_types.specs.declared.instruction.Instr.TheVariants as instr
 use Rattle.script_types.specs.declared.script.Script.{Script}
+use Rattle.machine.specs.Copying.{unless_done}
 use Rattle.machine.specs.declared.state.State.{State}
 use Rattle.state_rows.specs.declared.thread.ThreadRow.{ThreadRow}
 use Rattle.machine.specs.declared.task.Task.{Task}
@@ -45,7 +46,7 @@ use Rattle.machine.specs.LogonCalls.{logon_do, reason_of}
 use Rattle.machine.specs.Reaping.{give_up}
 use Rattle.kcore.proofs.BodiesApart.{body_apart, end_apart}
 use Rattle.kcore.proofs.ReadyApart.{next_apart}
-use Rattle.kcore.proofs.ServersApart.{call_apart, close_apart, closes_apart, complete_apart, connect_apart, finishes_apart, function_apart, receive_apart, send_apart}
+use Rattle.kcore.proofs.ServersApart.{call_apart, close_apart, closes_apart, complete_apart, connect_apart, finishes_apart, function_apart, read_apart, write_apart, receive_apart, send_apart}
 
 queue_apart : (S : State) (qs : List ObjNo) (t : ObjNo) (dfc : Option ℕ) → queue_named (with_ready S qs) t dfc ≡ queue_named S t dfc
 queue_apart S qs t None = refl
@@ -167,7 +168,8 @@ step_apart script S qs t row (instr.Call x function args) p = call_apart S qs t 
 step_apart script S qs t row (instr.Receive x y) p = receive_apart S qs t row x y p
 step_apart script S qs t row (instr.Complete y code) p = complete_apart S qs t row y code
 step_apart script S qs t row (instr.Function y) p = function_apart S qs t row y
-step_apart script S qs t row _ p = refl
+step_apart script S qs t row (instr.Read y arg offset size at) p = ap (unless_done p) (read_apart S qs t row y arg offset size at)
+step_apart script S qs t row (instr.Write y arg offset size from) p = ap (unless_done p) (write_apart S qs t row y arg offset size from)
 
 -- what a doomed thread gives up
 give_apart : (S : State) (qs : List ObjNo) (t : ObjNo) (row : ThreadRow) (what : Holding) → give_up (with_ready S qs) t row what ≡ give_up S t row what

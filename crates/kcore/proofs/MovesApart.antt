@@ -6,7 +6,7 @@ use Rattle.script_types.specs.declared.script.Script.{Script}
 use Rattle.entry_log.specs.declared.effect.Effect.{Effect}
 use Rattle.state_rows.specs.declared.duty.Owed.TheVariants.{Close, Sweep}
 use Rattle.machine.specs.declared.moves.Move.{Move}
-use Rattle.machine.specs.declared.moves.Move.TheVariants.{Make, Gain, Lose, Find, Miss, GoOn, Keep, Write, WriteMessage, PutDown, Advance, Wake, SetPriority, Nano, Deferred, Requests, Locks, Logons, Death, Servers, Messages, Fill, Pay}
+use Rattle.machine.specs.declared.moves.Move.TheVariants.{Make, Gain, Lose, Find, Miss, GoOn, Keep, Write, WriteMessage, PutDown, Advance, Wake, SetPriority, Nano, Deferred, Requests, Locks, Logons, Death, Servers, Messages, Copies, Fill, Pay}
 use Rattle.machine.specs.declared.moves.Move.TheVariants as move
 use Rattle.machine.specs.declared.state.State.{State}
 use Rattle.machine.specs.Arrivals.{is_listed, touched, taken_out, arrive, arrivals}
@@ -40,6 +40,7 @@ moved_apart t (Death m) S qs = refl
 moved_apart t (Servers m) S qs = refl
 moved_apart t (Messages m) S qs = refl
 moved_apart t (Fill p at size byte) S qs = refl
+moved_apart t (Copies m) S qs = refl
 moved_apart t (Pay (Close h o)) S qs = refl
 moved_apart t (Pay (Sweep o)) S qs = refl
 
@@ -67,6 +68,7 @@ told_apart (Death m) S qs = refl
 told_apart (Servers m) S qs = refl
 told_apart (Messages m) S qs = refl
 told_apart (Fill p at size byte) S qs = refl
+told_apart (Copies m) S qs = refl
 told_apart (Pay (Close h o)) S qs = refl
 told_apart (Pay (Sweep o)) S qs = refl
 

@@ -35,6 +35,7 @@ use Rattle.machine.specs.Handles.{holder_of, object_at}
 use Rattle.machine.specs.Messaging.{close_refused, connects, disconnects, finish, no_args, open_server, post, reply, reply_to, slots_of, wake_receiver}
 use Rattle.machine.specs.Reaping.{finish_message}
 use Rattle.machine.specs.Rows.{thread_of}
+use Rattle.machine.specs.Copying.{read_from, read_piece, write_from, write_piece}
 use Rattle.machine.specs.ServerCalls.{complete_do, complete_message, function_do, function_of, message_at, receive_do, receive_done, receive_step, taken_by}
 use Rattle.machine.specs.SessionCalls.{args_of, call_do, call_step, call_to, connect_done, connect_make, connect_send, connect_step, connect_to, send_connect, send_do, send_step, send_to, session_made}
 use Rattle.machine.specs.ThreadCalls.{is_live}
@@ -97,6 +98,21 @@ complete_apart S qs t row y code = ap (complete_message (with_ready S qs) t code
 
 pub function_apart : (S : State) (qs : List ObjNo) (t : ObjNo) (row : ThreadRow) (y : ℕ) → function_do (with_ready S qs) t row y ≡ function_do S t row y
 function_apart S qs t row y = ap (function_of t) (taken_apart S qs t (message_of S.messages _))
+
+-- copies
+read_with_apart : (S : State) (qs : List ObjNo) (t : ObjNo) (row : ThreadRow) (arg offset size at : ℕ) (found : Option Message) → read_from (with_ready S qs) t row arg offset size at found ≡ read_from S t row arg offset size at found
+read_with_apart S qs t row arg offset size at None = refl
+read_with_apart S qs t row arg offset size at (Some message) = refl
+
+pub read_apart : (S : State) (qs : List ObjNo) (t : ObjNo) (row : ThreadRow) (y arg offset size at : ℕ) → read_piece (with_ready S qs) t row y arg offset size at ≡ read_piece S t row y arg offset size at
+read_apart S qs t row y arg offset size at = ap (read_from (with_ready S qs) t row arg offset size at) (taken_apart S qs t (message_of S.messages _)) ∙ read_with_apart S qs t row arg offset size at (message_at S t row y)
+
+write_with_apart : (S : State) (qs : List ObjNo) (t : ObjNo) (row : ThreadRow) (arg offset size from : ℕ) (found : Option Message) → write_from (with_ready S qs) t row arg offset size from found ≡ write_from S t row arg offset size from found
+write_with_apart S qs t row arg offset size from None = refl
+write_with_apart S qs t row arg offset size from (Some message) = refl
+
+pub write_apart : (S : State) (qs : List ObjNo) (t : ObjNo) (row : ThreadRow) (y arg offset size from : ℕ) → write_piece (with_ready S qs) t row y arg offset size from ≡ write_piece S t row y arg offset size from
+write_apart S qs t row y arg offset size from = ap (write_from (with_ready S qs) t row arg offset size from) (taken_apart S qs t (message_of S.messages _)) ∙ write_with_apart S qs t row arg offset size from (message_at S t row y)
 
 receives_apart : (S : State) (qs : List ObjNo) (t : ObjNo) (y : ℕ) (uses : Option ObjNo) → receive_do (with_ready S qs) t y uses ≡ receive_do S t y uses
 receives_apart S qs t y None = refl

@@ -15,7 +15,7 @@ use Rattle.state_rows.specs.declared.object.ObjectRow.{ObjectRow}
 use Rattle.state_rows.specs.ObjectRows.{is_dead_row, is_session}
 use Rattle.objects.specs.Rows.{kept_name}
 use Rattle.machine.specs.declared.moves.Move.{Move}
-use Rattle.machine.specs.declared.moves.Move.TheVariants.{Make, Gain, Lose, Find, Miss, GoOn, Keep, Write, WriteMessage, PutDown, Advance, Wait, Wake, SetPriority, Nano, Deferred, Requests, Locks, Logons, Death, Servers, Messages, Fill, Pay}
+use Rattle.machine.specs.declared.moves.Move.TheVariants.{Make, Gain, Lose, Find, Miss, GoOn, Keep, Write, WriteMessage, PutDown, Advance, Wait, Wake, SetPriority, Nano, Deferred, Requests, Locks, Logons, Death, Servers, Messages, Fill, Copies, Pay}
 use Rattle.machine.specs.declared.nano_move.NanoMove.{NanoMove}
 use Rattle.machine.specs.declared.nano_move.NanoMove.TheVariants as nano
 use Rattle.machine.specs.declared.request_move.RequestMove.{RequestMove}
@@ -192,6 +192,7 @@ can_move script S t (Death m) shaped fits numbers refs s = one_place script S t 
 can_move script S t (Servers m) shaped fits numbers refs s = can_serve script S s.rows (λ o. referred script S o s.rows) m fits
 can_move script S t (Messages m) shaped fits numbers refs s = can_message script S s.rows (λ o. referred script S o s.rows) t m (few_places script S t s.rows) fits.0 fits.2 numbers
 can_move script S t (Fill p at size byte) shaped fits numbers refs s = fits
+can_move script S t (Copies m) shaped fits numbers refs s = fits
 can_move script S t (Pay what) shaped fits numbers refs s = absurd fits
 
 -- priorities stay that aren't set
@@ -209,6 +210,7 @@ ranks_move script S t (Locks m) u fits unset = refl
 ranks_move script S t (Logons m) u fits unset = refl
 ranks_move script S t (Death m) u fits unset = rank-with_row S.threads (death_thread m) (death_row m) u (death_priority m)
 ranks_move script S t (Fill p at size byte) u fits unset = refl
+ranks_move script S t (Copies m) u fits unset = refl
 ranks_move script S t (Make kind name h) u fits unset = rank-gain S.threads h (next_object S) u
 ranks_move script S t (Gain h o) u fits unset = rank-gain S.threads h o u
 ranks_move script S t (Lose h o) u fits unset = rank-closed (threads_lose h S.threads) _ o u ∙ rank-lose S.threads h u

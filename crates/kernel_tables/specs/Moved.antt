@@ -12,13 +12,14 @@ use Rattle.state_rows.specs.HandleSlots.{free_index}
 use Rattle.state_rows.specs.ObjectRows.{is_taken, is_dead_row}
 use Rattle.objects.specs.Rows.{kept_name}
 use Rattle.machine.specs.declared.moves.Move.{Move}
-use Rattle.machine.specs.declared.moves.Move.TheVariants.{Make, Gain, Lose, Find, Miss, GoOn, Keep, Write, WriteMessage, PutDown, Advance, Wait, Wake, SetPriority, Nano, Deferred, Requests, Locks, Logons, Death, Servers, Messages, Fill, Pay}
+use Rattle.machine.specs.declared.moves.Move.TheVariants.{Make, Gain, Lose, Find, Miss, GoOn, Keep, Write, WriteMessage, PutDown, Advance, Wait, Wake, SetPriority, Nano, Deferred, Requests, Locks, Logons, Death, Servers, Messages, Fill, Copies, Pay}
 use Rattle.machine.specs.declared.state.State.{State}
 use Rattle.state_rows.specs.declared.thread.ThreadRow.{ThreadRow}
 use Rattle.script_types.specs.declared.script.Script.{Script}
 use Rattle.machine.specs.Moves.{moved, told, objects_closed, threads_closed, owed_by_close, use_of_row}
 use Rattle.machine.specs.Arrivals.{is_listed, touched}
 use Rattle.machine.specs.Fits.{FitsDeferred}
+use Rattle.machine.specs.FitsCopies.{FitsCopies}
 use Rattle.machine.specs.Choice.{priority_of}
 use Rattle.machine.specs.References.{count_of, RefsMove}
 use Rattle.machine.specs.Room.{MayAdvance}
@@ -107,6 +108,7 @@ CanMove t (Death m) S = HasPlaces 1 S t
 CanMove t (Servers m) S = CanServe m S
 CanMove t (Messages m) S = CanMessage t m S
 CanMove t (Fill p at length byte) S = at + length ≤ 1024
+CanMove t (Copies m) S = FitsCopies m S
 CanMove t (Pay (Close h o)) S = IsReferred S o × HasPlaces 2 S t
 CanMove t (Pay (Sweep o)) S = IsTrue (is_dead_row (object_of S o)) × (use_of_row (thread_of S o) ≡ None)
 

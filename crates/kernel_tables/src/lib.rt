@@ -2,6 +2,7 @@
 #![tactic(auto)]
 
 mod actions;
+mod copy_moves;
 mod death_moves;
 mod lock_moves;
 mod moves;

@@ -15,6 +15,7 @@ ghost use Rattle.table_moves.specs.ThreadRows.{with_threads};
 ghost use Rattle.kern_sync.specs.KernelLocks.{after_priority};
 ghost use Rattle.sym_base.specs.declared.limits.TheConstants.Limits.{BOOT_OBJECTS};
 
+use crate::copy_moves::move_copy;
 use crate::death_moves::move_death;
 use crate::lock_moves::move_lock;
 use crate::server_moves::{move_message, move_server};
@@ -278,6 +279,7 @@ pub fn make_move<W: RefWords + Drop>(tables: &mut Tables<W>, thread: ThreadNo, c
         Move::Fill(process, at, length, byte) => {
             fill(&mut tables.procs, process, at, length, byte);
         }
+        Move::Copies(change) => move_copy(tables, change),
         Move::Pay(what) => pay(tables, thread, what),
     }
 }

@@ -8,7 +8,7 @@ use Rattle.load_maker.proofs.Blocks.{Makes, makes_more, behind, block, block_sta
 use Rattle.load_maker.specs.Draws.{next}
 use Rattle.load_maker.specs.Made.{served, client_state, processes, threads, made}
 use Rattle.load_maker.specs.Rounds.{numbered, client_instrs, client_messages}
-use Rattle.script_print.proofs.Canonical.{lines_spelled}
+use Rattle.script_print.proofs.Canonical.{lines_accepted}
 use Rattle.script_print.proofs.Front.{so_far}
 use Rattle.script_print.proofs.NamesAgain.{twos}
 use Rattle.script_print.proofs.ScheduleAgain.{at_rank, known_run, schedule_stands}
@@ -54,7 +54,7 @@ record Are (most : ℕ) (instrs : List Instr) : Type 0 where
 end_stands : (file : List Declared) (s : Script) (slots : ℕ) → slots ≤ 65536 → Makes file (at_rank s 8 []) (schedule_lines (replicate slots slot.Go) ++ line.End ∷ []) (at_rank s 11 (replicate slots slot.Go))
 end_stands file s slots few =
     let size : length (replicate slots slot.Go) ≤ 65536 = simp length-replicate few in
-    let h = schedule_stands true file s 8 (replicate slots slot.Go) refl refl size (known_run true file slots) in
+    let h = schedule_stands file s 8 (replicate slots slot.Go) refl refl size (known_run file slots) in
     record { stand = h.stand; makes = h.makes }
 
 -- the lines of the clients behind the server's
@@ -110,7 +110,7 @@ made_well_formed seed size small =
     let messages : count ≤ 2008 = omega (arith, m0, m1, m2, m3, small) in
     let lines : List SourceLine = lines_of (instr.Server (codes "files") 0 ∷ served count) (client_instrs x0 0 size) (client_instrs x1 1 size) (client_instrs x2 2 size) (client_instrs x3 3 size) (200 + 60 * size) in
     let h = lines_stand (twos lines) _ _ _ _ _ (200 + 60 * size) (serves count messages) (does x0 0 size (omega arith) small) (does x1 1 size (omega arith) small) (does x2 2 size (omega arith) small) (does x3 3 size (omega arith) small) (omega (arith, small)) in
-    let s = lines_spelled lines _ h.stand h.makes refl in
+    let s = lines_accepted lines _ h.stand h.makes refl in
     record { bytes = flat_map source_text lines; lines = s.lines; are = s.are; ended = s.ended; same = s.same }
 
 -- a script of these parts is the made one

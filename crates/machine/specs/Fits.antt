@@ -9,7 +9,7 @@ use Rattle.entry_log.specs.declared.effect.Holder.{Holder}
 use Rattle.entry_log.specs.declared.effect.Holder.TheVariants.{InProcess, InThread, Temp, Own, Link}
 use Rattle.entry_log.specs.declared.step.Part.{Part}
 use Rattle.machine.specs.declared.moves.Move.{Move}
-use Rattle.machine.specs.declared.moves.Move.TheVariants.{Make, Gain, Lose, Find, Miss, GoOn, Keep, Write, WriteMessage, PutDown, Advance, Wait, Wake, SetPriority, Nano, Deferred, Requests, Locks, Logons, Death, Servers, Messages, Fill, Pay}
+use Rattle.machine.specs.declared.moves.Move.TheVariants.{Make, Gain, Lose, Find, Miss, GoOn, Keep, Write, WriteMessage, PutDown, Advance, Wait, Wake, SetPriority, Nano, Deferred, Requests, Locks, Logons, Death, Servers, Messages, Fill, Copies, Pay}
 use Rattle.machine.specs.declared.death_move.DeathMove.{DeathMove}
 use Rattle.machine.specs.declared.death_move.DeathMove.TheVariants.{Note, Doom, Clean, Bury}
 use Rattle.machine.specs.declared.nano_move.NanoMove.{NanoMove}
@@ -35,6 +35,7 @@ use Rattle.state_rows.specs.HandleSlots.{slot_at, free_index}
 use Rattle.machine.specs.References.{total}
 use Rattle.machine.specs.Holdings.{left_of, process_handles}
 use Rattle.machine.specs.Moves.{next_object, moved, tell}
+use Rattle.machine.specs.FitsCopies.{FitsCopies}
 use Rattle.machine.specs.FitsServers.{MaySend, IsUncalled, FitsServers, FitsMessages, HasSlot}
 use Rattle.machine.specs.Serving.{times_owned, times_sent, begun}
 use Rattle.machine.specs.ServerMoves.{owned_by}
@@ -322,6 +323,7 @@ FitsMove script t (Death m) S = FitsDeath t m S
 FitsMove script t (Servers m) S = FitsServers m S
 FitsMove script t (Messages m) S = FitsMessages m S × MayOweMore S t × HasSlot m S
 FitsMove script t (Fill p at length byte) S = at + length ≤ 1024
+FitsMove script t (Copies m) S = FitsCopies m S
 FitsMove script t (Pay what) S = ⊥
 
 -- each move fits when its turn comes
@@ -383,6 +385,7 @@ most_told (Locks m) = lock_most m
 most_told (Logons m) = 0
 most_told (Death m) = death_most m
 most_told (Fill p at length byte) = 0
+most_told (Copies m) = 0
 most_told _ = 1
 
 -- the most that a move adds to the weight of what its thread owes: with a last reference the close of a link and a

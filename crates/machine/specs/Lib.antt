@@ -4,6 +4,8 @@ pub mod Boot
 pub mod Choice
 pub mod Close
 pub mod Closing
+pub mod CopyMoves
+pub mod Copying
 pub mod Create
 pub mod CriticalSection
 pub mod DeathMoves
@@ -17,6 +19,7 @@ pub mod FastSemaphore
 pub mod FinalRows
 pub mod Find
 pub mod Fits
+pub mod FitsCopies
 pub mod FitsServers
 pub mod Handles
 pub mod HeldIn

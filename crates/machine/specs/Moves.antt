@@ -14,7 +14,7 @@ use Rattle.state_rows.specs.declared.duty.Owed.TheVariants.{Close, Sweep}
 use Rattle.state_rows.specs.declared.object.ObjectRow.{ObjectRow}
 use Rattle.state_rows.specs.ObjectRows.{dead_row}
 use Rattle.machine.specs.declared.moves.Move.{Move}
-use Rattle.machine.specs.declared.moves.Move.TheVariants.{Make, Gain, Lose, Find, Miss, GoOn, Write, Advance, Wait, Wake, SetPriority, Nano, Keep, WriteMessage, PutDown, Deferred, Requests, Locks, Logons, Death, Servers, Messages, Fill, Pay}
+use Rattle.machine.specs.declared.moves.Move.TheVariants.{Make, Gain, Lose, Find, Miss, GoOn, Write, Advance, Wait, Wake, SetPriority, Nano, Keep, WriteMessage, PutDown, Deferred, Requests, Locks, Logons, Death, Servers, Messages, Fill, Copies, Pay}
 use Rattle.state_rows.specs.declared.thread.Waiting.{Waiting}
 use Rattle.state_rows.specs.declared.thread.Waiting.TheVariants as waiting
 use Rattle.state_rows.specs.declared.handle_slot.HandleSlot.{HandleSlot}
@@ -30,6 +30,7 @@ use Rattle.machine.specs.LogonMoves.{logons_moved}
 use Rattle.machine.specs.DeathMoves.{death_row, death_told, death_thread, death_owed}
 use Rattle.machine.specs.LockMoves.{lock_moved, mutexes_moved, owed_moved, lock_told}
 use Rattle.machine.specs.Memory.{filled, with_memory}
+use Rattle.machine.specs.CopyMoves.{memories_copied, messages_copied}
 use Rattle.machine.specs.ServerMoves.{servers_moved, server_told, owned_gain, owned_lose, servers_lose, servers_closed}
 use Rattle.machine.specs.MessageMoves.{messages_moved, message_told, message_owed}
 use Rattle.state_rows.specs.ServerRows.{server_of}
@@ -188,6 +189,7 @@ moved t (Death m) S = record S { threads = with_row S.threads (death_thread m) (
 moved t (Servers m) S = record S { servers = servers_moved m S.owned S.servers }
 moved t (Messages m) S = record S { messages = messages_moved m S.messages; owed = message_owed t m S.messages S.owed }
 moved t (Fill p at length byte) S = record S { memories = with_memory S.memories p (filled at length byte) }
+moved t (Copies m) S = record S { memories = memories_copied m S.threads S.messages S.memories; messages = messages_copied m S.threads S.messages }
 moved t (Pay (Close h o)) S = record S {
   objects = objects_closed (is_last S o) o S.objects;
   threads = threads_closed (is_last S o) o S.threads;
@@ -225,6 +227,7 @@ told (Death m) S = death_told m
 told (Servers m) S = server_told m
 told (Messages m) S = message_told m S.messages
 told (Fill p at length byte) S = []
+told (Copies m) S = []
 told (Pay (Close h o)) S = closed_effects (is_last S o) h o
 told (Pay (Sweep o)) S = Swept o ∷ []
 

@@ -35,6 +35,7 @@ use Rattle.machine.specs.Dooms.{end, plain_exit}
 use Rattle.machine.specs.ExitCalls.{exit_step, exittype_step, exit_do}
 use Rattle.machine.specs.LogonCalls.{logon_step}
 use Rattle.machine.specs.ServerCalls.{server_do, receive_step, complete_do, function_do}
+use Rattle.machine.specs.Copying.{read_step, write_step}
 use Rattle.machine.specs.SessionCalls.{connect_step, connect_return, send_step, call_step}
 use Rattle.machine.specs.Reaping.{give_up, clean, bury}
 use Rattle.sym_base.specs.declared.kind.ExitKind.TheVariants as kind
@@ -42,7 +43,7 @@ use Rattle.sym_base.specs.declared.word.Word.TheVariants as word
 use Rattle.machine.specs.declared.plan.Body.TheVariants.{Deferred}
 use Rattle.machine.specs.Task.{task_of, is_able}
 
--- an instruction's step, by the part that is next, None being its first. What isn't built yet does nothing
+-- an instruction's step, by the part that is next, None being its first
 abbrev pub step_of : Script → State → ObjNo → ThreadRow → Instr → Option Part → Decision
 step_of script S t row (instr.CreateMutex name x) p = create_mutex_do S t row name x
 step_of script S t row (instr.CreateSemaphore name count x) p = create_semaphore_do S t row name count x
@@ -84,7 +85,8 @@ step_of script S t row (instr.Call x function args) p = call_step S t row x func
 step_of script S t row (instr.Receive x y) p = receive_step S t row x y p
 step_of script S t row (instr.Complete y code) p = complete_do S t row y code
 step_of script S t row (instr.Function y) p = function_do S t row y
-step_of script S t row _ p = nothing
+step_of script S t row (instr.Read y arg offset length at) p = read_step S t row y arg offset length at p
+step_of script S t row (instr.Write y arg offset length from) p = write_step S t row y arg offset length from p
 
 -- the return of an instruction that found an object
 abbrev pub return_of : State → ObjNo → ThreadRow → Instr → Decision

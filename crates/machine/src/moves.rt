@@ -6,6 +6,7 @@ use crate::{
     DeathMove, DeferredMove, LockMove, LogonMove, MessageMove, NanoMove, RequestMove, ServerMove,
     Waiting,
 };
+use copy_rules::CopyMove;
 use entry_log::{Holder, Part};
 use state_rows::Owed;
 use std::marker::Model;
@@ -62,6 +63,8 @@ pub enum Move {
     Messages(MessageMove),
     /// Bytes of the process's memory, from an offset on and so many, get a value.
     Fill(ObjNo, u16, u16, u8),
+    /// A piece of a copy between a server and its client is copied.
+    Copies(CopyMove),
     /// The acting thread pays this, the oldest of what it owes.
     Pay(Owed),
 }

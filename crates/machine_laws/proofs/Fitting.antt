@@ -3,6 +3,7 @@ pub mod Actions
 pub mod Bodies
 pub mod Closing
 pub mod ClosingServers
+pub mod Copying
 pub mod Deaths
 pub mod Dooms
 pub mod Finishing

@@ -3,6 +3,7 @@ pub mod Sound
 pub mod RowMoves
 pub mod ServerMoves
 pub mod LockMoves
+pub mod CopyMoves
 pub mod DeathMoves
 pub mod MessageMoves
 pub mod NanoMoves

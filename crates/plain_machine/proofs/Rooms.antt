@@ -11,7 +11,7 @@ use Rattle.state_rows.specs.ObjectRows.{dead_row}
 use Rattle.machine.specs.declared.death_move.DeathMove.{DeathMove}
 use Rattle.machine.specs.declared.death_move.DeathMove.TheVariants.{Note, Doom, Clean, Bury}
 use Rattle.machine.specs.declared.moves.Move.{Move}
-use Rattle.machine.specs.declared.moves.Move.TheVariants.{Make, Gain, Lose, Find, Miss, GoOn, Keep, Write, WriteMessage, PutDown, Advance, Wait, Wake, SetPriority, Nano, Deferred, Requests, Locks, Logons, Death, Servers, Messages, Fill, Pay}
+use Rattle.machine.specs.declared.moves.Move.TheVariants.{Make, Gain, Lose, Find, Miss, GoOn, Keep, Write, WriteMessage, PutDown, Advance, Wait, Wake, SetPriority, Nano, Deferred, Requests, Locks, Logons, Death, Servers, Messages, Copies, Fill, Pay}
 use Rattle.state_rows.specs.declared.handle_slot.HandleSlot.{HandleSlot}
 use Rattle.state_rows.specs.declared.thread.Waiting.TheVariants.{Nothing}
 use Rattle.state_rows.specs.declared.thread.ThreadRow.{ThreadRow}
@@ -30,6 +30,7 @@ use Rattle.machine.specs.References.{is_last}
 use Rattle.machine.specs.Room.{HasRoom, IsSmallTable, AreSmallTables, MayAdvance}
 use Rattle.machine.specs.Rows.{with_row}
 use Rattle.move_laws.proofs.Lists.Sets.{set_keeps}
+use Rattle.move_laws.proofs.MoveLaws.CopyMoves.{copy_accepts}
 use Rattle.move_laws.proofs.RowLaws.Tables.{taken_keeps}
 
 -- a row may still go on by so many instructions
@@ -160,6 +161,7 @@ threads_long t (Death m) S = long_row S.threads (death_thread m) (death_row m)
 threads_long t (Servers m) S = refl
 threads_long t (Messages m) S = refl
 threads_long t (Fill p at long byte) S = refl
+threads_long t (Copies m) S = refl
 threads_long t (Pay (Close h o)) S = long_closed (is_last S o) o S.threads
 threads_long t (Pay (Sweep o)) S = length-set S.threads o.0 None
 
@@ -243,6 +245,7 @@ room_moved t (Death m) n S room = with_threads n S (moved t (Death m) S) refl re
 room_moved t (Servers m) n S room = with_threads n S (moved t (Servers m) S) refl refl (omega arith) (threads_long t (Servers m) S) (threads_less n (n + 1) (omega arith) S.threads room.instructions) room
 room_moved t (Messages m) n S room = with_threads n S (moved t (Messages m) S) refl refl (accepts_one m S.messages) (threads_long t (Messages m) S) (threads_less n (n + 1) (omega arith) S.threads room.instructions) room
 room_moved t (Fill p at long byte) n S room = with_threads n S (moved t (Fill p at long byte) S) refl refl (omega arith) (threads_long t (Fill p at long byte) S) (threads_less n (n + 1) (omega arith) S.threads room.instructions) room
+room_moved t (Copies m) n S room = with_threads n S (moved t (Copies m) S) refl refl (let same = copy_accepts m S.threads S.messages in omega arith) (threads_long t (Copies m) S) (threads_less n (n + 1) (omega arith) S.threads room.instructions) room
 room_moved t (Pay (Close h o)) n S room = record {
   objects = let few = room.objects in let long = length_closed (is_last S o) o S.objects in omega arith;
   threads = let few = room.threads in let long = threads_long t (Pay (Close h o)) S in omega arith;

@@ -1,7 +1,7 @@
 -- The rows of threads that synchronize stay small: a change keeps the number of fast mutexes, and no suspend count
 -- rises above 127. So do the numbers of messages, while there is room.
 use Rattle.std.proofs.Common.{◌≡◌, ℕ, ◌+◌, ◌-◌, ◌<◌, ◌≤◌, List, length, get_or, arith, refl, sym, subst, Bool, true, false, not, Option, Some, None}
-use Rattle.std.specs.Prelude.{◌==◌, if◌then◌else◌, slice_set}
+use Rattle.std.specs.Prelude.{◌==◌, if◌then◌else◌, nat_lt, slice_set}
 use Rattle.std.proofs.lemmas.List.Elements.{All-push, All-weaker, All-map, All-filter}
 use Rattle.std.proofs.lemmas.List.{length-set}
 use Rattle.sym_base.specs.declared.number.ObjNo.{ObjNo}
@@ -13,8 +13,17 @@ use Rattle.sym_base.specs.declared.number.MsgNo.{MsgNo}
 use Rattle.state_rows.specs.declared.messages.Message.{Message}
 use Rattle.state_rows.specs.declared.messages.MessageRows.{MessageRows}
 use Rattle.state_rows.specs.declared.messages.MsgRow.{MsgRow}
-use Rattle.state_rows.specs.MessageChanges.{next_number, next_of, added, edited, taken, taken_row}
+use Rattle.state_rows.specs.MessageChanges.{next_number, next_of, added, after_set_length, edited, resized, taken, taken_row, with_edited}
+use Rattle.state_rows.specs.declared.thread.ThreadRow.{ThreadRow}
 use Rattle.state_rows.specs.MessageRows.{has_number}
+use Rattle.copy_rules.specs.Ends.{ends_of}
+use Rattle.copy_rules.specs.Pieces.{unless_refused}
+use Rattle.copy_rules.specs.Refusals.{write_refusal}
+use Rattle.copy_rules.specs.Sizes.{done_after, write_size}
+use Rattle.copy_rules.specs.declared.job.CopyMove.{CopyMove}
+use Rattle.copy_rules.specs.declared.job.CopyMove.TheVariants.{Read, Write as WriteCopy}
+use Rattle.copy_rules.specs.declared.job.Piece.{Piece}
+use Rattle.machine.specs.CopyMoves.{messages_copied}
 use Rattle.readings.specs.Readable.{AreSmallRows, AreSmallNumbers}
 use Rattle.machine.specs.declared.message_move.MessageMove.{MessageMove}
 use Rattle.machine.specs.declared.message_move.MessageMove.TheVariants.{Accept, Take as TakeMessage, Finish}
@@ -22,7 +31,7 @@ use Rattle.machine.specs.MessageMoves.{messages_moved}
 use Rattle.machine.specs.Room.{HasRoom}
 use Rattle.plain_machine.specs.Allowed.{IsSmall}
 use Rattle.machine.specs.declared.moves.Move.{Move}
-use Rattle.machine.specs.declared.moves.Move.TheVariants.{Make, Gain, Lose, Find, Miss, GoOn, Keep, Write, WriteMessage, PutDown, Advance, Wait, Wake, SetPriority, Nano, Deferred, Requests, Locks, Logons, Death, Servers, Messages, Fill, Pay}
+use Rattle.machine.specs.declared.moves.Move.TheVariants.{Make, Gain, Lose, Find, Miss, GoOn, Keep, Write, WriteMessage, PutDown, Advance, Wait, Wake, SetPriority, Nano, Deferred, Requests, Locks, Logons, Death, Servers, Messages, Copies, Fill, Pay}
 use Rattle.machine.specs.declared.nano_move.NanoMove.{NanoMove}
 use Rattle.machine.specs.declared.nano_move.NanoMove.TheVariants.{Take, Give, Want, Enter, Leave, LeaveAll, Suspend, Resume, Release, Raise, Lower}
 use Rattle.machine.specs.declared.state.State.{State}
@@ -71,21 +80,33 @@ small_added n r slots row room small =
     let message : Message = record { number = next_number r; slots = slots; row = row } in
     All-push IsSmallNumber r.outstanding message small (omega arith)
 
-small_edited : (m : MsgNo) (message : Message) → IsSmallNumber message → IsSmallNumber (edited m taken_row message)
-small_edited m message few = small_where (has_number m message)
+small_edited : (m : MsgNo) (change : MsgRow → MsgRow) (message : Message) → IsSmallNumber message → IsSmallNumber (edited m change message)
+small_edited m change message few = small_where (has_number m message)
   where
-    small_where : (same : Bool) → IsSmallNumber (if same then record message { row = taken_row message.row } else message)
+    small_where : (same : Bool) → IsSmallNumber (if same then record message { row = change message.row } else message)
     small_where true = few
     small_where false = few
 
+small_changed : (r : MessageRows) (m : MsgNo) (change : MsgRow → MsgRow) → AreSmallNumbers r.outstanding → AreSmallNumbers (with_edited r m change).outstanding
+small_changed r m change small = All-map IsSmallNumber (edited m change) r.outstanding (All-weaker IsSmallNumber (λ (message : Message). IsSmallNumber (edited m change message)) (small_edited m change) r.outstanding small)
+
 small_taken : (r : MessageRows) (found : Option MsgNo) → AreSmallNumbers r.outstanding → AreSmallNumbers (taken r found).outstanding
 small_taken r None small = small
-small_taken r (Some m) small = All-map IsSmallNumber (edited m taken_row) r.outstanding (All-weaker IsSmallNumber (λ (message : Message). IsSmallNumber (edited m taken_row message)) (small_edited m) r.outstanding small)
+small_taken r (Some m) small = small_changed r m taken_row small
 
 small_messages : (m : MessageMove) (n : ℕ) (r : MessageRows) → r.accepted + (n + 1) ≤ 2147483647 → AreSmallNumbers r.outstanding → AreSmallNumbers (messages_moved m r).outstanding
 small_messages (Accept slots row) n r room small = small_added n r slots row room small
 small_messages (TakeMessage o) n r room small = small_taken r (next_of r o) small
 small_messages (Finish m code) n r room small = All-filter (λ (message : Message). not (has_number m message)) IsSmallNumber r.outstanding small
+
+small_copied : (m : CopyMove) (threads : List (Option ThreadRow)) (r : MessageRows) → AreSmallNumbers r.outstanding → AreSmallNumbers (messages_copied m threads r).outstanding
+small_copied (Read job) threads r small = small
+small_copied (WriteCopy job) threads r small = by (write_refusal (ends_of threads r job) job) (nat_lt (done_after (write_size job) job.done) (write_size job))
+  where
+    by : (refusal : Option Piece) (goes_on : Bool) → AreSmallNumbers (unless_refused refusal r (if goes_on then r else after_set_length r job.m job.arg (job.offset + job.len))).outstanding
+    by (Some refusal) goes_on = small
+    by None true = small
+    by None false = small_changed r job.m (resized job.arg (job.offset + job.len)) small
 
 -- so both stay after each move
 same_rows : (S T : State) → T.nano ≡ S.nano → T.messages ≡ S.messages → IsSmall S → IsSmall T
@@ -94,6 +115,7 @@ same_rows S T same messages small = record { nano = subst AreSmallRows (sym same
 pub small_moved : (t : ObjNo) (m : Move) (n : ℕ) (S : State) → HasRoom (n + 1) S → IsSmall S → IsSmall (moved t m S)
 small_moved t (Nano m) n S room small = record { nano = small_nano m S.nano small.nano; messages = small.messages }
 small_moved t (Messages m) n S room small = record { nano = small.nano; messages = small_messages m n S.messages room.messages small.messages }
+small_moved t (Copies m) n S room small = record { nano = small.nano; messages = small_copied m S.threads S.messages small.messages }
 small_moved t (Pay (Close h o)) n S room small = same_rows S (moved t (Pay (Close h o)) S) refl refl small
 small_moved t (Pay (Sweep o)) n S room small = same_rows S (moved t (Pay (Sweep o)) S) refl refl small
 small_moved t (Make kind name h) n S room small = same_rows S (moved t (Make kind name h) S) refl refl small

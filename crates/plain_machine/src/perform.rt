@@ -9,7 +9,7 @@ use crate::slots::gain_slot;
 use entry_log::Holder;
 use machine::{Move, State, Waiting, thread_in};
 use plain_rows::{
-    fill_memory, make_death_move, make_deferred_move, make_lock_move, make_logon_move,
+    fill_memory, make_copy, make_death_move, make_deferred_move, make_lock_move, make_logon_move,
     make_message_move, make_nano_move, make_request_move, make_server_move, owe_use, owned_gain,
     threads_advance, threads_find, threads_gain, threads_go_on, threads_keep, threads_lose,
     threads_set_priority, threads_wait, threads_write, threads_write_message,
@@ -128,6 +128,7 @@ pub fn make_move(
         Move::Fill(process, at, length, byte) => {
             return fill_memory(alloc, &mut state.memories, process, at, length, byte);
         }
+        Move::Copies(change) => return make_copy(alloc, state, thread, &change),
     }
     Ok(())
 }

@@ -3,6 +3,7 @@
 #![tactic(auto)]
 
 mod calls;
+mod copies;
 mod deaths;
 mod duties;
 mod lists;
@@ -17,6 +18,7 @@ mod servers;
 mod thread_rows;
 
 pub use calls::make_deferred_move;
+pub use copies::make_copy;
 pub use deaths::make_death_move;
 pub use duties::{drop_first_owed, owe_close, owe_use};
 pub use lists::unlisted;

@@ -203,7 +203,8 @@ pub fn tell<R: Reads>(effects: &mut Effects, reads: &R, change: &Move)
         | Move::SetPriority(_, _)
         | Move::Deferred(_)
         | Move::Logons(_)
-        | Move::Fill(_, _, _, _) => {}
+        | Move::Fill(_, _, _, _)
+        | Move::Copies(_) => {}
         Move::Pay(what) => tell_payment(effects, reads, what),
     }
 }

@@ -5,7 +5,7 @@ ghost use Rattle.edge_io.specs.Written.{Wrote, WrotePrefix};
 ghost use Rattle.load_maker.specs.Made.{made};
 ghost use Rattle.runner.specs.Complete.{Stayed};
 ghost use Rattle.runner.specs.MadeText.{made_text};
-ghost use Rattle.script_print.specs.Spelled.{IsSpelled};
+ghost use Rattle.script_grammar.specs.Accepted.{IsAccepted};
 
 use crate::lines::write_lines;
 use edge_io::Sink;
@@ -20,7 +20,7 @@ fn made_text(alloc: Global, seed: u64, size: u32) -> Result<Vec<u8>, NoMemory>
     requires some { 1 ≤ size }
     requires few { size ≤ 500 }
     ensures text { IfOk result (λ text. text.items ≡ made_text seed size) }
-    ensures spelled { OnOk result (IsSpelled (made_text seed size) (made seed size)) }
+    ensures accepted { OnOk result (IsAccepted (made_text seed size) (made seed size)) }
 {
     let script = make_script(alloc, seed, size)?;
     print_script(alloc, &script)
@@ -38,7 +38,7 @@ pub fn write_made<K: Sink>(
     requires some { 1 ≤ size }
     requires few { size ≤ 500 }
     ensures done { OnOk result (Wrote (K.written sink.old) (K.written sink.new) (made_text seed size)) }
-    ensures spelled { OnOk result (IsSpelled (made_text seed size) (made seed size)) }
+    ensures accepted { OnOk result (IsAccepted (made_text seed size) (made seed size)) }
     ensures write_fault { result ≡ Err RunFault.WriteFault → Rose (K.faults sink.old) (K.faults sink.new) }
     ensures front { result ≡ Err RunFault.WriteFault
         → WrotePrefix (K.written sink.old) (K.written sink.new) (made_text seed size) }

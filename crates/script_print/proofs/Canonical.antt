@@ -7,9 +7,7 @@ use Rattle.script_print.proofs.CutAgain.{words_again, words_clean, lines_again}
 use Rattle.script_print.proofs.LinesAgain.{canonical_stands}
 use Rattle.script_print.proofs.NamesAgain.{twos}
 use Rattle.script_print.proofs.PlainLines.{line_printed}
-use Rattle.script_print.proofs.ScheduleAgain.{Stand, AreRun}
-use Rattle.script_print.specs.Spelled.{IsSpelled}
-use Rattle.script_grammar.specs.BuiltLine.{is_built_line}
+use Rattle.script_print.proofs.ScheduleAgain.{Stand}
 use Rattle.script_types.specs.Context.{start, after, after_all, is_ended}
 use Rattle.script_types.specs.Names.{Declared, first_two}
 use Rattle.script_grammar.specs.Accepted.{IsAccepted}
@@ -22,7 +20,7 @@ use Rattle.script_types.specs.declared.instruction.Instr.{Instr}
 use Rattle.script_types.specs.declared.instruction.Instr.TheVariants as instr
 use Rattle.script_types.specs.declared.source_line.SourceLine.TheVariants as line
 use Rattle.script_words.proofs.Steps.{both}
-use Rattle.std.specs.Prelude.{IsTrue, ◌||◌, nat_le, nat_lt}
+use Rattle.std.specs.Prelude.{nat_le, nat_lt}
 use Rattle.script_types.specs.declared.context.Context.{Context}
 use Rattle.script_types.specs.declared.script.Script.{Script}
 use Rattle.script_types.specs.declared.source_line.SourceLine.{SourceLine}
@@ -35,15 +33,6 @@ texts_of lines = map (λ l. spaced (source_words l)) lines
 record Printed (lines : List SourceLine) : Type 0 where
   clean : AllByRecursion IsClean (texts_of lines)
   told : told_words (texts_of lines) ≡ map source_words lines
-
--- a test that any line passes, and one that fails no line
-run_or : (b : Bool) → b || true ≡ true
-run_or true = refl
-run_or false = refl
-
-built_or : (b : Bool) → b || false ≡ true → b ≡ true
-built_or true h = refl
-built_or false h = h
 
 -- a body has four operations at most
 instr_within : (what : Instr) → length (form_of (line.Instr what)).body ≤ 4
@@ -79,64 +68,32 @@ joined [] = refl
 joined (l ∷ ls) = ap (λ t. source_text l ++ t) (joined ls)
 
 -- lines that stand, as they are printed: they make the same
-record Taken (any : Bool) (bytes : List ℕ) (script : Script) : Type 0 where
-  spelled : IsSpelled bytes script
-  run : AreRun any spelled.lines
-
-lines_taken : (any : Bool) (lines : List SourceLine) (made : Context) → Stand any (twos lines) start lines made → is_ended made ≡ true → Taken any (flat_map source_text lines) made.script
-lines_taken any lines made h ended =
+lines_taken : (lines : List SourceLine) (made : Context) → Stand (twos lines) start lines made → is_ended made ≡ true → IsAccepted (flat_map source_text lines) made.script
+lines_taken lines made h ended =
     let texts = texts_of lines in
     let p = printed (twos lines) start lines h.stand in
     let cut : text_lines (flat_map source_text lines) ≡ texts = ap text_lines (joined lines) ∙ lines_again texts p.clean in
     let spelled : told_words (text_lines (flat_map source_text lines)) ≡ map source_words lines = ap told_words cut ∙ p.told in
     record {
-      spelled = record {
-        lines = lines;
-        are = record {
-          clean = subst (λ (ts : List (List ℕ)). AllByRecursion IsClean ts) (sym cut) p.clean;
-          spelled = spelled;
-          stand = subst (λ (ws : List (List (List ℕ))). AllStand (map first_two ws) start lines) (sym spelled) h.stand;
-        };
-        ended = ap is_ended h.makes ∙ ended;
-        same = ap (λ (c : Context). c.script) (sym h.makes);
+      lines = lines;
+      are = record {
+        clean = subst (λ (ts : List (List ℕ)). AllByRecursion IsClean ts) (sym cut) p.clean;
+        spelled = spelled;
+        stand = subst (λ (ws : List (List (List ℕ))). AllStand (map first_two ws) start lines) (sym spelled) h.stand;
       };
-      run = h.built;
+      ended = ap is_ended h.makes ∙ ended;
+      same = ap (λ (c : Context). c.script) (sym h.makes);
     }
 
+-- lines that may stand, in a file of just these, spell the script that they make
+pub lines_accepted : (lines : List SourceLine) (made : Context) → AllStand (twos lines) start lines → after_all start lines ≡ made → is_ended made ≡ true → IsAccepted (flat_map source_text lines) made.script
+lines_accepted lines made stand makes ended = lines_taken lines made (record { stand = stand; makes = makes }) ended
+
 -- the canonical text of a script that bytes spell
-canonical_taken : (any : Bool) (bytes : List ℕ) (script : Script) → (s : IsSpelled bytes script) → AreRun any s.lines → Taken any (canonical_text script) script
+pub canonical_accepted : (bytes : List ℕ) (script : Script) → IsAccepted bytes script → IsAccepted (canonical_text script) script
 unfolding canonical_text
-canonical_taken any bytes script s run =
+canonical_accepted bytes script s =
     let made : Context = after_all start s.lines in
     let stand : AllStand (twos s.lines) start s.lines = subst (λ (ws : List (List (List ℕ))). AllStand (map first_two ws) start s.lines) s.are.spelled s.are.stand in
-    let taken = lines_taken any (canonical_lines made.script) made (canonical_stands any s.lines stand s.ended run) s.ended in
-    subst (λ (t : Script). Taken any (flat_map source_text (canonical_lines t)) t) (sym s.same) taken
-
--- any lines, and those that this program runs
-any_run : (lines : List SourceLine) → AreRun true lines
-any_run [] = tt
-any_run (l ∷ ls) = (run_or (is_built_line l), any_run ls)
-
-built_run : (lines : List SourceLine) → AllByRecursion (λ l. IsTrue (is_built_line l)) lines → AreRun false lines
-built_run [] built = tt
-built_run (l ∷ ls) built = (rw (built.0) refl, built_run ls built.1)
-
-run_built : (lines : List SourceLine) → AreRun false lines → AllByRecursion (λ l. IsTrue (is_built_line l)) lines
-run_built [] run = tt
-run_built (l ∷ ls) run = (built_or (is_built_line l) run.0, run_built ls run.1)
-
--- lines that may stand, in a file of just these, spell the script that they make
-pub lines_spelled : (lines : List SourceLine) (made : Context) → AllStand (twos lines) start lines → after_all start lines ≡ made → is_ended made ≡ true → IsSpelled (flat_map source_text lines) made.script
-lines_spelled lines made stand makes ended =
-    let taken = lines_taken true lines made (record { stand = stand; built = any_run lines; makes = makes }) ended in
-    taken.spelled
-
-pub canonical_spelled : (bytes : List ℕ) (script : Script) → IsSpelled bytes script → IsSpelled (canonical_text script) script
-canonical_spelled bytes script s = let taken = canonical_taken true bytes script s (any_run s.lines) in taken.spelled
-
-pub canonical_accepted : (bytes : List ℕ) (script : Script) → IsAccepted bytes script → IsAccepted (canonical_text script) script
-canonical_accepted bytes script a =
-    let s : IsSpelled bytes script = record { lines = a.lines; are = a.are; ended = a.ended; same = a.same } in
-    let taken = canonical_taken false bytes script s (built_run a.lines a.built) in
-    let again = taken.spelled in
-    record { lines = again.lines; are = again.are; ended = again.ended; built = run_built again.lines taken.run; same = again.same }
+    let taken = lines_taken (canonical_lines made.script) made (canonical_stands s.lines stand s.ended) s.ended in
+    subst (λ (t : Script). IsAccepted (flat_map source_text (canonical_lines t)) t) (sym s.same) taken

@@ -7,7 +7,7 @@ use Rattle.script_print.specs.CanonicalText.{setting_lines, declared_lines, sche
 use Rattle.script_print.proofs.DeclaredAgain.{said, first_setting, lines_again, no_header}
 use Rattle.script_print.proofs.Front.{so_far, IsFront, front_start, front_after, last_start}
 use Rattle.script_print.proofs.NamesAgain.{twos, Carries, carries, known_again, no_slot, not_zero}
-use Rattle.script_print.proofs.ScheduleAgain.{runs, AreRun, at_rank, last_line, schedule_makes, Stand, schedule_stands, AreKnown}
+use Rattle.script_print.proofs.ScheduleAgain.{at_rank, last_line, schedule_makes, Stand, schedule_stands, AreKnown}
 use Rattle.script_types.specs.Context.{empty_script, start, after_all, is_ended, may_stand, kind_of, rank_of, told, is_process}
 use Rattle.script_types.specs.Names.{Declared}
 use Rattle.script_types.specs.Stands.{Stands, AllStand}
@@ -77,102 +77,102 @@ setting_stays : (setting : ℕ → SourceLine) (n : ℕ) → setting_lines setti
 setting_stays setting n = rw (not_zero n) refl
 
 -- interrupts that come have a body there too
-slots_known : (any : Bool) (file other : List Declared) → Carries file other → (slots : List Slot) → AreKnown any file slots → AreKnown any other slots
-slots_known any file other t [] all = tt
-slots_known any file other t (slot.Irq k ∷ xs) all = (record { ranges = all.0.ranges; known = t.irqs _ all.0.known; built = all.0.built }, slots_known any file other t xs all.1)
-slots_known any file other t (slot.Go ∷ xs) all = (tt, slots_known any file other t xs all.1)
-slots_known any file other t (slot.Tick ∷ xs) all = (tt, slots_known any file other t xs all.1)
+slots_known : (file other : List Declared) → Carries file other → (slots : List Slot) → AreKnown file slots → AreKnown other slots
+slots_known file other t [] all = tt
+slots_known file other t (slot.Irq k ∷ xs) all = (record { ranges = all.0.ranges; known = t.irqs _ all.0.known }, slots_known file other t xs all.1)
+slots_known file other t (slot.Go ∷ xs) all = (tt, slots_known file other t xs all.1)
+slots_known file other t (slot.Tick ∷ xs) all = (tt, slots_known file other t xs all.1)
 
 -- the canonical lines from those of these lines on
 abbrev rest_of : List SourceLine → Context → List SourceLine
 rest_of lines made = said lines ++ (schedule_lines made.script.slots ++ line.End ∷ [])
 
-module _ (any : Bool) (file other : List Declared) (t : Carries file other) where
+module _ (file other : List Declared) (t : Carries file other) where
   -- from `schedule` on
-  schedules : (s : Script) (low high : ℕ) (ls : List SourceLine) → IsLower low high → high ≤ 8 → IsFront s high → AllStand file (so_far s high false) (line.Schedule ∷ ls) → is_ended (after_all (so_far s 9 false) ls) ≡ true → AreRun any ls → Stand any other (so_far s low false) (rest_of ls (after_all (so_far s 9 false) ls)) (after_all (so_far s 9 false) ls)
-  schedules s low high ls lower le f stand ended built =
+  schedules : (s : Script) (low high : ℕ) (ls : List SourceLine) → IsLower low high → high ≤ 8 → IsFront s high → AllStand file (so_far s high false) (line.Schedule ∷ ls) → is_ended (after_all (so_far s 9 false) ls) ≡ true → Stand other (so_far s low false) (rest_of ls (after_all (so_far s 9 false) ls)) (after_all (so_far s 9 false) ls)
+  schedules s low high ls lower le f stand ended =
       let none : s.slots ≡ [] = f.slots (omega arith) in
       let same : so_far s 9 false ≡ at_rank s 9 [] = ap (λ (xs : List Slot). at_rank s 9 xs) none in
-      let m = schedule_makes any file s ls (subst (λ (d : Context). AllStand file d ls) same stand.1) (subst (λ (d : Context). is_ended (after_all d ls) ≡ true) same ended) built in
+      let m = schedule_makes file s ls (subst (λ (d : Context). AllStand file d ls) same stand.1) (subst (λ (d : Context). is_ended (after_all d ls) ≡ true) same ended) in
       let made = ap (λ (d : Context). after_all d ls) same ∙ m.makes in
       let before : so_far s low false ≡ at_rank s low [] = ap (λ (xs : List Slot). at_rank s low xs) none in
       let under = lower.under in
-      let h = schedule_stands any other s low m.slots (le-leb low 8 (omega arith)) (le-leb low 10 (omega arith)) m.few (slots_known any file other t m.slots m.known) in
+      let h = schedule_stands other s low m.slots (le-leb low 8 (omega arith)) (le-leb low 10 (omega arith)) m.few (slots_known file other t m.slots m.known) in
       let lines : rest_of ls (after_all (so_far s 9 false) ls) ≡ schedule_lines m.slots ++ line.End ∷ [] = ap (λ (xs : List SourceLine). xs ++ (schedule_lines (after_all (so_far s 9 false) ls).script.slots ++ line.End ∷ [])) m.silent ∙ ap (λ (d : Context). schedule_lines d.script.slots ++ line.End ∷ []) made in
-      subst (λ (xs : List SourceLine). Stand any other (so_far s low false) xs (after_all (so_far s 9 false) ls)) (sym lines)
-      (subst (λ (d : Context). Stand any other d (schedule_lines m.slots ++ line.End ∷ []) (after_all (so_far s 9 false) ls)) (sym before)
-      (subst (λ (d : Context). Stand any other (at_rank s low []) (schedule_lines m.slots ++ line.End ∷ []) d) (sym made) h))
+      subst (λ (xs : List SourceLine). Stand other (so_far s low false) xs (after_all (so_far s 9 false) ls)) (sym lines)
+      (subst (λ (d : Context). Stand other d (schedule_lines m.slots ++ line.End ∷ []) (after_all (so_far s 9 false) ls)) (sym before)
+      (subst (λ (d : Context). Stand other (at_rank s low []) (schedule_lines m.slots ++ line.End ∷ []) d) (sym made) h))
 
   -- without a schedule
-  ends : (s : Script) (low high : ℕ) (ls : List SourceLine) → IsLower low high → high ≤ 8 → IsFront s high → AllStand file (so_far s high false) (line.End ∷ ls) → Stand any other (so_far s low false) (rest_of ls (after_all (so_far s 11 false) ls)) (after_all (so_far s 11 false) ls)
+  ends : (s : Script) (low high : ℕ) (ls : List SourceLine) → IsLower low high → high ≤ 8 → IsFront s high → AllStand file (so_far s high false) (line.End ∷ ls) → Stand other (so_far s low false) (rest_of ls (after_all (so_far s 11 false) ls)) (after_all (so_far s 11 false) ls)
   ends s low high ls lower le f stand =
       let none = last_line file s ls stand.1 in
       let empty : s.slots ≡ [] = f.slots (omega arith) in
       let under = lower.under in
-      let h = schedule_stands any other s low [] (le-leb low 8 (omega arith)) (le-leb low 10 (omega arith)) (omega arith) tt in
-      let alone : Stand any other (so_far s low false) (schedule_lines s.slots ++ line.End ∷ []) (so_far s 11 false) = subst (λ (xs : List Slot). Stand any other (at_rank s low xs) (schedule_lines xs ++ line.End ∷ []) (at_rank s 11 xs)) (sym empty) h in
-      subst (λ (xs : List SourceLine). Stand any other (so_far s low false) (rest_of xs (after_all (so_far s 11 false) xs)) (after_all (so_far s 11 false) xs)) (sym none) alone
+      let h = schedule_stands other s low [] (le-leb low 8 (omega arith)) (le-leb low 10 (omega arith)) (omega arith) tt in
+      let alone : Stand other (so_far s low false) (schedule_lines s.slots ++ line.End ∷ []) (so_far s 11 false) = subst (λ (xs : List Slot). Stand other (at_rank s low xs) (schedule_lines xs ++ line.End ∷ []) (at_rank s 11 xs)) (sym empty) h in
+      subst (λ (xs : List SourceLine). Stand other (so_far s low false) (rest_of xs (after_all (so_far s 11 false) xs)) (after_all (so_far s 11 false) xs)) (sym none) alone
 
   -- one line more
-  stays : (s : Script) (low high : ℕ) (awaits : Bool) (l : SourceLine) (rest : List SourceLine) (made : Context) → IsLower low high → Stands file (so_far s high awaits) l → IsTrue (runs any l) → Stand any other (so_far (told s l) (rank_of low (kind_of l)) (is_process (kind_of l))) rest made → Stand any other (so_far s low awaits) (l ∷ rest) made
-  stays s low high awaits l rest made lower here built h =
-      record { stand = (lower_stands other s low high awaits l lower (known_stands file other t (so_far s high awaits) l here), h.stand); built = (built, h.built); makes = h.makes }
+  stays : (s : Script) (low high : ℕ) (awaits : Bool) (l : SourceLine) (rest : List SourceLine) (made : Context) → IsLower low high → Stands file (so_far s high awaits) l → Stand other (so_far (told s l) (rank_of low (kind_of l)) (is_process (kind_of l))) rest made → Stand other (so_far s low awaits) (l ∷ rest) made
+  stays s low high awaits l rest made lower here h =
+      record { stand = (lower_stands other s low high awaits l lower (known_stands file other t (so_far s high awaits) l here), h.stand); makes = h.makes }
 
-  goes : (s : Script) (low high : ℕ) (awaits : Bool) (lines : List SourceLine) → IsLower low high → high ≤ 8 → (awaits ≡ true → high ≡ 8) → IsFront s high → AllStand file (so_far s high awaits) lines → is_ended (after_all (so_far s high awaits) lines) ≡ true → AreRun any lines → Stand any other (so_far s low awaits) (rest_of lines (after_all (so_far s high awaits) lines)) (after_all (so_far s high awaits) lines)
-  goes s low high awaits [] lower le at f stand ended built = let eleven : high ≡ 11 = grind (arith, nat_tests) in absurd (omega arith)
-  goes s low high awaits (line.Header ∷ ls) lower le at f stand ended built = absurd (no_header awaits high stand.0.order)
-  goes s low high awaits (line.Go count ∷ ls) lower le at f stand ended built = absurd (no_slot awaits high le stand.0.order)
-  goes s low high awaits (line.IrqSlot k ∷ ls) lower le at f stand ended built = absurd (no_slot awaits high le stand.0.order)
-  goes s low high awaits (line.Tick ∷ ls) lower le at f stand ended built = absurd (no_slot awaits high le stand.0.order)
-  goes s low high true (line.Schedule ∷ ls) lower le at f stand ended built = let order = stand.0.order in absurd (cc)
-  goes s low high false (line.Schedule ∷ ls) lower le at f stand ended built = schedules s low high ls lower le f stand ended built.1
-  goes s low high true (line.End ∷ ls) lower le at f stand ended built = let order = stand.0.order in absurd (cc)
-  goes s low high false (line.End ∷ ls) lower le at f stand ended built = ends s low high ls lower le f stand
-  goes s low high true (line.Pool zero ∷ ls) lower le at f stand ended built = let order = stand.0.order in absurd (cc)
-  goes s low high false (line.Pool zero ∷ ls) lower le at f stand ended built =
+  goes : (s : Script) (low high : ℕ) (awaits : Bool) (lines : List SourceLine) → IsLower low high → high ≤ 8 → (awaits ≡ true → high ≡ 8) → IsFront s high → AllStand file (so_far s high awaits) lines → is_ended (after_all (so_far s high awaits) lines) ≡ true → Stand other (so_far s low awaits) (rest_of lines (after_all (so_far s high awaits) lines)) (after_all (so_far s high awaits) lines)
+  goes s low high awaits [] lower le at f stand ended = let eleven : high ≡ 11 = grind (arith, nat_tests) in absurd (omega arith)
+  goes s low high awaits (line.Header ∷ ls) lower le at f stand ended = absurd (no_header awaits high stand.0.order)
+  goes s low high awaits (line.Go count ∷ ls) lower le at f stand ended = absurd (no_slot awaits high le stand.0.order)
+  goes s low high awaits (line.IrqSlot k ∷ ls) lower le at f stand ended = absurd (no_slot awaits high le stand.0.order)
+  goes s low high awaits (line.Tick ∷ ls) lower le at f stand ended = absurd (no_slot awaits high le stand.0.order)
+  goes s low high true (line.Schedule ∷ ls) lower le at f stand ended = let order = stand.0.order in absurd (cc)
+  goes s low high false (line.Schedule ∷ ls) lower le at f stand ended = schedules s low high ls lower le f stand ended
+  goes s low high true (line.End ∷ ls) lower le at f stand ended = let order = stand.0.order in absurd (cc)
+  goes s low high false (line.End ∷ ls) lower le at f stand ended = ends s low high ls lower le f stand
+  goes s low high true (line.Pool zero ∷ ls) lower le at f stand ended = let order = stand.0.order in absurd (cc)
+  goes s low high false (line.Pool zero ∷ ls) lower le at f stand ended =
       let below = first_setting high 1 (earlier (Some high) false of.Pool refl stand.0.order) stand.0.new in
       let under = lower.under in
       let none : s.pool ≡ 0 = f.pool below in
       let same : so_far (told s (line.Pool zero)) low false ≡ so_far s low false = ap (λ (n : ℕ). so_far (record s { pool = n }) low false) (sym none) in
-      let more = goes (told s (line.Pool zero)) low 1 false ls (record { under = omega arith; same = λ e. absurd (omega arith) }) (omega arith) (λ e. absurd (cc)) (front_after file s high false (line.Pool zero) stand.0 at f) stand.1 ended built.1 in
+      let more = goes (told s (line.Pool zero)) low 1 false ls (record { under = omega arith; same = λ e. absurd (omega arith) }) (omega arith) (λ e. absurd (cc)) (front_after file s high false (line.Pool zero) stand.0 at f) stand.1 ended in
       let made : Context = after_all (so_far s high false) (line.Pool zero ∷ ls) in
-      subst (λ (d : Context). Stand any other d (rest_of ls made) made) same more
-  goes s low high true (line.Fast zero ∷ ls) lower le at f stand ended built = let order = stand.0.order in absurd (cc)
-  goes s low high false (line.Fast zero ∷ ls) lower le at f stand ended built =
+      subst (λ (d : Context). Stand other d (rest_of ls made) made) same more
+  goes s low high true (line.Fast zero ∷ ls) lower le at f stand ended = let order = stand.0.order in absurd (cc)
+  goes s low high false (line.Fast zero ∷ ls) lower le at f stand ended =
       let below = first_setting high 2 (earlier (Some high) false of.Fast refl stand.0.order) stand.0.new in
       let under = lower.under in
       let none : s.fast ≡ 0 = f.fast below in
       let same : so_far (told s (line.Fast zero)) low false ≡ so_far s low false = ap (λ (n : ℕ). so_far (record s { fast = n }) low false) (sym none) in
-      let more = goes (told s (line.Fast zero)) low 2 false ls (record { under = omega arith; same = λ e. absurd (omega arith) }) (omega arith) (λ e. absurd (cc)) (front_after file s high false (line.Fast zero) stand.0 at f) stand.1 ended built.1 in
+      let more = goes (told s (line.Fast zero)) low 2 false ls (record { under = omega arith; same = λ e. absurd (omega arith) }) (omega arith) (λ e. absurd (cc)) (front_after file s high false (line.Fast zero) stand.0 at f) stand.1 ended in
       let made : Context = after_all (so_far s high false) (line.Fast zero ∷ ls) in
-      subst (λ (d : Context). Stand any other d (rest_of ls made) made) same more
-  goes s low high awaits (line.Pool (suc n) ∷ ls) lower le at f stand ended built =
-      let more = goes (told s (line.Pool (suc n))) 1 1 false ls (record { under = omega arith; same = λ e. refl }) (omega arith) (λ e. absurd (cc)) (front_after file s high awaits (line.Pool (suc n)) stand.0 at f) stand.1 ended built.1 in
+      subst (λ (d : Context). Stand other d (rest_of ls made) made) same more
+  goes s low high awaits (line.Pool (suc n) ∷ ls) lower le at f stand ended =
+      let more = goes (told s (line.Pool (suc n))) 1 1 false ls (record { under = omega arith; same = λ e. refl }) (omega arith) (λ e. absurd (cc)) (front_after file s high awaits (line.Pool (suc n)) stand.0 at f) stand.1 ended in
       let made : Context = after_all (so_far s high awaits) (line.Pool (suc n) ∷ ls) in
       let lines : rest_of (line.Pool (suc n) ∷ ls) made ≡ line.Pool (suc n) ∷ rest_of ls made = ap (λ (xs : List SourceLine). xs ++ said ls ++ (schedule_lines made.script.slots ++ line.End ∷ [])) (setting_stays line.Pool n) in
-      subst (λ (xs : List SourceLine). Stand any other (so_far s low awaits) xs made) (sym lines) (stays s low high awaits (line.Pool (suc n)) (rest_of ls made) made lower stand.0 built.0 more)
-  goes s low high awaits (line.Fast (suc n) ∷ ls) lower le at f stand ended built =
-      let more = goes (told s (line.Fast (suc n))) 2 2 false ls (record { under = omega arith; same = λ e. refl }) (omega arith) (λ e. absurd (cc)) (front_after file s high awaits (line.Fast (suc n)) stand.0 at f) stand.1 ended built.1 in
+      subst (λ (xs : List SourceLine). Stand other (so_far s low awaits) xs made) (sym lines) (stays s low high awaits (line.Pool (suc n)) (rest_of ls made) made lower stand.0 more)
+  goes s low high awaits (line.Fast (suc n) ∷ ls) lower le at f stand ended =
+      let more = goes (told s (line.Fast (suc n))) 2 2 false ls (record { under = omega arith; same = λ e. refl }) (omega arith) (λ e. absurd (cc)) (front_after file s high awaits (line.Fast (suc n)) stand.0 at f) stand.1 ended in
       let made : Context = after_all (so_far s high awaits) (line.Fast (suc n) ∷ ls) in
       let lines : rest_of (line.Fast (suc n) ∷ ls) made ≡ line.Fast (suc n) ∷ rest_of ls made = ap (λ (xs : List SourceLine). xs ++ said ls ++ (schedule_lines made.script.slots ++ line.End ∷ [])) (setting_stays line.Fast n) in
-      subst (λ (xs : List SourceLine). Stand any other (so_far s low awaits) xs made) (sym lines) (stays s low high awaits (line.Fast (suc n)) (rest_of ls made) made lower stand.0 built.0 more)
-  goes s low high awaits (l ∷ ls) lower le at f stand ended built =
-      let more = goes (told s l) (rank_of low (kind_of l)) (rank_of high (kind_of l)) (is_process (kind_of l)) ls (lower_after low high (kind_of l) lower) (omega arith) (awaits_after high (kind_of l)) (front_after file s high awaits l stand.0 at f) stand.1 ended built.1 in
+      subst (λ (xs : List SourceLine). Stand other (so_far s low awaits) xs made) (sym lines) (stays s low high awaits (line.Fast (suc n)) (rest_of ls made) made lower stand.0 more)
+  goes s low high awaits (l ∷ ls) lower le at f stand ended =
+      let more = goes (told s l) (rank_of low (kind_of l)) (rank_of high (kind_of l)) (is_process (kind_of l)) ls (lower_after low high (kind_of l) lower) (omega arith) (awaits_after high (kind_of l)) (front_after file s high awaits l stand.0 at f) stand.1 ended in
       let made : Context = after_all (so_far s high awaits) (l ∷ ls) in
-      stays s low high awaits l (rest_of ls made) made lower stand.0 built.0 more
+      stays s low high awaits l (rest_of ls made) made lower stand.0 more
 
 -- from the start
-pub canonical_stands : (any : Bool) (lines : List SourceLine) → AllStand (twos lines) start lines → is_ended (after_all start lines) ≡ true → AreRun any lines
-    → Stand any (twos (canonical_lines (after_all start lines).script)) start (canonical_lines (after_all start lines).script) (after_all start lines)
-canonical_stands any [] stand ended built = absurd (cc)
-canonical_stands any (line.Header ∷ ls) stand ended built =
+pub canonical_stands : (lines : List SourceLine) → AllStand (twos lines) start lines → is_ended (after_all start lines) ≡ true
+    → Stand (twos (canonical_lines (after_all start lines).script)) start (canonical_lines (after_all start lines).script) (after_all start lines)
+canonical_stands [] stand ended = absurd (cc)
+canonical_stands (line.Header ∷ ls) stand ended =
     let file : List Declared = twos (line.Header ∷ ls) in
     let made : Context = after_all (so_far empty_script 0 false) ls in
     let declared : declared_lines made.script ≡ line.Header ∷ said ls = lines_again file empty_script 0 false ls stand.1 (sound-after file start line.Header stand.0 sound-start) front_start last_start in
     let are : canonical_lines made.script ≡ line.Header ∷ rest_of ls made = ap (λ (xs : List SourceLine). xs ++ schedule_lines made.script.slots ++ line.End ∷ []) declared ∙ append_assoc (line.Header ∷ said ls) (schedule_lines made.script.slots) (line.End ∷ []) in
     let other : List Declared = twos (line.Header ∷ rest_of ls made) in
     let t : Carries file other = carries file ls (schedule_lines made.script.slots ++ line.End ∷ []) stand.1 in
-    let h = goes any file other t empty_script 0 0 false ls (record { under = omega arith; same = λ e. refl }) (omega arith) (λ e. absurd (cc)) front_start stand.1 ended built.1 in
-    let whole : Stand any other start (line.Header ∷ rest_of ls made) made = record { stand = (known_stands file other t start line.Header stand.0, h.stand); built = (built.0, h.built); makes = h.makes } in
-    subst (λ (ks : List SourceLine). Stand any (twos ks) start ks made) (sym are) whole
-canonical_stands any (l ∷ ls) stand ended built = let order = stand.0.order in absurd (cc)
+    let h = goes file other t empty_script 0 0 false ls (record { under = omega arith; same = λ e. refl }) (omega arith) (λ e. absurd (cc)) front_start stand.1 ended in
+    let whole : Stand other start (line.Header ∷ rest_of ls made) made = record { stand = (known_stands file other t start line.Header stand.0, h.stand); makes = h.makes } in
+    subst (λ (ks : List SourceLine). Stand (twos ks) start ks made) (sym are) whole
+canonical_stands (l ∷ ls) stand ended = let order = stand.0.order in absurd (cc)

@@ -1,3 +1,2 @@
 pub mod CanonicalText
 pub mod PrintedWord
-pub mod Spelled

@@ -2,8 +2,7 @@
 ghost use Rattle.std.specs.List.{flat_map};
 ghost use Rattle.std.specs.Prelude.{◌≡◌, ℕ, List, [], ◌∷◌, ◌++◌, map, IfOk, OnOk};
 ghost use Rattle.script_print.specs.CanonicalText.{source_text, source_texts, setting_lines, thread_line, thread_lines, is_same, threads_of, processes_lines, declared_lines, canonical_lines, canonical_text};
-ghost use Rattle.script_print.specs.Spelled.{IsSpelled};
-ghost use Rattle.script_grammar.specs.Accepted.{IsAccepted, IsValid};
+ghost use Rattle.script_grammar.specs.Accepted.{IsAccepted};
 ghost use Rattle.script_types.specs.Source.{IsWellFormed};
 ghost use Rattle.script_types.specs.declared.source_line.SourceLine.TheVariants as line;
 
@@ -132,10 +131,7 @@ pub fn put_script(out: &mut Vec<u8>, script: &Script) -> Result<(), NoMemory>
 /// one line. It is accepted as the script where any bytes are.
 pub fn print_script(alloc: Global, script: &Script) -> Result<Vec<u8>, NoMemory>
     ensures text { IfOk result (λ text. text.items ≡ canonical_text script.now) }
-    ensures again { IfOk result (λ text. IsValid script.now → IsAccepted text.items script.now) }
-
-    // The same of a script with lines that the program doesn't run yet.
-    ensures spelled { IfOk result (λ text. IsWellFormed script.now → IsSpelled text.items script.now) }
+    ensures again { IfOk result (λ text. IsWellFormed script.now → IsAccepted text.items script.now) }
 {
     let mut out = Vec::new(alloc);
     put_script(&mut out, script)?;

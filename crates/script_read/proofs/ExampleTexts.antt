@@ -88,8 +88,3 @@ bad_limit = refl
 bad_end : first_bad (codes "eka2 1" ∷ codes "schedule" ∷ []) ≡ Some (3, reason.End)
 unfolding read_text text_lines first_reason after_text words_of keyword_of line_as word_text
 bad_end = refl
-
--- messages
-bad_unbuilt : first_bad (codes "eka2 1" ∷ codes "process p" ∷ codes "thread a 10" ∷ codes "read m0 1 2 3 4" ∷ codes "read m0 1" ∷ []) ≡ Some (4, reason.Unbuilt)
-unfolding read_text text_lines first_reason after_text words_of keyword_of line_as word_text
-bad_unbuilt = refl

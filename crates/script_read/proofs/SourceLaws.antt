@@ -15,7 +15,6 @@ use Rattle.script_read.specs.declared.reason.Reason.TheVariants as reason
 use Rattle.script_read.proofs.FirstBadLaws.{find_is, read_or_bad, read_not_bad, one_script_read}
 use Rattle.script_words.proofs.FormsAgain.{kind_at, takes, line_again, keyword_again}
 use Rattle.script_words.proofs.Steps.{by_test, same_bytes}
-use Rattle.script_grammar.specs.BuiltLine.{is_built_line}
 use Rattle.script_types.specs.Context.{start, after, after_all, may_stand, rank_or, is_in_order, is_ended, kind_of}
 use Rattle.script_types.specs.Forms.{form_of}
 use Rattle.script_types.specs.declared.context.Context.{Context}
@@ -51,11 +50,10 @@ record HasNoReason (file : List Declared) (c : Context) (text : List ℕ) : Type
   unknown : has reason.Unknown file c text ≡ false
   limit : has reason.Limit file c text ≡ false
   end : has reason.End file c text ≡ false
-  unbuilt : has reason.Unbuilt file c text ≡ false
 
 named : (file : List Declared) (c : Context) (text : List ℕ) → HasNone reasons file c text → HasNoReason file c text
-named file c text (byte, (long, (word, (order, (count, (form, (range, (kind, (twice, (unknown, (limit, (end, (unbuilt, others))))))))))))) =
-    record { byte = byte; long = long; word = word; order = order; count = count; form = form; range = range; kind = kind; twice = twice; unknown = unknown; limit = limit; end = end; unbuilt = unbuilt }
+named file c text (byte, (long, (word, (order, (count, (form, (range, (kind, (twice, (unknown, (limit, (end, others)))))))))))) =
+    record { byte = byte; long = long; word = word; order = order; count = count; form = form; range = range; kind = kind; twice = twice; unknown = unknown; limit = limit; end = end }
 
 -- a line of which no reason holds has none of them
 none_by : (others : List Reason) (file : List Declared) (c : Context) (text : List ℕ) → ((why : Reason) → has why file c text ≡ false) → HasNone others file c text
@@ -71,7 +69,6 @@ record IsLine (file : List Declared) (c : Context) (text : List ℕ) : Type 0 wh
   line : SourceLine
   spelled : words_of text ≡ source_words line
   stands : Stands file c line
-  built : is_built_line line ≡ true
   makes : after_text c text ≡ after c line
 
 line_by : (file : List Declared) (c : Context) (text : List ℕ) (k : Keyword) → is_skipped (words_of text) ≡ false → keyword_in (words_of text) ≡ Some k → HasNone reasons file c text → IsLine file c text
@@ -89,13 +86,11 @@ line_by file c text k told e none =
     let new : is_new c l ≡ true = not_not (is_new c l) (rw (told, e) at no.twice) in
     let known : is_known file c l ≡ true = not_not (is_known file c l) (rw (told, e) at no.unknown) in
     let within : is_within c l ≡ true = not_not (is_within c l) (rw (told, e) at no.limit) in
-    let built : is_built_line l ≡ true = not_not (is_built_line l) (rw (told, e) at no.unbuilt) in
     let t = takes s k words count (keyword_takes (word_at words 0) k e) forms ranges in
     record {
       line = l;
       spelled = t.same;
       stands = record { order = ap (is_in_order c) (kind_at s k words) ∙ order; ranges = t.range; kind = right; new = new; known = known; within = within };
-      built = built;
       makes = rw (told, e) refl;
     }
 
@@ -114,7 +109,6 @@ record HasLines (file : List Declared) (c : Context) (texts : List (List ℕ)) (
   clean : AllByRecursion IsClean texts
   spelled : told_words texts ≡ map source_words lines
   stand : AllStand file c lines
-  built : AllByRecursion (λ l. IsTrue (is_built_line l)) lines
   makes : after_all c lines ≡ made
 
 told_front : (text : List ℕ) (texts : List (List ℕ)) → is_skipped (words_of text) ≡ false → told_words (text ∷ texts) ≡ words_of text ∷ told_words texts
@@ -131,20 +125,20 @@ unfolding after_text
 skipped_stays c text h = rw h refl
 
 make_lines : (file : List Declared) (c : Context) (texts : List (List ℕ)) (made : Context) → Make file c texts made → HasLines file c texts made
-make_lines file c [] made good = record { lines = []; clean = tt; spelled = refl; stand = tt; built = tt; makes = sym good }
+make_lines file c [] made good = record { lines = []; clean = tt; spelled = refl; stand = tt; makes = sym good }
 make_lines file c (text ∷ texts) made good =
     let clean = clean_text file c text good.0 in
     by_test {P = HasLines file c (text ∷ texts) made} (is_skipped (words_of text))
     (λ skipped.
     let same = skipped_stays c text skipped in
     let h = make_lines file c texts made (subst (λ (d : Context). Make file d texts made) same good.1) in
-    record { lines = h.lines; clean = (clean, h.clean); spelled = rw skipped h.spelled; stand = h.stand; built = h.built; makes = h.makes })
+    record { lines = h.lines; clean = (clean, h.clean); spelled = rw skipped h.spelled; stand = h.stand; makes = h.makes })
     (λ told.
     let l = line_of_text file c text (keyword_in (words_of text)) refl told good.0 in
     let h = make_lines file (after c l.line) texts made (subst (λ (d : Context). Make file d texts made) l.makes good.1) in
     let spelled = l.spelled in
     let others = h.spelled in
-    record { lines = l.line ∷ h.lines; clean = (clean, h.clean); spelled = told_front text texts told ∙ both_same (words_of text) (source_words l.line) (told_words texts) (map source_words h.lines) spelled others; stand = (l.stands, h.stand); built = (l.built, h.built); makes = h.makes })
+    record { lines = l.line ∷ h.lines; clean = (clean, h.clean); spelled = told_front text texts told ∙ both_same (words_of text) (source_words l.line) (told_words texts) (map source_words h.lines) spelled others; stand = (l.stands, h.stand); makes = h.makes })
 
 -- what is read is accepted
 pub read_is_accepted : (bytes : List ℕ) (script : Script) → IsRead bytes script → IsAccepted bytes script
@@ -154,7 +148,6 @@ read_is_accepted bytes script r =
       lines = h.lines;
       are = record { clean = h.clean; spelled = h.spelled; stand = h.stand };
       ended = ap is_ended h.makes ∙ r.ended;
-      built = h.built;
       same = r.same ∙ ap (λ (c : Context). c.script) (sym h.makes);
     }
 
@@ -212,7 +205,6 @@ record PassEach (file : List Declared) (c : Context) (k : Keyword) (words : List
   twice : is_new c (line_at (is_scheduled c) k words) ≡ true
   unknown : is_known file c (line_at (is_scheduled c) k words) ≡ true
   limit : is_within c (line_at (is_scheduled c) k words) ≡ true
-  unbuilt : is_built_line (line_at (is_scheduled c) k words) ≡ true
 
 good_has : (file : List Declared) (c : Context) (text : List ℕ) (k : Keyword) → IsClean text → is_skipped (words_of text) ≡ false → keyword_in (words_of text) ≡ Some k → PassEach file c k (words_of text) → (why : Reason) → has why file c text ≡ false
 good_has file c text k clean told e pass reason.Byte = off (is_printed text) clean.printed
@@ -226,12 +218,11 @@ good_has file c text k clean told e pass reason.Kind = rw (told, e) (off _ pass.
 good_has file c text k clean told e pass reason.Twice = rw (told, e) (off _ pass.twice)
 good_has file c text k clean told e pass reason.Unknown = rw (told, e) (off _ pass.unknown)
 good_has file c text k clean told e pass reason.Limit = rw (told, e) (off _ pass.limit)
-good_has file c text k clean told e pass reason.Unbuilt = rw (told, e) (off _ pass.unbuilt)
 good_has file c text k clean told e pass reason.End = refl
 
-line_good : (file : List Declared) (c : Context) (text : List ℕ) (l : SourceLine) → IsClean text → is_skipped (words_of text) ≡ false → words_of text ≡ source_words l → Stands file c l → is_built_line l ≡ true → IsGood file c text l
+line_good : (file : List Declared) (c : Context) (text : List ℕ) (l : SourceLine) → IsClean text → is_skipped (words_of text) ≡ false → words_of text ≡ source_words l → Stands file c l → IsGood file c text l
 unfolding after_text
-line_good file c text l clean told spelled stands built =
+line_good file c text l clean told spelled stands =
     let s : Bool = is_scheduled c in
     let words : List (List ℕ) = words_of text in
     let a = line_again s l stands.ranges (kind_here c l stands.order) in
@@ -248,7 +239,6 @@ line_good file c text l clean told spelled stands built =
       twice = ap (is_new c) here ∙ stands.new;
       unknown = ap (is_known file c) here ∙ stands.known;
       limit = ap (is_within c) here ∙ stands.within;
-      unbuilt = ap is_built_line here ∙ built;
     } in
     record {
       none = none_by reasons file c text (good_has file c text k clean told e pass);
@@ -267,20 +257,19 @@ front_of : (words : List (List ℕ)) (others : List (List (List ℕ))) (lines : 
 front_of words others [] h = absurd (cc)
 front_of words others (l ∷ ls) h = record { line = l; rest = ls; are = refl; spelled = cc; later = cc }
 
-lines_make : (file : List Declared) (c : Context) (texts : List (List ℕ)) (lines : List SourceLine) → AllByRecursion IsClean texts → told_words texts ≡ map source_words lines → AllStand file c lines → AllByRecursion (λ l. IsTrue (is_built_line l)) lines → Make file c texts (after_all c lines)
-lines_make file c [] [] clean spelled stand built = refl
-lines_make file c [] (l ∷ ls) clean spelled stand built = absurd (cc)
-lines_make file c (text ∷ texts) lines clean spelled stand built =
+lines_make : (file : List Declared) (c : Context) (texts : List (List ℕ)) (lines : List SourceLine) → AllByRecursion IsClean texts → told_words texts ≡ map source_words lines → AllStand file c lines → Make file c texts (after_all c lines)
+lines_make file c [] [] clean spelled stand = refl
+lines_make file c [] (l ∷ ls) clean spelled stand = absurd (cc)
+lines_make file c (text ∷ texts) lines clean spelled stand =
     by_test {P = Make file c (text ∷ texts) (after_all c lines)} (is_skipped (words_of text))
     (λ skipped.
-    let later = lines_make file c texts lines clean.1 (sym (skipped_front text texts skipped) ∙ spelled) stand built in
+    let later = lines_make file c texts lines clean.1 (sym (skipped_front text texts skipped) ∙ spelled) stand in
     (skipped_none file c text clean.0 skipped, subst (λ (d : Context). Make file d texts (after_all c lines)) (sym (skipped_stays c text skipped)) later))
     (λ told.
     let f = front_of (words_of text) (told_words texts) lines (sym (told_front text texts told) ∙ spelled) in
     let stand_here : AllStand file c (f.line ∷ f.rest) = subst (λ (ls : List SourceLine). AllStand file c ls) f.are stand in
-    let built_here : AllByRecursion (λ l. IsTrue (is_built_line l)) (f.line ∷ f.rest) = subst (λ (ls : List SourceLine). AllByRecursion (λ l. IsTrue (is_built_line l)) ls) f.are built in
-    let g = line_good file c text f.line clean.0 told f.spelled stand_here.0 built_here.0 in
-    let later = lines_make file (after c f.line) texts f.rest clean.1 f.later stand_here.1 built_here.1 in
+    let g = line_good file c text f.line clean.0 told f.spelled stand_here.0 in
+    let later = lines_make file (after c f.line) texts f.rest clean.1 f.later stand_here.1 in
     let whole : Make file c (text ∷ texts) (after_all c (f.line ∷ f.rest)) = (g.none, subst (λ (d : Context). Make file d texts (after_all (after c f.line) f.rest)) (sym g.makes) later) in
     subst (λ (ls : List SourceLine). Make file c (text ∷ texts) (after_all c ls)) (sym f.are) whole)
 
@@ -288,7 +277,7 @@ lines_make file c (text ∷ texts) lines clean spelled stand built =
 pub accepted_is_read : (bytes : List ℕ) (script : Script) → IsAccepted bytes script → IsRead bytes script
 accepted_is_read bytes script a = record {
   made = after_all start a.lines;
-  good = lines_make (file_declares (text_lines bytes)) start (text_lines bytes) a.lines a.are.clean a.are.spelled a.are.stand a.built;
+  good = lines_make (file_declares (text_lines bytes)) start (text_lines bytes) a.lines a.are.clean a.are.spelled a.are.stand;
   ended = a.ended;
   same = a.same;
 }

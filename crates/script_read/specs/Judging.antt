@@ -11,7 +11,6 @@ use Rattle.script_read.specs.declared.judge.Judged.TheVariants as judged
 use Rattle.script_types.specs.declared.keyword.Keyword.{Keyword}
 use Rattle.script_read.specs.declared.reason.Reason.{Reason}
 use Rattle.script_read.specs.declared.reason.Reason.TheVariants as reason
-use Rattle.script_grammar.specs.BuiltLine.{is_built_line}
 use Rattle.script_types.specs.Context.{after, is_in_order}
 use Rattle.script_types.specs.Names.{Declared, is_known, is_new}
 use Rattle.script_types.specs.Stands.{is_right_kind, is_within}
@@ -35,7 +34,7 @@ word_tests c k words = (is_in_order c (keyword_kind (is_scheduled c) k), reason.
 
 -- the tests of the line that such words are. A whole file has the reason `end`, and no line
 abbrev pub line_tests : List Declared → Context → SourceLine → List (Bool × Reason)
-line_tests file c l = (is_right_kind c l, reason.Kind) ∷ (is_new c l, reason.Twice) ∷ (is_known file c l, reason.Unknown) ∷ (is_within c l, reason.Limit) ∷ (true, reason.End) ∷ (is_built_line l, reason.Unbuilt) ∷ []
+line_tests file c l = (is_right_kind c l, reason.Kind) ∷ (is_new c l, reason.Twice) ∷ (is_known file c l, reason.Unknown) ∷ (is_within c l, reason.Limit) ∷ (true, reason.End) ∷ []
 
 -- a line, unless a test of it fails
 abbrev pub judged_line : SourceLine → Option Reason → Judged

@@ -7,7 +7,6 @@ use Rattle.script_words.specs.LineSigns.{word_at, is_counted, have_forms, are_in
 use Rattle.script_types.specs.declared.keyword.Keyword.{Keyword}
 use Rattle.script_read.specs.declared.reason.Reason.{Reason}
 use Rattle.script_read.specs.declared.reason.Reason.TheVariants as reason
-use Rattle.script_grammar.specs.BuiltLine.{is_built_line}
 use Rattle.script_types.specs.Context.{after, is_in_order, rank_or}
 use Rattle.script_types.specs.declared.context.Context.{Context}
 use Rattle.script_types.specs.Names.{Declared, is_known, is_new}
@@ -49,11 +48,10 @@ has reason.Twice file c text = of_line c text (λ l. not (is_new c l))
 has reason.Unknown file c text = of_line c text (λ l. not (is_known file c l))
 has reason.Limit file c text = of_line c text (λ l. not (is_within c l))
 has reason.End file c text = false
-has reason.Unbuilt file c text = of_line c text (λ l. not (is_built_line l))
 
 -- the reasons in the order in which they are tried. A whole file has the reason `end`, and no line
 abbrev pub reasons : List Reason
-reasons = reason.Byte ∷ reason.Long ∷ reason.Word ∷ reason.Order ∷ reason.Count ∷ reason.Form ∷ reason.Range ∷ reason.Kind ∷ reason.Twice ∷ reason.Unknown ∷ reason.Limit ∷ reason.End ∷ reason.Unbuilt ∷ []
+reasons = reason.Byte ∷ reason.Long ∷ reason.Word ∷ reason.Order ∷ reason.Count ∷ reason.Form ∷ reason.Range ∷ reason.Kind ∷ reason.Twice ∷ reason.Unknown ∷ reason.Limit ∷ reason.End ∷ []
 
 -- the first reason that a line has
 unfoldable pub first_reason : List Declared → Context → List ℕ → Option Reason

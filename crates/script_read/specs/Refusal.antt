@@ -17,7 +17,6 @@ reason_word reason.Twice = codes "twice"
 reason_word reason.Unknown = codes "unknown"
 reason_word reason.Limit = codes "limit"
 reason_word reason.End = codes "end"
-reason_word reason.Unbuilt = codes "unbuilt"
 
 -- the one line that is written of a refused script
 abbrev pub refusal_text : ℕ → Reason → List ℕ

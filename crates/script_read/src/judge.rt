@@ -13,7 +13,6 @@ use crate::known::{is_known, names_something};
 use crate::limits::is_within;
 use crate::order::{is_in_order, is_scheduled};
 use crate::standing::{is_new, is_right_kind};
-use script_grammar::is_built_line;
 use script_types::{Context, SourceLine};
 use script_words::{
     Fault, Keyword, is_counted, is_printed, is_short, is_skipped, keyword_kind, keyword_of,
@@ -59,8 +58,7 @@ fn reason_of_words(context: &Context, keyword: Keyword, words: &[&[u8]]) -> Opti
     reason_of_fault(line_fault(keyword, second, words))
 }
 
-/// The first reason why a line may not stand here: its thread, its names, the limits, or that it isn't
-/// built.
+/// The first reason why a line may not stand here: its thread, its names, or the limits.
 fn reason_of_line(
     declarations: &Declarations<'_>,
     context: &Context,
@@ -82,9 +80,6 @@ fn reason_of_line(
     }
     if !is_within(context, instructions, line) {
         return Some(Reason::Limit);
-    }
-    if !is_built_line(line) {
-        return Some(Reason::Unbuilt);
     }
     None
 }

@@ -31,8 +31,6 @@ pub enum Reason {
     Limit,
     /// The file ends without its last line.
     End,
-    /// This program doesn't run lines of this form yet.
-    Unbuilt,
 }
 
 impl Reason {
@@ -56,7 +54,6 @@ impl Reason {
             Reason::Unknown => "unknown",
             Reason::Limit => "limit",
             Reason::End => "end",
-            Reason::Unbuilt => "unbuilt",
         }
     }
 }

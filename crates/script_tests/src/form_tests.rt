@@ -1,7 +1,8 @@
-//! Each form of line is read, whether the program runs it or not, and printed again; and the ends of ranges.
+//! Each form of line is read and printed again; and the ends of ranges.
 use crate::every_form::{EVERY_FORM, is_every_form};
-use crate::read_whole::read_whole;
+use crate::tests::answer;
 use script_print::print_script;
+use script_read::ReadScript;
 use script_words::{Fault, is_counted, keyword_of, line_fault, second_of, take_words, word_at};
 use std::alloc::Global;
 use std::test::Fail;
@@ -75,7 +76,7 @@ fn fault_of(alloc: Global, text: &str) -> Result<Option<Fault>, NoMemory> {
 
 #[test]
 fn reads_and_prints_every_form(rt: HostRuntime) -> Result<(), Fail> {
-    let Some(script) = read_whole(rt.alloc(), EVERY_FORM)? else {
+    let ReadScript::Script(script) = answer(rt.alloc(), EVERY_FORM.as_bytes()) else {
         return Err("a line is bad".into());
     };
     assert!(rt; is_every_form(&script));

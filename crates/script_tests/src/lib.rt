@@ -8,6 +8,4 @@ mod form_tests;
 #[cfg(test)]
 mod print_tests;
 #[cfg(test)]
-mod read_whole;
-#[cfg(test)]
 mod tests;

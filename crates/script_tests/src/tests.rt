@@ -26,7 +26,7 @@ struct BadText {
 }
 
 /// A text for each reason.
-const BAD_TEXTS: [BadText; 13] = [
+const BAD_TEXTS: [BadText; 12] = [
     BadText {
         text: "eka2 1\n# a\tb\nend\n",
         line: 2,
@@ -86,11 +86,6 @@ const BAD_TEXTS: [BadText; 13] = [
         text: "eka2 1\nprocess p\n",
         line: 3,
         reason: Reason::End,
-    },
-    BadText {
-        text: "eka2 1\nprocess p\nthread a 10\nread m0 0 0 0 0\nthread a 64\n",
-        line: 4,
-        reason: Reason::Unbuilt,
     },
 ];
 
@@ -214,9 +209,9 @@ fn reads_the_greatest_numbers(rt: HostRuntime) -> Result<(), Fail> {
 fn words_of_reasons(rt: HostRuntime) -> Result<(), Fail> {
     let fault = RunFault::Refused {
         line: 3,
-        reason: Reason::Unbuilt,
+        reason: Reason::Twice,
     };
     let text = format!(in rt.alloc(); "{fault}")?;
-    assert_eq!(rt; text.as_str(), "refused line 3 unbuilt");
+    assert_eq!(rt; text.as_str(), "refused line 3 twice");
     Ok(())
 }

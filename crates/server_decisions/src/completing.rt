@@ -38,7 +38,7 @@ fn taken_by<R: Reads>(reads: &R, thread: ThreadNo, found: Option<Message>) -> Op
 }
 
 /// The message whose number a register has, where a server of the thread took it.
-fn message_at<R: Reads>(
+pub fn message_at<R: Reads>(
     reads: &R,
     thread: ThreadNo,
     row: &ThreadRow,

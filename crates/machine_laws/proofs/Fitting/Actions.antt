@@ -57,6 +57,7 @@ use Rattle.machine_laws.proofs.Fitting.Dooms.{fits-end, fits-flush, fits-funlock
 use Rattle.machine_laws.proofs.Fitting.Reaping.{IsDying, fits-bury, fits-clean, fits-give_up}
 use Rattle.machine_laws.proofs.Fitting.Requests.{fits-queue, fits-request, fits-cancel, fits-waitany, fits-waitfor, fits-status}
 use Rattle.machine_laws.proofs.Fitting.Locks.{fits-lock, fits-unlock, fits-wait, fits-signal}
+use Rattle.machine_laws.proofs.Fitting.Copying.{fits-read, fits-write}
 use Rattle.machine_laws.proofs.Fitting.MemoryCalls.{fits-fill, fits-peek}
 use Rattle.machine_laws.proofs.Fitting.Steps.{fits-create_mutex, fits-create_semaphore, fits-dup, fits-duplocal, fits-open, fits-open_return, fits-close}
 
@@ -106,7 +107,8 @@ fits-step script S t row (instr.Call x n args) p h going at = few (fits-call x n
 fits-step script S t row (instr.Receive x y) p h going at = few (fits-receive x y p h going at)
 fits-step script S t row (instr.Complete y code) p h going at = few (fits-complete y code h going)
 fits-step script S t row (instr.Function y) p h going at = few (fits-function y h)
-fits-step script S t row _ p h going at = few (fits-nothing script S t)
+fits-step script S t row (instr.Read y arg offset size from) p h going at = few (fits-read y arg offset size from p h at)
+fits-step script S t row (instr.Write y arg offset size from) p h going at = few (fits-write y arg offset size from p h at)
 
 -- and so do their returns
 fits-returning : (script : Script) (S : State) (t : ObjNo) (row : ThreadRow) (instr : Instr) → IsStepping script S t row instr → is_before_use row.part ≡ true → FitsDecision script t S (return_of S t row instr)

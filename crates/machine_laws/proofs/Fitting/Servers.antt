@@ -103,7 +103,7 @@ fits-receive {row = row} x y (Some part.Do) h going at = fits-receive_do y row.u
 fits-receive {row = row} x y (Some _) h going at = fits-receive_done y row.uses h going h.registers.1 refl
 
 -- a message that a server of a thread took is outstanding
-taken_is : (S : State) (t : ObjNo) (found : Option Message) (message : Message) → taken_by S t found ≡ Some message → found ≡ Some message
+pub taken_is : (S : State) (t : ObjNo) (found : Option Message) (message : Message) → taken_by S t found ≡ Some message → found ≡ Some message
 taken_is S t None message e = absurd (cc)
 taken_is S t (Some x) message e = by (x.row.taken && is_owner t (owner_of S.servers x.row.server)) e
   where

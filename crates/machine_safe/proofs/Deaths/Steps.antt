@@ -11,6 +11,7 @@ use Rattle.script_types.specs.declared.instruction.Instr.{Instr}
 use Rattle.script_types.specs.declared.instruction.Instr.TheVariants as instr
 use Rattle.entry_log.specs.declared.step.Part.{Part}
 use Rattle.entry_log.specs.declared.step.Part.TheVariants as part
+use Rattle.entry_log.specs.declared.step.Step.TheVariants.{Of}
 use Rattle.sym_base.specs.declared.limits.TheConstants.Limits.{OBJECTS}
 use Rattle.state_rows.specs.Deferred.{is_queued}
 use Rattle.state_rows.specs.Locks.{count_at}
@@ -26,7 +27,13 @@ use Rattle.state_rows.specs.declared.locks.Signalled.{Signalled}
 use Rattle.state_rows.specs.declared.locks.Signalled.TheVariants as signalled
 use Rattle.state_rows.specs.declared.locks.Unlocked.{Unlocked}
 use Rattle.state_rows.specs.declared.locks.Unlocked.TheVariants.{Freed, Passed, Level, NotOwner}
+use Rattle.state_rows.specs.declared.messages.Message.{Message}
 use Rattle.state_rows.specs.declared.thread.ThreadRow.{ThreadRow}
+use Rattle.copy_rules.specs.declared.job.CopyMove.{CopyMove}
+use Rattle.copy_rules.specs.declared.job.Piece.{Piece}
+use Rattle.copy_rules.specs.declared.job.Piece.TheVariants.{More, Whole, BadDescriptor, Argument, Died}
+use Rattle.copy_rules.specs.declared.job.Piece.TheVariants as piece
+use Rattle.machine.specs.Copying.{copy_piece, read_from, unless_done, write_from}
 use Rattle.machine.specs.declared.decision.Decision.{Decision}
 use Rattle.machine.specs.declared.handles.NewHandle.{NewHandle}
 use Rattle.machine.specs.declared.lock_move.LockMove.{LockMove}
@@ -144,6 +151,27 @@ is_serving (instr.Receive x y) = true
 is_serving (instr.Complete y code) = true
 is_serving _ = false
 
+-- copies
+other-piece : (t : ObjNo) (word : Word) (copy : CopyMove) (piece : Piece) → IsOther false (copy_piece t (Of word part.Piece) copy piece)
+other-piece t word copy (More done) = record { step = refl; cleans = refl; answers = refl; dooms = λ v. refl; calm = λ _. refl; making = λ _. refl; sends = λ _. refl }
+other-piece t word copy (Whole size) = record { step = refl; cleans = refl; answers = refl; dooms = λ v. refl; calm = λ _. refl; making = λ _. refl; sends = λ _. refl }
+other-piece t word copy BadDescriptor = record { step = refl; cleans = refl; answers = refl; dooms = λ v. refl; calm = λ _. refl; making = λ _. refl; sends = λ _. refl }
+other-piece t word copy Argument = record { step = refl; cleans = refl; answers = refl; dooms = λ v. refl; calm = λ _. refl; making = λ _. refl; sends = λ _. refl }
+other-piece t word copy piece.Overflow = record { step = refl; cleans = refl; answers = refl; dooms = λ v. refl; calm = λ _. refl; making = λ _. refl; sends = λ _. refl }
+other-piece t word copy Died = record { step = refl; cleans = refl; answers = refl; dooms = λ v. refl; calm = λ _. refl; making = λ _. refl; sends = λ _. refl }
+
+other-read : (S : State) (t : ObjNo) (row : ThreadRow) (arg offset size at : ℕ) (found : Option Message) → IsOther false (read_from S t row arg offset size at found)
+other-read S t row arg offset size at None = record { step = refl; cleans = refl; answers = refl; dooms = λ v. refl; calm = λ _. refl; making = λ _. refl; sends = λ _. refl }
+other-read S t row arg offset size at (Some message) = other-piece t word.Read _ _
+
+other-write : (S : State) (t : ObjNo) (row : ThreadRow) (arg offset size from : ℕ) (found : Option Message) → IsOther false (write_from S t row arg offset size from found)
+other-write S t row arg offset size from None = record { step = refl; cleans = refl; answers = refl; dooms = λ v. refl; calm = λ _. refl; making = λ _. refl; sends = λ _. refl }
+other-write S t row arg offset size from (Some message) = other-piece t word.Write _ _
+
+other-early : (p : Option Part) (d : Decision) → IsOther false d → IsOther false (unless_done p d)
+other-early (Some part.Done) d h = record { step = refl; cleans = refl; answers = refl; dooms = λ v. refl; calm = λ _. refl; making = λ _. refl; sends = λ _. refl }
+other-early _ d h = h
+
 -- no step of an instruction is a cleaning
 pub other-step : (script : Script) (S : State) (t : ObjNo) (row : ThreadRow) (instr : Instr) (p : Option Part) → IsOther (is_serving instr) (step_of script S t row instr p)
 other-step script S t row (instr.CreateMutex name x) p = other-create S t row objects.Mutex name None x
@@ -201,7 +229,8 @@ other-step script S t row (instr.Call x function args) p = other-message_call S 
 other-step script S t row (instr.Receive x y) p = other-receive S t row x y p
 other-step script S t row (instr.Complete y code) p = other-complete S t code _
 other-step script S t row (instr.Function y) p = other-function t _
-other-step script S t row _ p = record { step = refl; cleans = refl; answers = refl; dooms = λ v. refl; calm = λ _. refl; making = λ _. refl; sends = λ _. refl }
+other-step script S t row (instr.Read y arg offset size at) p = other-early p _ (other-read S t row arg offset size at _)
+other-step script S t row (instr.Write y arg offset size from) p = other-early p _ (other-write S t row arg offset size from _)
 
 -- nor is a return
 pub other-return : (S : State) (t : ObjNo) (row : ThreadRow) (instr : Instr) → IsOther false (return_of S t row instr)

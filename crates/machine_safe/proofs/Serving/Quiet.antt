@@ -1,7 +1,15 @@
 -- Moves by which no message comes or goes leave the messages, but for which are taken; and which handles moves tell of.
+use Rattle.copy_rules.specs.Ends.{ends_of}
+use Rattle.copy_rules.specs.Pieces.{unless_refused}
+use Rattle.copy_rules.specs.Refusals.{write_refusal}
+use Rattle.copy_rules.specs.Sizes.{done_after, write_size}
+use Rattle.copy_rules.specs.declared.job.CopyMove.{CopyMove}
+use Rattle.copy_rules.specs.declared.job.CopyMove.TheVariants.{Read, Write}
+use Rattle.copy_rules.specs.declared.job.Piece.{Piece}
 use Rattle.entry_log.specs.declared.effect.Effect.{Effect}
 use Rattle.entry_log.specs.declared.effect.Holder.{Holder}
 use Rattle.entry_log.specs.declared.effect.Holder.TheVariants.{InProcess, InThread}
+use Rattle.machine.specs.CopyMoves.{messages_copied}
 use Rattle.machine.specs.Fits.{EachFits, FitsMove}
 use Rattle.machine.specs.Moves.{closed_effects, moved, perform, tell, told}
 use Rattle.machine.specs.References.{is_last, same, total}
@@ -10,7 +18,7 @@ use Rattle.machine.specs.ServerMoves.{server_told}
 use Rattle.machine.specs.WellFormed.{AreRows, EachMayOwe, MayOwe}
 use Rattle.machine.specs.declared.message_move.MessageMove.TheVariants.{Accept, Finish, Take}
 use Rattle.machine.specs.declared.moves.Move.{Move}
-use Rattle.machine.specs.declared.moves.Move.TheVariants.{Lose, Messages, Pay, Servers}
+use Rattle.machine.specs.declared.moves.Move.TheVariants.{Copies, Lose, Messages, Pay, Servers}
 use Rattle.machine.specs.declared.server_move.ServerMove.{ServerMove}
 use Rattle.machine.specs.declared.server_move.ServerMove.TheVariants.{End, Join}
 use Rattle.machine.specs.declared.state.State.{State}
@@ -18,16 +26,19 @@ use Rattle.machine_safe.proofs.Serving.EffectSums.{accepts-append, finishes-appe
 use Rattle.machine_safe.proofs.Serving.Keeps.{lost_bit, message_bit}
 use Rattle.machine_safe.proofs.Serving.Told.{close-accepts, close-finishes, close-lost, unserved-move}
 use Rattle.machine_safe.specs.Served.{handles_lost, is_handle}
+use Rattle.move_laws.proofs.MoveLaws.CopyMoves.{copy_accepts}
 use Rattle.move_laws.proofs.RowLaws.Rising.{edited-value}
 use Rattle.script_types.specs.declared.script.Script.{Script}
-use Rattle.state_rows.specs.MessageChanges.{edited, next_of, taken_row, taken}
+use Rattle.state_rows.specs.MessageChanges.{after_set_length, edited, next_of, resized, taken_row, taken}
 use Rattle.state_rows.specs.declared.duty.Owed.{Owed}
 use Rattle.state_rows.specs.declared.duty.Owed.TheVariants.{Close, Sweep}
 use Rattle.state_rows.specs.declared.messages.Message.{Message}
 use Rattle.state_rows.specs.declared.messages.MessageRows.{MessageRows}
+use Rattle.state_rows.specs.declared.messages.MsgRow.{MsgRow}
+use Rattle.state_rows.specs.declared.thread.ThreadRow.{ThreadRow}
 use Rattle.state_rows.specs.declared.messages.Way.{Way}
-use Rattle.std.proofs.Common.{Bool, List, None, Option, Some, [], ap, arith, false, map, refl, subst, true, ◌++◌, ◌∙◌, ◌∷◌, ◌≡◌, ◌≤◌}
-use Rattle.std.specs.Prelude.{if◌then◌else◌}
+use Rattle.std.proofs.Common.{Bool, List, None, Option, Some, [], ap, arith, false, map, refl, subst, true, ◌+◌, ◌++◌, ◌∙◌, ◌∷◌, ◌≡◌, ◌≤◌}
+use Rattle.std.specs.Prelude.{if◌then◌else◌, nat_lt}
 use Rattle.sym_base.specs.declared.number.MsgNo.{MsgNo}
 use Rattle.sym_base.specs.declared.number.ObjNo.{ObjNo}
 use Rattle.machine_safe.specs.Sent.{accepts, finishes}
@@ -67,13 +78,26 @@ quiet-then S T U es fs h g = record {
   finishes = λ m. let a = finishes-append es fs m in let b = h.finishes m in let c = g.finishes m in omega arith;
 }
 
-taken-posts : (m : MsgNo) (xs : List Message) → map post_of (map (edited m taken_row) xs) ≡ map post_of xs
-taken-posts m [] = refl
-taken-posts m (x ∷ xs) = ap (λ (p : Post). p ∷ map post_of (map (edited m taken_row) xs)) (edited-value post_of m taken_row x refl) ∙ ap (λ (l : List Post). post_of x ∷ l) (taken-posts m xs)
+edited-posts : (m : MsgNo) (change : MsgRow → MsgRow) → ((x : Message) → post_of (record x { row = change x.row }) ≡ post_of x) → (xs : List Message) → map post_of (map (edited m change) xs) ≡ map post_of xs
+edited-posts m change keeps [] = refl
+edited-posts m change keeps (x ∷ xs) = ap (λ (p : Post). p ∷ map post_of (map (edited m change) xs)) (edited-value post_of m change x (keeps x)) ∙ ap (λ (l : List Post). post_of x ∷ l) (edited-posts m change keeps xs)
 
 quiet-take : (r : MessageRows) (next : Option MsgNo) → (map post_of (taken r next).outstanding ≡ map post_of r.outstanding) × ((taken r next).accepted ≡ r.accepted) × ((taken r next).pool ≡ r.pool)
 quiet-take r None = (refl, refl, refl)
-quiet-take r (Some m) = (taken-posts m r.outstanding, refl, refl)
+quiet-take r (Some m) = (edited-posts m taken_row (λ x. refl) r.outstanding, refl, refl)
+
+-- a piece of a copy leaves them too, but for how many bytes a descriptor has
+quiet-copy : (m : CopyMove) (threads : List (Option ThreadRow)) (r : MessageRows) → (map post_of (messages_copied m threads r).outstanding ≡ map post_of r.outstanding) × ((messages_copied m threads r).pool ≡ r.pool)
+quiet-copy (Read job) threads r = (refl, refl)
+quiet-copy (Write job) threads r = by (write_refusal (ends_of threads r job) job) (nat_lt (done_after (write_size job) job.done) (write_size job))
+  where
+    after : Option Piece → Bool → MessageRows
+    after refusal goes_on = unless_refused refusal r (if goes_on then r else after_set_length r job.m job.arg (job.offset + job.len))
+
+    by : (refusal : Option Piece) (goes_on : Bool) → (map post_of (after refusal goes_on).outstanding ≡ map post_of r.outstanding) × ((after refusal goes_on).pool ≡ r.pool)
+    by (Some refusal) goes_on = (refl, refl)
+    by None true = (refl, refl)
+    by None false = (edited-posts job.m (resized job.arg (job.offset + job.len)) (λ x. refl) r.outstanding, refl)
 
 quiet-told : (S T : State) (effects : List Effect) → T.messages ≡ S.messages → accepts effects ≡ 0 → ((m : MsgNo) → finishes effects m ≡ 0) → IsQuiet S T effects
 quiet-told S T effects same accepts finishes = record {
@@ -99,6 +123,7 @@ quiet-move script S t (Servers m) fits none = quiet-told S (moved t (Servers m) 
     server-finishes (Join s o slots u) n = refl
     server-finishes (End o) n = refl
     server-finishes _ n = refl
+quiet-move script S t (Copies m) fits none = let same = quiet-copy m S.threads S.messages in record { posts = same.0; accepted = copy_accepts m S.threads S.messages; pool = same.1; accepts = refl; finishes = λ n. refl }
 quiet-move script S t (Pay what) fits none = absurd fits
 quiet-move script S t m fits none = let told = unserved-move script S t m fits refl in quiet-told S (moved t m S) _ refl told.accepts told.finishes
 

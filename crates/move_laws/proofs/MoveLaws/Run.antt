@@ -7,7 +7,7 @@ use Rattle.entry_log.specs.declared.effect.Effect.{Effect}
 use Rattle.state_rows.specs.declared.duty.Owed.{Owed}
 use Rattle.state_rows.specs.declared.duty.Owed.TheVariants.{Close, Sweep}
 use Rattle.machine.specs.declared.moves.Move.{Move}
-use Rattle.machine.specs.declared.moves.Move.TheVariants.{Make, Gain, Lose, Find, Miss, GoOn, Keep, Write, WriteMessage, PutDown, Advance, Wait, Wake, SetPriority, Nano, Deferred, Requests, Locks, Logons, Death, Servers, Messages, Fill, Pay}
+use Rattle.machine.specs.declared.moves.Move.TheVariants.{Make, Gain, Lose, Find, Miss, GoOn, Keep, Write, WriteMessage, PutDown, Advance, Wait, Wake, SetPriority, Nano, Deferred, Requests, Locks, Logons, Death, Servers, Messages, Fill, Copies, Pay}
 use Rattle.machine.specs.declared.state.State.{State}
 use Rattle.machine.specs.Rows.{owed_of}
 use Rattle.machine.specs.Moves.{moved, told, perform, tell, closed_effects, link_of, owed_by_close, owed_use, use_of}
@@ -20,6 +20,7 @@ use Rattle.move_laws.proofs.RowLaws.Duties.{weight-owing}
 use Rattle.move_laws.proofs.MoveLaws.Sound.{Sound, sound-then, sound-none}
 use Rattle.move_laws.proofs.MoveLaws.NanoMoves.{sound-nano, nano_silent}
 use Rattle.move_laws.proofs.MoveLaws.CallMoves.{sound-deferred, request_silent, sound-requests, sound-logons}
+use Rattle.move_laws.proofs.MoveLaws.CopyMoves.{sound-copies}
 use Rattle.move_laws.proofs.MoveLaws.DeathMoves.{death_silent, death_weight, sound-death}
 use Rattle.move_laws.proofs.MoveLaws.LockMoves.{lock_removes, lock_weight, sound-locks}
 use Rattle.move_laws.proofs.MoveLaws.RowMoves.{sound-fill, sound-find, sound-keep, sound-miss, sound-go_on, sound-write, sound-write_message, sound-wait, sound-wake, sound-priority}
@@ -56,6 +57,7 @@ sound-move script S t (Locks m) fits few s = sound-locks script S t m fits few s
 sound-move script S t (Logons m) fits few s = sound-logons script S t m fits s.rows
 sound-move script S t (Death m) fits few s = sound-death script S t m fits few s.rows
 sound-move script S t (Fill p at long byte) fits few s = sound-fill script S t p at long byte fits s.rows
+sound-move script S t (Copies m) fits few s = sound-copies script S t m fits s.rows
 sound-move script S t (Pay what) fits few s = absurd fits
 
 -- what paying the oldest duty does

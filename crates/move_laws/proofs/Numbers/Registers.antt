@@ -50,6 +50,13 @@ logon_small x s h = let v = in_form (instr_form (instr.Logon x s)) h in leb-true
 pub send_small : (x n s : ℕ) (args : Args) → is_source_line (line.Instr (instr.Send x n s args)) ≡ true → s ≤ 15
 send_small x n s args h = let v = in_form (instr_form (instr.Send x n s args)) h in leb-true s 15 v.0.1.1.0
 
+-- an argument is one of four
+pub read_small : (x arg offset long at : ℕ) → is_source_line (line.Instr (instr.Read x arg offset long at)) ≡ true → arg ≤ 3
+read_small x arg offset long at h = let v = in_form (instr_form (instr.Read x arg offset long at)) h in (number_in 0 3 arg v.0.1.0).1
+
+pub write_small : (x arg offset long from : ℕ) → is_source_line (line.Instr (instr.Write x arg offset long from)) ≡ true → arg ≤ 3
+write_small x arg offset long from h = let v = in_form (instr_form (instr.Write x arg offset long from)) h in (number_in 0 3 arg v.0.1.0).1
+
 -- a semaphore's count is one
 pub count_few : (name : List ℕ) (n x : ℕ) → is_source_line (line.Instr (instr.CreateSemaphore name n x)) ≡ true → n ≤ 2147483647
 count_few name n x h = let v = in_form (instr_form (instr.CreateSemaphore name n x)) h in (number_in 0 2147483647 n v.0.1.1.0).1

@@ -18,7 +18,7 @@ use Rattle.state_rows.specs.Nano.{suspend_count, critical_count, held_by, is_pro
 use Rattle.state_rows.specs.NanoChanges.{after_suspend}
 use Rattle.state_rows.proofs.OtherThreads.{held_by-after_take, held_by-after_give, count-other}
 use Rattle.machine.specs.declared.moves.Move.{Move}
-use Rattle.machine.specs.declared.moves.Move.TheVariants.{Make, Gain, Lose, Find, Miss, GoOn, Keep, Write, WriteMessage, PutDown, Advance, Wait, Wake, SetPriority, Nano, Deferred, Requests, Locks, Logons, Death, Servers, Messages, Fill, Pay}
+use Rattle.machine.specs.declared.moves.Move.TheVariants.{Make, Gain, Lose, Find, Miss, GoOn, Keep, Write, WriteMessage, PutDown, Advance, Wait, Wake, SetPriority, Nano, Deferred, Requests, Locks, Logons, Death, Servers, Messages, Fill, Copies, Pay}
 use Rattle.machine.specs.declared.deferred_move.DeferredMove.{DeferredMove}
 use Rattle.machine.specs.declared.deferred_move.DeferredMove.TheVariants.{Add, Take as TakeCall}
 use Rattle.machine.specs.declared.lock_move.LockMove.{LockMove}
@@ -207,6 +207,7 @@ ready-untouched script S t (Death (Note v exit)) u threads joins none = ap (read
 ready-untouched script S t (Death (Doom v exit)) u threads joins none = ap (ready_row script S.deferred S.nano u (first_owed S u)) (row-other S.threads v (death_row (Doom v exit)) u.0 (apart_of v u none))
 ready-untouched script S t (Death (Clean v)) u threads joins none = ap (ready_row script S.deferred S.nano u (first_owed S u)) (row-other S.threads v (death_row (Clean v)) u.0 (apart_of v u none))
 ready-untouched script S t (Fill p at long byte) u threads joins none = refl
+ready-untouched script S t (Copies m) u threads joins none = refl
 ready-untouched script S t (Pay (Close h o)) u threads joins none =
     let apart = apart_of t u none in
     ready-by script S (moved t (Pay (Close h o)) S) u refl refl (get_or-set_other _ t.0 u.0 _ [] (λ e. apart (sym e)) ∙ owed-other S.owed t u _ apart)

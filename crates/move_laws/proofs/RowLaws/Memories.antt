@@ -24,17 +24,20 @@ memories-with_row threads t f memories keeps h = record {
 length-filled : (at long byte : ℕ) (bytes : List ℕ) → at + long ≤ length bytes → length (filled at long byte bytes) ≡ length bytes
 length-filled at long byte bytes within = simp (length-append, length-take, length-drop, length-replicate) (omega arith)
 
--- a process's memory is filled
-pub memories-filled : (threads : List (Option ThreadRow)) (memories : List (Option (List ℕ))) (p : ObjNo) (at long byte : ℕ) → at + long ≤ 1024 → AreMemories threads memories → AreMemories threads (with_memory memories p (filled at long byte))
-memories-filled threads memories p at long byte within h = record {
+-- a process's memory changes, which has as many bytes as before
+pub memories-changed : (threads : List (Option ThreadRow)) (memories : List (Option (List ℕ))) (p : ObjNo) (f : List ℕ → List ℕ) → ((bytes : List ℕ) → length bytes ≡ 1024 → length (f bytes) ≡ 1024) → AreMemories threads memories → AreMemories threads (with_memory memories p f)
+memories-changed threads memories p f keeps h = record {
   sized = length-set memories p.0 _ ∙ h.sized;
-  bytes = λ k bytes is. elim (set_either memories p.0 (option_map (filled at long byte) (get_or memories p.0 None)) k None) as (λ _. length bytes ≡ 1024) [
+  bytes = λ k bytes is. elim (set_either memories p.0 (option_map f (get_or memories p.0 None)) k None) as (λ _. length bytes ≡ 1024) [
     | inl here ↦
-        let was = map_some (filled at long byte) (get_or memories p.0 None) bytes (sym here.1 ∙ is) in
-        let old = h.bytes p.0 was.0 was.1 in
-        let same = length-filled at long byte was.0 (omega arith) in
-        let now : length (filled at long byte was.0) ≡ length bytes = ap length was.2 in omega arith
+        let was = map_some f (get_or memories p.0 None) bytes (sym here.1 ∙ is) in
+        let same = keeps was.0 (h.bytes p.0 was.0 was.1) in
+        let now : length (f was.0) ≡ length bytes = ap length was.2 in omega arith
     | inr there ↦ h.bytes k bytes (sym there ∙ is)
   ];
-  processes = λ k row is. is_some-with memories p.0 (filled at long byte) row.process.0 ∙ h.processes k row is;
+  processes = λ k row is. is_some-with memories p.0 f row.process.0 ∙ h.processes k row is;
 }
+
+-- it is filled
+pub memories-filled : (threads : List (Option ThreadRow)) (memories : List (Option (List ℕ))) (p : ObjNo) (at long byte : ℕ) → at + long ≤ 1024 → AreMemories threads memories → AreMemories threads (with_memory memories p (filled at long byte))
+memories-filled threads memories p at long byte within h = memories-changed threads memories p (filled at long byte) (λ bytes long_as. let same = length-filled at long byte bytes (omega arith) in omega arith) h

@@ -1,7 +1,7 @@
 use Rattle.std.proofs.Common.{◌≡◌, ◌∙◌, ℕ, ◌+◌, ◌<◌, List, [], ◌∷◌, ◌++◌, length, refl, sym, ap, arith}
 use Rattle.std.proofs.lemmas.List.{length-set, take_more_set}
 use Rattle.std.proofs.lemmas.List.FromFn.{map-range_with_len_more}
-use Rattle.descopy.specs.Memory.{byte_of, bytes_from}
+use Rattle.copy_rules.specs.Memory.{byte_of, bytes_from}
 use Rattle.descopy.proofs.bytes.read_bytes.Goals as goal
 
 pub loop-k-preserved : goal.loop-k-preserved

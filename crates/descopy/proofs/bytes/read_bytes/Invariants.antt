@@ -1,5 +1,5 @@
 use Rattle.std.proofs.Common.{◌≡◌, length, take}
-use Rattle.descopy.specs.Memory.{bytes_from}
+use Rattle.copy_rules.specs.Memory.{bytes_from}
 use Rattle.descopy.proofs.bytes.read_bytes.Given as goal
 
 abbrev pub invariant-loop-k : goal.invariant-loop-k

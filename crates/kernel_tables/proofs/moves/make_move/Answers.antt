@@ -80,6 +80,9 @@ returns-in-Death g c = rw c.in-Death.is c.move_death.ensures
 pub returns-in-Fill : goal.returns-in-Fill
 returns-in-Fill g c = rw c.in-Fill.is (record { state = rw c.fill.ensures refl; counts = λ o. refl; tied = rw c.fill.ensures c.requires.kept.tied })
 
+pub returns-in-Copies : goal.returns-in-Copies
+returns-in-Copies g c = rw c.in-Copies.is (c.move_copy.ensures c.args.thread)
+
 pub returns-in-Nano : goal.returns-in-Nano
 returns-in-Nano g c =
     rw c.in-Nano.is (record {
