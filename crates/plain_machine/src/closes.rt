@@ -6,10 +6,8 @@ ghost use Rattle.machine.specs.Rows.{thread_of};
 use crate::slots::lose_slot;
 use entry_log::Holder;
 use machine::{Move, Owed, State, is_last, object_of, set_row, thread_in};
-use plain_rows::{
-    drop_first_owed, owe_close, owned_lose, server_of, servers_closed, servers_lose,
-    threads_closed, threads_lose,
-};
+use plain_rows::{drop_first_owed, owe_close, threads_closed, threads_lose};
+use plain_servers::{owned_lose, server_of, servers_closed, servers_lose};
 use state_rows::dead_row;
 use std::alloc::Global;
 use sym_base::{NoMemory, ObjNo, ThreadNo};

@@ -9,11 +9,12 @@ use crate::slots::gain_slot;
 use entry_log::Holder;
 use machine::{Move, State, Waiting, thread_in};
 use plain_rows::{
-    fill_memory, make_copy, make_death_move, make_deferred_move, make_lock_move, make_logon_move,
-    make_message_move, make_nano_move, make_request_move, make_server_move, owe_use, owned_gain,
-    threads_advance, threads_find, threads_gain, threads_go_on, threads_keep, threads_lose,
-    threads_set_priority, threads_wait, threads_write, threads_write_message,
+    fill_memory, make_death_move, make_deferred_move, make_lock_move, make_logon_move,
+    make_nano_move, make_request_move, owe_use, threads_advance, threads_find, threads_gain,
+    threads_go_on, threads_keep, threads_lose, threads_set_priority, threads_wait, threads_write,
+    threads_write_message,
 };
+use plain_servers::{make_copy, make_message_move, make_server_move, owned_gain};
 use state_rows::ObjectRow;
 use std::alloc::Global;
 use sym_base::{Kind, Name, NoMemory, ObjNo, ThreadNo};

@@ -3,34 +3,26 @@
 #![tactic(auto)]
 
 mod calls;
-mod copies;
 mod deaths;
 mod duties;
 mod lists;
 mod locks;
 mod logons;
 mod memory;
-mod messages;
 mod mutexes;
 mod nano;
 mod requests;
-mod servers;
 mod thread_rows;
 
 pub use calls::make_deferred_move;
-pub use copies::make_copy;
 pub use deaths::make_death_move;
 pub use duties::{drop_first_owed, owe_close, owe_use};
-pub use lists::unlisted;
+pub use lists::{list_of, push_to, remove_from, unlisted};
 pub use locks::make_lock_move;
 pub use logons::make_logon_move;
 pub use memory::fill_memory;
-pub use messages::make_message_move;
 pub use nano::make_nano_move;
 pub use requests::make_request_move;
-pub use servers::{
-    make_server_move, owned_gain, owned_lose, server_of, servers_closed, servers_lose,
-};
 pub use thread_rows::{
     threads_advance, threads_closed, threads_find, threads_gain, threads_go_on, threads_keep,
     threads_lose, threads_set_priority, threads_wait, threads_write, threads_write_message,

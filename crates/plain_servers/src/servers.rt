@@ -5,7 +5,7 @@ ghost use Rattle.machine.specs.ServerMoves.{all_closing, owned_gain, owned_lose,
 ghost use Rattle.state_rows.specs.ServerChanges.{after_add_server, after_add_session, after_closing, after_detach, after_set_open, closing, detached, opened, unlisted};
 ghost use Rattle.state_rows.specs.ServerRows.{server_of};
 
-use crate::lists::{list_of, push_to, remove_from};
+use plain_rows::{list_of, push_to, remove_from};
 use entry_log::Holder;
 use machine::{Move, ServerMove, State, row_of, set_row};
 use state_rows::{ServerRow, ServerRows, SessionRow};

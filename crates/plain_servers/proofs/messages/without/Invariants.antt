@@ -1,7 +1,7 @@
 use Rattle.std.proofs.Common.{◌≡◌, ◌++◌, drop, filter, not}
 use Rattle.state_rows.specs.declared.messages.Message.{Message}
 use Rattle.state_rows.specs.MessageRows.{has_number}
-use Rattle.plain_rows.proofs.messages.without.Given as goal
+use Rattle.plain_servers.proofs.messages.without.Given as goal
 
 abbrev pub invariant-loop-message : goal.invariant-loop-message
 invariant-loop-message l =

@@ -2,7 +2,7 @@ use Rattle.std.proofs.Common.{◌≡◌, ◌∙◌, ℕ, ◌+◌, ◌<◌, List,
 use Rattle.std.proofs.lemmas.List.{length-set, take_more_set}
 use Rattle.std.proofs.lemmas.List.FromFn.{map-range_with_len_more}
 use Rattle.copy_rules.specs.Memory.{byte_of, bytes_from}
-use Rattle.plain_rows.proofs.copies.read_bytes.Goals as goal
+use Rattle.plain_servers.proofs.copies.read_bytes.Goals as goal
 
 pub loop-k-preserved : goal.loop-k-preserved
 loop-k-preserved c =
