@@ -85,7 +85,7 @@ next_fresh script S rows = elim (cases_lt 0 (count_of S (next_object S))) [
       let alive = rows.lives.alive (next_object S) some in
       let none = get_or_past S.objects (length S.objects) None (omega arith) in
       absurd (subst IsAlive none alive)
-  | inr zero_left ↦ omega arith
+  | inr none_is_left ↦ omega arith
 ]
 
 -- an object whose sweep is owed is dead
