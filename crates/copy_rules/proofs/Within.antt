@@ -1,5 +1,5 @@
 -- What the tests of a copy leave of its places: a piece lies within the memory that it is written to.
-use Rattle.std.proofs.Common.{◌≡◌, ℕ, ◌+◌, ◌≤◌, Bool, true, false, arith, refl, Option, Some, None}
+use Rattle.std.proofs.Common.{◌≡◌, ◌+◌, ◌≤◌, Bool, true, false, arith, refl, Some, None}
 use Rattle.std.specs.Prelude.{not, nat_le, nat_lt, if◌then◌else◌}
 use Rattle.std.proofs.lemmas.Bool.{and_parts, leb-true, ltb-false, or_parts}
 use Rattle.sym_base.specs.declared.kind.Arg.{Arg}
@@ -9,7 +9,6 @@ use Rattle.copy_rules.specs.Refusals.{is_descriptor, is_live, is_outside, is_too
 use Rattle.copy_rules.specs.Sizes.{piece_size, read_size, write_size}
 use Rattle.copy_rules.specs.declared.ends.Ends.{Ends}
 use Rattle.copy_rules.specs.declared.job.Job.{Job}
-use Rattle.copy_rules.specs.declared.job.Piece.{Piece}
 use Rattle.copy_rules.specs.declared.job.Piece.TheVariants.{BadDescriptor, Argument, Overflow, Died}
 
 -- what passes the tests that a read and a write have in common, and those of a write

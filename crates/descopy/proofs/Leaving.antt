@@ -1,5 +1,5 @@
 -- What a piece that isn't refused leaves of the memories.
-use Rattle.std.proofs.Common.{◌≡◌, ◌∙◌, ℕ, List, Option, None, ap}
+use Rattle.std.proofs.Common.{◌≡◌, ◌∙◌, ℕ, Option, None, ap}
 use Rattle.procs.specs.ProcsRows.{ProcsRows}
 use Rattle.copy_rules.specs.declared.ends.Ends.{Ends}
 use Rattle.copy_rules.specs.declared.job.Job.{Job}

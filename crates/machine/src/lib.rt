@@ -27,9 +27,9 @@ mod state_parts;
 mod task;
 mod touches;
 
-pub use copy_rules::{CopyMove, Job};
 pub use boot::{Born, all_born};
 pub use boot_state::{boot_of, state_at_boot};
+pub use copy_rules::{CopyMove, Job};
 pub use count::{count_of, is_counted, is_last};
 pub use death_move::{DeathMove, wait_ended};
 pub use decision::{Decision, Outcome, entry_of};

@@ -1,11 +1,10 @@
 -- The plain machine after one more entry.
-use Rattle.std.proofs.Common.{◌≡◌, ℕ, ◌+◌, ◌≤◌, List, [], ◌∷◌, ◌++◌, length, get_or, arith, ap, subst, sym, ◌∙◌, inl, inr, Option, Some, None, refl}
+use Rattle.std.proofs.Common.{◌≡◌, ℕ, ◌+◌, ◌≤◌, List, [], ◌∷◌, ◌++◌, length, get_or, arith, ap, subst, sym, ◌∙◌, inl, inr, refl}
 use Rattle.std.proofs.lemmas.Bool.{cases_lt}
 use Rattle.std.specs.Prelude.{Contains}
 use Rattle.std.proofs.lemmas.List.{get_or_past}
 use Rattle.std.proofs.lemmas.List.Elements.{All-weaker, All-contains_itself}
 use Rattle.sym_base.specs.declared.number.ObjNo.{ObjNo}
-use Rattle.script_types.specs.declared.declaration.ThreadDecl.{ThreadDecl}
 use Rattle.script_types.specs.declared.script.Script.{Script}
 use Rattle.script_types.specs.declared.script.Slot.{Slot}
 use Rattle.script_types.specs.Shape.{IsShaped}
@@ -15,8 +14,6 @@ use Rattle.machine.specs.declared.decision.Decision.{Decision}
 use Rattle.machine.specs.declared.moves.Move.{Move}
 use Rattle.machine.specs.declared.moves.Move.TheVariants.{Pay}
 use Rattle.state_rows.specs.declared.handle_slot.HandleSlot.{HandleSlot}
-use Rattle.state_rows.specs.declared.thread.Role.{Role}
-use Rattle.state_rows.specs.declared.thread.Role.TheVariants.{Supervisor, Queue, Declared}
 use Rattle.machine.specs.declared.state.State.{State}
 use Rattle.machine.specs.History.{next, entry_by, IsNext}
 use Rattle.plain_machine.specs.PlainView.{IsPlain}
@@ -31,7 +28,6 @@ use Rattle.machine.specs.Room.{HasRoom, IsSmallTable}
 use Rattle.machine.specs.Run.{slot_actor}
 use Rattle.machine.specs.Slots.{IsDeclared}
 use Rattle.machine.specs.Steps.{decision_of}
-use Rattle.machine.specs.Task.{declared_of, instructions_in}
 use Rattle.machine.specs.WellFormed.{AreRows, AreTables, IsWellFormed}
 use Rattle.plain_machine.proofs.SmallRows.{IsSmallNumber}
 use Rattle.machine_laws.proofs.Fitting.Actions.{fits-action}

@@ -5,9 +5,9 @@ ghost use Rattle.machine.specs.ServerMoves.{all_closing, owned_gain, owned_lose,
 ghost use Rattle.state_rows.specs.ServerChanges.{after_add_server, after_add_session, after_closing, after_detach, after_set_open, closing, detached, opened, unlisted};
 ghost use Rattle.state_rows.specs.ServerRows.{server_of};
 
-use plain_rows::{list_of, push_to, remove_from};
 use entry_log::Holder;
 use machine::{Move, ServerMove, State, row_of, set_row};
+use plain_rows::{list_of, push_to, remove_from};
 use state_rows::{ServerRow, ServerRows, SessionRow};
 use std::alloc::Global;
 use sym_base::{Items, NoMemory, ObjNo, Slots, ThreadNo};

@@ -2,7 +2,7 @@
 use Rattle.std.proofs.Common.{◌≡◌, ℕ, zero, suc, ◌<◌, ◌≤◌, Bool, true, false, List, [], ◌∷◌, ◌++◌, append_assoc, refl, ap, sym, subst, ◌∙◌, Some, arith}
 use Rattle.std.proofs.lemmas.Bool.{le-leb}
 use Rattle.std.proofs.lemmas.Bool.Decides.{nat_tests}
-use Rattle.std.specs.Prelude.{IsTrue, ◌==◌, not}
+use Rattle.std.specs.Prelude.{◌==◌, not}
 use Rattle.script_print.specs.CanonicalText.{setting_lines, declared_lines, schedule_lines, canonical_lines}
 use Rattle.script_print.proofs.DeclaredAgain.{said, first_setting, lines_again, no_header}
 use Rattle.script_print.proofs.Front.{so_far, IsFront, front_start, front_after, last_start}

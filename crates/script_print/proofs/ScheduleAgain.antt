@@ -1,9 +1,9 @@
 -- The canonical lines of a schedule stand where its own lines stood, and make the same slots.
-use Rattle.std.proofs.Common.{◌≡◌, ℕ, zero, suc, ◌+◌, ◌<◌, ◌≤◌, Bool, true, false, List, [], ◌∷◌, ◌++◌, append_assoc, length, length-append, replicate, refl, ap, sym, subst, ◌∙◌, Some, arith}
+use Rattle.std.proofs.Common.{◌≡◌, ℕ, zero, suc, ◌+◌, ◌<◌, ◌≤◌, true, false, List, [], ◌∷◌, ◌++◌, append_assoc, length, length-append, replicate, refl, ap, sym, subst, ◌∙◌, Some, arith}
 use Rattle.std.proofs.lemmas.Bool.{le-leb, lt-ltb, leb-true, ltb-true}
 use Rattle.std.proofs.lemmas.List.{length-replicate}
 use Rattle.std.specs.List.{AllByRecursion}
-use Rattle.std.specs.Prelude.{IsTrue, ⊤, ◌||◌, nat_le, decimal}
+use Rattle.std.specs.Prelude.{IsTrue, ⊤, nat_le, decimal}
 use Rattle.script_print.specs.CanonicalText.{with_slot, slots_lines, schedule_lines}
 use Rattle.script_print.proofs.DeclaredAgain.{tells, said}
 use Rattle.script_print.proofs.Front.{so_far}

@@ -2,7 +2,7 @@
 use Rattle.std.proofs.Common.{◌≡◌, ℕ, Bool, true, false, List, [], ◌∷◌, map, refl, sym, subst, ap, ◌∙◌, arith, Option, Some, None, inl, inr}
 use Rattle.std.specs.List.{AllByRecursion}
 use Rattle.std.proofs.lemmas.Bool.Decides.{nat_tests}
-use Rattle.std.specs.Prelude.{◌⊎◌, nat_le, not, IsTrue}
+use Rattle.std.specs.Prelude.{◌⊎◌, nat_le, not}
 use Rattle.std.specs.Str.{bytes_eq}
 use Rattle.script_read.specs.FirstBad.{HasNone, Make, IsRead, IsFirstBad}
 use Rattle.script_types.specs.Keywords.{keyword_of, keyword_text, keyword_kind, keywords}

@@ -1,6 +1,6 @@
 -- The steps of `read` and `write`.
-use Rattle.std.proofs.Common.{◌≡◌, ℕ, ◌<◌, ◌≤◌, List, [], ◌∷◌, arith, refl, sym, subst, ap, ◌∙◌, Option, Some, None, Bool, true, false}
-use Rattle.std.specs.Prelude.{pos, ◌&&◌, if◌then◌else◌, min, option_map, slice_index, IsTrue}
+use Rattle.std.proofs.Common.{◌≡◌, ℕ, ◌≤◌, [], ◌∷◌, arith, refl, sym, subst, ap, ◌∙◌, Option, Some, None, Bool, true, false}
+use Rattle.std.specs.Prelude.{◌&&◌, if◌then◌else◌, option_map, slice_index, IsTrue}
 use Rattle.std.proofs.lemmas.Bool.{and_parts}
 use Rattle.sym_base.specs.declared.error.Error.TheVariants as error
 use Rattle.sym_base.specs.declared.number.MsgNo.{MsgNo}

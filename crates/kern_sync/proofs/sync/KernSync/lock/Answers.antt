@@ -1,7 +1,6 @@
 use Rattle.std.proofs.Common.{rules, ◌∙◌, get_or, Bool, Option, None, ◌++◌, ◌∷◌, [], sym, ap, true, false, ◌≡◌}
 use Rattle.std.specs.Prelude.{◌==◌, if◌then◌else◌}
 use Rattle.std.proofs.lemmas.List.{get_or_read}
-use Rattle.state_rows.specs.declared.locks.Locked.{Locked}
 use Rattle.state_rows.specs.declared.locks.Locked.TheVariants.{Again, Waits}
 use Rattle.state_rows.specs.declared.locks.Owner.{Owner}
 use Rattle.state_rows.specs.LockChanges.{lock_answer}

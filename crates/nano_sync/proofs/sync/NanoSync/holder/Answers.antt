@@ -1,5 +1,5 @@
 use Rattle.std.proofs.Common.{get_or, sym, ap, ◌∙◌}
-use Rattle.std.specs.Prelude.{List, Option, None}
+use Rattle.std.specs.Prelude.{None}
 use Rattle.state_rows.proofs.Soundness.{if_some}
 use Rattle.nano_sync.proofs.sync.NanoSync.holder.Goals as goal
 
