@@ -1,14 +1,15 @@
 -- What the lines of a text declare, line by line.
-use Rattle.std.proofs.Common.{◌≡◌, ℕ, Bool, true, false, List, [], ◌∷◌, ◌++◌, append_assoc, length, refl, sym, subst, ap, ◌∙◌, arith, Option, Some, None}
+use Rattle.std.proofs.Common.{◌≡◌, ℕ, ◌<◌, Bool, true, false, List, [], ◌∷◌, ◌++◌, append_assoc, length, get_or, refl, sym, subst, ap, ◌∙◌, arith, Option, Some, None}
 use Rattle.std.proofs.lemmas.List.{append-nil}
 use Rattle.std.specs.BTreeSet.{contains}
 use Rattle.std.specs.Ordering.{nat_cmp}
-use Rattle.std.specs.Prelude.{if◌then◌else◌, ◌||◌, ◌&&◌, not, codes}
+use Rattle.std.specs.Prelude.{◌==◌, if◌then◌else◌, ◌||◌, ◌&&◌, not, codes}
 use Rattle.std.specs.Str.{bytes_eq}
 use Rattle.script_read.specs.FileNames.{Knows, declared_by, has_name}
 use Rattle.script_read.proofs.FileDeclares.{and_false, knows_more}
 use Rattle.script_read.proofs.NameSets.{or_none}
 use Rattle.script_read.specs.declared.declarations.Declarations.{Declarations}
+use Rattle.script_words.proofs.SourceLines.{begins_line}
 use Rattle.script_words.proofs.Steps.{some_is}
 use Rattle.script_types.specs.Names.{Declared, first_two, file_declares}
 use Rattle.script_types.specs.SourceText.{text_lines, words_of, is_skipped}
@@ -39,11 +40,11 @@ two_begin : (first : List ℕ) (words : List (List ℕ)) → (first_two (first �
 two_begin first [] = refl
 two_begin first (second ∷ words) = refl
 
-pub added_nothing : (d : Declarations) (line first rest : List ℕ) → declared_by (words_of line) ≡ Some (first_two (first ∷ words_of rest))
+pub added_nothing : (d : Declarations) (line first : List ℕ) (words : List (List ℕ)) → declared_by (words_of line) ≡ Some (first_two (first ∷ words))
     → (bytes_eq first (codes "thread") || bytes_eq first (codes "kthread") || bytes_eq first (codes "dfcq") || bytes_eq first (codes "dfc") || bytes_eq first (codes "idfc") || bytes_eq first (codes "irq") || bytes_eq first (codes "schedule")) ≡ false
     → (file : List Declared) → Knows d file → Knows d (file ++ file_declares (line ∷ []))
-added_nothing d line first rest told none file knows =
-    let two : Declared = first_two (first ∷ words_of rest) in
+added_nothing d line first words told none file knows =
+    let two : Declared = first_two (first ∷ words) in
     let n = none_of_all (bytes_eq first (codes "thread")) (bytes_eq first (codes "kthread")) (bytes_eq first (codes "dfcq")) (bytes_eq first (codes "dfc")) (bytes_eq first (codes "idfc")) (bytes_eq first (codes "irq")) (bytes_eq first (codes "schedule")) none in
     let irq : false ≡ (not d.scheduled && bytes_eq first (codes "irq")) = rw n.4 (sym (and_false (not d.scheduled))) in
     let schedule : d.scheduled ≡ (d.scheduled || bytes_eq first (codes "schedule")) = rw n.5 (or_none d.scheduled) in
@@ -51,8 +52,31 @@ added_nothing d line first rest told none file knows =
     knows_more d d first two.1 false false false false false
     (sym n.0) (λ name. or_none (has_name d.threads name)) (sym n.1) (λ name. or_none (has_name d.queues name)) (sym n.2) (λ name. or_none (has_name d.dfcs name)) (sym n.3) (λ name. or_none (has_name d.idfcs name))
     irq (λ k small. or_none (contains nat_cmp d.irqs k)) schedule file knows in
-    let same : file_declares (line ∷ []) ≡ (first, two.1) ∷ [] = line_some line two told ∙ ap (λ (f : List ℕ). (f, two.1) ∷ []) (two_begin first (words_of rest)) in
+    let same : file_declares (line ∷ []) ≡ (first, two.1) ∷ [] = line_some line two told ∙ ap (λ (f : List ℕ). (f, two.1) ∷ []) (two_begin first words) in
     subst (λ (more : List Declared). Knows d (file ++ more)) (sym same) more
+
+-- a line that begins with a byte with which no word begins that declares something
+declared_first : (line : List ℕ) (first : List ℕ) (words : List (List ℕ)) (test : Bool) → words_of line ≡ first ∷ words → is_skipped (first ∷ words) ≡ test → declared_by (words_of line) ≡ (if test then None else Some (first_two (first ∷ words)))
+declared_first line first words test is e = rw (is, e) refl
+
+none_by : (d : Declarations) (line : List ℕ) (b : ℕ) (u : List ℕ) (words : List (List ℕ)) (test : Bool) → words_of line ≡ (b ∷ u) ∷ words → is_skipped ((b ∷ u) ∷ words) ≡ test
+    → (b == 100) ≡ false → (b == 105) ≡ false → (b == 107) ≡ false → (b == 115) ≡ false → (b == 116) ≡ false
+    → (file : List Declared) → Knows d file → Knows d (file ++ file_declares (line ∷ []))
+none_by d line b u words true is e not_d not_i not_k not_s not_t = added_none d line (declared_first line (b ∷ u) words true is e)
+none_by d line b u words false is e not_d not_i not_k not_s not_t = added_nothing d line (b ∷ u) words (declared_first line (b ∷ u) words false is e) (rw (not_d, not_i, not_k, not_s, not_t) refl)
+
+none_of_six : (s d i k c t : Bool) → (s || d || i || k || c || t) ≡ false → (s ≡ false) × (d ≡ false) × (i ≡ false) × (k ≡ false) × (c ≡ false) × (t ≡ false)
+none_of_six false false false false false false h = (refl, refl, refl, refl, refl, refl)
+none_of_six _ _ _ _ _ _ h = absurd (cc)
+
+pub none_from : (line : List ℕ) (b : ℕ) → 0 < length line → b ≡ get_or line 0 0 → (b == 32 || b == 100 || b == 105 || b == 107 || b == 115 || b == 116) ≡ false
+    → (d : Declarations) (file : List Declared) → Knows d file → Knows d (file ++ file_declares (line ∷ []))
+none_from [] b some is h d = absurd (omega arith)
+none_from (x ∷ xs) b some is h d =
+    let tests : (x == 32 || x == 100 || x == 105 || x == 107 || x == 115 || x == 116) ≡ false = subst (λ (y : ℕ). (y == 32 || y == 100 || y == 105 || y == 107 || y == 115 || y == 116) ≡ false) is h in
+    let n = none_of_six (x == 32) (x == 100) (x == 105) (x == 107) (x == 115) (x == 116) tests in
+    let words = begins_line x xs n.0 in
+    none_by d (x ∷ xs) x words.0 words.1 (x == 35) words.2 refl n.1 n.2 n.3 n.4 n.5
 
 -- a line whose first two words are told
 pub added_two : (old new : Declarations) (line first rest second : List ℕ) → declared_by (words_of line) ≡ Some (first_two (first ∷ words_of rest)) → ((f : List ℕ) → first_two (f ∷ words_of rest) ≡ (f, second))

@@ -1,9 +1,11 @@
 -- The first words of a line.
-use Rattle.std.proofs.Common.{◌≡◌, ℕ, ◌<◌, List, [], ◌∷◌, length, refl, sym, ◌∙◌, arith, Some, None}
-use Rattle.script_types.specs.SourceText.{words_of}
+use Rattle.std.proofs.Common.{◌≡◌, ℕ, ◌<◌, true, false, List, [], ◌∷◌, length, refl, sym, ◌∙◌, arith, Some, None}
+use Rattle.script_types.specs.SourceText.{words_of, is_skipped}
+use Rattle.std.proofs.lemmas.Bool.Decides.{nat_tests}
+use Rattle.std.specs.Prelude.{◌==◌}
 use Rattle.script_words.specs.Fields.{cut_of}
 use Rattle.script_words.specs.Pieces.{one_word}
-use Rattle.script_words.proofs.SourceLines.{word_cut, word_alone}
+use Rattle.script_words.proofs.SourceLines.{begins_line, word_cut, word_alone}
 
 no_bytes : (word : List ℕ) → length word ≡ 0 → one_word word ≡ []
 no_bytes [] h = refl
@@ -30,3 +32,11 @@ word_last line cut some = word_alone line cut ∙ rw (some_bytes line some, noth
 
 pub no_word : (line : List ℕ) → None ≡ cut_of 32 line → length line ≡ 0 → words_of line ≡ []
 no_word line cut none = word_alone line cut ∙ no_bytes line none
+
+-- a line that begins as a comment is one
+not_space : (b : ℕ) → (b == 35) ≡ true → (b == 32) ≡ false
+not_space b h = grind (arith, nat_tests)
+
+pub comment_line : (line : List ℕ) → is_skipped (line ∷ []) ≡ true → is_skipped (words_of line) ≡ true
+comment_line [] h = absurd (cc)
+comment_line (b ∷ bs) h = let words = begins_line b bs (not_space b h) in rw words.2 h

@@ -1,9 +1,10 @@
 //! The names that the lines of a whole file declare.
-ghost use Rattle.std.specs.Prelude.{◌≡◌, ◌<◌, ℕ, List, [], ◌∷◌, ◌++◌, ◌&&◌, ◌||◌, not, IfOk, IsTrue, OnOk, codes, decimal};
+ghost use Rattle.std.specs.Prelude.{◌≡◌, ◌==◌, ◌<◌, ℕ, List, [], ◌∷◌, ◌++◌, ◌&&◌, ◌||◌, not, IfOk, IsTrue, OnOk, codes, decimal};
 ghost use Rattle.std.specs.BTreeSet.{contains};
 ghost use Rattle.std.specs.Ordering.{nat_cmp};
 ghost use Rattle.std.specs.Str.{bytes_eq};
 ghost use Rattle.script_read.specs.FileNames.{has_name, Knows, AreKnown};
+ghost use Rattle.script_read.specs.declared.declarations.Declarations.{Declarations};
 ghost use Rattle.script_types.specs.Names.{Declared, file_declares};
 ghost use Rattle.script_types.specs.SourceText.{text_lines};
 
@@ -106,6 +107,24 @@ fn declares_something(first: &[u8]) -> bool
         || is_word(first, "schedule")
 }
 
+/// Whether a line that begins with this byte may declare something, or be `schedule`: with the first byte of such a word, or with
+/// a space before it.
+fn may_declare(first: u8) -> bool
+    ensures { result ≡ (first == 32 || first == 100 || first == 105 || first == 107 || first == 115 || first == 116) }
+{
+    matches!(first, b' ' | b'd' | b'i' | b'k' | b's' | b't')
+}
+
+/// Whether the first byte of a line shows that it declares nothing.
+fn declares_nothing(line: &[u8]) -> bool
+    ensures { IsTrue result → (d : Declarations) (file : List Declared) → Knows d file → Knows d (file ++ file_declares (line.now ∷ [])) }
+{
+    match line {
+        [] => false,
+        [first, ..] => !may_declare(*first),
+    }
+}
+
 impl<'a> Declarations<'a> {
     /// What no line declares: nothing.
     fn new(alloc: Global) -> Self
@@ -141,6 +160,9 @@ impl<'a> Declarations<'a> {
         ensures { OnOk result ((file : List Declared) →
             Knows self.old file → Knows self.new (file ++ file_declares (line.now ∷ []))) }
     {
+        if declares_nothing(line) {
+            return Ok(());
+        }
         let Some((first, rest)) = told_word(line) else {
             return Ok(());
         };

@@ -15,8 +15,8 @@ use crate::order::{is_in_order, is_scheduled};
 use crate::standing::{is_new, is_right_kind};
 use script_types::{Context, SourceLine};
 use script_words::{
-    Fault, Keyword, is_counted, is_printed, is_short, is_skipped, keyword_kind, keyword_of,
-    line_as, line_fault, second_of, take_words, word_at,
+    Fault, Keyword, begins_comment, is_counted, is_printed, is_short, is_skipped, keyword_kind,
+    keyword_of, line_as, line_fault, second_of, take_words, word_at,
 };
 use std::alloc::Global;
 use sym_base::NoMemory;
@@ -133,6 +133,9 @@ pub fn judge_text<'a>(
     }
     if !is_short(text) {
         return Ok(Judged::Bad(Reason::Long));
+    }
+    if begins_comment(text) {
+        return Ok(Judged::Skipped);
     }
     take_words(words, text)?;
     let words = words.as_slice();

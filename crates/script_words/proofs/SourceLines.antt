@@ -106,3 +106,12 @@ words_more new old word rest after whole e cut so_far =
 
 pub words_end : (new old : List (List ℕ)) (rest : List ℕ) (whole : List (List ℕ)) → new ≡ old ++ one_word rest → None ≡ cut_of 32 rest → old ++ words_of rest ≡ whole → new ≡ whole
 words_end new old rest whole e cut so_far = e ∙ ap (λ (ws : List (List ℕ)). old ++ ws) (sym (word_alone rest cut)) ∙ so_far
+
+-- a line that doesn't begin with a space begins with its first word
+first_front : (b : ℕ) (parts : List (List ℕ)) → (parts ≡ [] → ⊥) → (u : List ℕ) × (ws : List (List ℕ)) × (filter (λ word. not (is_empty word)) (in_first b parts) ≡ (b ∷ u) ∷ ws)
+first_front b [] some = absurd (some refl)
+first_front b (p ∷ ps) some = (p, filter (λ word. not (is_empty word)) ps, refl)
+
+pub begins_line : (b : ℕ) (bs : List ℕ) → (b == 32) ≡ false → (u : List ℕ) × (ws : List (List ℕ)) × (words_of (b ∷ bs) ≡ (b ∷ u) ∷ ws)
+unfolding words_of
+begins_line b bs other = rw other (first_front b (split (λ byte. byte == 32) bs) (split_some 32 bs))

@@ -1,126 +1,38 @@
 //! The first words of lines.
-ghost use Rattle.std.specs.Prelude.{◌≡◌, ℕ, List, ◌∷◌};
 ghost use Rattle.std.specs.List.{find};
+ghost use Rattle.std.specs.Prelude.{◌≡◌, ℕ, List, ◌∷◌};
 ghost use Rattle.std.specs.Str.{bytes_eq};
 ghost use Rattle.script_types.specs.Keywords.{keyword_text, keywords, keyword_of, keyword_kind};
 
-use crate::field::are_same;
+use crate::first_bytes::{
+    with_c, with_d, with_e, with_f, with_g, with_i, with_k, with_l, with_o, with_p, with_q, with_r,
+    with_s, with_t, with_u, with_w,
+};
 use script_types::{Keyword, LineKind};
-use sym_base::Word;
 
-const WITH_C: &[Keyword] = &[
-    Keyword::Instr(Word::Create),
-    Keyword::Instr(Word::Close),
-    Keyword::Instr(Word::Cancel),
-    Keyword::Instr(Word::Connect),
-    Keyword::Instr(Word::Call),
-    Keyword::Instr(Word::Complete),
-];
-
-const WITH_D: &[Keyword] = &[
-    Keyword::Instr(Word::Dup),
-    Keyword::Instr(Word::Duplocal),
-    Keyword::Dfcq,
-    Keyword::Dfc,
-];
-
-const WITH_E: &[Keyword] = &[
-    Keyword::Instr(Word::Exittype),
-    Keyword::Instr(Word::Exit),
-    Keyword::Instr(Word::Enter),
-    Keyword::Eka2,
-    Keyword::End,
-];
-
-const WITH_F: &[Keyword] = &[
-    Keyword::Instr(Word::Flock),
-    Keyword::Instr(Word::Funlock),
-    Keyword::Instr(Word::Fswait),
-    Keyword::Instr(Word::Fssignal),
-    Keyword::Instr(Word::Function),
-    Keyword::Instr(Word::Fill),
-    Keyword::Fast,
-];
-
-const WITH_L: &[Keyword] = &[
-    Keyword::Instr(Word::Lock),
-    Keyword::Instr(Word::Logon),
-    Keyword::Instr(Word::Leave),
-];
-
-const WITH_P: &[Keyword] = &[
-    Keyword::Instr(Word::Priority),
-    Keyword::Instr(Word::Panic),
-    Keyword::Instr(Word::Peek),
-    Keyword::Pool,
-    Keyword::Process,
-];
-
-const WITH_R: &[Keyword] = &[
-    Keyword::Instr(Word::Resume),
-    Keyword::Instr(Word::Request),
-    Keyword::Instr(Word::Receive),
-    Keyword::Instr(Word::Read),
-];
-
-const WITH_S: &[Keyword] = &[
-    Keyword::Instr(Word::Signal),
-    Keyword::Instr(Word::Suspend),
-    Keyword::Instr(Word::Status),
-    Keyword::Instr(Word::Server),
-    Keyword::Instr(Word::Send),
-    Keyword::Schedule,
-];
-
-const WITH_T: &[Keyword] = &[
-    Keyword::Instr(Word::Terminate),
-    Keyword::Thread,
-    Keyword::Tick,
-];
-
-const WITH_W: &[Keyword] = &[
-    Keyword::Instr(Word::Wait),
-    Keyword::Instr(Word::Waitany),
-    Keyword::Instr(Word::Waitfor),
-    Keyword::Instr(Word::Write),
-];
-
-/// The words that begin with a byte, in their order.
-fn keywords_with(first: u8) -> &'static [Keyword]
-    ensures { (rest : List ℕ) → find (λ k. bytes_eq (first ∷ rest) (keyword_text k)) result.now ≡ find (λ k. bytes_eq (first ∷ rest) (keyword_text k)) keywords }
+/// What a word begins whose first byte this is.
+fn keyword_with(first: u8, word: &[u8]) -> Option<Keyword>
+    ensures { (rest : List ℕ) → word.now ≡ first ∷ rest → result ≡ find (λ k. bytes_eq word.now (keyword_text k)) keywords }
 {
     match first {
-        b'c' => WITH_C,
-        b'd' => WITH_D,
-        b'e' => WITH_E,
-        b'f' => WITH_F,
-        b'g' => &[Keyword::Go],
-        b'i' => &[Keyword::Idfc, Keyword::Irq],
-        b'k' => &[Keyword::Instr(Word::Kill), Keyword::Kthread],
-        b'l' => WITH_L,
-        b'o' => &[Keyword::Instr(Word::Open)],
-        b'p' => WITH_P,
-        b'q' => &[Keyword::Instr(Word::Queue)],
-        b'r' => WITH_R,
-        b's' => WITH_S,
-        b't' => WITH_T,
-        b'u' => &[Keyword::Instr(Word::Unlock)],
-        b'w' => WITH_W,
-        _ => &[],
+        b'c' => with_c(word),
+        b'd' => with_d(word),
+        b'e' => with_e(word),
+        b'f' => with_f(word),
+        b'g' => with_g(word),
+        b'i' => with_i(word),
+        b'k' => with_k(word),
+        b'l' => with_l(word),
+        b'o' => with_o(word),
+        b'p' => with_p(word),
+        b'q' => with_q(word),
+        b'r' => with_r(word),
+        b's' => with_s(word),
+        b't' => with_t(word),
+        b'u' => with_u(word),
+        b'w' => with_w(word),
+        _ => None,
     }
-}
-
-/// The first of these that a word is.
-fn keyword_among(word: &[u8], among: &[Keyword]) -> Option<Keyword>
-    ensures { result ≡ find (λ k. bytes_eq word.now (keyword_text k)) among.now }
-{
-    for i in 0..among.len() {
-        let keyword = among[i];
-        if are_same(word, keyword.text()) {
-            return Some(keyword);
-        }
-    }
-    None
 }
 
 /// What a word begins. Only the words that begin with its first byte are looked at.
@@ -130,7 +42,7 @@ pub fn keyword_of(word: &[u8]) -> Option<Keyword>
 {
     match word {
         [] => None,
-        [first, ..] => keyword_among(word, keywords_with(*first)),
+        [first, ..] => keyword_with(*first, word),
     }
 }
 

@@ -5,6 +5,7 @@ mod argument;
 mod body;
 mod fault;
 mod field;
+mod first_bytes;
 mod instruction_at;
 mod keyword;
 mod line_at;

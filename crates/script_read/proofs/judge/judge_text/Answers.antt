@@ -1,6 +1,7 @@
-use Rattle.std.proofs.Common.{◌≡◌, true, false, sym, ap, ◌∙◌, None, Some}
+use Rattle.std.proofs.Common.{◌≡◌, [], true, false, sym, ap, ◌∙◌, None, Some}
 use Rattle.script_words.specs.Pieces.{pieces}
 use Rattle.script_read.specs.Reasons.{keyword_in}
+use Rattle.script_read.proofs.FirstWords.{comment_line}
 use Rattle.script_read.proofs.JudgedLines.{judged_byte, judged_long, judged_skipped, judged_word, judged_is}
 use Rattle.script_read.proofs.judge.judge_text.Goals as goal
 use Rattle.script_types.specs.Names.{file_declares}
@@ -16,6 +17,13 @@ returns-then-not-is_short-clause-judged c =
     let printed : is_printed c.args.text.now ≡ true = cc in
     let short : is_short c.args.text.now ≡ false = cc in
     judged_long (file_declares (text_lines c.args.names.now.text.now)) c.args.context.now c.args.text.now printed short
+
+pub returns-then-begins_comment-clause-judged : goal.returns-then-begins_comment-clause-judged
+returns-then-begins_comment-clause-judged c =
+    let printed : is_printed c.args.text.now ≡ true = cc in
+    let short : is_short c.args.text.now ≡ true = cc in
+    let skipped : is_skipped (words_of c.args.text.now) ≡ true = comment_line c.args.text.now (sym (c.begins_comment.ensures []) ∙ c.if-begins_comment.true) in
+    judged_skipped (file_declares (text_lines c.args.names.now.text.now)) c.args.context.now c.args.text.now printed short skipped
 
 pub returns-then-is_skipped-clause-judged : goal.returns-then-is_skipped-clause-judged
 returns-then-is_skipped-clause-judged c =

@@ -1,4 +1,4 @@
-use Rattle.std.proofs.Common.{refl, arith}
+use Rattle.std.proofs.Common.{arith, refl}
 use Rattle.script_words.proofs.Keywords.{begins_with, begins_nothing}
 use Rattle.script_words.proofs.keyword.keyword_of.Goals as goal
 
@@ -8,4 +8,4 @@ returns-in-empty c = let none = c.in-empty.len_below in begins_nothing c.args.wo
 pub returns-in-len1-up : goal.returns-in-len1-up
 returns-in-len1-up c =
     let some = c.in-len1-up.len_at_least in
-    begins_with c.args.word.now _ c.keywords_with.result.now c.keyword_among.result (omega arith) refl c.keyword_among.ensures c.keywords_with.ensures
+    begins_with c.args.word.now _ c.keyword_with.result (omega arith) refl c.keyword_with.ensures
