@@ -1,11 +1,9 @@
 -- Idle may act exactly where the choice of the next actor is idle. That it may is said of the state alone, and the choice is
 -- made by the ready list, which has exactly the threads that are ready.
-use Rattle.std.proofs.Common.{◌≡◌, List, refl, ap, sym, ◌∙◌, Option, Some, None, Bool, true, false}
+use Rattle.std.proofs.Common.{◌≡◌, List, refl, ap, sym, ◌∙◌, Option, Some, None, Bool}
 use Rattle.std.specs.Prelude.{◌&&◌, is_none, option_map}
-use Rattle.std.proofs.lemmas.Bool.{cases_Bool}
 use Rattle.sym_base.specs.declared.number.ObjNo.{ObjNo}
 use Rattle.script_types.specs.declared.script.Script.{Script}
-use Rattle.entry_log.specs.declared.entry.Actor.{Actor}
 use Rattle.entry_log.specs.declared.entry.Actor.TheVariants.{Idle}
 use Rattle.state_rows.specs.Deferred.{next_immediate}
 use Rattle.state_rows.specs.Nano.{in_place_of, actor_of, item_or, wanted_holder}
@@ -13,7 +11,6 @@ use Rattle.state_rows.specs.declared.deferred.Item.{Item}
 use Rattle.machine.specs.declared.state.State.{State}
 use Rattle.machine.specs.Choice.{chosen, chosen_thread, first_ready}
 use Rattle.machine.specs.History.{IsIdle}
-use Rattle.machine.specs.Task.{is_ready}
 use Rattle.machine.specs.WellFormed.{IsWellFormed}
 use Rattle.move_laws.proofs.Readiness.FirstReady.{first_listed, none_listed}
 use Rattle.move_laws.proofs.Readiness.ReadyHolders.{place_able}

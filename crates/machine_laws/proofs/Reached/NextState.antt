@@ -1,5 +1,5 @@
 -- What an actor's action does.
-use Rattle.std.proofs.Common.{◌≡◌, ℕ, refl, List, [], Option, Some, None, Bool, true, false}
+use Rattle.std.proofs.Common.{◌≡◌, ℕ, refl, List, Option, Some, None, Bool, true, false}
 use Rattle.std.specs.Prelude.{is_some, if◌then◌else◌}
 use Rattle.sym_base.specs.declared.number.ObjNo.{ObjNo}
 use Rattle.script_types.specs.declared.script.Script.{Script}

@@ -22,7 +22,6 @@ use Rattle.machine.specs.Interrupts.{done_by, immediate, immediate_plan, interru
 use Rattle.machine.specs.Moves.{moved, perform, tell, told}
 use Rattle.machine.specs.References.{total}
 use Rattle.machine.specs.Rows.{owed_of}
-use Rattle.machine.specs.Steps.{decision_of}
 use Rattle.machine.specs.Transition.{act}
 use Rattle.machine.specs.WellFormed.{AreRows, weight}
 use Rattle.machine_laws.proofs.Fitting.Actions.{of_action}

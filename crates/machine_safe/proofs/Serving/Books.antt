@@ -10,7 +10,6 @@ use Rattle.machine.specs.Interrupts.{done_by, immediate, immediate_plan, interru
 use Rattle.machine.specs.Moves.{perform, tell}
 use Rattle.machine.specs.References.{total}
 use Rattle.machine.specs.Rows.{thread_of}
-use Rattle.machine.specs.Steps.{decision_of}
 use Rattle.machine.specs.Task.{instruction, instructions_of}
 use Rattle.machine.specs.Tick.{tick}
 use Rattle.machine.specs.Transition.{act, idle}
