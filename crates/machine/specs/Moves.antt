@@ -35,7 +35,7 @@ use Rattle.machine.specs.ServerMoves.{servers_moved, server_told, owned_gain, ow
 use Rattle.machine.specs.MessageMoves.{messages_moved, message_told, message_owed}
 use Rattle.state_rows.specs.ServerRows.{server_of}
 
--- the number that the next object gets
+-- the number that a new object gets, which is fresh (`Fresh`)
 abbrev pub next_object : State → ObjNo
 next_object S = record { 0 = length S.objects }
 

@@ -117,4 +117,4 @@ module _ (script : Script) (before : List Entry) (S : State) (place : ℕ) (t : 
       slots : (s : ObjNo) (row : SessionRow) → session_at (perform t d.moves S).servers s ≡ Some row → WasSession S.servers s row
       slots s row is_row =
           let later = keeps.slots s row (ap (λ (l : List Move). session_at (perform t l S).servers s) (sym is.moves) ∙ is_row) in
-          record { old = later.old; was = set_item (λ (x : Option SessionRow). x ≡ Some later.old → get_or S.servers.sessions s.0 None ≡ Some later.old) S.servers.sessions (length S.objects) s.0 None None (λ at none. absurd (cc)) (λ same_row. same_row) later.was; slots = later.slots }
+          record { old = later.old; was = set_item (λ (x : Option SessionRow). x ≡ Some later.old → get_or S.servers.sessions s.0 None ≡ Some later.old) S.servers.sessions (next_object S).0 s.0 None None (λ at none. absurd (cc)) (λ same_row. same_row) later.was; slots = later.slots }
