@@ -1,7 +1,6 @@
 -- The number that a new object gets is fresh.
 use Rattle.std.proofs.Common.{arith, None}
 use Rattle.std.proofs.lemmas.List.{get_or_past}
-use Rattle.sym_base.specs.declared.number.ObjNo.{ObjNo}
 use Rattle.script_types.specs.declared.script.Script.{Script}
 use Rattle.machine.specs.declared.state.State.{State}
 use Rattle.machine.specs.Fresh.{IsFresh}
