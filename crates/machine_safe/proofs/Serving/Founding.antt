@@ -29,7 +29,7 @@ use Rattle.machine_safe.specs.CountAfter.{effects_of}
 use Rattle.machine_safe.specs.SafeDeaths.{dooms}
 use Rattle.machine_safe.specs.Served.{ends, handles_lost, server_told}
 use Rattle.script_types.specs.declared.script.Script.{Script}
-use Rattle.std.proofs.Common.{Bool, List, None, [], ap, arith, subst, sym, ℕ, ◌++◌, ◌+◌, ◌∙◌, ◌∷◌, ◌≡◌, Option, Some, get_or, length}
+use Rattle.std.proofs.Common.{Bool, List, None, [], ap, arith, subst, sym, ℕ, ◌++◌, ◌+◌, ◌∙◌, ◌∷◌, ◌≡◌, Option, Some, get_or}
 use Rattle.std.specs.Prelude.{if◌then◌else◌}
 use Rattle.sym_base.specs.declared.number.ObjNo.{ObjNo}
 use Rattle.machine_safe.proofs.Serving.Slots.{slotted-keeps}
