@@ -34,7 +34,7 @@ use Rattle.machine.specs.Close.{close_handle}
 use Rattle.machine.specs.Closing.{before_close, close_moves, close_or, connected_to, disconnect}
 use Rattle.machine.specs.Handles.{holder_of, thread_handle}
 use Rattle.machine.specs.Messaging.{close_refused, connects, disconnects, finish, is_receiving, is_refused, no_args, open_server, post, reply, reply_to, slots_of, wake_receiver, wake_row}
-use Rattle.machine.specs.Moves.{next_object, no_number_left}
+use Rattle.machine.specs.Moves.{next_object}
 use Rattle.machine.specs.Reaping.{finish_message}
 use Rattle.machine.specs.Rows.{thread_of}
 use Rattle.machine.specs.ServerCalls.{complete_message, function_of, make_server, receive_came, receive_do, receive_done, receive_next, receive_step, server_do}
@@ -94,7 +94,7 @@ other-made_server t o name x None = record { step = refl; cleans = refl; answers
 other-made_server t o name x (Some handle) = record { step = refl; cleans = refl; answers = refl; dooms = λ v. refl; calm = λ e. absurd (cc); making = λ _. refl; sends = λ _. refl }
 
 pub other-server : (S : State) (t : ObjNo) (name : List ℕ) (x : ℕ) → IsOther true (server_do S t name x)
-other-server S t name x = either (is_taken kind.Server name S.objects) _ _ (record { step = refl; cleans = refl; answers = refl; dooms = λ v. refl; calm = λ _. refl; making = λ _. refl; sends = λ _. refl }) (either (no_number_left S) _ _ (record { step = refl; cleans = refl; answers = refl; dooms = λ v. refl; calm = λ _. refl; making = λ _. refl; sends = λ _. refl }) (other-made_server t (next_object S) name x _))
+other-server S t name x = either (is_taken kind.Server name S.objects) _ _ (record { step = refl; cleans = refl; answers = refl; dooms = λ v. refl; calm = λ _. refl; making = λ _. refl; sends = λ _. refl }) (either (length S.objects == OBJECTS) _ _ (record { step = refl; cleans = refl; answers = refl; dooms = λ v. refl; calm = λ _. refl; making = λ _. refl; sends = λ _. refl }) (other-made_server t (next_object S) name x _))
 
 -- sessions
 pub other-made_session : (t o : ObjNo) (slots : Slots) (s : ObjNo) (handle : Option NewHandle) → IsOther true (make_session t o slots s handle)
@@ -103,7 +103,7 @@ other-made_session t o slots s (Some handle) = record { step = refl; cleans = re
 
 other-connect_to : (S : State) (t : ObjNo) (slots : Slots) (o : ObjNo) (server : Option ServerRow) → IsOther true (connect_to S t slots o server)
 other-connect_to S t slots o None = record { step = refl; cleans = refl; answers = refl; dooms = λ v. refl; calm = λ _. refl; making = λ _. refl; sends = λ _. refl }
-other-connect_to S t slots o (Some server) = either server.is_closing _ _ (record { step = refl; cleans = refl; answers = refl; dooms = λ v. refl; calm = λ _. refl; making = λ _. refl; sends = λ _. refl }) (either (no_number_left S) _ _ (record { step = refl; cleans = refl; answers = refl; dooms = λ v. refl; calm = λ _. refl; making = λ _. refl; sends = λ _. refl }) (other-made_session t o slots (next_object S) (thread_handle S t)))
+other-connect_to S t slots o (Some server) = either server.is_closing _ _ (record { step = refl; cleans = refl; answers = refl; dooms = λ v. refl; calm = λ _. refl; making = λ _. refl; sends = λ _. refl }) (either (length S.objects == OBJECTS) _ _ (record { step = refl; cleans = refl; answers = refl; dooms = λ v. refl; calm = λ _. refl; making = λ _. refl; sends = λ _. refl }) (other-made_session t o slots (next_object S) (thread_handle S t)))
 
 other-connect_make : (S : State) (t : ObjNo) (slots : Slots) (uses : Option ObjNo) → IsOther true (connect_make S t slots uses)
 other-connect_make S t slots None = record { step = refl; cleans = refl; answers = refl; dooms = λ v. refl; calm = λ _. refl; making = λ _. refl; sends = λ _. refl }

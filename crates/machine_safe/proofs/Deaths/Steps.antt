@@ -53,7 +53,7 @@ use Rattle.machine.specs.Steps.{return_of, step_of}
 use Rattle.machine.specs.ThreadCalls.{is_live}
 use Rattle.machine.specs.Rows.{object_of}
 use Rattle.machine.specs.declared.lock_move.LockMove.TheVariants.{Start}
-use Rattle.machine.specs.Moves.{next_object, no_number_left}
+use Rattle.machine.specs.Moves.{next_object}
 use Rattle.state_rows.specs.ServerRows.{server_at}
 use Rattle.state_rows.specs.declared.servers.ServerRow.{ServerRow}
 use Rattle.machine.specs.CriticalSection.{is_unprotected}
@@ -71,7 +71,7 @@ other-made t kind name None x (Some handle) = record { step = refl; cleans = ref
 other-made t kind name (Some start) x (Some handle) = record { step = refl; cleans = refl; answers = refl; dooms = λ v. refl; calm = λ _. refl; making = λ e. absurd (cc); sends = λ _. refl }
 
 other-create : (S : State) (t : ObjNo) (row : ThreadRow) (kind : Kind) (name : List ℕ) (start : Option LockMove) (x : ℕ) → IsOther false (create_do S t row kind name start x)
-other-create S t row kind name start x = either (is_taken kind name S.objects) _ _ (record { step = refl; cleans = refl; answers = refl; dooms = λ v. refl; calm = λ _. refl; making = λ _. refl; sends = λ _. refl }) (either (no_number_left S) _ _ (record { step = refl; cleans = refl; answers = refl; dooms = λ v. refl; calm = λ _. refl; making = λ _. refl; sends = λ _. refl }) (other-made t kind name start x _))
+other-create S t row kind name start x = either (is_taken kind name S.objects) _ _ (record { step = refl; cleans = refl; answers = refl; dooms = λ v. refl; calm = λ _. refl; making = λ _. refl; sends = λ _. refl }) (either (length S.objects == OBJECTS) _ _ (record { step = refl; cleans = refl; answers = refl; dooms = λ v. refl; calm = λ _. refl; making = λ _. refl; sends = λ _. refl }) (other-made t kind name start x _))
 
 other-open : (S : State) (t : ObjNo) (row : ThreadRow) (x : ℕ) (uses : Option ObjNo) → IsOther false (open_do S t row x uses)
 other-open S t row x None = record { step = refl; cleans = refl; answers = refl; dooms = λ v. refl; calm = λ _. refl; making = λ _. refl; sends = λ _. refl }

@@ -5,7 +5,7 @@ use Rattle.machine.specs.Close.{close_handle}
 use Rattle.machine.specs.Closing.{before_close, close_moves, close_or, connected_to, disconnect}
 use Rattle.machine.specs.Handles.{holder_of, thread_handle}
 use Rattle.machine.specs.Messaging.{disconnects, no_args, open_server, post, wake_receiver}
-use Rattle.machine.specs.Moves.{next_object, no_number_left}
+use Rattle.machine.specs.Moves.{next_object}
 use Rattle.machine.specs.References.{same, total}
 use Rattle.machine.specs.ServerCalls.{complete_message, is_owner, make_server, receive_came, receive_do, receive_done, receive_next, receive_step, server_do, taken_by}
 use Rattle.machine.specs.Steps.{step_of}
@@ -74,7 +74,7 @@ deed-made_server S t at P name x (Some handle) each = each.makes _ (record {
 deed-server : (S : State) (t : ObjNo) (at : Option Instr) (P : Decision → Type 0) (name : List ℕ) (x : ℕ) → OfEach S t at P → P (server_do S t name x)
 deed-server S t at P name x each = if_cases P (is_taken kind.Server name S.objects) _ _
     (λ _. calm each _ (record { step = refl; cleans = refl; answers = refl; dooms = λ v. refl; calm = λ _. refl; making = λ _. refl; sends = λ _. refl }))
-    (λ _. if_cases P (no_number_left S) _ _
+    (λ _. if_cases P (length S.objects == OBJECTS) _ _
     (λ _. calm each _ (record { step = refl; cleans = refl; answers = refl; dooms = λ v. refl; calm = λ _. refl; making = λ _. refl; sends = λ _. refl }))
     (λ _. deed-made_server S t at P name x (thread_handle S t) each))
 

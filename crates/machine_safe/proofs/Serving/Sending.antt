@@ -4,7 +4,7 @@ use Rattle.entry_log.specs.declared.step.Step.TheVariants.{Of}
 use Rattle.machine.specs.Decide.{answer}
 use Rattle.machine.specs.Handles.{holder_of, thread_handle}
 use Rattle.machine.specs.Messaging.{connects, no_args, open_server, post, slots_of, wake_receiver}
-use Rattle.machine.specs.Moves.{next_object, tell, no_number_left}
+use Rattle.machine.specs.Moves.{next_object, tell}
 use Rattle.machine.specs.References.{total}
 use Rattle.machine.specs.SessionCalls.{args_of, call_do, call_step, call_to, connect_done, connect_make, connect_send, connect_step, connect_to, fail_connect, make_session, send_connect, send_do, send_step, send_to, session_made}
 use Rattle.machine.specs.declared.decision.Decision.{Decision}
@@ -185,7 +185,7 @@ deed-connect_to : (S : State) (t : ObjNo) (at : Option Instr) (P : Decision → 
 deed-connect_to S t at P slots o None here each = calm each _ (record { step = refl; cleans = refl; answers = refl; dooms = λ v. refl; calm = λ _. refl; making = λ _. refl; sends = λ _. refl })
 deed-connect_to S t at P slots o (Some server) here each = if_cases P server.is_closing _ _
     (λ _. calm each _ (record { step = refl; cleans = refl; answers = refl; dooms = λ v. refl; calm = λ _. refl; making = λ _. refl; sends = λ _. refl }))
-    (λ _. if_cases P (no_number_left S) _ _
+    (λ _. if_cases P (length S.objects == OBJECTS) _ _
     (λ _. calm each _ (record { step = refl; cleans = refl; answers = refl; dooms = λ v. refl; calm = λ _. refl; making = λ _. refl; sends = λ _. refl }))
     (λ _. deed-made_session S t at P o slots (thread_handle S t) here each))
 
