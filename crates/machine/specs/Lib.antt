@@ -1,4 +1,5 @@
 pub mod Arrivals
+pub mod Arrived
 pub mod Bodies
 pub mod Boot
 pub mod Choice
@@ -21,6 +22,7 @@ pub mod Find
 pub mod Fits
 pub mod FitsCopies
 pub mod FitsServers
+pub mod Fresh
 pub mod Handles
 pub mod HeldIn
 pub mod History

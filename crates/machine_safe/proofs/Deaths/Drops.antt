@@ -8,7 +8,6 @@ use Rattle.script_types.specs.Shape.{IsShaped}
 use Rattle.entry_log.specs.declared.entry.Actor.{Actor}
 use Rattle.entry_log.specs.declared.entry.Actor.TheVariants.{Thread, Irq, Idfc, Tick, Idle}
 use Rattle.machine.specs.History.{next}
-use Rattle.machine.specs.Tick.{tick}
 use Rattle.state_rows.specs.Deferred.{next_immediate}
 use Rattle.state_rows.specs.declared.duty.Owed.{Owed}
 use Rattle.state_rows.specs.declared.duty.Owed.TheVariants.{Close, Sweep}
@@ -24,7 +23,7 @@ use Rattle.machine.specs.Fits.{EachFits, Sane}
 use Rattle.machine.specs.Holdings.{stage_left}
 use Rattle.machine.specs.Interrupts.{immediate, immediate_plan, interrupt, supervisor}
 use Rattle.machine.specs.Moves.{moved, perform}
-use Rattle.machine.specs.References.{is_last, stage_holds, total}
+use Rattle.machine.specs.References.{dies, stage_holds, total}
 use Rattle.machine.specs.Rows.{owed_of, thread_of}
 use Rattle.machine.specs.Steps.{decision_of}
 use Rattle.machine.specs.Transition.{act}
@@ -84,7 +83,7 @@ record OwnCleaning (script : Script) (S : State) (t u : ObjNo) : Type 0 where
 
 -- a payment cleans nobody
 paid-kept : (script : Script) (S : State) (t : ObjNo) (what : Owed) (rest : List Owed) → owed_of S t ≡ what ∷ rest → t.0 < length S.owed → AreRows script S → (u : ObjNo) → row_bit stage_left (thread_of (moved t (Pay what) S) u) ≡ row_bit stage_left (thread_of S u)
-paid-kept script S t (Close h o) rest owes here rows u = (keeps-closed (is_last S o) o S.threads).stages stage_left u.0
+paid-kept script S t (Close h o) rest owes here rows u = (keeps-closed (dies S o) o S.threads).stages stage_left u.0
 paid-kept script S t (Sweep o) rest owes here rows u =
     let unheld : row_bit stage_holds (thread_of S o) ≡ 0 = sym (held-is (thread_of S o)) ∙ sweep-unheld script S t o rest owes here rows in
     bit-swept stage_left S.threads o.0 u.0 (let le = left-held (thread_of S o) in omega arith)
@@ -125,14 +124,10 @@ kept-immediate script S u shaped rows was =
     let found = next_immediate S.deferred in
     kept-none script S supervisor (decision_by script supervisor S (immediate_plan script S found)).moves u (goes-immediate script S found shaped rows refl).each (none-planned script supervisor S found).cleans was
 
-kept-tick : (S : State) (u : ObjNo) → thread_of (tick S).state u ≡ thread_of S u
-unfolding tick
-kept-tick S u = refl
-
 -- a thread comes to be cleaned only by its own cleaning
 pub drop-next : (script : Script) (S : State) (actor : Actor) (u : ObjNo) → IsShaped script → AreRows script S → row_bit stage_left (thread_of S u) ≡ 1 → row_bit stage_left (thread_of (next script S actor) u) ≡ 0 → (actor ≡ Thread u) × (is_clean (decision_of script S u).step ≡ true)
 drop-next script S (Thread t) u shaped rows was now = let h = drop-act script S t u shaped rows was now in (ap Thread (sym h.own), subst (λ (x : ObjNo). is_clean (decision_of script S x).step ≡ true) (sym h.own) h.step)
 drop-next script S (Irq k) u shaped rows was now = let kept = kept-interrupt script S k u shaped rows was in absurd (omega arith)
 drop-next script S Idfc u shaped rows was now = let kept = kept-immediate script S u shaped rows was in absurd (omega arith)
-drop-next script S Tick u shaped rows was now = let kept = ap (row_bit stage_left) (kept-tick S u) in absurd (omega arith)
+drop-next script S Tick u shaped rows was now = absurd (omega arith)
 drop-next script S Idle u shaped rows was now = absurd (omega arith)
