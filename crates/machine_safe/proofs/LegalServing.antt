@@ -75,7 +75,7 @@ module _ (script : Script) (history before : List Entry) (e : Entry) (later : Li
   server-ended = elim (book.served.made t v owns) as (λ _. 0 < ends (effects_of before) v) [
     | inl owned ↦
         let c = cut script history before e later valid legal is in
-        let empty = empty-cleaning script (after script before) e t c.rows (cleans-here script before e later t c cleaned) in
+        let empty = empty-cleaning script (after script before) e t c.rows (cleans-here script before e later t (formed_is_shaped script valid) c cleaned) in
         let none = ap (total (mutex_names v)) empty.owned in absurd (omega arith)
     | inr over ↦ over
   ]

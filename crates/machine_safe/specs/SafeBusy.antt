@@ -13,7 +13,8 @@ use Rattle.machine_safe.specs.CountAfter.{effects_of}
 use Rattle.machine_safe.specs.SafeDeaths.{StandsAt}
 use Rattle.machine_safe.specs.Sent.{accepts}
 use Rattle.machine_safe.specs.Served.{is_closing_in, server_told}
-use Rattle.machine_safe.specs.Slotted.{is_send, slots_in, used_in, used_told}
+use Rattle.machine_safe.specs.Slotted.{slots_in, used_in, used_told}
+use Rattle.machine.specs.EntryWords.{is_send}
 
 -- whether a session's server accepts messages: it isn't closing
 abbrev pub accepts_in : List Entry → Option ObjNo → Bool

@@ -10,8 +10,6 @@ use Rattle.entry_log.specs.declared.effect.Holder.TheVariants.{InProcess, InThre
 use Rattle.entry_log.specs.declared.effect.LockNo.{LockNo}
 use Rattle.entry_log.specs.declared.effect.LockNo.TheVariants.{Object, Fast}
 use Rattle.entry_log.specs.declared.entry.Entry.{Entry}
-use Rattle.entry_log.specs.declared.step.Step.{Step}
-use Rattle.entry_log.specs.declared.step.Step.TheVariants.{Clean}
 use Rattle.state_rows.specs.declared.thread.ThreadRow.{ThreadRow}
 use Rattle.machine.specs.Boot.{boot}
 use Rattle.machine.specs.History.{after}
@@ -19,6 +17,7 @@ use Rattle.machine.specs.Holding.{held_after_all, held_at_boot}
 use Rattle.machine.specs.Holdings.{holdings}
 use Rattle.machine.specs.References.{same}
 use Rattle.machine.specs.Rows.{thread_of, owed_of}
+use Rattle.machine.specs.EntryWords.{is_clean}
 use Rattle.machine_safe.specs.CountAfter.{effects_of, is_by, pluses_by}
 
 -- how often effects say that a thread is doomed, and that it is buried
@@ -33,10 +32,6 @@ burials (Bury u ∷ rest) t = same u t + burials rest t
 burials (_ ∷ rest) t = burials rest t
 
 -- how often a thread is cleaned in entries: that is a step of its own
-abbrev pub is_clean : Step → Bool
-is_clean Clean = true
-is_clean _ = false
-
 abbrev pub cleanings : List Entry → ObjNo → ℕ
 cleanings [] t = 0
 cleanings (e ∷ es) t = (if is_by t e.actor && is_clean e.step then 1 else 0) + cleanings es t

@@ -27,7 +27,6 @@ use Rattle.machine.specs.Rows.{owed_of, thread_of}
 use Rattle.machine.specs.WellFormed.{AreRows, is_spent, times_held}
 use Rattle.machine_laws.proofs.Fitting.Reaping.{has-nothing}
 use Rattle.move_laws.proofs.Lists.Sets.{set_either}
-use Rattle.machine_safe.proofs.Deaths.Cleanings.{is-cleaning}
 use Rattle.machine_safe.proofs.Deaths.Moves.{dies-move, dies-pay}
 use Rattle.machine_safe.proofs.Deaths.Order.{Cleans, after-cleaning, left-after}
 use Rattle.machine_safe.proofs.Deaths.Rows.{WasIn, live-left, row_bit}
@@ -95,7 +94,7 @@ bare-next script t S actor shaped rows h = kept-next script (λ (S : State). IsB
 -- so it is after its cleaning
 pub bare-cleaned : (script : Script) (S : State) (e : Entry) (t : ObjNo) → Cleans script S e t → IsBare (next script S e.actor) t
 bare-cleaned script S e t c =
-    let known = is-cleaning script S t c.step in
+    let known = c.known in
     let has = has-nothing S t known.row known.nothing in
     let later = after-cleaning script S e t c in record {
       left = left-after script S e t c;

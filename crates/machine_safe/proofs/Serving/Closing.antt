@@ -19,7 +19,7 @@ use Rattle.machine_safe.proofs.Serving.Reading.{Reading, closing_by, further}
 use Rattle.machine_safe.proofs.Serving.Served.{IsServed, Served, bit-is, bit-none, bit-some, closing-count}
 use Rattle.machine_safe.proofs.Serving.Told.{unlinking-close}
 use Rattle.machine_safe.specs.SafeDeaths.{dooms}
-use Rattle.machine_safe.specs.Served.{closes_handle, ends, handles_lost, is_handle, makes_server, or_before, owner_told, server_told}
+use Rattle.machine_safe.specs.Served.{closes_handle, ends, handles_lost, or_before, owner_told, server_told}
 use Rattle.move_laws.proofs.Lists.Mapped.{mapped-some}
 use Rattle.move_laws.proofs.References.Mutexes.{held-not_holding}
 use Rattle.move_laws.proofs.References.Same.{eqb_apart, if_is, if_not, if_zero}
@@ -35,6 +35,7 @@ use Rattle.sym_base.specs.declared.number.ObjNo.{ObjNo}
 use Rattle.machine_safe.proofs.Serving.Acting.{undetached}
 use Rattle.machine_safe.proofs.Serving.KeptUses.{alive-closed, linked-closed, unused-close, using-closed}
 use Rattle.machine_safe.specs.Slotted.{used_told}
+use Rattle.machine.specs.EntryWords.{is_handle, makes_server}
 
 -- what a close of a handle tells
 closed-lost : (last : Bool) (h : Holder) (o v : ObjNo) → is_handle h ≡ true → handles_lost (closed_effects last h o) v ≡ same o v

@@ -12,11 +12,11 @@ use Rattle.machine.specs.declared.moves.Move.{Move}
 use Rattle.machine.specs.declared.moves.Move.TheVariants.{Advance, Gain, Lose, Make, Messages, Servers}
 use Rattle.machine.specs.declared.server_move.ServerMove.TheVariants.{Start, Join, Close, End}
 use Rattle.machine.specs.declared.state.State.{State}
-use Rattle.machine_safe.proofs.Deaths.Other.{IsOther, serving_bit, advance_bit, answer_bit, closed_bit, doomed_bit, mutex_bit}
+use Rattle.machine_laws.proofs.Fitting.Regular.{serving_bit}
 use Rattle.machine_safe.proofs.Serving.Keeps.{changing-none, changing_bit, lost-none, lost_bit, message-none, message_bit, detach-none, detach_bit}
 use Rattle.machine_safe.specs.SafeMessages.{code_by}
 use Rattle.machine_safe.specs.Sent.{status_by}
-use Rattle.machine_safe.specs.Served.{closes_handle, is_handle, makes_server}
+use Rattle.machine_safe.specs.Served.{closes_handle}
 use Rattle.script_types.specs.declared.instruction.Instr.{Instr}
 use Rattle.state_rows.specs.MessageRows.{message_of, is_async, is_full}
 use Rattle.state_rows.specs.ServerRows.{is_closing, owner_of, server_at, server_of}
@@ -25,16 +25,17 @@ use Rattle.state_rows.specs.declared.messages.MsgRow.{MsgRow}
 use Rattle.state_rows.specs.declared.messages.Way.{Way}
 use Rattle.state_rows.specs.declared.messages.Way.TheVariants.{Async, Disconnect, Sync}
 use Rattle.state_rows.specs.declared.servers.ServerRow.{ServerRow}
-use Rattle.std.proofs.Common.{Bool, List, None, Option, Some, [], arith, false, refl, true, ℕ, ℤ, ◌++◌, ◌<◌, ◌∷◌, ◌≡◌, pos, ◌⊎◌}
+use Rattle.std.proofs.Common.{Bool, List, None, Option, Some, [], arith, false, true, ℕ, ℤ, ◌++◌, ◌<◌, ◌∷◌, ◌≡◌, pos, ◌⊎◌}
 use Rattle.sym_base.specs.declared.kind.Slots.{Slots}
 use Rattle.sym_base.specs.declared.number.ObjNo.{ObjNo}
 use Rattle.sym_base.specs.declared.kind.Kind.TheVariants as kind
 use Rattle.entry_log.specs.declared.effect.StatusNo.TheVariants as status
 use Rattle.machine.specs.Rows.{thread_of}
-use Rattle.machine_safe.specs.Slotted.{is_send, slots_of_connect}
+use Rattle.machine_safe.specs.Slotted.{slots_of_connect}
 use Rattle.state_rows.specs.declared.thread.ThreadRow.{ThreadRow}
 use Rattle.sym_base.specs.ErrorCode.{error_code}
 use Rattle.sym_base.specs.declared.error.Error.TheVariants.{ServerBusy, ServerTerminated}
+use Rattle.machine.specs.EntryWords.{is_handle, is_send, makes_server}
 
 -- what stands behind the moves of a call that answers
 abbrev pub behind : Bool → ObjNo → List Move
@@ -50,15 +51,6 @@ status_of_way Disconnect = None
 -- a handle goes with a close only of what is no server
 abbrev pub ClosesOthers : State → Decision → Type 0
 ClosesOthers S d = closes_handle d.step ≡ true → (v : ObjNo) → 0 < total (lost_bit v) d.moves → server_at S.servers v ≡ None
-
--- a thread is answered where its instruction ends, servers begin to close exactly of threads that are doomed, and a server isn't made with a mutex
-pub record IsEven (d : Decision) : Type 0 where
-  pub answers : total advance_bit d.moves ≡ answer_bit d.answer
-  pub dooms : (v : ObjNo) → total (closed_bit v) d.moves ≡ total (doomed_bit v) d.moves
-  pub making : makes_server d.step ≡ true → total mutex_bit d.moves ≡ 0
-
-pub even : {b : Bool} {d : Decision} → IsOther b d → IsEven d
-even h = record { answers = h.answers; dooms = h.dooms; making = h.making }
 
 -- a session is detached only from a server that is closing
 abbrev pub Detaches : State → Decision → Type 0
@@ -81,7 +73,6 @@ pub record IsRefusal (S : State) (t : ObjNo) (d : Decision) : Type 0 where
 
 -- neither servers nor messages change
 pub record IsKeeping (S : State) (t : ObjNo) (d : Decision) : Type 0 where
-  pub even : IsEven d
   pub changing : total changing_bit d.moves ≡ 0
   pub still : total message_bit d.moves ≡ 0
   pub closed : ClosesOthers S d
@@ -96,7 +87,6 @@ pub record IsAnswered (S : State) (t s : ObjNo) (slots : Slots) (d : Decision) :
 
 -- thread t, at an instruction, sends a message
 pub record IsSending (S : State) (t : ObjNo) (at : Option Instr) (d : Decision) : Type 0 where
-  pub even : IsEven d
   pub front : List Move
   pub back : List Move
   pub slots : Slots
@@ -118,7 +108,6 @@ pub record IsSending (S : State) (t : ObjNo) (at : Option Instr) (d : Decision) 
 
 -- it finishes one
 pub record IsFinishing (S : State) (t : ObjNo) (at : Option Instr) (d : Decision) : Type 0 where
-  pub even : IsEven d
   pub message : Message
   pub code : ℤ
   pub answers : Bool
@@ -131,7 +120,6 @@ pub record IsFinishing (S : State) (t : ObjNo) (at : Option Instr) (d : Decision
 
 -- it makes a server
 pub record IsMaking (S : State) (t : ObjNo) (d : Decision) : Type 0 where
-  pub even : IsEven d
   pub name : List ℕ
   pub holder : Holder
   pub back : List Move
@@ -143,7 +131,6 @@ pub record IsMaking (S : State) (t : ObjNo) (d : Decision) : Type 0 where
 
 -- it joins a session at a server
 pub record IsJoining (S : State) (t : ObjNo) (at : Option Instr) (d : Decision) : Type 0 where
-  pub even : IsEven d
   pub server : ObjNo
   pub slots : Slots
   pub holder : Holder
@@ -157,7 +144,6 @@ pub record IsJoining (S : State) (t : ObjNo) (at : Option Instr) (d : Decision) 
 
 -- it closes the handle of a server
 pub record IsClosing (S : State) (t : ObjNo) (d : Decision) : Type 0 where
-  pub even : IsEven d
   pub server : ObjNo
   pub row : ServerRow
   pub is : server_at S.servers server ≡ Some row
@@ -171,7 +157,6 @@ pub record IsClosing (S : State) (t : ObjNo) (d : Decision) : Type 0 where
 
 -- it stops one
 pub record IsStopping (S : State) (t : ObjNo) (d : Decision) : Type 0 where
-  pub even : IsEven d
   pub server : ObjNo
   pub moves : d.moves ≡ Servers (End server) ∷ Lose (Own t) server ∷ []
   pub makes : makes_server d.step ≡ false
@@ -188,15 +173,12 @@ pub record OfEach (S : State) (t : ObjNo) (at : Option Instr) (P : Decision → 
   pub closes : (d : Decision) → IsClosing S t d → P d
   pub stops : (d : Decision) → IsStopping S t d → P d
 
-pub keeping : {S : State} {t : ObjNo} (d : Decision) → IsOther false d → IsKeeping S t d
-keeping {S = S} d h = record {
-  even = even h;
-  changing = changing-none d.moves (h.calm refl);
-  still = message-none d.moves (h.calm refl);
-  closed = λ closes v some. let none = lost-none v d.moves (h.calm refl) in absurd (omega arith);
-  detaches = λ v some. let none = detach-none v d.moves (h.calm refl) in absurd (omega arith);
-  send = λ sends. let unsent = h.sends refl in absurd (cc);
-}
-
-pub calm : {S : State} {t : ObjNo} {at : Option Instr} {P : Decision → Type 0} → OfEach S t at P → (d : Decision) → IsOther false d → P d
-calm each d h = each.keeps d (keeping d h)
+-- moves that serve nobody leave servers and messages
+pub calm : {S : State} {t : ObjNo} {at : Option Instr} {P : Decision → Type 0} → OfEach S t at P → (d : Decision) → total serving_bit d.moves ≡ 0 → is_send d.step ≡ false → P d
+calm each d quiet unsent = each.keeps d (record {
+  changing = changing-none d.moves quiet;
+  still = message-none d.moves quiet;
+  closed = λ closes v some. let none = lost-none v d.moves quiet in absurd (omega arith);
+  detaches = λ v some. let none = detach-none v d.moves quiet in absurd (omega arith);
+  send = λ sends. absurd (cc);
+})

@@ -14,8 +14,8 @@ use Rattle.machine.specs.declared.message_move.MessageMove.TheVariants.{Take}
 use Rattle.machine.specs.declared.server_move.ServerMove.TheVariants.{CloseAll, SetOpen}
 use Rattle.machine.specs.declared.state.State.{State}
 use Rattle.machine.specs.References.{same, total}
-use Rattle.machine_safe.specs.Served.{ends, owner_told, server_told, or_before, handles_lost, is_handle}
-use Rattle.machine_safe.proofs.Deaths.Other.{advance_bit, closed_bit, mutex_bit, serving_bit, doomed_bit}
+use Rattle.machine_safe.specs.Served.{ends, owner_told, server_told, or_before, handles_lost}
+use Rattle.machine_laws.proofs.Fitting.Regular.{advance_bit, closed_bit, mutex_bit, serving_bit, doomed_bit}
 use Rattle.machine_safe.proofs.Serving.EffectSums.{ends-append, owner_told-append, server_told-append, handles_lost-append, used_told-append}
 use Rattle.move_laws.proofs.References.Same.{if_zero}
 use Rattle.machine.specs.Serving.{times_owned}
@@ -26,6 +26,7 @@ use Rattle.machine.specs.WellFormed.{IsAlive}
 use Rattle.machine_safe.specs.Slotted.{used_told}
 use Rattle.state_rows.specs.ServerChanges.{detached}
 use Rattle.state_rows.specs.declared.servers.SessionRow.{SessionRow}
+use Rattle.machine.specs.EntryWords.{is_handle}
 
 -- 1 for a move by which a server comes, closes by its handle or ends, or a session is joined
 abbrev pub changing_bit : Move → ℕ

@@ -29,7 +29,7 @@ use Rattle.state_rows.specs.declared.thread.ThreadRow.{ThreadRow}
 use Rattle.std.proofs.Common.{List, None, Option, Some, [], ap, arith, get_or, length, length-set, refl, ℕ, ◌+◌, ◌<◌, ◌∷◌, ◌≡◌, ◌≤◌, subst, sym, true, inl, inr}
 use Rattle.sym_base.specs.declared.number.ObjNo.{ObjNo}
 use Rattle.machine.specs.Serving.{times_owned}
-use Rattle.machine_safe.proofs.Deaths.Other.{doomed_bit}
+use Rattle.machine_laws.proofs.Fitting.Regular.{doomed_bit}
 use Rattle.machine.specs.declared.death_move.DeathMove.TheVariants.{Doom}
 use Rattle.machine_safe.proofs.Serving.KeptUses.{alive-closed, alive-move, linked-closed, linked-move, session-closed, session-move, unused-close, uses-move, using-closed}
 use Rattle.state_rows.specs.declared.object.ObjectRow.{ObjectRow}

@@ -17,7 +17,7 @@ use Rattle.machine_safe.proofs.Serving.Keeps.{closing-row}
 use Rattle.machine_safe.proofs.Serving.Reading.{Reading, closing_by, further}
 use Rattle.machine_safe.proofs.Serving.Served.{IsServed, Served, closing-count}
 use Rattle.machine_safe.specs.SafeDeaths.{dooms}
-use Rattle.machine_safe.specs.Served.{closes_handle, ends, handles_lost, makes_server, one_if, or_before, owner_told, server_told}
+use Rattle.machine_safe.specs.Served.{closes_handle, ends, handles_lost, one_if, or_before, owner_told, server_told}
 use Rattle.move_laws.proofs.References.Mutexes.{held-holding}
 use Rattle.move_laws.proofs.References.Same.{eqb_apart, if_is}
 use Rattle.script_types.specs.declared.script.Script.{Script}
@@ -34,6 +34,7 @@ use Rattle.sym_base.specs.declared.kind.Slots.{Slots}
 use Rattle.sym_base.specs.declared.number.ObjNo.{ObjNo}
 use Rattle.machine.specs.References.{same}
 use Rattle.std.proofs.Math.ListN.{get_or-append}
+use Rattle.machine.specs.EntryWords.{makes_server}
 
 -- a thread that is live was doomed in nothing that was told
 abbrev pub Undoomed : Reading → ObjNo → Type 0

@@ -13,7 +13,7 @@ use Rattle.machine.specs.declared.message_move.MessageMove.TheVariants.{Accept}
 use Rattle.machine.specs.declared.moves.Move.{Move}
 use Rattle.machine.specs.declared.moves.Move.TheVariants.{Messages}
 use Rattle.machine.specs.declared.state.State.{State}
-use Rattle.machine_safe.proofs.Deaths.Other.{serving_bit}
+use Rattle.machine_laws.proofs.Fitting.Regular.{serving_bit}
 use Rattle.machine_safe.proofs.Serving.Deeds.{IsSending, status_of_way, IsAnswered}
 use Rattle.machine_safe.proofs.Serving.Doing.{Doing, IsGoing, fits-front, going, keeps-doing, perform-append, tell-append}
 use Rattle.machine_safe.proofs.Serving.Keeps.{Keeps, changing-none, changing_bit, message-none, message_bit, there-row}
@@ -41,12 +41,14 @@ use Rattle.sym_base.specs.declared.number.ObjNo.{ObjNo}
 use Rattle.std.proofs.lemmas.List.{map-append}
 use Rattle.machine.specs.Messaging.{slots_of_row}
 use Rattle.machine_safe.proofs.Serving.Slots.{sent_of, slotted-keeps}
-use Rattle.machine_safe.specs.Slotted.{is_send, sent_told, slots_in}
+use Rattle.machine_safe.specs.Slotted.{sent_told, slots_in}
 use Rattle.state_rows.specs.MessageRows.{is_async}
 use Rattle.state_rows.specs.declared.messages.Way.{Way}
 use Rattle.state_rows.specs.declared.messages.Way.TheVariants.{Async, Disconnect, Sync}
 use Rattle.state_rows.specs.declared.servers.SessionRow.{SessionRow}
 use Rattle.std.specs.Prelude.{if◌then◌else◌}
+use Rattle.machine.specs.EntryWords.{is_send}
+use Rattle.machine_laws.proofs.Fitting.Regular.{IsRegular, Kinds}
 
 -- what moves do in which one message is accepted
 record IsPosted (S T : State) (t : ObjNo) (slots : Slots) (row : MsgRow) (effects : List Effect) : Type 0 where
@@ -93,10 +95,10 @@ session-row None v e = absurd (cc)
 session-row (Some row) v e = (row, refl)
 
 module _ (script : Script) (before : List Entry) (S : State) (place : ℕ) (t : ObjNo) (rows : AreRows script S) (book : Book script before S) where
-  pub turn-sends : (d : Decision) → IsSending S t (instruction_in script before t) d → Doing script S t d.moves → IsTurn script before (entry_for place t S d) (perform t d.moves S)
-  turn-sends d is does = record {
+  pub turn-sends : {k : Kinds} (d : Decision) → IsRegular k script S t d → IsSending S t (instruction_in script before t) d → Doing script S t d.moves → IsTurn script before (entry_for place t S d) (perform t d.moves S)
+  turn-sends d regular is does = record {
     book = record {
-      served = served-doing script before S place t rows book d does changing is.even is.closed (λ v some. let none = is.detached v in absurd (omega arith));
+      served = served-doing script before S place t rows book d does changing regular is.closed (λ v some. let none = is.detached v in absurd (omega arith));
       letters = letters-more script before S T e book.letters (λ p among. keeps.unlinked p.session) post p.posts p.more by p.next p.none p.unfinished refl refl linked (keeps.unlinked is.row.session) keeps.unended lasts way slots sends;
       slotted = slotted-keeps script before e S T book.slotted keeps.unlinked keeps.slots p.pool;
     };

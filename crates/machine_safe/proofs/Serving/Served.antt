@@ -7,13 +7,13 @@ use Rattle.machine.specs.Serving.{times_owned}
 use Rattle.machine.specs.declared.moves.Move.{Move}
 use Rattle.machine.specs.declared.state.State.{State}
 use Rattle.machine_safe.proofs.Deaths.EffectSums.{dooms-append}
-use Rattle.machine_safe.proofs.Deaths.Other.{closed_bit, doomed_bit, mutex_bit}
+use Rattle.machine_laws.proofs.Fitting.Regular.{closed_bit, doomed_bit, mutex_bit}
 use Rattle.machine_safe.proofs.Serving.EffectSums.{ends-append, server_told-append, used_told-append}
 use Rattle.machine_safe.proofs.Serving.Keeps.{Keeps, keeps-closing, steps_of, detach_bit}
 use Rattle.machine_safe.proofs.Serving.Kept.{AreMade}
 use Rattle.machine_safe.proofs.Serving.Reading.{IsSame, Reading, closing_by, further}
 use Rattle.machine_safe.specs.SafeDeaths.{dooms}
-use Rattle.machine_safe.specs.Served.{closes_handle, ends, handles_lost, is_doomed, makes_server, or_before, owner_told, server_told}
+use Rattle.machine_safe.specs.Served.{closes_handle, ends, handles_lost, is_doomed, or_before, owner_told, server_told}
 use Rattle.move_laws.proofs.Lives.LivesMove.{zero_or}
 use Rattle.move_laws.proofs.References.Same.{if_zero}
 use Rattle.script_types.specs.declared.script.Script.{Script}
@@ -28,6 +28,7 @@ use Rattle.machine.specs.Rows.{object_of}
 use Rattle.machine.specs.WellFormed.{IsAlive}
 use Rattle.machine_safe.specs.Slotted.{used_told}
 use Rattle.state_rows.specs.ServerChanges.{detached}
+use Rattle.machine.specs.EntryWords.{makes_server}
 
 -- a server's row
 pub record IsServed (r : Reading) (S : State) (o : ObjNo) (row : ServerRow) : Type 0 where

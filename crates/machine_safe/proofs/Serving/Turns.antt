@@ -9,8 +9,8 @@ use Rattle.machine.specs.WellFormed.{AreRows, IsAlive}
 use Rattle.machine.specs.declared.decision.Decision.{Decision}
 use Rattle.machine.specs.declared.moves.Move.{Move}
 use Rattle.machine.specs.declared.state.State.{State}
-use Rattle.machine_safe.proofs.Deaths.Other.{advance_bit, answer_bit}
-use Rattle.machine_safe.proofs.Serving.Deeds.{ClosesOthers, IsEven, IsKeeping, Detaches, IsAnswered, IsRefusal}
+use Rattle.machine_laws.proofs.Fitting.Regular.{advance_bit, answer_bit}
+use Rattle.machine_safe.proofs.Serving.Deeds.{ClosesOthers, IsKeeping, Detaches, IsAnswered, IsRefusal}
 use Rattle.machine_safe.proofs.Serving.Doing.{Doing, keeps-doing, lost-doing, quiet-doing}
 use Rattle.machine_safe.proofs.Serving.Fated.{doom-among, doom-told}
 use Rattle.machine_safe.proofs.Serving.Keeps.{changing_bit, steps_of, closing-row, there-row}
@@ -36,10 +36,12 @@ use Rattle.machine_safe.proofs.Serving.Sending.{open_is}
 use Rattle.machine_safe.proofs.Serving.Slots.{Slotted, slotted-keeps, used-is}
 use Rattle.machine_safe.specs.CountAfter.{effects_of}
 use Rattle.machine_safe.specs.SafeBusy.{IsSendAnswer, accepted_of, accepts_in, answer_of, is_full_in}
-use Rattle.machine_safe.specs.Slotted.{SentOver, is_send, slots_in, takes_of, used_in}
+use Rattle.machine_safe.specs.Slotted.{SentOver, slots_in, takes_of, used_in}
 use Rattle.state_rows.specs.MessageRows.{all_slots, is_full, takes_slot, used_slots}
 use Rattle.state_rows.specs.declared.servers.SessionRow.{SessionRow}
 use Rattle.std.proofs.lemmas.List.Sums.{length-filter}
+use Rattle.machine.specs.EntryWords.{is_send}
+use Rattle.machine_laws.proofs.Fitting.Regular.{IsRegular, Kinds}
 
 -- servers, sessions, threads and messages are as a history tells
 pub record Book (script : Script) (before : List Entry) (S : State) : Type 0 where
@@ -182,7 +184,7 @@ sent-answer script before S place t d s v rows book linked open_server_is one r 
 
 module _ (script : Script) (before : List Entry) (S : State) (place : ℕ) (t : ObjNo) (rows : AreRows script S) (book : Book script before S) where
   -- servers after moves that leave them
-  pub served-doing : (d : Decision) → Doing script S t d.moves → total changing_bit d.moves ≡ 0 → IsEven d → ClosesOthers S d → Detaches S d → Served script (reading (before ++ entry_for place t S d ∷ [])) (perform t d.moves S)
+  pub served-doing : {k : Kinds} (d : Decision) → Doing script S t d.moves → total changing_bit d.moves ≡ 0 → IsRegular k script S t d → ClosesOthers S d → Detaches S d → Served script (reading (before ++ entry_for place t S d ∷ [])) (perform t d.moves S)
   served-doing d does none is closed detaches =
       let fs = tell t d.moves S in
       let k = keeps-doing script S t d.moves does rows (served-made script (reading before) S book.served) none in
@@ -197,13 +199,13 @@ module _ (script : Script) (before : List Entry) (S : State) (place : ℕ) (t : 
       lost_none true e v row there = zero_or (handles_lost (tell t d.moves S) v) (λ some. let most = lost-doing script S t d.moves v does rows in let gone = closed e v (omega arith) in absurd (cc))
 
   -- nothing of servers and messages changes
-  pub turn-keeps : (d : Decision) → IsKeeping S t d → Doing script S t d.moves → IsTurn script before (entry_for place t S d) (perform t d.moves S)
-  turn-keeps d is does =
+  pub turn-keeps : {k : Kinds} (d : Decision) → IsRegular k script S t d → IsKeeping S t d → Doing script S t d.moves → IsTurn script before (entry_for place t S d) (perform t d.moves S)
+  turn-keeps d regular is does =
       let k = keeps-doing script S t d.moves does rows (served-made script (reading before) S book.served) is.changing in
       let q = quiet-doing script S t d.moves does is.still in
       record {
         book = record {
-          served = served-doing d does is.changing is.even is.closed is.detaches;
+          served = served-doing d does is.changing regular is.closed is.detaches;
           letters = letters-quiet script before S (perform t d.moves S) (entry_for place t S d) book.letters (λ p among. k.unlinked p.session) q (λ p among. k.unended p.server);
           slotted = slotted-keeps script before (entry_for place t S d) S (perform t d.moves S) book.slotted k.unlinked k.slots q.pool;
         };
