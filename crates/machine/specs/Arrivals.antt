@@ -1,5 +1,6 @@
--- The ready list. A thread arrives where it becomes ready, and leaves where it isn't ready when an action ends:
--- so a thread that is ready before an action and after it keeps its place, also where it wasn't for a moment.
+-- The ready list along an action. It stands beside the state, which no action reads it of. A thread arrives where it becomes
+-- ready, and leaves where it isn't ready when an action ends: so a thread that is ready before an action and after it keeps its
+-- place, also where it wasn't for a moment.
 use Rattle.std.specs.Prelude.{◌==◌, not, ◌&&◌, Bool, if◌then◌else◌, filter, List, [], ◌∷◌, ◌++◌, Option, Some, None}
 use Rattle.std.specs.List.{list_any}
 use Rattle.sym_base.specs.declared.number.ObjNo.{ObjNo}
@@ -70,6 +71,6 @@ abbrev pub arrivals : Script → ObjNo → List Move → State → List ObjNo �
 arrivals script t [] S qs = qs
 arrivals script t (m ∷ ms) S qs = arrivals script t ms (moved t m S) (arrive script (moved t m S) (touched t m) (taken_out m qs))
 
--- the list after an action, in the state that its moves leave
-abbrev pub ready_after : Script → ObjNo → List Move → State → List ObjNo
-ready_after script t ms S = filter (is_ready script (perform t ms S)) (arrivals script t ms S S.ready)
+-- the list after an action: those are left that are ready in the state that its moves leave
+abbrev pub ready_after : Script → ObjNo → List Move → State → List ObjNo → List ObjNo
+ready_after script t ms S qs = filter (is_ready script (perform t ms S)) (arrivals script t ms S qs)

@@ -111,7 +111,6 @@ boot_of pool fast calls bs = record {
   objects = map (λ b. Some b.object) bs;
   handles = map (λ _. replicate HANDLES fresh_slot) bs;
   threads = map (λ b. b.thread) bs;
-  ready = ready_from 0 bs;
   owed = map (λ _. []) bs;
   nano = nano_of fast bs;
   deferred = calls;
@@ -127,3 +126,7 @@ boot_of pool fast calls bs = record {
 
 abbrev pub boot : Script → State
 boot script = boot_of script.pool script.fast (calls_of script) (born script)
+
+-- the ready list at boot
+abbrev pub ready_at_boot : Script → List ObjNo
+ready_at_boot script = ready_from 0 (born script)

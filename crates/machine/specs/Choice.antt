@@ -1,8 +1,9 @@
 -- The choice of the next actor: the oldest item of the immediate queue, where it has one; else the ready thread of
--- greatest priority that has been ready longest, or, where it wants a fast mutex that is held, the holder of that.
+-- greatest priority that has been ready longest, or, where it wants a fast mutex that is held, the holder of that. The ready
+-- list, in order of arrival, stands beside the state.
 use Rattle.state_rows.specs.Deferred.{next_immediate}
 use Rattle.state_rows.specs.Nano.{in_place_of, actor_of, item_or}
-use Rattle.std.specs.Prelude.{ℕ, Option, Some, None, option_map}
+use Rattle.std.specs.Prelude.{ℕ, List, Option, Some, None, option_map}
 use Rattle.sym_base.specs.Greatest.{first_of_greatest}
 use Rattle.sym_base.specs.declared.number.ObjNo.{ObjNo}
 use Rattle.entry_log.specs.declared.entry.Actor.{Actor}
@@ -19,13 +20,13 @@ abbrev pub priority_of : State → ObjNo → ℕ
 priority_of S t = priority_of_row (thread_of S t)
 
 -- the ready thread of greatest priority that has been ready longest
-abbrev pub first_ready : State → Option ObjNo
-first_ready S = first_of_greatest (priority_of S) S.ready
+abbrev pub first_ready : State → List ObjNo → Option ObjNo
+first_ready S qs = first_of_greatest (priority_of S) qs
 
 -- the thread that acts next: that one, or who acts in its place; or nobody
-abbrev pub chosen_thread : State → Actor
-chosen_thread S = actor_of (option_map (in_place_of S.nano) (first_ready S))
+abbrev pub chosen_thread : State → List ObjNo → Actor
+chosen_thread S qs = actor_of (option_map (in_place_of S.nano) (first_ready S qs))
 
 -- who acts next
-abbrev pub chosen : State → Actor
-chosen S = item_or (next_immediate S.deferred) (chosen_thread S)
+abbrev pub chosen : State → List ObjNo → Actor
+chosen S qs = item_or (next_immediate S.deferred) (chosen_thread S qs)

@@ -1,5 +1,6 @@
 -- Histories: each entry is what its actor does in the state before it.
-use Rattle.std.specs.Prelude.{◌≡◌, ℕ, ◌+◌, IsTrue, is_some, List, [], ◌∷◌}
+use Rattle.std.specs.Prelude.{◌≡◌, ℕ, ◌+◌, false, IsTrue, is_some, List, [], ◌∷◌, Option, None}
+use Rattle.sym_base.specs.declared.number.ObjNo.{ObjNo}
 use Rattle.script_types.specs.declared.script.Script.{Script}
 use Rattle.entry_log.specs.declared.entry.Actor.{Actor}
 use Rattle.entry_log.specs.declared.entry.Actor.TheVariants.{Thread, Irq, Idfc, Tick, Idle}
@@ -10,7 +11,6 @@ use Rattle.machine.specs.declared.state.State.{State}
 use Rattle.machine.specs.Slots.{declares_interrupt}
 use Rattle.machine.specs.Task.{is_able}
 use Rattle.machine.specs.Transition.{Transition, act, idle}
-use Rattle.machine.specs.Choice.{chosen}
 use Rattle.machine.specs.Tick.{tick}
 use Rattle.machine.specs.Interrupts.{immediate, interrupt}
 use Rattle.machine.specs.Boot.{boot}
@@ -43,11 +43,17 @@ after_from script S (e ∷ es) = after_from script (next script S e.actor) es
 abbrev pub after : Script → List Entry → State
 after script history = after_from script (boot script) history
 
+-- nobody could act: no item waits in the immediate queue, and no thread is able. This is where the choice of the next actor,
+-- which needs the ready list, is nobody
+pub record IsIdle (script : Script) (S : State) : Type 0 where
+  pub none : next_immediate S.deferred ≡ None
+  pub nobody : (t : ObjNo) → is_able script S t ≡ false
+
 -- an able thread may act, and the oldest item of the immediate queue; a declared interrupt may come and a time slice
--- end at any time; and nobody acts where nobody is chosen
+-- end at any time; and nobody acts where nobody could
 abbrev pub CanAct : Script → State → Actor → Type 0
 CanAct script S (Thread t) = IsTrue (is_able script S t)
-CanAct script S Idle = chosen S ≡ Idle
+CanAct script S Idle = IsIdle script S
 CanAct script S (Irq k) = IsTrue (declares_interrupt script k)
 CanAct script S Idfc = IsTrue (is_some (next_immediate S.deferred))
 CanAct script S Tick = Unit {0}

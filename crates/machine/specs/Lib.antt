@@ -1,4 +1,5 @@
 pub mod Arrivals
+pub mod Arrived
 pub mod Bodies
 pub mod Boot
 pub mod Choice

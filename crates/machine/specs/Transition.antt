@@ -7,7 +7,6 @@ use Rattle.machine.specs.declared.decision.Decision.{Decision}
 use Rattle.machine.specs.declared.decision.Outcome.{Outcome}
 use Rattle.machine.specs.declared.state.State.{State}
 use Rattle.machine.specs.Moves.{perform, tell}
-use Rattle.machine.specs.Arrivals.{ready_after}
 use Rattle.machine.specs.Steps.{decision_of}
 
 -- a state, and what is told of the action that left it
@@ -22,7 +21,7 @@ left S outcome = record { state = S; outcome = outcome }
 -- the action of thread t that was decided on
 abbrev pub carried_out : Script → ObjNo → State → Decision → Transition
 carried_out script t S d = record {
-  state = record (perform t d.moves S) { ready = ready_after script t d.moves S };
+  state = perform t d.moves S;
   outcome = record { step = d.step; effects = tell t d.moves S; answer = d.answer };
 }
 

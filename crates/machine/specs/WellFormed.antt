@@ -300,6 +300,7 @@ pub record AreRows (script : Script) (S : State) : Type 0 where
   pub messages : AreMessages (IsUntold S.requests S.logons) S.threads S.servers S.messages
   pub lives : AreLives S
 
-pub record IsWellFormed (script : Script) (S : State) : Type 0 where
+-- a state and its ready list
+pub record IsWellFormed (script : Script) (S : State) (qs : List ObjNo) : Type 0 where
   pub rows : AreRows script S
-  pub ready : IsReadyList script S S.ready
+  pub ready : IsReadyList script S qs

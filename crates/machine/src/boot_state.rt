@@ -7,7 +7,7 @@ ghost use Rattle.state_rows.specs.RequestChanges.{new_rows as request_rows};
 ghost use Rattle.state_rows.specs.LockChanges.{new_rows as lock_rows};
 ghost use Rattle.state_rows.specs.ServerChanges.{no_rows};
 ghost use Rattle.state_rows.specs.MessageChanges.{no_messages};
-ghost use Rattle.machine.specs.Boot.{ready_from, nano_of, memory_of, boot_of, boot};
+ghost use Rattle.machine.specs.Boot.{nano_of, memory_of, boot_of, boot, ready_at_boot};
 
 use crate::boot::{Born, all_born};
 use crate::boot_lists::{
@@ -19,7 +19,7 @@ use crate::{DeferredRows, State};
 use script_types::Script;
 use state_rows::calls_of;
 use std::alloc::Global;
-use sym_base::{Limits, NoMemory};
+use sym_base::{Items, Limits, NoMemory, ThreadNo};
 
 /// What stands at boot, each with an empty table.
 fn standing_of(alloc: Global, all: &[Born]) -> Result<Standing, NoMemory>
@@ -27,17 +27,14 @@ fn standing_of(alloc: Global, all: &[Born]) -> Result<Standing, NoMemory>
     ensures objects { IfOk result (λ s. s.objects ≡ map (λ b. Some b.object) all.now) }
     ensures handles { IfOk result (λ s. s.handles ≡ map (λ _. replicate 256 fresh_slot) all.now) }
     ensures threads { IfOk result (λ s. s.threads ≡ map (λ b. b.thread) all.now) }
-    ensures ready { IfOk result (λ s. s.ready ≡ ready_from 0 all.now) }
 {
     let objects = objects_of(alloc, all)?;
     let handles = fresh_tables(alloc, all)?;
     let threads = threads_of(alloc, all)?;
-    let ready = ready_from(alloc, all)?;
     Ok(Standing {
         objects,
         handles,
         threads,
-        ready,
     })
 }
 
@@ -121,4 +118,14 @@ pub fn state_at_boot(alloc: Global, script: &Script) -> Result<State, NoMemory>
     let all = all_born(alloc, script)?;
     let calls = calls_of(alloc, script)?;
     boot_of(alloc, script.pool, script.fast, calls, all.as_slice())
+}
+
+/// The ready list at boot: the threads that are declared and aren't held, in order of number.
+#[tactic(auto, using(crate::proofs::BornFew::born_few))]
+pub fn ready_at_boot(alloc: Global, script: &Script) -> Result<Items<ThreadNo>, NoMemory>
+    requires { IsShaped script.now }
+    ensures { IfOk result (λ ready. ready ≡ ready_at_boot script.now) }
+{
+    let all = all_born(alloc, script)?;
+    ready_from(alloc, all.as_slice())
 }

@@ -28,7 +28,7 @@ mod task;
 mod touches;
 
 pub use boot::{Born, all_born};
-pub use boot_state::{boot_of, state_at_boot};
+pub use boot_state::{boot_of, ready_at_boot, state_at_boot};
 pub use copy_rules::{CopyMove, Job};
 pub use count::{count_of, is_counted, is_last};
 pub use death_move::{DeathMove, wait_ended};

@@ -9,7 +9,7 @@ use state_rows::{
 use std::alloc::{AllocError, Global};
 use sym_base::{Items, ObjNo, ThreadNo};
 
-/// The whole state. Each list but the ready one is indexed by object number.
+/// The whole state. Each list is indexed by object number. The ready list stands beside it: no action reads it.
 #[derive(Drop)]
 pub struct State {
     /// Each object that was made; None once it is swept.
@@ -18,8 +18,6 @@ pub struct State {
     pub handles: Items<Items<HandleSlot>>,
     /// Each thread; None at the number of a process, and once it is swept. The supervisor has a row too.
     pub threads: Items<Option<ThreadRow>>,
-    /// The ready threads in order of arrival.
-    pub ready: Items<ThreadNo>,
     /// What each thread owes, in order of owing.
     pub owed: Items<Items<Owed>>,
     /// Fast semaphores, fast mutexes, critical sections and suspension.
@@ -151,22 +149,19 @@ fn copied_memories(
     Ok(Items::new(copies))
 }
 
-/// The same objects, tables, rows of threads and ready threads, a second time.
+/// The same objects, tables and rows of threads, a second time.
 fn copied_standing(alloc: Global, state: &State) -> Result<Standing, AllocError>
     ensures objects { IfOk result (λ s. s.objects ≡ state.now.objects) }
     ensures handles { IfOk result (λ s. s.handles ≡ state.now.handles) }
     ensures threads { IfOk result (λ s. s.threads ≡ state.now.threads) }
-    ensures ready { IfOk result (λ s. s.ready ≡ state.now.ready) }
 {
     let objects = state.objects.copied(alloc)?;
     let handles = copied_lists(alloc, state.handles.as_slice())?;
     let threads = state.threads.copied(alloc)?;
-    let ready = state.ready.copied(alloc)?;
     Ok(Standing {
         objects,
         handles,
         threads,
-        ready,
     })
 }
 

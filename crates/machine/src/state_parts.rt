@@ -8,13 +8,12 @@ use state_rows::{
 };
 use sym_base::{Items, ObjNo, ThreadNo};
 
-/// The objects, their handle tables, the threads' rows, and the ready threads.
+/// The objects, their handle tables, and the threads' rows.
 #[derive(Drop)]
 pub struct Standing {
     pub objects: Items<Option<ObjectRow>>,
     pub handles: Items<Items<HandleSlot>>,
     pub threads: Items<Option<ThreadRow>>,
-    pub ready: Items<ThreadNo>,
 }
 
 /// What each owes and holds, the logons on it, and the memories of processes.
@@ -50,13 +49,12 @@ pub fn join(
     synchronizing: Synchronizing,
     serving: Serving,
 ) -> State
-    ensures { result ≡ record { objects = standing.objects; handles = standing.handles; threads = standing.threads; ready = standing.ready; owed = holdings.owed; nano = synchronizing.nano; deferred = deferred; requests = synchronizing.requests; locks = synchronizing.locks; mutexes = holdings.mutexes; logons = holdings.logons; servers = serving.servers; owned = serving.owned; messages = serving.messages; memories = holdings.memories } }
+    ensures { result ≡ record { objects = standing.objects; handles = standing.handles; threads = standing.threads; owed = holdings.owed; nano = synchronizing.nano; deferred = deferred; requests = synchronizing.requests; locks = synchronizing.locks; mutexes = holdings.mutexes; logons = holdings.logons; servers = serving.servers; owned = serving.owned; messages = serving.messages; memories = holdings.memories } }
 {
     State {
         objects: standing.objects,
         handles: standing.handles,
         threads: standing.threads,
-        ready: standing.ready,
         owed: holdings.owed,
         nano: synchronizing.nano,
         deferred,

@@ -1,5 +1,6 @@
 -- The states that actions and histories leave.
 pub mod AfterHistory
 pub mod Histories
+pub mod Idleness
 pub mod LeftRows
 pub mod NextState

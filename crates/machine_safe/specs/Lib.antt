@@ -1,4 +1,5 @@
 pub mod CountAfter
+pub mod IdleChoice
 pub mod Laws
 pub mod ReadyHolders
 pub mod Safe

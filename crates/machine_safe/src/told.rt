@@ -1,5 +1,6 @@
 //! What a history tells of the state that it leaves.
 ghost use Rattle.script_types.specs.Source.{IsWellFormed as IsWellFormedScript};
+ghost use Rattle.machine.specs.Arrived.{arrived};
 ghost use Rattle.machine.specs.History.{after, IsLegal};
 ghost use Rattle.machine.specs.WellFormed.{IsWellFormed};
 ghost use Rattle.machine_safe.specs.Laws.{HoldersAreTold, HoldersAreUnique, TellsZero};
@@ -13,7 +14,7 @@ use script_types::Script;
 /// changes nothing.
 pub fn state_is_well_formed(script: &Script, history: &[Entry])
     requires valid { IsWellFormedScript script.now }
-    ensures formed { IsWellFormed script.now (after script.now history.now) }
+    ensures formed { IsWellFormed script.now (after script.now history.now) (arrived script.now history.now) }
 {}
 
 /// After every legal history of a well-formed script each holder holds what the effects tell, and no

@@ -15,7 +15,8 @@ use Rattle.machine.specs.declared.moves.Move.{Move}
 use Rattle.machine.specs.declared.moves.Move.TheVariants.{Pay}
 use Rattle.state_rows.specs.declared.handle_slot.HandleSlot.{HandleSlot}
 use Rattle.machine.specs.declared.state.State.{State}
-use Rattle.machine.specs.History.{next, entry_by, IsNext}
+use Rattle.machine.specs.Arrived.{arrived, arrived_next}
+use Rattle.machine.specs.History.{after, next, entry_by, IsNext}
 use Rattle.plain_machine.specs.PlainView.{IsPlain}
 use Rattle.plain_machine.specs.Allowed.{IsSmall, TellsFew, AllowsAction}
 use Rattle.state_rows.specs.Deferred.{next_immediate}
@@ -36,7 +37,7 @@ use Rattle.machine_laws.proofs.Fitting.Interrupts.{goes-immediate, goes-interrup
 use Rattle.move_laws.proofs.Numbers.Instructions.{few_instructions}
 use Rattle.move_laws.proofs.Numbers.FewEffects.{tell_few}
 use Rattle.machine_laws.proofs.Reached.AfterHistory.{well_formed-after}
-use Rattle.machine_laws.proofs.Reached.Histories.{after-push, legal-push, slot_can}
+use Rattle.machine_laws.proofs.Reached.Histories.{after-push, arrived-push, legal-push, slot_can}
 
 -- a table of a well-formed state is small, also the one that isn't there
 small_table : (tables : List (List HandleSlot)) → AreTables tables → (k : ℕ) → IsSmallTable (get_or tables k [])
@@ -89,31 +90,34 @@ allows_action script S shaped rows = record {
   interrupts = λ k. few_told script S (decision_by script supervisor S (Runs (Interrupt k))) (goes-interrupt script S k shaped rows);
 }
 
--- the state of a machine is well-formed
-pub formed_plain : (script : Script) (history : List Entry) (S : State) → IsPlain script history S → IsWellFormed script S
-formed_plain script history S plain = subst (IsWellFormed script) (sym plain.state) (well_formed-after script history plain.valid)
+-- the state of a machine and its ready list are well-formed
+pub formed_plain : (script : Script) (history : List Entry) (S : State) (qs : List ObjNo) → IsPlain script history S qs → IsWellFormed script S qs
+formed_plain script history S qs plain = subst (λ (s : State). IsWellFormed script s qs) (sym plain.state) (subst (IsWellFormed script (after script history)) (sym plain.ready) (well_formed-after script history plain.valid))
 
 -- the machine goes on by what the actor of a slot does
-plain_goes_on : (script : Script) (history : List Entry) (S : State) (slot : Slot) → IsDeclared script slot → IsPlain script history S
-    → IsPlain script (history ++ entry_by script S (length history + 1) (slot_actor S slot) ∷ []) (next script S (slot_actor S slot))
-plain_goes_on script history S slot declared plain =
-    let actor = slot_actor S slot in
+plain_goes_on : (script : Script) (history : List Entry) (S : State) (qs : List ObjNo) (slot : Slot) → IsDeclared script slot → IsPlain script history S qs
+    → IsPlain script (history ++ entry_by script S (length history + 1) (slot_actor S qs slot) ∷ []) (next script S (slot_actor S qs slot)) (arrived_next script S (slot_actor S qs slot) qs)
+plain_goes_on script history S qs slot declared plain =
+    let actor = slot_actor S qs slot in
     let place = length history + 1 in
     let e = entry_by script S place actor in
-    let told : IsNext script S place e = record { able = slot_can script S slot declared (formed_plain script history S plain); told = refl } in
+    let told : IsNext script S place e = record { able = slot_can script S qs slot declared (formed_plain script history S qs plain); told = refl } in
     record {
       valid = plain.valid;
       legal = legal-push script history e plain.legal (subst (λ (s : State). IsNext script s place e) plain.state told);
       state = ap (λ (s : State). next script s actor) plain.state ∙ sym (after-push script history e);
+      ready = ap (λ (s : State). arrived_next script s actor qs) plain.state ∙ (ap (arrived_next script (after script history) actor) plain.ready ∙ sym (arrived-push script history e));
     }
 
 -- the same of what is made in between
-pub plain_goes_on_by : (script : Script) (history new : List Entry) (S T : State) (slot : Slot) (place : ℕ) (e : Entry)
-    → IsDeclared script slot → IsPlain script history S → place ≡ length history + 1
-    → T ≡ next script S (slot_actor S slot) → e ≡ entry_by script S place (slot_actor S slot) → new ≡ history ++ e ∷ []
-    → IsPlain script new T
-plain_goes_on_by script history new S T slot place e declared plain at did told pushed =
-    let told_so : e ≡ entry_by script S (length history + 1) (slot_actor S slot) = told ∙ ap (λ (n : ℕ). entry_by script S n (slot_actor S slot)) at in
-    let new_so : new ≡ history ++ entry_by script S (length history + 1) (slot_actor S slot) ∷ [] = pushed ∙ ap (λ (x : Entry). history ++ x ∷ []) told_so in
-    subst (λ (s : State). IsPlain script new s) (sym did)
-    (subst (λ (h : List Entry). IsPlain script h (next script S (slot_actor S slot))) (sym new_so) (plain_goes_on script history S slot declared plain))
+pub plain_goes_on_by : (script : Script) (history new : List Entry) (S T : State) (qs list : List ObjNo) (slot : Slot) (place : ℕ) (e : Entry)
+    → IsDeclared script slot → IsPlain script history S qs → place ≡ length history + 1
+    → T ≡ next script S (slot_actor S qs slot) → list ≡ arrived_next script S (slot_actor S qs slot) qs → e ≡ entry_by script S place (slot_actor S qs slot) → new ≡ history ++ e ∷ []
+    → IsPlain script new T list
+plain_goes_on_by script history new S T qs list slot place e declared plain at did left told pushed =
+    let actor = slot_actor S qs slot in
+    let told_so : e ≡ entry_by script S (length history + 1) actor = told ∙ ap (λ (n : ℕ). entry_by script S n actor) at in
+    let new_so : new ≡ history ++ entry_by script S (length history + 1) actor ∷ [] = pushed ∙ ap (λ (x : Entry). history ++ x ∷ []) told_so in
+    subst (λ (s : State). IsPlain script new s list) (sym did)
+    (subst (λ (l : List ObjNo). IsPlain script new (next script S actor) l) (sym left)
+    (subst (λ (h : List Entry). IsPlain script h (next script S actor) (arrived_next script S actor qs)) (sym new_so) (plain_goes_on script history S qs slot declared plain)))

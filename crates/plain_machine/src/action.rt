@@ -2,6 +2,7 @@
 ghost use Rattle.std.specs.Prelude.{◌≡◌, ◌+◌, ◌*◌, ◌≤◌, length, IfOk, OnOk};
 ghost use Rattle.script_types.specs.Shape.{IsShaped};
 ghost use Rattle.next_actions.specs.Planned.{planned};
+ghost use Rattle.machine.specs.Arrivals.{ready_after};
 ghost use Rattle.machine.specs.Bodies.{ops_moves, run_body, decision_by};
 ghost use Rattle.machine.specs.Moves.{perform, tell};
 ghost use Rattle.machine.specs.Room.{HasRoom};
@@ -17,7 +18,7 @@ use next_actions::{leave_queue, op_moves, ops_of, step_of_body};
 use readings::tell;
 use script_types::{Op, Script};
 use std::alloc::Global;
-use sym_base::{NoMemory, ThreadNo};
+use sym_base::{Items, NoMemory, ThreadNo};
 
 /// Moves in an action of a thread, one after the other.
 fn make_moves(
@@ -72,6 +73,7 @@ pub fn run_body(
     alloc: Global,
     script: &Script,
     state: &mut State,
+    ready: &mut Items<ThreadNo>,
     thread: ThreadNo,
     body: Body,
 ) -> Result<Outcome, NoMemory>
@@ -79,9 +81,10 @@ pub fn run_body(
     requires room { HasRoom 9 state.old }
     requires small { IsSmall state.old }
     requires few { TellsFew thread state.old (run_body script.now thread state.old body) }
-    ensures { IfOk result (λ outcome. left state.new outcome ≡ carried_out script.now thread state.old (run_body script.now thread state.old body)) }
+    ensures state { IfOk result (λ outcome. left state.new outcome ≡ carried_out script.now thread state.old (run_body script.now thread state.old body)) }
+    ensures ready { OnOk result (ready.new ≡ ready_after script.now thread (run_body script.now thread state.old body).moves state.old ready.old) }
 {
-    let mut course = Course::start(alloc, state)?;
+    let mut course = Course::start(alloc, ready)?;
     let mut leave = Moves::new();
     leave_queue(&mut leave, state, body);
     make_moves(alloc, script, state, thread, leave.as_slice(), &mut course)?;
@@ -93,7 +96,7 @@ pub fn run_body(
         ops_of(script, body),
         &mut course,
     )?;
-    course.end(alloc, script, state, step_of_body(script, body), None)
+    course.end(alloc, script, state, ready, step_of_body(script, body), None)
 }
 
 /// What was decided on.
@@ -101,22 +104,24 @@ fn carry_out(
     alloc: Global,
     script: &Script,
     state: &mut State,
+    ready: &mut Items<ThreadNo>,
     thread: ThreadNo,
     decision: Decision,
 ) -> Result<Outcome, NoMemory>
     requires room { HasRoom 9 state.old }
     requires small { IsSmall state.old }
     requires few { TellsFew thread state.old decision }
-    ensures { IfOk result (λ outcome. left state.new outcome ≡ carried_out script.now thread state.old decision) }
+    ensures state { IfOk result (λ outcome. left state.new outcome ≡ carried_out script.now thread state.old decision) }
+    ensures ready { OnOk result (ready.new ≡ ready_after script.now thread decision.moves state.old ready.old) }
 {
     let Decision {
         step,
         moves,
         answer,
     } = decision;
-    let mut course = Course::start(alloc, state)?;
+    let mut course = Course::start(alloc, ready)?;
     make_moves(alloc, script, state, thread, moves.as_slice(), &mut course)?;
-    course.end(alloc, script, state, step, answer)
+    course.end(alloc, script, state, ready, step, answer)
 }
 
 /// What was decided for a thread, or a body, where there is one.
@@ -124,6 +129,7 @@ pub fn follow(
     alloc: Global,
     script: &Script,
     state: &mut State,
+    ready: &mut Items<ThreadNo>,
     thread: ThreadNo,
     decision: Decision,
     body: Option<Body>,
@@ -132,10 +138,11 @@ pub fn follow(
     requires room { HasRoom 9 state.old }
     requires small { IsSmall state.old }
     requires few { TellsFew thread state.old (decision_by script.now thread state.old (planned decision body)) }
-    ensures { IfOk result (λ outcome. left state.new outcome ≡ carried_out script.now thread state.old (decision_by script.now thread state.old (planned decision body))) }
+    ensures state { IfOk result (λ outcome. left state.new outcome ≡ carried_out script.now thread state.old (decision_by script.now thread state.old (planned decision body))) }
+    ensures ready { OnOk result (ready.new ≡ ready_after script.now thread (decision_by script.now thread state.old (planned decision body)).moves state.old ready.old) }
 {
     match body {
-        None => carry_out(alloc, script, state, thread, decision),
-        Some(body) => run_body(alloc, script, state, thread, body),
+        None => carry_out(alloc, script, state, ready, thread, decision),
+        Some(body) => run_body(alloc, script, state, ready, thread, body),
     }
 }

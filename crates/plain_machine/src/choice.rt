@@ -8,11 +8,11 @@ use machine::State;
 use readings::{Reads, first_of_greatest, wanted_holder};
 use sym_base::ThreadNo;
 
-/// The ready thread of greatest priority that has been ready longest.
-pub fn first_ready(state: &State) -> Option<ThreadNo>
-    ensures { result ≡ first_ready state.now }
+/// The ready thread of greatest priority that has been ready longest; the list has the ready threads in order of arrival.
+pub fn first_ready(state: &State, ready: &[ThreadNo]) -> Option<ThreadNo>
+    ensures { result ≡ first_ready state.now ready.now }
 {
-    first_of_greatest(state, state.ready.as_slice())
+    first_of_greatest(state, ready)
 }
 
 /// Who acts in a thread's place: the holder of the fast mutex that it wants, or the thread itself.
@@ -26,21 +26,21 @@ fn in_place_of(state: &State, thread: ThreadNo) -> ThreadNo
 }
 
 /// The thread that acts next: the best ready one, or who acts in its place.
-fn chosen_thread(state: &State) -> Actor
-    ensures { result ≡ chosen_thread state.now }
+fn chosen_thread(state: &State, ready: &[ThreadNo]) -> Actor
+    ensures { result ≡ chosen_thread state.now ready.now }
 {
-    match first_ready(state) {
+    match first_ready(state, ready) {
         Some(thread) => Actor::Thread(in_place_of(state, thread)),
         None => Actor::Idle,
     }
 }
 
 /// Who acts next: the immediate queue, where it has an item; else a thread, or nobody.
-pub fn chosen(state: &State) -> Actor
-    ensures { result ≡ chosen state.now }
+pub fn chosen(state: &State, ready: &[ThreadNo]) -> Actor
+    ensures { result ≡ chosen state.now ready.now }
 {
     match state.next_immediate() {
         Some(_) => Actor::Idfc,
-        None => chosen_thread(state),
+        None => chosen_thread(state, ready),
     }
 }

@@ -1,7 +1,7 @@
 //! An action under way on the plain machine's lists.
-ghost use Rattle.std.specs.Prelude.{◌≡◌, IfOk};
-ghost use Rattle.machine.specs.Transition.{left};
-ghost use Rattle.plain_machine.specs.Courses.{new_course, ended};
+ghost use Rattle.std.specs.Prelude.{◌≡◌, IfOk, OnOk, filter};
+ghost use Rattle.machine.specs.Task.{is_ready};
+ghost use Rattle.plain_machine.specs.Courses.{new_course, told_at_end};
 
 use crate::arrivals::still_ready;
 use entry_log::{Effects, Step};
@@ -18,29 +18,35 @@ pub struct Course {
 }
 
 impl Course {
-    /// An action begins in this state: nothing is told yet.
-    pub fn start(alloc: Global, state: &State) -> Result<Course, NoMemory>
-        ensures { IfOk result (λ course. course ≡ new_course state.now) }
+    /// An action begins with this ready list: nothing is told yet.
+    pub fn start(alloc: Global, ready: &Items<ThreadNo>) -> Result<Course, NoMemory>
+        ensures { IfOk result (λ course. course ≡ new_course ready.now) }
     {
         Ok(Course {
             effects: Effects::new(),
-            ready: state.ready.copied(alloc)?,
+            ready: ready.copied(alloc)?,
         })
     }
 
-    /// The action is over: those that aren't ready leave the ready list, which is the state's from now on.
+    /// The action is over: those that aren't ready in the state that it left leave the list, which stands beside that state
+    /// from now on.
     pub fn end(
         self,
         alloc: Global,
         script: &Script,
-        state: &mut State,
+        state: &State,
+        ready: &mut Items<ThreadNo>,
         step: Step,
         answer: Option<i32>,
     ) -> Result<Outcome, NoMemory>
-        ensures { IfOk result (λ outcome. left state.new outcome ≡ ended script.now state.old self step answer) }
+        ensures outcome { IfOk result (λ outcome. outcome ≡ told_at_end self step answer) }
+        ensures ready { OnOk result (ready.new ≡ filter (is_ready script.now state.now) self.ready) }
     {
-        let Course { effects, ready } = self;
-        state.ready = still_ready(alloc, script, state, ready.as_slice())?;
+        let Course {
+            effects,
+            ready: arrived,
+        } = self;
+        *ready = still_ready(alloc, script, state, arrived.as_slice())?;
         Ok(Outcome {
             step,
             effects,

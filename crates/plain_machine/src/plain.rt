@@ -1,8 +1,10 @@
 //! The plain machine: the definitions, run over plain lists.
-ghost use Rattle.std.specs.Prelude.{◌≡◌, ◌+◌, ◌<◌, ◌++◌, [], ◌∷◌, length, IfOk, OnOk, OnErr};
+ghost use Rattle.std.specs.Prelude.{◌≡◌, ◌+◌, ◌<◌, ◌++◌, [], ◌∷◌, List, length, IfOk, OnOk, OnErr};
+ghost use Rattle.sym_base.specs.declared.number.ObjNo.{ObjNo};
 ghost use Rattle.script_types.specs.Source.{IsWellFormed};
 ghost use Rattle.machine.specs.FinalRows.{rows_from, IsNextRow};
 ghost use Rattle.script_types.specs.Shape.{IsShaped};
+ghost use Rattle.machine.specs.Arrived.{arrived, arrived_next};
 ghost use Rattle.machine.specs.History.{after, next, entry_by, IsLegal};
 ghost use Rattle.machine.specs.Run.{slot_actor};
 ghost use Rattle.machine.specs.Slots.{IsDeclared};
@@ -12,11 +14,11 @@ use crate::choice::chosen;
 use crate::final_rows;
 use crate::transition::transition;
 use entry_log::{Actor, Entry, FinalRow};
-use machine::{State, entry_of, state_at_boot};
+use machine::{State, entry_of, ready_at_boot, state_at_boot};
 use script_types::{Script, Slot};
 use std::alloc::Global;
 use std::marker::Model;
-use sym_base::{Items, NoMemory};
+use sym_base::{Items, NoMemory, ThreadNo};
 
 /// A machine that runs a script as the definitions say, over plain lists. A contract sees its script
 /// and what happened so far.
@@ -25,6 +27,7 @@ pub struct Plain {
     alloc: Global,
     script: Script,
     state: State,
+    ready: Items<ThreadNo>,
     history: Items<Entry>,
 }
 
@@ -35,43 +38,47 @@ impl Model for Plain {
 
     ghost view = { λ p. record { script = p.script; history = p.history } };
 
-    ghost invariant = { λ p. IsPlain p.script p.history p.state };
+    ghost invariant = { λ p. IsPlain p.script p.history p.state p.ready };
 }
 
 /// Whom a slot lets act.
-fn slot_actor(state: &State, slot: Slot) -> Actor
-    ensures { result ≡ slot_actor state.now slot }
+fn slot_actor(state: &State, ready: &[ThreadNo], slot: Slot) -> Actor
+    ensures { result ≡ slot_actor state.now ready.now slot }
 {
     match slot {
-        Slot::Go => chosen(state),
+        Slot::Go => chosen(state, ready),
         Slot::Irq(number) => Actor::Irq(number),
         Slot::Tick => Actor::Tick,
     }
 }
 
-/// Puts another state in a state's place.
-fn set_state(state: &mut State, other: State)
-    ensures { state.new ≡ other }
+/// Puts another state in a state's place, and another ready list in the list's.
+fn set_state(state: &mut State, ready: &mut Items<ThreadNo>, other: State, list: Items<ThreadNo>)
+    ensures state { state.new ≡ other }
+    ensures ready { ready.new ≡ list }
 {
     *state = other;
+    *ready = list;
 }
 
-/// What a slot's actor does, made on a copy of the state: the state after it, and the entry at this place.
+/// What a slot's actor does, made on copies of the state and its ready list: both after it, and the entry at this place.
 fn acted(
     alloc: Global,
     script: &Script,
     state: &State,
+    ready: &Items<ThreadNo>,
     place: u32,
     slot: Slot,
-) -> Result<(State, Entry), NoMemory>
+) -> Result<(State, Items<ThreadNo>, Entry), NoMemory>
     requires shaped { IsShaped script.now }
     requires allowed { AllowsAction script.now state.now }
-    ensures { let actor = slot_actor state.now slot in IfOk result (λ (made : State × Entry). made ≡ (next script.now state.now actor, entry_by script.now state.now place actor)) }
+    ensures { let actor = slot_actor state.now ready.now slot in IfOk result (λ (made : State × List ObjNo × Entry). made ≡ (next script.now state.now actor, arrived_next script.now state.now actor ready.now, entry_by script.now state.now place actor)) }
 {
-    let actor = slot_actor(state, slot);
+    let actor = slot_actor(state, ready.as_slice(), slot);
     let mut after = state.copied(alloc)?;
-    let outcome = transition(alloc, script, &mut after, actor)?;
-    Ok((after, entry_of(place, actor, outcome)))
+    let mut list = ready.copied(alloc)?;
+    let outcome = transition(alloc, script, &mut after, &mut list, actor)?;
+    Ok((after, list, entry_of(place, actor, outcome)))
 }
 
 impl Plain {
@@ -81,10 +88,12 @@ impl Plain {
         ensures { IfOk result (λ plain. plain ≡ record { script = script; history = [] }) }
     {
         let state = state_at_boot(alloc, &script)?;
+        let ready = ready_at_boot(alloc, &script)?;
         Ok(Plain {
             alloc,
             script,
             state,
+            ready,
             history: Items::new(Vec::new(alloc)),
         })
     }
@@ -95,13 +104,20 @@ impl Plain {
         requires declared { IsDeclared self.old.script slot }
         requires few { length self.old.history < 4294967295 }
         ensures script { self.new.script ≡ self.old.script }
-        ensures ok { let S = after self.old.script self.old.history in OnOk result (self.new.history ≡ self.old.history ++ entry_by self.old.script S (length self.old.history + 1) (slot_actor S slot) ∷ []) }
+        ensures ok { let S = after self.old.script self.old.history in let qs = arrived self.old.script self.old.history in OnOk result (self.new.history ≡ self.old.history ++ entry_by self.old.script S (length self.old.history + 1) (slot_actor S qs slot) ∷ []) }
         ensures err { OnErr result (self.new ≡ self.old) }
     {
         let place = self.history.len() as u32 + 1;
-        let (state, entry) = acted(self.alloc, &self.script, &self.state, place, slot)?;
+        let (state, ready, entry) = acted(
+            self.alloc,
+            &self.script,
+            &self.state,
+            &self.ready,
+            place,
+            slot,
+        )?;
         self.history.push(entry)?;
-        set_state(&mut self.state, state);
+        set_state(&mut self.state, &mut self.ready, state, ready);
         Ok(())
     }
 

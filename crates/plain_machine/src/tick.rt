@@ -1,7 +1,7 @@
 //! `tick`: a time slice ends.
 ghost use Rattle.state_rows.specs.Nano.{turned};
-ghost use Rattle.std.specs.Prelude.{◌≡◌, IfOk};
-ghost use Rattle.machine.specs.Tick.{moved_behind, tick};
+ghost use Rattle.std.specs.Prelude.{◌≡◌, IfOk, OnOk};
+ghost use Rattle.machine.specs.Tick.{after_tick, moved_behind, tick};
 ghost use Rattle.machine.specs.Transition.{left};
 
 use crate::choice::first_ready;
@@ -42,12 +42,16 @@ fn turned(state: &State, first: Option<ThreadNo>) -> Option<ThreadNo>
 
 /// The ready thread of greatest priority that has been ready longest goes behind its equals, unless it holds
 /// a fast mutex.
-#[tactic(auto, unfolding(machine::specs::Tick::tick))]
-pub fn tick(alloc: Global, state: &mut State) -> Result<Outcome, NoMemory>
-    ensures { IfOk result (λ outcome. left state.new outcome ≡ tick state.old) }
+pub fn tick(
+    alloc: Global,
+    state: &State,
+    ready: &mut Items<ThreadNo>,
+) -> Result<Outcome, NoMemory>
+    ensures outcome { IfOk result (λ outcome. left state.now outcome ≡ tick state.now) }
+    ensures ready { OnOk result (ready.new ≡ after_tick state.now ready.old) }
 {
-    let first = turned(state, first_ready(state));
-    state.ready = moved_behind(alloc, state.ready.as_slice(), first)?;
+    let first = turned(state, first_ready(state, ready.as_slice()));
+    *ready = moved_behind(alloc, ready.as_slice(), first)?;
     Ok(Outcome {
         step: Step::Turn,
         effects: Effects::new(),

@@ -10,7 +10,7 @@ use Rattle.machine.specs.declared.boot.Born.{Born}
 use Rattle.state_rows.specs.declared.thread.ThreadRow.{ThreadRow}
 use Rattle.machine.specs.Arrivals.{is_listed}
 use Rattle.state_rows.specs.DeclaredCalls.{calls_of}
-use Rattle.machine.specs.Boot.{boot, boot_of, born, ready_from}
+use Rattle.machine.specs.Boot.{boot, boot_of, born, ready_at_boot, ready_from}
 use Rattle.machine.specs.Rows.{first_of, thread_of}
 use Rattle.machine.specs.Task.{task_of, is_wait, is_waiting, is_waiting_row, is_stopped}
 use Rattle.machine.specs.WellFormed.{AreApart, IsReadyList}
@@ -83,7 +83,7 @@ ready_is : (waits stopped task held work : Bool) → waits ≡ false → stopped
 ready_is waits stopped task held work a b c = ap (λ x. not x && not stopped && task) a ∙ (ap (λ x. not x && task) b ∙ ap (λ x. not held && x) c)
 
 -- exactly the threads that have something to do and aren't held are listed, once
-pub ready-boot : (script : Script) → IsShaped script → IsReadyList script (boot script) (boot script).ready
+pub ready-boot : (script : Script) → IsShaped script → IsReadyList script (boot script) (ready_at_boot script)
 unfolding boot_of
 ready-boot script shaped =
     let bs = born script in

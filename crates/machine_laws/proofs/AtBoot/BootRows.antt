@@ -15,7 +15,7 @@ use Rattle.state_rows.specs.declared.duty.Owed.{Owed}
 use Rattle.machine.specs.declared.boot.Born.{Born}
 use Rattle.state_rows.specs.declared.handle_slot.HandleSlot.{HandleSlot}
 use Rattle.state_rows.specs.declared.thread.ThreadRow.{ThreadRow}
-use Rattle.machine.specs.Boot.{boot, boot_of, born}
+use Rattle.machine.specs.Boot.{boot, boot_of, born, ready_at_boot}
 use Rattle.state_rows.specs.HandleSlots.{fresh_slot, slot_at}
 use Rattle.machine.specs.References.{total, option_names, slot_names, thread_names, kernel_names, owed_names, mutex_names, count_of, kernel_holds}
 use Rattle.machine.specs.Rows.{thread_of}
@@ -164,5 +164,5 @@ rows-boot script valid =
       };
     }
 
-pub well_formed-boot : (script : Script) → IsWellFormedScript script → IsWellFormed script (boot script)
+pub well_formed-boot : (script : Script) → IsWellFormedScript script → IsWellFormed script (boot script) (ready_at_boot script)
 well_formed-boot script valid = record { rows = rows-boot script valid; ready = ready-boot script (formed_is_shaped script valid) }

@@ -89,7 +89,7 @@ bare-pay script t S a what rest rows owes here h =
     }
 
 pub bare-next : (script : Script) (t : ObjNo) (S : State) (actor : Actor) → IsShaped script → AreRows script S → IsBare S t → IsBare (next script S actor) t
-bare-next script t S actor shaped rows h = kept-next script (λ (S : State). IsBare S t) (bare-move script t) (bare-pay script t) (λ S qs h. record { left = h.left; held = h.held; logged = h.logged }) S actor shaped rows h
+bare-next script t S actor shaped rows h = kept-next script (λ (S : State). IsBare S t) (bare-move script t) (bare-pay script t) S actor shaped rows h
 
 -- so it is after its cleaning
 pub bare-cleaned : (script : Script) (S : State) (e : Entry) (t : ObjNo) → Cleans script S e t → IsBare (next script S e.actor) t

@@ -47,7 +47,7 @@ emptied-run : (script : Script) (S : State) (place : ℕ) (es : List Entry) → 
 emptied-run script S place [] shaped rows legal h = h
 emptied-run script S place (e ∷ es) shaped rows legal h =
     emptied-run script (next script S e.actor) (place + 1) es shaped (sound-next script S e.actor shaped rows).rows legal.1
-    (kept-next script AreEmptied (emptied-move script) (emptied-pay script) (λ S qs h. h) S e.actor shaped rows h)
+    (kept-next script AreEmptied (emptied-move script) (emptied-pay script) S e.actor shaped rows h)
 
 -- nothing is held of what names nothing
 no-mutexes : (xs : List ObjNo) → ((o : ObjNo) → total (mutex_names o) xs ≡ 0) → xs ≡ []

@@ -8,7 +8,6 @@ use Rattle.script_types.specs.Shape.{IsShaped}
 use Rattle.entry_log.specs.declared.entry.Actor.{Actor}
 use Rattle.entry_log.specs.declared.entry.Actor.TheVariants.{Thread, Irq, Idfc, Tick, Idle}
 use Rattle.machine.specs.History.{next}
-use Rattle.machine.specs.Tick.{tick}
 use Rattle.state_rows.specs.Deferred.{next_immediate}
 use Rattle.state_rows.specs.declared.duty.Owed.{Owed}
 use Rattle.state_rows.specs.declared.duty.Owed.TheVariants.{Close, Sweep}
@@ -125,14 +124,10 @@ kept-immediate script S u shaped rows was =
     let light = light-immediate script S found shaped rows refl in
     kept-none script S supervisor (decision_by script supervisor S (immediate_plan script S found)).moves u light.each light.calm.cleans was
 
-kept-tick : (S : State) (u : ObjNo) → thread_of (tick S).state u ≡ thread_of S u
-unfolding tick
-kept-tick S u = refl
-
 -- a thread comes to be cleaned only by its own cleaning
 pub drop-next : (script : Script) (S : State) (actor : Actor) (u : ObjNo) → IsShaped script → AreRows script S → row_bit stage_left (thread_of S u) ≡ 1 → row_bit stage_left (thread_of (next script S actor) u) ≡ 0 → (actor ≡ Thread u) × (is_clean (decision_of script S u).step ≡ true)
 drop-next script S (Thread t) u shaped rows was now = let h = drop-act script S t u shaped rows was now in (ap Thread (sym h.own), subst (λ (x : ObjNo). is_clean (decision_of script S x).step ≡ true) (sym h.own) h.step)
 drop-next script S (Irq k) u shaped rows was now = let kept = kept-interrupt script S k u shaped rows was in absurd (omega arith)
 drop-next script S Idfc u shaped rows was now = let kept = kept-immediate script S u shaped rows was in absurd (omega arith)
-drop-next script S Tick u shaped rows was now = let kept = ap (row_bit stage_left) (kept-tick S u) in absurd (omega arith)
+drop-next script S Tick u shaped rows was now = absurd (omega arith)
 drop-next script S Idle u shaped rows was now = absurd (omega arith)

@@ -43,7 +43,6 @@ use Rattle.machine.specs.Moves.{moved, perform}
 use Rattle.machine.specs.References.{total}
 use Rattle.machine.specs.Rows.{first_of, owed_of, thread_of, without_first}
 use Rattle.machine.specs.Task.{by_stage, instruction, is_able, is_ready, is_returning, is_stopped, is_waiting, pay_or, return_or, task_of, task_of_row}
-use Rattle.machine.specs.Tick.{tick}
 use Rattle.machine.specs.Transition.{act}
 use Rattle.machine.specs.WellFormed.{AreRows, is_spent}
 use Rattle.machine_laws.proofs.Fitting.Actions.{of_action}
@@ -142,10 +141,6 @@ owed-immediate script S u shaped rows = by (next_immediate S.deferred)
     by (Some (item.Idfc call)) = owed-body script S (Immediate call) u shaped rows
     by (Some (item.Move dfc)) = refl
 
-owed-tick : (S : State) (u : ObjNo) → owed_of (tick S).state u ≡ owed_of S u
-unfolding tick
-owed-tick S u = refl
-
 owed-next : (script : Script) (S : State) (actor : Actor) (u : ObjNo) → IsShaped script → AreRows script S → is_by u actor ≡ false → owed_of (next script S actor) u ≡ owed_of S u
 owed-next script S (Thread t) u shaped rows other = owed-act script S t u shaped rows (λ e. let same : is_by u (Thread t) ≡ true = own e in absurd (cc))
   where
@@ -153,7 +148,7 @@ owed-next script S (Thread t) u shaped rows other = owed-act script S t u shaped
     own e = eq-eqb t.0 u.0 (sym e)
 owed-next script S (Irq k) u shaped rows other = owed-interrupt script S k u shaped rows
 owed-next script S Idfc u shaped rows other = owed-immediate script S u shaped rows
-owed-next script S Tick u shaped rows other = owed-tick S u
+owed-next script S Tick u shaped rows other = refl
 owed-next script S Idle u shaped rows other = refl
 
 -- a thread that isn't left, owes nothing, and has no mutex and no logon

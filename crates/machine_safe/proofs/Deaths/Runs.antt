@@ -15,7 +15,6 @@ use Rattle.machine.specs.declared.plan.Body.TheVariants.{Interrupt}
 use Rattle.machine.specs.declared.plan.Plan.{Plan}
 use Rattle.machine.specs.declared.plan.Plan.TheVariants.{Runs}
 use Rattle.machine.specs.declared.state.State.{State}
-use Rattle.machine.specs.Arrivals.{ready_after}
 use Rattle.machine.specs.Bodies.{decision_by}
 use Rattle.machine.specs.Fits.{EachFits, FitsMove, Sane, most_owed}
 use Rattle.machine.specs.History.{after_from, next, transition, IsLegalFrom}
@@ -23,8 +22,6 @@ use Rattle.machine.specs.Interrupts.{done_by, immediate, immediate_plan, interru
 use Rattle.machine.specs.Moves.{moved, perform, tell, told}
 use Rattle.machine.specs.References.{total}
 use Rattle.machine.specs.Rows.{owed_of}
-use Rattle.machine.specs.Steps.{decision_of}
-use Rattle.machine.specs.Tick.{tick}
 use Rattle.machine.specs.Transition.{act}
 use Rattle.machine.specs.WellFormed.{AreRows, weight}
 use Rattle.machine_laws.proofs.Fitting.Actions.{of_action}
@@ -46,21 +43,14 @@ each-dies script S t (m ∷ ms) fits few s =
     let w = weight-move script S t m fits.0 in
     dies-then S T (perform t ms T) (told m S) (tell t ms T) (dies-move script S t m s.rows fits.0) (each-dies script T t ms fits.1 (omega arith) (sane-after script S T t (told m S) s one))
 
--- deaths don't look at the ready list
-dies-ready : (S T : State) (effects : List Effect) (qs : List ObjNo) → Dies S T effects → Dies S (record T { ready = qs }) effects
-dies-ready S T effects qs h = record { live = h.live; left = h.left; held = h.held; locks = h.locks; takes_none = h.takes_none; signals_none = h.signals_none; gains_none = h.gains_none; were = h.were }
-
 dies-act : (script : Script) (S : State) (t : ObjNo) → IsShaped script → AreRows script S → Dies S (act script S t).state (act script S t).outcome.effects
 unfolding act
-dies-act script S t shaped rows = dies-ready S (perform t (decision_of script S t).moves S) (tell t (decision_of script S t).moves S) (ready_after script t (decision_of script S t).moves S)
-    (of_action script S t (λ (ms : List Move). Dies S (perform t ms S) (tell t ms S)) shaped rows
+dies-act script S t shaped rows = of_action script S t (λ (ms : List Move). Dies S (perform t ms S) (tell t ms S)) shaped rows
     (λ ms sane goes. each-dies script S t ms goes.each goes.few sane)
-    (λ what rest sane owes. subst (Dies S (moved t (move.Pay what) S)) (sym (append-nil (told (move.Pay what) S))) (dies-pay script S t what rest owes (let a = sane.inside in let b = rows.sized.duties in omega arith) rows)) (dies-none S))
+    (λ what rest sane owes. subst (Dies S (moved t (move.Pay what) S)) (sym (append-nil (told (move.Pay what) S))) (dies-pay script S t what rest owes (let a = sane.inside in let b = rows.sized.duties in omega arith) rows)) (dies-none S)
 
 dies-done : (script : Script) (S : State) (plan : Plan) → AreRows script S → Goes script supervisor S (decision_by script supervisor S plan).moves → Dies S (done_by script S plan).state (done_by script S plan).outcome.effects
-dies-done script S plan rows goes =
-    let ms = (decision_by script supervisor S plan).moves in
-    dies-ready S (perform supervisor ms S) (tell supervisor ms S) (ready_after script supervisor ms S) (each-dies script S supervisor ms goes.each goes.few (sane-supervisor script S rows))
+dies-done script S plan rows goes = each-dies script S supervisor (decision_by script supervisor S plan).moves goes.each goes.few (sane-supervisor script S rows)
 
 dies-interrupt : (script : Script) (S : State) (k : ℕ) → IsShaped script → AreRows script S → Dies S (interrupt script S k).state (interrupt script S k).outcome.effects
 unfolding interrupt
@@ -71,16 +61,12 @@ unfolding immediate
 dies-immediate script S shaped rows =
     let found = next_immediate S.deferred in dies-done script S (immediate_plan script S found) rows (goes-immediate script S found shaped rows refl)
 
-dies-tick : (S : State) → Dies S (tick S).state (tick S).outcome.effects
-unfolding tick
-dies-tick S = dies-ready S S [] _ (dies-none S)
-
 -- what an actor's action tells
 pub dies-next : (script : Script) (S : State) (actor : Actor) → IsShaped script → AreRows script S → Dies S (next script S actor) (transition script S actor).outcome.effects
 dies-next script S (Thread t) shaped rows = dies-act script S t shaped rows
 dies-next script S (Irq k) shaped rows = dies-interrupt script S k shaped rows
 dies-next script S Idfc shaped rows = dies-immediate script S shaped rows
-dies-next script S Tick shaped rows = dies-tick S
+dies-next script S Tick shaped rows = dies-none S
 dies-next script S Idle shaped rows = dies-none S
 
 -- and what an entry of a legal history does
@@ -106,16 +92,14 @@ each-kept script P moves S t (m ∷ ms) fits few s p =
 
 module _ (script : Script) (P : State → Type 0)
     (moves : (S : State) (t : ObjNo) (m : Move) → AreRows script S → FitsMove script t m S → P S → P (moved t m S))
-    (pays : (S : State) (t : ObjNo) (what : Owed) (rest : List Owed) → AreRows script S → owed_of S t ≡ what ∷ rest → t.0 < length S.owed → P S → P (moved t (move.Pay what) S))
-    (apart : (S : State) (qs : List ObjNo) → P S → P (record S { ready = qs })) where
+    (pays : (S : State) (t : ObjNo) (what : Owed) (rest : List Owed) → AreRows script S → owed_of S t ≡ what ∷ rest → t.0 < length S.owed → P S → P (moved t (move.Pay what) S)) where
   kept-act : (S : State) (t : ObjNo) → IsShaped script → AreRows script S → P S → P (act script S t).state
   unfolding act
-  kept-act S t shaped rows p = apart (perform t (decision_of script S t).moves S) (ready_after script t (decision_of script S t).moves S) (of_action script S t (λ (ms : List Move). P (perform t ms S)) shaped rows
-      (λ ms sane goes. each-kept script P moves S t ms goes.each goes.few sane p) (λ what rest sane owes. pays S t what rest rows owes (let a = sane.inside in let b = rows.sized.duties in omega arith) p) p)
+  kept-act S t shaped rows p = of_action script S t (λ (ms : List Move). P (perform t ms S)) shaped rows
+      (λ ms sane goes. each-kept script P moves S t ms goes.each goes.few sane p) (λ what rest sane owes. pays S t what rest rows owes (let a = sane.inside in let b = rows.sized.duties in omega arith) p) p
 
   kept-done : (S : State) (plan : Plan) → AreRows script S → Goes script supervisor S (decision_by script supervisor S plan).moves → P S → P (done_by script S plan).state
-  kept-done S plan rows goes p =
-      let ms = (decision_by script supervisor S plan).moves in apart (perform supervisor ms S) (ready_after script supervisor ms S) (each-kept script P moves S supervisor ms goes.each goes.few (sane-supervisor script S rows) p)
+  kept-done S plan rows goes p = each-kept script P moves S supervisor (decision_by script supervisor S plan).moves goes.each goes.few (sane-supervisor script S rows) p
 
   kept-interrupt : (S : State) (k : ℕ) → IsShaped script → AreRows script S → P S → P (interrupt script S k).state
   unfolding interrupt
@@ -125,13 +109,9 @@ module _ (script : Script) (P : State → Type 0)
   unfolding immediate
   kept-immediate S shaped rows p = let found = next_immediate S.deferred in kept-done S (immediate_plan script S found) rows (goes-immediate script S found shaped rows refl) p
 
-  kept-tick : (S : State) → P S → P (tick S).state
-  unfolding tick
-  kept-tick S p = apart S _ p
-
   pub kept-next : (S : State) (actor : Actor) → IsShaped script → AreRows script S → P S → P (next script S actor)
   kept-next S (Thread t) shaped rows p = kept-act S t shaped rows p
   kept-next S (Irq k) shaped rows p = kept-interrupt S k shaped rows p
   kept-next S Idfc shaped rows p = kept-immediate S shaped rows p
-  kept-next S Tick shaped rows p = kept-tick S p
+  kept-next S Tick shaped rows p = p
   kept-next S Idle shaped rows p = p

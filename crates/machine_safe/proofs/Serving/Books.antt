@@ -2,7 +2,6 @@
 use Rattle.entry_log.specs.declared.entry.Actor.{Actor}
 use Rattle.entry_log.specs.declared.entry.Actor.TheVariants.{Idfc, Idle, Irq, Thread, Tick}
 use Rattle.entry_log.specs.declared.entry.Entry.{Entry}
-use Rattle.machine.specs.Arrivals.{ready_after}
 use Rattle.machine.specs.Bodies.{decision_by, run_idfc}
 use Rattle.machine.specs.Boot.{boot, boot_of, born}
 use Rattle.machine.specs.Decide.{answer}
@@ -11,7 +10,6 @@ use Rattle.machine.specs.Interrupts.{done_by, immediate, immediate_plan, interru
 use Rattle.machine.specs.Moves.{perform, tell}
 use Rattle.machine.specs.References.{total}
 use Rattle.machine.specs.Rows.{thread_of}
-use Rattle.machine.specs.Steps.{decision_of}
 use Rattle.machine.specs.Task.{instruction, instructions_of}
 use Rattle.machine.specs.Tick.{tick}
 use Rattle.machine.specs.Transition.{act, idle}
@@ -32,10 +30,10 @@ use Rattle.machine_safe.proofs.Serving.Doing.{Doing, doing, doing-by, keeps-doin
 use Rattle.machine_safe.proofs.Serving.Fated.{doom-among, doom-told}
 use Rattle.machine_safe.proofs.Serving.Finished.{turn-finishes}
 use Rattle.machine_safe.proofs.Serving.Keeps.{changing-none, lost-none, message-none, steps_of, detach-none}
-use Rattle.machine_safe.proofs.Serving.Letters.{letters-quiet, letters-ready, no-front}
+use Rattle.machine_safe.proofs.Serving.Letters.{letters-quiet, no-front}
 use Rattle.machine_safe.proofs.Serving.Posted.{turn-sends}
 use Rattle.machine_safe.proofs.Serving.Reading.{further, reading, same-entry}
-use Rattle.machine_safe.proofs.Serving.Served.{served-keeps, served-made, served-ready, served-same}
+use Rattle.machine_safe.proofs.Serving.Served.{served-keeps, served-made, served-same}
 use Rattle.machine_safe.proofs.Serving.Founding.{turn-makes}
 use Rattle.machine_safe.proofs.Serving.Joining.{turn-joins}
 use Rattle.machine_safe.proofs.Serving.Stopping.{turn-closes, turn-stops}
@@ -101,10 +99,6 @@ turn-without script before S place t actor d rows book nobody silent unsent calm
       lawful = unserving script before e q.accepts q.finishes k.unended (λ sends. absurd (cc));
     }
 
--- the ready list isn't looked at
-pub turn-ready : (script : Script) (before : List Entry) (e : Entry) (T : State) (qs : List ObjNo) → IsTurn script before e T → IsTurn script before e (record T { ready = qs })
-turn-ready script before e T qs h = record { book = record { served = served-ready script (reading (before ++ e ∷ [])) T qs h.book.served; letters = letters-ready script (before ++ e ∷ []) T qs h.book.letters; slotted = record { sessions = h.book.slotted.sessions; pool = h.book.slotted.pool } }; lawful = h.lawful }
-
 -- each thread that is there is live, or was doomed once
 abbrev pub IsFated : List Entry → State → Type 0
 IsFated before S = (u : ObjNo) (row : ThreadRow) → thread_of S u ≡ Some row → row_bit stage_live (Some row) + dooms (effects_of before) u ≡ 1
@@ -130,14 +124,10 @@ module _ (script : Script) (before : List Entry) (S : State) (place : ℕ) (shap
 
   turn-act : (t : ObjNo) → IsTurn script before (entry_of place (Thread t) (act script S t).outcome) (act script S t).state
   unfolding act
-  turn-act t = turn-ready script before (entry_for place t S (decision_of script S t)) (perform t (decision_of script S t).moves S) (ready_after script t (decision_of script S t).moves S)
-      (deed-of script S t (instruction_in script before t) _ (each-turn t) shaped rows (λ row is. at-instruction script before S t row book is) (regular-action script S t shaped rows).0 (regular-action script S t shaped rows).1 (doing script S t shaped rows))
+  turn-act t = deed-of script S t (instruction_in script before t) _ (each-turn t) shaped rows (λ row is. at-instruction script before S t row book is) (regular-action script S t shaped rows).0 (regular-action script S t shaped rows).1 (doing script S t shaped rows)
 
   turn-done : (actor : Actor) (plan : Plan) → ((u : ObjNo) → is_by u actor ≡ false) → (decision_by script supervisor S plan).answer ≡ None → is_send (decision_by script supervisor S plan).step ≡ false → IsTame plain 0 (decision_by script supervisor S plan).moves → Goes script supervisor S (decision_by script supervisor S plan).moves → IsTurn script before (entry_of place actor (done_by script S plan).outcome) (done_by script S plan).state
-  turn-done actor plan nobody silent unsent calm goes =
-      let d = decision_by script supervisor S plan in
-      turn-ready script before (entry_of place actor (record { step = d.step; effects = tell supervisor d.moves S; answer = d.answer })) (perform supervisor d.moves S) (ready_after script supervisor d.moves S)
-      (turn-without script before S place supervisor actor d rows book nobody silent unsent calm (doing-by script S plan rows goes))
+  turn-done actor plan nobody silent unsent calm goes = turn-without script before S place supervisor actor (decision_by script supervisor S plan) rows book nobody silent unsent calm (doing-by script S plan rows goes)
 
   turn-interrupt : (k : ℕ) → IsTurn script before (entry_of place (Irq k) (interrupt script S k).outcome) (interrupt script S k).state
   unfolding interrupt
@@ -167,8 +157,7 @@ module _ (script : Script) (before : List Entry) (S : State) (place : ℕ) (shap
       let found = next_immediate S.deferred in turn-done Idfc (immediate_plan script S found) (λ u. refl) (silent-plan found) (unsent-plan found) (light-immediate script S found shaped rows refl).calm (goes-immediate script S found shaped rows refl)
 
   turn-tick : IsTurn script before (entry_of place Tick (tick S).outcome) (tick S).state
-  unfolding tick
-  turn-tick = turn-ready script before _ S _ (turn-without script before S place supervisor Tick (record { step = step.Turn; moves = []; answer = None }) rows book (λ u. refl) refl refl (tame-moves [] refl refl) (inr (inr refl)))
+  turn-tick = turn-without script before S place supervisor Tick (record { step = step.Turn; moves = []; answer = None }) rows book (λ u. refl) refl refl (tame-moves [] refl refl) (inr (inr refl))
 
   turn-idle : IsTurn script before (entry_of place Idle (idle S).outcome) (idle S).state
   turn-idle = turn-without script before S place supervisor Idle (record { step = step.Wait; moves = []; answer = None }) rows book (λ u. refl) refl refl (tame-moves [] refl refl) (inr (inr refl))

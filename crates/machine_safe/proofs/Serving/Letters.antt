@@ -53,18 +53,6 @@ pub record Letters (script : Script) (before : List Entry) (S : State) : Type 0 
   pub later : (m : MsgNo) → S.messages.accepted < m.0 → finishes (effects_of before) m ≡ 0
   pub sends : outstanding_in before ≡ over (posts S)
 
-pub letters-ready : (script : Script) (before : List Entry) (S : State) (qs : List ObjNo) → Letters script before S → Letters script before (record S { ready = qs })
-letters-ready script before S qs h = record {
-  accepted = h.accepted;
-  known = h.known;
-  all = λ m a. elim (h.all m a) as (λ _. (finishes (effects_of before) m ≡ 1) ⊎ IsOut (record S { ready = qs }) m a.by.session) [
-    | inl done ↦ inl done
-    | inr out ↦ inr (record { post = out.post; among = out.among; number = out.number; over = out.over })
-  ];
-  later = h.later;
-  sends = h.sends;
-}
-
 -- what stands in a list with one more behind it is that one, or stands in the list
 pub record IsBehind {A : Type 0} (xs : List A) (x : A) (ys : List A) (y : A) (zs : List A) : Type 0 where
   pub rest : List A

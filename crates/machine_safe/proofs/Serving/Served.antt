@@ -82,20 +82,6 @@ served-same script r q S same h = record {
   told_linked = λ s v is alive. h.told_linked s v (ap (λ (es : List Effect). server_told es s) same.effects ∙ is) alive;
 }
 
--- the rows don't look at the ready list
-pub served-ready : (script : Script) (r : Reading) (S : State) (qs : List ObjNo) → Served script r S → Served script r (record S { ready = qs })
-served-ready script r S qs h = record {
-  rows = λ o row is. let was = h.rows o row is in record { made = was.made; owner = was.owner; closing = was.closing; owned = was.owned };
-  links = h.links;
-  ended = h.ended;
-  made = h.made;
-  unmade = h.unmade;
-  places = h.places;
-  uses = h.uses;
-  told_made = h.told_made;
-  told_linked = h.told_linked;
-}
-
 -- a bit that tells whether a number isn't 0
 some-sum : (a b : ℕ) → (nat_lt 0 a || nat_lt 0 b) ≡ nat_lt 0 (a + b)
 some-sum a b = elim (cases_lt 0 a) as (λ _. (nat_lt 0 a || nat_lt 0 b) ≡ nat_lt 0 (a + b)) [

@@ -1,5 +1,5 @@
 -- The thread that is chosen is one of the ready list.
-use Rattle.std.proofs.Common.{◌≡◌, ℕ, List, [], ◌∷◌, ap, Option, Some, None, Bool, true, false}
+use Rattle.std.proofs.Common.{◌≡◌, ℕ, List, [], ◌∷◌, refl, ap, Option, Some, None, Bool, true, false}
 use Rattle.std.specs.Prelude.{◌==◌, ◌||◌, if◌then◌else◌, nat_lt}
 use Rattle.std.proofs.lemmas.Bool.{eq-eqb, or_left, or_right}
 use Rattle.sym_base.specs.declared.number.ObjNo.{ObjNo}
@@ -24,5 +24,18 @@ pub greatest_listed : (weight : ObjNo → ℕ) (qs : List ObjNo) (t : ObjNo) →
 greatest_listed weight [] t e = absurd (cc)
 greatest_listed weight (x ∷ xs) t e = chosen_listed weight x t xs (first_of_greatest weight xs) e (greatest_listed weight xs t)
 
-pub first_listed : (S : State) (t : ObjNo) → first_ready S ≡ Some t → is_listed S.ready t ≡ true
-first_listed S t e = greatest_listed (priority_of S) S.ready t e
+pub first_listed : (S : State) (qs : List ObjNo) (t : ObjNo) → first_ready S qs ≡ Some t → is_listed qs t ≡ true
+first_listed S qs t e = greatest_listed (priority_of S) qs t e
+
+-- and where none is chosen, the list is empty
+pub none_listed : (S : State) (qs : List ObjNo) (t : ObjNo) → first_ready S qs ≡ None → is_listed qs t ≡ false
+none_listed S [] t e = refl
+none_listed S (x ∷ xs) t e = by (first_of_greatest (priority_of S) xs) e
+  where
+    either : (b : Bool) (y : ObjNo) → (if b then Some y else Some x) ≡ None → is_listed (x ∷ xs) t ≡ false
+    either true y e = absurd (cc)
+    either false y e = absurd (cc)
+
+    by : (found : Option ObjNo) → unless_greater (priority_of S) x found ≡ None → is_listed (x ∷ xs) t ≡ false
+    by None e = absurd (cc)
+    by (Some y) e = either (nat_lt (priority_of S x) (priority_of S y)) y e

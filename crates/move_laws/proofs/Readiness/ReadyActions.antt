@@ -118,15 +118,15 @@ complete-of : (script : Script) (S : State) (qs : List ObjNo) → IsReadyList sc
 complete-of script S qs h = record { listed = λ u ready. h.exact u ∙ ready; once = h.once }
 
 -- the moves of an action leave the ready list exact
-pub ready-moves : (script : Script) (S : State) (t : ObjNo) (ms : List Move) → EachFits script t ms S → total weight (owed_of S t) + total most_owed ms ≤ 12 → Sane script t S → IsReadyList script S S.ready → IsReadyList script (perform t ms S) (ready_after script t ms S)
-ready-moves script S t ms fits few s h = ready-filter script (perform t ms S) (arrivals script t ms S S.ready) (complete-moves script S t ms S.ready fits few s (complete-of script S S.ready h))
+pub ready-moves : (script : Script) (S : State) (t : ObjNo) (ms : List Move) (qs : List ObjNo) → EachFits script t ms S → total weight (owed_of S t) + total most_owed ms ≤ 12 → Sane script t S → IsReadyList script S qs → IsReadyList script (perform t ms S) (ready_after script t ms S qs)
+ready-moves script S t ms qs fits few s h = ready-filter script (perform t ms S) (arrivals script t ms S qs) (complete-moves script S t ms qs fits few s (complete-of script S qs h))
 
 -- so does a payment, and so does no move
-pub ready-pay : (script : Script) (S : State) (t : ObjNo) (what : Owed) → AreThreads script S.threads → IsReadyList script S S.ready → IsReadyList script (perform t (Pay what ∷ []) S) (ready_after script t (Pay what ∷ []) S)
-ready-pay script S t what threads h = ready-filter script (moved t (Pay what) S) (arrivals script t (Pay what ∷ []) S S.ready) (complete-move script S t (Pay what) S.ready threads tt (complete-of script S S.ready h))
+pub ready-pay : (script : Script) (S : State) (t : ObjNo) (what : Owed) (qs : List ObjNo) → AreThreads script S.threads → IsReadyList script S qs → IsReadyList script (perform t (Pay what ∷ []) S) (ready_after script t (Pay what ∷ []) S qs)
+ready-pay script S t what qs threads h = ready-filter script (moved t (Pay what) S) (arrivals script t (Pay what ∷ []) S qs) (complete-move script S t (Pay what) qs threads tt (complete-of script S qs h))
 
-pub ready-none : (script : Script) (S : State) (t : ObjNo) → IsReadyList script S S.ready → IsReadyList script S (ready_after script t [] S)
-ready-none script S t h = ready-filter script S S.ready (complete-of script S S.ready h)
+pub ready-none : (script : Script) (S : State) (t : ObjNo) (qs : List ObjNo) → IsReadyList script S qs → IsReadyList script S (ready_after script t [] S qs)
+ready-none script S t qs h = ready-filter script S qs (complete-of script S qs h)
 
 behind_self : (t u : ObjNo) (qs : List ObjNo) → is_listed qs t ≡ true → (same : Bool) → (t.0 == u.0) ≡ same → is_listed (unlisted t qs ++ t ∷ []) u ≡ is_listed qs u
 behind_self t u qs there true e =
