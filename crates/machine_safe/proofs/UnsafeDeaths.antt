@@ -1,19 +1,22 @@
--- The definition of safe deaths, tried on the end of a thread: how often it is doomed, cleaned and buried there. And five
--- histories, changed by hand, that aren't safe.
-use Rattle.std.proofs.Common.{◌≡◌, ℕ, ◌≤◌, List, [], ◌∷◌, None, refl, arith}
+-- The definition of safe deaths, tried on the end of a thread: how often it is doomed, cleaned and buried there. And histories, changed by
+-- hand, that aren't safe.
+use Rattle.std.proofs.Common.{◌≡◌, ℕ, ◌≤◌, List, [], ◌∷◌, None, refl, arith, Some}
 use Rattle.std.specs.Prelude.{pos}
 use Rattle.sym_base.specs.declared.number.ObjNo.{ObjNo}
 use Rattle.script_types.specs.declared.script.Script.{Script}
 use Rattle.entry_log.specs.declared.effect.Effect.{Effect}
 use Rattle.entry_log.specs.declared.effect.Effect.TheVariants as effect
-use Rattle.entry_log.specs.declared.effect.Holder.TheVariants.{InThread, Own}
+use Rattle.entry_log.specs.declared.effect.Holder.TheVariants.{InProcess, InThread, Own}
 use Rattle.entry_log.specs.declared.effect.StatusNo.TheVariants.{Async, Sync}
 use Rattle.entry_log.specs.declared.entry.Actor.TheVariants.{Thread}
 use Rattle.entry_log.specs.declared.entry.Entry.{Entry}
 use Rattle.entry_log.specs.declared.step.Step.{Step}
 use Rattle.entry_log.specs.declared.step.Step.TheVariants as step
 use Rattle.machine_safe.specs.CountAfter.{effects_of}
-use Rattle.machine_safe.specs.SafeDeaths.{IsSafeDeaths, dooms, burials, cleanings}
+use Rattle.machine_safe.specs.SafeDeaths.{IsSafeDeaths, OthersAreCleaned, dooms, burials, cleanings}
+use Rattle.machine.specs.Boot.{boot}
+use Rattle.machine.specs.Rows.{thread_of}
+use Rattle.state_rows.specs.declared.thread.ThreadRow.{ThreadRow}
 
 -- object n, and an entry of thread t that isn't answered
 abbrev number : ℕ → ObjNo
@@ -66,6 +69,13 @@ duplicates place = acts place 3 step.Drop (effect.Plus (InThread (number 3) 0) (
 
 cleaned_early : (script : Script) → IsSafeDeaths script (duplicates 1 ∷ ends 2 ∷ is_cleaned 3 ∷ []) → ⊥
 cleaned_early script safe = let none : ◌≡◌ {A = ℕ} 1 0 = (safe.clean (number 3)).own (duplicates 1 ∷ ends 2 ∷ []) (is_cleaned 3) [] (InThread (number 3) 0) (number 5) refl (omega arith) refl in omega arith
+
+-- nor does the table of its process get anything behind it, where it was the only thread of that
+abbrev shares : ℕ → Entry
+shares place = acts place 4 step.Drop (effect.Plus (InProcess (number 2) 7) (number 5) ∷ [])
+
+shared_late : (script : Script) (row : ThreadRow) → thread_of (boot script) (number 3) ≡ Some (record row { process = number 2 }) → OthersAreCleaned script (ends 1 ∷ is_cleaned 2 ∷ []) (number 2) (number 3) → IsSafeDeaths script (ends 1 ∷ is_cleaned 2 ∷ shares 3 ∷ []) → ⊥
+shared_late script row is alone safe = let none : ◌≡◌ {A = ℕ} 1 0 = (safe.dead (number 3)).shares (ends 1 ∷ is_cleaned 2 ∷ []) (shares 3) [] (record row { process = number 2 }) 7 (number 5) refl (omega arith) is alone in omega arith
 
 -- or a server that it made
 abbrev serves : ℕ → Entry

@@ -95,10 +95,13 @@ pub record CleanLeaves (script : Script) (history : List Entry) (t : ObjNo) : Ty
   pub handles : (before : List Entry) (e : Entry) (later : List Entry) (row : ThreadRow) (i : ℕ) (o : ObjNo) → StandsAt history before e later → 0 < cleanings (e ∷ []) t → thread_of (boot script) t ≡ Some row →
       OthersAreCleaned script before row.process t → held_after_all (held_at_boot script) (effects_of before) (InProcess row.process i) o ≡ 0
 
--- From then on it doesn't act, gets no reference of its own, and has nothing left.
+-- From then on it doesn't act, gets no reference of its own, nor does its process's table where all others of that are cleaned too, and it
+-- has nothing left.
 pub record StaysDead (script : Script) (history : List Entry) (t : ObjNo) : Type 0 where
   pub acts : (before : List Entry) (e : Entry) (later : List Entry) → StandsAt history before e later → 0 < cleanings before t → is_by t e.actor ≡ false
   pub gains : (before : List Entry) (e : Entry) (later : List Entry) (h : Holder) (o : ObjNo) → StandsAt history before e later → 0 < cleanings before t → is_own t h ≡ true → pluses_by e.effects h o ≡ 0
+  pub shares : (before : List Entry) (e : Entry) (later : List Entry) (row : ThreadRow) (i : ℕ) (o : ObjNo) → StandsAt history before e later → 0 < cleanings before t → thread_of (boot script) t ≡ Some row →
+      OthersAreCleaned script before row.process t → pluses_by e.effects (InProcess row.process i) o ≡ 0
   pub owes : (before later : List Entry) → history ≡ before ++ later → 0 < cleanings before t → owed_of (after script before) t ≡ []
   pub has : (before later : List Entry) (row : ThreadRow) → history ≡ before ++ later → 0 < cleanings before t → thread_of (after script before) t ≡ Some row → holdings (after script before) t row ≡ []
 

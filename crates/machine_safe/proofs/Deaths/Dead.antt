@@ -33,6 +33,8 @@ use Rattle.machine_safe.proofs.Deaths.Gone.{IsGone, gone-after, no-action, not-l
 use Rattle.machine_safe.proofs.Deaths.Rows.{row_bit}
 use Rattle.machine_safe.proofs.Deaths.Runs.{kept-next}
 use Rattle.machine_safe.proofs.Deaths.Tables.{AreEmptied, emptied-move, emptied-pay, left-none}
+use Rattle.machine_safe.proofs.Deaths.Dies.{own-barred}
+use Rattle.machine_safe.proofs.Deaths.Leaves.{alone}
 
 -- no table has an object at boot
 emptied-boot : (script : Script) → AreEmptied (boot script)
@@ -87,7 +89,11 @@ has-none script S t row rows h emptied is =
 pub stays-dead : (script : Script) (history : List Entry) (t : ObjNo) → IsWellFormed script → IsLegal script history → StaysDead script history t
 stays-dead script history t valid legal = record {
   acts = λ before e later is some. let c = cut script history before e later valid legal is in no-action script (after script before) t e.actor c.rows (gone before c.legal_before some) c.here.able;
-  gains = λ before e later h o is some own. let c = cut script history before e later valid legal is in c.step.gains_none t h o (gone before c.legal_before some).left own;
+  gains = λ before e later h o is some own. let c = cut script history before e later valid legal is in c.step.gains_none h o (own-barred (after script before) t h (gone before c.legal_before some).left own);
+  shares = λ before e later row i o is some at others.
+      let c = cut script history before e later valid legal is in
+      let none = left-none row.process (thread_of (after script before) t) (gone before c.legal_before some).left in
+      c.step.gains_none (InProcess row.process i) o (alone script before t row valid c.legal_before c.front others ∙ none);
   owes = λ before later is some. (gone before (front before later is) some).paid;
   has = λ before later row is some at. has-none script (after script before) t row (well_formed-after script before valid).rows (gone before (front before later is) some) (emptied before (front before later is)) at;
 }

@@ -103,7 +103,7 @@ total-only f (x ∷ xs) (suc i) d none others =
     let rest = total-only f xs i d none (λ j apart. others (suc j) (λ e. apart (omega arith))) in omega arith
 
 -- no other thread of its process is left, where the others were cleaned
-alone : (script : Script) (before : List Entry) (t : ObjNo) (row : ThreadRow) → IsWellFormed script → IsLegal script before → Dies (boot script) (after script before) (effects_of before) → OthersAreCleaned script before row.process t → total (left_of row.process) (after script before).threads ≡ left_of row.process (thread_of (after script before) t)
+pub alone : (script : Script) (before : List Entry) (t : ObjNo) (row : ThreadRow) → IsWellFormed script → IsLegal script before → Dies (boot script) (after script before) (effects_of before) → OthersAreCleaned script before row.process t → total (left_of row.process) (after script before).threads ≡ left_of row.process (thread_of (after script before) t)
 alone script before t row valid legal front others = total-only (left_of row.process) S.threads t.0 None refl (λ j apart. by j apart (get_or S.threads j None) refl)
   where
     S : State
