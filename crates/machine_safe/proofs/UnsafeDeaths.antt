@@ -17,6 +17,8 @@ use Rattle.machine_safe.specs.SafeDeaths.{IsSafeDeaths, OthersAreCleaned, dooms,
 use Rattle.machine.specs.Boot.{boot}
 use Rattle.machine.specs.Rows.{thread_of}
 use Rattle.state_rows.specs.declared.thread.ThreadRow.{ThreadRow}
+use Rattle.machine.specs.History.{after}
+use Rattle.std.specs.List.{slice_index_or}
 
 -- object n, and an entry of thread t that isn't answered
 abbrev number : ℕ → ObjNo
@@ -76,6 +78,10 @@ shares place = acts place 4 step.Drop (effect.Plus (InProcess (number 2) 7) (num
 
 shared_late : (script : Script) (row : ThreadRow) → thread_of (boot script) (number 3) ≡ Some (record row { process = number 2 }) → OthersAreCleaned script (ends 1 ∷ is_cleaned 2 ∷ []) (number 2) (number 3) → IsSafeDeaths script (ends 1 ∷ is_cleaned 2 ∷ shares 3 ∷ []) → ⊥
 shared_late script row is alone safe = let none : ◌≡◌ {A = ℕ} 1 0 = (safe.dead (number 3)).shares (ends 1 ∷ is_cleaned 2 ∷ []) (shares 3) [] (record row { process = number 2 }) 7 (number 5) refl (omega arith) is alone in omega arith
+
+-- and where a mutex is its own after that, it wasn't cleaned as it should be
+holds_late : (script : Script) (o : ObjNo) (rest : List ObjNo) → slice_index_or (after script (ends 1 ∷ is_cleaned 2 ∷ [])).mutexes 3 [] ≡ o ∷ rest → IsSafeDeaths script (ends 1 ∷ is_cleaned 2 ∷ []) → ⊥
+holds_late script o rest holds safe = let none = ((safe.dead (number 3)).none (ends 1 ∷ is_cleaned 2 ∷ []) [] refl (omega arith)).mutexes in cc
 
 -- or a server that it made
 abbrev serves : ℕ → Entry

@@ -1,5 +1,5 @@
 -- The steps by which threads die, and those that tell of it: `kill`, `terminate`, `panic`, `exittype`, `logon` and `exit`.
-use Rattle.std.proofs.Common.{◌≡◌, inl, inr, ℕ, ℤ, ◌<◌, ◌≤◌, List, length, get_or, set, arith, refl, ap, ◌∙◌, Option, Some, None, false, subst, true}
+use Rattle.std.proofs.Common.{◌≡◌, inl, inr, ℕ, ℤ, ◌<◌, ◌≤◌, List, length, get_or, set, arith, refl, ap, ◌∙◌, Option, Some, None, false, subst, true, is_some}
 use Rattle.std.specs.Prelude.{pos, [], ◌∷◌}
 use Rattle.std.specs.Ordering.{int_eq}
 use Rattle.std.proofs.lemmas.Bool.{cases_lt}
@@ -145,7 +145,7 @@ fits-logon_do {script = script} {S = S} {t = t} {row = row} s u r h going small 
         (record { row = row; is = ap (λ (threads : List (Option ThreadRow)). get_or threads t.0 None) same ∙ h.is; next = h.next }) (omega arith) (omega arith)
 
     added : is_spent r.stage ≡ false → FitsDecision plain script t S (answer t (step.Of word.Logon part.Do) (move.Requests (SetPending t s) ∷ move.Logons (Add u t s) ∷ []) (pos 0))
-    added unspent = with (move.Logons (Add u t s)) (inside S.threads u.0 r is, awaited, unlogged, not_sent script S t s h.rows done, live_thread h going, λ x at. let same : r ≡ x = (let a = is in cc) in subst (λ (y : ThreadRow). is_spent y.stage ≡ false) same unspent) refl (omega arith) refl (tame-moves _ refl refl)
+    added unspent = with (move.Logons (Add u t s)) (inside S.threads u.0 r is, awaited, unlogged, not_sent script S t s h.rows done, live_thread h going, λ x at. let same : r ≡ x = (let a = is in cc) in subst (λ (y : ThreadRow). is_spent y.stage ≡ false) same unspent, ap is_some is) refl (omega arith) refl (tame-moves _ refl refl)
 
     signalled : FitsDecision plain script t S (answer t (step.Of word.Logon part.Do) (move.Requests (SetPending t s) ∷ move.Requests (Signal t s (reason_of r.exit)) ∷ []) (pos 0))
     signalled = with (move.Requests (Signal t s (reason_of r.exit))) ((awaited, unlogged), (live_thread h going, not_sent script S t s h.rows done)) refl (omega arith) refl (tame-moves _ refl refl)

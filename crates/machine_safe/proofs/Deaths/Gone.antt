@@ -210,11 +210,11 @@ gone-run script S place [] t shaped rows legal h = h
 gone-run script S place (e ∷ es) t shaped rows legal h = gone-run script (next script S e.actor) (place + 1) es t shaped (sound-next script S e.actor shaped rows).rows legal.1 (gone-entry script S place e es t shaped rows legal h)
 
 -- and is so from its cleaning on
-gone-cleaned : (script : Script) (S : State) (e : Entry) (t : ObjNo) → Cleans script S e t → IsGone (next script S e.actor) t
-gone-cleaned script S e t c = record {
+gone-cleaned : (script : Script) (S : State) (e : Entry) (t : ObjNo) → AreRows script S → Cleans script S e t → IsGone (next script S e.actor) t
+gone-cleaned script S e t rows c = record {
   left = left-after script S e t c;
   paid = ap (λ (l : List (List Owed)). get_or l t.0 []) (after-cleaning script S e t c).owed ∙ c.known.paid;
-  bare = bare-cleaned script S e t c;
+  bare = bare-cleaned script S e t rows c;
 }
 
 pub gone-after : (script : Script) (S : State) (place : ℕ) (es : List Entry) (t : ObjNo) → IsShaped script → AreRows script S → IsLegalFrom script S place es → 0 < cleanings es t → IsGone (after_from script S es) t
@@ -225,5 +225,5 @@ gone-after script S place (e ∷ es) t shaped rows legal some = by (is_by t e.ac
     rows_next = (sound-next script S e.actor shaped rows).rows
 
     by : (b : Bool) → (is_by t e.actor && is_clean e.step) ≡ b → 0 < (if b then 1 else 0) + cleanings es t → (0 < cleanings es t → IsGone (after_from script (next script S e.actor) es) t) → IsGone (after_from script (next script S e.actor) es) t
-    by true is some more = gone-run script (next script S e.actor) (place + 1) es t shaped rows_next legal.1 (gone-cleaned script S e t (cleans script S place e t shaped rows legal.0 is))
+    by true is some more = gone-run script (next script S e.actor) (place + 1) es t shaped rows_next legal.1 (gone-cleaned script S e t rows (cleans script S place e t shaped rows legal.0 is))
     by false is some more = more (omega arith)

@@ -62,7 +62,7 @@ left-exact script S place e es t shaped rows legal = by (is_by t e.actor && is_c
           ]
         ]
 
-exact-run : (script : Script) (S : State) (place : ℕ) (es : List Entry) (t : ObjNo) → IsShaped script → AreRows script S → IsLegalFrom script S place es → row_bit stage_left (thread_of (after_from script S es) t) + cleanings es t ≡ row_bit stage_left (thread_of S t)
+pub exact-run : (script : Script) (S : State) (place : ℕ) (es : List Entry) (t : ObjNo) → IsShaped script → AreRows script S → IsLegalFrom script S place es → row_bit stage_left (thread_of (after_from script S es) t) + cleanings es t ≡ row_bit stage_left (thread_of S t)
 exact-run script S place [] t shaped rows legal = omega arith
 exact-run script S place (e ∷ es) t shaped rows legal =
     let one = left-exact script S place e es t shaped rows legal in

@@ -114,7 +114,7 @@ close-gains S true h o g x none = refl
 close-gains S false h o g x none = refl
 
 -- a thread that is there and isn't cleaned is left
-is-left : (x : Option ThreadRow) → is_some x ≡ true → ((row : ThreadRow) → x ≡ Some row → is_spent row.stage ≡ false) → row_bit stage_left x ≡ 0 → ⊥
+pub is-left : (x : Option ThreadRow) → is_some x ≡ true → ((row : ThreadRow) → x ≡ Some row → is_spent row.stage ≡ false) → row_bit stage_left x ≡ 0 → ⊥
 is-left None there unspent none = cc
 is-left (Some row) there unspent none = by row.stage (unspent row refl) none
   where

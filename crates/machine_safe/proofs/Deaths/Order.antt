@@ -68,6 +68,7 @@ pub record IsAfter (S T : State) (t : ObjNo) : Type 0 where
   pub owed : T.owed ≡ S.owed
   pub mutexes : T.mutexes ≡ S.mutexes
   pub logons : T.logons ≡ S.logons
+  pub owned : T.owned ≡ S.owned
 
 after-act : (script : Script) (S : State) (t : ObjNo) → IsCleaning script S t (decision_of script S t) → IsAfter S (act script S t).state t
 unfolding act
@@ -76,6 +77,7 @@ after-act script S t c = record {
   owed = ap (λ (ms : List Move). (perform t ms S).owed) c.moves;
   mutexes = ap (λ (ms : List Move). (perform t ms S).mutexes) c.moves;
   logons = ap (λ (ms : List Move). (perform t ms S).logons) c.moves;
+  owned = ap (λ (ms : List Move). (perform t ms S).owned) c.moves;
 }
 
 pub after-cleaning : (script : Script) (S : State) (e : Entry) (t : ObjNo) → Cleans script S e t → IsAfter S (next script S e.actor) t
