@@ -12,3 +12,4 @@ pub mod Serving
 pub mod UnsafeBusy
 pub mod UnsafeDeaths
 pub mod UnsafeMessages
+pub mod UnsafeReferences

@@ -25,7 +25,7 @@ use Rattle.entry_log.specs.declared.step.Step.TheVariants as step
 use Rattle.machine.specs.Boot.{boot_of}
 use Rattle.machine_safe.specs.CountAfter.{effects_of}
 use Rattle.machine_safe.specs.SafeDeaths.{dooms}
-use Rattle.machine_safe.specs.SafeMessages.{IsAcceptance, IsFinish, IsSafeMessages, NothingLeft, notice, code_of_complete}
+use Rattle.machine_safe.specs.SafeMessages.{IsAcceptance, IsEnd, IsFinish, IsSafeMessages, NothingLeft, notice, code_of_complete}
 use Rattle.machine_safe.specs.Sent.{Accepts, accepts, finishes, instruction_in, status_by}
 use Rattle.machine_safe.specs.Served.{ends, server_told, is_closing_in}
 use Rattle.machine.specs.Decide.{answer}
@@ -205,7 +205,7 @@ nothing_left m a linked = at-each IsDone [] before_stop a.before a.at a.later al
 
 -- So the history is safe.
 abbrev IsFine : List Entry → Entry → Type 0
-IsFine before e = (0 < accepts e.effects → IsAcceptance before e) × ((m : MsgNo) → 0 < finishes e.effects m → IsFinish served_script before e m) × ((v : ObjNo) → 0 < ends e.effects v → NothingLeft before v)
+IsFine before e = (0 < accepts e.effects → IsAcceptance before e) × ((m : MsgNo) → 0 < finishes e.effects m → IsFinish served_script before e m) × ((v : ObjNo) → 0 < ends e.effects v → IsEnd before e v)
 
 one_object : (n : ℕ) (v : ObjNo) → 0 < (if n == v.0 then 1 else 0) + 0 → number n ≡ v
 one_object n v some = by (n == v.0) refl some
@@ -232,7 +232,7 @@ each_fine = (
               (
                 (λ some. absurd (omega arith), λ m some. absurd (omega arith), λ v some. absurd (omega arith)),
                 (
-                  (λ some. absurd (omega arith), λ m some. absurd (omega arith), λ v some. subst (NothingLeft before_stop) (one_object 6 v some) nothing_left),
+                  (λ some. absurd (omega arith), λ m some. absurd (omega arith), λ v some. subst (IsEnd before_stop stops) (one_object 6 v some) (record { closing = refl; first = refl; once = refl; alone = refl; left = nothing_left })),
                   tt,
                 ),
               ),
@@ -321,6 +321,19 @@ accepted_late script safe =
     let server : Some (number 6) ≡ Some a.server = subst (λ (s : ObjNo). server_told (effects_of (opens ++ first_end ∷ connected ∷ closes 6 ∷ [])) s ≡ Some a.server) (sym session) a.linked in
     let own : number 6 ≡ a.server = cc in
     let accepting : true ≡ false = subst (λ (v : ObjNo). is_closing_in (opens ++ first_end ∷ connected ∷ closes 6 ∷ []) v ≡ false) (sym own) a.accepting in cc
+
+-- No server ends that isn't closing, or that ended; and nothing is accepted beside the end.
+ended_open : (script : Script) → IsSafeMessages script (opens ++ first_end ∷ connected ∷ stops ∷ []) → ⊥
+ended_open script safe = let closing : false ≡ true = (safe.ended (opens ++ first_end ∷ connected ∷ []) stops [] (number 6) refl (omega arith)).closing in cc
+
+ended_twice : (script : Script) → IsSafeMessages script (before_stop ++ stops ∷ stops ∷ []) → ⊥
+ended_twice script safe = let first : ◌≡◌ {A = ℕ} 1 0 = (safe.ended (before_stop ++ stops ∷ []) stops [] (number 6) refl (omega arith)).first in absurd (omega arith)
+
+abbrev stops_accepting : Entry
+stops_accepting = acts 9 3 step.Stop (effect.Terminated (number 6) ∷ accepted 3) None
+
+ended_accepting : (script : Script) → IsSafeMessages script (before_stop ++ stops_accepting ∷ []) → ⊥
+ended_accepting script safe = let alone : ◌≡◌ {A = ℕ} 1 0 = (safe.ended before_stop stops_accepting [] (number 6) refl (omega arith)).alone in absurd (omega arith)
 
 -- And no thread is cleaned before its server ended.
 abbrev owner_dies : Entry

@@ -1,5 +1,5 @@
 -- Safe messages: each is accepted by a server that isn't closing, and finished once, by that server's owner; and its client is told so
--- where it lives. All of it is read off the history alone.
+-- where it lives. A server ends once, where it is closing. All of it is read off the history alone.
 use Rattle.std.specs.Prelude.{◌≡◌, ℤ, ◌+◌, ◌<◌, Bool, true, false, nat_lt, List, [], ◌∷◌, Option, Some, None}
 use Rattle.sym_base.specs.declared.error.Error.TheVariants.{ServerTerminated}
 use Rattle.sym_base.specs.declared.number.MsgNo.{MsgNo}
@@ -68,8 +68,16 @@ pub record IsFinish (script : Script) (before : List Entry) (e : Entry) (m : Msg
 abbrev pub NothingLeft : List Entry → ObjNo → Type 0
 NothingLeft before v = (m : MsgNo) (accepted : WasAccepted before m) → server_told (effects_of before) accepted.by.session ≡ Some v → finishes (effects_of before) m ≡ 1
 
+-- The end of a server: it is closing and has not ended, nothing is left of it, and nothing is accepted beside it.
+pub record IsEnd (before : List Entry) (e : Entry) (v : ObjNo) : Type 0 where
+  pub closing : is_closing_in before v ≡ true
+  pub first : ends (effects_of before) v ≡ 0
+  pub once : ends e.effects v ≡ 1
+  pub alone : accepts e.effects ≡ 0
+  pub left : NothingLeft before v
+
 pub record IsSafeMessages (script : Script) (history : List Entry) : Type 0 where
   pub acceptances : (before : List Entry) (e : Entry) (later : List Entry) → StandsAt history before e later → 0 < accepts e.effects → IsAcceptance before e
   pub finished : (before : List Entry) (e : Entry) (later : List Entry) (m : MsgNo) → StandsAt history before e later → 0 < finishes e.effects m → IsFinish script before e m
-  -- where a server ends, nothing is left of it
-  pub ended : (before : List Entry) (e : Entry) (later : List Entry) (v : ObjNo) → StandsAt history before e later → 0 < ends e.effects v → NothingLeft before v
+  -- a server ends where it is closing and nothing is left of it, once
+  pub ended : (before : List Entry) (e : Entry) (later : List Entry) (v : ObjNo) → StandsAt history before e later → 0 < ends e.effects v → IsEnd before e v

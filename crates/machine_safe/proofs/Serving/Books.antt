@@ -181,6 +181,7 @@ book-boot script shaped = record {
     rows = λ o row is. let none = copy_at {A = Option ServerRow} None OBJECTS o.0 in absurd (cc);
     links = λ s o is. let none = ap link_of (no_session OBJECTS s) in absurd (cc);
     ended = λ o some. absurd (omega arith);
+    over = λ u o some. absurd (omega arith);
     made = λ t o is. absurd (cc);
     unmade = λ o past. refl;
     uses = λ u o row is used. let none = (born_row script _ (born script) u.0 row (each_born script shaped) is).uses in absurd (cc);

@@ -22,7 +22,8 @@ use Rattle.machine_safe.specs.SafeDeaths.{dooms}
 use Rattle.machine_safe.specs.Served.{closes_handle, ends, handles_lost, or_before, owner_told, server_told}
 use Rattle.move_laws.proofs.Lists.Mapped.{mapped-some}
 use Rattle.move_laws.proofs.References.Mutexes.{held-not_holding}
-use Rattle.move_laws.proofs.References.Same.{eqb_apart, if_is, if_not, if_zero}
+use Rattle.move_laws.proofs.References.Same.{eqb_apart, if_is, if_not, if_zero, same_object, same_self}
+use Rattle.move_laws.proofs.Lives.LivesMove.{zero_or}
 use Rattle.script_types.specs.declared.script.Script.{Script}
 use Rattle.state_rows.specs.ServerChanges.{after_closing, closing, detached}
 use Rattle.state_rows.specs.ServerRows.{closes, is_closing, server_at, server_of}
@@ -123,6 +124,7 @@ module _ (script : Script) (r : Reading) (S : State) (t : ObjNo) (done : Step) (
       rows = row_now;
       links = λ s o is. server_told-append r.effects fs s ∙ (ap (λ (x : Option ObjNo). or_before x (server_told r.effects s)) (k.unlinked s) ∙ h.links s o (k.links s o is));
       ended = λ o some. let a = ends-append r.effects fs o in let b = k.unended o in keeps-closing (begun v) gone t (Lose holder v ∷ []) fs o k (closing-stays v S.servers o (h.ended o (omega arith)));
+      over = λ u o some. ap (λ (l : List (List ObjNo)). times_owned l u o) k.owned ∙ h.over u o (let a = ends-append r.effects fs o in let b = k.unended o in omega arith);
       made = λ u o is. elim (h.made u o (sym (owner_same o) ∙ is)) as (λ _. (0 < times_owned gone.owned u o) ⊎ (0 < ends (r.effects ++ fs) o)) [
         | inl owned ↦ inl (subst (λ (l : List (List ObjNo)). 0 < times_owned l u o) (sym k.owned) owned)
         | inr over ↦ inr (let a = ends-append r.effects fs o in omega arith)
@@ -156,7 +158,7 @@ module _ (script : Script) (r : Reading) (S : State) (t : ObjNo) (done : Step) (
     }
 
   -- a server stops
-  module _ (v : ObjNo) (makes : makes_server done ≡ false) (closing_step : closes_handle done ≡ false) (may : MayEnd S v) (inside : t.0 < length S.owned) (once : times_owned S.owned t v ≡ 1) where
+  module _ (v : ObjNo) (makes : makes_server done ≡ false) (closing_step : closes_handle done ≡ false) (may : MayEnd S v) (inside : t.0 < length S.owned) (once : times_owned S.owned t v ≡ 1) (alone : (u : ObjNo) → 0 < times_owned S.owned u v → u.0 ≡ t.0) where
     abbrev stopped : State
     stopped = moved t (Lose (Own t) v) (moved t (Servers (End v)) S)
 
@@ -191,6 +193,15 @@ module _ (script : Script) (r : Reading) (S : State) (t : ObjNo) (done : Step) (
         let none : same v o ≡ 0 = if_not (v.0 == o.0) 1 (eqb_apart v.0 o.0 apart) in
         let zero = if_zero (t.0 == u.0) (same v o) none in omega arith
 
+    -- and nobody owns it then
+    nobodys : (u : ObjNo) → times_owned stopped.owned u v ≡ 0
+    nobodys u = zero_or (times_owned stopped.owned u v) (λ some.
+        let a = fewer u v in
+        let at = alone u (omega arith) in
+        let owner : times_owned S.owned u v ≡ 1 = ap (λ (x : ObjNo). times_owned S.owned x v) (same_object u t at) ∙ once in
+        let own = same_self v in
+        let here : (if t.0 == u.0 then same v v else 0) ≡ 1 = if_is (t.0 == u.0) (same v v) (eq-eqb t.0 u.0 (sym at)) ∙ own in absurd (omega arith))
+
     ends_more : (o : ObjNo) → ends after.effects o ≡ ends r.effects o + same v o
     ends_more o = let a = ends-append r.effects told_then o in let b = (unlinking-close last (Own t) v).unended o in omega arith
 
@@ -214,6 +225,10 @@ module _ (script : Script) (r : Reading) (S : State) (t : ObjNo) (done : Step) (
       ended = λ o some. elim (cases_eq v.0 o.0) as (λ _. is_closing S.servers o ≡ true) [
         | inl at ↦ ap (λ (n : ℕ). closes (get_or S.servers.servers n None)) (sym at) ∙ may.closing
         | inr apart ↦ h.ended o (let a = ends_more o in let none : same v o ≡ 0 = if_not (v.0 == o.0) 1 (eqb_apart v.0 o.0 apart) in omega arith)
+      ];
+      over = λ u o some. elim (cases_eq v.0 o.0) as (λ _. times_owned stopped.owned u o ≡ 0) [
+        | inl at ↦ ap (times_owned stopped.owned u) (sym (same_object v o at)) ∙ nobodys u
+        | inr apart ↦ owned_other u o apart ∙ h.over u o (let a = ends_more o in let none : same v o ≡ 0 = if_not (v.0 == o.0) 1 (eqb_apart v.0 o.0 apart) in omega arith)
       ];
       made = λ u o is. elim (cases_eq v.0 o.0) as (λ _. (0 < times_owned stopped.owned u o) ⊎ (0 < ends after.effects o)) [
         | inl at ↦ inr (let a = ends_more o in let one = if_is (v.0 == o.0) 1 (eq-eqb v.0 o.0 at) in omega arith)

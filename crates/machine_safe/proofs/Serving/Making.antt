@@ -19,7 +19,7 @@ use Rattle.machine_safe.proofs.Serving.Served.{IsServed, Served, closing-count}
 use Rattle.machine_safe.specs.SafeDeaths.{dooms}
 use Rattle.machine_safe.specs.Served.{closes_handle, ends, handles_lost, one_if, or_before, owner_told, server_told}
 use Rattle.move_laws.proofs.References.Mutexes.{held-holding}
-use Rattle.move_laws.proofs.References.Same.{eqb_apart, if_is}
+use Rattle.move_laws.proofs.References.Same.{eqb_apart, if_is, if_not, if_zero}
 use Rattle.script_types.specs.declared.script.Script.{Script}
 use Rattle.state_rows.proofs.SoundChanges.{set_item}
 use Rattle.state_rows.specs.ServerChanges.{new_session, closing}
@@ -63,6 +63,14 @@ module _ (script : Script) (r : Reading) (S : State) (t : ObjNo) (done : Step) (
     ];
     links = λ s o is. server_told-append r.effects fs s ∙ h.links s o (link-kept s o is);
     ended = λ o some. let a = ends-append r.effects fs o in closing_kept o (h.ended o (omega arith));
+    over = λ u o some.
+        let was : 0 < ends r.effects o = let a = ends-append r.effects fs o in omega arith in
+        let row = closing-row (server_at S.servers o) (h.ended o was) in
+        let made_first = (h.rows o row.0 row.1).made in
+        let count = held-holding S.owned t (next_object S) u o inside in
+        let none : same (next_object S) o ≡ 0 = if_not (length S.objects == o.0) 1 (eqb_apart (length S.objects) o.0 (λ at. absurd (omega arith))) in
+        let zero = if_zero (t.0 == u.0) (same (next_object S) o) none in
+        let old = h.over u o was in omega arith;
     made = λ u o is. elim (cases_eq (length S.objects) o.0) as (λ _. (0 < times_owned (made name).owned u o) ⊎ (0 < ends told.effects o)) [
       | inl at ↦
           let now : told.owner o ≡ Some t = owner_here o at in
@@ -173,6 +181,7 @@ module _ (script : Script) (r : Reading) (S : State) (t : ObjNo) (done : Step) (
           ∙ h.links x o (sym (ap link_of (get_or-set_other S.servers.sessions s.0 x.0 (Some (new_session v slots t)) None (λ e. apart (sym e)))) ∙ is))
     ];
     ended = λ o some. let a = ends-append r.effects fs o in closing_kept o (h.ended o (omega arith));
+    over = λ u o some. h.over u o (let a = ends-append r.effects fs o in omega arith);
     made = λ u o is. elim (h.made u o (sym (owner_same o) ∙ is)) as (λ _. (0 < times_owned S.owned u o) ⊎ (0 < ends told.effects o)) [
       | inl owned ↦ inl owned
       | inr over ↦ inr (let a = ends-append r.effects fs o in omega arith)

@@ -44,13 +44,15 @@ pub record IsPlaced (script : Script) (r : Reading) (k : ℕ) (row : ThreadRow) 
   pub role : first.role ≡ row.role
   pub place : row.next_instruction ≡ r.answers k
 
--- Each server has its owner, and is closing, as told; a session's link is told; a server that ended is closing; whoever made a server owns it, or it
+-- Each server has its owner, and is closing, as told; a session's link is told; a server that ended is closing and
+-- nobody's; whoever made a server owns it, or it
 -- ended; nothing is told of what isn't made; a thread is at the place of its answers, and
 -- uses what it came to use last; and a session that is alive is at the server that is told of it, unless that is closing.
 pub record Served (script : Script) (r : Reading) (S : State) : Type 0 where
   pub rows : (o : ObjNo) (row : ServerRow) → server_at S.servers o ≡ Some row → IsServed r S o row
   pub links : (s o : ObjNo) → server_of S.servers s ≡ Some o → server_told r.effects s ≡ Some o
   pub ended : (o : ObjNo) → 0 < ends r.effects o → is_closing S.servers o ≡ true
+  pub over : (u o : ObjNo) → 0 < ends r.effects o → times_owned S.owned u o ≡ 0
   pub made : (t o : ObjNo) → r.owner o ≡ Some t → (0 < times_owned S.owned t o) ⊎ (0 < ends r.effects o)
   pub unmade : (o : ObjNo) → length S.objects ≤ o.0 → r.closings o ≡ 0
   pub places : (k : ℕ) (row : ThreadRow) → get_or S.threads k None ≡ Some row → IsPlaced script r k row
@@ -74,6 +76,7 @@ served-same script r q S same h = record {
       };
   links = λ s o is. ap (λ (es : List Effect). server_told es s) (sym same.effects) ∙ h.links s o is;
   ended = λ o some. h.ended o (subst (λ (es : List Effect). 0 < ends es o) (sym same.effects) some);
+  over = λ u o some. h.over u o (subst (λ (es : List Effect). 0 < ends es o) (sym same.effects) some);
   made = λ t o is. subst (λ (es : List Effect). (0 < times_owned S.owned t o) ⊎ (0 < ends es o)) same.effects (h.made t o (same.owner o ∙ is));
   unmade = λ o past. sym (same.closings o) ∙ h.unmade o past;
   places = λ k row is. let was = h.places k row is in record { first = was.first; is = was.is; role = was.role; place = was.place ∙ same.answers k };
@@ -169,6 +172,7 @@ module _ (script : Script) (r : Reading) (S T : State) (t : ObjNo) (ms : List Mo
     rows = row-then;
     links = λ s o is. server_told-append r.effects fs s ∙ (ap (λ (x : Option ObjNo). or_before x (server_told r.effects s)) (k.unlinked s) ∙ h.links s o (k.links s o is));
     ended = λ o some. let a = ends-append r.effects fs o in let b = k.unended o in keeps-closing S T t ms fs o k (h.ended o (omega arith));
+    over = λ u o some. ap (λ (l : List (List ObjNo)). times_owned l u o) k.owned ∙ h.over u o (let a = ends-append r.effects fs o in let b = k.unended o in omega arith);
     made = λ u o is. elim (h.made u o (sym (same-owner o) ∙ is)) as (λ _. (0 < times_owned T.owned u o) ⊎ (0 < ends (r.effects ++ fs) o)) [
       | inl owned ↦ inl (subst (λ (l : List (List ObjNo)). 0 < times_owned l u o) (sym k.owned) owned)
       | inr over ↦ inr (let a = ends-append r.effects fs o in omega arith)

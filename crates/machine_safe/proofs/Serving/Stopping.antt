@@ -33,7 +33,10 @@ use Rattle.machine_safe.specs.SafeMessages.{NothingLeft}
 use Rattle.machine_safe.specs.Sent.{finishes}
 use Rattle.machine_safe.specs.Served.{closes_handle, ends, handles_lost, or_before, server_told}
 use Rattle.move_laws.proofs.Lists.Contents.{contains_behind, contains_cases, contains_first, contains_map, none_contained}
-use Rattle.move_laws.proofs.References.Same.{eqb_apart, if_not, if_zero, same_is}
+use Rattle.move_laws.proofs.References.Same.{eqb_apart, if_not, if_zero, same_is, same_self}
+use Rattle.move_laws.proofs.Lives.LivesMove.{zero_or}
+use Rattle.state_rows.specs.declared.servers.ServerRow.{ServerRow}
+use Rattle.machine_safe.proofs.Serving.Keeps.{closing-row}
 use Rattle.move_laws.proofs.RowLaws.OwnedServers.{owned_inside}
 use Rattle.script_types.specs.declared.script.Script.{Script}
 use Rattle.state_rows.specs.MessageRows.{is_at}
@@ -46,9 +49,10 @@ use Rattle.sym_base.specs.declared.number.ObjNo.{ObjNo}
 use Rattle.machine_safe.proofs.Serving.Closing.{served-stopped, served-closing}
 use Rattle.machine_safe.proofs.Serving.KeptUses.{session-closed}
 use Rattle.machine_safe.proofs.Serving.Slots.{slotted-keeps}
-use Rattle.state_rows.specs.ServerRows.{session_at}
+use Rattle.state_rows.specs.ServerRows.{session_at, server_at}
 use Rattle.state_rows.specs.declared.servers.SessionRow.{SessionRow}
 use Rattle.machine_laws.proofs.Fitting.Regular.{IsRegular, Kinds}
+use Rattle.machine_safe.specs.SafeMessages.{IsEnd}
 
 -- how often two objects are one
 abbrev same_bit : ObjNo → ObjNo → ℕ
@@ -179,7 +183,7 @@ module _ (script : Script) (before : List Entry) (S : State) (place : ℕ) (t : 
       end = λ u some.
           let a = ended u in
           let own : is.server ≡ u = same_is is.server u (omega arith) in
-          subst (NothingLeft before) own nothing;
+          subst (IsEnd before e) own is_end;
       send = λ sends. let unsent = is.unsent in absurd (cc);
     };
   }
@@ -199,6 +203,15 @@ module _ (script : Script) (before : List Entry) (S : State) (place : ℕ) (t : 
       owned : 0 < times_owned S.owned t is.server
       owned = goes.each.1.0.1
 
+      -- it is its owner's alone
+      alone : (u : ObjNo) → 0 < times_owned S.owned u is.server → u.0 ≡ t.0
+      alone u some =
+          let first = rows.servers.owners u is.server some in
+          let own = rows.servers.owners t is.server owned in
+          let both : Some first.row ≡ Some own.row = sym first.is ∙ own.is in
+          let same_row : first.row ≡ own.row = cc in
+          sym first.owner ∙ (ap (λ (x : ServerRow). x.owner.0) same_row ∙ own.owner)
+
       gs : List Effect
       gs = Terminated is.server ∷ closed_effects (is_last (moved t (Servers (End is.server)) S) is.server) (Own t) is.server
 
@@ -206,7 +219,7 @@ module _ (script : Script) (before : List Entry) (S : State) (place : ℕ) (t : 
       r1 = further (reading before) d.step gs (λ k. 0)
 
       whole : Served script r1 (perform t d.moves S)
-      whole = subst (λ (l : List Move). Served script r1 (perform t l S)) (sym is.moves) (served-stopped script (reading before) S t d.step book.served is.server is.makes is.step may (owned_inside S.owned t is.server owned) (let a = rows.servers.once t is.server in let b = owned in omega arith))
+      whole = subst (λ (l : List Move). Served script r1 (perform t l S)) (sym is.moves) (served-stopped script (reading before) S t d.step book.served is.server is.makes is.step may (owned_inside S.owned t is.server owned) (let a = rows.servers.once t is.server in let b = owned in omega arith) alone)
 
       told_all : e.effects ≡ gs
       told_all = ap (λ (l : List Move). tell t l S) is.moves ∙ ap (λ (l : List Effect). Terminated is.server ∷ l) (append-nil (closed_effects (is_last (moved t (Servers (End is.server)) S) is.server) (Own t) is.server))
@@ -240,3 +253,13 @@ module _ (script : Script) (before : List Entry) (S : State) (place : ℕ) (t : 
             let own : out.post.server ≡ is.server = cc in
             absurd (left out.post out.among (ap (λ (x : ObjNo). x.0) own))
       ]
+
+      is_end : IsEnd before e is.server
+      is_end =
+          let row = closing-row (server_at S.servers is.server) may.closing in record {
+            closing = sym (book.served.rows is.server row.0 row.1).closing ∙ row.2;
+            first = zero_or (ends (effects_of before) is.server) (λ some. let none = book.served.over t is.server some in let own = owned in absurd (omega arith));
+            once = let a = ended is.server in let own = same_self is.server in omega arith;
+            alone = q.accepts;
+            left = nothing;
+          }

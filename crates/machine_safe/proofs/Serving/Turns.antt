@@ -17,7 +17,7 @@ use Rattle.machine_safe.proofs.Serving.Keeps.{changing_bit, steps_of, closing-ro
 use Rattle.machine_safe.proofs.Serving.Letters.{Letters, letters-quiet}
 use Rattle.machine_safe.proofs.Serving.Reading.{further, reading, same-entry}
 use Rattle.machine_safe.proofs.Serving.Served.{Served, served-keeps, served-made, served-same}
-use Rattle.machine_safe.specs.SafeMessages.{IsAcceptance, IsFinish, NothingLeft}
+use Rattle.machine_safe.specs.SafeMessages.{IsAcceptance, IsFinish, IsEnd}
 use Rattle.machine_safe.specs.Sent.{accepts, finishes}
 use Rattle.machine_safe.specs.Served.{closes_handle, ends, handles_lost, is_closing_in, server_told}
 use Rattle.move_laws.proofs.Lives.LivesMove.{zero_or}
@@ -53,7 +53,7 @@ pub record Book (script : Script) (before : List Entry) (S : State) : Type 0 whe
 pub record IsLawful (script : Script) (before : List Entry) (e : Entry) : Type 0 where
   pub acceptance : 0 < accepts e.effects → IsAcceptance before e
   pub finish : (m : MsgNo) → 0 < finishes e.effects m → IsFinish script before e m
-  pub end : (v : ObjNo) → 0 < ends e.effects v → NothingLeft before v
+  pub end : (v : ObjNo) → 0 < ends e.effects v → IsEnd before e v
   pub send : is_send e.step ≡ true → IsSendAnswer script before e
 
 pub record IsTurn (script : Script) (before : List Entry) (e : Entry) (T : State) : Type 0 where
