@@ -26,7 +26,7 @@ use Rattle.machine.specs.Boot.{boot_of}
 use Rattle.machine_safe.specs.CountAfter.{effects_of}
 use Rattle.machine_safe.specs.SafeDeaths.{dooms}
 use Rattle.machine_safe.specs.SafeMessages.{IsAcceptance, IsEnd, IsFinish, IsSafeMessages, NothingLeft, notice, code_of_complete}
-use Rattle.machine_safe.specs.Sent.{Accepts, accepts, finishes, instruction_in, status_by}
+use Rattle.machine_safe.specs.Sent.{Accepts, accepts, accepts_by, finishes, instruction_in, status_by}
 use Rattle.machine_safe.specs.Served.{ends, server_told, is_closing_in}
 use Rattle.machine.specs.Decide.{answer}
 use Rattle.machine_safe.specs.SafeServers.{IsSafeServers}
@@ -118,11 +118,13 @@ one_number n m some = by (n == m.0) refl some
     by false is some = absurd (omega arith)
 
 -- both messages are accepted as they should
-first_accepted : IsAcceptance (serves ∷ joins ∷ []) connects
-first_accepted = record { message = message 1; by = record { session = number 7; client = number 5; rest = []; told = refl }; number = refl; only = refl; client = refl; server = number 6; linked = refl; accepting = refl; lasts = refl }
+first_accepted : IsAcceptance served_script (serves ∷ joins ∷ []) connects
+unfolding boot_of
+first_accepted = record { message = message 1; by = record { session = number 7; client = number 5; rest = []; told = refl }; number = refl; only = refl; client = refl; step = refl; server = number 6; linked = refl; accepting = refl; lasts = refl }
 
-second_accepted : IsAcceptance (opens ++ first_end ∷ connected ∷ []) (sends 6 2)
-second_accepted = record { message = message 2; by = record { session = number 7; client = number 5; rest = []; told = refl }; number = refl; only = refl; client = refl; server = number 6; linked = refl; accepting = refl; lasts = refl }
+second_accepted : IsAcceptance served_script (opens ++ first_end ∷ connected ∷ []) (sends 6 2)
+unfolding boot_of
+second_accepted = record { message = message 2; by = record { session = number 7; client = number 5; rest = []; told = refl }; number = refl; only = refl; client = refl; step = refl; server = number 6; linked = refl; accepting = refl; lasts = refl }
 
 -- and finished
 first_finished : IsFinish served_script opens first_end (message 1)
@@ -205,7 +207,7 @@ nothing_left m a linked = at-each IsDone [] before_stop a.before a.at a.later al
 
 -- So the history is safe.
 abbrev IsFine : List Entry → Entry → Type 0
-IsFine before e = (0 < accepts e.effects → IsAcceptance before e) × ((m : MsgNo) → 0 < finishes e.effects m → IsFinish served_script before e m) × ((v : ObjNo) → 0 < ends e.effects v → IsEnd before e v)
+IsFine before e = (0 < accepts e.effects → IsAcceptance served_script before e) × ((m : MsgNo) → 0 < finishes e.effects m → IsFinish served_script before e m) × ((v : ObjNo) → 0 < ends e.effects v → IsEnd before e v)
 
 one_object : (n : ℕ) (v : ObjNo) → 0 < (if n == v.0 then 1 else 0) + 0 → number n ≡ v
 one_object n v some = by (n == v.0) refl some
@@ -321,6 +323,26 @@ accepted_late script safe =
     let server : Some (number 6) ≡ Some a.server = subst (λ (s : ObjNo). server_told (effects_of (opens ++ first_end ∷ connected ∷ closes 6 ∷ [])) s ≡ Some a.server) (sym session) a.linked in
     let own : number 6 ≡ a.server = cc in
     let accepting : true ≡ false = subst (λ (v : ObjNo). is_closing_in (opens ++ first_end ∷ connected ∷ closes 6 ∷ []) v ≡ false) (sym own) a.accepting in cc
+
+-- None is accepted in a step that isn't one that accepts: a call under the name of a time slice's end, whose client would wait for ever.
+abbrev calls_turning : Entry
+calls_turning = acts 6 5 step.Turn (accepted 2) None
+
+accepted_turning : (script : Script) → IsSafeMessages script (opens ++ first_end ∷ connected ∷ calls_turning ∷ []) → ⊥
+accepted_turning script safe =
+    let a = safe.acceptances (opens ++ first_end ∷ connected ∷ []) calls_turning [] refl (omega arith) in
+    let other : accepts_by step.Turn (status_by step.Turn (instruction_in script (opens ++ first_end ∷ connected ∷ []) a.by.client)) ≡ true = a.step in cc
+
+-- Nor in a `send` whose client is at no such instruction: it has a `connect` there.
+abbrev sends_connecting : Entry
+sends_connecting = acts 3 5 (step.Of word.Send part.Do) (accepted 1) (Some (pos 0))
+
+accepted_misplaced : IsSafeMessages served_script (serves ∷ joins ∷ sends_connecting ∷ []) → ⊥
+unfolding boot_of third_object
+accepted_misplaced safe =
+    let a = safe.acceptances (serves ∷ joins ∷ []) sends_connecting [] refl (omega arith) in
+    let client : number 5 ≡ a.by.client = ap third_object a.by.told in
+    let other : false ≡ true = subst (λ (u : ObjNo). accepts_by (step.Of word.Send part.Do) (status_by (step.Of word.Send part.Do) (instruction_in served_script (serves ∷ joins ∷ []) u)) ≡ true) (sym client) a.step in cc
 
 -- No server ends that isn't closing, or that ended; and nothing is accepted beside the end.
 ended_open : (script : Script) → IsSafeMessages script (opens ++ first_end ∷ connected ∷ stops ∷ []) → ⊥

@@ -18,17 +18,18 @@ use Rattle.entry_log.specs.declared.step.Step.{Step}
 use Rattle.entry_log.specs.declared.step.Step.TheVariants as step
 use Rattle.machine_safe.specs.CountAfter.{effects_of, is_by}
 use Rattle.machine_safe.specs.SafeDeaths.{StandsAt, dooms}
-use Rattle.machine_safe.specs.Sent.{Accepts, WasAccepted, accepts, finishes, instruction_in, status_by}
+use Rattle.machine_safe.specs.Sent.{Accepts, WasAccepted, accepts, accepts_by, finishes, instruction_in, status_by}
 use Rattle.machine_safe.specs.Served.{ends, is_closing_in, owner_in, server_told}
 
--- An acceptance: messages are numbered 1, 2 and so on, an entry accepts one at most, which the acting thread sends, and the session's
--- server isn't closing before it, and has not ended.
-pub record IsAcceptance (before : List Entry) (e : Entry) : Type 0 where
+-- An acceptance: messages are numbered 1, 2 and so on, an entry accepts one at most, which the acting thread sends, in a step that accepts, with
+-- the status that its instruction names; and the session's server isn't closing before it, and has not ended.
+pub record IsAcceptance (script : Script) (before : List Entry) (e : Entry) : Type 0 where
   pub message : MsgNo
   pub by : Accepts e message
   pub number : message.0 ≡ accepts (effects_of before) + 1
   pub only : accepts by.rest ≡ 0
   pub client : is_by by.client e.actor ≡ true
+  pub step : accepts_by e.step (status_by e.step (instruction_in script before by.client)) ≡ true
   pub server : ObjNo
   pub linked : server_told (effects_of before) by.session ≡ Some server
   pub accepting : is_closing_in before server ≡ false
@@ -77,7 +78,7 @@ pub record IsEnd (before : List Entry) (e : Entry) (v : ObjNo) : Type 0 where
   pub left : NothingLeft before v
 
 pub record IsSafeMessages (script : Script) (history : List Entry) : Type 0 where
-  pub acceptances : (before : List Entry) (e : Entry) (later : List Entry) → StandsAt history before e later → 0 < accepts e.effects → IsAcceptance before e
+  pub acceptances : (before : List Entry) (e : Entry) (later : List Entry) → StandsAt history before e later → 0 < accepts e.effects → IsAcceptance script before e
   pub finished : (before : List Entry) (e : Entry) (later : List Entry) (m : MsgNo) → StandsAt history before e later → 0 < finishes e.effects m → IsFinish script before e m
   -- a server ends where it is closing and nothing is left of it, once
   pub ended : (before : List Entry) (e : Entry) (later : List Entry) (v : ObjNo) → StandsAt history before e later → 0 < ends e.effects v → IsEnd before e v

@@ -21,7 +21,7 @@ use Rattle.machine_safe.proofs.Serving.Keeps.{changing_bit, lost-none, lost_bit,
 use Rattle.machine_safe.proofs.Serving.Sending.{deed-call, deed-connect, deed-send, sending}
 use Rattle.machine_safe.specs.CountAfter.{opens}
 use Rattle.machine_safe.specs.SafeMessages.{code_of_complete}
-use Rattle.machine_safe.specs.Sent.{status_by}
+use Rattle.machine_safe.specs.Sent.{accepts_by, status_by}
 use Rattle.machine_safe.specs.Served.{closes_handle}
 use Rattle.move_laws.proofs.Lists.Cases.{if_cases}
 use Rattle.move_laws.proofs.Lists.Totals.{total-append}
@@ -137,7 +137,7 @@ connected-is S s o e = by (was_opened (session_at S.servers s)) e
     by true e = e
     by false e = absurd (cc)
 
-module _ (S : State) (t : ObjNo) (at : Option Instr) (P : Decision → Type 0) (h : Holder) (o : ObjNo) (answers : Bool) (d : Decision) (handle : is_handle h ≡ true) (step : closes_handle d.step ≡ true) (makes : makes_server d.step ≡ false) (unsent : is_send d.step ≡ false) (named : status_by d.step at ≡ None) (each : OfEach S t at P) where
+module _ (S : State) (t : ObjNo) (at : Option Instr) (P : Decision → Type 0) (h : Holder) (o : ObjNo) (answers : Bool) (d : Decision) (handle : is_handle h ≡ true) (step : closes_handle d.step ≡ true) (makes : makes_server d.step ≡ false) (unsent : is_send d.step ≡ false) (told : status_by d.step at ≡ None) (named : accepts_by d.step None ≡ true) (each : OfEach S t at P) where
   -- the handle of what is no server
   others : (ms : List Move) → d.moves ≡ ms ++ Lose h o ∷ behind answers t → ((v : ObjNo) → total (lost_bit v) ms ≡ 0) → server_at S.servers o ≡ None → ClosesOthers S d
   others ms moves silent none closes v some =
@@ -164,7 +164,7 @@ module _ (S : State) (t : ObjNo) (at : Option Instr) (P : Decision → Type 0) (
   sends v moves opens none =
       let still = behind-still answers t in
       each.sends d (sending d (Servers (SetOpen o false) ∷ []) (Lose h o ∷ behind answers t) o v disconnects no_args Disconnect moves refl refl
-      (let a = still.0 in let b = changing-handle h o handle in omega arith) (let a = still.1 in omega arith) opens named
+      (let a = still.0 in let b = changing-handle h o handle in omega arith) (let a = still.1 in omega arith) opens told named
       (others (Servers (SetOpen o false) ∷ post S t o v disconnects no_args Disconnect) moves (λ x. let wakes = lost-none x (wake_receiver S v (owner_of S.servers v)) ((tame-wake {k = plain} S v (owner_of S.servers v)).calm refl) in omega arith) none) (λ x. let b = undetached-behind answers t x in let c = undetached h o x handle in omega arith) unsent (λ sends. absurd (cc)))
 
   unconnected : (server : Option ObjNo) → d.moves ≡ disconnect S t o server ++ Lose h o ∷ behind answers t → connected_to S o ≡ server → server_at S.servers o ≡ None → P d
@@ -183,7 +183,7 @@ holder-handle t row handle = if_cases (λ (h : Holder). is_handle h ≡ true) (i
 
 deed-close : (S : State) (t : ObjNo) (at : Option Instr) (P : Decision → Type 0) (row : ThreadRow) (handle : ℕ) (found : Option ObjNo) → OfEach S t at P → P (close_handle S t row handle found)
 deed-close S t at P row handle None each = calm each _ refl refl
-deed-close S t at P row handle (Some o) each = deed-handle S t at P (holder_of t row handle) o true (close_handle S t row handle (Some o)) (holder-handle t row handle) refl refl refl refl each refl
+deed-close S t at P row handle (Some o) each = deed-handle S t at P (holder_of t row handle) o true (close_handle S t row handle (Some o)) (holder-handle t row handle) refl refl refl refl refl each refl
 
 -- each step of an instruction
 pub deed-step : (script : Script) (S : State) (t : ObjNo) (at : Option Instr) (P : Decision → Type 0) (row : ThreadRow) (i : Instr) (p : Option Part) → IsRegular (kind_of i p) script S t (step_of script S t row i p) → thread_of S t ≡ Some row → at ≡ Some i → OfEach S t at P → P (step_of script S t row i p)
@@ -191,6 +191,6 @@ deed-step script S t at P row (instr.Close x) p regular is here each = deed-clos
 deed-step script S t at P row (instr.Server name x) p regular is here each = deed-server S t at P name x each
 deed-step script S t at P row (instr.Connect name slots x) (Some p) regular is here each = deed-connect S t at P row name slots x p here each
 deed-step script S t at P row (instr.Send x function y args) (Some p) regular is here each = deed-send S t at P row x function y args p is here each
-deed-step script S t at P row (instr.Call x function args) (Some p) regular is here each = deed-call S t at P row x function args p each
+deed-step script S t at P row (instr.Call x function args) (Some p) regular is here each = deed-call S t at P row x function args p here each
 deed-step script S t at P row (instr.Complete y code) p regular is here each = deed-complete S t at P y code _ _ here refl each
 deed-step script S t at P row i p regular is here each = calm each _ (regular.calm refl) (regular.sends refl)

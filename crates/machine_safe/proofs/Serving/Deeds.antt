@@ -15,7 +15,7 @@ use Rattle.machine.specs.declared.state.State.{State}
 use Rattle.machine_laws.proofs.Fitting.Regular.{serving_bit}
 use Rattle.machine_safe.proofs.Serving.Keeps.{changing-none, changing_bit, lost-none, lost_bit, message-none, message_bit, detach-none, detach_bit}
 use Rattle.machine_safe.specs.SafeMessages.{code_by}
-use Rattle.machine_safe.specs.Sent.{status_by}
+use Rattle.machine_safe.specs.Sent.{accepts_by, status_by}
 use Rattle.machine_safe.specs.Served.{closes_handle}
 use Rattle.script_types.specs.declared.instruction.Instr.{Instr}
 use Rattle.state_rows.specs.MessageRows.{message_of, is_async, is_full}
@@ -100,6 +100,7 @@ pub record IsSending (S : State) (t : ObjNo) (at : Option Instr) (d : Decision) 
   pub linked : server_of S.servers row.session ≡ Some row.server
   pub accepting : is_closing S.servers row.server ≡ false
   pub way : status_by d.step at ≡ status_of_way row.way
+  pub named : accepts_by d.step (status_of_way row.way) ≡ true
   pub closed : ClosesOthers S d
   pub detached : (v : ObjNo) → total (detach_bit v) d.moves ≡ 0
   pub of_session : slots ≡ slots_of S row.session

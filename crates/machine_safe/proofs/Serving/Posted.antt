@@ -23,7 +23,7 @@ use Rattle.machine_safe.proofs.Serving.Reading.{reading}
 use Rattle.machine_safe.proofs.Serving.Served.{served-made}
 use Rattle.machine_safe.proofs.Serving.Turns.{Book, IsTurn, entry_for, served-doing, sent-answer}
 use Rattle.machine_safe.specs.CountAfter.{effects_of, is_by}
-use Rattle.machine_safe.specs.Sent.{Accepts, accepts, finishes, instruction_in, status_by}
+use Rattle.machine_safe.specs.Sent.{Accepts, accepts, accepts_by, finishes, instruction_in, status_by}
 use Rattle.machine_safe.specs.Served.{ends, is_closing_in, server_told}
 use Rattle.move_laws.proofs.Lists.Totals.{total-append}
 use Rattle.move_laws.proofs.Lives.LivesMove.{zero_or}
@@ -109,6 +109,7 @@ module _ (script : Script) (before : List Entry) (S : State) (place : ℕ) (t : 
         number = let a = p.next in let b = book.letters.accepted in omega arith;
         only = p.none;
         client = ap (λ (u : ObjNo). is_by u (Thread t)) is.client ∙ eq-eqb t.0 t.0 refl;
+        step = ap (accepts_by d.step) way ∙ is.named;
         server = is.row.server;
         linked = linked;
         accepting = accepting;

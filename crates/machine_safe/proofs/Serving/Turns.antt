@@ -51,7 +51,7 @@ pub record Book (script : Script) (before : List Entry) (S : State) : Type 0 whe
 
 -- what an entry promises
 pub record IsLawful (script : Script) (before : List Entry) (e : Entry) : Type 0 where
-  pub acceptance : 0 < accepts e.effects → IsAcceptance before e
+  pub acceptance : 0 < accepts e.effects → IsAcceptance script before e
   pub finish : (m : MsgNo) → 0 < finishes e.effects m → IsFinish script before e m
   pub end : (v : ObjNo) → 0 < ends e.effects v → IsEnd before e v
   pub send : is_send e.step ≡ true → IsSendAnswer script before e
