@@ -56,7 +56,7 @@ use Rattle.machine_laws.proofs.Fitting.Stepping.{FitsDecision, FitsStep, IsStepp
 use Rattle.machine_laws.proofs.Fitting.Working.{IsGiven, fits-work}
 use Rattle.machine_laws.proofs.Fitting.KernelThreads.{none_is, fits-flock, fits-fswait, fits-fssignal, fits-enter, fits-suspend, fits-resume, fits-priority}
 use Rattle.machine_laws.proofs.Fitting.Bodies.{Goes, goes-light, light-body}
-use Rattle.machine_laws.proofs.Fitting.Regular.{IsRegular, Kinds, kind_given, kind_of, may_tell, plain, regular-moves, regular-pay, tame}
+use Rattle.machine_laws.proofs.Fitting.Regular.{IsRegular, Kinds, kind_given, kind_of, looking, may_tell, plain, regular-moves, regular-pay, tame}
 use Rattle.machine_laws.proofs.Fitting.Deaths.{fits-exit, fits-exit_step, fits-exittype, fits-logon}
 use Rattle.machine_laws.proofs.Fitting.Dooms.{fits-end, fits-flush, fits-funlock, fits-leave}
 use Rattle.machine_laws.proofs.Fitting.Reaping.{IsDying, fits-bury, fits-clean, fits-give_up}
@@ -116,7 +116,7 @@ fits-step script S t row (instr.Read y arg offset size from) p h going at = few 
 fits-step script S t row (instr.Write y arg offset size from) p h going at = few (fits-write y arg offset size from p h at)
 
 -- and so do their returns
-fits-returning : (script : Script) (S : State) (t : ObjNo) (row : ThreadRow) (instr : Instr) → IsStepping script S t row instr → is_before_use row.part ≡ true → FitsDecision plain script t S (return_of S t row instr)
+fits-returning : (script : Script) (S : State) (t : ObjNo) (row : ThreadRow) (instr : Instr) → IsStepping script S t row instr → is_before_use row.part ≡ true → FitsDecision looking script t S (return_of S t row instr)
 fits-returning script S t row (instr.Open kind name x) h before = fits-open_return h before
 fits-returning script S t row (instr.Connect name slots x) h before = fits-connect_return h before
 fits-returning script S t row _ h before = fits-nothing script S t
@@ -138,10 +138,11 @@ pub record FitsAction (k : Kinds) (script : Script) (S : State) (t : ObjNo) (d :
   pub goes : Goes script t S d.moves
   pub regular : IsRegular k script S t d
 
--- whatever holds of each action of a thread: the step of an instruction, what is given up, what is paid, and what is plain
+-- whatever holds of each action of a thread: the step of an instruction, its return, what is given up, what is paid, and what is plain
 pub record OfAction (script : Script) (S : State) (t : ObjNo) (P : Decision → Type 0) : Type 0 where
   pub plainly : (d : Decision) → FitsAction plain script S t d → P d
   pub steps : (row : ThreadRow) (instr : Instr) → thread_of S t ≡ Some row → instruction script row ≡ Some instr → FitsAction (kind_of instr row.part) script S t (step_of script S t row instr row.part) → P (step_of script S t row instr row.part)
+  pub returns : (row : ThreadRow) (instr : Instr) → thread_of S t ≡ Some row → instruction script row ≡ Some instr → FitsAction looking script S t (return_of S t row instr) → P (return_of S t row instr)
   pub gives : (row : ThreadRow) (what : Holding) → IsGiven S t what → FitsAction (kind_given what) script S t (give_up S t row what) → P (give_up S t row what)
   pub pays : (what : Owed) (rest : List Owed) → owed_of S t ≡ what ∷ rest → P (pay what)
 
@@ -284,7 +285,7 @@ module _ (script : Script) (S : State) (t : ObjNo) (P : Decision → Type 0) (ea
       → P (decision_of_row script S t (Some row) (return_or returns at (pay_or (first_of owed) (by_stage row.stage (holdings S t row) (own_task row)))))
   row-acts row true (Some instr) owed shaped rows is able r e o =
       let nothing = rows.duties.returns t.0 (ap (λ (x : Option ThreadRow). is_returning (part_of x)) is ∙ r) in
-      plain-by (return_of S t row instr) nothing (fits-returning script S t row instr (stepping script S t row instr shaped rows is (λ going. absurd (cc)) able e nothing) (returning_before row.part r))
+      each.returns row instr is e (goes_by script S t (return_of S t row instr) nothing (few (fits-returning script S t row instr (stepping script S t row instr shaped rows is (λ going. absurd (cc)) able e nothing) (returning_before row.part r))))
   row-acts row true None owed shaped rows is able r e o = absurd (nothing_past (instructions_of script row.role) row.next_instruction ((rows.threads.rows t.0 row is).returns r) e)
   row-acts row false at (what ∷ rest) shaped rows is able r e o = each.pays what rest o
   row-acts row false at [] shaped rows is able r e o = stage-acts row row.stage refl (record { shaped = shaped; rows = rows; is = is; able = able; going = r; paid = o })
@@ -308,6 +309,7 @@ pub regular-action : (script : Script) (S : State) (t : ObjNo) → IsShaped scri
 regular-action script S t shaped rows = each-action script S t (λ (d : Decision). (k : Kinds) × IsRegular k script S t d) (record {
   plainly = λ d fits. (plain, fits.regular);
   steps = λ row instr is at fits. (kind_of instr row.part, fits.regular);
+  returns = λ row instr is at fits. (looking, fits.regular);
   gives = λ row what given fits. (kind_given what, fits.regular);
   pays = λ what rest owes. (plain, regular-pay what);
 }) shaped rows
@@ -321,6 +323,7 @@ of_action script S t P shaped rows goes pays none = elim (cases_lt t.0 (length S
       each-action script S t (λ (d : Decision). P d.moves) (record {
         plainly = λ d fits. goes d.moves sane fits.goes;
         steps = λ row instr is at fits. goes (step_of script S t row instr row.part).moves sane fits.goes;
+        returns = λ row instr is at fits. goes (return_of S t row instr).moves sane fits.goes;
         gives = λ row what given fits. goes (give_up S t row what).moves sane fits.goes;
         pays = λ what rest owes. pays what rest sane owes;
       }) shaped rows
@@ -340,6 +343,7 @@ pub fits-action : (script : Script) (S : State) (t : ObjNo) → IsShaped script 
 fits-action script S t shaped rows = each-action script S t (λ (d : Decision). Fits script t d.moves S ⊎ Pays S t d.moves) (record {
   plainly = λ d fits. inl (fits_goes script S t d.moves fits.goes);
   steps = λ row instr is at fits. inl (fits_goes script S t (step_of script S t row instr row.part).moves fits.goes);
+  returns = λ row instr is at fits. inl (fits_goes script S t (return_of S t row instr).moves fits.goes);
   gives = λ row what given fits. inl (fits_goes script S t (give_up S t row what).moves fits.goes);
   pays = λ what rest owes. inr (record { what = what; rest = rest; moves = refl; owes = owes });
 }) shaped rows

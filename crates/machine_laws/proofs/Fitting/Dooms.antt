@@ -49,7 +49,7 @@ use Rattle.machine_laws.proofs.Fitting.KernelThreads.{held_holder, mutex_inside,
 use Rattle.machine_laws.proofs.Fitting.Stepping.{FitsDecision, IsStepping, at_instruction, at-with_row, fits-answers, fits-refuse, has_signals}
 use Rattle.machine_laws.proofs.Fitting.Waiters.{without_apart}
 use Rattle.move_laws.proofs.RowLaws.Awaited.{dropped_none, undropped}
-use Rattle.machine_laws.proofs.Fitting.Regular.{IsRegular, IsTame, may_tell, plain, regular-moves, tame-both, tame-doom, tame-moves}
+use Rattle.machine_laws.proofs.Fitting.Regular.{IsRegular, IsTame, looking, may_tell, plain, regular-moves, tame-both, tame-doom, tame-in, tame-moves}
 
 -- a thread that may be doomed: it is there with all its rows, is live, and holds no fast mutex
 pub record MayDie (S : State) (u : ObjNo) : Type 0 where
@@ -110,18 +110,18 @@ after-where : (script : Script) (S : State) (t : ObjNo) (unprotected : Bool) (no
 after-where script S t unprotected noted h = if_cases (GoOnAfter script S t) unprotected _ _ (λ free. after-noted script S t noted (h free)) (λ _. after-none script S t)
 
 -- an answer after such moves
-pub fits-after : {script : Script} {S : State} {t : ObjNo} {row : ThreadRow} {instr : Instr} (told : Step) (named : may_tell plain told ≡ true) (ms : List Move) → IsStepping script S t row instr → GoOnAfter script S t ms → FitsDecision plain script t S (answer t told ms (pos 0))
-fits-after told named ms h after = fits-answers told named ms (pos 0) after.calm after.each (after.at (at_instruction h)) (let few = after.told in omega arith) (let none = after.light in omega arith)
+pub fits-after : {script : Script} {S : State} {t : ObjNo} {row : ThreadRow} {instr : Instr} (told : Step) (named : may_tell plain told ≡ true) (ms : List Move) → IsStepping script S t row instr → GoOnAfter script S t ms → FitsDecision looking script t S (answer t told ms (pos 0))
+fits-after told named ms h after = fits-answers told named ms (pos 0) (tame-in after.calm) after.each (after.at (at_instruction h)) (let few = after.told in omega arith) (let none = after.light in omega arith)
 
 -- an answer after a change of the rows of threads that synchronize, and the doom that may follow it
 fits-then_dies : {script : Script} {S : State} {t : ObjNo} {row : ThreadRow} {instr : Instr} (told : Step) (named : may_tell plain told ≡ true) (m : NanoMove) (unprotected : Bool) → IsStepping script S t row instr → FitsMove script t (move.Nano m) S → (unprotected ≡ true → MayDie (moved t (move.Nano m) S) t)
-    → FitsDecision plain script t S (answer t told (move.Nano m ∷ doom_where unprotected t (noted_of S t)) (pos 0))
+    → FitsDecision looking script t S (answer t told (move.Nano m ∷ doom_where unprotected t (noted_of S t)) (pos 0))
 fits-then_dies {script = script} {S = S} {t = t} {row = row} told named m unprotected h fits dies =
     let after = after-where script (moved t (move.Nano m) S) t unprotected (noted_of S t) dies in
     let one = nano-tells m in
     let few = after.told in
     let none = after.light in
-    fits-answers told named (move.Nano m ∷ doom_where unprotected t (noted_of S t)) (pos 0) (tame-both (move.Nano m ∷ []) (doom_where unprotected t (noted_of S t)) (tame-moves _ refl refl) after.calm) (fits, after.each) (after.at (record { row = row; is = h.is; next = h.next })) (omega arith) (omega arith)
+    fits-answers told named (move.Nano m ∷ doom_where unprotected t (noted_of S t)) (pos 0) (tame-both (move.Nano m ∷ []) (doom_where unprotected t (noted_of S t)) (tame-moves _ refl refl) (tame-in after.calm)) (fits, after.each) (after.at (record { row = row; is = h.is; next = h.next })) (omega arith) (omega arith)
 
 -- whoever gives a fast mutex up holds none then
 gives_unheld : (script : Script) (S : State) (t : ObjNo) (f : ℕ) → AreRows script S → f < length S.nano.holders → holder_of S.nano f ≡ Some t → held_by (after_give S.nano t f) t ≡ None
@@ -130,21 +130,21 @@ gives_unheld script S t f rows known holds =
     rw is (held_by-give S.nano t f rows.nano.rows known holds)
 
 -- `funlock`
-pub fits-funlock : {script : Script} {S : State} {t : ObjNo} {row : ThreadRow} (f : ℕ) → IsStepping script S t row (instr.Funlock f) → is_returning row.part ≡ false → FitsDecision plain script t S (funlock_do S t f)
+pub fits-funlock : {script : Script} {S : State} {t : ObjNo} {row : ThreadRow} (f : ℕ) → IsStepping script S t row (instr.Funlock f) → is_returning row.part ≡ false → FitsDecision looking script t S (funlock_do S t f)
 fits-funlock {script = script} {S = S} {t = t} {row = row} f h going =
-    if_cases (FitsDecision plain script t S) (is_holder S.nano t f) _ _
+    if_cases (FitsDecision looking script t S) (is_holder S.nano t f) _ _
     (λ holds. given (mutex_inside script S f h.rows h.names) (is_thread-true t (holder_of S.nano f) holds))
     (λ _. fits-refuse (step.Of word.Funlock part.Do) refl error.General h)
   where
-    given : f < length S.nano.holders → holder_of S.nano f ≡ Some t → FitsDecision plain script t S (answer t (step.Of word.Funlock part.Do) (move.Nano (nano.Give t f) ∷ doom_where (critical_count S.nano t == 0) t (noted_of S t)) (pos 0))
+    given : f < length S.nano.holders → holder_of S.nano f ≡ Some t → FitsDecision looking script t S (answer t (step.Of word.Funlock part.Do) (move.Nano (nano.Give t f) ∷ doom_where (critical_count S.nano t == 0) t (noted_of S t)) (pos 0))
     given known holds =
         fits-then_dies (step.Of word.Funlock part.Do) refl (nano.Give t f) (critical_count S.nano t == 0) h (ap is_some h.is, (known, holds))
         (λ _. record { row = row; is = h.is; live = h.live going; signals = has_signals h; unheld = gives_unheld script S t f h.rows known holds; servers = owned_server script S t h.rows })
 
 -- `leave`
-pub fits-leave : {script : Script} {S : State} {t : ObjNo} {row : ThreadRow} {instr : Instr} → IsStepping script S t row instr → is_returning row.part ≡ false → FitsDecision plain script t S (leave_do S t)
+pub fits-leave : {script : Script} {S : State} {t : ObjNo} {row : ThreadRow} {instr : Instr} → IsStepping script S t row instr → is_returning row.part ≡ false → FitsDecision looking script t S (leave_do S t)
 fits-leave {script = script} {S = S} {t = t} {row = row} h going =
-    if_cases (FitsDecision plain script t S) (critical_count S.nano t == 0) _ _
+    if_cases (FitsDecision looking script t S) (critical_count S.nano t == 0) _ _
     (λ _. fits-refuse (step.Of word.Leave part.Do) refl error.General h)
     (λ _. fits-then_dies (step.Of word.Leave part.Do) refl (nano.Leave t) (is_unprotected S t) h (ap is_some h.is, tt)
     (λ free. record { row = row; is = h.is; live = h.live going; signals = has_signals h; unheld = none_is (held_by S.nano t) (and_parts (critical_count S.nano t == 1) (is_none (held_by S.nano t)) free).1; servers = owned_server script S t h.rows }))

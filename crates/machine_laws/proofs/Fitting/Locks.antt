@@ -49,7 +49,7 @@ use Rattle.machine_laws.proofs.Fitting.Living.{alive_inside, use_is_alive}
 use Rattle.machine_laws.proofs.Fitting.Stepping.{FitsDecision, IsStepping, fits-answers, fits-nothing, fits-refuse, at_instruction, at-with_row, live-changed, stepping_live, unspent}
 use Rattle.machine_laws.proofs.Fitting.Uncalled.{stepping_uncalled, waiter_uncalled}
 use Rattle.machine_laws.proofs.Fitting.Waiters.{passed_is, stepping_nowhere, struck_nowhere, woke_is}
-use Rattle.machine_laws.proofs.Fitting.Regular.{IsTame, Kinds, locking, may_tell, plain, regular-moves, tame-at, tame-both, tame-moves}
+use Rattle.machine_laws.proofs.Fitting.Regular.{IsTame, Kinds, locking, looking, may_tell, regular-moves, tame-at, tame-both, tame-moves}
 
 -- an answer after a move in the rows of mutexes and semaphores, and where a waiter goes on after it
 fits-locked : {k : Kinds} {script : Script} {S : State} {t : ObjNo} {row : ThreadRow} {instr : Instr} (told : Step) (named : may_tell k told ≡ true) (m : LockMove) → IsTame k 0 (move.Locks m ∷ []) → IsStepping script S t row instr → FitsLocks t m S → FitsDecision k script t S (answer t told (move.Locks m ∷ []) (pos 0))
@@ -100,7 +100,7 @@ fits-lock_do {script = script} {S = S} {t = t} {row = row} (Some o) h going e = 
     unserved none (Some server) other = fits-nothing script S t
 
 pub fits-lock : {script : Script} {S : State} {t : ObjNo} {row : ThreadRow} {instr : Instr} (x : ℕ) (p : Option Part) → IsStepping script S t row instr → is_returning row.part ≡ false → row.part ≡ p → FitsDecision locking script t S (lock_step S t row x p)
-fits-lock x None h going at = fits-unless (Of word.Lock part.Look) refl _ h (λ _. fits-look_kind Mutex word.Lock x h (ap is_before_use at))
+fits-lock x None h going at = fits-unless (Of word.Lock part.Look) refl _ h (λ _. fits-look_kind Mutex word.Lock x refl h (ap is_before_use at))
 fits-lock {row = row} x (Some part.Do) h going at = fits-lock_do row.uses h going refl
 fits-lock x (Some _) h going at = fits-answer (Of word.Lock part.Done) refl (pos 0) h
 
@@ -131,40 +131,40 @@ fits-unlock_do {script = script} {S = S} {t = t} None h going e = fits-nothing s
 fits-unlock_do {S = S} {t = t} {row = row} (Some o) h going e = fits-unlock_by o _ h going (use_is_alive S t row o h.rows.lives h.is e) refl
 
 pub fits-unlock : {script : Script} {S : State} {t : ObjNo} {row : ThreadRow} {instr : Instr} (x : ℕ) (p : Option Part) → IsStepping script S t row instr → is_returning row.part ≡ false → row.part ≡ p → FitsDecision locking script t S (unlock_step S t row x p)
-fits-unlock x None h going at = fits-look_kind Mutex word.Unlock x h (ap is_before_use at)
+fits-unlock x None h going at = fits-look_kind Mutex word.Unlock x refl h (ap is_before_use at)
 fits-unlock {row = row} x (Some p) h going at = fits-unlock_do row.uses h going refl
 
 -- `wait`
-fits-wait_on : {script : Script} {S : State} {t : ObjNo} {row : ThreadRow} {instr : Instr} (o : ObjNo) → IsStepping script S t row instr → is_returning row.part ≡ false → held_by S.nano t ≡ None → IsAlive (object_of S o) → FitsDecision plain script t S (wait_on t o (count_at S.locks o))
+fits-wait_on : {script : Script} {S : State} {t : ObjNo} {row : ThreadRow} {instr : Instr} (o : ObjNo) → IsStepping script S t row instr → is_returning row.part ≡ false → held_by S.nano t ≡ None → IsAlive (object_of S o) → FitsDecision looking script t S (wait_on t o (count_at S.locks o))
 fits-wait_on {script = script} {S = S} {t = t} o h going none alive =
-    if_cases (FitsDecision plain script t S) (count_at S.locks o == 0) _ _
+    if_cases (FitsDecision looking script t S) (count_at S.locks o == 0) _ _
     (λ _. fits-wait_at (Of word.Wait part.Do) refl o (WaitOn o t) (tame-moves _ refl refl) h going none (λ joins. record { alive = alive; joins = λ _. joins }))
     (λ some. fits-locked (Of word.Wait part.Do) refl (WaitOn o t) (tame-moves _ refl refl) h (record { alive = alive; joins = λ empty. absurd (cc (eq-eqb (count_at S.locks o) 0 empty)) }))
 
-fits-wait_do : {script : Script} {S : State} {t : ObjNo} {row : ThreadRow} {instr : Instr} (uses : Option ObjNo) → IsStepping script S t row instr → is_returning row.part ≡ false → row.uses ≡ uses → FitsDecision plain script t S (wait_do S t uses)
+fits-wait_do : {script : Script} {S : State} {t : ObjNo} {row : ThreadRow} {instr : Instr} (uses : Option ObjNo) → IsStepping script S t row instr → is_returning row.part ≡ false → row.uses ≡ uses → FitsDecision looking script t S (wait_do S t uses)
 fits-wait_do {script = script} {S = S} {t = t} None h going e = fits-nothing script S t
 fits-wait_do {S = S} {t = t} {row = row} (Some o) h going e = fits-unless (Of word.Wait part.Do) refl _ h (λ none. fits-wait_on o h going none (use_is_alive S t row o h.rows.lives h.is e))
 
-pub fits-wait : {script : Script} {S : State} {t : ObjNo} {row : ThreadRow} {instr : Instr} (x : ℕ) (p : Option Part) → IsStepping script S t row instr → is_returning row.part ≡ false → row.part ≡ p → FitsDecision plain script t S (wait_step S t row x p)
-fits-wait x None h going at = fits-unless (Of word.Wait part.Look) refl _ h (λ _. fits-look_kind Semaphore word.Wait x h (ap is_before_use at))
+pub fits-wait : {script : Script} {S : State} {t : ObjNo} {row : ThreadRow} {instr : Instr} (x : ℕ) (p : Option Part) → IsStepping script S t row instr → is_returning row.part ≡ false → row.part ≡ p → FitsDecision looking script t S (wait_step S t row x p)
+fits-wait x None h going at = fits-unless (Of word.Wait part.Look) refl _ h (λ _. fits-look_kind Semaphore word.Wait x refl h (ap is_before_use at))
 fits-wait {row = row} x (Some part.Do) h going at = fits-wait_do row.uses h going refl
 fits-wait x (Some _) h going at = fits-answer (Of word.Wait part.Done) refl (pos 0) h
 
 -- `signal`
-fits-signal_by : {script : Script} {S : State} {t : ObjNo} {row : ThreadRow} {instr : Instr} (o : ObjNo) (answer : Signalled) → IsStepping script S t row instr → IsAlive (object_of S o) → answer ≡ signal_answer (best_waiter (priority_of S) S.locks o) (count_at S.locks o) → FitsDecision plain script t S (signal_by t o answer)
+fits-signal_by : {script : Script} {S : State} {t : ObjNo} {row : ThreadRow} {instr : Instr} (o : ObjNo) (answer : Signalled) → IsStepping script S t row instr → IsAlive (object_of S o) → answer ≡ signal_answer (best_waiter (priority_of S) S.locks o) (count_at S.locks o) → FitsDecision looking script t S (signal_by t o answer)
 fits-signal_by {script = script} {S = S} {t = t} o answer h alive e = by answer (record { object = alive_inside S.objects o.0 alive; answer = e })
   where
-    by : (s : Signalled) → FitsLocks t (Signal o s) S → FitsDecision plain script t S (signal_by t o s)
+    by : (s : Signalled) → FitsLocks t (Signal o s) S → FitsDecision looking script t S (signal_by t o s)
     by signalled.Overflow fits = fits-refuse (Of word.Signal part.Do) refl error.Overflow h
     by signalled.Counted fits = fits-locked (Of word.Signal part.Do) refl (Signal o signalled.Counted) (tame-moves _ refl refl) h fits
     by (signalled.Woke w) fits =
         let best = woke_is (best_waiter (priority_of S) S.locks o) (count_at S.locks o) w (sym fits.answer) in
         fits-woken (Of word.Signal part.Do) refl (Signal o (signalled.Woke w)) w (tame-moves _ refl refl) h fits (struck_nowhere script S o w h.rows (greatest_listed (priority_of S) (waiters_at S.locks o) w best)) (waiter_uncalled script S o w h.rows (greatest_listed (priority_of S) (waiters_at S.locks o) w best))
 
-fits-signal_do : {script : Script} {S : State} {t : ObjNo} {row : ThreadRow} {instr : Instr} (uses : Option ObjNo) → IsStepping script S t row instr → row.uses ≡ uses → FitsDecision plain script t S (signal_do S t uses)
+fits-signal_do : {script : Script} {S : State} {t : ObjNo} {row : ThreadRow} {instr : Instr} (uses : Option ObjNo) → IsStepping script S t row instr → row.uses ≡ uses → FitsDecision looking script t S (signal_do S t uses)
 fits-signal_do {script = script} {S = S} {t = t} None h e = fits-nothing script S t
 fits-signal_do {S = S} {t = t} {row = row} (Some o) h e = fits-signal_by o _ h (use_is_alive S t row o h.rows.lives h.is e) refl
 
-pub fits-signal : {script : Script} {S : State} {t : ObjNo} {row : ThreadRow} {instr : Instr} (x : ℕ) (p : Option Part) → IsStepping script S t row instr → row.part ≡ p → FitsDecision plain script t S (signal_step S t row x p)
-fits-signal x None h at = fits-look_kind Semaphore word.Signal x h (ap is_before_use at)
+pub fits-signal : {script : Script} {S : State} {t : ObjNo} {row : ThreadRow} {instr : Instr} (x : ℕ) (p : Option Part) → IsStepping script S t row instr → row.part ≡ p → FitsDecision looking script t S (signal_step S t row x p)
+fits-signal x None h at = fits-look_kind Semaphore word.Signal x refl h (ap is_before_use at)
 fits-signal {row = row} x (Some p) h at = fits-signal_do row.uses h refl

@@ -51,7 +51,7 @@ use Rattle.machine_laws.proofs.Fitting.Stepping.{FitsDecision, FitsStep, by_kind
 use Rattle.machine_laws.proofs.Fitting.Uncalled.{logged_unsent, waiter_uncalled}
 use Rattle.machine_laws.proofs.Fitting.Waiters.{struck_nowhere, waits_nowhere}
 use Rattle.machine_laws.proofs.Fitting.Working.{IsGiven, OfFirst, empty_left, empty_right, first-all, first-both, fits-work, no-items, none-owned}
-use Rattle.machine_laws.proofs.Fitting.Regular.{kind_given, locking, plain, regular-moves, serving, tame, tame-at, tame-both, tame-moves}
+use Rattle.machine_laws.proofs.Fitting.Regular.{freeing, kind_given, plain, regular-moves, serving, tame, tame-at, tame-both, tame-moves}
 
 -- a doomed thread that acts: it waits for nothing, and isn't between a find and its return
 pub record IsDying (script : Script) (S : State) (t : ObjNo) (row : ThreadRow) : Type 0 where
@@ -62,7 +62,7 @@ pub record IsDying (script : Script) (S : State) (t : ObjNo) (row : ThreadRow) :
   pub going : is_returning row.part ≡ false
 
 -- a mutex that it holds
-gives-mutex : {script : Script} {S : State} {t : ObjNo} {row : ThreadRow} (o : ObjNo) → IsDying script S t row → 0 < times_held S.mutexes t o → FitsDecision locking script t S (give_up S t row (Mutex o))
+gives-mutex : {script : Script} {S : State} {t : ObjNo} {row : ThreadRow} (o : ObjNo) → IsDying script S t row → 0 < times_held S.mutexes t o → FitsDecision freeing script t S (give_up S t row (Mutex o))
 gives-mutex {script = script} {S = S} {t = t} {row = row} o h some = by (best_waiter (priority_of S) S.locks o) refl
   where
     made : o.0 < length S.objects
@@ -84,9 +84,9 @@ gives-mutex {script = script} {S = S} {t = t} {row = row} o h some = by (best_wa
       },
     )
 
-    by : (best : Option ObjNo) → best_waiter (priority_of S) S.locks o ≡ best → FitsDecision locking script t S (free_mutex t o best)
-    by None e = record { each = (fits None e, tt); told = omega arith; light = omega arith; regular = regular-moves _ refl (tame-at locking _ refl refl) }
-    by (Some w) e = record { each = (fits (Some w) e, ((struck_nowhere script S o w h.rows (greatest_listed (priority_of S) (waiters_at S.locks o) w e), waiter_uncalled script S o w h.rows (greatest_listed (priority_of S) (waiters_at S.locks o) w e)), tt)); told = omega arith; light = omega arith; regular = regular-moves _ refl (tame-at locking _ refl refl) }
+    by : (best : Option ObjNo) → best_waiter (priority_of S) S.locks o ≡ best → FitsDecision freeing script t S (free_mutex t o best)
+    by None e = record { each = (fits None e, tt); told = omega arith; light = omega arith; regular = regular-moves _ refl (tame-at freeing _ refl refl) }
+    by (Some w) e = record { each = (fits (Some w) e, ((struck_nowhere script S o w h.rows (greatest_listed (priority_of S) (waiters_at S.locks o) w e), waiter_uncalled script S o w h.rows (greatest_listed (priority_of S) (waiters_at S.locks o) w e)), tt)); told = omega arith; light = omega arith; regular = regular-moves _ refl (tame-at freeing _ refl refl) }
 
 -- a reference that it has
 loses : {script : Script} {S : State} {t : ObjNo} {row : ThreadRow} (holder : Holder) (o : ObjNo) → IsDying script S t row → Holds S holder o → EachFits script t (move.Lose holder o ∷ []) S
@@ -257,7 +257,7 @@ fits-clean {script = script} {S = S} {t = t} {row = row} h nothing paid = record
   each = ((record { row = row; is = h.is; at = h.doomed }, (dying_unheld h, λ r is. let same_row : row ≡ r = (let one = h.is in cc) in subst (IsSpent S.handles t.0) same_row spent, λ r is. let same_row : row ≡ r = (let one = h.is in cc) in subst (λ (x : ThreadRow). process_handles S t x.process ≡ []) same_row has.process, owns), refl), ((burial_inside script S.deferred row.role h.rows.deferred (h.rows.threads.rows t.0 row h.is).declared, refl), tt));
   told = omega arith;
   light = omega arith;
-  regular = record { answers = refl; dooms = λ v. refl; calm = λ _. refl; making = λ e. absurd (cc); sends = λ _. refl; cleans = λ e. absurd (cc); known = λ _. record { row = row; is = h.is; doomed = h.doomed; paid = paid; nothing = nothing; moves = refl } };
+  regular = record { answers = refl; dooms = λ v. refl; calm = λ _. refl; making = λ e. absurd (cc); sends = λ _. refl; cleans = λ e. absurd (cc); uses = λ u _. refl; known = λ _. record { row = row; is = h.is; doomed = h.doomed; paid = paid; nothing = nothing; moves = refl } };
 }
   where
     has : HasNothing S t row

@@ -45,7 +45,7 @@ use Rattle.machine_laws.proofs.Fitting.Stepping.{FitsDecision, IsStepping, at-wi
 use Rattle.machine_laws.proofs.Fitting.Steps.{room_left}
 use Rattle.machine_laws.proofs.Fitting.Uncalled.{stepping_uncalled}
 use Rattle.machine_laws.proofs.Fitting.Waiters.{stepping_nowhere}
-use Rattle.machine_laws.proofs.Fitting.Regular.{may_tell, plain, serving, tame-at, tame-moves}
+use Rattle.machine_laws.proofs.Fitting.Regular.{looking, may_tell, plain, serving, tame-at, tame-moves}
 
 -- a thread that makes a step may come to owe something, unless it comes back from a find
 pub owes_more : {script : Script} {S : State} {t : ObjNo} {row : ThreadRow} {instr : Instr} → IsStepping script S t row instr → is_returning row.part ≡ false → MayOweMore S t
@@ -73,7 +73,7 @@ fits-server {script = script} {S = S} {t = t} {row = row} name x h going =
         ) refl (omega arith) (omega arith)
 
 -- a message is taken
-fits-take : {script : Script} {S : State} {t : ObjNo} {row : ThreadRow} {instr : Instr} (told : Step) (named : may_tell plain told ≡ true) (o : ObjNo) (y : ℕ) (m : MsgNo) → IsStepping script S t row instr → is_returning row.part ≡ false → y < 8 → IsAlive (object_of S o) → FitsDecision plain script t S (take_message t told o y m)
+fits-take : {script : Script} {S : State} {t : ObjNo} {row : ThreadRow} {instr : Instr} (told : Step) (named : may_tell plain told ≡ true) (o : ObjNo) (y : ℕ) (m : MsgNo) → IsStepping script S t row instr → is_returning row.part ≡ false → y < 8 → IsAlive (object_of S o) → FitsDecision looking script t S (take_message t told o y m)
 fits-take {script = script} {S = S} {t = t} {row = row} told named o y m h going register alive =
     let made = alive_inside S.objects o.0 alive in
     let few = h.rows.sized.objects_few in
@@ -81,25 +81,25 @@ fits-take {script = script} {S = S} {t = t} {row = row} told named o y m h going
     (at-with_row script S (moved t (move.WriteMessage t y m.0) (moved t (move.Messages (Take o)) S)) t t (with_message y m.0) (record { role = λ r. refl; next = λ r. refl }) refl (at_instruction h)) (omega arith) (omega arith)
 
 -- `receive`
-fits-receive_do : {script : Script} {S : State} {t : ObjNo} {row : ThreadRow} {instr : Instr} (y : ℕ) (uses : Option ObjNo) → IsStepping script S t row instr → is_returning row.part ≡ false → y < 8 → row.uses ≡ uses → FitsDecision plain script t S (receive_do S t y uses)
+fits-receive_do : {script : Script} {S : State} {t : ObjNo} {row : ThreadRow} {instr : Instr} (y : ℕ) (uses : Option ObjNo) → IsStepping script S t row instr → is_returning row.part ≡ false → y < 8 → row.uses ≡ uses → FitsDecision looking script t S (receive_do S t y uses)
 fits-receive_do {script = script} {S = S} {t = t} y None h going register e = fits-nothing script S t
 fits-receive_do {script = script} {S = S} {t = t} {row = row} y (Some o) h going register e = fits-unless (Of word.Receive part.Do) refl _ h (λ none. by none (next_of S.messages o))
   where
-    by : held_by S.nano t ≡ None → (next : Option MsgNo) → FitsDecision plain script t S (receive_next t o y next)
+    by : held_by S.nano t ≡ None → (next : Option MsgNo) → FitsDecision looking script t S (receive_next t o y next)
     by none None = fits-later (Of word.Receive part.Do) refl (move.Wait t (waiting.Receive o)) h (record { told = omega arith; light = refl; calm = tame-moves _ refl refl })
         (none, stepping_nowhere h, live-changed S (moved t (move.GoOn t part.Done) S) t (with_part part.Done) (λ r. refl) refl (stepping_live h going), λ r at live. stepping_uncalled h going)
     by none (Some m) = fits-take (Of word.Receive part.Do) refl o y m h going register (use_is_alive S t row o h.rows.lives h.is e)
 
-fits-receive_done : {script : Script} {S : State} {t : ObjNo} {row : ThreadRow} {instr : Instr} (y : ℕ) (uses : Option ObjNo) → IsStepping script S t row instr → is_returning row.part ≡ false → y < 8 → row.uses ≡ uses → FitsDecision plain script t S (receive_done S t y uses)
+fits-receive_done : {script : Script} {S : State} {t : ObjNo} {row : ThreadRow} {instr : Instr} (y : ℕ) (uses : Option ObjNo) → IsStepping script S t row instr → is_returning row.part ≡ false → y < 8 → row.uses ≡ uses → FitsDecision looking script t S (receive_done S t y uses)
 fits-receive_done {script = script} {S = S} {t = t} y None h going register e = fits-nothing script S t
 fits-receive_done {script = script} {S = S} {t = t} {row = row} y (Some o) h going register e = by (next_of S.messages o)
   where
-    by : (next : Option MsgNo) → FitsDecision plain script t S (receive_came t o y next)
+    by : (next : Option MsgNo) → FitsDecision looking script t S (receive_came t o y next)
     by None = fits-nothing script S t
     by (Some m) = fits-take (Of word.Receive part.Done) refl o y m h going register (use_is_alive S t row o h.rows.lives h.is e)
 
-pub fits-receive : {script : Script} {S : State} {t : ObjNo} {row : ThreadRow} (x y : ℕ) (p : Option Part) → IsStepping script S t row (instr.Receive x y) → is_returning row.part ≡ false → row.part ≡ p → FitsDecision plain script t S (receive_step S t row x y p)
-fits-receive x y None h going at = fits-unless (Of word.Receive part.Look) refl _ h (λ _. fits-look_kind kind.Server word.Receive x h (ap is_before_use at))
+pub fits-receive : {script : Script} {S : State} {t : ObjNo} {row : ThreadRow} (x y : ℕ) (p : Option Part) → IsStepping script S t row (instr.Receive x y) → is_returning row.part ≡ false → row.part ≡ p → FitsDecision looking script t S (receive_step S t row x y p)
+fits-receive x y None h going at = fits-unless (Of word.Receive part.Look) refl _ h (λ _. fits-look_kind kind.Server word.Receive x refl h (ap is_before_use at))
 fits-receive {row = row} x y (Some part.Do) h going at = fits-receive_do y row.uses h going h.registers.1 refl
 fits-receive {row = row} x y (Some _) h going at = fits-receive_done y row.uses h going h.registers.1 refl
 
@@ -123,9 +123,9 @@ fits-complete {script = script} {S = S} {t = t} {row = row} y code h going = by 
         fits-answers (Of word.Complete part.Do) refl (finish S message code) (pos 0) done.calm done.each (stay-perform script t (finish S message code) S (stay-finish script S t message code) (at_instruction h)) (let few = done.told in omega arith) (let few = done.light in omega arith)
 
 -- `function`
-pub fits-function : {script : Script} {S : State} {t : ObjNo} {row : ThreadRow} {instr : Instr} (y : ℕ) → IsStepping script S t row instr → FitsDecision plain script t S (function_do S t row y)
+pub fits-function : {script : Script} {S : State} {t : ObjNo} {row : ThreadRow} {instr : Instr} (y : ℕ) → IsStepping script S t row instr → FitsDecision looking script t S (function_do S t row y)
 fits-function {script = script} {S = S} {t = t} {row = row} y h = by (message_at S t row y)
   where
-    by : (found : Option Message) → FitsDecision plain script t S (function_of t found)
+    by : (found : Option Message) → FitsDecision looking script t S (function_of t found)
     by None = fits-refuse (Of word.Function part.Do) refl error.BadHandle h
     by (Some message) = fits-answer (Of word.Function part.Do) refl message.row.function h

@@ -63,7 +63,7 @@ use Rattle.machine_laws.proofs.Fitting.Stepping.{FitsDecision, IsStepping, at_in
 use Rattle.machine_laws.proofs.Fitting.Steps.{handle_named, room_left}
 use Rattle.machine_laws.proofs.Fitting.Uncalled.{not_sent, stepping_uncalled}
 use Rattle.machine_laws.proofs.Fitting.Waiters.{stepping_nowhere}
-use Rattle.machine_laws.proofs.Fitting.Regular.{kind_of, may_tell, plain, regular-moves, serving, tame-at, tame-both, tame-moves}
+use Rattle.machine_laws.proofs.Fitting.Regular.{kind_of, looking, may_tell, regular-moves, serving, tame-at, tame-both, tame-moves}
 
 -- a session is made, where the server is one and isn't closing
 module _ (script : Script) (S : State) (t : ObjNo) (row : ThreadRow) (instr : Instr) (o : ObjNo) (slots : Slots) (h : IsStepping script S t row instr) (going : is_returning row.part ≡ false) (server : ServerRow) (is : server_at S.servers o ≡ Some server) (accepts : server.is_closing ≡ false) (room : length S.objects < OBJECTS) (alive : IsAlive (object_of S o)) (first : begun row.part ≡ 0) where
@@ -250,8 +250,8 @@ fits-connect {row = row} name slots x (Some part.Make) h going at = fits-connect
 fits-connect {S = S} {t = t} {row = row} name slots x (Some part.Send) h going at = fits-connect_send (session_made S t row) h going at refl
 fits-connect {S = S} {t = t} {row = row} name slots x (Some _) h going at = fits-connect_done x (session_made S t row) h going h.registers refl
 
-pub fits-connect_return : {script : Script} {S : State} {t : ObjNo} {row : ThreadRow} {instr : Instr} → IsStepping script S t row instr → is_before_use row.part ≡ true → FitsDecision plain script t S (connect_return S t row)
-fits-connect_return h before = fits-return word.Connect part.Make h before refl tt
+pub fits-connect_return : {script : Script} {S : State} {t : ObjNo} {row : ThreadRow} {instr : Instr} → IsStepping script S t row instr → is_before_use row.part ≡ true → FitsDecision looking script t S (connect_return S t row)
+fits-connect_return h before = fits-return word.Connect part.Make refl h before refl tt
 
 -- `send`
 fits-send_to : {script : Script} {S : State} {t : ObjNo} {row : ThreadRow} {instr : Instr} (s : ObjNo) (function : ℤ) (y : ℕ) (args : List Arg) (server : Option ObjNo) → IsStepping script S t row instr → is_returning row.part ≡ false → begun row.part ≡ 0 → y < 16 → is_pending S.requests t y ≡ false → length args ≡ 4 → IsAlive (object_of S s) → open_server S s ≡ server → FitsDecision serving script t S (send_to S t s function y args server)
@@ -285,7 +285,7 @@ fits-send_to {script = script} {S = S} {t = t} {row = row} s function y args (So
 
 pub fits-send : {script : Script} {S : State} {t : ObjNo} {row : ThreadRow} (x n y : ℕ) (args : Args) (p : Option Part) → IsStepping script S t row (instr.Send x n y args) → is_returning row.part ≡ false → row.part ≡ p → FitsDecision (kind_of (instr.Send x n y args) p) script t S (send_step S t row x n y args p)
 fits-send {script = script} {S = S} {t = t} x n y args None h going at =
-    if_cases (FitsDecision plain script t S) (is_pending S.requests t y) _ _ (λ _. fits-refuse (Of word.Send part.Look) refl error.InUse h) (λ _. fits-look_kind kind.Session word.Send x h (ap is_before_use at))
+    if_cases (FitsDecision looking script t S) (is_pending S.requests t y) _ _ (λ _. fits-refuse (Of word.Send part.Look) refl error.InUse h) (λ _. fits-look_kind kind.Session word.Send x refl h (ap is_before_use at))
 fits-send {script = script} {S = S} {t = t} x n y args (Some part.Done) h going at = fits-nothing script S t
 fits-send {script = script} {S = S} {t = t} {row = row} x n y args (Some p) h going at = over row.uses refl
   where
@@ -308,7 +308,7 @@ fits-call_to {script = script} {S = S} {t = t} s function args (Some o) h going 
     }
 
 pub fits-call : {script : Script} {S : State} {t : ObjNo} {row : ThreadRow} {i : Instr} (x n : ℕ) (args : Args) (p : Option Part) → IsStepping script S t row i → is_returning row.part ≡ false → row.part ≡ p → FitsDecision (kind_of (instr.Call x n args) p) script t S (call_step S t row x n args p)
-fits-call x n args None h going at = fits-unless (Of word.Call part.Look) refl _ h (λ _. fits-look_kind kind.Session word.Call x h (ap is_before_use at))
+fits-call x n args None h going at = fits-unless (Of word.Call part.Look) refl _ h (λ _. fits-look_kind kind.Session word.Call x refl h (ap is_before_use at))
 fits-call {script = script} {S = S} {t = t} {row = row} x n args (Some part.Do) h going at = over row.uses refl
   where
     over : (uses : Option ObjNo) → row.uses ≡ uses → FitsDecision serving script t S (call_do S t (pos n) (args_of args) uses)

@@ -40,12 +40,12 @@ use Rattle.move_laws.proofs.Lists.Totals.{total_at_least, inside}
 use Rattle.std.proofs.lemmas.Bool.{eq-eqb}
 
 -- a look at a handle
-pub fits-look : {k : Kinds} {script : Script} {S : State} {t : ObjNo} {row : ThreadRow} {instr : Instr} (word : Word) (x : ℕ) → IsStepping script S t row instr → is_before_use row.part ≡ true → FitsDecision k script t S (look S t row word x)
-fits-look {k = k} {script = script} {S = S} {t = t} {row = row} word x h before = found (object_at S t row (slice_index row.registers x)) refl
+pub fits-look : {k : Kinds} {script : Script} {S : State} {t : ObjNo} {row : ThreadRow} {instr : Instr} (word : Word) (x : ℕ) → k.uses ≡ true → IsStepping script S t row instr → is_before_use row.part ≡ true → FitsDecision k script t S (look S t row word x)
+fits-look {k = k} {script = script} {S = S} {t = t} {row = row} word x uses h before = found (object_at S t row (slice_index row.registers x)) refl
   where
     found : (named : Option ObjNo) → object_at S t row (slice_index row.registers x) ≡ named → FitsDecision k script t S (look_at t word named)
     found None e = fits-refuse (Of word Look) refl BadHandle h
-    found (Some o) e = fits-use (Of word Look) refl o Do h before refl tt (handle_is_alive S _ _ o h.rows.lives (object_of_is _ _ _ o e))
+    found (Some o) e = fits-use (Of word Look) refl o Do uses h before refl tt (handle_is_alive S _ _ o h.rows.lives (object_of_is _ _ _ o e))
 
 -- a find by name
 pub fits-seek : {k : Kinds} {script : Script} {S : State} {t : ObjNo} {row : ThreadRow} {instr : Instr} (word : Word) (kind : Kind) (name : List ℕ) → IsStepping script S t row instr → is_before_use row.part ≡ true → FitsDecision k script t S (seek S t word kind name)
@@ -56,10 +56,10 @@ fits-seek {k = k} {script = script} {S = S} {t = t} word kind name h before = fo
     found (Some o) e = record { each = (may_go_on Return h before tt, (found_inside S kind name o e, tt)); told = omega arith; light = omega arith; regular = tame _ refl }
 
 -- and its return
-pub fits-return : {k : Kinds} {script : Script} {S : State} {t : ObjNo} {row : ThreadRow} {instr : Instr} (word : Word) (part : Part) → IsStepping script S t row instr → is_before_use row.part ≡ true → is_before_use (Some part) ≡ false → MaySend (Some part) S → FitsDecision k script t S (return_to S t row word part)
-fits-return {k = k} {script = script} {S = S} {t = t} {row = row} word part h before later sends =
+pub fits-return : {k : Kinds} {script : Script} {S : State} {t : ObjNo} {row : ThreadRow} {instr : Instr} (word : Word) (part : Part) → k.uses ≡ true → IsStepping script S t row instr → is_before_use row.part ≡ true → is_before_use (Some part) ≡ false → MaySend (Some part) S → FitsDecision k script t S (return_to S t row word part)
+fits-return {k = k} {script = script} {S = S} {t = t} {row = row} word part uses h before later sends =
     if_cases (FitsDecision k script t S) (is_open (object_of S (found_object row))) _ _
-    (λ e. fits-use (Of word Return) refl (found_object row) part h before later sends (open_is_alive (object_of S (found_object row)) e))
+    (λ e. fits-use (Of word Return) refl (found_object row) part uses h before later sends (open_is_alive (object_of S (found_object row)) e))
     (λ _. missed (is_live row.stage))
   where
     missed : (live : Bool) → FitsDecision k script t S (miss t word part (found_object row) live)

@@ -38,7 +38,7 @@ use Rattle.move_laws.proofs.Holders.ThreadRows.{row-here}
 use Rattle.move_laws.proofs.Lists.Totals.{inside, total-append, total-with}
 use Rattle.move_laws.proofs.Numbers.FewEffects.{tell_few}
 use Rattle.move_laws.proofs.RowLaws.Threads.{row-kept, map_some}
-use Rattle.machine_laws.proofs.Fitting.Regular.{IsRegular, IsTame, Kinds, may_tell, regular-answer, tame, tame-both, tame-moves}
+use Rattle.machine_laws.proofs.Fitting.Regular.{IsRegular, IsTame, Kinds, may_tell, regular-answer, regular-use, tame, tame-both, tame-moves}
 
 -- the moves of a decision fit, what they tell and owe is little, and it is regular for its kind
 pub record FitsDecision (k : Kinds) (script : Script) (t : ObjNo) (S : State) (d : Decision) : Type 0 where
@@ -156,12 +156,12 @@ may_go_on {S = S} {t = t} {row = row} part h before sends = (
 )
 
 -- and uses an object from then on
-pub fits-use : {k : Kinds} {script : Script} {S : State} {t : ObjNo} {row : ThreadRow} {instr : Instr} (told : Step) (named : may_tell k told ≡ true) (o : ObjNo) (part : Part) → IsStepping script S t row instr → is_before_use row.part ≡ true → is_before_use (Some part) ≡ false → MaySend (Some part) S → IsAlive (object_of S o) → FitsDecision k script t S (go_on t told (Gain (Temp t) o) part)
-fits-use {script = script} {S = S} {t = t} {row = row} told named o part h before later sends alive = record {
+pub fits-use : {k : Kinds} {script : Script} {S : State} {t : ObjNo} {row : ThreadRow} {instr : Instr} (told : Step) (named : may_tell k told ≡ true) (o : ObjNo) (part : Part) → k.uses ≡ true → IsStepping script S t row instr → is_before_use row.part ≡ true → is_before_use (Some part) ≡ false → MaySend (Some part) S → IsAlive (object_of S o) → FitsDecision k script t S (go_on t told (Gain (Temp t) o) part)
+fits-use {script = script} {S = S} {t = t} {row = row} told named o part uses h before later sends alive = record {
   each = (may_go_on part h before sends, ((free, alive), tt));
   told = omega arith;
   light = omega arith;
-  regular = tame _ named;
+  regular = regular-use t told o part named uses;
 }
   where
     free : IsFree (moved t (GoOn t part) S) (Temp t)

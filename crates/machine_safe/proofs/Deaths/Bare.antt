@@ -1,5 +1,5 @@
 -- A cleaned thread has no mutex, no logon and no server from then on.
-use Rattle.std.proofs.Common.{◌≡◌, inl, inr, ℕ, zero, suc, ◌<◌, length, List, [], ◌∷◌, map, get_or, arith, refl, sym, ap, ◌∙◌, Some, None, false}
+use Rattle.std.proofs.Common.{◌≡◌, inl, inr, ℕ, zero, suc, ◌<◌, length, List, [], ◌∷◌, map, get_or, arith, refl, sym, ap, ◌∙◌, None}
 use Rattle.std.proofs.lemmas.Bool.{cases_eq}
 use Rattle.std.proofs.lemmas.List.{get_or-set_other}
 use Rattle.sym_base.specs.declared.number.ObjNo.{ObjNo}
@@ -10,9 +10,6 @@ use Rattle.entry_log.specs.declared.entry.Actor.{Actor}
 use Rattle.entry_log.specs.declared.entry.Entry.{Entry}
 use Rattle.state_rows.specs.declared.duty.Owed.{Owed}
 use Rattle.state_rows.specs.declared.duty.Owed.TheVariants.{Close, Sweep}
-use Rattle.state_rows.specs.declared.thread.Stage.{Stage}
-use Rattle.state_rows.specs.declared.thread.Stage.TheVariants.{Live, Doomed, Cleaned, Buried}
-use Rattle.state_rows.specs.declared.thread.ThreadRow.{ThreadRow}
 use Rattle.machine.specs.declared.logon_move.LogonMove.TheVariants as logon
 use Rattle.machine.specs.declared.moves.Move.{Move}
 use Rattle.machine.specs.declared.moves.Move.TheVariants.{Logons, Lose, Make, Pay}
@@ -24,12 +21,12 @@ use Rattle.machine.specs.LogonMoves.{logons_on, without_logon, without_maker}
 use Rattle.machine.specs.Moves.{moved}
 use Rattle.machine.specs.References.{mutex_names, total}
 use Rattle.machine.specs.Rows.{owed_of, thread_of}
-use Rattle.machine.specs.WellFormed.{AreRows, is_spent, times_held}
+use Rattle.machine.specs.WellFormed.{AreRows, times_held}
 use Rattle.machine_laws.proofs.Fitting.Reaping.{has-nothing}
 use Rattle.move_laws.proofs.Lists.Sets.{set_either}
 use Rattle.machine_safe.proofs.Deaths.Moves.{dies-move, dies-pay, is-left}
 use Rattle.machine_safe.proofs.Deaths.Order.{Cleans, after-cleaning, left-after}
-use Rattle.machine_safe.proofs.Deaths.Rows.{WasIn, live-left, row_bit}
+use Rattle.machine_safe.proofs.Deaths.Rows.{live-left, row_bit}
 use Rattle.machine_safe.proofs.Deaths.Runs.{kept-next}
 use Rattle.entry_log.specs.declared.effect.Holder.TheVariants.{Own}
 use Rattle.machine.specs.ServerMoves.{owned_by}

@@ -1,5 +1,5 @@
 -- From its cleaning on a thread doesn't act, gets no reference of its own, owes nothing and has nothing left.
-use Rattle.std.proofs.Common.{Option, Bool, false, ◌≤◌, ◌≡◌, inl, inr, ℕ, zero, suc, ◌+◌, ◌<◌, List, [], ◌∷◌, ◌++◌, map, replicate, get_or, arith, refl, sym, ap, subst, ◌∙◌, Some, None, Bool, true, false}
+use Rattle.std.proofs.Common.{Option, Bool, false, ◌≡◌, inl, inr, ℕ, zero, suc, ◌+◌, ◌<◌, List, [], ◌∷◌, ◌++◌, map, replicate, get_or, arith, refl, sym, ap, subst, ◌∙◌, Some, None, Bool, true, false}
 use Rattle.std.specs.Prelude.{◌==◌, if◌then◌else◌}
 use Rattle.std.proofs.lemmas.Bool.{eqb-true}
 use Rattle.sym_base.specs.declared.number.ObjNo.{ObjNo}

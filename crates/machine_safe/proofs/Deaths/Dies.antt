@@ -1,5 +1,5 @@
 -- What moves tell of deaths, in one record, and its composition.
-use Rattle.std.proofs.Common.{◌≡◌, ℕ, ◌+◌, ◌≤◌, List, ◌++◌, arith, ap, ◌∙◌, Option, Some, None, true, get_or, [], ◌∷◌, suc, zero, refl, Bool, false}
+use Rattle.std.proofs.Common.{◌≡◌, ℕ, ◌+◌, ◌≤◌, List, ◌++◌, arith, ap, ◌∙◌, Option, Some, None, true, get_or, [], ◌∷◌, suc, refl, Bool, false}
 use Rattle.sym_base.specs.declared.number.ObjNo.{ObjNo}
 use Rattle.entry_log.specs.declared.effect.Effect.{Effect}
 use Rattle.entry_log.specs.declared.effect.Holder.{Holder}

@@ -1,7 +1,7 @@
 -- What moves of fast mutexes and of mutexes tell of who has which lock.
 use Rattle.std.proofs.Common.{◌≡◌, inl, inr, ℕ, ◌+◌, ◌<◌, List, [], ◌∷◌, length, get_or, set, arith, refl, sym, ap, ◌∙◌, Option, Some, None, Bool, true, false, subst}
 use Rattle.std.specs.Prelude.{◌==◌, if◌then◌else◌, is_none, is_some}
-use Rattle.std.proofs.lemmas.Bool.{cases_eq, eq-eqb, eqb-true}
+use Rattle.std.proofs.lemmas.Bool.{cases_eq, eq-eqb}
 use Rattle.std.proofs.lemmas.List.{get_or-set_same, get_or-set_other, length-set}
 use Rattle.sym_base.specs.declared.number.ObjNo.{ObjNo}
 use Rattle.script_types.specs.declared.script.Script.{Script}
@@ -28,7 +28,6 @@ use Rattle.machine.specs.declared.state.State.{State}
 use Rattle.machine.specs.Choice.{priority_of}
 use Rattle.machine.specs.Fits.{FitsMove}
 use Rattle.machine.specs.Holding.{is_holder as is_one, same_pair}
-use Rattle.machine.specs.Holdings.{stage_left}
 use Rattle.machine.specs.LockMoves.{holding, lock_moved, lock_told, mutexes_moved, not_holding, owed_moved}
 use Rattle.machine.specs.Moves.{moved}
 use Rattle.machine.specs.NanoMoves.{nano_told}
@@ -41,7 +40,7 @@ use Rattle.move_laws.proofs.Readiness.FirstReady.{greatest_listed}
 use Rattle.move_laws.proofs.References.Mutexes.{held-holding, held-not_holding}
 use Rattle.move_laws.proofs.References.Same.{eqb_apart, if_is, if_not, same_is, same_object}
 use Rattle.move_laws.proofs.RowLaws.Locks.{thread_inside}
-use Rattle.machine_safe.specs.SafeDeaths.{burials, dooms, gives, is_lock, is_own, signals, takes}
+use Rattle.machine_safe.specs.SafeDeaths.{burials, dooms, gives, is_lock, signals, takes}
 use Rattle.machine_safe.proofs.Deaths.Dies.{Dies, GainsNone, IsBarred, IsCalm, dies-calm, lock_bit}
 use Rattle.machine_safe.proofs.Deaths.Rows.{keeps-same, live-left, row_bit, stage_live}
 use Rattle.machine_safe.proofs.Held.{is_holder_is}

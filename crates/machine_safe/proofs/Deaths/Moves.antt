@@ -1,7 +1,6 @@
 -- What each move tells of deaths.
 use Rattle.std.proofs.Common.{◌≡◌, ◌<◌, List, [], ◌∷◌, length, arith, refl, sym, ap, subst, ◌∙◌, Option, Some, None, Bool, true, false}
 use Rattle.std.specs.Prelude.{ℤ, ◌==◌, if◌then◌else◌, is_some}
-use Rattle.std.proofs.lemmas.Bool.{eqb-true}
 use Rattle.sym_base.specs.declared.number.MsgNo.{MsgNo}
 use Rattle.sym_base.specs.declared.number.ObjNo.{ObjNo}
 use Rattle.script_types.specs.declared.script.Script.{Script}
@@ -41,8 +40,7 @@ use Rattle.machine.specs.WellFormed.{AreRows, IsLiveThread, is_spent}
 use Rattle.state_rows.specs.MessageChanges.{next_number}
 use Rattle.state_rows.specs.declared.requests.RequestRows.{RequestRows}
 use Rattle.move_laws.proofs.MoveLaws.Pays.{sweep-unheld}
-use Rattle.move_laws.proofs.References.Same.{if_zero, same_object}
-use Rattle.machine_safe.specs.SafeDeaths.{is_own}
+use Rattle.move_laws.proofs.References.Same.{if_zero}
 use Rattle.machine_safe.proofs.Deaths.Dies.{Dies, GainsNone, IsBarred, IsCalm, dies-calm}
 use Rattle.machine_safe.proofs.Deaths.LockMoves.{calm-none, dies-locks, dies-nano, gains-own, only-live}
 use Rattle.machine_safe.proofs.Deaths.Rows.{KeepsRows, bit-less, bit-swept, held-is, keeps-same, keeps-then, keeps-with_row, left-held, live-left, row_bit, stage_live, were-swept, were-with_row}

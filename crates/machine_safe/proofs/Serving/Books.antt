@@ -10,7 +10,6 @@ use Rattle.machine.specs.Interrupts.{done_by, immediate, immediate_plan, interru
 use Rattle.machine.specs.Moves.{perform, tell}
 use Rattle.machine.specs.References.{total}
 use Rattle.machine.specs.Rows.{thread_of}
-use Rattle.machine.specs.Task.{instruction, instructions_of}
 use Rattle.machine.specs.Tick.{tick}
 use Rattle.machine.specs.Transition.{act, idle}
 use Rattle.machine.specs.WellFormed.{AreRows}
@@ -25,7 +24,7 @@ use Rattle.machine_laws.proofs.Fitting.Bodies.{Goes}
 use Rattle.machine_laws.proofs.Fitting.Interrupts.{goes-immediate, goes-interrupt, light-immediate, light-interrupt}
 use Rattle.machine_laws.proofs.Fitting.Regular.{IsRegular, IsTame, Kinds, advance_bit, plain, tame-moves}
 use Rattle.machine_safe.proofs.Deaths.Rows.{row_bit, stage_live}
-use Rattle.machine_safe.proofs.Serving.Deeds.{OfEach, calm}
+use Rattle.machine_safe.proofs.Serving.Deeds.{Looked, OfEach, calm}
 use Rattle.machine_safe.proofs.Serving.Doing.{Doing, doing, doing-by, keeps-doing, lost-doing, quiet-doing}
 use Rattle.machine_safe.proofs.Serving.Fated.{doom-among, doom-told}
 use Rattle.machine_safe.proofs.Serving.Finished.{turn-finishes}
@@ -37,10 +36,10 @@ use Rattle.machine_safe.proofs.Serving.Served.{served-keeps, served-made, served
 use Rattle.machine_safe.proofs.Serving.Founding.{turn-makes}
 use Rattle.machine_safe.proofs.Serving.Joining.{turn-joins}
 use Rattle.machine_safe.proofs.Serving.Stopping.{turn-closes, turn-stops}
-use Rattle.machine_safe.proofs.Serving.Turns.{Book, IsTurn, entry_for, turn-keeps, unserving}
+use Rattle.machine_safe.proofs.Serving.Turns.{at-instruction, Book, IsTurn, entry_for, turn-keeps, unserving}
 use Rattle.machine_safe.specs.CountAfter.{effects_of, is_by}
 use Rattle.machine_safe.specs.SafeDeaths.{dooms}
-use Rattle.machine_safe.specs.Sent.{answers, at_place, instruction_in}
+use Rattle.machine_safe.specs.Sent.{instruction_in}
 use Rattle.machine_safe.specs.Served.{closes_handle, handles_lost}
 use Rattle.move_laws.proofs.Lists.Contents.{none_contained}
 use Rattle.move_laws.proofs.Lists.Copies.{copy_at}
@@ -52,9 +51,8 @@ use Rattle.state_rows.specs.Deferred.{next_immediate}
 use Rattle.state_rows.specs.ServerRows.{link_of}
 use Rattle.state_rows.specs.declared.deferred.Item.{Item}
 use Rattle.state_rows.specs.declared.servers.ServerRow.{ServerRow}
-use Rattle.state_rows.specs.declared.thread.Role.{Role}
 use Rattle.state_rows.specs.declared.thread.ThreadRow.{ThreadRow}
-use Rattle.std.proofs.Common.{Bool, List, None, Option, Some, [], arith, false, inr, refl, subst, sym, ℕ, ◌++◌, ◌+◌, ◌∙◌, ◌∷◌, ◌≡◌, ap, ℤ, true}
+use Rattle.std.proofs.Common.{Bool, List, None, Option, Some, [], arith, false, inr, refl, subst, sym, ℕ, ◌++◌, ◌+◌, ◌∷◌, ◌≡◌, ap, ℤ, true}
 use Rattle.std.specs.Prelude.{if◌then◌else◌, is_some, slice_get, ◌&&◌, ◌==◌}
 use Rattle.sym_base.specs.declared.limits.TheConstants.Limits.{OBJECTS}
 use Rattle.sym_base.specs.declared.number.ObjNo.{ObjNo}
@@ -103,18 +101,12 @@ turn-without script before S place t actor d rows book nobody silent unsent calm
 abbrev pub IsFated : List Entry → State → Type 0
 IsFated before S = (u : ObjNo) (row : ThreadRow) → thread_of S u ≡ Some row → row_bit stage_live (Some row) + dooms (effects_of before) u ≡ 1
 
--- a thread is at the instruction of its place
-at-instruction : (script : Script) (before : List Entry) (S : State) (t : ObjNo) (row : ThreadRow) → Book script before S → thread_of S t ≡ Some row → instruction_in script before t ≡ instruction script row
-at-instruction script before S t row book is =
-    let p = book.served.places t.0 row is in
-    ap (at_place script (answers before t)) p.is ∙ (ap (λ (n : ℕ). slice_get (instructions_of script p.first.role) n) (sym p.place) ∙ ap (λ (r : Role). slice_get (instructions_of script r) row.next_instruction) p.role)
-
-module _ (script : Script) (before : List Entry) (S : State) (place : ℕ) (shaped : IsShaped script) (rows : AreRows script S) (book : Book script before S) (fate : IsFated before S) where
+module _ (script : Script) (before : List Entry) (S : State) (place : ℕ) (shaped : IsShaped script) (rows : AreRows script S) (book : Book script before S) (looked : Looked script before S) (fate : IsFated before S) where
   -- an action of a thread
   each-turn : (t : ObjNo) → OfEach S t (instruction_in script before t) (λ (d : Decision). (k : Kinds) → IsRegular k script S t d → Doing script S t d.moves → IsTurn script before (entry_for place t S d) (perform t d.moves S))
   each-turn t = record {
-    keeps = λ d is k regular. turn-keeps script before S place t rows book d regular is;
-    sends = λ d is k regular. turn-sends script before S place t rows book d regular is;
+    keeps = λ d is k regular. turn-keeps script before S place t rows book d regular looked is;
+    sends = λ d is k regular. turn-sends script before S place t rows book looked d regular is;
     finishes = λ d is k regular does. turn-finishes script before S place t rows book d regular is does fate;
     makes = λ d is k regular does. turn-makes script before S place t rows book d regular is does (λ u live. let a = fate u live.row live.is in let b = ap stage_live live.live in omega arith);
     joins = λ d is k regular. turn-joins script before S place t rows book d regular is;
@@ -184,7 +176,6 @@ book-boot script shaped = record {
     over = λ u o some. absurd (omega arith);
     made = λ t o is. absurd (cc);
     unmade = λ o past. refl;
-    uses = λ u o row is used. let none = (born_row script _ (born script) u.0 row (each_born script shaped) is).uses in absurd (cc);
     told_made = λ s v is. absurd (cc);
     told_linked = λ s v is alive. absurd (cc);
     places = λ k row is. record { first = row; is = is; role = refl; place = (born_row script _ (born script) k row (each_born script shaped) is).next_instruction };

@@ -12,7 +12,7 @@ use Rattle.machine.specs.declared.moves.Move.TheVariants.{Lose, Servers}
 use Rattle.machine.specs.declared.server_move.ServerMove.TheVariants.{End, Close}
 use Rattle.machine.specs.declared.state.State.{State}
 use Rattle.machine_safe.proofs.Deaths.EffectSums.{dooms-append}
-use Rattle.machine_safe.proofs.Serving.EffectSums.{ends-append, server_told-append, used_told-append}
+use Rattle.machine_safe.proofs.Serving.EffectSums.{ends-append, server_told-append}
 use Rattle.machine_safe.proofs.Serving.Keeps.{Keeps, closing-row, keeps-closing, steps_of, there-row}
 use Rattle.machine_safe.proofs.Serving.KeptRows.{at-closed, closed-long, closing-was, link-closed}
 use Rattle.machine_safe.proofs.Serving.Reading.{Reading, closing_by, further}
@@ -34,8 +34,7 @@ use Rattle.std.proofs.lemmas.Bool.{cases_eq, eq-eqb}
 use Rattle.std.specs.Prelude.{if◌then◌else◌, is_some, nat_lt, ◌==◌}
 use Rattle.sym_base.specs.declared.number.ObjNo.{ObjNo}
 use Rattle.machine_safe.proofs.Serving.Acting.{undetached}
-use Rattle.machine_safe.proofs.Serving.KeptUses.{alive-closed, linked-closed, unused-close, using-closed}
-use Rattle.machine_safe.specs.Slotted.{used_told}
+use Rattle.machine_safe.proofs.Serving.KeptUses.{alive-closed, linked-closed}
 use Rattle.machine.specs.EntryWords.{is_handle, makes_server}
 
 -- what a close of a handle tells
@@ -137,10 +136,6 @@ module _ (script : Script) (r : Reading) (S : State) (t : ObjNo) (done : Step) (
           let w = k.threads n row is in
           let old = h.places n w.old w.was in
           record { first = old.first; is = old.is; role = old.role ∙ w.role; place = let a = w.place in let b = old.place in omega arith };
-      uses = λ u o row is used. elim (k.uses u o row is used) as (λ _. used_told (r.effects ++ fs) u ≡ Some o) [
-        | inl now ↦ used_told-append r.effects fs u ∙ ap (λ (x : Option ObjNo). or_before x (used_told r.effects u)) now
-        | inr same ↦ used_told-append r.effects fs u ∙ (ap (λ (x : Option ObjNo). or_before x (used_told r.effects u)) same.0 ∙ h.uses u o same.1.old same.1.was same.1.uses)
-      ];
       told_made = λ s o is. let more = k.objects in let inside = h.told_made s o (told_first s o is) in omega arith;
       told_linked = λ s o is alive.
           let was = told_first s o is in
@@ -242,9 +237,6 @@ module _ (script : Script) (r : Reading) (S : State) (t : ObjNo) (done : Step) (
           let w = at-closed last v S.threads n row is in
           let old = h.places n w.old w.was in
           record { first = old.first; is = old.is; role = old.role ∙ w.role; place = let a = w.place in let b = old.place in omega arith };
-      uses = λ u o row is used.
-          let w = using-closed last v S.threads u o row is used in
-          used_told-append r.effects told_then u ∙ (ap (λ (x : Option ObjNo). or_before x (used_told r.effects u)) (unused-close last (Own t) v u) ∙ h.uses u o w.old w.was w.uses);
       told_made = λ s o is. let a = closed-long last v S.objects in let inside = h.told_made s o (told_earlier s o is) in omega arith;
       told_linked = λ s o is alive. elim (h.told_linked s o (told_earlier s o is) (alive-closed last v S.objects s alive)) as (λ _. (server_of stopped.servers s ≡ Some o) ⊎ (is_closing stopped.servers o ≡ true)) [
         | inl linked ↦ elim (linked-closed last v S.objects S.servers s o linked) as (λ _. (server_of stopped.servers s ≡ Some o) ⊎ (is_closing stopped.servers o ≡ true)) [

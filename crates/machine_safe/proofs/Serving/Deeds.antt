@@ -36,6 +36,11 @@ use Rattle.state_rows.specs.declared.thread.ThreadRow.{ThreadRow}
 use Rattle.sym_base.specs.ErrorCode.{error_code}
 use Rattle.sym_base.specs.declared.error.Error.TheVariants.{ServerBusy, ServerTerminated}
 use Rattle.machine.specs.EntryWords.{is_handle, is_send, makes_server}
+use Rattle.entry_log.specs.declared.entry.Entry.{Entry}
+use Rattle.machine.specs.Task.{instruction}
+use Rattle.machine_safe.specs.Slotted.{looked_in}
+use Rattle.script_types.specs.declared.instruction.Instr.TheVariants as instr
+use Rattle.script_types.specs.declared.script.Script.{Script}
 
 -- what stands behind the moves of a call that answers
 abbrev pub behind : Bool → ObjNo → List Move
@@ -56,8 +61,18 @@ ClosesOthers S d = closes_handle d.step ≡ true → (v : ObjNo) → 0 < total (
 abbrev pub Detaches : State → Decision → Type 0
 Detaches S d = (v : ObjNo) → 0 < total (detach_bit v) d.moves → is_closing S.servers v ≡ true
 
+-- whether an instruction is a `send`
+abbrev pub at_send : Option Instr → Bool
+at_send (Some (instr.Send x function y args)) = true
+at_send _ = false
+
+-- a thread that uses an object at a `send` looked for that
+abbrev pub Looked : Script → List Entry → State → Type 0
+Looked script before S = (u o : ObjNo) (row : ThreadRow) → thread_of S u ≡ Some row → at_send (instruction script row) ≡ true → row.uses ≡ Some o → looked_in before u ≡ Some o
+
 -- the session that a thread's `send` is over
-pub record IsSendOver (S : State) (t s : ObjNo) : Type 0 where
+pub record IsSendOver (S : State) (t : ObjNo) (at : Option Instr) (s : ObjNo) : Type 0 where
+  pub here : at_send at ≡ true
   pub row : ThreadRow
   pub is : thread_of S t ≡ Some row
   pub uses : row.uses ≡ Some s
@@ -66,22 +81,22 @@ pub record IsSendOver (S : State) (t s : ObjNo) : Type 0 where
 abbrev pub RefusedBy : State → ObjNo → Option ℤ → Type 0
 RefusedBy S s answer = ((open_server S s ≡ None) × (answer ≡ Some (error_code ServerTerminated))) ⊎ ((o : ObjNo) × (open_server S s ≡ Some o) × (is_full S.messages s (slots_of S s) ≡ true) × (answer ≡ Some (error_code ServerBusy)))
 
-pub record IsRefusal (S : State) (t : ObjNo) (d : Decision) : Type 0 where
+pub record IsRefusal (S : State) (t : ObjNo) (at : Option Instr) (d : Decision) : Type 0 where
   pub session : ObjNo
-  pub over : IsSendOver S t session
+  pub over : IsSendOver S t at session
   pub by : RefusedBy S session d.answer
 
 -- neither servers nor messages change
-pub record IsKeeping (S : State) (t : ObjNo) (d : Decision) : Type 0 where
+pub record IsKeeping (S : State) (t : ObjNo) (at : Option Instr) (d : Decision) : Type 0 where
   pub changing : total changing_bit d.moves ≡ 0
   pub still : total message_bit d.moves ≡ 0
   pub closed : ClosesOthers S d
   pub detaches : Detaches S d
-  pub send : is_send d.step ≡ true → IsRefusal S t d
+  pub send : is_send d.step ≡ true → IsRefusal S t at d
 
 -- a `send` has a slot left, and is answered 0
-pub record IsAnswered (S : State) (t s : ObjNo) (slots : Slots) (d : Decision) : Type 0 where
-  pub over : IsSendOver S t s
+pub record IsAnswered (S : State) (t : ObjNo) (at : Option Instr) (s : ObjNo) (slots : Slots) (d : Decision) : Type 0 where
+  pub over : IsSendOver S t at s
   pub answer : d.answer ≡ Some (pos 0)
   pub free : is_full S.messages s slots ≡ false
 
@@ -105,7 +120,7 @@ pub record IsSending (S : State) (t : ObjNo) (at : Option Instr) (d : Decision) 
   pub detached : (v : ObjNo) → total (detach_bit v) d.moves ≡ 0
   pub of_session : slots ≡ slots_of S row.session
   pub asks : is_send d.step ≡ is_async row.way
-  pub send : is_send d.step ≡ true → IsAnswered S t row.session slots d
+  pub send : is_send d.step ≡ true → IsAnswered S t at row.session slots d
 
 -- it finishes one
 pub record IsFinishing (S : State) (t : ObjNo) (at : Option Instr) (d : Decision) : Type 0 where
@@ -166,7 +181,7 @@ pub record IsStopping (S : State) (t : ObjNo) (d : Decision) : Type 0 where
 
 -- whatever holds of each kind of action
 pub record OfEach (S : State) (t : ObjNo) (at : Option Instr) (P : Decision → Type 0) : Type 0 where
-  pub keeps : (d : Decision) → IsKeeping S t d → P d
+  pub keeps : (d : Decision) → IsKeeping S t at d → P d
   pub sends : (d : Decision) → IsSending S t at d → P d
   pub finishes : (d : Decision) → IsFinishing S t at d → P d
   pub makes : (d : Decision) → IsMaking S t d → P d

@@ -33,6 +33,9 @@ use Rattle.std.proofs.Common.{Bool, List, None, Option, Some, [], ap, arith, fal
 use Rattle.std.proofs.lemmas.Bool.{cases_eq, eq-eqb}
 use Rattle.std.specs.Prelude.{is_some, option_map, slice_set, ◌==◌}
 use Rattle.sym_base.specs.declared.number.ObjNo.{ObjNo}
+use Rattle.state_rows.specs.declared.duty.Owed.{Owed}
+use Rattle.state_rows.specs.declared.duty.Owed.TheVariants.{Close, Sweep}
+use Rattle.state_rows.proofs.SoundChanges.{set_item}
 
 -- rows of servers that are the same
 pub server-same : (r : ServerRows) (ms : List Move) (o : ObjNo) (row : ServerRow) → server_at r o ≡ Some row → WasServer r ms o row
@@ -221,3 +224,8 @@ at-move script S t (SetPriority u priority) fits k row is = at-steps S.threads t
 at-move script S t (Death m) fits k row is = at-steps S.threads t (Death m ∷ []) k row refl (at-dies S.threads m k row is)
 at-move script S t (Pay what) fits k row is = absurd fits
 at-move script S t m fits k row is = at-steps S.threads t (m ∷ []) k row refl (at-same S.threads k row is)
+
+-- what is owed is paid
+pub at-pay : (S : State) (t : ObjNo) (what : Owed) (k : ℕ) (row : ThreadRow) → get_or (moved t (Pay what) S).threads k None ≡ Some row → WasAt S.threads k 0 row
+at-pay S t (Close h o) k row is = at-closed (is_last S o) o S.threads k row is
+at-pay S t (Sweep o) k row is = at-same S.threads k row (set_item (λ (x : Option ThreadRow). x ≡ Some row → get_or S.threads k None ≡ Some row) S.threads o.0 k None None (λ at e. absurd (cc)) (λ e. e) is)

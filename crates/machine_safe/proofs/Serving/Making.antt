@@ -12,7 +12,7 @@ use Rattle.machine.specs.declared.moves.Move.TheVariants.{Make, Servers}
 use Rattle.machine.specs.declared.server_move.ServerMove.TheVariants.{Join, Start}
 use Rattle.machine.specs.declared.state.State.{State}
 use Rattle.machine_safe.proofs.Deaths.EffectSums.{dooms-append}
-use Rattle.machine_safe.proofs.Serving.EffectSums.{ends-append, server_told-append, used_told-append}
+use Rattle.machine_safe.proofs.Serving.EffectSums.{ends-append, server_told-append}
 use Rattle.machine_safe.proofs.Serving.Keeps.{closing-row}
 use Rattle.machine_safe.proofs.Serving.Reading.{Reading, closing_by, further}
 use Rattle.machine_safe.proofs.Serving.Served.{IsServed, Served, closing-count}
@@ -84,7 +84,6 @@ module _ (script : Script) (r : Reading) (S : State) (t : ObjNo) (done : Step) (
     ];
     unmade = λ o past. let a = more-objects S (Some (new_object kind.Server name)) in let old = h.unmade o (omega arith) in let none = closings_same o in omega arith;
     places = λ k row is. let old = h.places k row is in record { first = old.first; is = old.is; role = old.role; place = let a = old.place in omega arith };
-    uses = λ u o row is used. used_told-append r.effects fs u ∙ h.uses u o row is used;
     told_made = λ s v is. let a = more-objects S (Some (new_object kind.Server name)) in let inside = h.told_made s v (sym (server_told-append r.effects fs s) ∙ is) in omega arith;
     told_linked = λ s v is alive.
         let was : server_told r.effects s ≡ Some v = sym (server_told-append r.effects fs s) ∙ is in
@@ -188,7 +187,6 @@ module _ (script : Script) (r : Reading) (S : State) (t : ObjNo) (done : Step) (
     ];
     unmade = λ o past. let old = h.unmade o past in let none = closings_same o in omega arith;
     places = λ k row is. let old = h.places k row is in record { first = old.first; is = old.is; role = old.role; place = let a = old.place in omega arith };
-    uses = λ u o row is used. used_told-append r.effects fs u ∙ h.uses u o row is used;
     told_made = λ x o is. elim (cases_eq s.0 x.0) as (λ _. x.0 < length S.objects) [
       | inl at ↦ let inside = may.made in omega arith
       | inr apart ↦ h.told_made x o (before_join x o apart is)

@@ -14,7 +14,7 @@ use Rattle.machine.specs.declared.moves.Move.{Move}
 use Rattle.machine.specs.declared.moves.Move.TheVariants.{Messages}
 use Rattle.machine.specs.declared.state.State.{State}
 use Rattle.machine_laws.proofs.Fitting.Regular.{serving_bit}
-use Rattle.machine_safe.proofs.Serving.Deeds.{IsSending, status_of_way, IsAnswered}
+use Rattle.machine_safe.proofs.Serving.Deeds.{IsSending, Looked, status_of_way, IsAnswered}
 use Rattle.machine_safe.proofs.Serving.Doing.{Doing, IsGoing, fits-front, going, keeps-doing, perform-append, tell-append}
 use Rattle.machine_safe.proofs.Serving.Keeps.{Keeps, changing-none, changing_bit, message-none, message_bit, there-row}
 use Rattle.machine_safe.proofs.Serving.Letters.{letters-more}
@@ -94,7 +94,7 @@ session-row : (x : Option SessionRow) (v : ObjNo) → link_of x ≡ Some v → (
 session-row None v e = absurd (cc)
 session-row (Some row) v e = (row, refl)
 
-module _ (script : Script) (before : List Entry) (S : State) (place : ℕ) (t : ObjNo) (rows : AreRows script S) (book : Book script before S) where
+module _ (script : Script) (before : List Entry) (S : State) (place : ℕ) (t : ObjNo) (rows : AreRows script S) (book : Book script before S) (looked : Looked script before S) where
   pub turn-sends : {k : Kinds} (d : Decision) → IsRegular k script S t d → IsSending S t (instruction_in script before t) d → Doing script S t d.moves → IsTurn script before (entry_for place t S d) (perform t d.moves S)
   turn-sends d regular is does = record {
     book = record {
@@ -117,7 +117,7 @@ module _ (script : Script) (before : List Entry) (S : State) (place : ℕ) (t : 
       };
       finish = λ m some. let a = p.unfinished m in absurd (omega arith);
       end = λ v some. let a = keeps.unended v in absurd (omega arith);
-      send = λ asked. sent-answer script before S place t d is.row.session is.row.server rows book is.linked is.accepting (let a = ap accepts p.told in let b = p.none in omega arith) (subst (λ (x : Slots). IsAnswered S t is.row.session x d) is.of_session (is.send asked));
+      send = λ asked. sent-answer script before S place t d is.row.session is.row.server rows book looked is.linked is.accepting (let a = ap accepts p.told in let b = p.none in omega arith) (subst (λ (x : Slots). IsAnswered S t (instruction_in script before t) is.row.session x d) is.of_session (is.send asked));
     };
   }
     where

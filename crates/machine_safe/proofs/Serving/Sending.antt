@@ -16,7 +16,7 @@ use Rattle.machine.specs.declared.server_move.ServerMove.TheVariants.{SetOpen}
 use Rattle.machine.specs.declared.state.State.{State}
 use Rattle.machine_laws.proofs.Fitting.Posting.{linked_server, tame-wake}
 use Rattle.machine_laws.proofs.Fitting.Regular.{plain, serving_bit}
-use Rattle.machine_safe.proofs.Serving.Deeds.{ClosesOthers, IsSending, OfEach, behind, status_of_way, calm, IsAnswered, IsSendOver}
+use Rattle.machine_safe.proofs.Serving.Deeds.{ClosesOthers, IsSending, OfEach, behind, status_of_way, calm, IsAnswered, IsSendOver, at_send}
 use Rattle.machine_safe.proofs.Serving.Keeps.{changing-none, changing_bit, message-none, message_bit, detach-none, detach_bit}
 use Rattle.machine_safe.specs.CountAfter.{opens}
 use Rattle.machine_safe.specs.Sent.{accepts_by, status_by}
@@ -82,7 +82,7 @@ behind-quiet false t = refl
 
 -- a sending whose moves are these: some before, that of the message, and a receiver that wakes
 pub sending : {S : State} {t : ObjNo} {at : Option Instr} (d : Decision) (front rest : List Move) (s o : ObjNo) (function : ℤ) (args : List Arg) (way : Way) → d.moves ≡ front ++ (Messages (Accept (slots_of S s) (new_row s o t function args way)) ∷ (wake_receiver S o (owner_of S.servers o) ++ rest)) → tell t front S ≡ [] → total serving_bit front ≡ 0
-    → total changing_bit rest ≡ 0 → total message_bit rest ≡ 0 → open_server S s ≡ Some o → status_by d.step at ≡ status_of_way way → accepts_by d.step (status_of_way way) ≡ true → ClosesOthers S d → ((v : ObjNo) → total (detach_bit v) rest ≡ 0) → is_send d.step ≡ is_async way → (is_send d.step ≡ true → IsAnswered S t s (slots_of S s) d) → IsSending S t at d
+    → total changing_bit rest ≡ 0 → total message_bit rest ≡ 0 → open_server S s ≡ Some o → status_by d.step at ≡ status_of_way way → accepts_by d.step (status_of_way way) ≡ true → ClosesOthers S d → ((v : ObjNo) → total (detach_bit v) rest ≡ 0) → is_send d.step ≡ is_async way → (is_send d.step ≡ true → IsAnswered S t at s (slots_of S s) d) → IsSending S t at d
 sending {S = S} {t = t} d front rest s o function args way moves silent quiet changing still opens told named closed detached asks sends =
     let wakes = wake_receiver S o (owner_of S.servers o) in
     let calm = (tame-wake {k = plain} S o (owner_of S.servers o)).calm refl in
@@ -115,7 +115,7 @@ sending {S = S} {t = t} d front rest s o function args way moves silent quiet ch
     }
 
 -- `send`
-deed-send_to : (S : State) (t : ObjNo) (at : Option Instr) (P : Decision → Type 0) (s : ObjNo) (x function y : ℕ) (args : Args) (server : Option ObjNo) → IsSendOver S t s → at ≡ Some (instr.Send x function y args) → open_server S s ≡ server → OfEach S t at P → P (send_to S t s (pos function) y (args_of args) server)
+deed-send_to : (S : State) (t : ObjNo) (at : Option Instr) (P : Decision → Type 0) (s : ObjNo) (x function y : ℕ) (args : Args) (server : Option ObjNo) → IsSendOver S t at s → at ≡ Some (instr.Send x function y args) → open_server S s ≡ server → OfEach S t at P → P (send_to S t s (pos function) y (args_of args) server)
 deed-send_to S t at P s x function y args None over here e each = each.keeps _ (record {
   changing = refl;
   still = refl;
@@ -142,7 +142,7 @@ deed-send S t at P row x function y args p is here each = by row.uses refl
     by None e = calm each _ refl refl
     by (Some s) e = if_cases P (is_pending S.requests t y) _ _
         (λ _. calm each _ refl refl)
-        (λ _. deed-send_to S t at P s x function y args (open_server S s) (record { row = row; is = is; uses = e }) here refl each)
+        (λ _. deed-send_to S t at P s x function y args (open_server S s) (record { here = ap at_send here; row = row; is = is; uses = e }) here refl each)
 
 -- `call`
 deed-call_to : (S : State) (t : ObjNo) (at : Option Instr) (P : Decision → Type 0) (s : ObjNo) (function : ℤ) (args : List Arg) (server : Option ObjNo) → status_by (Of word.Call part.Do) at ≡ Some status.Sync → open_server S s ≡ server → OfEach S t at P → P (call_to S t s function args server)
