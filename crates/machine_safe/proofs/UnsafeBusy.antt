@@ -7,7 +7,7 @@ use Rattle.entry_log.specs.declared.step.Step.TheVariants as step
 use Rattle.sym_base.specs.declared.word.Word.TheVariants as word
 use Rattle.entry_log.specs.declared.entry.Entry.{Entry}
 use Rattle.machine.specs.Boot.{boot_of}
-use Rattle.machine_safe.proofs.UnsafeMessages.{connects, acts, connected, first_end, joins, number, sends, served_script, serves}
+use Rattle.machine_safe.proofs.ServedHistory.{closes, connects, acts, connected, first_end, joins, number, sends, served_script, serves}
 use Rattle.machine_safe.specs.CountAfter.{effects_of}
 use Rattle.machine_safe.specs.SafeBusy.{IsSafeBusy, IsSendAnswer, accepted_of, accepts_in, is_full_in}
 use Rattle.machine_safe.specs.Served.{server_told}
@@ -78,3 +78,16 @@ accepted_after_other safe =
     let session : Some (number 7) ≡ Some a.session = subst (λ (u : ObjNo). looked_in looked_away u ≡ Some a.session) (sym thread) a.looked in
     let own : number 7 ≡ a.session = cc in
     let none : ◌≡◌ {A = ℕ} 1 0 = subst (λ (s : ObjNo). 1 ≡ wanted looked_away s) (sym own) a.accepted in absurd (omega arith)
+
+-- And one to a server that is closing is answered as terminated, and not accepted.
+abbrev closed_away : List Entry
+closed_away = with_slot ++ closes 7 ∷ []
+
+sent_to_closing : IsSafeBusy served_script (closed_away ++ sends 8 2 ∷ []) → ⊥
+unfolding boot_of
+sent_to_closing safe =
+    let a = safe.answers closed_away (sends 8 2) [] refl refl in
+    let thread : number 5 ≡ a.thread = cc in
+    let session : Some (number 7) ≡ Some a.session = subst (λ (u : ObjNo). looked_in closed_away u ≡ Some a.session) (sym thread) a.looked in
+    let own : number 7 ≡ a.session = cc in
+    let none : ◌≡◌ {A = ℕ} 1 0 = subst (λ (s : ObjNo). 1 ≡ wanted closed_away s) (sym own) a.accepted in absurd (omega arith)

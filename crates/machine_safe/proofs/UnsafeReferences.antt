@@ -59,3 +59,7 @@ swept_alive script safe = let some : 0 < 0 = (safe.over (number 5)).swept [] (sw
 -- and a holder doesn't get it twice
 opened_twice : (script : Script) → IsSafeReferences script (opens 1 ∷ opens 2 ∷ []) → ⊥
 opened_twice script safe = let none = safe.holders.1.0 in omega arith
+
+-- nor gives up one that it hasn't
+closed_unheld : (script : Script) → IsSafeReferences script (closes 1 ∷ []) → ⊥
+closed_unheld script safe = let held = safe.holders.0 in omega arith
