@@ -1,7 +1,8 @@
 -- What each move changes in the rows, and what it tells. The ready list isn't among the rows here: it follows
 -- the moves apart.
-use Rattle.std.specs.Prelude.{ℕ, ◌+◌, Bool, if◌then◌else◌, List, [], ◌∷◌, ◌++◌, length, Option, Some, None, false, slice_set}
+use Rattle.std.specs.Prelude.{ℕ, ◌+◌, ◌==◌, Bool, if◌then◌else◌, List, [], ◌∷◌, ◌++◌, length, Option, Some, None, false, slice_set}
 use Rattle.std.specs.List.{slice_index_or}
+use Rattle.sym_base.specs.declared.limits.TheConstants.Limits.{OBJECTS}
 use Rattle.sym_base.specs.declared.number.ObjNo.{ObjNo}
 use Rattle.sym_base.specs.declared.kind.Kind.{Kind}
 use Rattle.entry_log.specs.declared.effect.Holder.{Holder}
@@ -38,6 +39,10 @@ use Rattle.state_rows.specs.ServerRows.{server_of}
 -- the number that a new object gets, which is fresh (`Fresh`)
 abbrev pub next_object : State → ObjNo
 next_object S = record { 0 = length S.objects }
+
+-- whether no number is left for a new object
+abbrev pub no_number_left : State → Bool
+no_number_left S = (next_object S).0 == OBJECTS
 
 -- an object that is made
 abbrev pub new_object : Kind → List ℕ → ObjectRow
