@@ -112,12 +112,14 @@ there-move script S t m fits u o row is uses unused =
           record { old = at.old; was = at.was; role = at.role; place = let p = at.place in omega arith; uses = ap (λ (r : ThreadRow). r.uses) (sym own) ∙ same.1.uses }
     ]
 
+there-then : (script : Script) (S T : State) (u o : ObjNo) (row : ThreadRow) (later : WasThere script T u o row) → WasThere script S u o later.old → WasThere script S u o row
+there-then script S T u o row later first = record { old = first.old; was = first.was; role = first.role ∙ later.role; place = later.place ∙ first.place; uses = first.uses }
+
 there-each : (script : Script) (S : State) (t : ObjNo) (ms : List Move) → EachFits script t ms S → (u o : ObjNo) (row : ThreadRow) → thread_of (perform t ms S) u ≡ Some row → row.uses ≡ Some o → total (use_bit u) ms ≡ 0 → WasThere script S u o row
 there-each script S t [] fits u o row is uses none = record { old = row; was = is; role = refl; place = refl; uses = uses }
 there-each script S t (m ∷ ms) fits u o row is uses none =
     let later = there-each script (moved t m S) t ms fits.1 u o row is uses (omega arith) in
-    let first = there-move script S t m fits.0 u o later.old later.was later.uses (omega arith) in
-    record { old = first.old; was = first.was; role = first.role ∙ later.role; place = later.place ∙ first.place; uses = first.uses }
+    there-then script S (moved t m S) u o row later (there-move script S t m fits.0 u o later.old later.was later.uses (omega arith))
 
 -- and a thread that isn't answered is at its instruction still
 at-each : (script : Script) (S : State) (t : ObjNo) (ms : List Move) → EachFits script t ms S → (k : ℕ) (row : ThreadRow) → get_or (perform t ms S).threads k None ≡ Some row → WasAt S.threads k (steps_of t ms k) row
