@@ -189,10 +189,10 @@ IsOfLive (SignalStatus t s code) S = IsLiveThread S.threads t × (times_sent S.m
 IsOfLive (Reply t code) S = IsLiveThread S.threads t
 IsOfLive _ S = Unit {0}
 
--- A move in the rows of logons fits the state: what it names is there, and a logon is made by a live thread, on one that isn't cleaned, with a
--- status that is awaited and that no other has.
+-- A move in the rows of logons fits the state: what it names is there, and a logon is made by a live thread, on one that is there and isn't
+-- cleaned, with a status that is awaited and that no other has.
 abbrev pub FitsLogons : LogonMove → State → Type 0
-FitsLogons (AddLogon t u s) S = (t.0 < length S.threads) × IsAwaited S.requests u s × (times_logged S.logons u s ≡ 0) × (times_sent S.messages.outstanding u s ≡ 0) × IsLiveThread S.threads u × IsUnspent S t
+FitsLogons (AddLogon t u s) S = (t.0 < length S.threads) × IsAwaited S.requests u s × (times_logged S.logons u s ≡ 0) × (times_sent S.messages.outstanding u s ≡ 0) × IsLiveThread S.threads u × IsUnspent S t × (is_some (thread_of S t) ≡ true)
 FitsLogons (RemoveLogon t u s) S = (t.0 < length S.threads) × (u.0 < length S.threads) × (s < 16)
 FitsLogons (DropLogons u) S = u.0 < length S.threads
 

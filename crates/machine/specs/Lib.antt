@@ -14,6 +14,7 @@ pub mod Decide
 pub mod DeferredMoves
 pub mod Dooms
 pub mod Dup
+pub mod EntryWords
 pub mod ExitCalls
 pub mod FastMutex
 pub mod FastSemaphore

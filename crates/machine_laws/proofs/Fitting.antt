@@ -14,6 +14,7 @@ pub mod Locks
 pub mod MemoryCalls
 pub mod Posting
 pub mod Reaping
+pub mod Regular
 pub mod Requests
 pub mod Servers
 pub mod Sessions

@@ -1,7 +1,5 @@
 -- How threads die, read off the moves of actions.
 pub mod Bare
-pub mod BodySteps
-pub mod Cleanings
 pub mod Cut
 pub mod Dead
 pub mod Dies
@@ -14,11 +12,6 @@ pub mod Leaves
 pub mod LockMoves
 pub mod Moves
 pub mod Order
-pub mod Other
-pub mod Reaping
 pub mod Rows
 pub mod Runs
-pub mod ServerSteps
-pub mod Steps
 pub mod Tables
-pub mod ThreadSteps

@@ -24,6 +24,8 @@ use Rattle.std.proofs.lemmas.List.{append-nil}
 use Rattle.sym_base.specs.declared.number.ObjNo.{ObjNo}
 use Rattle.script_types.specs.Source.{IsWellFormed}
 use Rattle.machine_safe.specs.SafeBusy.{IsSafeBusy}
+use Rattle.machine_safe.proofs.Serving.Deeds.{Looked}
+use Rattle.machine_safe.proofs.Serving.Looked.{boot-looked, entry-looked}
 
 -- a thread that is there is live, or was doomed once
 fated : (script : Script) (before : List Entry) → IsWellFormed script → IsLegal script before → IsFated before (after script before)
@@ -37,24 +39,27 @@ fated script before valid legal u row is =
     let born_live = ap stage_live (born_row script _ (born script) u.0 was.old (each_born script (formed_is_shaped script valid)) was.was).live in omega arith
 
 -- after each entry
-pub book-after : (script : Script) (before later : List Entry) → IsWellFormed script → IsLegal script (before ++ later) → Book script [] (boot script) → Book script before (after script before)
-book-after script before later valid legal book = by [] before refl book
+pub book-after : (script : Script) (before later : List Entry) → IsWellFormed script → IsLegal script (before ++ later) → Book script before (after script before) × Looked script before (after script before)
+book-after script before later valid legal = by [] before refl (book-boot script (formed_is_shaped script valid), boot-looked script (formed_is_shaped script valid))
   where
-    by : (xs ys : List Entry) → before ≡ xs ++ ys → Book script xs (after script xs) → Book script before (after script before)
-    by xs [] e h = subst (λ (l : List Entry). Book script l (after script l)) (sym (e ∙ append-nil xs)) h
+    by : (xs ys : List Entry) → before ≡ xs ++ ys → Book script xs (after script xs) × Looked script xs (after script xs) → Book script before (after script before) × Looked script before (after script before)
+    by xs [] e h = subst (λ (l : List Entry). Book script l (after script l) × Looked script l (after script l)) (sym (e ∙ append-nil xs)) h
     by xs (y ∷ ys) e h =
         let cuts = cut script (before ++ later) xs y (ys ++ later) valid legal (ap (λ (l : List Entry). l ++ later) e ∙ append_assoc xs (y ∷ ys) later) in
         let S = after script xs in
-        let turn = turn-entry script xs S cuts.place (formed_is_shaped script valid) cuts.rows h (fated script xs valid cuts.legal_before) y cuts.here in
-        by (xs ++ y ∷ []) ys (e ∙ sym (append_assoc xs (y ∷ []) ys)) (subst (Book script (xs ++ y ∷ [])) (sym (after_from-push script (boot script) xs y)) turn.book)
+        let shaped = formed_is_shaped script valid in
+        let turn = turn-entry script xs S cuts.place shaped cuts.rows h.0 h.1 (fated script xs valid cuts.legal_before) y cuts.here in
+        let looked = entry-looked script xs S cuts.place shaped cuts.rows h.1 y cuts.here in
+        let same = sym (after_from-push script (boot script) xs y) in
+        by (xs ++ y ∷ []) ys (e ∙ sym (append_assoc xs (y ∷ []) ys)) (subst (Book script (xs ++ y ∷ [])) same turn.book, subst (Looked script (xs ++ y ∷ [])) same looked)
 
 -- each entry is lawful
 lawful : (script : Script) (history before : List Entry) (e : Entry) (later : List Entry) → IsWellFormed script → IsLegal script history → StandsAt history before e later → IsLawful script before e
 lawful script history before e later valid legal is =
     let c = cut script history before e later valid legal is in
     let shaped = formed_is_shaped script valid in
-    let book = book-after script before (e ∷ later) valid (subst (IsLegal script) is legal) (book-boot script shaped) in
-    (turn-entry script before (after script before) c.place shaped c.rows book (fated script before valid c.legal_before) e c.here).lawful
+    let book = book-after script before (e ∷ later) valid (subst (IsLegal script) is legal) in
+    (turn-entry script before (after script before) c.place shaped c.rows book.0 book.1 (fated script before valid c.legal_before) e c.here).lawful
 
 pub legal_busy : (script : Script) (history : List Entry) → IsWellFormed script → IsLegal script history → IsSafeBusy script history
 legal_busy script history valid legal = record { answers = λ before e later is sends. (lawful script history before e later valid legal is).send sends }
@@ -69,13 +74,13 @@ legal_messages script history valid legal = record {
 -- a thread that is cleaned made servers that ended, and nothing is left of these
 module _ (script : Script) (history before : List Entry) (e : Entry) (later : List Entry) (t v : ObjNo) (valid : IsWellFormed script) (legal : IsLegal script history) (is : StandsAt history before e later) (cleaned : 0 < cleanings (e ∷ []) t) (owns : owner_in before v ≡ Some t) where
   book : Book script before (after script before)
-  book = book-after script before (e ∷ later) valid (subst (IsLegal script) is legal) (book-boot script (formed_is_shaped script valid))
+  book = (book-after script before (e ∷ later) valid (subst (IsLegal script) is legal)).0
 
   server-ended : 0 < ends (effects_of before) v
   server-ended = elim (book.served.made t v owns) as (λ _. 0 < ends (effects_of before) v) [
     | inl owned ↦
         let c = cut script history before e later valid legal is in
-        let empty = empty-cleaning script (after script before) e t c.rows (cleans-here script before e later t c cleaned) in
+        let empty = empty-cleaning script (after script before) e t c.rows (cleans-here script before e later t (formed_is_shaped script valid) c cleaned) in
         let none = ap (total (mutex_names v)) empty.owned in absurd (omega arith)
     | inr over ↦ over
   ]

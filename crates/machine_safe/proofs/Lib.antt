@@ -8,7 +8,10 @@ pub mod LegalServing
 pub mod ReadyHolders
 pub mod Runs
 pub mod SafeHistories
+pub mod ServedHistory
 pub mod Serving
 pub mod UnsafeBusy
 pub mod UnsafeDeaths
 pub mod UnsafeMessages
+pub mod UnsafeReferences
+pub mod UnsafeServers

@@ -69,6 +69,9 @@ dies_at_zero script history run o before e later is taken zero =
 
 is_over : (script : Script) (history : List Entry) → IsShaped script → IsSoundRun script (boot script) history → (o : ObjNo) → IsOver history o
 is_over script history shaped run o = record {
+  dies =
+      let a = run-gone script (boot script) history o run in
+      let b = gone_le (after_from script (boot script) history).objects o in omega arith;
   closed = λ before e later is dead.
       let s = split script history before e later run is in
       run-closed script (after_from script (boot script) (before ++ e ∷ [])) later o s.rest (dead_is_gone script before e later o s dead);

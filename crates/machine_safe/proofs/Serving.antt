@@ -15,6 +15,7 @@ pub mod Kept
 pub mod KeptRows
 pub mod KeptUses
 pub mod Letters
+pub mod Looked
 pub mod Making
 pub mod Posted
 pub mod Quiet

@@ -1,255 +1,25 @@
--- The definitions of safe messages and servers, tried on a server and its client: a short history that is safe, and others, changed by hand, that
--- aren't.
-use Rattle.std.proofs.Common.{◌≡◌, ℕ, ℤ, ◌+◌, ◌<◌, List, [], ◌∷◌, ◌++◌, Option, Some, None, Bool, true, false, refl, sym, ap, subst, ◌∙◌, arith, length}
-use Rattle.std.specs.Prelude.{pos, codes, if◌then◌else◌, ◌==◌, nat_lt}
-use Rattle.std.proofs.lemmas.Bool.{eqb-true}
-use Rattle.std.proofs.lemmas.List.{append-nil, append_assoc}
-use Rattle.sym_base.specs.declared.kind.Arg.TheVariants.{Number}
-use Rattle.sym_base.specs.declared.kind.Slots.TheVariants as slots
+-- The definition of safe messages, tried on histories, changed by hand, that aren't safe.
+use Rattle.std.proofs.Common.{◌≡◌, ℕ, ℤ, ◌+◌, List, [], ◌∷◌, ◌++◌, Option, Some, None, Bool, true, false, refl, sym, ap, subst, arith, length}
+use Rattle.std.specs.Prelude.{pos, nat_lt}
 use Rattle.sym_base.specs.declared.number.MsgNo.{MsgNo}
 use Rattle.sym_base.specs.declared.number.ObjNo.{ObjNo}
 use Rattle.sym_base.specs.declared.word.Word.TheVariants as word
-use Rattle.script_types.specs.declared.declaration.ThreadDecl.{ThreadDecl}
-use Rattle.script_types.specs.declared.instruction.Instr.TheVariants.{Server, Connect, Send, Complete, Close}
 use Rattle.script_types.specs.declared.script.Script.{Script}
 use Rattle.entry_log.specs.declared.effect.Effect.{Effect}
 use Rattle.entry_log.specs.declared.effect.Effect.TheVariants as effect
-use Rattle.entry_log.specs.declared.effect.Holder.TheVariants as holder
 use Rattle.entry_log.specs.declared.effect.StatusNo.{StatusNo}
 use Rattle.entry_log.specs.declared.effect.StatusNo.TheVariants as status
 use Rattle.entry_log.specs.declared.entry.Actor.TheVariants.{Thread}
 use Rattle.entry_log.specs.declared.entry.Entry.{Entry}
 use Rattle.entry_log.specs.declared.step.Part.TheVariants as part
-use Rattle.entry_log.specs.declared.step.Step.{Step}
 use Rattle.entry_log.specs.declared.step.Step.TheVariants as step
 use Rattle.machine.specs.Boot.{boot_of}
-use Rattle.machine_safe.specs.CountAfter.{effects_of}
+use Rattle.machine_safe.specs.CountAfter.{effects_of, is_by}
 use Rattle.machine_safe.specs.SafeDeaths.{dooms}
-use Rattle.machine_safe.specs.SafeMessages.{IsAcceptance, IsFinish, IsSafeMessages, NothingLeft, notice, code_of_complete}
-use Rattle.machine_safe.specs.Sent.{Accepts, accepts, finishes, instruction_in, status_by}
-use Rattle.machine_safe.specs.Served.{ends, server_told, is_closing_in}
-use Rattle.machine.specs.Decide.{answer}
-use Rattle.machine_safe.specs.SafeServers.{IsSafeServers}
-
--- Process 2 has thread 3, which serves, and process 4 has thread 5, its client.
-abbrev pub serving_thread : ThreadDecl
-serving_thread = record { name = codes "sv"; priority = 20; held = false; process = Some 0; instrs = Server (codes "files") 0 ∷ Complete 0 (pos 0) ∷ Complete 1 (pos 5) ∷ Close 0 ∷ [] }
-
-abbrev pub client_thread : ThreadDecl
-client_thread = record { name = codes "c"; priority = 10; held = false; process = Some 1; instrs = Connect (codes "files") (slots.Own 1) 0 ∷ Send 0 1 0 (record { 0 = Number (pos 0); 1 = Number (pos 0); 2 = Number (pos 0); 3 = Number (pos 0) }) ∷ [] }
-
-abbrev pub served_script : Script
-served_script = record { version = 1; pool = 0; fast = 0; queues = []; dfcs = []; idfcs = []; irqs = []; processes = record { name = codes "ps" } ∷ record { name = codes "pc" } ∷ []; threads = serving_thread ∷ client_thread ∷ []; slots = [] }
-
--- object n, message n, and an entry of thread t
-abbrev pub number : ℕ → ObjNo
-number n = record { 0 = n }
-
-abbrev pub message : ℕ → MsgNo
-message n = record { 0 = n }
-
-abbrev pub acts : ℕ → ℕ → Step → List Effect → Option ℤ → Entry
-acts place t done effects answer = record { place = place; actor = Thread (number t); step = done; effects = effects; answer = answer }
-
--- the server is object 6, and the session object 7
-abbrev pub accepted : ℕ → List Effect
-accepted n = effect.Accept (message n) ∷ effect.Plus (holder.Message (message n)) (number 7) ∷ effect.Plus (holder.Message (message n)) (number 5) ∷ []
-
-abbrev pub serves : Entry
-serves = acts 1 3 (step.Of word.Server part.Do) (effect.Plus (holder.Own (number 3)) (number 6) ∷ effect.Plus (holder.InThread (number 3) 0) (number 6) ∷ []) (Some (pos 1073807360))
-
-abbrev pub joins : Entry
-joins = acts 2 5 (step.Of word.Connect part.Make) (effect.Plus (holder.InThread (number 5) 0) (number 7) ∷ effect.Plus (holder.Link (number 7)) (number 6) ∷ []) None
-
-abbrev pub connects : Entry
-connects = acts 3 5 (step.Of word.Connect part.Send) (accepted 1) None
-
-abbrev pub completes : ℕ → ℕ → List Effect → Entry
-completes place n told = acts place 3 (step.Of word.Complete part.Do) told (Some (pos 0))
-
-abbrev pub first_end : Entry
-first_end = completes 4 1 (effect.Finish (message 1) (pos 0) ∷ effect.Signal (number 5) status.Sync (pos 0) ∷ [])
-
-abbrev pub connected : Entry
-connected = acts 5 5 (step.Of word.Connect part.Done) [] (Some (pos 1073807360))
-
-abbrev pub sends : ℕ → ℕ → Entry
-sends place n = acts place 5 (step.Of word.Send part.Do) (accepted n) (Some (pos 0))
-
-abbrev second_end : Entry
-second_end = completes 7 2 (effect.Finish (message 2) (pos 5) ∷ effect.Signal (number 5) (status.Async 0) (pos 5) ∷ [])
-
-abbrev pub closes : ℕ → Entry
-closes place = acts place 3 (step.Of word.Close part.Do) (effect.Minus (holder.InThread (number 3) 0) (number 6) ∷ []) (Some (pos 0))
-
-abbrev stops : Entry
-stops = acts 9 3 step.Stop (effect.Terminated (number 6) ∷ effect.Minus (holder.Own (number 3)) (number 6) ∷ effect.Dead (number 6) ∷ []) None
-
-abbrev pub opens : List Entry
-opens = serves ∷ joins ∷ connects ∷ []
-
-abbrev served : List Entry
-served = serves ∷ joins ∷ connects ∷ first_end ∷ connected ∷ sends 6 2 ∷ second_end ∷ closes 8 ∷ stops ∷ []
-
--- what holds of each entry, with what is before it
-abbrev AtEach : (List Entry → Entry → Type 0) → List Entry → List Entry → Type 0
-AtEach P before [] = Unit {0}
-AtEach P before (e ∷ es) = P before e × AtEach P (before ++ e ∷ []) es
-
-same_first : {A : Type 0} (a b : A) (xs ys : List A) → a ∷ xs ≡ b ∷ ys → (a ≡ b) × (xs ≡ ys)
-same_first a b xs ys e = (cc, cc)
-
-at-each : (P : List Entry → Entry → Type 0) (front es before : List Entry) (e : Entry) (later : List Entry) → AtEach P front es → es ≡ before ++ e ∷ later → P (front ++ before) e
-at-each P front [] [] e later all is = absurd (cc)
-at-each P front [] (b ∷ bs) e later all is = absurd (cc)
-at-each P front (x ∷ xs) [] e later all is =
-    let first = same_first x e xs later is in
-    subst (λ (l : List Entry). P l e) (sym (append-nil front)) (subst (P front) first.0 all.0)
-at-each P front (x ∷ xs) (b ∷ bs) e later all is =
-    let first = same_first x b xs (bs ++ e ∷ later) is in
-    subst (λ (l : List Entry). P l e) (append_assoc front (b ∷ []) bs) (subst (λ (y : Entry). P (front ++ y ∷ [] ++ bs) e) first.0 (at-each P (front ++ x ∷ []) xs bs e later all.1 first.1))
-
--- which message a finish names
-one_number : (n : ℕ) (m : MsgNo) → 0 < (if n == m.0 then 1 else 0) + 0 → message n ≡ m
-one_number n m some = by (n == m.0) refl some
-  where
-    by : (b : Bool) → (n == m.0) ≡ b → 0 < (if b then 1 else 0) + 0 → message n ≡ m
-    by true is some = let made : ℕ → MsgNo = λ k. record { 0 = k } in ap made (eqb-true n m.0 is)
-    by false is some = absurd (omega arith)
-
--- both messages are accepted as they should
-first_accepted : IsAcceptance (serves ∷ joins ∷ []) connects
-first_accepted = record { message = message 1; by = record { session = number 7; client = number 5; rest = []; told = refl }; number = refl; only = refl; client = refl; server = number 6; linked = refl; accepting = refl; lasts = refl }
-
-second_accepted : IsAcceptance (opens ++ first_end ∷ connected ∷ []) (sends 6 2)
-second_accepted = record { message = message 2; by = record { session = number 7; client = number 5; rest = []; told = refl }; number = refl; only = refl; client = refl; server = number 6; linked = refl; accepting = refl; lasts = refl }
-
--- and finished
-first_finished : IsFinish served_script opens first_end (message 1)
-unfolding boot_of
-first_finished = record {
-  accepted = record { before = serves ∷ joins ∷ []; at = connects; later = []; stands = refl; by = record { session = number 7; client = number 5; rest = []; told = refl } };
-  once = refl;
-  server = number 6;
-  linked = refl;
-  owner = number 3;
-  owns = refl;
-  actor = refl;
-  code = pos 0;
-  cause = refl;
-  told = refl;
-}
-
-second_finished : IsFinish served_script (opens ++ first_end ∷ connected ∷ sends 6 2 ∷ []) second_end (message 2)
-unfolding boot_of
-second_finished = record {
-  accepted = record { before = opens ++ first_end ∷ connected ∷ []; at = sends 6 2; later = []; stands = refl; by = record { session = number 7; client = number 5; rest = []; told = refl } };
-  once = refl;
-  server = number 6;
-  linked = refl;
-  owner = number 3;
-  owns = refl;
-  actor = refl;
-  code = pos 5;
-  cause = refl;
-  told = refl;
-}
-
--- nothing is left as the server stops
-abbrev before_stop : List Entry
-before_stop = serves ∷ joins ∷ connects ∷ first_end ∷ connected ∷ sends 6 2 ∷ second_end ∷ closes 8 ∷ []
-
-abbrev IsDone : List Entry → Entry → Type 0
-IsDone before e = (m : MsgNo) → Accepts e m → finishes (effects_of before_stop) m ≡ 1
-
-accepted_number : List Effect → ℕ
-accepted_number (effect.Accept m ∷ rest) = m.0
-accepted_number _ = 0
-
-other_told : (e : Entry) (m : MsgNo) → accepts e.effects ≡ 0 → Accepts e m → ⊥
-other_told e m none a = let told = ap accepts a.told in absurd (omega arith)
-
-number_told : (n : ℕ) (e : Entry) (m : MsgNo) → e.effects ≡ accepted n → Accepts e m → message n ≡ m
-unfolding accepted_number
-number_told n e m is a = let made : ℕ → MsgNo = λ k. record { 0 = k } in ap made (ap accepted_number (sym is ∙ a.told))
-
-all_done : AtEach IsDone [] before_stop
-all_done = (
-  λ m a. absurd (other_told serves m refl a),
-  (
-    λ m a. absurd (other_told joins m refl a),
-    (
-      λ m a. subst (λ (n : MsgNo). finishes (effects_of before_stop) n ≡ 1) (number_told 1 connects m refl a) refl,
-      (
-        λ m a. absurd (other_told first_end m refl a),
-        (
-          λ m a. absurd (other_told connected m refl a),
-          (
-            λ m a. subst (λ (n : MsgNo). finishes (effects_of before_stop) n ≡ 1) (number_told 2 (sends 6 2) m refl a) refl,
-            (
-              λ m a. absurd (other_told second_end m refl a),
-              (
-                λ m a. absurd (other_told (closes 8) m refl a),
-                tt,
-              ),
-            ),
-          ),
-        ),
-      ),
-    ),
-  ),
-)
-
-nothing_left : NothingLeft before_stop (number 6)
-nothing_left m a linked = at-each IsDone [] before_stop a.before a.at a.later all_done a.stands m a.by
-
--- So the history is safe.
-abbrev IsFine : List Entry → Entry → Type 0
-IsFine before e = (0 < accepts e.effects → IsAcceptance before e) × ((m : MsgNo) → 0 < finishes e.effects m → IsFinish served_script before e m) × ((v : ObjNo) → 0 < ends e.effects v → NothingLeft before v)
-
-one_object : (n : ℕ) (v : ObjNo) → 0 < (if n == v.0 then 1 else 0) + 0 → number n ≡ v
-one_object n v some = by (n == v.0) refl some
-  where
-    by : (b : Bool) → (n == v.0) ≡ b → 0 < (if b then 1 else 0) + 0 → number n ≡ v
-    by true is some = let made : ℕ → ObjNo = λ k. record { 0 = k } in ap made (eqb-true n v.0 is)
-    by false is some = absurd (omega arith)
-
-each_fine : AtEach IsFine [] served
-each_fine = (
-  (λ some. absurd (omega arith), λ m some. absurd (omega arith), λ v some. absurd (omega arith)),
-  (
-    (λ some. absurd (omega arith), λ m some. absurd (omega arith), λ v some. absurd (omega arith)),
-    (
-      (λ some. first_accepted, λ m some. absurd (omega arith), λ v some. absurd (omega arith)),
-      (
-        (λ some. absurd (omega arith), λ m some. subst (IsFinish served_script opens first_end) (one_number 1 m some) first_finished, λ v some. absurd (omega arith)),
-        (
-          (λ some. absurd (omega arith), λ m some. absurd (omega arith), λ v some. absurd (omega arith)),
-          (
-            (λ some. second_accepted, λ m some. absurd (omega arith), λ v some. absurd (omega arith)),
-            (
-              (λ some. absurd (omega arith), λ m some. subst (IsFinish served_script (opens ++ first_end ∷ connected ∷ sends 6 2 ∷ []) second_end) (one_number 2 m some) second_finished, λ v some. absurd (omega arith)),
-              (
-                (λ some. absurd (omega arith), λ m some. absurd (omega arith), λ v some. absurd (omega arith)),
-                (
-                  (λ some. absurd (omega arith), λ m some. absurd (omega arith), λ v some. subst (NothingLeft before_stop) (one_object 6 v some) nothing_left),
-                  tt,
-                ),
-              ),
-            ),
-          ),
-        ),
-      ),
-    ),
-  ),
-)
-
-served_safe : IsSafeMessages served_script served
-served_safe = record {
-  acceptances = λ before e later is some. (at-each IsFine [] served before e later each_fine is).0 some;
-  finished = λ before e later m is some. (at-each IsFine [] served before e later each_fine is).1 m some;
-  ended = λ before e later v is some. (at-each IsFine [] served before e later each_fine is).2 v some;
-}
+use Rattle.machine_safe.specs.SafeMessages.{IsSafeMessages, notice, code_of_complete}
+use Rattle.machine_safe.specs.Sent.{Accepts, accepts, accepts_by, instruction_in, status_by}
+use Rattle.machine_safe.specs.Served.{ends, owner_in, server_told, is_closing_in}
+use Rattle.machine_safe.proofs.ServedHistory.{served_script, number, message, acts, accepted, serves, joins, connects, completes, first_end, connected, sends, closes, stops, opens, AtEach, at-each, other_told, number_told}
 
 -- No message is finished a second time.
 finished_twice : (script : Script) → IsSafeMessages script (opens ++ first_end ∷ completes 5 1 (effect.Finish (message 1) (pos 0) ∷ []) ∷ []) → ⊥
@@ -285,11 +55,11 @@ nothing_more : (told : Option StatusNo) (client : ObjNo) (code : ℤ) → length
 nothing_more None client code = refl
 nothing_more (Some s) client code = refl
 
-second_object : List Effect → ObjNo
+pub second_object : List Effect → ObjNo
 second_object (a ∷ effect.Plus h s ∷ rest) = s
 second_object _ = number 0
 
-third_object : List Effect → ObjNo
+pub third_object : List Effect → ObjNo
 third_object (a ∷ b ∷ effect.Plus h c ∷ rest) = c
 third_object _ = number 0
 
@@ -322,12 +92,132 @@ accepted_late script safe =
     let own : number 6 ≡ a.server = cc in
     let accepting : true ≡ false = subst (λ (v : ObjNo). is_closing_in (opens ++ first_end ∷ connected ∷ closes 6 ∷ []) v ≡ false) (sym own) a.accepting in cc
 
--- And no thread is cleaned before its server ended.
-abbrev owner_dies : Entry
-owner_dies = acts 2 3 step.End (effect.Doom (number 3) ∷ []) None
+-- None is accepted in a step that isn't one that accepts: a call under the name of a time slice's end, whose client would wait for ever.
+abbrev calls_turning : Entry
+calls_turning = acts 6 5 step.Turn (accepted 2) None
 
-abbrev owner_is_cleaned : Entry
-owner_is_cleaned = acts 3 3 step.Clean [] None
+accepted_turning : (script : Script) → IsSafeMessages script (opens ++ first_end ∷ connected ∷ calls_turning ∷ []) → ⊥
+accepted_turning script safe =
+    let a = safe.acceptances (opens ++ first_end ∷ connected ∷ []) calls_turning [] refl (omega arith) in
+    let other : accepts_by step.Turn (status_by step.Turn (instruction_in script (opens ++ first_end ∷ connected ∷ []) a.by.client)) ≡ true = a.step in cc
 
-cleaned_early : IsSafeServers (serves ∷ owner_dies ∷ owner_is_cleaned ∷ []) → ⊥
-cleaned_early safe = let over : 0 < 0 = safe.ended (serves ∷ owner_dies ∷ []) owner_is_cleaned [] (number 3) (number 6) refl (omega arith) refl in absurd (omega arith)
+-- Nor in a `send` whose client is at no such instruction: it has a `connect` there.
+abbrev sends_connecting : Entry
+sends_connecting = acts 3 5 (step.Of word.Send part.Do) (accepted 1) (Some (pos 0))
+
+accepted_misplaced : IsSafeMessages served_script (serves ∷ joins ∷ sends_connecting ∷ []) → ⊥
+unfolding boot_of third_object
+accepted_misplaced safe =
+    let a = safe.acceptances (serves ∷ joins ∷ []) sends_connecting [] refl (omega arith) in
+    let client : number 5 ≡ a.by.client = ap third_object a.by.told in
+    let other : false ≡ true = subst (λ (u : ObjNo). accepts_by (step.Of word.Send part.Do) (status_by (step.Of word.Send part.Do) (instruction_in served_script (serves ∷ joins ∷ []) u)) ≡ true) (sym client) a.step in cc
+
+-- Messages are numbered in order, one an entry, and it is the acting thread that sends.
+first_message : List Effect → MsgNo
+first_message (effect.Accept m ∷ rest) = m
+first_message _ = message 0
+
+accepted_unordered : (script : Script) → IsSafeMessages script (opens ++ first_end ∷ connected ∷ sends 6 3 ∷ []) → ⊥
+unfolding first_message
+accepted_unordered script safe =
+    let a = safe.acceptances (opens ++ first_end ∷ connected ∷ []) (sends 6 3) [] refl (omega arith) in
+    let own : ◌≡◌ {A = ℕ} 3 a.message.0 = ap (λ (l : List Effect). (first_message l).0) a.by.told in
+    let number : a.message.0 ≡ 2 = a.number in absurd (omega arith)
+
+abbrev sends_two : Entry
+sends_two = acts 6 5 (step.Of word.Send part.Do) (accepted 2 ++ accepted 3) (Some (pos 0))
+
+accepted_two : (script : Script) → IsSafeMessages script (opens ++ first_end ∷ connected ∷ sends_two ∷ []) → ⊥
+accepted_two script safe =
+    let a = safe.acceptances (opens ++ first_end ∷ connected ∷ []) sends_two [] refl (omega arith) in
+    let all : ◌≡◌ {A = ℕ} 2 (1 + accepts a.by.rest) = ap accepts a.by.told in
+    let only = a.only in absurd (omega arith)
+
+abbrev sends_for_another : Entry
+sends_for_another = acts 6 3 (step.Of word.Send part.Do) (accepted 2) (Some (pos 0))
+
+accepted_for_another : (script : Script) → IsSafeMessages script (opens ++ first_end ∷ connected ∷ sends_for_another ∷ []) → ⊥
+unfolding third_object
+accepted_for_another script safe =
+    let a = safe.acceptances (opens ++ first_end ∷ connected ∷ []) sends_for_another [] refl (omega arith) in
+    let client : number 5 ≡ a.by.client = ap third_object a.by.told in
+    let other : false ≡ true = subst (λ (u : ObjNo). is_by u (Thread (number 3)) ≡ true) (sym client) a.client in cc
+
+-- Nor by a server that ended.
+accepted_ended : (script : Script) → IsSafeMessages script (opens ++ first_end ∷ connected ∷ stops ∷ sends 7 2 ∷ []) → ⊥
+unfolding second_object
+accepted_ended script safe =
+    let before = opens ++ first_end ∷ connected ∷ stops ∷ [] in
+    let a = safe.acceptances (opens ++ first_end ∷ connected ∷ stops ∷ []) (sends 7 2) [] refl (omega arith) in
+    let session : number 7 ≡ a.by.session = ap second_object a.by.told in
+    let server : Some (number 6) ≡ Some a.server = subst (λ (x : ObjNo). server_told (effects_of (opens ++ first_end ∷ connected ∷ stops ∷ [])) x ≡ Some a.server) (sym session) a.linked in
+    let own : number 6 ≡ a.server = cc in
+    let lasts : ◌≡◌ {A = ℕ} 1 0 = subst (λ (v : ObjNo). ends (effects_of (opens ++ first_end ∷ connected ∷ stops ∷ [])) v ≡ 0) (sym own) a.lasts in absurd (omega arith)
+
+-- No message is finished that wasn't accepted,
+abbrev never_accepted : List Entry → Entry → Type 0
+never_accepted before e = Accepts e (message 9) → ⊥
+
+each_other : AtEach never_accepted [] opens
+each_other = (λ a. other_told serves (message 9) refl a, (λ a. other_told joins (message 9) refl a, (λ a. let same : ◌≡◌ {A = ℕ} 1 9 = ap (λ (m : MsgNo). m.0) (number_told 1 connects (message 9) refl a) in omega arith, tt)))
+
+finished_unaccepted : (script : Script) → IsSafeMessages script (opens ++ completes 4 9 (effect.Finish (message 9) (pos 0) ∷ []) ∷ []) → ⊥
+finished_unaccepted script safe =
+    let end = safe.finished opens (completes 4 9 (effect.Finish (message 9) (pos 0) ∷ [])) [] (message 9) refl (omega arith) in
+    let a = end.accepted in at-each never_accepted [] opens a.before a.at a.later each_other a.stands a.by
+
+-- or by another than the owner of its server.
+abbrev NamesSession : List Entry → Entry → Type 0
+NamesSession before e = (by : Accepts e (message 1)) → number 7 ≡ by.session
+
+each_session : AtEach NamesSession [] opens
+unfolding second_object
+each_session = (λ a. absurd (other_told serves (message 1) refl a), (λ a. absurd (other_told joins (message 1) refl a), (λ a. ap second_object a.told, tt)))
+
+abbrev ends_own : Entry
+ends_own = acts 4 5 (step.Of word.Complete part.Do) (effect.Finish (message 1) (pos 0) ∷ effect.Signal (number 5) status.Sync (pos 0) ∷ []) (Some (pos 0))
+
+finished_by_another : (script : Script) → IsSafeMessages script (opens ++ ends_own ∷ []) → ⊥
+finished_by_another script safe =
+    let end = safe.finished opens ends_own [] (message 1) refl (omega arith) in
+    let a = end.accepted in
+    let session : number 7 ≡ a.by.session = at-each NamesSession [] opens a.before a.at a.later each_session a.stands a.by in
+    let server : Some (number 6) ≡ Some end.server = subst (λ (x : ObjNo). server_told (effects_of opens) x ≡ Some end.server) (sym session) end.linked in
+    let own : number 6 ≡ end.server = cc in
+    let owner : Some (number 3) ≡ Some end.owner = subst (λ (v : ObjNo). owner_in opens v ≡ Some end.owner) (sym own) end.owns in
+    let actor : Thread (number 5) ≡ Thread end.owner = end.actor in
+    let both : number 5 ≡ number 3 = cc in
+    let same : ◌≡◌ {A = ℕ} 5 3 = ap (λ (x : ObjNo). x.0) both in omega arith
+
+-- A client that lives is told.
+abbrev NamesStatus : List Entry → Entry → Type 0
+NamesStatus before e = (by : Accepts e (message 1)) → Some status.Sync ≡ status_by e.step (instruction_in served_script before by.client)
+
+each_status : AtEach NamesStatus [] opens
+unfolding boot_of third_object
+each_status = (
+  λ a. absurd (other_told serves (message 1) refl a),
+  (
+    λ a. absurd (other_told joins (message 1) refl a),
+    (
+      λ a. subst (λ (u : ObjNo). Some status.Sync ≡ status_by (step.Of word.Connect part.Send) (instruction_in served_script (serves ∷ joins ∷ []) u)) (ap third_object a.told) refl,
+      tt,
+    ),
+  ),
+)
+
+abbrev ends_silent : Entry
+ends_silent = completes 4 1 (effect.Finish (message 1) (pos 0) ∷ [])
+
+-- none of those that act here is doomed
+undoomed : (u : ObjNo) → nat_lt 0 (dooms (effects_of opens) u) ≡ false
+undoomed u = refl
+
+told_nobody : IsSafeMessages served_script (opens ++ ends_silent ∷ []) → ⊥
+told_nobody safe =
+    let end = safe.finished opens ends_silent [] (message 1) refl (omega arith) in
+    let a = end.accepted in
+    let told = at-each NamesStatus [] opens a.before a.at a.later each_status a.stands a.by in
+    let all = ap length end.told in
+    let doomed = ap (λ (b : Bool). length (notice (status_by a.at.step (instruction_in served_script a.before a.by.client)) b a.by.client end.code)) (undoomed a.by.client) in
+    let one : ◌≡◌ {A = ℕ} 1 (length (notice (status_by a.at.step (instruction_in served_script a.before a.by.client)) false a.by.client end.code)) = ap (λ (x : Option StatusNo). length (notice x false a.by.client end.code)) told in absurd (omega arith)

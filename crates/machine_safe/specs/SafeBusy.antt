@@ -13,7 +13,8 @@ use Rattle.machine_safe.specs.CountAfter.{effects_of}
 use Rattle.machine_safe.specs.SafeDeaths.{StandsAt}
 use Rattle.machine_safe.specs.Sent.{accepts}
 use Rattle.machine_safe.specs.Served.{is_closing_in, server_told}
-use Rattle.machine_safe.specs.Slotted.{is_send, slots_in, used_in, used_told}
+use Rattle.machine_safe.specs.Slotted.{looked_in, slots_in, used_in}
+use Rattle.machine.specs.EntryWords.{is_send}
 
 -- whether a session's server accepts messages: it isn't closing
 abbrev pub accepts_in : List Entry → Option ObjNo → Bool
@@ -40,7 +41,7 @@ pub record IsSendAnswer (script : Script) (before : List Entry) (e : Entry) : Ty
   pub thread : ObjNo
   pub actor : e.actor ≡ Thread thread
   pub session : ObjNo
-  pub used : used_told (effects_of before) thread ≡ Some session
+  pub looked : looked_in before thread ≡ Some session
   pub answer : e.answer ≡ Some (answer_of (accepts_in before (server_told (effects_of before) session)) (is_full_in script before session (slots_in script before session)))
   pub accepted : accepts e.effects ≡ accepted_of (accepts_in before (server_told (effects_of before) session)) (is_full_in script before session (slots_in script before session))
 

@@ -1,6 +1,6 @@
 -- Safe deaths: a thread dies once, in stages, and a dead one holds, owes and receives nothing. All but the last part is
 -- read off the history alone.
-use Rattle.std.specs.Prelude.{◌≡◌, ℕ, ◌+◌, ◌<◌, ◌≤◌, ◌==◌, ◌&&◌, Bool, true, false, if◌then◌else◌, List, [], ◌∷◌, ◌++◌, Some}
+use Rattle.std.specs.Prelude.{◌≡◌, ℕ, ◌+◌, ◌<◌, ◌≤◌, ◌==◌, ◌&&◌, Bool, true, false, if◌then◌else◌, List, [], ◌∷◌, ◌++◌, Some, None}
 use Rattle.sym_base.specs.declared.number.ObjNo.{ObjNo}
 use Rattle.script_types.specs.declared.script.Script.{Script}
 use Rattle.entry_log.specs.declared.effect.Effect.{Effect}
@@ -10,15 +10,20 @@ use Rattle.entry_log.specs.declared.effect.Holder.TheVariants.{InProcess, InThre
 use Rattle.entry_log.specs.declared.effect.LockNo.{LockNo}
 use Rattle.entry_log.specs.declared.effect.LockNo.TheVariants.{Object, Fast}
 use Rattle.entry_log.specs.declared.entry.Entry.{Entry}
-use Rattle.entry_log.specs.declared.step.Step.{Step}
-use Rattle.entry_log.specs.declared.step.Step.TheVariants.{Clean}
 use Rattle.state_rows.specs.declared.thread.ThreadRow.{ThreadRow}
 use Rattle.machine.specs.Boot.{boot}
 use Rattle.machine.specs.History.{after}
 use Rattle.machine.specs.Holding.{held_after_all, held_at_boot}
 use Rattle.machine.specs.Holdings.{holdings}
 use Rattle.machine.specs.References.{same}
-use Rattle.machine.specs.Rows.{thread_of, owed_of}
+use Rattle.machine.specs.LogonMoves.{logons_on}
+use Rattle.machine.specs.Rows.{table_of, thread_of, owed_of}
+use Rattle.machine.specs.ServerMoves.{owned_by}
+use Rattle.machine.specs.declared.state.State.{State}
+use Rattle.state_rows.specs.HandleSlots.{slot_at}
+use Rattle.state_rows.specs.Nano.{held_by}
+use Rattle.std.specs.List.{slice_index_or}
+use Rattle.machine.specs.EntryWords.{is_clean}
 use Rattle.machine_safe.specs.CountAfter.{effects_of, is_by, pluses_by}
 
 -- how often effects say that a thread is doomed, and that it is buried
@@ -33,10 +38,6 @@ burials (Bury u ∷ rest) t = same u t + burials rest t
 burials (_ ∷ rest) t = burials rest t
 
 -- how often a thread is cleaned in entries: that is a step of its own
-abbrev pub is_clean : Step → Bool
-is_clean Clean = true
-is_clean _ = false
-
 abbrev pub cleanings : List Entry → ObjNo → ℕ
 cleanings [] t = 0
 cleanings (e ∷ es) t = (if is_by t e.actor && is_clean e.step then 1 else 0) + cleanings es t
@@ -100,12 +101,25 @@ pub record CleanLeaves (script : Script) (history : List Entry) (t : ObjNo) : Ty
   pub handles : (before : List Entry) (e : Entry) (later : List Entry) (row : ThreadRow) (i : ℕ) (o : ObjNo) → StandsAt history before e later → 0 < cleanings (e ∷ []) t → thread_of (boot script) t ≡ Some row →
       OthersAreCleaned script before row.process t → held_after_all (held_at_boot script) (effects_of before) (InProcess row.process i) o ≡ 0
 
--- From then on it doesn't act, gets no reference of its own, and has nothing left.
+-- Nothing is a thread's: no lock, no place of its table, no logon on it, and no server, closing or not. This doesn't ask for its row, which may
+-- be swept.
+pub record HasNone (S : State) (t : ObjNo) : Type 0 where
+  pub mutexes : slice_index_or S.mutexes t.0 [] ≡ []
+  pub fast : held_by S.nano t ≡ None
+  pub handles : (i : ℕ) → (slot_at (table_of S t) i).object ≡ None
+  pub logons : logons_on S.logons t ≡ []
+  pub servers : owned_by S.owned t ≡ []
+
+-- From then on it doesn't act, gets no reference of its own, nor does its process's table where all others of that are cleaned too, and it
+-- has nothing left.
 pub record StaysDead (script : Script) (history : List Entry) (t : ObjNo) : Type 0 where
   pub acts : (before : List Entry) (e : Entry) (later : List Entry) → StandsAt history before e later → 0 < cleanings before t → is_by t e.actor ≡ false
   pub gains : (before : List Entry) (e : Entry) (later : List Entry) (h : Holder) (o : ObjNo) → StandsAt history before e later → 0 < cleanings before t → is_own t h ≡ true → pluses_by e.effects h o ≡ 0
+  pub shares : (before : List Entry) (e : Entry) (later : List Entry) (row : ThreadRow) (i : ℕ) (o : ObjNo) → StandsAt history before e later → 0 < cleanings before t → thread_of (boot script) t ≡ Some row →
+      OthersAreCleaned script before row.process t → pluses_by e.effects (InProcess row.process i) o ≡ 0
   pub owes : (before later : List Entry) → history ≡ before ++ later → 0 < cleanings before t → owed_of (after script before) t ≡ []
   pub has : (before later : List Entry) (row : ThreadRow) → history ≡ before ++ later → 0 < cleanings before t → thread_of (after script before) t ≡ Some row → holdings (after script before) t row ≡ []
+  pub none : (before later : List Entry) → history ≡ before ++ later → 0 < cleanings before t → HasNone (after script before) t
 
 pub record IsSafeDeaths (script : Script) (history : List Entry) : Type 0 where
   pub order : (t : ObjNo) → DiesInOrder history t

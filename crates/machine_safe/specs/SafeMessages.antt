@@ -1,5 +1,5 @@
 -- Safe messages: each is accepted by a server that isn't closing, and finished once, by that server's owner; and its client is told so
--- where it lives. All of it is read off the history alone.
+-- where it lives. A server ends once, where it is closing. All of it is read off the history alone.
 use Rattle.std.specs.Prelude.{◌≡◌, ℤ, ◌+◌, ◌<◌, Bool, true, false, nat_lt, List, [], ◌∷◌, Option, Some, None}
 use Rattle.sym_base.specs.declared.error.Error.TheVariants.{ServerTerminated}
 use Rattle.sym_base.specs.declared.number.MsgNo.{MsgNo}
@@ -18,17 +18,18 @@ use Rattle.entry_log.specs.declared.step.Step.{Step}
 use Rattle.entry_log.specs.declared.step.Step.TheVariants as step
 use Rattle.machine_safe.specs.CountAfter.{effects_of, is_by}
 use Rattle.machine_safe.specs.SafeDeaths.{StandsAt, dooms}
-use Rattle.machine_safe.specs.Sent.{Accepts, WasAccepted, accepts, finishes, instruction_in, status_by}
+use Rattle.machine_safe.specs.Sent.{Accepts, WasAccepted, accepts, accepts_by, finishes, instruction_in, status_by}
 use Rattle.machine_safe.specs.Served.{ends, is_closing_in, owner_in, server_told}
 
--- An acceptance: messages are numbered 1, 2 and so on, an entry accepts one at most, which the acting thread sends, and the session's
--- server isn't closing before it, and has not ended.
-pub record IsAcceptance (before : List Entry) (e : Entry) : Type 0 where
+-- An acceptance: messages are numbered 1, 2 and so on, an entry accepts one at most, which the acting thread sends, in a step that accepts, with
+-- the status that its instruction names; and the session's server isn't closing before it, and has not ended.
+pub record IsAcceptance (script : Script) (before : List Entry) (e : Entry) : Type 0 where
   pub message : MsgNo
   pub by : Accepts e message
   pub number : message.0 ≡ accepts (effects_of before) + 1
   pub only : accepts by.rest ≡ 0
   pub client : is_by by.client e.actor ≡ true
+  pub step : accepts_by e.step (status_by e.step (instruction_in script before by.client)) ≡ true
   pub server : ObjNo
   pub linked : server_told (effects_of before) by.session ≡ Some server
   pub accepting : is_closing_in before server ≡ false
@@ -68,8 +69,16 @@ pub record IsFinish (script : Script) (before : List Entry) (e : Entry) (m : Msg
 abbrev pub NothingLeft : List Entry → ObjNo → Type 0
 NothingLeft before v = (m : MsgNo) (accepted : WasAccepted before m) → server_told (effects_of before) accepted.by.session ≡ Some v → finishes (effects_of before) m ≡ 1
 
+-- The end of a server: it is closing and has not ended, nothing is left of it, and nothing is accepted beside it.
+pub record IsEnd (before : List Entry) (e : Entry) (v : ObjNo) : Type 0 where
+  pub closing : is_closing_in before v ≡ true
+  pub first : ends (effects_of before) v ≡ 0
+  pub once : ends e.effects v ≡ 1
+  pub alone : accepts e.effects ≡ 0
+  pub left : NothingLeft before v
+
 pub record IsSafeMessages (script : Script) (history : List Entry) : Type 0 where
-  pub acceptances : (before : List Entry) (e : Entry) (later : List Entry) → StandsAt history before e later → 0 < accepts e.effects → IsAcceptance before e
+  pub acceptances : (before : List Entry) (e : Entry) (later : List Entry) → StandsAt history before e later → 0 < accepts e.effects → IsAcceptance script before e
   pub finished : (before : List Entry) (e : Entry) (later : List Entry) (m : MsgNo) → StandsAt history before e later → 0 < finishes e.effects m → IsFinish script before e m
-  -- where a server ends, nothing is left of it
-  pub ended : (before : List Entry) (e : Entry) (later : List Entry) (v : ObjNo) → StandsAt history before e later → 0 < ends e.effects v → NothingLeft before v
+  -- a server ends where it is closing and nothing is left of it, once
+  pub ended : (before : List Entry) (e : Entry) (later : List Entry) (v : ObjNo) → StandsAt history before e later → 0 < ends e.effects v → IsEnd before e v

@@ -18,8 +18,9 @@ abbrev pub DiesAtZero : Script → List Entry → ObjNo → Type 0
 DiesAtZero script history o = (before : List Entry) (e : Entry) (later : List Entry) → history ≡ before ++ e ∷ later →
     0 < minuses e.effects o → count_after script (before ++ e ∷ []) later o ≡ 0 → 0 < deaths e.effects o
 
--- after an entry says that the object died no entry adds a reference to it; it is swept once at most, and only after such an entry
+-- it dies once at most; after an entry says that it died no entry adds a reference to it; it is swept once at most, and only after such an entry
 pub record IsOver (history : List Entry) (o : ObjNo) : Type 0 where
+  pub dies : deaths (effects_of history) o ≤ 1
   pub closed : (before : List Entry) (e : Entry) (later : List Entry) → history ≡ before ++ e ∷ later → 0 < deaths e.effects o → pluses (effects_of later) o ≡ 0
   pub once : removals (effects_of history) o ≤ 1
   pub swept : (before : List Entry) (e : Entry) (later : List Entry) → history ≡ before ++ e ∷ later → 0 < removals e.effects o → 0 < deaths (effects_of before) o

@@ -1,6 +1,6 @@
 -- What the entries of a history tell of messages: how many were accepted, which were finished, who sent one and how, and at which
 -- instruction a thread was.
-use Rattle.std.specs.Prelude.{◌≡◌, ℕ, ◌+◌, ◌==◌, ◌&&◌, is_some, if◌then◌else◌, List, [], ◌∷◌, Option, Some, None}
+use Rattle.std.specs.Prelude.{◌≡◌, ℕ, ◌+◌, ◌==◌, ◌&&◌, Bool, true, false, is_some, if◌then◌else◌, List, [], ◌∷◌, Option, Some, None}
 use Rattle.sym_base.specs.declared.number.MsgNo.{MsgNo}
 use Rattle.sym_base.specs.declared.number.ObjNo.{ObjNo}
 use Rattle.sym_base.specs.declared.word.Word.TheVariants as word
@@ -13,8 +13,9 @@ use Rattle.entry_log.specs.declared.effect.Holder.TheVariants as holder
 use Rattle.entry_log.specs.declared.effect.StatusNo.{StatusNo}
 use Rattle.entry_log.specs.declared.effect.StatusNo.TheVariants.{Async, Sync}
 use Rattle.entry_log.specs.declared.entry.Entry.{Entry}
+use Rattle.entry_log.specs.declared.step.Part.TheVariants as part
 use Rattle.entry_log.specs.declared.step.Step.{Step}
-use Rattle.entry_log.specs.declared.step.Step.TheVariants.{Of}
+use Rattle.entry_log.specs.declared.step.Step.TheVariants.{Of, Shut}
 use Rattle.state_rows.specs.declared.thread.ThreadRow.{ThreadRow}
 use Rattle.machine.specs.Boot.{boot}
 use Rattle.machine.specs.Rows.{thread_of}
@@ -61,14 +62,20 @@ at_place script place (Some row) = instruction script (record row { next_instruc
 abbrev pub instruction_in : Script → List Entry → ObjNo → Option Instr
 instruction_in script es t = at_place script (answers es t) (thread_of (boot script) t)
 
--- The status that a message's client is signalled by: that of the `send`, and the one of synchronous messages where it connects or
--- calls. A message that disconnects has none.
-abbrev pub status_of_send : Option Instr → Option StatusNo
-status_of_send (Some (instr.Send x function status args)) = Some (Async status)
-status_of_send _ = None
-
+-- The status that a message's client is signalled by: that of the `send` at which the client is, and the one of synchronous messages where it is
+-- at a `connect` or `call`. A message that disconnects has none.
 abbrev pub status_by : Step → Option Instr → Option StatusNo
-status_by (Of word.Send part) at = status_of_send at
-status_by (Of word.Call part) at = Some Sync
-status_by (Of word.Connect part) at = Some Sync
+status_by (Of word.Send part) (Some (instr.Send x function status args)) = Some (Async status)
+status_by (Of word.Call part) (Some (instr.Call x function args)) = Some Sync
+status_by (Of word.Connect part) (Some (instr.Connect name slots x)) = Some Sync
 status_by _ at = None
+
+-- Whether a step accepts a message whose client is signalled by this status: a `connect`, `send` or `call` does with one, and the close of a
+-- session's handle with none.
+abbrev pub accepts_by : Step → Option StatusNo → Bool
+accepts_by (Of word.Connect part.Send) (Some status) = true
+accepts_by (Of word.Send part.Do) (Some status) = true
+accepts_by (Of word.Call part.Do) (Some status) = true
+accepts_by (Of word.Close part.Do) None = true
+accepts_by Shut None = true
+accepts_by _ status = false

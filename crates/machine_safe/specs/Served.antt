@@ -5,13 +5,13 @@ use Rattle.sym_base.specs.declared.number.ObjNo.{ObjNo}
 use Rattle.sym_base.specs.declared.word.Word.TheVariants as word
 use Rattle.entry_log.specs.declared.effect.Effect.{Effect}
 use Rattle.entry_log.specs.declared.effect.Effect.TheVariants.{Plus, Minus, Terminated}
-use Rattle.entry_log.specs.declared.effect.Holder.{Holder}
-use Rattle.entry_log.specs.declared.effect.Holder.TheVariants.{InProcess, InThread, Own, Link}
+use Rattle.entry_log.specs.declared.effect.Holder.TheVariants.{Own, Link}
 use Rattle.entry_log.specs.declared.entry.Entry.{Entry}
 use Rattle.entry_log.specs.declared.step.Part.TheVariants as part
 use Rattle.entry_log.specs.declared.step.Step.{Step}
 use Rattle.entry_log.specs.declared.step.Step.TheVariants as step
 use Rattle.machine.specs.References.{same}
+use Rattle.machine.specs.EntryWords.{is_handle, makes_server}
 use Rattle.machine_safe.specs.CountAfter.{effects_of}
 use Rattle.machine_safe.specs.SafeDeaths.{dooms}
 
@@ -35,20 +35,11 @@ owner_told [] v = None
 owner_told (Plus (Own t) o ∷ rest) v = or_before (owner_told rest v) (one_if (o.0 == v.0) t)
 owner_told (_ ∷ rest) v = owner_told rest v
 
-abbrev pub makes_server : Step → Bool
-makes_server (step.Of word.Server part.Do) = true
-makes_server _ = false
-
 abbrev pub owner_in : List Entry → ObjNo → Option ObjNo
 owner_in [] v = None
 owner_in (e ∷ es) v = or_before (owner_in es v) (if makes_server e.step then owner_told e.effects v else None)
 
 -- how often handles of an object are closed, by `close` or in the death of a thread
-abbrev pub is_handle : Holder → Bool
-is_handle (InProcess p i) = true
-is_handle (InThread t i) = true
-is_handle _ = false
-
 abbrev pub handles_lost : List Effect → ObjNo → ℕ
 handles_lost [] v = 0
 handles_lost (Minus h o ∷ rest) v = (if is_handle h then same o v else 0) + handles_lost rest v

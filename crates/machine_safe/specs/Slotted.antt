@@ -1,12 +1,10 @@
 -- What the entries of a history tell of message slots: which session a thread's `send` is over, which slots a session has, and which
 -- messages take them.
-use Rattle.std.specs.Prelude.{ℕ, ◌==◌, ◌&&◌, Bool, true, false, is_some, filter, length, if◌then◌else◌, List, [], ◌∷◌, ◌++◌, Option, Some, None}
+use Rattle.std.specs.Prelude.{ℕ, ◌==◌, Bool, false, is_some, filter, length, if◌then◌else◌, List, [], ◌∷◌, ◌++◌, Option, Some, None, true, ◌&&◌}
 use Rattle.sym_base.specs.declared.kind.Slots.{Slots}
 use Rattle.sym_base.specs.declared.kind.Slots.TheVariants.{Own, Pool}
 use Rattle.sym_base.specs.declared.number.MsgNo.{MsgNo}
 use Rattle.sym_base.specs.declared.number.ObjNo.{ObjNo}
-use Rattle.sym_base.specs.declared.word.Word.{Word}
-use Rattle.sym_base.specs.declared.word.Word.TheVariants as word
 use Rattle.script_types.specs.declared.instruction.Instr.{Instr}
 use Rattle.script_types.specs.declared.instruction.Instr.TheVariants as instr
 use Rattle.script_types.specs.declared.script.Script.{Script}
@@ -16,33 +14,30 @@ use Rattle.entry_log.specs.declared.effect.Holder.TheVariants.{Temp}
 use Rattle.entry_log.specs.declared.entry.Actor.{Actor}
 use Rattle.entry_log.specs.declared.entry.Actor.TheVariants.{Thread}
 use Rattle.entry_log.specs.declared.entry.Entry.{Entry}
-use Rattle.entry_log.specs.declared.step.Part.{Part}
 use Rattle.entry_log.specs.declared.step.Part.TheVariants as part
 use Rattle.entry_log.specs.declared.step.Step.{Step}
 use Rattle.entry_log.specs.declared.step.Step.TheVariants as step
+use Rattle.sym_base.specs.declared.word.Word.TheVariants as word
 use Rattle.state_rows.specs.MessageRows.{is_pool}
-use Rattle.machine_safe.specs.CountAfter.{effects_of}
+use Rattle.machine.specs.EntryWords.{is_send}
+use Rattle.machine_safe.specs.CountAfter.{effects_of, is_by}
 use Rattle.machine_safe.specs.Sent.{finishes, instruction_in}
 use Rattle.machine_safe.specs.Served.{one_if, or_before, server_told}
 
--- whether a step is the second of a `send`
-abbrev pub is_do : Part → Bool
-is_do part.Do = true
-is_do _ = false
-
-abbrev pub is_send_word : Word → Bool
-is_send_word word.Send = true
-is_send_word _ = false
-
-abbrev pub is_send : Step → Bool
-is_send (step.Of word part) = is_do part && is_send_word word
-is_send _ = false
-
--- the object that a thread came to use last: of a `send` it is the session that its look found
+-- the object that effects say a thread came to use last
 abbrev pub used_told : List Effect → ObjNo → Option ObjNo
 used_told [] t = None
 used_told (effect.Plus (Temp u) o ∷ rest) t = or_before (used_told rest t) (one_if (u.0 == t.0) o)
 used_told (_ ∷ rest) t = used_told rest t
+
+-- the session that a thread's `send` is over: the one that its last look for a `send` came to use
+abbrev pub looks_to_send : Step → Bool
+looks_to_send (step.Of word.Send part.Look) = true
+looks_to_send _ = false
+
+abbrev pub looked_in : List Entry → ObjNo → Option ObjNo
+looked_in [] t = None
+looked_in (e ∷ es) t = or_before (looked_in es t) (if is_by t e.actor && looks_to_send e.step then used_told e.effects t else None)
 
 -- the slots of a session: those that the `connect` names which made it
 abbrev pub slots_of_connect : Option Instr → Option Slots

@@ -10,17 +10,20 @@ ghost use Rattle.machine_safe.specs.SafeServers.{IsSafeServers};
 use entry_log::Entry;
 use script_types::Script;
 
-/// In every legal history of a well-formed script an object dies exactly where its last reference goes, nobody
+/// In every legal history of a well-formed script an object dies once at most, exactly where its last reference goes, nobody
 /// opens it afterwards, and its row goes once, after its death. A reference is added only where its holder
 /// doesn't hold the object, and taken away only where it does. And a thread is doomed, cleaned and buried once
 /// at most each, in this order; after its doom it takes no lock and gets no signal; as it is cleaned it has given
-/// all locks and all references of its own back; and then it never acts, and holds, owes and gets nothing. Messages are
-/// accepted in order of their numbers, each over a session of a server that isn't closing, and finished once at most, by
-/// that server's owner, with the code of its `complete` or, where the server is closing, as terminated; beside that end
+/// all locks and all references of its own back; and then it never acts, and holds, owes and gets nothing, also where
+/// its row is swept, nor does the table of its process get anything once all threads of that are cleaned. Messages are
+/// accepted in order of their numbers, in a step that accepts, with the status that the client's instruction names, each
+/// over a session of a server that isn't closing, and finished once at most, by that server's owner, with the code of its
+/// `complete` or, where the server is closing, as terminated; beside that end
 /// stands what the client is told, and nothing else: the code, by the status that it sent the message with, unless it was
-/// doomed or the message disconnects. Where a server ends each of its messages is finished, and as a thread is cleaned
-/// each server that it made has ended. And a `send` to a server that isn't closing answers KErrServerBusy exactly where all
-/// slots of its session are used, and is accepted else. This call only states it, and changes nothing.
+/// doomed or the message disconnects. A server ends once at most, where it is closing; each of its messages is finished
+/// then, and nothing is accepted beside; and as a thread is cleaned each server that it made has ended. And a `send` to a
+/// server that isn't closing answers KErrServerBusy exactly where all slots are used of its session, which the look of that
+/// `send` found, and is accepted else. This call only states it, and changes nothing.
 pub fn legal_is_safe(script: &Script, history: &[Entry])
     requires valid { IsWellFormed script.now }
     requires legal { IsLegal script.now history.now }

@@ -36,8 +36,12 @@ use Rattle.machine.specs.Dooms.{end, plain_exit}
 use Rattle.machine.specs.Holdings.{held_servers, holdings}
 use Rattle.machine.specs.Reaping.{bury, clean, give_up}
 use Rattle.machine.specs.declared.holding.Holding.{Holding}
+use Rattle.machine.specs.declared.task.Task.{Task}
 use Rattle.machine.specs.declared.task.Task.TheVariants.{Bury, RunDfc}
-use Rattle.machine.specs.Steps.{step_of, return_of, decision_of_row, decision_of_task, decision_where, decision_of}
+use Rattle.machine.specs.Bodies.{run_body, run_dfc}
+use Rattle.machine.specs.Decide.{nothing}
+use Rattle.script_types.specs.declared.declaration.DfcDecl.{DfcDecl}
+use Rattle.machine.specs.Steps.{pay, step_of, return_of, decision_of_row, decision_of_task, decision_where, decision_of}
 use Rattle.machine.specs.Task.{instruction, instructions_of, is_returning, call_task, dying_task, end_task, live_task, next_call, by_stage, pay_or, return_or, step_or_end, work_or, task_of_row, task_of, is_wait, is_waiting_row, is_waiting, is_stopped, is_ready, is_able}
 use Rattle.machine.specs.Fits.{Fits, Sane}
 use Rattle.machine.specs.WellFormed.{AreRows, is_before_use, part_of, weight}
@@ -49,9 +53,10 @@ use Rattle.move_laws.proofs.MoveLaws.Run.{each-sound, sound-pay}
 use Rattle.machine_laws.proofs.Fitting.Servers.{fits-complete, fits-function, fits-receive, fits-server}
 use Rattle.machine_laws.proofs.Fitting.Sessions.{fits-call, fits-connect, fits-connect_return, fits-send}
 use Rattle.machine_laws.proofs.Fitting.Stepping.{FitsDecision, FitsStep, IsStepping, by_kinds, fits-nothing}
-use Rattle.machine_laws.proofs.Fitting.Working.{fits-work}
+use Rattle.machine_laws.proofs.Fitting.Working.{IsGiven, fits-work}
 use Rattle.machine_laws.proofs.Fitting.KernelThreads.{none_is, fits-flock, fits-fswait, fits-fssignal, fits-enter, fits-suspend, fits-resume, fits-priority}
-use Rattle.machine_laws.proofs.Fitting.Bodies.{Goes, goes-body}
+use Rattle.machine_laws.proofs.Fitting.Bodies.{Goes, goes-light, light-body}
+use Rattle.machine_laws.proofs.Fitting.Regular.{IsRegular, Kinds, kind_given, kind_of, looking, may_tell, plain, regular-moves, regular-pay, tame}
 use Rattle.machine_laws.proofs.Fitting.Deaths.{fits-exit, fits-exit_step, fits-exittype, fits-logon}
 use Rattle.machine_laws.proofs.Fitting.Dooms.{fits-end, fits-flush, fits-funlock, fits-leave}
 use Rattle.machine_laws.proofs.Fitting.Reaping.{IsDying, fits-bury, fits-clean, fits-give_up}
@@ -62,11 +67,11 @@ use Rattle.machine_laws.proofs.Fitting.MemoryCalls.{fits-fill, fits-peek}
 use Rattle.machine_laws.proofs.Fitting.Steps.{fits-create_mutex, fits-create_semaphore, fits-dup, fits-duplocal, fits-open, fits-open_return, fits-close}
 
 -- what the kinds of moves say
-few : {script : Script} {S : State} {t : ObjNo} {d : Decision} → FitsDecision script t S d → FitsStep script t S d
+few : {k : Kinds} {script : Script} {S : State} {t : ObjNo} {d : Decision} → FitsDecision k script t S d → FitsStep k script t S d
 few {script = script} {S = S} {t = t} {d = d} fits = by_kinds script S t d fits
 
 -- the steps of instructions fit
-fits-step : (script : Script) (S : State) (t : ObjNo) (row : ThreadRow) (instr : Instr) (p : Option Part) → IsStepping script S t row instr → is_returning row.part ≡ false → row.part ≡ p → FitsStep script t S (step_of script S t row instr p)
+fits-step : (script : Script) (S : State) (t : ObjNo) (row : ThreadRow) (instr : Instr) (p : Option Part) → IsStepping script S t row instr → is_returning row.part ≡ false → row.part ≡ p → FitsStep (kind_of instr p) script t S (step_of script S t row instr p)
 fits-step script S t row (instr.CreateMutex name x) p h going at = few (fits-create_mutex name x h)
 fits-step script S t row (instr.CreateSemaphore name count x) p h going at = few (fits-create_semaphore name count x h)
 fits-step script S t row (instr.Open kind name x) p h going at = few (fits-open kind name x p h h.registers at)
@@ -94,9 +99,9 @@ fits-step script S t row (instr.WaitFor s) p h going at = few (fits-waitfor s p 
 fits-step script S t row (instr.Status s) p h going at = few (fits-status s h)
 fits-step script S t row (instr.Fill at length byte) p h going is = few (fits-fill at length byte h)
 fits-step script S t row (instr.Peek at) p h going is = few (fits-peek at h)
-fits-step script S t row (instr.Kill x reason) p h going at = few (fits-exit_step word.Kill x (plain_exit kind.Kill reason) p h at)
-fits-step script S t row (instr.Terminate x reason) p h going at = few (fits-exit_step word.Terminate x (plain_exit kind.Terminate reason) p h at)
-fits-step script S t row (instr.Panic x category reason) p h going at = few (fits-exit_step word.Panic x (record { kind = kind.Panic; category = category; reason = reason }) p h at)
+fits-step script S t row (instr.Kill x reason) p h going at = few (fits-exit_step word.Kill refl x (plain_exit kind.Kill reason) p h at)
+fits-step script S t row (instr.Terminate x reason) p h going at = few (fits-exit_step word.Terminate refl x (plain_exit kind.Terminate reason) p h at)
+fits-step script S t row (instr.Panic x category reason) p h going at = few (fits-exit_step word.Panic refl x (record { kind = kind.Panic; category = category; reason = reason }) p h at)
 fits-step script S t row (instr.ExitType x) p h going at = few (fits-exittype x p h at)
 fits-step script S t row (instr.Logon x s) p h going at = few (fits-logon x s p h going at)
 fits-step script S t row (instr.Exit reason) p h going at = few (fits-exit reason h going)
@@ -111,7 +116,7 @@ fits-step script S t row (instr.Read y arg offset size from) p h going at = few 
 fits-step script S t row (instr.Write y arg offset size from) p h going at = few (fits-write y arg offset size from p h at)
 
 -- and so do their returns
-fits-returning : (script : Script) (S : State) (t : ObjNo) (row : ThreadRow) (instr : Instr) → IsStepping script S t row instr → is_before_use row.part ≡ true → FitsDecision script t S (return_of S t row instr)
+fits-returning : (script : Script) (S : State) (t : ObjNo) (row : ThreadRow) (instr : Instr) → IsStepping script S t row instr → is_before_use row.part ≡ true → FitsDecision looking script t S (return_of S t row instr)
 fits-returning script S t row (instr.Open kind name x) h before = fits-open_return h before
 fits-returning script S t row (instr.Connect name slots x) h before = fits-connect_return h before
 fits-returning script S t row _ h before = fits-nothing script S t
@@ -128,11 +133,27 @@ pub record Pays (S : State) (t : ObjNo) (ms : List Move) : Type 0 where
   pub moves : ms ≡ move.Pay what ∷ []
   pub owes : owed_of S t ≡ what ∷ rest
 
-goes_by : (script : Script) (S : State) (t : ObjNo) (d : Decision) → owed_of S t ≡ [] → FitsStep script t S d → Goes script t S d.moves
-goes_by script S t d nothing fits = record { each = fits.each; few = let a : total weight (owed_of S t) ≡ 0 = ap (total weight) nothing in let b = fits.light in omega arith; told = fits.told }
+-- an action's moves fit and have room, and it is regular for its kind
+pub record FitsAction (k : Kinds) (script : Script) (S : State) (t : ObjNo) (d : Decision) : Type 0 where
+  pub goes : Goes script t S d.moves
+  pub regular : IsRegular k script S t d
 
-idles : (script : Script) (S : State) (t : ObjNo) → AreRows script S → Goes script t S []
-idles script S t rows = record { each = tt; few = let a = rows.duties.few t.0 in omega arith; told = omega arith }
+-- whatever holds of each action of a thread: the step of an instruction, its return, what is given up, what is paid, and what is plain
+pub record OfAction (script : Script) (S : State) (t : ObjNo) (P : Decision → Type 0) : Type 0 where
+  pub plainly : (d : Decision) → FitsAction plain script S t d → P d
+  pub steps : (row : ThreadRow) (instr : Instr) → thread_of S t ≡ Some row → instruction script row ≡ Some instr → FitsAction (kind_of instr row.part) script S t (step_of script S t row instr row.part) → P (step_of script S t row instr row.part)
+  pub returns : (row : ThreadRow) (instr : Instr) → thread_of S t ≡ Some row → instruction script row ≡ Some instr → FitsAction looking script S t (return_of S t row instr) → P (return_of S t row instr)
+  pub gives : (row : ThreadRow) (what : Holding) → IsGiven S t what → FitsAction (kind_given what) script S t (give_up S t row what) → P (give_up S t row what)
+  pub pays : (what : Owed) (rest : List Owed) → owed_of S t ≡ what ∷ rest → P (pay what)
+
+goes_by : {k : Kinds} (script : Script) (S : State) (t : ObjNo) (d : Decision) → owed_of S t ≡ [] → FitsStep k script t S d → FitsAction k script S t d
+goes_by script S t d nothing fits = record {
+  goes = record { each = fits.each; few = let a : total weight (owed_of S t) ≡ 0 = ap (total weight) nothing in let b = fits.light in omega arith; told = fits.told };
+  regular = fits.regular;
+}
+
+idles : (script : Script) (S : State) (t : ObjNo) → AreRows script S → FitsAction plain script S t nothing
+idles script S t rows = record { goes = record { each = tt; few = let a = rows.duties.few t.0 in omega arith; told = omega arith }; regular = tame _ refl }
 
 -- a number at which a list has something is inside the list
 pub slice_get_inside : {A : Type 0} (xs : List A) (i : ℕ) (x : A) → slice_get xs i ≡ Some x → i < length xs
@@ -178,11 +199,6 @@ stepping script S t row instr shaped rows is live able at nothing = record {
 pub sane-of : (script : Script) (S : State) (t : ObjNo) (row : ThreadRow) → AreRows script S → thread_of S t ≡ Some row → Sane script t S
 sane-of script S t row rows is = record { rows = rows; inside = inside S.threads t.0 row is }
 
--- a live thread at its list's end gives up what protects it, or ends
-end-acts : (script : Script) (S : State) (t : ObjNo) (row : ThreadRow) (protected : Bool) → AreRows script S → thread_of S t ≡ Some row → row.stage ≡ Live → owed_of S t ≡ [] → is_protected S.nano t ≡ protected → Goes script t S (decision_of_task script S t row (end_task protected)).moves
-end-acts script S t row true rows is live o e = goes_by script S t (flush S t) o (few (fits-flush script S t row rows is live))
-end-acts script S t row false rows is live o e = goes_by script S t (end t) o (few (fits-end script S t row rows is live e))
-
 -- a thread that acts, isn't between a find and its return, and owes nothing
 record IsActing (script : Script) (S : State) (t : ObjNo) (row : ThreadRow) : Type 0 where
   pub shaped : IsShaped script
@@ -192,73 +208,131 @@ record IsActing (script : Script) (S : State) (t : ObjNo) (row : ThreadRow) : Ty
   pub going : is_returning row.part ≡ false
   pub paid : owed_of S t ≡ []
 
--- the calls of a queue, and burials
-call-acts : (script : Script) (S : State) (t : ObjNo) (row : ThreadRow) (call : Option ℕ) → IsActing script S t row → Goes script t S (decision_of_row script S t (Some row) (option_map call_task call)).moves
-call-acts script S t row None h = idles script S t h.rows
-call-acts script S t row (Some dfc) h = by (nat_lt dfc 64)
-  where
-    by : (declared : Bool) → Goes script t S (decision_of_row script S t (Some row) (Some (if declared then RunDfc dfc else Bury dfc))).moves
-    by true = goes-body script S t (Deferred dfc) h.shaped (sane-of script S t row h.rows h.is)
-    by false = goes_by script S t (bury script S dfc) h.paid (few (fits-bury script S t dfc h.rows (record { thread = ap is_some h.is; going = ap (λ (r : Option ThreadRow). is_returning (part_of r)) h.is ∙ h.going })))
+-- a body is no cleaning and no `send`
+run-named : (found : Option DfcDecl) → may_tell plain (run_dfc found) ≡ true
+run-named None = refl
+run-named (Some dfc) = refl
 
--- what a live thread does of its own
-own-acts : (script : Script) (S : State) (t : ObjNo) (row : ThreadRow) (at : Option Instr) → row.stage ≡ Live → instruction script row ≡ at → IsActing script S t row → Goes script t S (decision_of_task script S t row (step_or_end (is_protected S.nano t) at)).moves
-own-acts script S t row None live e h = end-acts script S t row (is_protected S.nano t) h.rows h.is live h.paid refl
-own-acts script S t row (Some instr) live e h =
-    goes_by script S t (step_of script S t row instr row.part) h.paid (fits-step script S t row instr row.part (stepping script S t row instr h.shaped h.rows h.is (λ _. live) h.able e h.paid) h.going refl)
-
--- the work of its closing servers comes first
-work-acts : (script : Script) (S : State) (t : ObjNo) (row : ThreadRow) (work : List Holding) → row.stage ≡ Live → held_servers S t ≡ work → IsActing script S t row → Goes script t S (decision_of_task script S t row (work_or work (step_or_end (is_protected S.nano t) (instruction script row)))).moves
-work-acts script S t row [] live e h = own-acts script S t row (instruction script row) live refl h
-work-acts script S t row (what ∷ rest) live e h = goes_by script S t (give_up S t row what) h.paid (few (fits-work what rest (record { rows = h.rows; is = h.is; going = h.going }) e))
-
-live-acts : (script : Script) (S : State) (t : ObjNo) (row : ThreadRow) (role : Role) (call : Option ℕ) → row.stage ≡ Live → IsActing script S t row → Goes script t S (decision_of_row script S t (Some row) (live_task role call (work_or (held_servers S t) (step_or_end (is_protected S.nano t) (instruction script row))))).moves
-live-acts script S t row Supervisor call live h = call-acts script S t row call h
-live-acts script S t row (Queue queue) call live h = call-acts script S t row call h
-live-acts script S t row (Declared k) call live h = work-acts script S t row (held_servers S t) live refl h
-
--- what a doomed one does
 is_dying : (script : Script) (S : State) (t : ObjNo) (row : ThreadRow) → row.stage ≡ Doomed → IsActing script S t row → IsDying script S t row
 is_dying script S t row doomed h = record { rows = h.rows; is = h.is; doomed = doomed; waits = h.able.waits; going = h.going }
 
-dying-acts : (script : Script) (S : State) (t : ObjNo) (row : ThreadRow) (has : List Holding) → row.stage ≡ Doomed → holdings S t row ≡ has → IsActing script S t row → Goes script t S (decision_of_task script S t row (dying_task has)).moves
-dying-acts script S t row [] doomed e h = goes_by script S t (clean script S t row) h.paid (few (fits-clean (is_dying script S t row doomed h) e))
-dying-acts script S t row (what ∷ rest) doomed e h = goes_by script S t (give_up S t row what) h.paid (fits-give_up what rest (is_dying script S t row doomed h) e)
-
--- and what one does at any stage
-stage-acts : (script : Script) (S : State) (t : ObjNo) (row : ThreadRow) (stage : Stage) → row.stage ≡ stage → IsActing script S t row
-    → Goes script t S (decision_of_row script S t (Some row) (by_stage stage (holdings S t row) (live_task row.role (next_call S.deferred row.role) (work_or (held_servers S t) (step_or_end (is_protected S.nano t) (instruction script row)))))).moves
-stage-acts script S t row Live live h = live-acts script S t row row.role (next_call S.deferred row.role) live h
-stage-acts script S t row Doomed doomed h = dying-acts script S t row (holdings S t row) doomed refl h
-stage-acts script S t row Cleaned at h = idles script S t h.rows
-stage-acts script S t row Buried at h = idles script S t h.rows
-
--- a thread that comes back from a find is at an instruction
+-- a number past a list has nothing
 nothing_past : {A : Type 0} (xs : List A) (i : ℕ) → i < length xs → slice_get xs i ≡ None → ⊥
 nothing_past [] i within e = omega arith
 nothing_past (x ∷ xs) zero within e = cc
 nothing_past (x ∷ xs) (suc i) within e = nothing_past xs i (omega arith) e
 
-row-acts : (script : Script) (S : State) (t : ObjNo) (row : ThreadRow) (returns : Bool) (at : Option Instr) (owed : List Owed) → IsShaped script → AreRows script S → thread_of S t ≡ Some row → IsAble S t row → is_returning row.part ≡ returns → instruction script row ≡ at → owed_of S t ≡ owed
-    → let d = decision_of_row script S t (Some row) (return_or returns at (pay_or (first_of owed) (by_stage row.stage (holdings S t row) (live_task row.role (next_call S.deferred row.role) (work_or (held_servers S t) (step_or_end (is_protected S.nano t) (instruction script row))))))) in Goes script t S d.moves ⊎ Pays S t d.moves
-row-acts script S t row true (Some instr) owed shaped rows is able r e o =
-    let nothing = rows.duties.returns t.0 (ap (λ (x : Option ThreadRow). is_returning (part_of x)) is ∙ r) in
-    inl (goes_by script S t (return_of S t row instr) nothing (few (fits-returning script S t row instr (stepping script S t row instr shaped rows is (λ going. absurd (cc)) able e nothing) (returning_before row.part r))))
-row-acts script S t row true None owed shaped rows is able r e o = absurd (nothing_past (instructions_of script row.role) row.next_instruction ((rows.threads.rows t.0 row is).returns r) e)
-row-acts script S t row false at (what ∷ rest) shaped rows is able r e o = inr (record { what = what; rest = rest; moves = refl; owes = o })
-row-acts script S t row false at [] shaped rows is able r e o = inl (stage-acts script S t row row.stage refl (record { shaped = shaped; rows = rows; is = is; able = able; going = r; paid = o }))
+module _ (script : Script) (S : State) (t : ObjNo) (P : Decision → Type 0) (each : OfAction script S t P) where
+  plain-by : (d : Decision) → owed_of S t ≡ [] → FitsDecision plain script t S d → P d
+  plain-by d paid fits = each.plainly d (goes_by script S t d paid (few fits))
 
--- the thread of this row, if there is one
-able-acts : (script : Script) (S : State) (t : ObjNo) (row : Option ThreadRow) → IsShaped script → AreRows script S → thread_of S t ≡ row → is_able script S t ≡ true
-    → let d = decision_of_row script S t row (task_of_row script S t row) in Goes script t S d.moves ⊎ Pays S t d.moves
-able-acts script S t None shaped rows is able = inl (idles script S t rows)
-able-acts script S t (Some row) shaped rows is able =
-    row-acts script S t row (is_returning row.part) (instruction script row) (owed_of S t) shaped rows is (able_is script S t row is able) refl refl refl
+  idle-acts : AreRows script S → P nothing
+  idle-acts rows = each.plainly nothing (idles script S t rows)
 
--- one that isn't able does nothing
-acts : (script : Script) (S : State) (t : ObjNo) (able : Bool) → IsShaped script → AreRows script S → is_able script S t ≡ able → let d = decision_where script able S t (task_of script S t) in Goes script t S d.moves ⊎ Pays S t d.moves
-acts script S t false shaped rows able = inl (idles script S t rows)
-acts script S t true shaped rows able = able-acts script S t (thread_of S t) shaped rows refl able
+  -- a live thread at its list's end gives up what protects it, or ends
+  end-acts : (row : ThreadRow) (protected : Bool) → IsActing script S t row → row.stage ≡ Live → is_protected S.nano t ≡ protected → P (decision_of_task script S t row (end_task protected))
+  end-acts row true h live e = plain-by (flush S t) h.paid (fits-flush script S t row h.rows h.is live)
+  end-acts row false h live e = plain-by (end t) h.paid (fits-end script S t row h.rows h.is live e)
+
+  -- the calls of a queue, and burials
+  call-acts : (row : ThreadRow) (call : Option ℕ) → IsActing script S t row → P (decision_of_row script S t (Some row) (option_map call_task call))
+  call-acts row None h = idle-acts h.rows
+  call-acts row (Some dfc) h = by (nat_lt dfc 64)
+    where
+      by : (declared : Bool) → P (decision_of_row script S t (Some row) (Some (if declared then RunDfc dfc else Bury dfc)))
+      by true =
+          let light = light-body script S t (Deferred dfc) h.shaped (sane-of script S t row h.rows h.is) in
+          each.plainly _ (record { goes = goes-light script S t _ h.rows light; regular = regular-moves (run_body script t S (Deferred dfc)) (run-named (slice_get script.dfcs dfc)) light.calm })
+      by false = plain-by (bury script S dfc) h.paid (fits-bury script S t dfc h.rows (record { thread = ap is_some h.is; going = ap (λ (r : Option ThreadRow). is_returning (part_of r)) h.is ∙ h.going }))
+
+  -- what a live thread does of its own
+  own-acts : (row : ThreadRow) (at : Option Instr) → row.stage ≡ Live → instruction script row ≡ at → IsActing script S t row → P (decision_of_task script S t row (step_or_end (is_protected S.nano t) at))
+  own-acts row None live e h = end-acts row (is_protected S.nano t) h live refl
+  own-acts row (Some instr) live e h =
+      each.steps row instr h.is e (goes_by script S t (step_of script S t row instr row.part) h.paid (fits-step script S t row instr row.part (stepping script S t row instr h.shaped h.rows h.is (λ _. live) h.able e h.paid) h.going refl))
+
+  -- the work of its closing servers comes first
+  work-acts : (row : ThreadRow) (work : List Holding) → row.stage ≡ Live → held_servers S t ≡ work → IsActing script S t row → P (decision_of_task script S t row (work_or work (step_or_end (is_protected S.nano t) (instruction script row))))
+  work-acts row [] live e h = own-acts row (instruction script row) live refl h
+  work-acts row (what ∷ rest) live e h =
+      let work = fits-work what rest (record { rows = h.rows; is = h.is; going = h.going }) e in
+      each.gives row what work.1 (goes_by script S t (give_up S t row what) h.paid (few work.0))
+
+  live-acts : (row : ThreadRow) (role : Role) (call : Option ℕ) → row.stage ≡ Live → IsActing script S t row → P (decision_of_row script S t (Some row) (live_task role call (work_or (held_servers S t) (step_or_end (is_protected S.nano t) (instruction script row)))))
+  live-acts row Supervisor call live h = call-acts row call h
+  live-acts row (Queue queue) call live h = call-acts row call h
+  live-acts row (Declared k) call live h = work-acts row (held_servers S t) live refl h
+
+  -- what a doomed one does
+  dying-acts : (row : ThreadRow) (has : List Holding) → row.stage ≡ Doomed → holdings S t row ≡ has → IsActing script S t row → P (decision_of_task script S t row (dying_task has))
+  dying-acts row [] doomed e h = plain-by (clean script S t row) h.paid (fits-clean (is_dying script S t row doomed h) e h.paid)
+  dying-acts row (what ∷ rest) doomed e h =
+      let given = fits-give_up what rest (is_dying script S t row doomed h) e in
+      each.gives row what given.1 (goes_by script S t (give_up S t row what) h.paid given.0)
+
+  -- and what one does at any stage
+  abbrev own_task : ThreadRow → Option Task
+  own_task row = live_task row.role (next_call S.deferred row.role) (work_or (held_servers S t) (step_or_end (is_protected S.nano t) (instruction script row)))
+
+  stage-acts : (row : ThreadRow) (stage : Stage) → row.stage ≡ stage → IsActing script S t row → P (decision_of_row script S t (Some row) (by_stage stage (holdings S t row) (own_task row)))
+  stage-acts row Live live h = live-acts row row.role (next_call S.deferred row.role) live h
+  stage-acts row Doomed doomed h = dying-acts row (holdings S t row) doomed refl h
+  stage-acts row Cleaned at h = idle-acts h.rows
+  stage-acts row Buried at h = idle-acts h.rows
+
+  -- a thread that comes back from a find is at an instruction
+  row-acts : (row : ThreadRow) (returns : Bool) (at : Option Instr) (owed : List Owed) → IsShaped script → AreRows script S → thread_of S t ≡ Some row → IsAble S t row → is_returning row.part ≡ returns → instruction script row ≡ at → owed_of S t ≡ owed
+      → P (decision_of_row script S t (Some row) (return_or returns at (pay_or (first_of owed) (by_stage row.stage (holdings S t row) (own_task row)))))
+  row-acts row true (Some instr) owed shaped rows is able r e o =
+      let nothing = rows.duties.returns t.0 (ap (λ (x : Option ThreadRow). is_returning (part_of x)) is ∙ r) in
+      each.returns row instr is e (goes_by script S t (return_of S t row instr) nothing (few (fits-returning script S t row instr (stepping script S t row instr shaped rows is (λ going. absurd (cc)) able e nothing) (returning_before row.part r))))
+  row-acts row true None owed shaped rows is able r e o = absurd (nothing_past (instructions_of script row.role) row.next_instruction ((rows.threads.rows t.0 row is).returns r) e)
+  row-acts row false at (what ∷ rest) shaped rows is able r e o = each.pays what rest o
+  row-acts row false at [] shaped rows is able r e o = stage-acts row row.stage refl (record { shaped = shaped; rows = rows; is = is; able = able; going = r; paid = o })
+
+  -- the thread of this row, if there is one
+  able-acts : (row : Option ThreadRow) → IsShaped script → AreRows script S → thread_of S t ≡ row → is_able script S t ≡ true → P (decision_of_row script S t row (task_of_row script S t row))
+  able-acts None shaped rows is able = idle-acts rows
+  able-acts (Some row) shaped rows is able = row-acts row (is_returning row.part) (instruction script row) (owed_of S t) shaped rows is (able_is script S t row is able) refl refl refl
+
+  -- one that isn't able does nothing
+  acts : (able : Bool) → IsShaped script → AreRows script S → is_able script S t ≡ able → P (decision_where script able S t (task_of script S t))
+  acts false shaped rows able = idle-acts rows
+  acts true shaped rows able = able-acts (thread_of S t) shaped rows refl able
+
+  -- what a thread does in its next action, by what it is
+  pub each-action : IsShaped script → AreRows script S → P (decision_of script S t)
+  each-action shaped rows = acts (is_able script S t) shaped rows refl
+
+-- each is regular for some kind
+pub regular-action : (script : Script) (S : State) (t : ObjNo) → IsShaped script → AreRows script S → (k : Kinds) × IsRegular k script S t (decision_of script S t)
+regular-action script S t shaped rows = each-action script S t (λ (d : Decision). (k : Kinds) × IsRegular k script S t d) (record {
+  plainly = λ d fits. (plain, fits.regular);
+  steps = λ row instr is at fits. (kind_of instr row.part, fits.regular);
+  returns = λ row instr is at fits. (looking, fits.regular);
+  gives = λ row what given fits. (kind_given what, fits.regular);
+  pays = λ what rest owes. (plain, regular-pay what);
+}) shaped rows
+
+-- Moves that fit, a payment of the oldest of what it owes, or nothing at a number past the threads.
+pub of_action : (script : Script) (S : State) (t : ObjNo) (P : List Move → Type 0) → IsShaped script → AreRows script S
+    → ((ms : List Move) → Sane script t S → Goes script t S ms → P ms) → ((what : Owed) (rest : List Owed) → Sane script t S → owed_of S t ≡ what ∷ rest → P (move.Pay what ∷ [])) → P [] → P (decision_of script S t).moves
+of_action script S t P shaped rows goes pays none = elim (cases_lt t.0 (length S.threads)) as (λ _. P (decision_of script S t).moves) [
+  | inl within ↦
+      let sane : Sane script t S = record { rows = rows; inside = within } in
+      each-action script S t (λ (d : Decision). P d.moves) (record {
+        plainly = λ d fits. goes d.moves sane fits.goes;
+        steps = λ row instr is at fits. goes (step_of script S t row instr row.part).moves sane fits.goes;
+        returns = λ row instr is at fits. goes (return_of S t row instr).moves sane fits.goes;
+        gives = λ row what given fits. goes (give_up S t row what).moves sane fits.goes;
+        pays = λ what rest owes. pays what rest sane owes;
+      }) shaped rows
+  | inr past ↦ subst P (sym (no_thread script S t (get_or_past S.threads t.0 None past) (is_able script S t))) none
+]
+  where
+    no_thread : (script : Script) (S : State) (t : ObjNo) → thread_of S t ≡ None → (able : Bool) → (decision_where script able S t (task_of script S t)).moves ≡ []
+    no_thread script S t none false = refl
+    no_thread script S t none true = rw none refl
 
 -- such moves fit, and tell four effects at most
 pub fits_goes : (script : Script) (S : State) (t : ObjNo) (ms : List Move) → Goes script t S ms → Fits script t ms S
@@ -266,28 +340,13 @@ fits_goes script S t ms goes = record { each = goes.each; few = goes.few; told =
 
 -- what a thread does in its next action: moves that fit, or it pays the oldest of what it owes
 pub fits-action : (script : Script) (S : State) (t : ObjNo) → IsShaped script → AreRows script S → Fits script t (decision_of script S t).moves S ⊎ Pays S t (decision_of script S t).moves
-fits-action script S t shaped rows = elim (acts script S t (is_able script S t) shaped rows refl) as (λ _. Fits script t (decision_of script S t).moves S ⊎ Pays S t (decision_of script S t).moves) [
-  | inl goes ↦ inl (fits_goes script S t (decision_of script S t).moves goes)
-  | inr pays ↦ inr pays
-]
-
--- What a thread does in its next action, by what it is: moves that fit, a payment of the oldest of what it owes, or nothing at a number past the
--- threads.
-pub of_action : (script : Script) (S : State) (t : ObjNo) (P : List Move → Type 0) → IsShaped script → AreRows script S
-    → ((ms : List Move) → Sane script t S → Goes script t S ms → P ms) → ((what : Owed) (rest : List Owed) → Sane script t S → owed_of S t ≡ what ∷ rest → P (move.Pay what ∷ [])) → P [] → P (decision_of script S t).moves
-of_action script S t P shaped rows goes pays none = elim (cases_lt t.0 (length S.threads)) as (λ _. P (decision_of script S t).moves) [
-  | inl within ↦
-      let sane : Sane script t S = record { rows = rows; inside = within } in
-      elim (acts script S t (is_able script S t) shaped rows refl) as (λ _. P (decision_of script S t).moves) [
-        | inl fits ↦ goes (decision_of script S t).moves sane fits
-        | inr paid ↦ subst P (sym paid.moves) (pays paid.what paid.rest sane paid.owes)
-      ]
-  | inr past ↦ subst P (sym (no_thread script S t (get_or_past S.threads t.0 None past) (is_able script S t))) none
-]
-  where
-    no_thread : (script : Script) (S : State) (t : ObjNo) → thread_of S t ≡ None → (able : Bool) → (decision_where script able S t (task_of script S t)).moves ≡ []
-    no_thread script S t none false = refl
-    no_thread script S t none true = rw none refl
+fits-action script S t shaped rows = each-action script S t (λ (d : Decision). Fits script t d.moves S ⊎ Pays S t d.moves) (record {
+  plainly = λ d fits. inl (fits_goes script S t d.moves fits.goes);
+  steps = λ row instr is at fits. inl (fits_goes script S t (step_of script S t row instr row.part).moves fits.goes);
+  returns = λ row instr is at fits. inl (fits_goes script S t (return_of S t row instr).moves fits.goes);
+  gives = λ row what given fits. inl (fits_goes script S t (give_up S t row what).moves fits.goes);
+  pays = λ what rest owes. inr (record { what = what; rest = rest; moves = refl; owes = owes });
+}) shaped rows
 
 pub sound-pays : (script : Script) (S : State) (t : ObjNo) (what : Owed) (rest : List Owed) → Sane script t S → owed_of S t ≡ what ∷ rest → Sound script S (perform t (move.Pay what ∷ []) S) (tell t (move.Pay what ∷ []) S)
 sound-pays script S t what rest sane owes = subst (Sound script S (moved t (move.Pay what) S)) (sym (append-nil (told (move.Pay what) S))) (sound-pay script S t what rest owes sane)

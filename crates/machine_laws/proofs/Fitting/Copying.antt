@@ -39,19 +39,21 @@ use Rattle.machine_laws.proofs.Fitting.Finishing.{at_number}
 use Rattle.machine_laws.proofs.Fitting.Servers.{taken_is}
 use Rattle.machine_laws.proofs.Fitting.Stepping.{FitsDecision, IsStepping, fits-answers, fits-nothing, fits-refuse, unspent}
 use Rattle.move_laws.proofs.Numbers.Registers.{read_small, write_small}
+use Rattle.machine_laws.proofs.Fitting.Regular.{looking, may_tell, plain, tame, tame-moves}
 
 -- a piece, whatever it answers
-fits-piece : {script : Script} {S : State} {t : ObjNo} {row : ThreadRow} {instr : Instr} (told : Step) (copy : CopyMove) (piece : Piece) → IsStepping script S t row instr → begun row.part ≡ 0 → FitsCopies copy S → FitsDecision script t S (copy_piece t told copy piece)
-fits-piece {row = row} told copy (More done) h early fits = record {
+fits-piece : {script : Script} {S : State} {t : ObjNo} {row : ThreadRow} {instr : Instr} (told : Step) (named : may_tell plain told ≡ true) (copy : CopyMove) (piece : Piece) → IsStepping script S t row instr → begun row.part ≡ 0 → FitsCopies copy S → FitsDecision looking script t S (copy_piece t told copy piece)
+fits-piece {row = row} told named copy (More done) h early fits = record {
   each = (fits, ((record { unused = λ r is e. absurd (cc); paid = λ e. absurd (cc); unspent = unspent h; at = λ e. absurd (cc); ends = λ r is. let same_row : row ≡ r = let a = h.is in cc in subst (λ (x : ThreadRow). begun x.part ≤ 0) same_row (omega arith) }, tt), (tt, tt)));
   told = omega arith;
   light = omega arith;
+  regular = tame _ named;
 }
-fits-piece {row = row} told copy (Whole size) h early fits = fits-answers told (Copies copy ∷ []) (whole_answer copy size) (fits, tt) (record { row = row; is = h.is; next = h.next }) (omega arith) (omega arith)
-fits-piece told copy BadDescriptor h early fits = fits-refuse told error.BadDescriptor h
-fits-piece told copy Argument h early fits = fits-refuse told error.Argument h
-fits-piece told copy Overflow h early fits = fits-refuse told error.Overflow h
-fits-piece told copy Died h early fits = fits-refuse told error.Died h
+fits-piece {row = row} told named copy (Whole size) h early fits = fits-answers told named (Copies copy ∷ []) (whole_answer copy size) (tame-moves _ refl refl) (fits, tt) (record { row = row; is = h.is; next = h.next }) (omega arith) (omega arith)
+fits-piece told named copy BadDescriptor h early fits = fits-refuse told named error.BadDescriptor h
+fits-piece told named copy Argument h early fits = fits-refuse told named error.Argument h
+fits-piece told named copy Overflow h early fits = fits-refuse told named error.Overflow h
+fits-piece told named copy Died h early fits = fits-refuse told named error.Died h
 
 -- a message that a server of a thread took was taken
 taken_was : (S : State) (t : ObjNo) (found : Option Message) (message : Message) → taken_by S t found ≡ Some message → message.row.taken ≡ true
@@ -80,16 +82,16 @@ same_ends S t row message job is here number caller =
     ∙ ap (λ (r : Option ThreadRow). ends_between (thread_of S message.row.client) r message.row job.arg) (ap (thread_of S) caller ∙ is)
 
 -- a step that isn't the last of its instruction
-fits-early : {script : Script} {S : State} {t : ObjNo} (row : ThreadRow) (d : Decision) (p : Option Part) → row.part ≡ p → (begun row.part ≡ 0 → FitsDecision script t S d) → FitsDecision script t S (unless_done p d)
+fits-early : {script : Script} {S : State} {t : ObjNo} (row : ThreadRow) (d : Decision) (p : Option Part) → row.part ≡ p → (begun row.part ≡ 0 → FitsDecision looking script t S d) → FitsDecision looking script t S (unless_done p d)
 fits-early {script = script} {S = S} {t = t} row d (Some part.Done) at fits = fits-nothing script S t
 fits-early row d _ at fits = fits (ap begun at)
 
 -- `read`
-pub fits-read : {script : Script} {S : State} {t : ObjNo} {row : ThreadRow} (y arg offset size at : ℕ) (p : Option Part) → IsStepping script S t row (instr.Read y arg offset size at) → row.part ≡ p → FitsDecision script t S (read_step S t row y arg offset size at p)
+pub fits-read : {script : Script} {S : State} {t : ObjNo} {row : ThreadRow} (y arg offset size at : ℕ) (p : Option Part) → IsStepping script S t row (instr.Read y arg offset size at) → row.part ≡ p → FitsDecision looking script t S (read_step S t row y arg offset size at p)
 fits-read {script = script} {S = S} {t = t} {row = row} y arg offset size at p h is = fits-early row (read_piece S t row y arg offset size at) p is (λ early. by early (message_at S t row y) refl)
   where
-    by : begun row.part ≡ 0 → (found : Option Message) → message_at S t row y ≡ found → FitsDecision script t S (read_from S t row arg offset size at found)
-    by early None e = fits-refuse (Of word.Read part.Piece) error.BadHandle h
+    by : begun row.part ≡ 0 → (found : Option Message) → message_at S t row y ≡ found → FitsDecision looking script t S (read_from S t row arg offset size at found)
+    by early None e = fits-refuse (Of word.Read part.Piece) refl error.BadHandle h
     by early (Some message) e =
         let names = named S t row y message e in
         let ends : Ends = message_ends S row message arg in
@@ -97,18 +99,18 @@ fits-read {script = script} {S = S} {t = t} {row = row} y arg offset size at p h
         let job : Job = next_job row first (read_size ends first) in
         let same = ap (λ (e : Ends). read_size e job) (same_ends S t row message job h.is names.here refl refl) in
         let few = read_small y arg offset size at h.ranges in
-        fits-piece (Of word.Read part.Piece) (Read job) (read_answer ends job) h early (record { taken = names.taken; arg = omega arith; done = omega arith })
+        fits-piece (Of word.Read part.Piece) refl (Read job) (read_answer ends job) h early (record { taken = names.taken; arg = omega arith; done = omega arith })
 
 -- `write`
-pub fits-write : {script : Script} {S : State} {t : ObjNo} {row : ThreadRow} (y arg offset size from : ℕ) (p : Option Part) → IsStepping script S t row (instr.Write y arg offset size from) → row.part ≡ p → FitsDecision script t S (write_step S t row y arg offset size from p)
+pub fits-write : {script : Script} {S : State} {t : ObjNo} {row : ThreadRow} (y arg offset size from : ℕ) (p : Option Part) → IsStepping script S t row (instr.Write y arg offset size from) → row.part ≡ p → FitsDecision looking script t S (write_step S t row y arg offset size from p)
 fits-write {script = script} {S = S} {t = t} {row = row} y arg offset size from p h is = fits-early row (write_piece S t row y arg offset size from) p is (λ early. by early (message_at S t row y) refl)
   where
-    by : begun row.part ≡ 0 → (found : Option Message) → message_at S t row y ≡ found → FitsDecision script t S (write_from S t row arg offset size from found)
-    by early None e = fits-refuse (Of word.Write part.Piece) error.BadHandle h
+    by : begun row.part ≡ 0 → (found : Option Message) → message_at S t row y ≡ found → FitsDecision looking script t S (write_from S t row arg offset size from found)
+    by early None e = fits-refuse (Of word.Write part.Piece) refl error.BadHandle h
     by early (Some message) e =
         let names = named S t row y message e in
         let ends : Ends = message_ends S row message arg in
         let first : Job = first_job t message arg offset size from in
         let job : Job = next_job row first (write_size first) in
         let few = write_small y arg offset size from h.ranges in
-        fits-piece (Of word.Write part.Piece) (Write job) (write_answer ends job) h early (record { taken = names.taken; arg = omega arith; done = omega arith })
+        fits-piece (Of word.Write part.Piece) refl (Write job) (write_answer ends job) h early (record { taken = names.taken; arg = omega arith; done = omega arith })

@@ -35,6 +35,8 @@ use Rattle.move_laws.proofs.Lists.Totals.{inside}
 use Rattle.move_laws.proofs.RowLaws.Rising.{one_goes}
 use Rattle.machine_laws.proofs.Fitting.Bodies.{OwesNothing, light-end, light-then, no_moves}
 use Rattle.machine_laws.proofs.Fitting.Waiters.{waits_nowhere}
+use Rattle.machine_laws.proofs.Fitting.Regular.{IsTame, Kinds, serving, tame-at, tame-both, tame-moves}
+use Rattle.machine.specs.Bodies.{end_wait, ends_wait}
 
 -- a message that is outstanding stands at its number
 pub at_number : (S : State) (m : MsgNo) (message : Message) → message_of S.messages m ≡ Some message → message_of S.messages message.number ≡ Some message
@@ -48,6 +50,23 @@ at_number S m message found =
 live_by : (stage : Stage) → is_live stage ≡ true → stage ≡ Live
 live_by Live e = refl
 live_by _ e = absurd (cc)
+
+-- the close of its session, and what its client is told, are tame in any kind
+pub tame-refused : {k : Kinds} (message : Message) (code : ℤ) → IsTame k 0 (close_refused message code)
+tame-refused {k = k} message code = if_cases (IsTame k 0) (is_refused message code) _ _ (λ _. tame-moves _ refl refl) (λ _. tame-moves [] refl refl)
+
+tame-end : {k : Kinds} (S : State) (u : ObjNo) (s : ℕ) (row : Option ThreadRow) → IsTame k 0 (end_wait S u s row)
+tame-end S u s None = tame-moves [] refl refl
+tame-end {k = k} S u s (Some row) = if_cases (IsTame k 0) (ends_wait S u s row.waiting) _ _ (λ _. tame-moves _ refl refl) (λ _. tame-moves [] refl refl)
+
+tame-reply : {k : Kinds} (S : State) (u : ObjNo) (row : ThreadRow) (code : ℤ) (way : Way) → IsTame k 0 (reply S u row code way)
+tame-reply S u row code (Async s) = tame-both (Requests (Signal u s code) ∷ []) (end_wait S u s (Some row)) (tame-moves _ refl refl) (tame-end S u s (Some row))
+tame-reply S u row code Sync = tame-moves _ refl refl
+tame-reply S u row code Disconnect = tame-moves [] refl refl
+
+pub tame-reply_to : {k : Kinds} (S : State) (u : ObjNo) (code : ℤ) (way : Way) (row : Option ThreadRow) → IsTame k 0 (reply_to S u code way row)
+tame-reply_to S u code way None = tame-moves [] refl refl
+tame-reply_to {k = k} S u code way (Some row) = if_cases (IsTame k 0) (is_live row.stage) _ _ (λ _. tame-reply S u row code way) (λ _. tame-moves [] refl refl)
 
 -- the state in which it is finished, and its session is closed perhaps
 abbrev finished : State → ObjNo → Message → ℤ → State
@@ -82,16 +101,16 @@ module _ (script : Script) (S : State) (t : ObjNo) (message : Message) (code : �
   left servers = record (finished S t message code) { servers = servers }
 
   -- a status is completed, and the wait for it ends
-  tells-status : (servers : ServerRows) (u : ObjNo) (row : ThreadRow) (s : ℕ) → thread_of S u ≡ Some row → row.stage ≡ Live → message.row.client ≡ u → message.row.way ≡ Async s → OwesNothing script t (left servers) (reply S u row code (Async s)) 1
+  tells-status : (servers : ServerRows) (u : ObjNo) (row : ThreadRow) (s : ℕ) → thread_of S u ≡ Some row → row.stage ≡ Live → message.row.client ≡ u → message.row.way ≡ Async s → OwesNothing serving script t (left servers) (reply S u row code (Async s)) 1
   tells-status servers u row s is live client way =
       let once = sent_once u s client way in
       let untold = rows.messages.awaited u s once.0 in
       light-then script (left servers) t (Requests (Signal u s code) ∷ []) (end_wait S u s (Some row)) 1 0 1 (omega arith)
-      (record { each = ((untold, (record { row = row; is = is; live = live }, once.1)), tt); told = omega arith; light = refl })
+      (record { each = ((untold, (record { row = row; is = is; live = live }, once.1)), tt); told = omega arith; light = refl; calm = tame-moves _ refl refl })
       (light-end script S (moved t (Requests (Signal u s code)) (left servers)) t u s (Some row) rows refl refl (called_fewer u) is)
 
   -- a reply is given, and the wait for it ends
-  tells-reply : (servers : ServerRows) (u : ObjNo) (row : ThreadRow) → thread_of S u ≡ Some row → row.stage ≡ Live → message.row.client ≡ u → message.row.way ≡ Sync → OwesNothing script t (left servers) (reply S u row code Sync) 1
+  tells-reply : (servers : ServerRows) (u : ObjNo) (row : ThreadRow) → thread_of S u ≡ Some row → row.stage ≡ Live → message.row.client ≡ u → message.row.way ≡ Sync → OwesNothing serving script t (left servers) (reply S u row code Sync) 1
   tells-reply servers u row is live client way =
       let once = called_once u client way in
       let waits = rows.messages.replies u row once.0 is live in
@@ -101,26 +120,27 @@ module _ (script : Script) (S : State) (t : ObjNo) (message : Message) (code : �
         each = ((omega arith, record { row = row; is = is; live = live }), ((waits_nowhere script S u row rows is (λ o e. absurd (cc)), λ r at lives. once.1), tt));
         told = omega arith;
         light = refl;
+        calm = tame-moves _ refl refl;
       }
 
-  tells : (servers : ServerRows) (u : ObjNo) (row : ThreadRow) (way : Way) → thread_of S u ≡ Some row → row.stage ≡ Live → message.row.client ≡ u → message.row.way ≡ way → OwesNothing script t (left servers) (reply S u row code way) 1
+  tells : (servers : ServerRows) (u : ObjNo) (row : ThreadRow) (way : Way) → thread_of S u ≡ Some row → row.stage ≡ Live → message.row.client ≡ u → message.row.way ≡ way → OwesNothing serving script t (left servers) (reply S u row code way) 1
   tells servers u row (Async s) is live client way = tells-status servers u row s is live client way
   tells servers u row Sync is live client way = tells-reply servers u row is live client way
   tells servers u row Disconnect is live client way = no_moves script (left servers) t 1
 
-  tells-client : (servers : ServerRows) (row : Option ThreadRow) → thread_of S message.row.client ≡ row → OwesNothing script t (left servers) (reply_to S message.row.client code message.row.way row) 1
+  tells-client : (servers : ServerRows) (row : Option ThreadRow) → thread_of S message.row.client ≡ row → OwesNothing serving script t (left servers) (reply_to S message.row.client code message.row.way row) 1
   tells-client servers None is = no_moves script (left servers) t 1
   tells-client servers (Some row) is =
-      if_cases (λ (ms : List Move). OwesNothing script t (left servers) ms 1) (is_live row.stage) _ _
+      if_cases (λ (ms : List Move). OwesNothing serving script t (left servers) ms 1) (is_live row.stage) _ _
       (λ live. tells servers message.row.client row message.row.way is (live_by row.stage live) refl refl) (λ _. no_moves script (left servers) t 1)
 
   -- the session closes where a connection is refused, and the client is told
-  ends : OwesNothing script t (finished S t message code) (close_refused message code ++ reply_to S message.row.client code message.row.way (thread_of S message.row.client)) 1
-  ends = if_cases (λ (ms : List Move). OwesNothing script t (finished S t message code) (ms ++ reply_to S message.row.client code message.row.way (thread_of S message.row.client)) 1) (is_refused message code) _ _
+  ends : OwesNothing serving script t (finished S t message code) (close_refused message code ++ reply_to S message.row.client code message.row.way (thread_of S message.row.client)) 1
+  ends = if_cases (λ (ms : List Move). OwesNothing serving script t (finished S t message code) (ms ++ reply_to S message.row.client code message.row.way (thread_of S message.row.client)) 1) (is_refused message code) _ _
       (λ _.
       let closes = SetOpen message.row.session false in
       light-then script (finished S t message code) t (Servers closes ∷ []) _ 0 1 1 (omega arith)
-      (record { each = (rows.messages.sessions message (found_there (has_number message.number) S.messages.outstanding message found).0, tt); told = omega arith; light = refl })
+      (record { each = (rows.messages.sessions message (found_there (has_number message.number) S.messages.outstanding message found).0, tt); told = omega arith; light = refl; calm = tame-moves _ refl refl })
       (tells-client (servers_moved closes S.owned S.servers) (thread_of S message.row.client) refl))
       (λ _. tells-client S.servers (thread_of S message.row.client) refl)
 
@@ -129,6 +149,7 @@ pub record Finishes (script : Script) (S : State) (t : ObjNo) (ms : List Move) :
   pub each : EachFits script t ms S
   pub told : total most_told ms ≤ 2
   pub light : total most_owed ms ≤ 8
+  pub calm : IsTame serving 0 ms
 
 pub finishes : (script : Script) (S : State) (t : ObjNo) (m : MsgNo) (message : Message) (code : ℤ) → AreRows script S → MayOweMore S t → message_of S.messages m ≡ Some message → Finishes script S t (finish S message code)
 finishes script S t m message code rows may at =
@@ -138,4 +159,5 @@ finishes script S t m message code rows may at =
       each = ((ap is_some found, may, tt), more.each);
       told = let few = more.told in omega arith;
       light = let none = more.light in omega arith;
+      calm = tame-both (Messages (Finish message.number code) ∷ []) _ (tame-at serving _ refl refl) more.calm;
     }

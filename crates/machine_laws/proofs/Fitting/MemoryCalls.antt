@@ -1,5 +1,5 @@
 -- The steps of `fill` and `peek`.
-use Rattle.std.proofs.Common.{ℕ, ◌+◌, arith}
+use Rattle.std.proofs.Common.{ℕ, ◌+◌, arith, refl}
 use Rattle.std.specs.Prelude.{pos, nat_lt, [], ◌∷◌}
 use Rattle.std.proofs.lemmas.Bool.{ltb-false}
 use Rattle.sym_base.specs.declared.error.Error.TheVariants.{Argument}
@@ -17,13 +17,14 @@ use Rattle.machine.specs.MemoryCalls.{fill_do, peek_do}
 use Rattle.move_laws.proofs.Lists.Cases.{if_cases}
 use Rattle.machine_laws.proofs.Fitting.KernelThreads.{fits-answer}
 use Rattle.machine_laws.proofs.Fitting.Stepping.{FitsDecision, IsStepping, fits-answers, fits-refuse}
+use Rattle.machine_laws.proofs.Fitting.Regular.{looking, tame-moves}
 
 -- `fill`
-pub fits-fill : {script : Script} {S : State} {t : ObjNo} {row : ThreadRow} {instr : Instr} (at length byte : ℕ) → IsStepping script S t row instr → FitsDecision script t S (fill_do t row at length byte)
+pub fits-fill : {script : Script} {S : State} {t : ObjNo} {row : ThreadRow} {instr : Instr} (at length byte : ℕ) → IsStepping script S t row instr → FitsDecision looking script t S (fill_do t row at length byte)
 fits-fill {script = script} {S = S} {t = t} {row = row} at length byte h =
-    if_cases (FitsDecision script t S) (nat_lt 1024 (at + length)) _ _ (λ _. fits-refuse (Of word.Fill part.Do) Argument h)
-    (λ within. fits-answers (Of word.Fill part.Do) (Fill row.process at length byte ∷ []) (pos 0) (ltb-false 1024 (at + length) within, tt) (record { row = row; is = h.is; next = h.next }) (omega arith) (omega arith))
+    if_cases (FitsDecision looking script t S) (nat_lt 1024 (at + length)) _ _ (λ _. fits-refuse (Of word.Fill part.Do) refl Argument h)
+    (λ within. fits-answers (Of word.Fill part.Do) refl (Fill row.process at length byte ∷ []) (pos 0) (tame-moves _ refl refl) (ltb-false 1024 (at + length) within, tt) (record { row = row; is = h.is; next = h.next }) (omega arith) (omega arith))
 
 -- `peek`
-pub fits-peek : {script : Script} {S : State} {t : ObjNo} {row : ThreadRow} {instr : Instr} (at : ℕ) → IsStepping script S t row instr → FitsDecision script t S (peek_do S t row at)
-fits-peek {S = S} {row = row} at h = fits-answer (Of word.Peek part.Do) (pos (byte_of S.memories row.process at)) h
+pub fits-peek : {script : Script} {S : State} {t : ObjNo} {row : ThreadRow} {instr : Instr} (at : ℕ) → IsStepping script S t row instr → FitsDecision looking script t S (peek_do S t row at)
+fits-peek {S = S} {row = row} at h = fits-answer (Of word.Peek part.Do) refl (pos (byte_of S.memories row.process at)) h

@@ -37,6 +37,7 @@ use Rattle.machine_laws.proofs.Fitting.Bodies.{OwesNothing}
 use Rattle.machine_laws.proofs.Fitting.Staying.{AllStay, stays-messages, stays-wake}
 use Rattle.machine_laws.proofs.Fitting.Uncalled.{is_uncalled}
 use Rattle.machine_laws.proofs.Fitting.Waiters.{waits_nowhere}
+use Rattle.machine_laws.proofs.Fitting.Regular.{IsTame, Kinds, serving, tame-at, tame-moves}
 
 -- a session whose messages a server accepts is one, and its server is one
 chosen_server : (b : Bool) (x : Option ObjNo) (o : ObjNo) → (if b then x else None) ≡ Some o → x ≡ Some o
@@ -83,6 +84,10 @@ of_wake S o (Some u) P none wakes = there (thread_of S u) refl
     there : (row : Option ThreadRow) → thread_of S u ≡ row → P (wake_row o u row)
     there None is = none
     there (Some row) is = by row (is_receiving o row.waiting) is refl
+
+-- that is tame in any kind
+pub tame-wake : {k : Kinds} (S : State) (o : ObjNo) (owner : Option ObjNo) → IsTame k 0 (wake_receiver S o owner)
+tame-wake {k = k} S o owner = of_wake S o owner (IsTame k 0) (tame-moves [] refl refl) (λ u row is receiving. tame-moves _ refl refl)
 
 -- a state in which a thread may send a message over a session to a server, where it comes from one in which its server accepts messages and the
 -- thread waits for nothing
@@ -159,12 +164,12 @@ woken_fits script S T t s o function args way u row h is receiving = (nowhere, c
         message = record { number = next_number T.messages; slots = slots_of S s; row = new_row s o t function args way }
 
 -- sent with a wake where the owner waits
-pub posts : (script : Script) (S T : State) (t s o : ObjNo) (function : ℤ) (args : List Arg) (way : Way) → length args ≡ 4 → MayPost script S T t s o way → OwesNothing script t T (post S t s o function args way) 3
+pub posts : (script : Script) (S T : State) (t s o : ObjNo) (function : ℤ) (args : List Arg) (way : Way) → length args ≡ 4 → MayPost script S T t s o way → OwesNothing serving script t T (post S t s o function args way) 3
 posts script S T t s o function args way four h =
     let accepts = accepted_fits script S T t s o function args way four h in
-    of_wake S o (owner_of S.servers o) (λ (wakes : List Move). OwesNothing script t T (Messages (Accept (slots_of S s) (new_row s o t function args way)) ∷ wakes) 3)
-    (record { each = (accepts, tt); told = omega arith; light = refl })
-    (λ u row is receiving. record { each = (accepts, (woken_fits script S T t s o function args way u row h is receiving, tt)); told = omega arith; light = refl })
+    of_wake S o (owner_of S.servers o) (λ (wakes : List Move). OwesNothing serving script t T (Messages (Accept (slots_of S s) (new_row s o t function args way)) ∷ wakes) 3)
+    (record { each = (accepts, tt); told = omega arith; light = refl; calm = tame-at serving _ refl refl })
+    (λ u row is receiving. record { each = (accepts, (woken_fits script S T t s o function args way u row h is receiving, tt)); told = omega arith; light = refl; calm = tame-at serving _ refl refl })
 
 -- and the thread is at its instruction still
 pub stay-post : (script : Script) (S : State) (t s o : ObjNo) (function : ℤ) (args : List Arg) (way : Way) → AllStay script t (post S t s o function args way)

@@ -34,7 +34,7 @@ use Rattle.machine.specs.LogonMoves.{is_logon, logons_on, without_logon}
 use Rattle.machine.specs.Moves.{moved}
 use Rattle.machine.specs.Reaping.{buried_by, bury, bury_found, clean, free_mutex, give_up, is_buried_by, is_cleaned, tell_logon, burial_of}
 use Rattle.machine.specs.References.{mutex_names, stage_holds, total}
-use Rattle.machine.specs.Rows.{table_of, thread_of}
+use Rattle.machine.specs.Rows.{owed_of, table_of, thread_of}
 use Rattle.machine.specs.ServerMoves.{owned_by}
 use Rattle.machine.specs.Task.{is_returning}
 use Rattle.machine.specs.ThreadCalls.{is_live}
@@ -50,7 +50,8 @@ use Rattle.machine_laws.proofs.Fitting.Closing.{IsHandle, closes, handle_of_proc
 use Rattle.machine_laws.proofs.Fitting.Stepping.{FitsDecision, FitsStep, by_kinds}
 use Rattle.machine_laws.proofs.Fitting.Uncalled.{logged_unsent, waiter_uncalled}
 use Rattle.machine_laws.proofs.Fitting.Waiters.{struck_nowhere, waits_nowhere}
-use Rattle.machine_laws.proofs.Fitting.Working.{OfFirst, empty_left, empty_right, first-all, first-both, fits-work, no-items, none-owned}
+use Rattle.machine_laws.proofs.Fitting.Working.{IsGiven, OfFirst, empty_left, empty_right, first-all, first-both, fits-work, no-items, none-owned}
+use Rattle.machine_laws.proofs.Fitting.Regular.{freeing, kind_given, plain, regular-moves, serving, tame, tame-at, tame-both, tame-moves}
 
 -- a doomed thread that acts: it waits for nothing, and isn't between a find and its return
 pub record IsDying (script : Script) (S : State) (t : ObjNo) (row : ThreadRow) : Type 0 where
@@ -61,7 +62,7 @@ pub record IsDying (script : Script) (S : State) (t : ObjNo) (row : ThreadRow) :
   pub going : is_returning row.part ≡ false
 
 -- a mutex that it holds
-gives-mutex : {script : Script} {S : State} {t : ObjNo} {row : ThreadRow} (o : ObjNo) → IsDying script S t row → 0 < times_held S.mutexes t o → FitsDecision script t S (give_up S t row (Mutex o))
+gives-mutex : {script : Script} {S : State} {t : ObjNo} {row : ThreadRow} (o : ObjNo) → IsDying script S t row → 0 < times_held S.mutexes t o → FitsDecision freeing script t S (give_up S t row (Mutex o))
 gives-mutex {script = script} {S = S} {t = t} {row = row} o h some = by (best_waiter (priority_of S) S.locks o) refl
   where
     made : o.0 < length S.objects
@@ -83,21 +84,21 @@ gives-mutex {script = script} {S = S} {t = t} {row = row} o h some = by (best_wa
       },
     )
 
-    by : (best : Option ObjNo) → best_waiter (priority_of S) S.locks o ≡ best → FitsDecision script t S (free_mutex t o best)
-    by None e = record { each = (fits None e, tt); told = omega arith; light = omega arith }
-    by (Some w) e = record { each = (fits (Some w) e, ((struck_nowhere script S o w h.rows (greatest_listed (priority_of S) (waiters_at S.locks o) w e), waiter_uncalled script S o w h.rows (greatest_listed (priority_of S) (waiters_at S.locks o) w e)), tt)); told = omega arith; light = omega arith }
+    by : (best : Option ObjNo) → best_waiter (priority_of S) S.locks o ≡ best → FitsDecision freeing script t S (free_mutex t o best)
+    by None e = record { each = (fits None e, tt); told = omega arith; light = omega arith; regular = regular-moves _ refl (tame-at freeing _ refl refl) }
+    by (Some w) e = record { each = (fits (Some w) e, ((struck_nowhere script S o w h.rows (greatest_listed (priority_of S) (waiters_at S.locks o) w e), waiter_uncalled script S o w h.rows (greatest_listed (priority_of S) (waiters_at S.locks o) w e)), tt)); told = omega arith; light = omega arith; regular = regular-moves _ refl (tame-at freeing _ refl refl) }
 
 -- a reference that it has
 loses : {script : Script} {S : State} {t : ObjNo} {row : ThreadRow} (holder : Holder) (o : ObjNo) → IsDying script S t row → Holds S holder o → EachFits script t (move.Lose holder o ∷ []) S
 loses holder o h holds = ((ap (λ (r : Option ThreadRow). is_returning (part_of r)) h.is ∙ h.going, holds), tt)
 
-gives-use : {script : Script} {S : State} {t : ObjNo} {row : ThreadRow} (o : ObjNo) → IsDying script S t row → row.uses ≡ Some o → FitsDecision script t S (give_up S t row (Use o))
-gives-use {t = t} {row = row} o h uses = record { each = loses (Temp t) o h (record { row = row; is = h.is; uses = uses }); told = omega arith; light = omega arith }
+gives-use : {script : Script} {S : State} {t : ObjNo} {row : ThreadRow} (o : ObjNo) → IsDying script S t row → row.uses ≡ Some o → FitsDecision plain script t S (give_up S t row (Use o))
+gives-use {t = t} {row = row} o h uses = record { each = loses (Temp t) o h (record { row = row; is = h.is; uses = uses }); told = omega arith; light = omega arith; regular = tame _ refl }
 
-gives-handle : {script : Script} {S : State} {t : ObjNo} {row : ThreadRow} (holder : Holder) (o : ObjNo) → IsDying script S t row → IsHandle S holder o → FitsStep script t S (give_up S t row (Handle holder o))
+gives-handle : {script : Script} {S : State} {t : ObjNo} {row : ThreadRow} (holder : Holder) (o : ObjNo) → IsDying script S t row → IsHandle S holder o → FitsStep serving script t S (give_up S t row (Handle holder o))
 gives-handle {script = script} {S = S} {t = t} {row = row} holder o h handle =
     let done = closes script S t holder o (record { rows = h.rows; row = row; is = h.is; waits = h.waits; held = ap stage_holds h.doomed; going = h.going }) handle in
-    record { each = done.each; told = done.told; light = let few = done.light in omega arith }
+    record { each = done.each; told = done.told; light = let few = done.light in omega arith; regular = regular-moves _ refl done.calm }
 
 -- a logon goes, and no other has its status
 names-none : (u : ObjNo) (s : ℕ) (logons : List (ObjNo × ℕ)) → total (logon_names u s) (without_logon u s logons) ≡ 0
@@ -115,7 +116,7 @@ unlogged script S t u s rows within some =
     let none = names-none u s (logons_on S.logons t) in
     let after = total-set (total (logon_names u s)) S.logons t.0 (without_logon u s (logons_on S.logons t)) [] (omega arith) in omega arith
 
-gives-logon : {script : Script} {S : State} {t : ObjNo} {row : ThreadRow} (u : ObjNo) (s : ℕ) → IsDying script S t row → 0 < total (logon_names u s) (logons_on S.logons t) → FitsDecision script t S (tell_logon S t row u s)
+gives-logon : {script : Script} {S : State} {t : ObjNo} {row : ThreadRow} (u : ObjNo) (s : ℕ) → IsDying script S t row → 0 < total (logon_names u s) (logons_on S.logons t) → FitsDecision plain script t S (tell_logon S t row u s)
 gives-logon {script = script} {S = S} {t = t} {row = row} u s h some =
     let within = inside S.threads t.0 row h.is in
     let long = h.rows.logons.sized in
@@ -129,15 +130,16 @@ gives-logon {script = script} {S = S} {t = t} {row = row} u s h some =
       each = ((within, omega arith, awaited.status), (((awaited, unlogged script S t u s h.rows within some), (h.rows.awaited.logons u s (omega arith), logged_unsent script S u s h.rows (omega arith))), wakes.each));
       told = let few = wakes.told in omega arith;
       light = let none = wakes.light in omega arith;
+      regular = regular-moves _ refl (tame-both (move.Logons (Remove t u s) ∷ move.Requests (Signal u s (reason_of row.exit)) ∷ []) _ (tame-moves _ refl refl) wakes.calm);
     }
 
 -- each of what it has is given up
 module _ (script : Script) (S : State) (t : ObjNo) (row : ThreadRow) (h : IsDying script S t row) where
   abbrev Gives : Holding → Type 0
-  Gives what = FitsStep script t S (give_up S t row what)
+  Gives what = FitsStep (kind_given what) script t S (give_up S t row what) × IsGiven S t what
 
   -- what its kinds of moves say
-  kinds : (what : Holding) → FitsDecision script t S (give_up S t row what) → Gives what
+  kinds : (what : Holding) → FitsDecision (kind_given what) script t S (give_up S t row what) → FitsStep (kind_given what) script t S (give_up S t row what)
   kinds what fits = by_kinds script S t (give_up S t row what) fits
 
   all-mutexes : (mutexes : List ObjNo) → ((o : ObjNo) → 0 < total (mutex_names o) mutexes → Gives (Mutex o)) → AllByRecursion Gives (map (λ o. Mutex o) mutexes)
@@ -169,11 +171,11 @@ module _ (script : Script) (S : State) (t : ObjNo) (row : ThreadRow) (h : IsDyin
       logon_self u s = rw (eq-eqb u.0 u.0 refl, eq-eqb s s refl) refl
 
   all-own : AllByRecursion Gives (held_handles (InThread t) 0 (table_of S t))
-  all-own = all-handles (InThread t) 0 (table_of S t) (λ j o is. numbered (InThread t) j o (gives-handle (InThread t j) o h (handle_of_thread S t j o (ap is_some h.is) is)))
+  all-own = all-handles (InThread t) 0 (table_of S t) (λ j o is. numbered (InThread t) j o (gives-handle (InThread t j) o h (handle_of_thread S t j o (ap is_some h.is) is), refl))
 
   all-process : AllByRecursion Gives (process_handles S t row.process)
   all-process = if_cases (AllByRecursion Gives) (total (left_of row.process) S.threads == left_of row.process (thread_of S t)) _ _
-      (λ _. all-handles (InProcess row.process) 0 (table_of S row.process) (λ j o is. numbered (InProcess row.process) j o (gives-handle (InProcess row.process j) o h (handle_of_process S row.process j o (h.rows.threads.processes t.0 row h.is) is)))) (λ _. tt)
+      (λ _. all-handles (InProcess row.process) 0 (table_of S row.process) (λ j o is. numbered (InProcess row.process) j o (gives-handle (InProcess row.process j) o h (handle_of_process S row.process j o (h.rows.threads.processes t.0 row h.is) is), refl))) (λ _. tt)
 
   -- so is the first of it; the work of closing servers goes in its order
   first-given : OfFirst Gives (holdings S t row)
@@ -182,13 +184,13 @@ module _ (script : Script) (S : State) (t : ObjNo) (row : ThreadRow) (h : IsDyin
       (first-both Gives (held_mutexes S t ++ held_servers S t ++ held_use row.uses ++ held_handles (InThread t) 0 (table_of S t)) (process_handles S t row.process)
       (first-both Gives (held_mutexes S t ++ held_servers S t ++ held_use row.uses) (held_handles (InThread t) 0 (table_of S t))
       (first-both Gives (held_mutexes S t ++ held_servers S t) (held_use row.uses)
-      (first-both Gives (held_mutexes S t) (held_servers S t) (first-all Gives (held_mutexes S t) (all-mutexes (get_or S.mutexes t.0 []) (λ o some. kinds (Mutex o) (gives-mutex o h some))))
-      (λ _ what rest e. kinds what (fits-work what rest (record { rows = h.rows; is = h.is; going = h.going }) e)))
-      (λ _. first-all Gives (held_use row.uses) (all-use row.uses (λ o uses. kinds (Use o) (gives-use o h uses)))))
+      (first-both Gives (held_mutexes S t) (held_servers S t) (first-all Gives (held_mutexes S t) (all-mutexes (get_or S.mutexes t.0 []) (λ o some. (kinds (Mutex o) (gives-mutex o h some), tt))))
+      (λ _ what rest e. let work = fits-work what rest (record { rows = h.rows; is = h.is; going = h.going }) e in (kinds what work.0, work.1)))
+      (λ _. first-all Gives (held_use row.uses) (all-use row.uses (λ o uses. (kinds (Use o) (gives-use o h uses), tt)))))
       (λ _. first-all Gives (held_handles (InThread t) 0 (table_of S t)) all-own)) (λ _. first-all Gives (process_handles S t row.process) all-process))
-      (λ _. first-all Gives (held_logons S t) (all-logons (logons_on S.logons t) (λ u s some. kinds (Logon u s) (gives-logon u s h some))))
+      (λ _. first-all Gives (held_logons S t) (all-logons (logons_on S.logons t) (λ u s some. (kinds (Logon u s) (gives-logon u s h some), tt))))
 
-pub fits-give_up : {script : Script} {S : State} {t : ObjNo} {row : ThreadRow} (what : Holding) (rest : List Holding) → IsDying script S t row → holdings S t row ≡ what ∷ rest → FitsStep script t S (give_up S t row what)
+pub fits-give_up : {script : Script} {S : State} {t : ObjNo} {row : ThreadRow} (what : Holding) (rest : List Holding) → IsDying script S t row → holdings S t row ≡ what ∷ rest → FitsStep (kind_given what) script t S (give_up S t row what) × IsGiven S t what
 fits-give_up {script = script} {S = S} {t = t} {row = row} what rest h has = first-given script S t row h what rest has
 
 pub no-use : (uses : Option ObjNo) → held_use uses ≡ [] → uses ≡ None
@@ -250,11 +252,12 @@ dying_unheld {script = script} {S = S} {t = t} {row = row} h = by (held_by S.nan
         absurd (not_both row.stage (ap (λ (r : ThreadRow). r.stage) (sym same_row) ∙ holder.live) h.doomed)
 
 -- nothing is left, and it is cleaned
-pub fits-clean : {script : Script} {S : State} {t : ObjNo} {row : ThreadRow} → IsDying script S t row → holdings S t row ≡ [] → FitsDecision script t S (clean script S t row)
-fits-clean {script = script} {S = S} {t = t} {row = row} h nothing = record {
+pub fits-clean : {script : Script} {S : State} {t : ObjNo} {row : ThreadRow} → IsDying script S t row → holdings S t row ≡ [] → owed_of S t ≡ [] → FitsDecision plain script t S (clean script S t row)
+fits-clean {script = script} {S = S} {t = t} {row = row} h nothing paid = record {
   each = ((record { row = row; is = h.is; at = h.doomed }, (dying_unheld h, λ r is. let same_row : row ≡ r = (let one = h.is in cc) in subst (IsSpent S.handles t.0) same_row spent, λ r is. let same_row : row ≡ r = (let one = h.is in cc) in subst (λ (x : ThreadRow). process_handles S t x.process ≡ []) same_row has.process, owns), refl), ((burial_inside script S.deferred row.role h.rows.deferred (h.rows.threads.rows t.0 row h.is).declared, refl), tt));
   told = omega arith;
   light = omega arith;
+  regular = record { answers = refl; dooms = λ v. refl; calm = λ _. refl; making = λ e. absurd (cc); sends = λ _. refl; cleans = λ e. absurd (cc); uses = λ u _. refl; known = λ _. record { row = row; is = h.is; doomed = h.doomed; paid = paid; nothing = nothing; moves = refl } };
 }
   where
     has : HasNothing S t row
@@ -284,12 +287,12 @@ found_cleaned script S dfc u found = at (position (is_buried_by script dfc) S.th
         let same_number : n ≡ u.0 = cc in
         by (thread_of S u) refl (subst (λ (k : ℕ). is_buried_by script dfc (get_or S.threads k None) ≡ true) same_number (position-Some (is_buried_by script dfc) S.threads n None is).1)
 
-pub fits-bury : (script : Script) (S : State) (t : ObjNo) (dfc : ℕ) → AreRows script S → MayOweMore S t → FitsDecision script t S (bury script S dfc)
+pub fits-bury : (script : Script) (S : State) (t : ObjNo) (dfc : ℕ) → AreRows script S → MayOweMore S t → FitsDecision plain script t S (bury script S dfc)
 fits-bury script S t dfc rows may = by (buried_by script S dfc) refl
   where
     leaves : queue_of S.deferred dfc < length S.deferred.queues
     leaves = queue_inside script S.deferred dfc rows.deferred
 
-    by : (found : Option ObjNo) → buried_by script S dfc ≡ found → FitsDecision script t S (record { step = step.Bury; moves = move.Deferred (Take (queue_of S.deferred dfc)) ∷ bury_found found; answer = None })
-    by None e = record { each = (leaves, tt); told = omega arith; light = omega arith }
-    by (Some u) e = let at = found_cleaned script S dfc u e in record { each = (leaves, ((record { row = at.row; is = at.is; at = at.at }, record { thread = may.thread; going = may.going }), tt)); told = omega arith; light = omega arith }
+    by : (found : Option ObjNo) → buried_by script S dfc ≡ found → FitsDecision plain script t S (record { step = step.Bury; moves = move.Deferred (Take (queue_of S.deferred dfc)) ∷ bury_found found; answer = None })
+    by None e = record { each = (leaves, tt); told = omega arith; light = omega arith; regular = tame _ refl }
+    by (Some u) e = let at = found_cleaned script S dfc u e in record { each = (leaves, ((record { row = at.row; is = at.is; at = at.at }, record { thread = may.thread; going = may.going }), tt)); told = omega arith; light = omega arith; regular = tame _ refl }

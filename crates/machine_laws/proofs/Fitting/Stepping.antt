@@ -38,21 +38,24 @@ use Rattle.move_laws.proofs.Holders.ThreadRows.{row-here}
 use Rattle.move_laws.proofs.Lists.Totals.{inside, total-append, total-with}
 use Rattle.move_laws.proofs.Numbers.FewEffects.{tell_few}
 use Rattle.move_laws.proofs.RowLaws.Threads.{row-kept, map_some}
+use Rattle.machine_laws.proofs.Fitting.Regular.{IsRegular, IsTame, Kinds, may_tell, regular-answer, regular-use, tame, tame-both, tame-moves}
 
--- the moves of a decision fit, and what they tell and owe is little
-pub record FitsDecision (script : Script) (t : ObjNo) (S : State) (d : Decision) : Type 0 where
+-- the moves of a decision fit, what they tell and owe is little, and it is regular for its kind
+pub record FitsDecision (k : Kinds) (script : Script) (t : ObjNo) (S : State) (d : Decision) : Type 0 where
   pub each : EachFits script t d.moves S
   pub told : total most_told d.moves ≤ 4
   pub light : total most_owed d.moves ≤ 12
+  pub regular : IsRegular k script S t d
 
 -- the same of moves that tell no more than that, although each of their kinds may tell more
-pub record FitsStep (script : Script) (t : ObjNo) (S : State) (d : Decision) : Type 0 where
+pub record FitsStep (k : Kinds) (script : Script) (t : ObjNo) (S : State) (d : Decision) : Type 0 where
   pub each : EachFits script t d.moves S
   pub told : length (tell t d.moves S) ≤ 4
   pub light : total most_owed d.moves ≤ 12
+  pub regular : IsRegular k script S t d
 
-pub by_kinds : (script : Script) (S : State) (t : ObjNo) (d : Decision) → FitsDecision script t S d → FitsStep script t S d
-by_kinds script S t d fits = record { each = fits.each; told = let few = fits.told in let most = tell_few t d.moves S in omega arith; light = fits.light }
+pub by_kinds : {k : Kinds} (script : Script) (S : State) (t : ObjNo) (d : Decision) → FitsDecision k script t S d → FitsStep k script t S d
+by_kinds script S t d fits = record { each = fits.each; told = let few = fits.told in let most = tell_few t d.moves S in omega arith; light = fits.light; regular = fits.regular }
 
 -- thread t is about to make a step of this instruction: it is live, but for one that comes back from a find, owes nothing, doesn't wait, and wants no fast mutex that is
 -- held; and the instruction is one of a well-formed script
@@ -69,8 +72,8 @@ pub record IsStepping (script : Script) (S : State) (t : ObjNo) (row : ThreadRow
   pub free : wanted_holder S.nano t ≡ None
   pub early : row.next_instruction < 16384
 
-pub fits-nothing : (script : Script) (S : State) (t : ObjNo) → FitsDecision script t S nothing
-fits-nothing script S t = record { each = tt; told = omega arith; light = omega arith }
+pub fits-nothing : {k : Kinds} (script : Script) (S : State) (t : ObjNo) → FitsDecision k script t S nothing
+fits-nothing script S t = record { each = tt; told = omega arith; light = omega arith; regular = tame _ refl }
 
 -- such a thread has a request semaphore
 pub has_signals : {script : Script} {S : State} {t : ObjNo} {row : ThreadRow} {instr : Instr} → IsStepping script S t row instr → t.0 < length S.requests.signals
@@ -105,8 +108,8 @@ at-with_row script S T t u f keeps threads at =
     (λ row h. rw (keeps.role row, keeps.next row) h) at.is at.next in
     record { row = r.0; is = ap (λ (threads : List (Option ThreadRow)). get_or threads t.0 None) threads ∙ r.1; next = r.2 }
 
-pub fits-refuse : {script : Script} {S : State} {t : ObjNo} {row : ThreadRow} {instr : Instr} (told : Step) (error : Error) → IsStepping script S t row instr → FitsDecision script t S (refuse t told error)
-fits-refuse told error h = record { each = ((refl, at_instruction h), tt); told = omega arith; light = omega arith }
+pub fits-refuse : {k : Kinds} {script : Script} {S : State} {t : ObjNo} {row : ThreadRow} {instr : Instr} (told : Step) (named : may_tell k told ≡ true) (error : Error) → IsStepping script S t row instr → FitsDecision k script t S (refuse t told error)
+fits-refuse told named error h = record { each = ((refl, at_instruction h), tt); told = omega arith; light = omega arith; regular = tame _ named }
 
 -- it isn't cleaned: only one that comes back from a find isn't live, and no cleaned thread does that
 pub unspent : {script : Script} {S : State} {t : ObjNo} {row : ThreadRow} {instr : Instr} → IsStepping script S t row instr → IsUnspent S t
@@ -153,11 +156,12 @@ may_go_on {S = S} {t = t} {row = row} part h before sends = (
 )
 
 -- and uses an object from then on
-pub fits-use : {script : Script} {S : State} {t : ObjNo} {row : ThreadRow} {instr : Instr} (told : Step) (o : ObjNo) (part : Part) → IsStepping script S t row instr → is_before_use row.part ≡ true → is_before_use (Some part) ≡ false → MaySend (Some part) S → IsAlive (object_of S o) → FitsDecision script t S (go_on t told (Gain (Temp t) o) part)
-fits-use {script = script} {S = S} {t = t} {row = row} told o part h before later sends alive = record {
+pub fits-use : {k : Kinds} {script : Script} {S : State} {t : ObjNo} {row : ThreadRow} {instr : Instr} (told : Step) (named : may_tell k told ≡ true) (o : ObjNo) (part : Part) → k.uses ≡ true → IsStepping script S t row instr → is_before_use row.part ≡ true → is_before_use (Some part) ≡ false → MaySend (Some part) S → IsAlive (object_of S o) → FitsDecision k script t S (go_on t told (Gain (Temp t) o) part)
+fits-use {script = script} {S = S} {t = t} {row = row} told named o part uses h before later sends alive = record {
   each = (may_go_on part h before sends, ((free, alive), tt));
   told = omega arith;
   light = omega arith;
+  regular = regular-use t told o part named uses;
 }
   where
     free : IsFree (moved t (GoOn t part) S) (Temp t)
@@ -180,11 +184,11 @@ perform-append t [] ys S = refl
 perform-append t (m ∷ xs) ys S = perform-append t xs ys (moved t m S)
 
 -- an answer after moves that fit and leave the thread at its instruction
-pub fits-answers : {script : Script} {S : State} {t : ObjNo} (told : Step) (ms : List Move) (code : ℤ) → EachFits script t ms S → IsAtInstruction script (perform t ms S) t → total most_told ms ≤ 4 → total most_owed ms ≤ 8 → FitsDecision script t S (answer t told ms code)
-fits-answers {script = script} {S = S} {t = t} told ms code each at few light =
+pub fits-answers : {k : Kinds} {script : Script} {S : State} {t : ObjNo} (told : Step) (named : may_tell k told ≡ true) (ms : List Move) (code : ℤ) → IsTame k 0 ms → EachFits script t ms S → IsAtInstruction script (perform t ms S) t → total most_told ms ≤ 4 → total most_owed ms ≤ 8 → FitsDecision k script t S (answer t told ms code)
+fits-answers {script = script} {S = S} {t = t} told named ms code calm each at few light =
     let all_told = total-append most_told ms (Advance t ∷ []) in
     let all_owed = total-append most_owed ms (Advance t ∷ []) in
-    record { each = fits-both script S t ms (Advance t ∷ []) each ((refl, at), tt); told = omega arith; light = omega arith }
+    record { each = fits-both script S t ms (Advance t ∷ []) each ((refl, at), tt); told = omega arith; light = omega arith; regular = regular-answer told ms code named calm }
 
 -- what moves tell and what others tell behind them
 tell-append : (t : ObjNo) (ms more : List Move) (S : State) → length (tell t (ms ++ more) S) ≡ length (tell t ms S) + length (tell t more (perform t ms S))
@@ -195,17 +199,17 @@ tell-append t (m ∷ ms) more S =
     let first = length-append (told m S) (tell t ms (moved t m S)) in omega arith
 
 -- the same after moves of which it is known what they tell
-pub answers_step : {script : Script} {S : State} {t : ObjNo} (named : Step) (ms : List Move) (code : ℤ) → EachFits script t ms S → IsAtInstruction script (perform t ms S) t → length (tell t ms S) ≤ 4 → total most_owed ms ≤ 8 → FitsStep script t S (answer t named ms code)
-answers_step {script = script} {S = S} {t = t} named ms code each at few light =
+pub answers_step : {k : Kinds} {script : Script} {S : State} {t : ObjNo} (told : Step) (named : may_tell k told ≡ true) (ms : List Move) (code : ℤ) → IsTame k 0 ms → EachFits script t ms S → IsAtInstruction script (perform t ms S) t → length (tell t ms S) ≤ 4 → total most_owed ms ≤ 8 → FitsStep k script t S (answer t told ms code)
+answers_step {script = script} {S = S} {t = t} told named ms code calm each at few light =
     let all_told = tell-append t ms (Advance t ∷ []) S in
     let all_owed = total-append most_owed ms (Advance t ∷ []) in
-    record { each = fits-both script S t ms (Advance t ∷ []) each ((refl, at), tt); told = omega arith; light = omega arith }
+    record { each = fits-both script S t ms (Advance t ∷ []) each ((refl, at), tt); told = omega arith; light = omega arith; regular = regular-answer told ms code named calm }
 
 -- a new handle's number, after moves that fit and leave the threads
-pub fits-handle : {script : Script} {S : State} {t : ObjNo} {row : ThreadRow} {instr : Instr} (told : Step) (ms : List Move) (x number : ℕ) → IsStepping script S t row instr → x < 8 → EachFits script t ms S → (perform t ms S).threads ≡ S.threads → total most_told ms ≤ 4 → total most_owed ms ≤ 8 → FitsDecision script t S (answer_handle t told ms x number)
-fits-handle {script = script} {S = S} {t = t} told ms x number h register each stays few light =
+pub fits-handle : {k : Kinds} {script : Script} {S : State} {t : ObjNo} {row : ThreadRow} {instr : Instr} (told : Step) (named : may_tell k told ≡ true) (ms : List Move) (x number : ℕ) → IsTame k 0 ms → IsStepping script S t row instr → x < 8 → EachFits script t ms S → (perform t ms S).threads ≡ S.threads → total most_told ms ≤ 4 → total most_owed ms ≤ 8 → FitsDecision k script t S (answer_handle t told ms x number)
+fits-handle {script = script} {S = S} {t = t} told named ms x number calm h register each stays few light =
     let more = Write t x number ∷ [] in
     let all_told = total-append most_told ms more in
     let all_owed = total-append most_owed ms more in
     let at = at-with_row script S (perform t more (perform t ms S)) t t (with_register x number) (record { role = λ r. refl; next = λ r. refl }) (ap (λ (threads : List (Option ThreadRow)). with_row threads t (with_register x number)) stays) (at_instruction h) in
-    fits-answers told (ms ++ more) _ (fits-both script S t ms more each (register, tt)) (subst (λ (T : State). IsAtInstruction script T t) (sym (perform-append t ms more S)) at) (omega arith) (omega arith)
+    fits-answers told named (ms ++ more) _ (tame-both ms more calm (tame-moves more refl refl)) (fits-both script S t ms more each (register, tt)) (subst (λ (T : State). IsAtInstruction script T t) (sym (perform-append t ms more S)) at) (omega arith) (omega arith)

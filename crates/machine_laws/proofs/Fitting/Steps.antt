@@ -1,5 +1,5 @@
 -- The steps of each instruction.
-use Rattle.std.proofs.Common.{◌≡◌, ◌≢◌, ℕ, ◌<◌, ◌≤◌, List, ◌∷◌, length, arith, refl, ap, Option, Some, None, Bool, true, false}
+use Rattle.std.proofs.Common.{◌≡◌, ◌≢◌, ℕ, ◌<◌, ◌≤◌, List, ◌∷◌, length, arith, refl, ap, Option, Some, None, Bool, true, false, []}
 use Rattle.std.proofs.lemmas.Bool.{eq-eqb}
 use Rattle.std.proofs.lemmas.List.{length_push}
 use Rattle.std.specs.Prelude.{pos, ◌==◌, if◌then◌else◌, is_some, slice_index}
@@ -50,11 +50,13 @@ use Rattle.machine_laws.proofs.Fitting.KernelThreads.{fits-unless}
 use Rattle.machine_laws.proofs.Fitting.Stepping.{FitsDecision, FitsStep, IsStepping, answers_step, at_instruction, by_kinds, fits-handle, fits-nothing, fits-refuse}
 use Rattle.machine_laws.proofs.Fitting.Staying.{stay-perform}
 use Rattle.machine_laws.proofs.Fitting.Shared.{fits-look, fits-seek, fits-return, fits-give, fits-give_own, of_process_handle}
+use Rattle.machine_laws.proofs.Fitting.Regular.{IsTame, looking, may_tell, plain, serving, tame-both, tame-in, tame-moves}
 
--- what follows the making of an object fits then, and leaves the threads
+-- what follows the making of an object fits then, leaves the threads, and is tame
 record Begins (script : Script) (t : ObjNo) (start : Option LockMove) (T : State) : Type 0 where
   pub each : EachFits script t (start_moves start) T
   pub threads : (perform t (start_moves start) T).threads ≡ T.threads
+  pub calm : IsTame plain 0 (start_moves start)
 
 start_told : (start : Option LockMove) → total most_told (start_moves start) ≤ 3
 start_told None = omega arith
@@ -70,22 +72,22 @@ room_left {S = S} h room = let few = h.rows.sized.objects_few in let apart : len
 
 -- `create`
 fits-create : {script : Script} {S : State} {t : ObjNo} {row : ThreadRow} {instr : Instr} (kind : Kind) (name : List ℕ) (start : Option LockMove) (x : ℕ) → HasName kind name → IsStepping script S t row instr → x < 8
-    → ((i : ℕ) → Begins script t start (moved t (Make kind name (InProcess row.process i)) S)) → FitsDecision script t S (create_do S t row kind name start x)
+    → ((i : ℕ) → Begins script t start (moved t (Make kind name (InProcess row.process i)) S)) → FitsDecision looking script t S (create_do S t row kind name start x)
 fits-create {script = script} {S = S} {t = t} {row = row} kind name start x named h register begins =
-    if_cases (FitsDecision script t S) (is_taken kind name S.objects) _ _ (λ _. fits-refuse (Of word.Create part.Do) AlreadyExists h)
-    (λ new. if_cases (FitsDecision script t S) (length S.objects == OBJECTS) _ _ (λ _. fits-refuse (Of word.Create part.Do) Overflow h)
-    (λ room. of_process_handle (λ handle. FitsDecision script t S (make_with_handle t kind name start x handle)) h (fits-refuse (Of word.Create part.Do) Overflow h) (made new (room_left h room))))
+    if_cases (FitsDecision looking script t S) (is_taken kind name S.objects) _ _ (λ _. fits-refuse (Of word.Create part.Do) refl AlreadyExists h)
+    (λ new. if_cases (FitsDecision looking script t S) (length S.objects == OBJECTS) _ _ (λ _. fits-refuse (Of word.Create part.Do) refl Overflow h)
+    (λ room. of_process_handle (λ handle. FitsDecision looking script t S (make_with_handle t kind name start x handle)) h (fits-refuse (Of word.Create part.Do) refl Overflow h) (made new (room_left h room))))
   where
-    made : is_taken kind name S.objects ≡ false → length S.objects < OBJECTS → (i number : ℕ) → IsFree S (InProcess row.process i) → FitsDecision script t S (make_with_handle t kind name start x (Some (record { holder = InProcess row.process i; number = number })))
+    made : is_taken kind name S.objects ≡ false → length S.objects < OBJECTS → (i number : ℕ) → IsFree S (InProcess row.process i) → FitsDecision looking script t S (make_with_handle t kind name start x (Some (record { holder = InProcess row.process i; number = number })))
     made new room i number free =
         let told = start_told start in
         let owed = start_owed start in
-        fits-handle (Of word.Create part.Do) (Make kind name (InProcess row.process i) ∷ start_moves start) x number h register ((record { room = room; new = new }, free, named), (begins i).each) (begins i).threads (omega arith) (omega arith)
+        fits-handle (Of word.Create part.Do) refl (Make kind name (InProcess row.process i) ∷ start_moves start) x number (tame-both (Make kind name (InProcess row.process i) ∷ []) (start_moves start) (tame-moves _ refl refl) (tame-in (begins i).calm)) h register ((record { room = room; new = new }, free, named), (begins i).each) (begins i).threads (omega arith) (omega arith)
 
-pub fits-create_mutex : {script : Script} {S : State} {t : ObjNo} {row : ThreadRow} (name : List ℕ) (x : ℕ) → IsStepping script S t row (instr.CreateMutex name x) → FitsDecision script t S (create_mutex_do S t row name x)
-fits-create_mutex name x h = fits-create Mutex name None x (λ e. absurd (cc)) h h.registers (λ i. record { each = tt; threads = refl })
+pub fits-create_mutex : {script : Script} {S : State} {t : ObjNo} {row : ThreadRow} (name : List ℕ) (x : ℕ) → IsStepping script S t row (instr.CreateMutex name x) → FitsDecision looking script t S (create_mutex_do S t row name x)
+fits-create_mutex name x h = fits-create Mutex name None x (λ e. absurd (cc)) h h.registers (λ i. record { each = tt; threads = refl; calm = tame-moves [] refl refl })
 
-pub fits-create_semaphore : {script : Script} {S : State} {t : ObjNo} {row : ThreadRow} (name : List ℕ) (count x : ℕ) → IsStepping script S t row (instr.CreateSemaphore name count x) → FitsDecision script t S (create_semaphore_do S t row name count x)
+pub fits-create_semaphore : {script : Script} {S : State} {t : ObjNo} {row : ThreadRow} (name : List ℕ) (count x : ℕ) → IsStepping script S t row (instr.CreateSemaphore name count x) → FitsDecision looking script t S (create_semaphore_do S t row name count x)
 fits-create_semaphore {script = script} {S = S} name count x h = fits-create Semaphore name (Some (Start (next_object S) count)) x (λ e. absurd (cc)) h h.registers (λ i. record {
   each = (
     record {
@@ -97,35 +99,36 @@ fits-create_semaphore {script = script} {S = S} name count x h = fits-create Sem
     tt,
   );
   threads = refl;
+  calm = tame-moves _ refl refl;
 })
 
 -- `dup` and `duplocal`
-fits-dup_do : {script : Script} {S : State} {t : ObjNo} {row : ThreadRow} {instr : Instr} (word : Word) (y : ℕ) (handle : Option NewHandle) (uses : Option ObjNo) → IsStepping script S t row instr → row.uses ≡ uses
-    → ((o : ObjNo) → IsAlive (object_of S o) → FitsDecision script t S (give_handle t (Of word part.Do) o y handle)) → FitsDecision script t S (dup_do S t word y handle uses)
-fits-dup_do {script = script} {S = S} {t = t} word y handle None h e given = fits-nothing script S t
-fits-dup_do {script = script} {S = S} {t = t} {row = row} word y handle (Some o) h e given =
-    if_cases (FitsDecision script t S) (stays_with_thread (object_of S o)) _ _ (λ _. fits-refuse (Of word part.Do) PermissionDenied h)
+fits-dup_do : {script : Script} {S : State} {t : ObjNo} {row : ThreadRow} {instr : Instr} (word : Word) (named : may_tell plain (Of word part.Do) ≡ true) (y : ℕ) (handle : Option NewHandle) (uses : Option ObjNo) → IsStepping script S t row instr → row.uses ≡ uses
+    → ((o : ObjNo) → IsAlive (object_of S o) → FitsDecision looking script t S (give_handle t (Of word part.Do) o y handle)) → FitsDecision looking script t S (dup_do S t word y handle uses)
+fits-dup_do {script = script} {S = S} {t = t} word named y handle None h e given = fits-nothing script S t
+fits-dup_do {script = script} {S = S} {t = t} {row = row} word named y handle (Some o) h e given =
+    if_cases (FitsDecision looking script t S) (stays_with_thread (object_of S o)) _ _ (λ _. fits-refuse (Of word part.Do) named PermissionDenied h)
     (λ _. given o (use_is_alive S t row o h.rows.lives h.is e))
 
-pub fits-dup : {script : Script} {S : State} {t : ObjNo} {row : ThreadRow} {instr : Instr} (x y : ℕ) (p : Option Part) → IsStepping script S t row instr → y < 8 → row.part ≡ p → FitsDecision script t S (dup_step S t row x y p)
-fits-dup x y None h register at = fits-look word.Dup x h (ap is_before_use at)
-fits-dup {row = row} x y (Some p) h register at = fits-dup_do word.Dup y _ row.uses h refl (λ o alive. fits-give (Of word.Dup part.Do) o y h register alive)
+pub fits-dup : {script : Script} {S : State} {t : ObjNo} {row : ThreadRow} {instr : Instr} (x y : ℕ) (p : Option Part) → IsStepping script S t row instr → y < 8 → row.part ≡ p → FitsDecision looking script t S (dup_step S t row x y p)
+fits-dup x y None h register at = fits-look word.Dup x refl h (ap is_before_use at)
+fits-dup {row = row} x y (Some p) h register at = fits-dup_do word.Dup refl y _ row.uses h refl (λ o alive. fits-give (Of word.Dup part.Do) refl o y h register alive)
 
-pub fits-duplocal : {script : Script} {S : State} {t : ObjNo} {row : ThreadRow} {instr : Instr} (x y : ℕ) (p : Option Part) → IsStepping script S t row instr → y < 8 → row.part ≡ p → FitsDecision script t S (duplocal_step S t row x y p)
-fits-duplocal x y None h register at = fits-look word.Duplocal x h (ap is_before_use at)
-fits-duplocal {row = row} x y (Some p) h register at = fits-dup_do word.Duplocal y _ row.uses h refl (λ o alive. fits-give_own (Of word.Duplocal part.Do) o y h register alive)
+pub fits-duplocal : {script : Script} {S : State} {t : ObjNo} {row : ThreadRow} {instr : Instr} (x y : ℕ) (p : Option Part) → IsStepping script S t row instr → y < 8 → row.part ≡ p → FitsDecision looking script t S (duplocal_step S t row x y p)
+fits-duplocal x y None h register at = fits-look word.Duplocal x refl h (ap is_before_use at)
+fits-duplocal {row = row} x y (Some p) h register at = fits-dup_do word.Duplocal refl y _ row.uses h refl (λ o alive. fits-give_own (Of word.Duplocal part.Do) refl o y h register alive)
 
 -- `open`
-fits-open_do : {script : Script} {S : State} {t : ObjNo} {row : ThreadRow} {instr : Instr} (x : ℕ) (uses : Option ObjNo) → IsStepping script S t row instr → x < 8 → row.uses ≡ uses → FitsDecision script t S (open_do S t row x uses)
+fits-open_do : {script : Script} {S : State} {t : ObjNo} {row : ThreadRow} {instr : Instr} (x : ℕ) (uses : Option ObjNo) → IsStepping script S t row instr → x < 8 → row.uses ≡ uses → FitsDecision looking script t S (open_do S t row x uses)
 fits-open_do {script = script} {S = S} {t = t} x None h register e = fits-nothing script S t
-fits-open_do {S = S} {t = t} {row = row} x (Some o) h register e = fits-give (Of word.Open part.Do) o x h register (use_is_alive S t row o h.rows.lives h.is e)
+fits-open_do {S = S} {t = t} {row = row} x (Some o) h register e = fits-give (Of word.Open part.Do) refl o x h register (use_is_alive S t row o h.rows.lives h.is e)
 
-pub fits-open : {script : Script} {S : State} {t : ObjNo} {row : ThreadRow} {instr : Instr} (kind : Kind) (name : List ℕ) (x : ℕ) (p : Option Part) → IsStepping script S t row instr → x < 8 → row.part ≡ p → FitsDecision script t S (open_step S t row kind name x p)
-fits-open kind name x None h register at = fits-unless (Of word.Open part.Seek) _ h (λ _. fits-seek word.Open kind name h (ap is_before_use at))
+pub fits-open : {script : Script} {S : State} {t : ObjNo} {row : ThreadRow} {instr : Instr} (kind : Kind) (name : List ℕ) (x : ℕ) (p : Option Part) → IsStepping script S t row instr → x < 8 → row.part ≡ p → FitsDecision looking script t S (open_step S t row kind name x p)
+fits-open kind name x None h register at = fits-unless (Of word.Open part.Seek) refl _ h (λ _. fits-seek word.Open kind name h (ap is_before_use at))
 fits-open {row = row} kind name x (Some p) h register at = fits-open_do x row.uses h register refl
 
-pub fits-open_return : {script : Script} {S : State} {t : ObjNo} {row : ThreadRow} {instr : Instr} → IsStepping script S t row instr → is_before_use row.part ≡ true → FitsDecision script t S (open_return S t row)
-fits-open_return h before = fits-return word.Open part.Do h before refl tt
+pub fits-open_return : {script : Script} {S : State} {t : ObjNo} {row : ThreadRow} {instr : Instr} → IsStepping script S t row instr → is_before_use row.part ≡ true → FitsDecision looking script t S (open_return S t row)
+fits-open_return h before = fits-return word.Open part.Do refl h before refl tt
 
 -- the handle of an object stands in the table of the thread or of its process
 handle_by : {script : Script} {S : State} {t : ObjNo} {row : ThreadRow} {instr : Instr} (local : Bool) (i : ℕ) (o : ObjNo) → IsStepping script S t row instr → (slot_at (table_of S (if local then t else row.process)) i).object ≡ Some o → IsHandle S (if local then InThread t i else InProcess row.process i) o
@@ -136,15 +139,15 @@ pub handle_named : {script : Script} {S : State} {t : ObjNo} {row : ThreadRow} {
 handle_named handle o h is = handle_by (is_local handle) (index_of handle) o h (object_of_is _ _ _ o is)
 
 -- `close`
-pub fits-close : {script : Script} {S : State} {t : ObjNo} {row : ThreadRow} {instr : Instr} (x : ℕ) → IsStepping script S t row instr → is_returning row.part ≡ false → FitsStep script t S (close_do S t row x)
+pub fits-close : {script : Script} {S : State} {t : ObjNo} {row : ThreadRow} {instr : Instr} (x : ℕ) → IsStepping script S t row instr → is_returning row.part ≡ false → FitsStep serving script t S (close_do S t row x)
 fits-close {script = script} {S = S} {t = t} {row = row} x h going = closed (slice_index row.registers x) (object_at S t row (slice_index row.registers x)) refl
   where
     may_close : MayClose script S t
     may_close = record { rows = h.rows; row = row; is = h.is; waits = h.waits; held = ap stage_holds (h.live going); going = going }
 
-    closed : (handle : ℕ) (named : Option ObjNo) → object_at S t row handle ≡ named → FitsStep script t S (close_handle S t row handle named)
-    closed handle None e = by_kinds script S t _ (fits-refuse (Of word.Close part.Do) BadHandle h)
+    closed : (handle : ℕ) (named : Option ObjNo) → object_at S t row handle ≡ named → FitsStep serving script t S (close_handle S t row handle named)
+    closed handle None e = by_kinds script S t _ (fits-refuse (Of word.Close part.Do) refl BadHandle h)
     closed handle (Some o) e =
         let holder = holder_of t row handle in
         let done = closes script S t holder o may_close (handle_named handle o h e) in
-        answers_step (Of word.Close part.Do) (close_moves S t holder o) (pos 0) done.each (stay-perform script t (close_moves S t holder o) S (stay-close script S t holder o) (at_instruction h)) done.told (let few = done.light in omega arith)
+        answers_step (Of word.Close part.Do) refl (close_moves S t holder o) (pos 0) done.calm done.each (stay-perform script t (close_moves S t holder o) S (stay-close script S t holder o) (at_instruction h)) done.told (let few = done.light in omega arith)

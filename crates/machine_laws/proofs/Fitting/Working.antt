@@ -1,19 +1,20 @@
 -- What a thread does for its closing servers fits: it finishes their messages, detaches their sessions, and at last stops them.
-use Rattle.std.proofs.Common.{◌≡◌, ◌<◌, List, [], ◌∷◌, ◌++◌, map, arith, refl, ap, subst, ◌∙◌, Option, Some, None, Bool, true, false}
+use Rattle.std.proofs.Common.{◌≡◌, ◌<◌, List, [], ◌∷◌, ◌++◌, map, arith, refl, sym, ap, subst, ◌∙◌, Option, Some, None, Bool, true, false}
 use Rattle.std.specs.List.{AllByRecursion}
-use Rattle.std.specs.Prelude.{◌||◌, is_some, if◌then◌else◌}
-use Rattle.std.proofs.lemmas.Bool.{eq-eqb}
+use Rattle.std.specs.Prelude.{◌||◌, Contains, filter, is_some, if◌then◌else◌, option_map}
+use Rattle.std.proofs.lemmas.Bool.{eq-eqb, eqb-true}
 use Rattle.sym_base.specs.ErrorCode.{error_code}
 use Rattle.sym_base.specs.declared.error.Error.TheVariants.{ServerTerminated}
 use Rattle.sym_base.specs.declared.number.MsgNo.{MsgNo}
 use Rattle.sym_base.specs.declared.number.ObjNo.{ObjNo}
 use Rattle.script_types.specs.declared.script.Script.{Script}
-use Rattle.state_rows.specs.MessageRows.{message_of, messages_at}
-use Rattle.state_rows.specs.ServerRows.{holds, is_closing, linked_at, server_of}
+use Rattle.state_rows.specs.MessageRows.{is_at, message_of, messages_at}
+use Rattle.state_rows.specs.ServerRows.{holds, is_closing, linked_at, owner_of, server_of}
+use Rattle.state_rows.specs.declared.servers.ServerRow.{ServerRow}
 use Rattle.state_rows.specs.declared.messages.Message.{Message}
 use Rattle.state_rows.specs.declared.thread.ThreadRow.{ThreadRow}
 use Rattle.machine.specs.declared.holding.Holding.{Holding}
-use Rattle.machine.specs.declared.holding.Holding.TheVariants.{Message as OfMessage, Link as OfLink, Server as OfServer}
+use Rattle.machine.specs.declared.holding.Holding.TheVariants.{Message as OfMessage, Link as OfLink, Server as OfServer, Handle}
 use Rattle.machine.specs.declared.state.State.{State}
 use Rattle.machine.specs.Holdings.{closing_holdings, held_servers, server_holdings}
 use Rattle.machine.specs.Reaping.{finish_message, give_up}
@@ -24,9 +25,13 @@ use Rattle.machine.specs.Serving.{times_owned}
 use Rattle.machine.specs.Task.{is_returning}
 use Rattle.machine.specs.WellFormed.{AreRows, part_of}
 use Rattle.move_laws.proofs.Lists.Cases.{if_cases}
-use Rattle.move_laws.proofs.References.Same.{same_self}
+use Rattle.move_laws.proofs.References.Same.{same_object, same_self}
 use Rattle.machine_laws.proofs.Fitting.Finishing.{finishes}
 use Rattle.machine_laws.proofs.Fitting.Stepping.{FitsDecision, fits-nothing}
+use Rattle.machine_laws.proofs.Fitting.Regular.{kind_given, regular-moves, serving, tame-at}
+use Rattle.machine.specs.EntryWords.{is_handle}
+use Rattle.move_laws.proofs.Lists.Contents.{contains_behind, contains_cases, contains_filter, contains_first, none_contained}
+use Rattle.move_laws.proofs.RowLaws.Rising.{found_one}
 
 -- of nothing both parts are nothing
 pub empty_left : {A : Type 0} (xs ys : List A) → xs ++ ys ≡ [] → xs ≡ []
@@ -62,40 +67,73 @@ pub record IsGiving (script : Script) (S : State) (t : ObjNo) (row : ThreadRow) 
   pub is : thread_of S t ≡ Some row
   pub going : is_returning row.part ≡ false
 
+-- what is given up of closing servers: a message to one of the thread's own, a session of one; and a handle is one
+abbrev pub IsGiven : State → ObjNo → Holding → Type 0
+IsGiven S t (OfMessage m) = (message : Message) → message_of S.messages m ≡ Some message → (owner_of S.servers message.row.server ≡ Some t) × (is_closing S.servers message.row.server ≡ true)
+IsGiven S t (OfLink s o) = is_closing S.servers o ≡ true
+IsGiven S t (Handle h o) = is_handle h ≡ true
+IsGiven S t _ = Unit {0}
+
+-- a message among those of a server is one to it
+message-at : (o : ObjNo) (xs : List Message) (message : Message) → Contains (filter (is_at o.0) xs) message → message.row.server.0 ≡ o.0
+message-at o [] message there = absurd (none_contained message there)
+message-at o (x ∷ xs) message there = by (is_at o.0 x) refl (λ z. message-at o xs z) there
+  where
+    by : (b : Bool) → is_at o.0 x ≡ b → ((z : Message) → Contains (filter (is_at o.0) xs) z → z.row.server.0 ≡ o.0) → Contains (if b then x ∷ filter (is_at o.0) xs else filter (is_at o.0) xs) message → message.row.server.0 ≡ o.0
+    by false is rest there = rest message there
+    by true is rest there = contains_cases (λ (z : Message). z.row.server.0 ≡ o.0) x (filter (is_at o.0) xs) message there (eqb-true x.row.server.0 o.0 is) rest
+
 module _ (script : Script) (S : State) (t : ObjNo) (row : ThreadRow) (h : IsGiving script S t row) where
   abbrev Gives : Holding → Type 0
-  Gives what = FitsDecision script t S (give_up S t row what)
+  Gives what = FitsDecision (kind_given what) script t S (give_up S t row what) × IsGiven S t what
 
   going : is_returning (part_of (thread_of S t)) ≡ false
   going = ap (λ (r : Option ThreadRow). is_returning (part_of r)) h.is ∙ h.going
 
   -- a message is finished
-  gives-message : (m : MsgNo) → Gives (OfMessage m)
-  gives-message m = by (message_of S.messages m) refl
+  fits-message : (m : MsgNo) → FitsDecision serving script t S (give_up S t row (OfMessage m))
+  fits-message m = by (message_of S.messages m) refl
     where
-      by : (message : Option Message) → message_of S.messages m ≡ message → FitsDecision script t S (finish_message S message)
+      by : (message : Option Message) → message_of S.messages m ≡ message → FitsDecision serving script t S (finish_message S message)
       by None is = fits-nothing script S t
       by (Some message) is =
           let done = finishes script S t m message (error_code ServerTerminated) h.rows (record { thread = ap is_some h.is; going = going }) is in
-          record { each = done.each; told = let few = done.told in omega arith; light = let few = done.light in omega arith }
+          record { each = done.each; told = let few = done.told in omega arith; light = let few = done.light in omega arith; regular = regular-moves _ refl done.calm }
+
+  owner-of : (o : ObjNo) → 0 < times_owned S.owned t o → owner_of S.servers o ≡ Some t
+  owner-of o some =
+      let made = h.rows.servers.owners t o some in
+      ap (option_map (λ (row : ServerRow). row.owner)) made.is ∙ ap Some (same_object made.row.owner t made.owner)
+
+  gives-message : (o : ObjNo) → is_closing S.servers o ≡ true → 0 < times_owned S.owned t o → (first : Message) → Contains (messages_at S.messages o) first → Gives (OfMessage first.number)
+  gives-message o closing owned first there = (
+    fits-message first.number,
+    λ message is.
+        let among = contains_filter (is_at o.0) S.messages.outstanding first there in
+        let found : message_of S.messages first.number ≡ Some first = found_one S.messages.outstanding first h.rows.messages.rising among in
+        let both : Some message ≡ Some first = sym is ∙ found in
+        let own : message ≡ first = cc in
+        let at : message.row.server ≡ o = ap (λ (z : Message). z.row.server) own ∙ same_object first.row.server o (message-at o S.messages.outstanding first there) in
+        (ap (owner_of S.servers) at ∙ owner-of o owned, ap (is_closing S.servers) at ∙ closing),
+  )
+
+  all-messages : (o : ObjNo) → is_closing S.servers o ≡ true → 0 < times_owned S.owned t o → (messages : List Message) → ((m : Message) → Contains messages m → Contains (messages_at S.messages o) m) → AllByRecursion Gives (map (λ (m : Message). OfMessage m.number) messages)
+  all-messages o closing owned [] among = tt
+  all-messages o closing owned (m ∷ ms) among = (gives-message o closing owned m (among m (contains_first ms m)), all-messages o closing owned ms (λ x there. among x (contains_behind m ms x there)))
 
   -- a session is detached
-  gives-link : (s o : ObjNo) → server_of S.servers s ≡ Some o → Gives (OfLink s o)
-  gives-link s o linked = record { each = ((going, linked), tt); told = omega arith; light = omega arith }
+  gives-link : (s o : ObjNo) → server_of S.servers s ≡ Some o → is_closing S.servers o ≡ true → Gives (OfLink s o)
+  gives-link s o linked closing = (record { each = ((going, linked), tt); told = omega arith; light = omega arith; regular = regular-moves _ refl (tame-at serving _ refl refl) }, closing)
 
-  first-link : (o : ObjNo) (links : List ObjNo) → ((s : ObjNo) → holds s links ≡ true → server_of S.servers s ≡ Some o) → OfFirst Gives (map (λ s. OfLink s o) links)
-  first-link o [] linked what rest e = absurd (cc)
-  first-link o (s ∷ links) linked what rest e =
+  first-link : (o : ObjNo) (links : List ObjNo) → is_closing S.servers o ≡ true → ((s : ObjNo) → holds s links ≡ true → server_of S.servers s ≡ Some o) → OfFirst Gives (map (λ s. OfLink s o) links)
+  first-link o [] closing linked what rest e = absurd (cc)
+  first-link o (s ∷ links) closing linked what rest e =
       let one : OfLink s o ≡ what = cc in
-      subst Gives one (gives-link s o (linked s (ap (λ (b : Bool). b || holds s links) (eq-eqb s.0 s.0 refl))))
+      subst Gives one (gives-link s o (linked s (ap (λ (b : Bool). b || holds s links) (eq-eqb s.0 s.0 refl))) closing)
 
   -- a server of which nothing is left stops
   gives-server : (o : ObjNo) → is_closing S.servers o ≡ true → messages_at S.messages o ≡ [] → linked_at S.servers o ≡ [] → 0 < times_owned S.owned t o → Gives (OfServer o)
-  gives-server o closing finished detached owned = record { each = (record { closing = closing; finished = finished; detached = detached }, ((going, owned), tt)); told = omega arith; light = omega arith }
-
-  all-messages : (messages : List Message) → AllByRecursion Gives (map (λ (m : Message). OfMessage m.number) messages)
-  all-messages [] = tt
-  all-messages (m ∷ ms) = (gives-message m.number, all-messages ms)
+  gives-server o closing finished detached owned = (record { each = (record { closing = closing; finished = finished; detached = detached }, ((going, owned), tt)); told = omega arith; light = omega arith; regular = regular-moves _ refl (tame-at serving _ refl refl) }, tt)
 
   -- the first of what is left of a server
   first-server : (o : ObjNo) → is_closing S.servers o ≡ true → 0 < times_owned S.owned t o → OfFirst Gives (server_holdings S o)
@@ -103,7 +141,7 @@ module _ (script : Script) (S : State) (t : ObjNo) (row : ThreadRow) (h : IsGivi
       let messages = map (λ (m : Message). OfMessage m.number) (messages_at S.messages o) in
       let links = map (λ s. OfLink s o) (linked_at S.servers o) in
       first-both Gives (messages ++ links) (OfServer o ∷ [])
-      (first-both Gives messages links (first-all Gives messages (all-messages (messages_at S.messages o))) (λ none. first-link o (linked_at S.servers o) (λ s among. h.rows.servers.linked s o among)))
+      (first-both Gives messages links (first-all Gives messages (all-messages o closing owned (messages_at S.messages o) (λ m there. there))) (λ none. first-link o (linked_at S.servers o) closing (λ s among. h.rows.servers.linked s o among)))
       (λ none. first-one Gives (OfServer o) (gives-server o closing (no-items (λ (m : Message). OfMessage m.number) (messages_at S.messages o) (empty_left messages links none)) (no-items (λ s. OfLink s o) (linked_at S.servers o) (empty_right messages links none)) owned))
 
   -- and of what is left of all
@@ -117,7 +155,7 @@ module _ (script : Script) (S : State) (t : ObjNo) (row : ThreadRow) (h : IsGivi
   first-work : OfFirst Gives (held_servers S t)
   first-work = first-closing (owned_by S.owned t) (λ o some. some)
 
-pub fits-work : {script : Script} {S : State} {t : ObjNo} {row : ThreadRow} (what : Holding) (rest : List Holding) → IsGiving script S t row → held_servers S t ≡ what ∷ rest → FitsDecision script t S (give_up S t row what)
+pub fits-work : {script : Script} {S : State} {t : ObjNo} {row : ThreadRow} (what : Holding) (rest : List Holding) → IsGiving script S t row → held_servers S t ≡ what ∷ rest → FitsDecision (kind_given what) script t S (give_up S t row what) × IsGiven S t what
 fits-work {script = script} {S = S} {t = t} {row = row} what rest h has = first-work script S t row h what rest has
 
 -- where nothing is left of closing servers, and all are closing, there are none

@@ -1,5 +1,5 @@
 -- From its cleaning on a thread doesn't act, gets no reference of its own, owes nothing and has nothing left.
-use Rattle.std.proofs.Common.{◌≡◌, inl, inr, ℕ, zero, suc, ◌+◌, ◌<◌, List, [], ◌∷◌, ◌++◌, map, replicate, get_or, arith, refl, sym, ap, subst, ◌∙◌, Some, None, Bool, true, false}
+use Rattle.std.proofs.Common.{Option, Bool, false, ◌≡◌, inl, inr, ℕ, zero, suc, ◌+◌, ◌<◌, List, [], ◌∷◌, ◌++◌, map, replicate, get_or, arith, refl, sym, ap, subst, ◌∙◌, Some, None, Bool, true, false}
 use Rattle.std.specs.Prelude.{◌==◌, if◌then◌else◌}
 use Rattle.std.proofs.lemmas.Bool.{eqb-true}
 use Rattle.sym_base.specs.declared.number.ObjNo.{ObjNo}
@@ -19,7 +19,7 @@ use Rattle.machine.specs.declared.state.State.{State}
 use Rattle.machine.specs.Boot.{boot, boot_of, born}
 use Rattle.machine.specs.History.{after, after_from, next, IsLegal, IsLegalFrom}
 use Rattle.machine.specs.Holdings.{closing_holdings, held_handles, held_logons, held_mutexes, held_servers, held_slot, held_use, holdings, left_of, process_handles, stage_left}
-use Rattle.machine.specs.References.{mutex_names, total}
+use Rattle.machine.specs.References.{mutex_names, option_names, total}
 use Rattle.machine.specs.Rows.{table_of, thread_of}
 use Rattle.machine.specs.WellFormed.{AreRows, IsSpent}
 use Rattle.machine_laws.proofs.AtBoot.BootRows.{const_either, rows-boot}
@@ -27,12 +27,19 @@ use Rattle.machine_laws.proofs.Reached.AfterHistory.{well_formed-after}
 use Rattle.machine_laws.proofs.Reached.NextState.{sound-next}
 use Rattle.move_laws.proofs.Lists.Copies.{copy_at}
 use Rattle.move_laws.proofs.References.Same.{same_self}
-use Rattle.machine_safe.specs.SafeDeaths.{StaysDead, cleanings}
-use Rattle.machine_safe.proofs.Deaths.Cut.{cut, legal-front}
+use Rattle.machine_safe.specs.SafeDeaths.{HasNone, StaysDead, cleanings}
+use Rattle.machine_safe.proofs.Deaths.Cut.{cut, dies-history, legal-front}
 use Rattle.machine_safe.proofs.Deaths.Gone.{IsGone, gone-after, no-action, not-left}
-use Rattle.machine_safe.proofs.Deaths.Rows.{row_bit}
+use Rattle.machine_safe.proofs.Deaths.Rows.{live-left, row_bit}
 use Rattle.machine_safe.proofs.Deaths.Runs.{kept-next}
-use Rattle.machine_safe.proofs.Deaths.Tables.{AreEmptied, emptied-move, emptied-pay, left-none}
+use Rattle.machine_safe.proofs.Deaths.Tables.{AreEmptied, IsEmptyTable, emptied-move, emptied-pay, left-none}
+use Rattle.machine_safe.proofs.Deaths.Dies.{Dies, own-barred}
+use Rattle.machine_safe.proofs.Deaths.Leaves.{alone, total-none}
+use Rattle.state_rows.specs.Nano.{held_by, holder_of}
+use Rattle.machine_laws.proofs.Fitting.KernelThreads.{held_holder}
+use Rattle.machine_safe.proofs.Deaths.InOrder.{exact-run}
+use Rattle.machine_safe.proofs.Deaths.Dooms.{unheld}
+use Rattle.machine_safe.specs.CountAfter.{effects_of}
 
 -- no table has an object at boot
 emptied-boot : (script : Script) → AreEmptied (boot script)
@@ -67,7 +74,7 @@ has-none script S t row rows h emptied is =
     both-none (held_mutexes S t ++ held_servers S t ++ held_use row.uses ++ held_handles (InThread t) 0 (table_of S t) ++ process_handles S t row.process) (held_logons S t)
     (both-none (held_mutexes S t ++ held_servers S t ++ held_use row.uses ++ held_handles (InThread t) 0 (table_of S t)) (process_handles S t row.process)
     (both-none (held_mutexes S t ++ held_servers S t ++ held_use row.uses) (held_handles (InThread t) 0 (table_of S t)) (both-none (held_mutexes S t ++ held_servers S t) (held_use row.uses) (both-none (held_mutexes S t) (held_servers S t) mutexes servers) (ap held_use spent.unused)) (no-handles-held (InThread t) 0 (table_of S t) spent.empty)) (process (total (left_of row.process) S.threads == left_of row.process (thread_of S t)) refl))
-    (ap (map (λ (logon : ObjNo × ℕ). Logon logon.0 logon.1)) (h.bare.logged row is))
+    (ap (map (λ (logon : ObjNo × ℕ). Logon logon.0 logon.1)) h.bare.logged)
   where
     spent : IsSpent S.handles t.0 row
     spent = rows.spent.rows t.0 row is (not-left row.stage (sym (ap (row_bit stage_left) is) ∙ h.left))
@@ -84,11 +91,58 @@ has-none script S t row rows h emptied is =
         let only = eqb-true (total (left_of row.process) S.threads) (left_of row.process (thread_of S t)) e in
         no-handles-held (InProcess row.process) 0 (table_of S row.process) (emptied row.process (rows.threads.processes t.0 row is) (only ∙ left-none row.process (thread_of S t) h.left))
 
+-- and it has none without its row too, where no row ever had its number for its process
+none-left : (script : Script) (S : State) (t : ObjNo) → AreRows script S → IsGone S t → IsEmptyTable S.handles t → HasNone S t
+none-left script S t rows h empty = record {
+  mutexes = no-mutexes (get_or S.mutexes t.0 []) h.bare.held;
+  fast = by (held_by S.nano t) refl;
+  handles = empty;
+  logons = h.bare.logged;
+  servers = h.bare.owned;
+}
+  where
+    by : (held : Option ℕ) → held_by S.nano t ≡ held → held ≡ None
+    by None e = refl
+    by (Some f) e =
+        let none = unheld script S t f rows (let le = live-left (thread_of S t) in let left = h.left in omega arith) in
+        let one : option_names t (holder_of S.nano f) ≡ 1 = ap (option_names t) (held_holder S.nano t f e).1 ∙ same_self t in absurd (omega arith)
+
+no-process : (script : Script) (before : List Entry) (t : ObjNo) → IsWellFormed script → Dies (boot script) (after script before) (effects_of before) → 0 < row_bit stage_left (thread_of (boot script) t) → total (left_of t) (after script before).threads ≡ 0
+no-process script before t valid front was = total-none (left_of t) (after script before).threads None (λ j. by j (get_or (after script before).threads j None) refl)
+  where
+    by : (j : ℕ) (x : Option ThreadRow) → get_or (after script before).threads j None ≡ x → left_of t x ≡ 0
+    by j None is = refl
+    by j (Some row) is = test (row.process.0 == t.0) refl
+      where
+        test : (b : Bool) → (row.process.0 == t.0) ≡ b → (if b then stage_left row.stage else 0) ≡ 0
+        test false e = refl
+        test true e =
+            let old = front.were j row is in
+            let none = (rows-boot script valid).threads.processes j old.old old.was in
+            let same : old.old.process.0 ≡ t.0 = ap (λ (p : ObjNo). p.0) old.process ∙ eqb-true row.process.0 t.0 e in
+            let gone : row_bit stage_left (thread_of (boot script) t) ≡ 0 = ap (row_bit stage_left) (ap (λ (n : ℕ). get_or (boot script).threads n None) (sym same) ∙ none) in absurd (omega arith)
+
+own-empty : (script : Script) (before : List Entry) (t : ObjNo) → IsWellFormed script → IsLegal script before → AreEmptied (after script before) → IsGone (after script before) t → 0 < cleanings before t → IsEmptyTable (after script before).handles t
+own-empty script before t valid legal emptied h some = by (thread_of (after script before) t) refl
+  where
+    by : (x : Option ThreadRow) → thread_of (after script before) t ≡ x → IsEmptyTable (after script before).handles t
+    by (Some row) is = ((well_formed-after script before valid).rows.spent.rows t.0 row is (not-left row.stage (sym (ap (row_bit stage_left) is) ∙ h.left))).empty
+    by None is =
+        let run = exact-run script (boot script) 1 before t (formed_is_shaped script valid) (rows-boot script valid) legal in
+        emptied t is (no-process script before t valid (dies-history script before valid legal) (omega arith))
+
 pub stays-dead : (script : Script) (history : List Entry) (t : ObjNo) → IsWellFormed script → IsLegal script history → StaysDead script history t
 stays-dead script history t valid legal = record {
   acts = λ before e later is some. let c = cut script history before e later valid legal is in no-action script (after script before) t e.actor c.rows (gone before c.legal_before some) c.here.able;
-  gains = λ before e later h o is some own. let c = cut script history before e later valid legal is in c.step.gains_none t h o (gone before c.legal_before some).left own;
+  gains = λ before e later h o is some own. let c = cut script history before e later valid legal is in c.step.gains_none h o (own-barred (after script before) t h (gone before c.legal_before some).left own);
+  shares = λ before e later row i o is some at others.
+      let c = cut script history before e later valid legal is in
+      let none = left-none row.process (thread_of (after script before) t) (gone before c.legal_before some).left in
+      c.step.gains_none (InProcess row.process i) o (alone script before t row valid c.legal_before c.front others ∙ none);
   owes = λ before later is some. (gone before (front before later is) some).paid;
+  none = λ before later is some.
+      let first = front before later is in
+      none-left script (after script before) t (well_formed-after script before valid).rows (gone before first some) (own-empty script before t valid first (emptied before first) (gone before first some) some);
   has = λ before later row is some at. has-none script (after script before) t row (well_formed-after script before valid).rows (gone before (front before later is) some) (emptied before (front before later is)) at;
 }
   where

@@ -28,16 +28,14 @@ use Rattle.machine.specs.Rows.{owed_of, thread_of}
 use Rattle.machine.specs.Steps.{decision_of}
 use Rattle.machine.specs.Transition.{act}
 use Rattle.machine.specs.WellFormed.{AreRows}
-use Rattle.machine_laws.proofs.Fitting.Actions.{of_action}
+use Rattle.machine_laws.proofs.Fitting.Actions.{of_action, regular-action}
 use Rattle.move_laws.proofs.References.Same.{eqb_apart, if_not, if_zero, same_object}
 use Rattle.move_laws.proofs.MoveLaws.Pays.{sweep-unheld}
-use Rattle.machine_safe.specs.SafeDeaths.{is_clean}
 use Rattle.machine_safe.proofs.Deaths.Moves.{keeps-closed, keeps-move}
 use Rattle.machine_safe.proofs.Deaths.Rows.{bit-less, bit-swept, held-is, held-one, keeps-with_row, left-held, row_bit}
-use Rattle.machine_laws.proofs.Fitting.Interrupts.{goes-immediate, goes-interrupt}
-use Rattle.machine_safe.proofs.Deaths.BodySteps.{none-body, none-planned}
-use Rattle.machine_safe.proofs.Deaths.Cleanings.{no-cleaning}
-use Rattle.machine_safe.proofs.Deaths.Other.{cleaning_bit}
+use Rattle.machine_laws.proofs.Fitting.Interrupts.{light-immediate, light-interrupt}
+use Rattle.machine_laws.proofs.Fitting.Regular.{cleaning_bit}
+use Rattle.machine.specs.EntryWords.{is_clean}
 
 -- Moves that clean a thread are an action of it, and a cleaning is among them.
 record Dropped (t u : ObjNo) (ms : List Move) : Type 0 where
@@ -104,7 +102,7 @@ drop-act script S t u shaped rows was now = by (is_clean d.step) refl
 
     by : (b : Bool) → is_clean d.step ≡ b → OwnCleaning script S t u
     by true is = record { own = (all now).own; step = is }
-    by false is = let none = no-cleaning script S t is in let some = (all now).cleans in absurd (omega arith)
+    by false is = let none = (regular-action script S t shaped rows).1.cleans is in let some = (all now).cleans in absurd (omega arith)
 
 -- moves that clean nobody leave each thread
 kept-none : (script : Script) (S : State) (t : ObjNo) (ms : List Move) (u : ObjNo) → EachFits script t ms S → total cleaning_bit ms ≡ 0 → row_bit stage_left (thread_of S u) ≡ 1 → row_bit stage_left (thread_of (perform t ms S) u) ≡ 1
@@ -116,13 +114,15 @@ kept-none script S t ms u fits none was = elim (cases_lt 0 (row_bit stage_left (
 kept-interrupt : (script : Script) (S : State) (k : ℕ) (u : ObjNo) → IsShaped script → AreRows script S → row_bit stage_left (thread_of S u) ≡ 1 → row_bit stage_left (thread_of (interrupt script S k).state u) ≡ 1
 unfolding interrupt
 kept-interrupt script S k u shaped rows was =
-    kept-none script S supervisor (run_body script supervisor S (Interrupt k)).moves u (goes-interrupt script S k shaped rows).each (none-body script supervisor S (Interrupt k)).cleans was
+    let light = light-interrupt script S k shaped rows in
+    kept-none script S supervisor (run_body script supervisor S (Interrupt k)).moves u light.each light.calm.cleans was
 
 kept-immediate : (script : Script) (S : State) (u : ObjNo) → IsShaped script → AreRows script S → row_bit stage_left (thread_of S u) ≡ 1 → row_bit stage_left (thread_of (immediate script S).state u) ≡ 1
 unfolding immediate
 kept-immediate script S u shaped rows was =
     let found = next_immediate S.deferred in
-    kept-none script S supervisor (decision_by script supervisor S (immediate_plan script S found)).moves u (goes-immediate script S found shaped rows refl).each (none-planned script supervisor S found).cleans was
+    let light = light-immediate script S found shaped rows refl in
+    kept-none script S supervisor (decision_by script supervisor S (immediate_plan script S found)).moves u light.each light.calm.cleans was
 
 -- a thread comes to be cleaned only by its own cleaning
 pub drop-next : (script : Script) (S : State) (actor : Actor) (u : ObjNo) → IsShaped script → AreRows script S → row_bit stage_left (thread_of S u) ≡ 1 → row_bit stage_left (thread_of (next script S actor) u) ≡ 0 → (actor ≡ Thread u) × (is_clean (decision_of script S u).step ≡ true)

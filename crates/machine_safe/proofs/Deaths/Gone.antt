@@ -51,12 +51,12 @@ use Rattle.machine_laws.proofs.Fitting.Interrupts.{sane-supervisor}
 use Rattle.machine_laws.proofs.Reached.NextState.{sound-next}
 use Rattle.move_laws.proofs.References.Same.{same_object}
 use Rattle.machine_safe.specs.CountAfter.{is_by}
-use Rattle.machine_safe.specs.SafeDeaths.{cleanings, is_clean}
+use Rattle.machine_safe.specs.SafeDeaths.{cleanings}
 use Rattle.machine_safe.proofs.Deaths.Bare.{IsBare, bare-cleaned, bare-next}
-use Rattle.machine_safe.proofs.Deaths.Cleanings.{is-cleaning}
 use Rattle.machine_safe.proofs.Deaths.Order.{Cleans, after-cleaning, cleans, left-after}
 use Rattle.machine_safe.proofs.Deaths.Rows.{row_bit}
 use Rattle.machine_safe.proofs.Deaths.Runs.{dies-entry}
+use Rattle.machine.specs.EntryWords.{is_clean}
 
 -- only the thread that acts comes to owe more, and only by a move that owes
 abbrev OwesNoMore : ObjNo → ObjNo → ℕ → Type 0
@@ -210,11 +210,11 @@ gone-run script S place [] t shaped rows legal h = h
 gone-run script S place (e ∷ es) t shaped rows legal h = gone-run script (next script S e.actor) (place + 1) es t shaped (sound-next script S e.actor shaped rows).rows legal.1 (gone-entry script S place e es t shaped rows legal h)
 
 -- and is so from its cleaning on
-gone-cleaned : (script : Script) (S : State) (e : Entry) (t : ObjNo) → Cleans script S e t → IsGone (next script S e.actor) t
-gone-cleaned script S e t c = record {
+gone-cleaned : (script : Script) (S : State) (e : Entry) (t : ObjNo) → AreRows script S → Cleans script S e t → IsGone (next script S e.actor) t
+gone-cleaned script S e t rows c = record {
   left = left-after script S e t c;
-  paid = ap (λ (l : List (List Owed)). get_or l t.0 []) (after-cleaning script S e t c).owed ∙ (is-cleaning script S t c.step).paid;
-  bare = bare-cleaned script S e t c;
+  paid = ap (λ (l : List (List Owed)). get_or l t.0 []) (after-cleaning script S e t c).owed ∙ c.known.paid;
+  bare = bare-cleaned script S e t rows c;
 }
 
 pub gone-after : (script : Script) (S : State) (place : ℕ) (es : List Entry) (t : ObjNo) → IsShaped script → AreRows script S → IsLegalFrom script S place es → 0 < cleanings es t → IsGone (after_from script S es) t
@@ -225,5 +225,5 @@ gone-after script S place (e ∷ es) t shaped rows legal some = by (is_by t e.ac
     rows_next = (sound-next script S e.actor shaped rows).rows
 
     by : (b : Bool) → (is_by t e.actor && is_clean e.step) ≡ b → 0 < (if b then 1 else 0) + cleanings es t → (0 < cleanings es t → IsGone (after_from script (next script S e.actor) es) t) → IsGone (after_from script (next script S e.actor) es) t
-    by true is some more = gone-run script (next script S e.actor) (place + 1) es t shaped rows_next legal.1 (gone-cleaned script S e t (cleans script S place e t legal.0 is))
+    by true is some more = gone-run script (next script S e.actor) (place + 1) es t shaped rows_next legal.1 (gone-cleaned script S e t rows (cleans script S place e t shaped rows legal.0 is))
     by false is some more = more (omega arith)

@@ -24,12 +24,14 @@ use Rattle.machine.specs.WellFormed.{AreRows}
 use Rattle.machine_laws.proofs.AtBoot.BootRows.{rows-boot}
 use Rattle.machine_laws.proofs.Reached.NextState.{sound-next}
 use Rattle.machine_safe.specs.CountAfter.{is_by}
-use Rattle.machine_safe.specs.SafeDeaths.{DiesInOrder, burials, cleanings, is_clean}
-use Rattle.machine_safe.proofs.Deaths.Cleanings.{IsCleaning, is-cleaning}
+use Rattle.machine_safe.specs.SafeDeaths.{DiesInOrder, burials, cleanings}
 use Rattle.machine_safe.proofs.Deaths.Cut.{IsCut, cut, live-boot}
 use Rattle.machine_safe.proofs.Deaths.Drops.{drop-next}
 use Rattle.machine_safe.proofs.Deaths.Order.{buried-once, cleaned-left, cleans, doom-first, doomed-once, left-after, left-doomed, left-entry, step-of}
 use Rattle.machine_safe.proofs.Deaths.Rows.{held-one, left-held, live-left, row_bit}
+use Rattle.machine.specs.EntryWords.{is_clean}
+use Rattle.machine_laws.proofs.Fitting.Regular.{IsCleaning}
+use Rattle.machine_laws.proofs.Fitting.Actions.{regular-action}
 
 -- the thread's own cleaning is one that entries count
 counted : (script : Script) (S : State) (place : ℕ) (e : Entry) (t : ObjNo) → IsNext script S place e → e.actor ≡ Thread t → is_clean (decision_of script S t).step ≡ true → (is_by t e.actor && is_clean e.step) ≡ true
@@ -47,7 +49,7 @@ left-exact script S place e es t shaped rows legal = by (is_by t e.actor && is_c
     T = next script S e.actor
 
     by : (b : Bool) → (is_by t e.actor && is_clean e.step) ≡ b → row_bit stage_left (thread_of T t) + ((if b then 1 else 0) + 0) ≡ row_bit stage_left (thread_of S t)
-    by true is = let c = cleans script S place e t legal.0 is in let was = left-doomed script S e t c in let now = left-after script S e t c in omega arith
+    by true is = let c = cleans script S place e t shaped rows legal.0 is in let was = left-doomed script S e t c in let now = left-after script S e t c in omega arith
     by false is =
         let le = left-entry script S place e es t shaped rows legal in
         let a = left-held (thread_of S t) in
@@ -60,7 +62,7 @@ left-exact script S place e es t shaped rows legal = by (is_by t e.actor && is_c
           ]
         ]
 
-exact-run : (script : Script) (S : State) (place : ℕ) (es : List Entry) (t : ObjNo) → IsShaped script → AreRows script S → IsLegalFrom script S place es → row_bit stage_left (thread_of (after_from script S es) t) + cleanings es t ≡ row_bit stage_left (thread_of S t)
+pub exact-run : (script : Script) (S : State) (place : ℕ) (es : List Entry) (t : ObjNo) → IsShaped script → AreRows script S → IsLegalFrom script S place es → row_bit stage_left (thread_of (after_from script S es) t) + cleanings es t ≡ row_bit stage_left (thread_of S t)
 exact-run script S place [] t shaped rows legal = omega arith
 exact-run script S place (e ∷ es) t shaped rows legal =
     let one = left-exact script S place e es t shaped rows legal in
@@ -71,9 +73,9 @@ silent-act : (script : Script) (S : State) (t : ObjNo) → IsCleaning script S t
 unfolding act
 silent-act script S t c = ap (λ (ms : List Move). tell t ms S) c.moves
 
-silent-cleaning : (script : Script) (S : State) (place : ℕ) (e : Entry) (t : ObjNo) → IsNext script S place e → e.actor ≡ Thread t → is_clean (decision_of script S t).step ≡ true → e.effects ≡ []
-silent-cleaning script S place e t here by clean =
-    ap (λ (x : Entry). x.effects) here.told ∙ (ap (λ (a : Actor). (transition script S a).outcome.effects) by ∙ silent-act script S t (is-cleaning script S t clean))
+silent-cleaning : (script : Script) (S : State) (place : ℕ) (e : Entry) (t : ObjNo) → IsShaped script → AreRows script S → IsNext script S place e → e.actor ≡ Thread t → is_clean (decision_of script S t).step ≡ true → e.effects ≡ []
+silent-cleaning script S place e t shaped rows here by clean =
+    ap (λ (x : Entry). x.effects) here.told ∙ (ap (λ (a : Actor). (transition script S a).outcome.effects) by ∙ silent-act script S t ((regular-action script S t shaped rows).1.known clean))
 
 -- who is buried in an entry was cleaned before it
 left-buried : (script : Script) (before : List Entry) (e : Entry) (later : List Entry) (t : ObjNo) → IsShaped script → IsCut script before e later → 0 < burials e.effects t → row_bit stage_left (thread_of (after script before) t) ≡ 0
@@ -88,7 +90,7 @@ left-buried script before e later t shaped c buried =
       | inr none ↦ omega arith
       | inl some ↦
           let drop = drop-next script S e.actor t shaped c.rows (omega arith) (omega arith) in
-          let none : burials e.effects t ≡ 0 = ap (λ (l : List Effect). burials l t) (silent-cleaning script S c.place e t c.here drop.0 drop.1) in absurd (omega arith)
+          let none : burials e.effects t ≡ 0 = ap (λ (l : List Effect). burials l t) (silent-cleaning script S c.place e t shaped c.rows c.here drop.0 drop.1) in absurd (omega arith)
     ]
 
 clean-first : (script : Script) (history : List Entry) (t : ObjNo) → IsWellFormed script → IsLegal script history → (before : List Entry) (e : Entry) (later : List Entry) → history ≡ before ++ e ∷ later → 0 < burials e.effects t → 0 < cleanings before t

@@ -30,13 +30,13 @@ use Rattle.move_laws.proofs.RowLaws.Duties.{none_owed, none_owed_by}
 use Rattle.move_laws.proofs.References.Same.{same_object}
 use Rattle.machine_safe.specs.CountAfter.{effects_of}
 use Rattle.machine_safe.specs.SafeDeaths.{CleanLeaves, OthersAreCleaned, is_own}
-use Rattle.machine_safe.proofs.Deaths.Cleanings.{is-cleaning}
 use Rattle.machine_safe.proofs.Deaths.Cut.{cut, unlocked-boot}
 use Rattle.machine_safe.proofs.Deaths.Dies.{Dies, lock_bit}
 use Rattle.machine_safe.proofs.Deaths.Dooms.{unheld}
 use Rattle.machine_safe.proofs.Deaths.Order.{Cleans, cleaned-left, cleans-here}
 use Rattle.machine_safe.proofs.Deaths.Rows.{row_bit, stage_live}
 use Rattle.machine_safe.proofs.Held.{held_as_told}
+use Rattle.script_types.proofs.ShapeLaws.{formed_is_shaped}
 
 -- a thread that is doomed, owes nothing and has nothing left
 pub record IsEmpty (S : State) (t : ObjNo) : Type 0 where
@@ -50,7 +50,7 @@ pub record IsEmpty (S : State) (t : ObjNo) : Type 0 where
 
 pub empty-cleaning : (script : Script) (S : State) (e : Entry) (t : ObjNo) → AreRows script S → Cleans script S e t → IsEmpty S t
 empty-cleaning script S e t rows c =
-    let known = is-cleaning script S t c.step in
+    let known = c.known in
     let left = has-nothing S t known.row known.nothing in
     record {
       row = known.row;
@@ -103,7 +103,7 @@ total-only f (x ∷ xs) (suc i) d none others =
     let rest = total-only f xs i d none (λ j apart. others (suc j) (λ e. apart (omega arith))) in omega arith
 
 -- no other thread of its process is left, where the others were cleaned
-alone : (script : Script) (before : List Entry) (t : ObjNo) (row : ThreadRow) → IsWellFormed script → IsLegal script before → Dies (boot script) (after script before) (effects_of before) → OthersAreCleaned script before row.process t → total (left_of row.process) (after script before).threads ≡ left_of row.process (thread_of (after script before) t)
+pub alone : (script : Script) (before : List Entry) (t : ObjNo) (row : ThreadRow) → IsWellFormed script → IsLegal script before → Dies (boot script) (after script before) (effects_of before) → OthersAreCleaned script before row.process t → total (left_of row.process) (after script before).threads ≡ left_of row.process (thread_of (after script before) t)
 alone script before t row valid legal front others = total-only (left_of row.process) S.threads t.0 None refl (λ j apart. by j apart (get_or S.threads j None) refl)
   where
     S : State
@@ -143,17 +143,17 @@ clean-leaves script history t valid legal = record {
   locks = λ before e later lock is some.
       let c = cut script history before e later valid legal is in
       let S = after script before in
-      let free = unlocked script S t lock c.rows (empty-cleaning script S e t c.rows (cleans-here script before e later t c some)) in
+      let free = unlocked script S t lock c.rows (empty-cleaning script S e t c.rows (cleans-here script before e later t (formed_is_shaped script valid) c some)) in
       let start = unlocked-boot script t lock in
       let moves = c.front.locks t lock in omega arith;
   own = λ before e later h o is some own.
       let c = cut script history before e later valid legal is in
       let S = after script before in
-      sym (held_as_told script before valid c.legal_before h o) ∙ unheld-own script S t h o c.rows (empty-cleaning script S e t c.rows (cleans-here script before e later t c some)) own;
+      sym (held_as_told script before valid c.legal_before h o) ∙ unheld-own script S t h o c.rows (empty-cleaning script S e t c.rows (cleans-here script before e later t (formed_is_shaped script valid) c some)) own;
   handles = λ before e later row i o is some at others.
       let c = cut script history before e later valid legal is in
       let S = after script before in
-      let h = empty-cleaning script S e t c.rows (cleans-here script before e later t c some) in
+      let h = empty-cleaning script S e t c.rows (cleans-here script before e later t (formed_is_shaped script valid) c some) in
       let was = c.front.were t.0 h.row h.is in
       let same_row : was.old ≡ row = (let a = was.was in cc) in
       let process : h.row.process ≡ row.process = sym was.process ∙ ap (λ (r : ThreadRow). r.process) same_row in

@@ -1,7 +1,7 @@
 -- What moves of fast mutexes and of mutexes tell of who has which lock.
-use Rattle.std.proofs.Common.{◌≡◌, inl, inr, ℕ, ◌+◌, ◌<◌, List, [], ◌∷◌, length, get_or, set, arith, refl, sym, ap, ◌∙◌, Option, Some, None, Bool, true, false}
+use Rattle.std.proofs.Common.{◌≡◌, inl, inr, ℕ, ◌+◌, ◌<◌, List, [], ◌∷◌, length, get_or, set, arith, refl, sym, ap, ◌∙◌, Option, Some, None, Bool, true, false, subst}
 use Rattle.std.specs.Prelude.{◌==◌, if◌then◌else◌, is_none, is_some}
-use Rattle.std.proofs.lemmas.Bool.{cases_eq, eq-eqb, eqb-true}
+use Rattle.std.proofs.lemmas.Bool.{cases_eq, eq-eqb}
 use Rattle.std.proofs.lemmas.List.{get_or-set_same, get_or-set_other, length-set}
 use Rattle.sym_base.specs.declared.number.ObjNo.{ObjNo}
 use Rattle.script_types.specs.declared.script.Script.{Script}
@@ -28,7 +28,6 @@ use Rattle.machine.specs.declared.state.State.{State}
 use Rattle.machine.specs.Choice.{priority_of}
 use Rattle.machine.specs.Fits.{FitsMove}
 use Rattle.machine.specs.Holding.{is_holder as is_one, same_pair}
-use Rattle.machine.specs.Holdings.{stage_left}
 use Rattle.machine.specs.LockMoves.{holding, lock_moved, lock_told, mutexes_moved, not_holding, owed_moved}
 use Rattle.machine.specs.Moves.{moved}
 use Rattle.machine.specs.NanoMoves.{nano_told}
@@ -41,8 +40,8 @@ use Rattle.move_laws.proofs.Readiness.FirstReady.{greatest_listed}
 use Rattle.move_laws.proofs.References.Mutexes.{held-holding, held-not_holding}
 use Rattle.move_laws.proofs.References.Same.{eqb_apart, if_is, if_not, same_is, same_object}
 use Rattle.move_laws.proofs.RowLaws.Locks.{thread_inside}
-use Rattle.machine_safe.specs.SafeDeaths.{burials, dooms, gives, is_lock, is_own, signals, takes}
-use Rattle.machine_safe.proofs.Deaths.Dies.{Dies, GainsNone, IsCalm, dies-calm, lock_bit}
+use Rattle.machine_safe.specs.SafeDeaths.{burials, dooms, gives, is_lock, signals, takes}
+use Rattle.machine_safe.proofs.Deaths.Dies.{Dies, GainsNone, IsBarred, IsCalm, dies-calm, lock_bit}
 use Rattle.machine_safe.proofs.Deaths.Rows.{keeps-same, live-left, row_bit, stage_live}
 use Rattle.machine_safe.proofs.Held.{is_holder_is}
 
@@ -58,16 +57,16 @@ chosen-zero : (b : Bool) (n : ℕ) → n ≡ 0 → (if b then n else 0) ≡ 0
 chosen-zero true n e = e
 chosen-zero false n e = refl
 
--- an ownership of a live thread is none of one that isn't
-pub gains-own : (S : State) (w o : ObjNo) → IsLiveThread S.threads w → (t : ObjNo) (h : Holder) (x : ObjNo) → row_bit stage_left (thread_of S t) ≡ 0 → is_own t h ≡ true → same_pair (Own w) o h x ≡ 0
-gains-own S w o live t h x none own = by (is_one (Own w) h) refl
+-- an ownership of a live thread gets something
+pub gains-own : (S : State) (w o : ObjNo) → IsLiveThread S.threads w → (h : Holder) (x : ObjNo) → IsBarred S h → same_pair (Own w) o h x ≡ 0
+gains-own S w o live h x none = by (is_one (Own w) h) refl
   where
     by : (b : Bool) → is_one (Own w) h ≡ b → (if b then same o x else 0) ≡ 0
     by false e = refl
     by true e =
-        let at : w ≡ t = same_object w t (eqb-true w.0 t.0 (ap (is_own t) (is_holder_is (Own w) h e) ∙ own)) in
-        let one : row_bit stage_live (thread_of S t) ≡ 1 = ap (λ (u : ObjNo). row_bit stage_live (thread_of S u)) (sym at) ∙ live-one S w live in
-        let le = live-left (thread_of S t) in absurd (omega arith)
+        let barred : IsBarred S (Own w) = subst (IsBarred S) (sym (is_holder_is (Own w) h e)) none in
+        let one : row_bit stage_live (thread_of S w) ≡ 1 = live-one S w live in
+        let le = live-left (thread_of S w) in absurd (omega arith)
 
 -- a fast mutex that is free is taken
 bit-taken : (holders : List (Option ObjNo)) (f g : ℕ) (t u : ObjNo) → f < length holders → get_or holders f None ≡ None → option_names u (get_or (if is_none (get_or holders f None) then set holders f (Some t) else holders) g None) ≡ option_names u (get_or holders g None) + (if f == g then same t u else 0)
@@ -104,7 +103,7 @@ dies-nano script S t (Take u f) fits = record {
   locks = locks;
   takes_none = λ v lock none. let a = chosen-zero (is_lock (Fast f) lock) (same u v) (only-live S u v (let may = fits.1.2 in record { row = may.row; is = may.is; live = may.live }) none) in omega arith;
   signals_none = λ v none. refl;
-  gains_none = λ v h o none own. refl;
+  gains_none = λ h o none. refl;
   were = (keeps-same S.threads).were;
 }
   where
@@ -118,7 +117,7 @@ dies-nano script S t (Give u f) fits = record {
   locks = locks;
   takes_none = λ v lock none. refl;
   signals_none = λ v none. refl;
-  gains_none = λ v h o none own. refl;
+  gains_none = λ h o none. refl;
   were = (keeps-same S.threads).were;
 }
   where
@@ -132,7 +131,7 @@ dies-nano script S t (Give u f) fits = record {
     locks : (v : ObjNo) (lock : LockNo) → lock_bit (moved t (Nano (Give u f)) S).nano.holders S.mutexes v lock + gives (nano_told (Give u f)) v lock ≡ lock_bit S.nano.holders S.mutexes v lock + takes (nano_told (Give u f)) v lock
     locks v (Object o) = omega arith
     locks v (Fast g) = let a = given v g (is_holder S.nano u f) own in omega arith
-dies-nano script S t m fits = dies-calm S (moved t (Nano m) S) [] (keeps-same S.threads) refl refl calm-none (λ v h o none own. refl)
+dies-nano script S t m fits = dies-calm S (moved t (Nano m) S) [] (keeps-same S.threads) refl refl calm-none (λ h o none. refl)
 
 -- the same test twice, in either order
 swapped : (a b : Bool) → ◌≡◌ {A = ℕ} (if a then (if b then 1 else 0) else 0) (if b then (if a then 1 else 0) else 0)
@@ -181,7 +180,7 @@ passes-taken S w o inside live = record {
   locks = λ t x. let a = held-holding S.mutexes w o t x inside in let b = swapped (w.0 == t.0) (o.0 == x.0) in omega arith;
   fast = λ t f. refl;
   takes_none = λ t lock none. let a = chosen-zero (is_lock (Object o) lock) (same w t) (only-live S w t live none) in omega arith;
-  gains_none = λ t h x none own. let a = gains-own S w o live t h x none own in omega arith;
+  gains_none = λ h x none. let a = gains-own S w o live h x none in omega arith;
 }
 
 -- one is given up
@@ -191,7 +190,7 @@ passes-freed S t o inside once = record {
   locks = λ u x. let a = held-not_holding S.mutexes t o u x inside once in let b = swapped (t.0 == u.0) (o.0 == x.0) in omega arith;
   fast = λ t f. refl;
   takes_none = λ t lock none. refl;
-  gains_none = λ t h x none own. refl;
+  gains_none = λ h x none. refl;
 }
 
 -- and passed to a waiter
@@ -205,7 +204,7 @@ passes-given S t o w inside once waiter live = record {
       let d = swapped (w.0 == u.0) (o.0 == x.0) in omega arith;
   fast = λ t f. refl;
   takes_none = λ t lock none. let a = chosen-zero (is_lock (Object o) lock) (same w t) (only-live S w t live none) in omega arith;
-  gains_none = λ t h x none own. let a = gains-own S w o live t h x none own in omega arith;
+  gains_none = λ h x none. let a = gains-own S w o live h x none in omega arith;
 }
 
 -- nothing is taken or given
@@ -215,7 +214,7 @@ passes-none S = record {
   locks = λ t x. refl;
   fast = λ t f. refl;
   takes_none = λ t lock none. refl;
-  gains_none = λ t h x none own. refl;
+  gains_none = λ h x none. refl;
 }
 
 -- whoever owns a mutex holds it once, and whoever is its best waiter is live

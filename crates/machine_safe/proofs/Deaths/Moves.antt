@@ -1,7 +1,6 @@
 -- What each move tells of deaths.
 use Rattle.std.proofs.Common.{◌≡◌, ◌<◌, List, [], ◌∷◌, length, arith, refl, sym, ap, subst, ◌∙◌, Option, Some, None, Bool, true, false}
 use Rattle.std.specs.Prelude.{ℤ, ◌==◌, if◌then◌else◌, is_some}
-use Rattle.std.proofs.lemmas.Bool.{eqb-true}
 use Rattle.sym_base.specs.declared.number.MsgNo.{MsgNo}
 use Rattle.sym_base.specs.declared.number.ObjNo.{ObjNo}
 use Rattle.script_types.specs.declared.script.Script.{Script}
@@ -41,9 +40,8 @@ use Rattle.machine.specs.WellFormed.{AreRows, IsLiveThread, is_spent}
 use Rattle.state_rows.specs.MessageChanges.{next_number}
 use Rattle.state_rows.specs.declared.requests.RequestRows.{RequestRows}
 use Rattle.move_laws.proofs.MoveLaws.Pays.{sweep-unheld}
-use Rattle.move_laws.proofs.References.Same.{if_zero, same_object}
-use Rattle.machine_safe.specs.SafeDeaths.{is_own}
-use Rattle.machine_safe.proofs.Deaths.Dies.{Dies, GainsNone, IsCalm, dies-calm}
+use Rattle.move_laws.proofs.References.Same.{if_zero}
+use Rattle.machine_safe.proofs.Deaths.Dies.{Dies, GainsNone, IsBarred, IsCalm, dies-calm}
 use Rattle.machine_safe.proofs.Deaths.LockMoves.{calm-none, dies-locks, dies-nano, gains-own, only-live}
 use Rattle.machine_safe.proofs.Deaths.Rows.{KeepsRows, bit-less, bit-swept, held-is, keeps-same, keeps-then, keeps-with_row, left-held, live-left, row_bit, stage_live, were-swept, were-with_row}
 use Rattle.machine_safe.proofs.Held.{is_holder_is}
@@ -110,11 +108,11 @@ calm-ended o = record { dooms = λ t. refl; burials = λ t. refl; takes = λ t l
 
 -- a close gives nobody a reference
 close-gains : (S : State) (last : Bool) (h : Holder) (o : ObjNo) → GainsNone S (closed_effects last h o)
-close-gains S true h o t g x none own = refl
-close-gains S false h o t g x none own = refl
+close-gains S true h o g x none = refl
+close-gains S false h o g x none = refl
 
 -- a thread that is there and isn't cleaned is left
-is-left : (x : Option ThreadRow) → is_some x ≡ true → ((row : ThreadRow) → x ≡ Some row → is_spent row.stage ≡ false) → row_bit stage_left x ≡ 0 → ⊥
+pub is-left : (x : Option ThreadRow) → is_some x ≡ true → ((row : ThreadRow) → x ≡ Some row → is_spent row.stage ≡ false) → row_bit stage_left x ≡ 0 → ⊥
 is-left None there unspent none = cc
 is-left (Some row) there unspent none = by row.stage (unspent row refl) none
   where
@@ -124,40 +122,32 @@ is-left (Some row) there unspent none = by row.stage (unspent row refl) none
     by Cleaned e none = cc
     by Buried e none = cc
 
--- a holder that may get a reference is no own one of a thread that is cleaned
-free-apart : (S : State) (g : Holder) (t : ObjNo) → IsFree S g → row_bit stage_left (thread_of S t) ≡ 0 → is_own t g ≡ true → ⊥
-free-apart S (InThread u i) t free none own =
-    let at : u ≡ t = same_object u t (eqb-true u.0 t.0 own) in
-    is-left (thread_of S u) free.0 free.2 (ap (λ (x : ObjNo). row_bit stage_left (thread_of S x)) at ∙ none)
-free-apart S (Temp u) t free none own =
-    let at : u ≡ t = same_object u t (eqb-true u.0 t.0 own) in
-    is-left (thread_of S u) (ap is_some free.is) (λ row is. let same_row : free.row ≡ row = (let a = free.is in cc) in subst (λ (r : ThreadRow). is_spent r.stage ≡ false) same_row free.unspent) (ap (λ (x : ObjNo). row_bit stage_left (thread_of S x)) at ∙ none)
-free-apart S (InProcess p i) t free none own = cc
-free-apart S _ t free none own = free
+-- a holder that may get a reference gets some
+free-apart : (S : State) (g : Holder) → IsFree S g → IsBarred S g → ⊥
+free-apart S (InThread u i) free none = is-left (thread_of S u) free.0 free.2 none
+free-apart S (Temp u) free none = is-left (thread_of S u) (ap is_some free.is) (λ row is. let same_row : free.row ≡ row = (let a = free.is in cc) in subst (λ (r : ThreadRow). is_spent r.stage ≡ false) same_row free.unspent) none
+free-apart S (InProcess p i) free none = let some = free.2 in omega arith
+free-apart S _ free none = free
 
-plus-gains : (S : State) (g : Holder) (o : ObjNo) → IsFree S g → GainsNone S (effect.Plus g o ∷ [])
-plus-gains S g o free t h x none own = let a = by (is_holder g h) refl in omega arith
+-- a holder that gets something is none that gets nothing
+foreign : (S : State) (g h : Holder) (o x : ObjNo) → (IsBarred S g → ⊥) → IsBarred S h → same_pair g o h x ≡ 0
+foreign S g h o x other none = by (is_holder g h) refl
   where
     by : (b : Bool) → is_holder g h ≡ b → (if b then same o x else 0) ≡ 0
     by false e = refl
-    by true e = absurd (free-apart S g t free none (ap (is_own t) (is_holder_is g h e) ∙ own))
+    by true e = absurd (other (subst (IsBarred S) (sym (is_holder_is g h e)) none))
+
+plus-gains : (S : State) (g : Holder) (o : ObjNo) → IsFree S g → GainsNone S (effect.Plus g o ∷ [])
+plus-gains S g o free h x none = let a = foreign S g h o x (free-apart S g free) none in omega arith
 
 -- a server that is made is a live thread's
 make-gains : (S : State) (g : Holder) (o : ObjNo) → MayMakeWith S g → GainsNone S (effect.Plus g o ∷ [])
-make-gains S (Own u) o may t h x none own = let a = gains-own S u o may.owner t h x none own in omega arith
-make-gains S g o may t h x none own = plus-gains S g o may t h x none own
-
--- a holder that is no thread's own
-foreign : (t : ObjNo) (g h : Holder) (o x : ObjNo) → is_own t g ≡ false → is_own t h ≡ true → same_pair g o h x ≡ 0
-foreign t g h o x other own = by (is_holder g h) refl
-  where
-    by : (b : Bool) → is_holder g h ≡ b → (if b then same o x else 0) ≡ 0
-    by false e = refl
-    by true e = let also : is_own t g ≡ true = ap (is_own t) (is_holder_is g h e) ∙ own in absurd (cc)
+make-gains S (Own u) o may h x none = let a = gains-own S u o may.owner h x none in omega arith
+make-gains S g o may h x none = plus-gains S g o may h x none
 
 -- rows change that tell of nothing
 dies-row : (S T : State) → KeepsRows S.threads T.threads → T.nano.holders ≡ S.nano.holders → T.mutexes ≡ S.mutexes → Dies S T []
-dies-row S T rows holders mutexes = dies-calm S T [] rows holders mutexes calm-none (λ t h o none own. refl)
+dies-row S T rows holders mutexes = dies-calm S T [] rows holders mutexes calm-none (λ h o none. refl)
 
 -- a signal is a live thread's
 dies-signal : (S : State) (r : RequestRows) (u : ObjNo) (s : StatusNo) (code : ℤ) → IsLiveThread S.threads u → Dies S (record S { requests = r }) (effect.Signal u s code ∷ [])
@@ -168,7 +158,7 @@ dies-signal S r u s code live = record {
   locks = λ v lock. refl;
   takes_none = λ v lock none. refl;
   signals_none = λ v none. let a = only-live S u v live none in omega arith;
-  gains_none = λ v h o none own. refl;
+  gains_none = λ h o none. refl;
   were = (keeps-same S.threads).were;
 }
 
@@ -180,15 +170,15 @@ dies-request script S t m rows fits = dies-row S (moved t (Requests m) S) (keeps
 
 -- servers and messages tell of no thread
 dies-servers : (S : State) (t : ObjNo) (m : ServerMove) → Dies S (moved t (Servers m) S) (server_told m)
-dies-servers S t (Join s o slots u) = dies-calm S _ _ (keeps-same S.threads) refl refl (calm-plus (Link s) o) (λ v h x none own. let a = foreign v (Link s) h o x refl own in omega arith)
-dies-servers S t (End o) = dies-calm S _ _ (keeps-same S.threads) refl refl (calm-ended o) (λ v h x none own. refl)
+dies-servers S t (Join s o slots u) = dies-calm S _ _ (keeps-same S.threads) refl refl (calm-plus (Link s) o) (λ h x none. let a = foreign S (Link s) h o x (λ e. e) none in omega arith)
+dies-servers S t (End o) = dies-calm S _ _ (keeps-same S.threads) refl refl (calm-ended o) (λ h x none. refl)
 dies-servers S t m = dies-row S (moved t (Servers m) S) (keeps-same S.threads) refl refl
 
 dies-messages : (S : State) (t : ObjNo) (m : MessageMove) → Dies S (moved t (Messages m) S) (message_told m S.messages)
 dies-messages S t (Accept slots row) =
     let n = next_number S.messages in
-    dies-calm S _ _ (keeps-same S.threads) refl refl (calm-accepted n row.session row.client) (λ v h x none own. let a = foreign v (Message n) h row.session x refl own in let b = foreign v (Message n) h row.client x refl own in omega arith)
-dies-messages S t (Finish n code) = dies-calm S _ _ (keeps-same S.threads) refl refl (calm-finished n code) (λ v h x none own. refl)
+    dies-calm S _ _ (keeps-same S.threads) refl refl (calm-accepted n row.session row.client) (λ h x none. let a = foreign S (Message n) h row.session x (λ e. e) none in let b = foreign S (Message n) h row.client x (λ e. e) none in omega arith)
+dies-messages S t (Finish n code) = dies-calm S _ _ (keeps-same S.threads) refl refl (calm-finished n code) (λ h x none. refl)
 dies-messages S t m = dies-row S (moved t (Messages m) S) (keeps-same S.threads) refl refl
 
 -- a row goes on to another stage
@@ -204,7 +194,7 @@ dies-death script S t (Doom u exit) fits =
       locks = λ v lock. refl;
       takes_none = λ v lock none. refl;
       signals_none = λ v none. refl;
-      gains_none = λ v h o none own. refl;
+      gains_none = λ h o none. refl;
       were = were-with_row S.threads u f (λ row. refl);
     }
 dies-death script S t (Clean u) fits =
@@ -217,7 +207,7 @@ dies-death script S t (Clean u) fits =
       locks = λ v lock. refl;
       takes_none = λ v lock none. refl;
       signals_none = λ v none. refl;
-      gains_none = λ v h o none own. refl;
+      gains_none = λ h o none. refl;
       were = were-with_row S.threads u f (λ row. refl);
     }
 dies-death script S t (Bury u) fits =
@@ -230,7 +220,7 @@ dies-death script S t (Bury u) fits =
       locks = λ v lock. refl;
       takes_none = λ v lock none. refl;
       signals_none = λ v none. refl;
-      gains_none = λ v h o none own. refl;
+      gains_none = λ h o none. refl;
       were = were-with_row S.threads u f (λ row. refl);
     }
 
@@ -239,8 +229,8 @@ pub dies-move : (script : Script) (S : State) (t : ObjNo) (m : Move) → AreRows
 dies-move script S t (Make kind name h) rows fits = dies-calm S _ _ (keeps-move script S t (Make kind name h) fits refl) refl refl (calm-plus h (next_object S)) (make-gains S h (next_object S) fits.1)
 dies-move script S t (Gain h o) rows fits = dies-calm S _ _ (keeps-move script S t (Gain h o) fits refl) refl refl (calm-plus h o) (plus-gains S h o fits.0)
 dies-move script S t (Lose h o) rows fits = dies-calm S _ _ (keeps-move script S t (Lose h o) fits refl) refl refl (calm-close (dies S o) h o) (close-gains S (dies S o) h o)
-dies-move script S t (Find u o) rows fits = dies-calm S _ _ (keeps-move script S t (Find u o) fits refl) refl refl (calm-found o) (λ v h x none own. refl)
-dies-move script S t (Miss o) rows fits = dies-calm S _ _ (keeps-same S.threads) refl refl (calm-missed o) (λ v h x none own. refl)
+dies-move script S t (Find u o) rows fits = dies-calm S _ _ (keeps-move script S t (Find u o) fits refl) refl refl (calm-found o) (λ h x none. refl)
+dies-move script S t (Miss o) rows fits = dies-calm S _ _ (keeps-same S.threads) refl refl (calm-missed o) (λ h x none. refl)
 dies-move script S t (Nano m) rows fits = dies-nano script S t m fits
 dies-move script S t (Requests m) rows fits = dies-request script S t m rows fits
 dies-move script S t (Locks m) rows fits = dies-locks script S t m rows fits
@@ -264,7 +254,7 @@ dies-pay script S t (Sweep o) rest owes here rows =
       locks = λ v lock. omega arith;
       takes_none = λ v lock none. refl;
       signals_none = λ v none. refl;
-      gains_none = λ v h x none own. refl;
+      gains_none = λ h x none. refl;
       were = were-swept S.threads o.0;
     }
 

@@ -29,17 +29,19 @@ use Rattle.machine_laws.proofs.Reached.NextState.{sound-next}
 use Rattle.move_laws.proofs.Holders.ThreadRows.{row-here}
 use Rattle.move_laws.proofs.References.Same.{same_object}
 use Rattle.machine_safe.specs.CountAfter.{effects_of, is_by}
-use Rattle.machine_safe.specs.SafeDeaths.{burials, cleanings, dooms, is_clean}
-use Rattle.machine_safe.proofs.Deaths.Cleanings.{IsCleaning, is-cleaning}
+use Rattle.machine_safe.specs.SafeDeaths.{burials, cleanings, dooms}
 use Rattle.machine_safe.proofs.Deaths.Cut.{IsCut, cut, dies-history, live-boot}
 use Rattle.machine_safe.proofs.Deaths.Dies.{Dies}
 use Rattle.machine_safe.proofs.Deaths.Rows.{held-one, left-held, live-left, row_bit, stage_live}
 use Rattle.machine_safe.proofs.Deaths.Runs.{dies-entry}
+use Rattle.machine.specs.EntryWords.{is_clean}
+use Rattle.machine_laws.proofs.Fitting.Regular.{IsCleaning}
+use Rattle.machine_laws.proofs.Fitting.Actions.{regular-action}
 
 -- an entry in which a thread is cleaned
 pub record Cleans (script : Script) (S : State) (e : Entry) (t : ObjNo) : Type 0 where
   pub by : e.actor ≡ Thread t
-  pub step : is_clean (decision_of script S t).step ≡ true
+  pub known : IsCleaning script S t (decision_of script S t)
 
 actor-is : (t : ObjNo) (actor : Actor) → is_by t actor ≡ true → actor ≡ Thread t
 actor-is t (Thread u) e = ap Thread (same_object u t (eqb-true u.0 t.0 e))
@@ -52,13 +54,13 @@ pub step-of : (script : Script) (S : State) (t : ObjNo) → (act script S t).out
 unfolding act
 step-of script S t = refl
 
-pub cleans : (script : Script) (S : State) (place : ℕ) (e : Entry) (t : ObjNo) → IsNext script S place e → (is_by t e.actor && is_clean e.step) ≡ true → Cleans script S e t
-cleans script S place e t here is =
+pub cleans : (script : Script) (S : State) (place : ℕ) (e : Entry) (t : ObjNo) → IsShaped script → AreRows script S → IsNext script S place e → (is_by t e.actor && is_clean e.step) ≡ true → Cleans script S e t
+cleans script S place e t shaped rows here is =
     let parts = and_parts (is_by t e.actor) (is_clean e.step) is in
     let by = actor-is t e.actor parts.0 in
     let told : e.step ≡ (transition script S e.actor).outcome.step = ap (λ (x : Entry). x.step) here.told in
     let own : (transition script S e.actor).outcome.step ≡ (decision_of script S t).step = ap (λ (a : Actor). (transition script S a).outcome.step) by ∙ step-of script S t in
-    record { by = by; step = sym (ap is_clean (told ∙ own)) ∙ parts.1 }
+    record { by = by; known = (regular-action script S t shaped rows).1.known (sym (ap is_clean (told ∙ own)) ∙ parts.1) }
 
 -- after it the thread is cleaned, and all else of it is as it was
 pub record IsAfter (S T : State) (t : ObjNo) : Type 0 where
@@ -66,6 +68,7 @@ pub record IsAfter (S T : State) (t : ObjNo) : Type 0 where
   pub owed : T.owed ≡ S.owed
   pub mutexes : T.mutexes ≡ S.mutexes
   pub logons : T.logons ≡ S.logons
+  pub owned : T.owned ≡ S.owned
 
 after-act : (script : Script) (S : State) (t : ObjNo) → IsCleaning script S t (decision_of script S t) → IsAfter S (act script S t).state t
 unfolding act
@@ -74,17 +77,18 @@ after-act script S t c = record {
   owed = ap (λ (ms : List Move). (perform t ms S).owed) c.moves;
   mutexes = ap (λ (ms : List Move). (perform t ms S).mutexes) c.moves;
   logons = ap (λ (ms : List Move). (perform t ms S).logons) c.moves;
+  owned = ap (λ (ms : List Move). (perform t ms S).owned) c.moves;
 }
 
 pub after-cleaning : (script : Script) (S : State) (e : Entry) (t : ObjNo) → Cleans script S e t → IsAfter S (next script S e.actor) t
-after-cleaning script S e t c = subst (λ (a : Actor). IsAfter S (next script S a) t) (sym c.by) (after-act script S t (is-cleaning script S t c.step))
+after-cleaning script S e t c = subst (λ (a : Actor). IsAfter S (next script S a) t) (sym c.by) (after-act script S t c.known)
 
 pub left-doomed : (script : Script) (S : State) (e : Entry) (t : ObjNo) → Cleans script S e t → row_bit stage_left (thread_of S t) ≡ 1
-left-doomed script S e t c = let known = is-cleaning script S t c.step in ap (row_bit stage_left) known.is ∙ ap stage_left known.doomed
+left-doomed script S e t c = let known = c.known in ap (row_bit stage_left) known.is ∙ ap stage_left known.doomed
 
 pub left-after : (script : Script) (S : State) (e : Entry) (t : ObjNo) → Cleans script S e t → row_bit stage_left (thread_of (next script S e.actor) t) ≡ 0
 left-after script S e t c =
-    let known = is-cleaning script S t c.step in
+    let known = c.known in
     let same : thread_of (next script S e.actor) t ≡ option_map (death_row (Clean t)) (thread_of S t) = ap (λ (l : List (Option ThreadRow)). get_or l t.0 None) (after-cleaning script S e t c).threads ∙ row-here S.threads t (death_row (Clean t)) t.0 refl in
     ap (row_bit stage_left) (same ∙ ap (option_map (death_row (Clean t))) known.is)
 
@@ -94,7 +98,7 @@ left-entry script S place e es t shaped rows legal = by (is_by t e.actor && is_c
   where
     by : (b : Bool) → (is_by t e.actor && is_clean e.step) ≡ b → row_bit stage_left (thread_of (next script S e.actor) t) + ((if b then 1 else 0) + 0) ≤ row_bit stage_left (thread_of S t)
     by false is = let le = (dies-entry script S place e es shaped rows legal).left t in omega arith
-    by true is = let c = cleans script S place e t legal.0 is in let was = left-doomed script S e t c in let now = left-after script S e t c in omega arith
+    by true is = let c = cleans script S place e t shaped rows legal.0 is in let was = left-doomed script S e t c in let now = left-after script S e t c in omega arith
 
 left-run : (script : Script) (S : State) (place : ℕ) (es : List Entry) (t : ObjNo) → IsShaped script → AreRows script S → IsLegalFrom script S place es → row_bit stage_left (thread_of (after_from script S es) t) + cleanings es t ≤ row_bit stage_left (thread_of S t)
 left-run script S place [] t shaped rows legal = omega arith
@@ -117,17 +121,17 @@ doomed-before script before t valid front dead there =
     let h = front.held t in omega arith
 
 -- the entry is the thread's cleaning
-pub cleans-here : (script : Script) (before : List Entry) (e : Entry) (later : List Entry) (t : ObjNo) → IsCut script before e later → 0 < cleanings (e ∷ []) t → Cleans script (after script before) e t
-cleans-here script before e later t c some = by (is_by t e.actor && is_clean e.step) refl some
+pub cleans-here : (script : Script) (before : List Entry) (e : Entry) (later : List Entry) (t : ObjNo) → IsShaped script → IsCut script before e later → 0 < cleanings (e ∷ []) t → Cleans script (after script before) e t
+cleans-here script before e later t shaped c some = by (is_by t e.actor && is_clean e.step) refl some
   where
     by : (b : Bool) → (is_by t e.actor && is_clean e.step) ≡ b → 0 < (if b then 1 else 0) + 0 → Cleans script (after script before) e t
     by false is some = absurd (omega arith)
-    by true is some = cleans script (after script before) c.place e t c.here is
+    by true is some = cleans script (after script before) c.place e t shaped c.rows c.here is
 
 pub doom-first : (script : Script) (history : List Entry) (t : ObjNo) → IsWellFormed script → IsLegal script history → (before : List Entry) (e : Entry) (later : List Entry) → history ≡ before ++ e ∷ later → 0 < cleanings (e ∷ []) t → 0 < dooms (effects_of before) t
 doom-first script history t valid legal before e later is some =
     let c = cut script history before e later valid legal is in
-    let known = is-cleaning script (after script before) t (cleans-here script before e later t c some).step in
+    let known = (cleans-here script before e later t (formed_is_shaped script valid) c some).known in
     let dead : row_bit stage_live (thread_of (after script before) t) ≡ 0 = ap (row_bit stage_live) known.is ∙ ap stage_live known.doomed in
     let there : row_bit stage_holds (thread_of (after script before) t) ≡ 1 = ap (row_bit stage_holds) known.is ∙ ap stage_holds known.doomed in
     doomed-before script before t valid c.front dead (omega arith)

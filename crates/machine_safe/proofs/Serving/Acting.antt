@@ -7,7 +7,7 @@ use Rattle.machine.specs.Handles.{holder_of, thread_handle}
 use Rattle.machine.specs.Messaging.{disconnects, no_args, open_server, post, wake_receiver}
 use Rattle.machine.specs.Moves.{next_object}
 use Rattle.machine.specs.References.{same, total}
-use Rattle.machine.specs.ServerCalls.{complete_message, is_owner, make_server, receive_came, receive_do, receive_done, receive_next, receive_step, server_do, taken_by}
+use Rattle.machine.specs.ServerCalls.{complete_message, is_owner, make_server, server_do, taken_by}
 use Rattle.machine.specs.Steps.{step_of}
 use Rattle.machine.specs.declared.decision.Decision.{Decision}
 use Rattle.machine.specs.declared.handles.NewHandle.{NewHandle}
@@ -16,16 +16,13 @@ use Rattle.machine.specs.declared.moves.Move.TheVariants.{Advance, Lose, Servers
 use Rattle.machine.specs.declared.server_move.ServerMove.TheVariants.{SetOpen}
 use Rattle.machine.specs.declared.state.State.{State}
 use Rattle.machine_laws.proofs.Fitting.Finishing.{at_number}
-use Rattle.machine_safe.proofs.Deaths.Other.{IsOther, other-look, other-unless}
-use Rattle.machine_safe.proofs.Deaths.ServerSteps.{none-receiver, other-close, other-complete, other-made_server}
-use Rattle.machine_safe.proofs.Deaths.Steps.{other-step}
-use Rattle.machine_safe.proofs.Serving.Deeds.{ClosesOthers, OfEach, behind, calm, even}
+use Rattle.machine_safe.proofs.Serving.Deeds.{ClosesOthers, OfEach, behind, calm}
 use Rattle.machine_safe.proofs.Serving.Keeps.{changing_bit, lost-none, lost_bit, message_bit, detach_bit}
 use Rattle.machine_safe.proofs.Serving.Sending.{deed-call, deed-connect, deed-send, sending}
 use Rattle.machine_safe.specs.CountAfter.{opens}
 use Rattle.machine_safe.specs.SafeMessages.{code_of_complete}
-use Rattle.machine_safe.specs.Sent.{status_by}
-use Rattle.machine_safe.specs.Served.{closes_handle, is_handle, makes_server}
+use Rattle.machine_safe.specs.Sent.{accepts_by, status_by}
+use Rattle.machine_safe.specs.Served.{closes_handle}
 use Rattle.move_laws.proofs.Lists.Cases.{if_cases}
 use Rattle.move_laws.proofs.Lists.Totals.{total-append}
 use Rattle.move_laws.proofs.MoveLaws.RowMoves.{silent}
@@ -33,9 +30,7 @@ use Rattle.move_laws.proofs.References.Same.{same_is, same_object}
 use Rattle.script_types.specs.declared.instruction.Instr.{Instr}
 use Rattle.script_types.specs.declared.script.Script.{Script}
 use Rattle.state_rows.specs.HandleNumbers.{is_local}
-use Rattle.state_rows.specs.MessageChanges.{next_of}
 use Rattle.state_rows.specs.MessageRows.{message_of}
-use Rattle.state_rows.specs.Nano.{held_by}
 use Rattle.state_rows.specs.ObjectRows.{is_taken}
 use Rattle.state_rows.specs.ServerRows.{closes, owner_of, server_at, session_at, was_opened}
 use Rattle.state_rows.specs.declared.messages.Way.TheVariants.{Disconnect}
@@ -43,24 +38,23 @@ use Rattle.state_rows.specs.declared.servers.ServerRow.{ServerRow}
 use Rattle.state_rows.specs.declared.thread.ThreadRow.{ThreadRow}
 use Rattle.std.proofs.Common.{Bool, List, None, Option, Some, [], ap, append_assoc, arith, false, length, refl, true, ℤ, ◌++◌, ◌∙◌, ◌∷◌, ◌≡◌, ◌≤◌, ℕ, subst}
 use Rattle.std.proofs.lemmas.Bool.{and_parts, eqb-true}
-use Rattle.std.specs.Prelude.{if◌then◌else◌, is_some, ◌&&◌, ◌==◌}
+use Rattle.std.specs.Prelude.{if◌then◌else◌, ◌&&◌, ◌==◌}
 use Rattle.sym_base.specs.declared.limits.TheConstants.Limits.{OBJECTS}
 use Rattle.sym_base.specs.declared.number.MsgNo.{MsgNo}
 use Rattle.sym_base.specs.declared.kind.Kind.TheVariants as kind
-use Rattle.sym_base.specs.declared.word.Word.TheVariants as word
-use Rattle.entry_log.specs.declared.step.Part.TheVariants as part
 use Rattle.script_types.specs.declared.instruction.Instr.TheVariants as instr
 use Rattle.entry_log.specs.declared.effect.Holder.{Holder}
 use Rattle.state_rows.specs.declared.messages.Message.{Message}
 use Rattle.sym_base.specs.declared.number.ObjNo.{ObjNo}
 use Rattle.machine.specs.Rows.{thread_of}
-use Rattle.machine_safe.specs.Slotted.{is_send}
+use Rattle.machine.specs.EntryWords.{is_handle, is_send, makes_server}
+use Rattle.machine_laws.proofs.Fitting.Regular.{IsRegular, kind_of, plain}
+use Rattle.machine_laws.proofs.Fitting.Posting.{tame-wake}
 
 -- a server is made
 deed-made_server : (S : State) (t : ObjNo) (at : Option Instr) (P : Decision → Type 0) (name : List ℕ) (x : ℕ) (handle : Option NewHandle) → OfEach S t at P → P (make_server t (next_object S) name x handle)
-deed-made_server S t at P name x None each = calm each _ (record { step = refl; cleans = refl; answers = refl; dooms = λ v. refl; calm = λ _. refl; making = λ _. refl; sends = λ _. refl })
+deed-made_server S t at P name x None each = calm each _ refl refl
 deed-made_server S t at P name x (Some handle) each = each.makes _ (record {
-  even = even (other-made_server t (next_object S) name x (Some handle));
   name = name;
   holder = handle.holder;
   back = Write t x handle.number ∷ Advance t ∷ [];
@@ -73,34 +67,10 @@ deed-made_server S t at P name x (Some handle) each = each.makes _ (record {
 
 deed-server : (S : State) (t : ObjNo) (at : Option Instr) (P : Decision → Type 0) (name : List ℕ) (x : ℕ) → OfEach S t at P → P (server_do S t name x)
 deed-server S t at P name x each = if_cases P (is_taken kind.Server name S.objects) _ _
-    (λ _. calm each _ (record { step = refl; cleans = refl; answers = refl; dooms = λ v. refl; calm = λ _. refl; making = λ _. refl; sends = λ _. refl }))
+    (λ _. calm each _ refl refl)
     (λ _. if_cases P (length S.objects == OBJECTS) _ _
-    (λ _. calm each _ (record { step = refl; cleans = refl; answers = refl; dooms = λ v. refl; calm = λ _. refl; making = λ _. refl; sends = λ _. refl }))
+    (λ _. calm each _ refl refl)
     (λ _. deed-made_server S t at P name x (thread_handle S t) each))
-
--- a message is received: that one is taken is no change
-deed-next : (S : State) (t : ObjNo) (at : Option Instr) (P : Decision → Type 0) (o : ObjNo) (y : ℕ) (next : Option MsgNo) → OfEach S t at P → P (receive_next t o y next)
-deed-next S t at P o y None each = calm each _ (record { step = refl; cleans = refl; answers = refl; dooms = λ v. refl; calm = λ _. refl; making = λ _. refl; sends = λ _. refl })
-deed-next S t at P o y (Some m) each = calm each _ (record { step = refl; cleans = refl; answers = refl; dooms = λ v. refl; calm = λ _. refl; making = λ _. refl; sends = λ _. refl })
-
-deed-came : (S : State) (t : ObjNo) (at : Option Instr) (P : Decision → Type 0) (o : ObjNo) (y : ℕ) (next : Option MsgNo) → OfEach S t at P → P (receive_came t o y next)
-deed-came S t at P o y None each = calm each _ (record { step = refl; cleans = refl; answers = refl; dooms = λ v. refl; calm = λ _. refl; making = λ _. refl; sends = λ _. refl })
-deed-came S t at P o y (Some m) each = calm each _ (record { step = refl; cleans = refl; answers = refl; dooms = λ v. refl; calm = λ _. refl; making = λ _. refl; sends = λ _. refl })
-
-deed-receive_do : (S : State) (t : ObjNo) (at : Option Instr) (P : Decision → Type 0) (y : ℕ) (uses : Option ObjNo) → OfEach S t at P → P (receive_do S t y uses)
-deed-receive_do S t at P y None each = calm each _ (record { step = refl; cleans = refl; answers = refl; dooms = λ v. refl; calm = λ _. refl; making = λ _. refl; sends = λ _. refl })
-deed-receive_do S t at P y (Some o) each = if_cases P (is_some (held_by S.nano t)) _ _
-    (λ _. calm each _ (record { step = refl; cleans = refl; answers = refl; dooms = λ v. refl; calm = λ _. refl; making = λ _. refl; sends = λ _. refl }))
-    (λ _. deed-next S t at P o y (next_of S.messages o) each)
-
-deed-receive_done : (S : State) (t : ObjNo) (at : Option Instr) (P : Decision → Type 0) (y : ℕ) (uses : Option ObjNo) → OfEach S t at P → P (receive_done S t y uses)
-deed-receive_done S t at P y None each = calm each _ (record { step = refl; cleans = refl; answers = refl; dooms = λ v. refl; calm = λ _. refl; making = λ _. refl; sends = λ _. refl })
-deed-receive_done S t at P y (Some o) each = deed-came S t at P o y (next_of S.messages o) each
-
-deed-receive : (S : State) (t : ObjNo) (at : Option Instr) (P : Decision → Type 0) (row : ThreadRow) (x y : ℕ) (p : Option Part) → OfEach S t at P → P (receive_step S t row x y p)
-deed-receive S t at P row x y None each = calm each _ (other-unless S t word.Receive part.Look _ refl (other-look t word.Receive _))
-deed-receive S t at P row x y (Some part.Do) each = deed-receive_do S t at P y row.uses each
-deed-receive S t at P row x y (Some _) each = deed-receive_done S t at P y row.uses each
 
 -- a message is finished: its server is the thread's
 owner-is : (t : ObjNo) (owner : Option ObjNo) → is_owner t owner ≡ true → owner ≡ Some t
@@ -119,11 +89,10 @@ taken-is S t (Some first) message e = by (first.row.taken && is_owner t (owner_o
         (e, subst (λ (x : Message). owner_of S.servers x.row.server ≡ Some t) own (owner-is t (owner_of S.servers first.row.server) parts.1))
 
 deed-complete : (S : State) (t : ObjNo) (at : Option Instr) (P : Decision → Type 0) (y : ℕ) (code : ℤ) (m : MsgNo) (message : Option Message) → at ≡ Some (instr.Complete y code) → taken_by S t (message_of S.messages m) ≡ message → OfEach S t at P → P (complete_message S t code message)
-deed-complete S t at P y code m None here e each = calm each _ (record { step = refl; cleans = refl; answers = refl; dooms = λ v. refl; calm = λ _. refl; making = λ _. refl; sends = λ _. refl })
+deed-complete S t at P y code m None here e each = calm each _ refl refl
 deed-complete S t at P y code m (Some message) here e each =
     let is = taken-is S t (message_of S.messages m) message e in
     each.finishes _ (record {
-      even = even (other-complete S t code (Some message));
       message = message;
       code = code;
       answers = true;
@@ -168,7 +137,7 @@ connected-is S s o e = by (was_opened (session_at S.servers s)) e
     by true e = e
     by false e = absurd (cc)
 
-module _ (S : State) (t : ObjNo) (at : Option Instr) (P : Decision → Type 0) (h : Holder) (o : ObjNo) (answers : Bool) (d : Decision) (handle : is_handle h ≡ true) (other : IsOther true d) (step : closes_handle d.step ≡ true) (makes : makes_server d.step ≡ false) (unsent : is_send d.step ≡ false) (named : status_by d.step at ≡ None) (each : OfEach S t at P) where
+module _ (S : State) (t : ObjNo) (at : Option Instr) (P : Decision → Type 0) (h : Holder) (o : ObjNo) (answers : Bool) (d : Decision) (handle : is_handle h ≡ true) (step : closes_handle d.step ≡ true) (makes : makes_server d.step ≡ false) (unsent : is_send d.step ≡ false) (told : status_by d.step at ≡ None) (named : accepts_by d.step None ≡ true) (each : OfEach S t at P) where
   -- the handle of what is no server
   others : (ms : List Move) → d.moves ≡ ms ++ Lose h o ∷ behind answers t → ((v : ObjNo) → total (lost_bit v) ms ≡ 0) → server_at S.servers o ≡ None → ClosesOthers S d
   others ms moves silent none closes v some =
@@ -184,7 +153,6 @@ module _ (S : State) (t : ObjNo) (at : Option Instr) (P : Decision → Type 0) (
   loses moves none =
       let still = behind-still answers t in
       each.keeps d (record {
-        even = even (other);
         changing = let a = ap (total changing_bit) moves in let b = still.0 in let c = changing-handle h o handle in omega arith;
         still = let a = ap (total message_bit) moves in let b = still.1 in omega arith;
         detaches = λ v some. let a = ap (total (detach_bit v)) moves in let b = undetached-behind answers t v in let c = undetached h o v handle in absurd (omega arith);
@@ -195,9 +163,9 @@ module _ (S : State) (t : ObjNo) (at : Option Instr) (P : Decision → Type 0) (
   sends : (v : ObjNo) → d.moves ≡ Servers (SetOpen o false) ∷ post S t o v disconnects no_args Disconnect ++ Lose h o ∷ behind answers t → open_server S o ≡ Some v → server_at S.servers o ≡ None → P d
   sends v moves opens none =
       let still = behind-still answers t in
-      each.sends d (sending d (Servers (SetOpen o false) ∷ []) (Lose h o ∷ behind answers t) o v disconnects no_args Disconnect other moves refl refl
-      (let a = still.0 in let b = changing-handle h o handle in omega arith) (let a = still.1 in omega arith) opens named
-      (others (Servers (SetOpen o false) ∷ post S t o v disconnects no_args Disconnect) moves (λ x. let wakes = lost-none x (wake_receiver S v (owner_of S.servers v)) ((none-receiver S v (owner_of S.servers v)).calm refl) in omega arith) none) (λ x. let b = undetached-behind answers t x in let c = undetached h o x handle in omega arith) unsent (λ sends. absurd (cc)))
+      each.sends d (sending d (Servers (SetOpen o false) ∷ []) (Lose h o ∷ behind answers t) o v disconnects no_args Disconnect moves refl refl
+      (let a = still.0 in let b = changing-handle h o handle in omega arith) (let a = still.1 in omega arith) opens told named
+      (others (Servers (SetOpen o false) ∷ post S t o v disconnects no_args Disconnect) moves (λ x. let wakes = lost-none x (wake_receiver S v (owner_of S.servers v)) ((tame-wake {k = plain} S v (owner_of S.servers v)).calm refl) in omega arith) none) (λ x. let b = undetached-behind answers t x in let c = undetached h o x handle in omega arith) unsent (λ sends. absurd (cc)))
 
   unconnected : (server : Option ObjNo) → d.moves ≡ disconnect S t o server ++ Lose h o ∷ behind answers t → connected_to S o ≡ server → server_at S.servers o ≡ None → P d
   unconnected None moves e none = loses moves none
@@ -205,7 +173,7 @@ module _ (S : State) (t : ObjNo) (at : Option Instr) (P : Decision → Type 0) (
 
   closing : (server : Option ServerRow) → d.moves ≡ close_or o server (disconnect S t o (connected_to S o)) ++ Lose h o ∷ behind answers t → server_at S.servers o ≡ server → P d
   closing None moves e = unconnected (connected_to S o) moves refl e
-  closing (Some row) moves e = each.closes d (record { even = even (other); server = o; row = row; is = e; holder = h; handle = handle; answers = answers; moves = moves; makes = makes; step = step; unsent = unsent })
+  closing (Some row) moves e = each.closes d (record { server = o; row = row; is = e; holder = h; handle = handle; answers = answers; moves = moves; makes = makes; step = step; unsent = unsent })
 
   pub deed-handle : d.moves ≡ close_moves S t h o ++ behind answers t → P d
   deed-handle moves = closing (server_at S.servers o) (moves ∙ append_assoc (before_close S t o) (Lose h o ∷ []) (behind answers t)) refl
@@ -214,16 +182,15 @@ holder-handle : (t : ObjNo) (row : ThreadRow) (handle : ℕ) → is_handle (hold
 holder-handle t row handle = if_cases (λ (h : Holder). is_handle h ≡ true) (is_local handle) _ _ (λ _. refl) (λ _. refl)
 
 deed-close : (S : State) (t : ObjNo) (at : Option Instr) (P : Decision → Type 0) (row : ThreadRow) (handle : ℕ) (found : Option ObjNo) → OfEach S t at P → P (close_handle S t row handle found)
-deed-close S t at P row handle None each = calm each _ (record { step = refl; cleans = refl; answers = refl; dooms = λ v. refl; calm = λ _. refl; making = λ _. refl; sends = λ _. refl })
-deed-close S t at P row handle (Some o) each = deed-handle S t at P (holder_of t row handle) o true (close_handle S t row handle (Some o)) (holder-handle t row handle) (other-close S t row handle (Some o)) refl refl refl refl each refl
+deed-close S t at P row handle None each = calm each _ refl refl
+deed-close S t at P row handle (Some o) each = deed-handle S t at P (holder_of t row handle) o true (close_handle S t row handle (Some o)) (holder-handle t row handle) refl refl refl refl refl each refl
 
 -- each step of an instruction
-pub deed-step : (script : Script) (S : State) (t : ObjNo) (at : Option Instr) (P : Decision → Type 0) (row : ThreadRow) (i : Instr) (p : Option Part) → thread_of S t ≡ Some row → at ≡ Some i → OfEach S t at P → P (step_of script S t row i p)
-deed-step script S t at P row (instr.Close x) p is here each = deed-close S t at P row _ _ each
-deed-step script S t at P row (instr.Server name x) p is here each = deed-server S t at P name x each
-deed-step script S t at P row (instr.Connect name slots x) p is here each = deed-connect S t at P row name slots x p here each
-deed-step script S t at P row (instr.Send x function y args) p is here each = deed-send S t at P row x function y args p is here each
-deed-step script S t at P row (instr.Call x function args) p is here each = deed-call S t at P row x function args p each
-deed-step script S t at P row (instr.Receive x y) p is here each = deed-receive S t at P row x y p each
-deed-step script S t at P row (instr.Complete y code) p is here each = deed-complete S t at P y code _ _ here refl each
-deed-step script S t at P row i p is here each = calm each _ (other-step script S t row i p)
+pub deed-step : (script : Script) (S : State) (t : ObjNo) (at : Option Instr) (P : Decision → Type 0) (row : ThreadRow) (i : Instr) (p : Option Part) → IsRegular (kind_of i p) script S t (step_of script S t row i p) → thread_of S t ≡ Some row → at ≡ Some i → OfEach S t at P → P (step_of script S t row i p)
+deed-step script S t at P row (instr.Close x) p regular is here each = deed-close S t at P row _ _ each
+deed-step script S t at P row (instr.Server name x) p regular is here each = deed-server S t at P name x each
+deed-step script S t at P row (instr.Connect name slots x) (Some p) regular is here each = deed-connect S t at P row name slots x p here each
+deed-step script S t at P row (instr.Send x function y args) (Some p) regular is here each = deed-send S t at P row x function y args p is here each
+deed-step script S t at P row (instr.Call x function args) (Some p) regular is here each = deed-call S t at P row x function args p here each
+deed-step script S t at P row (instr.Complete y code) p regular is here each = deed-complete S t at P y code _ _ here refl each
+deed-step script S t at P row i p regular is here each = calm each _ (regular.calm refl) (regular.sends refl)

@@ -10,7 +10,6 @@ use Rattle.machine.specs.Interrupts.{done_by, immediate, immediate_plan, interru
 use Rattle.machine.specs.Moves.{perform, tell}
 use Rattle.machine.specs.References.{total}
 use Rattle.machine.specs.Rows.{thread_of}
-use Rattle.machine.specs.Task.{instruction, instructions_of}
 use Rattle.machine.specs.Tick.{tick}
 use Rattle.machine.specs.Transition.{act, idle}
 use Rattle.machine.specs.WellFormed.{AreRows}
@@ -22,11 +21,10 @@ use Rattle.machine.specs.declared.state.State.{State}
 use Rattle.machine_laws.proofs.AtBoot.BootServing.{no_session}
 use Rattle.machine_laws.proofs.AtBoot.Born.{born_row, each_born}
 use Rattle.machine_laws.proofs.Fitting.Bodies.{Goes}
-use Rattle.machine_laws.proofs.Fitting.Interrupts.{goes-immediate, goes-interrupt}
-use Rattle.machine_safe.proofs.Deaths.BodySteps.{none-body, none-planned}
-use Rattle.machine_safe.proofs.Deaths.Other.{CleansNone, advance_bit, none-nothing}
+use Rattle.machine_laws.proofs.Fitting.Interrupts.{goes-immediate, goes-interrupt, light-immediate, light-interrupt}
+use Rattle.machine_laws.proofs.Fitting.Regular.{IsRegular, IsTame, Kinds, advance_bit, plain, tame-moves}
 use Rattle.machine_safe.proofs.Deaths.Rows.{row_bit, stage_live}
-use Rattle.machine_safe.proofs.Serving.Deeds.{OfEach, calm}
+use Rattle.machine_safe.proofs.Serving.Deeds.{Looked, OfEach, calm}
 use Rattle.machine_safe.proofs.Serving.Doing.{Doing, doing, doing-by, keeps-doing, lost-doing, quiet-doing}
 use Rattle.machine_safe.proofs.Serving.Fated.{doom-among, doom-told}
 use Rattle.machine_safe.proofs.Serving.Finished.{turn-finishes}
@@ -38,10 +36,10 @@ use Rattle.machine_safe.proofs.Serving.Served.{served-keeps, served-made, served
 use Rattle.machine_safe.proofs.Serving.Founding.{turn-makes}
 use Rattle.machine_safe.proofs.Serving.Joining.{turn-joins}
 use Rattle.machine_safe.proofs.Serving.Stopping.{turn-closes, turn-stops}
-use Rattle.machine_safe.proofs.Serving.Turns.{Book, IsTurn, entry_for, turn-keeps, unserving}
+use Rattle.machine_safe.proofs.Serving.Turns.{at-instruction, Book, IsTurn, entry_for, turn-keeps, unserving}
 use Rattle.machine_safe.specs.CountAfter.{effects_of, is_by}
 use Rattle.machine_safe.specs.SafeDeaths.{dooms}
-use Rattle.machine_safe.specs.Sent.{answers, at_place, instruction_in}
+use Rattle.machine_safe.specs.Sent.{instruction_in}
 use Rattle.machine_safe.specs.Served.{closes_handle, handles_lost}
 use Rattle.move_laws.proofs.Lists.Contents.{none_contained}
 use Rattle.move_laws.proofs.Lists.Copies.{copy_at}
@@ -53,9 +51,8 @@ use Rattle.state_rows.specs.Deferred.{next_immediate}
 use Rattle.state_rows.specs.ServerRows.{link_of}
 use Rattle.state_rows.specs.declared.deferred.Item.{Item}
 use Rattle.state_rows.specs.declared.servers.ServerRow.{ServerRow}
-use Rattle.state_rows.specs.declared.thread.Role.{Role}
 use Rattle.state_rows.specs.declared.thread.ThreadRow.{ThreadRow}
-use Rattle.std.proofs.Common.{Bool, List, None, Option, Some, [], arith, false, inr, refl, subst, sym, ℕ, ◌++◌, ◌+◌, ◌∙◌, ◌∷◌, ◌≡◌, ap, ℤ, true}
+use Rattle.std.proofs.Common.{Bool, List, None, Option, Some, [], arith, false, inr, refl, subst, sym, ℕ, ◌++◌, ◌+◌, ◌∷◌, ◌≡◌, ap, ℤ, true}
 use Rattle.std.specs.Prelude.{if◌then◌else◌, is_some, slice_get, ◌&&◌, ◌==◌}
 use Rattle.sym_base.specs.declared.limits.TheConstants.Limits.{OBJECTS}
 use Rattle.sym_base.specs.declared.number.ObjNo.{ObjNo}
@@ -64,9 +61,10 @@ use Rattle.state_rows.specs.declared.deferred.Item.TheVariants as item
 use Rattle.machine_safe.proofs.Serving.Giving.{deed-of}
 use Rattle.machine.specs.declared.moves.Move.{Move}
 use Rattle.machine_safe.proofs.Serving.Slots.{slotted-keeps}
-use Rattle.machine_safe.specs.Slotted.{is_send}
 use Rattle.script_types.specs.declared.declaration.DfcDecl.{DfcDecl}
 use Rattle.script_types.specs.declared.declaration.IdfcDecl.{IdfcDecl}
+use Rattle.machine.specs.EntryWords.{is_send}
+use Rattle.machine_laws.proofs.Fitting.Actions.{regular-action}
 
 -- such an action ends nobody's instruction
 unanswered : (t : ObjNo) (actor : Actor) (ms : List Move) (answer : Option ℤ) (k : ObjNo) → total advance_bit ms ≡ 0 → is_by k actor ≡ false → steps_of t ms k.0 ≡ (if is_by k actor && is_some answer then 1 else 0) + 0
@@ -78,7 +76,7 @@ unanswered t actor ms answer k none nobody = by (t.0 == k.0) (is_by k actor) nob
     by b true e = absurd (cc)
 
 -- an action of which no thread is the actor: it answers nothing, and serves nobody
-pub turn-without : (script : Script) (before : List Entry) (S : State) (place : ℕ) (t : ObjNo) (actor : Actor) (d : Decision) → AreRows script S → Book script before S → ((u : ObjNo) → is_by u actor ≡ false) → d.answer ≡ None → is_send d.step ≡ false → CleansNone false d.moves → Doing script S t d.moves
+pub turn-without : (script : Script) (before : List Entry) (S : State) (place : ℕ) (t : ObjNo) (actor : Actor) (d : Decision) → AreRows script S → Book script before S → ((u : ObjNo) → is_by u actor ≡ false) → d.answer ≡ None → is_send d.step ≡ false → IsTame plain 0 d.moves → Doing script S t d.moves
     → IsTurn script before (entry_of place actor (record { step = d.step; effects = tell t d.moves S; answer = d.answer })) (perform t d.moves S)
 turn-without script before S place t actor d rows book nobody silent unsent calm does =
     let e = entry_of place actor (record { step = d.step; effects = tell t d.moves S; answer = d.answer }) in
@@ -92,7 +90,7 @@ turn-without script before S place t actor d rows book nobody silent unsent calm
             (served-keeps script (reading before) S (perform t d.moves S) t d.moves d.step fs book.served k
             (λ v. let a = calm.dooms v in let b = doom-told t d.moves S v in omega arith) (λ v. doom-among t d.moves S v)
             (λ v row there. if_zero (closes_handle d.step) (handles_lost fs v) (let most = lost-doing script S t d.moves v does rows in let none = lost-none v d.moves (calm.calm refl) in omega arith))
-            (λ _. calm.locks) (λ v some. let none = detach-none v d.moves (calm.calm refl) in absurd (omega arith)));
+            (λ _. calm.mutexes refl) (λ v some. let none = detach-none v d.moves (calm.calm refl) in absurd (omega arith)));
         letters = letters-quiet script before S (perform t d.moves S) e book.letters (λ p among. k.unlinked p.session) q (λ p among. k.unended p.server);
         slotted = slotted-keeps script before e S (perform t d.moves S) book.slotted k.unlinked k.slots q.pool;
       };
@@ -103,35 +101,29 @@ turn-without script before S place t actor d rows book nobody silent unsent calm
 abbrev pub IsFated : List Entry → State → Type 0
 IsFated before S = (u : ObjNo) (row : ThreadRow) → thread_of S u ≡ Some row → row_bit stage_live (Some row) + dooms (effects_of before) u ≡ 1
 
--- a thread is at the instruction of its place
-at-instruction : (script : Script) (before : List Entry) (S : State) (t : ObjNo) (row : ThreadRow) → Book script before S → thread_of S t ≡ Some row → instruction_in script before t ≡ instruction script row
-at-instruction script before S t row book is =
-    let p = book.served.places t.0 row is in
-    ap (at_place script (answers before t)) p.is ∙ (ap (λ (n : ℕ). slice_get (instructions_of script p.first.role) n) (sym p.place) ∙ ap (λ (r : Role). slice_get (instructions_of script r) row.next_instruction) p.role)
-
-module _ (script : Script) (before : List Entry) (S : State) (place : ℕ) (shaped : IsShaped script) (rows : AreRows script S) (book : Book script before S) (fate : IsFated before S) where
+module _ (script : Script) (before : List Entry) (S : State) (place : ℕ) (shaped : IsShaped script) (rows : AreRows script S) (book : Book script before S) (looked : Looked script before S) (fate : IsFated before S) where
   -- an action of a thread
-  each-turn : (t : ObjNo) → OfEach S t (instruction_in script before t) (λ (d : Decision). Doing script S t d.moves → IsTurn script before (entry_for place t S d) (perform t d.moves S))
+  each-turn : (t : ObjNo) → OfEach S t (instruction_in script before t) (λ (d : Decision). (k : Kinds) → IsRegular k script S t d → Doing script S t d.moves → IsTurn script before (entry_for place t S d) (perform t d.moves S))
   each-turn t = record {
-    keeps = λ d is. turn-keeps script before S place t rows book d is;
-    sends = λ d is. turn-sends script before S place t rows book d is;
-    finishes = λ d is does. turn-finishes script before S place t rows book d is does fate;
-    makes = λ d is does. turn-makes script before S place t rows book d is does (λ u live. let a = fate u live.row live.is in let b = ap stage_live live.live in omega arith);
-    joins = λ d is. turn-joins script before S place t rows book d is;
-    closes = λ d is. turn-closes script before S place t rows book d is;
-    stops = λ d is. turn-stops script before S place t rows book d is;
+    keeps = λ d is k regular. turn-keeps script before S place t rows book d regular looked is;
+    sends = λ d is k regular. turn-sends script before S place t rows book looked d regular is;
+    finishes = λ d is k regular does. turn-finishes script before S place t rows book d regular is does fate;
+    makes = λ d is k regular does. turn-makes script before S place t rows book d regular is does (λ u live. let a = fate u live.row live.is in let b = ap stage_live live.live in omega arith);
+    joins = λ d is k regular. turn-joins script before S place t rows book d regular is;
+    closes = λ d is k regular. turn-closes script before S place t rows book d regular is;
+    stops = λ d is k regular. turn-stops script before S place t rows book d regular is;
   }
 
   turn-act : (t : ObjNo) → IsTurn script before (entry_of place (Thread t) (act script S t).outcome) (act script S t).state
   unfolding act
-  turn-act t = deed-of script S t rows (instruction_in script before t) _ (each-turn t) (λ row is. at-instruction script before S t row book is) (doing script S t shaped rows)
+  turn-act t = deed-of script S t (instruction_in script before t) _ (each-turn t) shaped rows (λ row is. at-instruction script before S t row book is) (regular-action script S t shaped rows).0 (regular-action script S t shaped rows).1 (doing script S t shaped rows)
 
-  turn-done : (actor : Actor) (plan : Plan) → ((u : ObjNo) → is_by u actor ≡ false) → (decision_by script supervisor S plan).answer ≡ None → is_send (decision_by script supervisor S plan).step ≡ false → CleansNone false (decision_by script supervisor S plan).moves → Goes script supervisor S (decision_by script supervisor S plan).moves → IsTurn script before (entry_of place actor (done_by script S plan).outcome) (done_by script S plan).state
+  turn-done : (actor : Actor) (plan : Plan) → ((u : ObjNo) → is_by u actor ≡ false) → (decision_by script supervisor S plan).answer ≡ None → is_send (decision_by script supervisor S plan).step ≡ false → IsTame plain 0 (decision_by script supervisor S plan).moves → Goes script supervisor S (decision_by script supervisor S plan).moves → IsTurn script before (entry_of place actor (done_by script S plan).outcome) (done_by script S plan).state
   turn-done actor plan nobody silent unsent calm goes = turn-without script before S place supervisor actor (decision_by script supervisor S plan) rows book nobody silent unsent calm (doing-by script S plan rows goes)
 
   turn-interrupt : (k : ℕ) → IsTurn script before (entry_of place (Irq k) (interrupt script S k).outcome) (interrupt script S k).state
   unfolding interrupt
-  turn-interrupt k = turn-done (Irq k) (Runs (Interrupt k)) (λ u. refl) refl refl (none-body script supervisor S (Interrupt k)) (goes-interrupt script S k shaped rows)
+  turn-interrupt k = turn-done (Irq k) (Runs (Interrupt k)) (λ u. refl) refl refl (light-interrupt script S k shaped rows).calm (goes-interrupt script S k shaped rows)
 
   silent-plan : (found : Option Item) → (decision_by script supervisor S (immediate_plan script S found)).answer ≡ None
   silent-plan None = refl
@@ -154,13 +146,13 @@ module _ (script : Script) (before : List Entry) (S : State) (place : ℕ) (shap
   turn-immediate : IsTurn script before (entry_of place Idfc (immediate script S).outcome) (immediate script S).state
   unfolding immediate
   turn-immediate =
-      let found = next_immediate S.deferred in turn-done Idfc (immediate_plan script S found) (λ u. refl) (silent-plan found) (unsent-plan found) (none-planned script supervisor S found) (goes-immediate script S found shaped rows refl)
+      let found = next_immediate S.deferred in turn-done Idfc (immediate_plan script S found) (λ u. refl) (silent-plan found) (unsent-plan found) (light-immediate script S found shaped rows refl).calm (goes-immediate script S found shaped rows refl)
 
   turn-tick : IsTurn script before (entry_of place Tick (tick S).outcome) (tick S).state
-  turn-tick = turn-without script before S place supervisor Tick (record { step = step.Turn; moves = []; answer = None }) rows book (λ u. refl) refl refl none-nothing (inr (inr refl))
+  turn-tick = turn-without script before S place supervisor Tick (record { step = step.Turn; moves = []; answer = None }) rows book (λ u. refl) refl refl (tame-moves [] refl refl) (inr (inr refl))
 
   turn-idle : IsTurn script before (entry_of place Idle (idle S).outcome) (idle S).state
-  turn-idle = turn-without script before S place supervisor Idle (record { step = step.Wait; moves = []; answer = None }) rows book (λ u. refl) refl refl none-nothing (inr (inr refl))
+  turn-idle = turn-without script before S place supervisor Idle (record { step = step.Wait; moves = []; answer = None }) rows book (λ u. refl) refl refl (tame-moves [] refl refl) (inr (inr refl))
 
   turn-next : (actor : Actor) → IsTurn script before (entry_by script S place actor) (next script S actor)
   turn-next (Thread t) = turn-act t
@@ -181,9 +173,9 @@ book-boot script shaped = record {
     rows = λ o row is. let none = copy_at {A = Option ServerRow} None OBJECTS o.0 in absurd (cc);
     links = λ s o is. let none = ap link_of (no_session OBJECTS s) in absurd (cc);
     ended = λ o some. absurd (omega arith);
+    over = λ u o some. absurd (omega arith);
     made = λ t o is. absurd (cc);
     unmade = λ o past. refl;
-    uses = λ u o row is used. let none = (born_row script _ (born script) u.0 row (each_born script shaped) is).uses in absurd (cc);
     told_made = λ s v is. absurd (cc);
     told_linked = λ s v is alive. absurd (cc);
     places = λ k row is. record { first = row; is = is; role = refl; place = (born_row script _ (born script) k row (each_born script shaped) is).next_instruction };

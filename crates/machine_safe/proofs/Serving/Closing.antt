@@ -12,17 +12,18 @@ use Rattle.machine.specs.declared.moves.Move.TheVariants.{Lose, Servers}
 use Rattle.machine.specs.declared.server_move.ServerMove.TheVariants.{End, Close}
 use Rattle.machine.specs.declared.state.State.{State}
 use Rattle.machine_safe.proofs.Deaths.EffectSums.{dooms-append}
-use Rattle.machine_safe.proofs.Serving.EffectSums.{ends-append, server_told-append, used_told-append}
+use Rattle.machine_safe.proofs.Serving.EffectSums.{ends-append, server_told-append}
 use Rattle.machine_safe.proofs.Serving.Keeps.{Keeps, closing-row, keeps-closing, steps_of, there-row}
 use Rattle.machine_safe.proofs.Serving.KeptRows.{at-closed, closed-long, closing-was, link-closed}
 use Rattle.machine_safe.proofs.Serving.Reading.{Reading, closing_by, further}
 use Rattle.machine_safe.proofs.Serving.Served.{IsServed, Served, bit-is, bit-none, bit-some, closing-count}
 use Rattle.machine_safe.proofs.Serving.Told.{unlinking-close}
 use Rattle.machine_safe.specs.SafeDeaths.{dooms}
-use Rattle.machine_safe.specs.Served.{closes_handle, ends, handles_lost, is_handle, makes_server, or_before, owner_told, server_told}
+use Rattle.machine_safe.specs.Served.{closes_handle, ends, handles_lost, or_before, owner_told, server_told}
 use Rattle.move_laws.proofs.Lists.Mapped.{mapped-some}
 use Rattle.move_laws.proofs.References.Mutexes.{held-not_holding}
-use Rattle.move_laws.proofs.References.Same.{eqb_apart, if_is, if_not, if_zero}
+use Rattle.move_laws.proofs.References.Same.{eqb_apart, if_is, if_not, if_zero, same_object, same_self}
+use Rattle.move_laws.proofs.Lives.LivesMove.{zero_or}
 use Rattle.script_types.specs.declared.script.Script.{Script}
 use Rattle.state_rows.specs.ServerChanges.{after_closing, closing, detached}
 use Rattle.state_rows.specs.ServerRows.{closes, is_closing, server_at, server_of}
@@ -33,8 +34,8 @@ use Rattle.std.proofs.lemmas.Bool.{cases_eq, eq-eqb}
 use Rattle.std.specs.Prelude.{if◌then◌else◌, is_some, nat_lt, ◌==◌}
 use Rattle.sym_base.specs.declared.number.ObjNo.{ObjNo}
 use Rattle.machine_safe.proofs.Serving.Acting.{undetached}
-use Rattle.machine_safe.proofs.Serving.KeptUses.{alive-closed, linked-closed, unused-close, using-closed}
-use Rattle.machine_safe.specs.Slotted.{used_told}
+use Rattle.machine_safe.proofs.Serving.KeptUses.{alive-closed, linked-closed}
+use Rattle.machine.specs.EntryWords.{is_handle, makes_server}
 
 -- what a close of a handle tells
 closed-lost : (last : Bool) (h : Holder) (o v : ObjNo) → is_handle h ≡ true → handles_lost (closed_effects last h o) v ≡ same o v
@@ -122,6 +123,7 @@ module _ (script : Script) (r : Reading) (S : State) (t : ObjNo) (done : Step) (
       rows = row_now;
       links = λ s o is. server_told-append r.effects fs s ∙ (ap (λ (x : Option ObjNo). or_before x (server_told r.effects s)) (k.unlinked s) ∙ h.links s o (k.links s o is));
       ended = λ o some. let a = ends-append r.effects fs o in let b = k.unended o in keeps-closing (begun v) gone t (Lose holder v ∷ []) fs o k (closing-stays v S.servers o (h.ended o (omega arith)));
+      over = λ u o some. ap (λ (l : List (List ObjNo)). times_owned l u o) k.owned ∙ h.over u o (let a = ends-append r.effects fs o in let b = k.unended o in omega arith);
       made = λ u o is. elim (h.made u o (sym (owner_same o) ∙ is)) as (λ _. (0 < times_owned gone.owned u o) ⊎ (0 < ends (r.effects ++ fs) o)) [
         | inl owned ↦ inl (subst (λ (l : List (List ObjNo)). 0 < times_owned l u o) (sym k.owned) owned)
         | inr over ↦ inr (let a = ends-append r.effects fs o in omega arith)
@@ -134,10 +136,6 @@ module _ (script : Script) (r : Reading) (S : State) (t : ObjNo) (done : Step) (
           let w = k.threads n row is in
           let old = h.places n w.old w.was in
           record { first = old.first; is = old.is; role = old.role ∙ w.role; place = let a = w.place in let b = old.place in omega arith };
-      uses = λ u o row is used. elim (k.uses u o row is used) as (λ _. used_told (r.effects ++ fs) u ≡ Some o) [
-        | inl now ↦ used_told-append r.effects fs u ∙ ap (λ (x : Option ObjNo). or_before x (used_told r.effects u)) now
-        | inr same ↦ used_told-append r.effects fs u ∙ (ap (λ (x : Option ObjNo). or_before x (used_told r.effects u)) same.0 ∙ h.uses u o same.1.old same.1.was same.1.uses)
-      ];
       told_made = λ s o is. let more = k.objects in let inside = h.told_made s o (told_first s o is) in omega arith;
       told_linked = λ s o is alive.
           let was = told_first s o is in
@@ -155,7 +153,7 @@ module _ (script : Script) (r : Reading) (S : State) (t : ObjNo) (done : Step) (
     }
 
   -- a server stops
-  module _ (v : ObjNo) (makes : makes_server done ≡ false) (closing_step : closes_handle done ≡ false) (may : MayEnd S v) (inside : t.0 < length S.owned) (once : times_owned S.owned t v ≡ 1) where
+  module _ (v : ObjNo) (makes : makes_server done ≡ false) (closing_step : closes_handle done ≡ false) (may : MayEnd S v) (inside : t.0 < length S.owned) (once : times_owned S.owned t v ≡ 1) (alone : (u : ObjNo) → 0 < times_owned S.owned u v → u.0 ≡ t.0) where
     abbrev stopped : State
     stopped = moved t (Lose (Own t) v) (moved t (Servers (End v)) S)
 
@@ -190,6 +188,15 @@ module _ (script : Script) (r : Reading) (S : State) (t : ObjNo) (done : Step) (
         let none : same v o ≡ 0 = if_not (v.0 == o.0) 1 (eqb_apart v.0 o.0 apart) in
         let zero = if_zero (t.0 == u.0) (same v o) none in omega arith
 
+    -- and nobody owns it then
+    nobodys : (u : ObjNo) → times_owned stopped.owned u v ≡ 0
+    nobodys u = zero_or (times_owned stopped.owned u v) (λ some.
+        let a = fewer u v in
+        let at = alone u (omega arith) in
+        let owner : times_owned S.owned u v ≡ 1 = ap (λ (x : ObjNo). times_owned S.owned x v) (same_object u t at) ∙ once in
+        let own = same_self v in
+        let here : (if t.0 == u.0 then same v v else 0) ≡ 1 = if_is (t.0 == u.0) (same v v) (eq-eqb t.0 u.0 (sym at)) ∙ own in absurd (omega arith))
+
     ends_more : (o : ObjNo) → ends after.effects o ≡ ends r.effects o + same v o
     ends_more o = let a = ends-append r.effects told_then o in let b = (unlinking-close last (Own t) v).unended o in omega arith
 
@@ -214,6 +221,10 @@ module _ (script : Script) (r : Reading) (S : State) (t : ObjNo) (done : Step) (
         | inl at ↦ ap (λ (n : ℕ). closes (get_or S.servers.servers n None)) (sym at) ∙ may.closing
         | inr apart ↦ h.ended o (let a = ends_more o in let none : same v o ≡ 0 = if_not (v.0 == o.0) 1 (eqb_apart v.0 o.0 apart) in omega arith)
       ];
+      over = λ u o some. elim (cases_eq v.0 o.0) as (λ _. times_owned stopped.owned u o ≡ 0) [
+        | inl at ↦ ap (times_owned stopped.owned u) (sym (same_object v o at)) ∙ nobodys u
+        | inr apart ↦ owned_other u o apart ∙ h.over u o (let a = ends_more o in let none : same v o ≡ 0 = if_not (v.0 == o.0) 1 (eqb_apart v.0 o.0 apart) in omega arith)
+      ];
       made = λ u o is. elim (cases_eq v.0 o.0) as (λ _. (0 < times_owned stopped.owned u o) ⊎ (0 < ends after.effects o)) [
         | inl at ↦ inr (let a = ends_more o in let one = if_is (v.0 == o.0) 1 (eq-eqb v.0 o.0 at) in omega arith)
         | inr apart ↦ elim (h.made u o (sym (owner_kept o) ∙ is)) as (λ _. (0 < times_owned stopped.owned u o) ⊎ (0 < ends after.effects o)) [
@@ -226,9 +237,6 @@ module _ (script : Script) (r : Reading) (S : State) (t : ObjNo) (done : Step) (
           let w = at-closed last v S.threads n row is in
           let old = h.places n w.old w.was in
           record { first = old.first; is = old.is; role = old.role ∙ w.role; place = let a = w.place in let b = old.place in omega arith };
-      uses = λ u o row is used.
-          let w = using-closed last v S.threads u o row is used in
-          used_told-append r.effects told_then u ∙ (ap (λ (x : Option ObjNo). or_before x (used_told r.effects u)) (unused-close last (Own t) v u) ∙ h.uses u o w.old w.was w.uses);
       told_made = λ s o is. let a = closed-long last v S.objects in let inside = h.told_made s o (told_earlier s o is) in omega arith;
       told_linked = λ s o is alive. elim (h.told_linked s o (told_earlier s o is) (alive-closed last v S.objects s alive)) as (λ _. (server_of stopped.servers s ≡ Some o) ⊎ (is_closing stopped.servers o ≡ true)) [
         | inl linked ↦ elim (linked-closed last v S.objects S.servers s o linked) as (λ _. (server_of stopped.servers s ≡ Some o) ⊎ (is_closing stopped.servers o ≡ true)) [

@@ -12,11 +12,11 @@ use Rattle.machine.specs.declared.moves.Move.{Move}
 use Rattle.machine.specs.declared.moves.Move.TheVariants.{Advance, Gain, Lose, Make, Messages, Servers}
 use Rattle.machine.specs.declared.server_move.ServerMove.TheVariants.{Start, Join, Close, End}
 use Rattle.machine.specs.declared.state.State.{State}
-use Rattle.machine_safe.proofs.Deaths.Other.{IsOther, serving_bit, advance_bit, answer_bit, closed_bit, doomed_bit, mutex_bit}
+use Rattle.machine_laws.proofs.Fitting.Regular.{serving_bit}
 use Rattle.machine_safe.proofs.Serving.Keeps.{changing-none, changing_bit, lost-none, lost_bit, message-none, message_bit, detach-none, detach_bit}
 use Rattle.machine_safe.specs.SafeMessages.{code_by}
-use Rattle.machine_safe.specs.Sent.{status_by}
-use Rattle.machine_safe.specs.Served.{closes_handle, is_handle, makes_server}
+use Rattle.machine_safe.specs.Sent.{accepts_by, status_by}
+use Rattle.machine_safe.specs.Served.{closes_handle}
 use Rattle.script_types.specs.declared.instruction.Instr.{Instr}
 use Rattle.state_rows.specs.MessageRows.{message_of, is_async, is_full}
 use Rattle.state_rows.specs.ServerRows.{is_closing, owner_of, server_at, server_of}
@@ -25,16 +25,22 @@ use Rattle.state_rows.specs.declared.messages.MsgRow.{MsgRow}
 use Rattle.state_rows.specs.declared.messages.Way.{Way}
 use Rattle.state_rows.specs.declared.messages.Way.TheVariants.{Async, Disconnect, Sync}
 use Rattle.state_rows.specs.declared.servers.ServerRow.{ServerRow}
-use Rattle.std.proofs.Common.{Bool, List, None, Option, Some, [], arith, false, refl, true, ℕ, ℤ, ◌++◌, ◌<◌, ◌∷◌, ◌≡◌, pos, ◌⊎◌}
+use Rattle.std.proofs.Common.{Bool, List, None, Option, Some, [], arith, false, true, ℕ, ℤ, ◌++◌, ◌<◌, ◌∷◌, ◌≡◌, pos, ◌⊎◌}
 use Rattle.sym_base.specs.declared.kind.Slots.{Slots}
 use Rattle.sym_base.specs.declared.number.ObjNo.{ObjNo}
 use Rattle.sym_base.specs.declared.kind.Kind.TheVariants as kind
 use Rattle.entry_log.specs.declared.effect.StatusNo.TheVariants as status
 use Rattle.machine.specs.Rows.{thread_of}
-use Rattle.machine_safe.specs.Slotted.{is_send, slots_of_connect}
+use Rattle.machine_safe.specs.Slotted.{slots_of_connect}
 use Rattle.state_rows.specs.declared.thread.ThreadRow.{ThreadRow}
 use Rattle.sym_base.specs.ErrorCode.{error_code}
 use Rattle.sym_base.specs.declared.error.Error.TheVariants.{ServerBusy, ServerTerminated}
+use Rattle.machine.specs.EntryWords.{is_handle, is_send, makes_server}
+use Rattle.entry_log.specs.declared.entry.Entry.{Entry}
+use Rattle.machine.specs.Task.{instruction}
+use Rattle.machine_safe.specs.Slotted.{looked_in}
+use Rattle.script_types.specs.declared.instruction.Instr.TheVariants as instr
+use Rattle.script_types.specs.declared.script.Script.{Script}
 
 -- what stands behind the moves of a call that answers
 abbrev pub behind : Bool → ObjNo → List Move
@@ -51,21 +57,22 @@ status_of_way Disconnect = None
 abbrev pub ClosesOthers : State → Decision → Type 0
 ClosesOthers S d = closes_handle d.step ≡ true → (v : ObjNo) → 0 < total (lost_bit v) d.moves → server_at S.servers v ≡ None
 
--- a thread is answered where its instruction ends, servers begin to close exactly of threads that are doomed, and a server isn't made with a mutex
-pub record IsEven (d : Decision) : Type 0 where
-  pub answers : total advance_bit d.moves ≡ answer_bit d.answer
-  pub dooms : (v : ObjNo) → total (closed_bit v) d.moves ≡ total (doomed_bit v) d.moves
-  pub making : makes_server d.step ≡ true → total mutex_bit d.moves ≡ 0
-
-pub even : {b : Bool} {d : Decision} → IsOther b d → IsEven d
-even h = record { answers = h.answers; dooms = h.dooms; making = h.making }
-
 -- a session is detached only from a server that is closing
 abbrev pub Detaches : State → Decision → Type 0
 Detaches S d = (v : ObjNo) → 0 < total (detach_bit v) d.moves → is_closing S.servers v ≡ true
 
+-- whether an instruction is a `send`
+abbrev pub at_send : Option Instr → Bool
+at_send (Some (instr.Send x function y args)) = true
+at_send _ = false
+
+-- a thread that uses an object at a `send` looked for that
+abbrev pub Looked : Script → List Entry → State → Type 0
+Looked script before S = (u o : ObjNo) (row : ThreadRow) → thread_of S u ≡ Some row → at_send (instruction script row) ≡ true → row.uses ≡ Some o → looked_in before u ≡ Some o
+
 -- the session that a thread's `send` is over
-pub record IsSendOver (S : State) (t s : ObjNo) : Type 0 where
+pub record IsSendOver (S : State) (t : ObjNo) (at : Option Instr) (s : ObjNo) : Type 0 where
+  pub here : at_send at ≡ true
   pub row : ThreadRow
   pub is : thread_of S t ≡ Some row
   pub uses : row.uses ≡ Some s
@@ -74,29 +81,27 @@ pub record IsSendOver (S : State) (t s : ObjNo) : Type 0 where
 abbrev pub RefusedBy : State → ObjNo → Option ℤ → Type 0
 RefusedBy S s answer = ((open_server S s ≡ None) × (answer ≡ Some (error_code ServerTerminated))) ⊎ ((o : ObjNo) × (open_server S s ≡ Some o) × (is_full S.messages s (slots_of S s) ≡ true) × (answer ≡ Some (error_code ServerBusy)))
 
-pub record IsRefusal (S : State) (t : ObjNo) (d : Decision) : Type 0 where
+pub record IsRefusal (S : State) (t : ObjNo) (at : Option Instr) (d : Decision) : Type 0 where
   pub session : ObjNo
-  pub over : IsSendOver S t session
+  pub over : IsSendOver S t at session
   pub by : RefusedBy S session d.answer
 
 -- neither servers nor messages change
-pub record IsKeeping (S : State) (t : ObjNo) (d : Decision) : Type 0 where
-  pub even : IsEven d
+pub record IsKeeping (S : State) (t : ObjNo) (at : Option Instr) (d : Decision) : Type 0 where
   pub changing : total changing_bit d.moves ≡ 0
   pub still : total message_bit d.moves ≡ 0
   pub closed : ClosesOthers S d
   pub detaches : Detaches S d
-  pub send : is_send d.step ≡ true → IsRefusal S t d
+  pub send : is_send d.step ≡ true → IsRefusal S t at d
 
 -- a `send` has a slot left, and is answered 0
-pub record IsAnswered (S : State) (t s : ObjNo) (slots : Slots) (d : Decision) : Type 0 where
-  pub over : IsSendOver S t s
+pub record IsAnswered (S : State) (t : ObjNo) (at : Option Instr) (s : ObjNo) (slots : Slots) (d : Decision) : Type 0 where
+  pub over : IsSendOver S t at s
   pub answer : d.answer ≡ Some (pos 0)
   pub free : is_full S.messages s slots ≡ false
 
 -- thread t, at an instruction, sends a message
 pub record IsSending (S : State) (t : ObjNo) (at : Option Instr) (d : Decision) : Type 0 where
-  pub even : IsEven d
   pub front : List Move
   pub back : List Move
   pub slots : Slots
@@ -110,15 +115,15 @@ pub record IsSending (S : State) (t : ObjNo) (at : Option Instr) (d : Decision) 
   pub linked : server_of S.servers row.session ≡ Some row.server
   pub accepting : is_closing S.servers row.server ≡ false
   pub way : status_by d.step at ≡ status_of_way row.way
+  pub named : accepts_by d.step (status_of_way row.way) ≡ true
   pub closed : ClosesOthers S d
   pub detached : (v : ObjNo) → total (detach_bit v) d.moves ≡ 0
   pub of_session : slots ≡ slots_of S row.session
   pub asks : is_send d.step ≡ is_async row.way
-  pub send : is_send d.step ≡ true → IsAnswered S t row.session slots d
+  pub send : is_send d.step ≡ true → IsAnswered S t at row.session slots d
 
 -- it finishes one
 pub record IsFinishing (S : State) (t : ObjNo) (at : Option Instr) (d : Decision) : Type 0 where
-  pub even : IsEven d
   pub message : Message
   pub code : ℤ
   pub answers : Bool
@@ -131,7 +136,6 @@ pub record IsFinishing (S : State) (t : ObjNo) (at : Option Instr) (d : Decision
 
 -- it makes a server
 pub record IsMaking (S : State) (t : ObjNo) (d : Decision) : Type 0 where
-  pub even : IsEven d
   pub name : List ℕ
   pub holder : Holder
   pub back : List Move
@@ -143,7 +147,6 @@ pub record IsMaking (S : State) (t : ObjNo) (d : Decision) : Type 0 where
 
 -- it joins a session at a server
 pub record IsJoining (S : State) (t : ObjNo) (at : Option Instr) (d : Decision) : Type 0 where
-  pub even : IsEven d
   pub server : ObjNo
   pub slots : Slots
   pub holder : Holder
@@ -157,7 +160,6 @@ pub record IsJoining (S : State) (t : ObjNo) (at : Option Instr) (d : Decision) 
 
 -- it closes the handle of a server
 pub record IsClosing (S : State) (t : ObjNo) (d : Decision) : Type 0 where
-  pub even : IsEven d
   pub server : ObjNo
   pub row : ServerRow
   pub is : server_at S.servers server ≡ Some row
@@ -171,7 +173,6 @@ pub record IsClosing (S : State) (t : ObjNo) (d : Decision) : Type 0 where
 
 -- it stops one
 pub record IsStopping (S : State) (t : ObjNo) (d : Decision) : Type 0 where
-  pub even : IsEven d
   pub server : ObjNo
   pub moves : d.moves ≡ Servers (End server) ∷ Lose (Own t) server ∷ []
   pub makes : makes_server d.step ≡ false
@@ -180,7 +181,7 @@ pub record IsStopping (S : State) (t : ObjNo) (d : Decision) : Type 0 where
 
 -- whatever holds of each kind of action
 pub record OfEach (S : State) (t : ObjNo) (at : Option Instr) (P : Decision → Type 0) : Type 0 where
-  pub keeps : (d : Decision) → IsKeeping S t d → P d
+  pub keeps : (d : Decision) → IsKeeping S t at d → P d
   pub sends : (d : Decision) → IsSending S t at d → P d
   pub finishes : (d : Decision) → IsFinishing S t at d → P d
   pub makes : (d : Decision) → IsMaking S t d → P d
@@ -188,15 +189,12 @@ pub record OfEach (S : State) (t : ObjNo) (at : Option Instr) (P : Decision → 
   pub closes : (d : Decision) → IsClosing S t d → P d
   pub stops : (d : Decision) → IsStopping S t d → P d
 
-pub keeping : {S : State} {t : ObjNo} (d : Decision) → IsOther false d → IsKeeping S t d
-keeping {S = S} d h = record {
-  even = even h;
-  changing = changing-none d.moves (h.calm refl);
-  still = message-none d.moves (h.calm refl);
-  closed = λ closes v some. let none = lost-none v d.moves (h.calm refl) in absurd (omega arith);
-  detaches = λ v some. let none = detach-none v d.moves (h.calm refl) in absurd (omega arith);
-  send = λ sends. let unsent = h.sends refl in absurd (cc);
-}
-
-pub calm : {S : State} {t : ObjNo} {at : Option Instr} {P : Decision → Type 0} → OfEach S t at P → (d : Decision) → IsOther false d → P d
-calm each d h = each.keeps d (keeping d h)
+-- moves that serve nobody leave servers and messages
+pub calm : {S : State} {t : ObjNo} {at : Option Instr} {P : Decision → Type 0} → OfEach S t at P → (d : Decision) → total serving_bit d.moves ≡ 0 → is_send d.step ≡ false → P d
+calm each d quiet unsent = each.keeps d (record {
+  changing = changing-none d.moves quiet;
+  still = message-none d.moves quiet;
+  closed = λ closes v some. let none = lost-none v d.moves quiet in absurd (omega arith);
+  detaches = λ v some. let none = detach-none v d.moves quiet in absurd (omega arith);
+  send = λ sends. absurd (cc);
+})

@@ -16,7 +16,7 @@ use Rattle.machine.specs.declared.state.State.{State}
 use Rattle.machine_laws.proofs.Fitting.Actions.{of_action}
 use Rattle.machine_laws.proofs.Fitting.Bodies.{Goes}
 use Rattle.machine_laws.proofs.Fitting.Interrupts.{sane-supervisor}
-use Rattle.machine_safe.proofs.Deaths.Other.{serving_bit}
+use Rattle.machine_laws.proofs.Fitting.Regular.{serving_bit}
 use Rattle.machine_safe.proofs.Serving.Keeps.{Keeps, changing_bit, keeps-none, lost_bit, message_bit}
 use Rattle.machine_safe.proofs.Serving.Kept.{AreMade, keeps-each, keeps-pay}
 use Rattle.machine_safe.proofs.Serving.Quiet.{IsQuiet, lost-each, pay-lost, quiet-each, quiet-none, quiet-pay}

@@ -22,7 +22,7 @@ use Rattle.machine.specs.declared.server_move.ServerMove.{ServerMove}
 use Rattle.machine.specs.declared.server_move.ServerMove.TheVariants.{End, Join}
 use Rattle.machine.specs.declared.state.State.{State}
 use Rattle.machine_safe.proofs.Deaths.EffectSums.{dooms-append}
-use Rattle.machine_safe.proofs.Deaths.Other.{doomed_bit}
+use Rattle.machine_laws.proofs.Fitting.Regular.{doomed_bit}
 use Rattle.machine_safe.specs.SafeDeaths.{dooms}
 use Rattle.state_rows.specs.declared.duty.Owed.TheVariants.{Close, Sweep}
 use Rattle.state_rows.specs.declared.locks.Locked.TheVariants.{Taken}

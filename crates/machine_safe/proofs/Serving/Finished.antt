@@ -18,9 +18,8 @@ use Rattle.machine.specs.declared.moves.Move.TheVariants.{Messages, Requests, Se
 use Rattle.machine.specs.declared.request_move.RequestMove.TheVariants.{Reply, Signal}
 use Rattle.machine.specs.declared.server_move.ServerMove.TheVariants.{SetOpen}
 use Rattle.machine.specs.declared.state.State.{State}
-use Rattle.machine_safe.proofs.Deaths.Other.{serving_bit}
+use Rattle.machine_laws.proofs.Fitting.Regular.{serving_bit}
 use Rattle.machine_safe.proofs.Deaths.Rows.{row_bit, stage_live}
-use Rattle.machine_safe.proofs.Deaths.ServerSteps.{none-refused, none-replied}
 use Rattle.machine_safe.proofs.Serving.Deeds.{IsFinishing, status_of_way, behind}
 use Rattle.machine_safe.proofs.Serving.Doing.{Doing, IsGoing, going, keeps-doing}
 use Rattle.machine_safe.proofs.Serving.Keeps.{Keeps, changing-none, changing_bit, message-none, detach-none, detach_bit}
@@ -54,6 +53,8 @@ use Rattle.std.specs.Prelude.{Contains, filter, if◌then◌else◌, is_some, na
 use Rattle.sym_base.specs.declared.number.MsgNo.{MsgNo}
 use Rattle.sym_base.specs.declared.number.ObjNo.{ObjNo}
 use Rattle.machine_safe.proofs.Serving.Slots.{over, over-less, slotted-keeps}
+use Rattle.machine_laws.proofs.Fitting.Regular.{IsRegular, Kinds, plain}
+use Rattle.machine_laws.proofs.Fitting.Finishing.{tame-refused, tame-reply_to}
 
 -- a message's number tells it among posts
 fewer-posts : (m : MsgNo) (xs : List Message) (x : Post) → Contains (map post_of (filter (λ z. not (has_number m z)) xs)) x → Contains (map post_of xs) x × (x.number.0 ≢ m.0)
@@ -146,10 +147,10 @@ owner-row None e = absurd (cc)
 owner-row (Some row) e = (row, refl, cc)
 
 module _ (script : Script) (before : List Entry) (S : State) (place : ℕ) (t : ObjNo) (rows : AreRows script S) (book : Book script before S) where
-  pub turn-finishes : (d : Decision) → IsFinishing S t (instruction_in script before t) d → Doing script S t d.moves → ((u : ObjNo) (row : ThreadRow) → thread_of S u ≡ Some row → row_bit stage_live (Some row) + dooms (effects_of before) u ≡ 1) → IsTurn script before (entry_for place t S d) (perform t d.moves S)
-  turn-finishes d is does fate = record {
+  pub turn-finishes : {k : Kinds} (d : Decision) → IsRegular k script S t d → IsFinishing S t (instruction_in script before t) d → Doing script S t d.moves → ((u : ObjNo) (row : ThreadRow) → thread_of S u ≡ Some row → row_bit stage_live (Some row) + dooms (effects_of before) u ≡ 1) → IsTurn script before (entry_for place t S d) (perform t d.moves S)
+  turn-finishes d regular is does fate = record {
     book = record {
-      served = served-doing script before S place t rows book d does changing is.even (λ closes v some. let not_so = is.step in absurd (cc)) (λ v some. let a = ap (total (detach_bit v)) is.moves in let b = detach-none v rest calm_rest in absurd (omega arith));
+      served = served-doing script before S place t rows book d does changing regular (λ closes v some. let not_so = is.step in absurd (cc)) (λ v some. let a = ap (total (detach_bit v)) is.moves in let b = detach-none v rest calm_rest in absurd (omega arith));
       letters = letters-less script before S T e book.letters (λ p among. keeps.unlinked p.session) post among
           (λ x there. fewer-posts m.number S.messages.outstanding x (subst (λ (l : List Post). Contains l x) left there))
           (λ x there apart. subst (λ (l : List Post). Contains l x) (sym left) (other-posts m.number S.messages.outstanding x there apart))
@@ -199,8 +200,8 @@ module _ (script : Script) (before : List Entry) (S : State) (place : ℕ) (t : 
 
       calm_rest : total serving_bit rest ≡ 0
       calm_rest =
-          let a = (none-refused is.message is.code).calm refl in
-          let b = (none-replied S is.message.row.client is.code is.message.row.way (thread_of S is.message.row.client)).calm refl in
+          let a = (tame-refused {k = plain} is.message is.code).calm refl in
+          let b = (tame-reply_to {k = plain} S is.message.row.client is.code is.message.row.way (thread_of S is.message.row.client)).calm refl in
           let c = total-append serving_bit (close_refused is.message is.code) (reply_to S is.message.row.client is.code is.message.row.way (thread_of S is.message.row.client)) in
           let f = total-append serving_bit (close_refused is.message is.code ++ reply_to S is.message.row.client is.code is.message.row.way (thread_of S is.message.row.client)) (behind is.answers t) in
           let g = behind-quiet is.answers t in omega arith

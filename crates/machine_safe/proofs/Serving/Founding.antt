@@ -13,7 +13,7 @@ use Rattle.machine.specs.declared.moves.Move.{Move}
 use Rattle.machine.specs.declared.moves.Move.TheVariants.{Gain, Make, Servers}
 use Rattle.machine.specs.declared.server_move.ServerMove.TheVariants.{Start}
 use Rattle.machine.specs.declared.state.State.{State}
-use Rattle.machine_safe.proofs.Deaths.Other.{advance_bit, closed_bit, doomed_bit, mutex_bit, serving_bit}
+use Rattle.machine_laws.proofs.Fitting.Regular.{advance_bit, closed_bit, doomed_bit, mutex_bit, serving_bit}
 use Rattle.machine_safe.proofs.Serving.Deeds.{IsMaking}
 use Rattle.machine_safe.proofs.Serving.Doing.{Doing, IsGoing, going, going-then, keeps-going, quiet-doing}
 use Rattle.machine_safe.proofs.Serving.Fated.{doom-among, doom-told}
@@ -36,14 +36,15 @@ use Rattle.machine_safe.proofs.Serving.Slots.{slotted-keeps}
 use Rattle.state_rows.proofs.SoundChanges.{set_item}
 use Rattle.state_rows.specs.ServerRows.{session_at}
 use Rattle.state_rows.specs.declared.servers.SessionRow.{SessionRow}
+use Rattle.machine_laws.proofs.Fitting.Regular.{IsRegular, Kinds}
 
 module _ (script : Script) (before : List Entry) (S : State) (place : ℕ) (t : ObjNo) (rows : AreRows script S) (book : Book script before S) where
   made : AreMade S
   made = served-made script (reading before) S book.served
 
   -- a server is made
-  pub turn-makes : (d : Decision) → IsMaking S t d → Doing script S t d.moves → ((u : ObjNo) → IsLiveThread S.threads u → dooms (effects_of before) u ≡ 0) → IsTurn script before (entry_for place t S d) (perform t d.moves S)
-  turn-makes d is does undoomed = record {
+  pub turn-makes : {k : Kinds} (d : Decision) → IsRegular k script S t d → IsMaking S t d → Doing script S t d.moves → ((u : ObjNo) → IsLiveThread S.threads u → dooms (effects_of before) u ≡ 0) → IsTurn script before (entry_for place t S d) (perform t d.moves S)
+  turn-makes d regular is does undoomed = record {
     book = record {
       served = served-same script (further (further (reading before) d.step fs (λ k. 0)) d.step gs (steps_of t rest)) (reading (before ++ e ∷ [])) (perform t d.moves S) same whole;
       letters = letters-quiet script before S (perform t d.moves S) e book.letters (λ p among. unlinked p.session) q (λ p among. unended p.server);
@@ -91,10 +92,10 @@ module _ (script : Script) (before : List Entry) (S : State) (place : ℕ) (t : 
       whole : Served script (further (further (reading before) d.step fs (λ k. 0)) d.step gs (steps_of t rest)) (perform t d.moves S)
       whole = subst (λ (l : List Move). Served script (further (further (reading before) d.step fs (λ k. 0)) d.step gs (steps_of t rest)) (perform t l S)) (sym is.moves)
           (served-keeps script (further (reading before) d.step fs (λ k. 0)) mid (perform t rest mid) t rest d.step gs first keeps
-          (λ v. let a = is.even.dooms v in let b = ap (total (closed_bit v)) is.moves in let c = ap (total (doomed_bit v)) is.moves in let f = doom-told t rest mid v in omega arith)
+          (λ v. let a = regular.dooms v in let b = ap (total (closed_bit v)) is.moves in let c = ap (total (doomed_bit v)) is.moves in let f = doom-told t rest mid v in omega arith)
           (λ v. doom-among t rest mid v)
           (λ v row there. ap (λ (b : Bool). if b then handles_lost gs v else 0) is.step)
-          (λ makes. let a = is.even.making makes in let b = ap (total mutex_bit) is.moves in omega arith)
+          (λ makes. let a = regular.making makes in let b = ap (total mutex_bit) is.moves in omega arith)
           (λ v some. let none = detach-none v rest (let a = is.quiet in omega arith) in absurd (omega arith)))
 
       told : e.effects ≡ fs ++ gs
@@ -103,7 +104,7 @@ module _ (script : Script) (before : List Entry) (S : State) (place : ℕ) (t : 
       same : IsSame (further (further (reading before) d.step fs (λ k. 0)) d.step gs (steps_of t rest)) (reading (before ++ e ∷ []))
       same = same-then _ (further (reading before) d.step e.effects (λ k. 0 + steps_of t rest k)) _
           (subst (λ (l : List Effect). IsSame (further (further (reading before) d.step fs (λ k. 0)) d.step gs (steps_of t rest)) (further (reading before) d.step l (λ k. 0 + steps_of t rest k))) (sym told) (same-both (reading before) d.step fs gs (λ k. 0) (steps_of t rest)))
-          (same-entry before e (λ k. 0 + steps_of t rest k) (λ k. let a = counts t rest d k (let a = is.even.answers in let b = ap (total advance_bit) is.moves in omega arith) in omega arith))
+          (same-entry before e (λ k. 0 + steps_of t rest k) (λ k. let a = counts t rest d k (let a = regular.answers in let b = ap (total advance_bit) is.moves in omega arith) in omega arith))
 
       unlinked : (s : ObjNo) → server_told e.effects s ≡ None
       unlinked s = ap (λ (l : List Effect). server_told l s) told ∙ keeps.unlinked s

@@ -12,7 +12,7 @@ use Rattle.machine.specs.declared.moves.Move.{Move}
 use Rattle.machine.specs.declared.moves.Move.TheVariants.{Make, Servers}
 use Rattle.machine.specs.declared.server_move.ServerMove.TheVariants.{Join}
 use Rattle.machine.specs.declared.state.State.{State}
-use Rattle.machine_safe.proofs.Deaths.Other.{advance_bit, closed_bit, doomed_bit, serving_bit}
+use Rattle.machine_laws.proofs.Fitting.Regular.{advance_bit, closed_bit, doomed_bit, serving_bit}
 use Rattle.machine_safe.proofs.Serving.Deeds.{IsJoining}
 use Rattle.machine_safe.proofs.Serving.Doing.{Doing, IsGoing, going, going-then, keeps-going, quiet-doing}
 use Rattle.machine_safe.proofs.Serving.EffectSums.{ends-append, server_told-append}
@@ -42,6 +42,7 @@ use Rattle.machine_safe.specs.Slotted.{slots_in}
 use Rattle.state_rows.specs.ServerChanges.{new_session}
 use Rattle.state_rows.specs.declared.servers.SessionRow.{SessionRow}
 use Rattle.std.proofs.lemmas.Bool.{cases_eq, eq-eqb}
+use Rattle.machine_laws.proofs.Fitting.Regular.{IsRegular, Kinds}
 
 no-server : (S : State) (o : ObjNo) → AreMade S → length S.objects ≤ o.0 → server_at S.servers o ≡ None
 no-server S o made past = by (server_at S.servers o) refl
@@ -58,8 +59,8 @@ module _ (script : Script) (before : List Entry) (S : State) (place : ℕ) (t : 
   posted p among = contains_map post_of S.messages.outstanding p among
 
   -- a session joins a server
-  pub turn-joins : (d : Decision) → IsJoining S t (instruction_in script before t) d → Doing script S t d.moves → IsTurn script before (entry_for place t S d) (perform t d.moves S)
-  turn-joins d is does = record {
+  pub turn-joins : {k : Kinds} (d : Decision) → IsRegular k script S t d → IsJoining S t (instruction_in script before t) d → Doing script S t d.moves → IsTurn script before (entry_for place t S d) (perform t d.moves S)
+  turn-joins d regular is does = record {
     book = record {
       served = served-same script _ (reading (before ++ e ∷ [])) (perform t d.moves S) same whole;
       letters = letters-quiet script before S (perform t d.moves S) e book.letters unlinked q (λ p among. unended p.server);
@@ -129,7 +130,7 @@ module _ (script : Script) (before : List Entry) (S : State) (place : ℕ) (t : 
       whole : Served script r3 (perform t d.moves S)
       whole = subst (λ (l : List Move). Served script r3 (perform t l S)) (sym is.moves)
           (served-keeps script r2 mid (perform t is.back mid) t is.back d.step gs served2 keeps
-          (λ v. let a = is.even.dooms v in let b = ap (total (closed_bit v)) is.moves in let c = ap (total (doomed_bit v)) is.moves in let f = doom-told t is.back mid v in omega arith)
+          (λ v. let a = regular.dooms v in let b = ap (total (closed_bit v)) is.moves in let c = ap (total (doomed_bit v)) is.moves in let f = doom-told t is.back mid v in omega arith)
           (λ v. doom-among t is.back mid v)
           (λ v row there. ap (λ (b : Bool). if b then handles_lost gs v else 0) is.step)
           (λ making. absurd (cc)) (λ v some. let none = detach-none v is.back is.quiet in absurd (omega arith)))
@@ -141,7 +142,7 @@ module _ (script : Script) (before : List Entry) (S : State) (place : ℕ) (t : 
       same = same-then r3 (further r1 d.step (hs ++ gs) (λ k. 0 + steps_of t is.back k)) (reading (before ++ e ∷ [])) (same-both r1 d.step hs gs (λ k. 0) (steps_of t is.back))
           (same-then (further r1 d.step (hs ++ gs) (λ k. 0 + steps_of t is.back k)) (further (reading before) d.step e.effects (λ k. steps_of t (one ∷ []) k + (0 + steps_of t is.back k))) (reading (before ++ e ∷ []))
           (subst (λ (l : List Effect). IsSame (further r1 d.step (hs ++ gs) (λ k. 0 + steps_of t is.back k)) (further (reading before) d.step l (λ k. steps_of t (one ∷ []) k + (0 + steps_of t is.back k)))) (sym told_all) (same-both (reading before) d.step fs (hs ++ gs) (steps_of t (one ∷ [])) (λ k. 0 + steps_of t is.back k)))
-          (same-entry before e (λ k. steps_of t (one ∷ []) k + (0 + steps_of t is.back k)) (λ k. let a = counts t is.back d k (let b = is.even.answers in let c = ap (total advance_bit) is.moves in omega arith) in let none = if_zero (t.0 == k) (total advance_bit (one ∷ [])) refl in omega arith)))
+          (same-entry before e (λ k. steps_of t (one ∷ []) k + (0 + steps_of t is.back k)) (λ k. let a = counts t is.back d k (let b = regular.answers in let c = ap (total advance_bit) is.moves in omega arith) in let none = if_zero (t.0 == k) (total advance_bit (one ∷ [])) refl in omega arith)))
 
       apart : (p : Post) → Contains (posts S) p → ((next_object S).0 ≡ p.session.0 → ⊥)
       apart p among at =

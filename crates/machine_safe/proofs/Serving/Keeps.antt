@@ -14,18 +14,18 @@ use Rattle.machine.specs.declared.message_move.MessageMove.TheVariants.{Take}
 use Rattle.machine.specs.declared.server_move.ServerMove.TheVariants.{CloseAll, SetOpen}
 use Rattle.machine.specs.declared.state.State.{State}
 use Rattle.machine.specs.References.{same, total}
-use Rattle.machine_safe.specs.Served.{ends, owner_told, server_told, or_before, handles_lost, is_handle}
-use Rattle.machine_safe.proofs.Deaths.Other.{advance_bit, closed_bit, mutex_bit, serving_bit, doomed_bit}
-use Rattle.machine_safe.proofs.Serving.EffectSums.{ends-append, owner_told-append, server_told-append, handles_lost-append, used_told-append}
+use Rattle.machine_safe.specs.Served.{ends, owner_told, server_told, or_before, handles_lost}
+use Rattle.machine_laws.proofs.Fitting.Regular.{advance_bit, closed_bit, mutex_bit, serving_bit, doomed_bit}
+use Rattle.machine_safe.proofs.Serving.EffectSums.{ends-append, owner_told-append, server_told-append, handles_lost-append}
 use Rattle.move_laws.proofs.References.Same.{if_zero}
 use Rattle.machine.specs.Serving.{times_owned}
 use Rattle.std.proofs.lemmas.Bool.{cases_lt}
-use Rattle.machine.specs.Moves.{told}
 use Rattle.machine.specs.Rows.{object_of}
 use Rattle.machine.specs.WellFormed.{IsAlive}
 use Rattle.machine_safe.specs.Slotted.{used_told}
 use Rattle.state_rows.specs.ServerChanges.{detached}
 use Rattle.state_rows.specs.declared.servers.SessionRow.{SessionRow}
+use Rattle.machine.specs.EntryWords.{is_handle}
 
 -- 1 for a move by which a server comes, closes by its handle or ends, or a session is joined
 abbrev pub changing_bit : Move → ℕ
@@ -128,7 +128,7 @@ StillLinked T ms s v = (server_of T.servers s ≡ Some v) ⊎ ((IsAlive (object_
 abbrev pub steps_of : ObjNo → List Move → ℕ → ℕ
 steps_of t ms k = if t.0 == k then total advance_bit ms else 0
 
-steps-then : (t : ObjNo) (m : Move) (ms : List Move) (k : ℕ) → steps_of t (m ∷ ms) k ≡ steps_of t (m ∷ []) k + steps_of t ms k
+pub steps-then : (t : ObjNo) (m : Move) (ms : List Move) (k : ℕ) → steps_of t (m ∷ ms) k ≡ steps_of t (m ∷ []) k + steps_of t ms k
 steps-then t m ms k = by (t.0 == k)
   where
     by : (b : Bool) → (if b then total advance_bit (m ∷ ms) else 0) ≡ (if b then total advance_bit (m ∷ []) else 0) + (if b then total advance_bit ms else 0)
@@ -144,7 +144,6 @@ pub record Keeps (S T : State) (t : ObjNo) (ms : List Move) (effects : List Effe
   pub owned : T.owned ≡ S.owned
   pub doomed : (u o : ObjNo) → 0 < total (doomed_bit u) ms → 0 < times_owned T.owned u o → is_closing T.servers o ≡ true
   pub objects : length S.objects ≤ length T.objects
-  pub uses : (u o : ObjNo) (row : ThreadRow) → get_or T.threads u.0 None ≡ Some row → row.uses ≡ Some o → UsesTold S.threads effects u o
   pub alive : (o : ObjNo) → o.0 < length S.objects → IsAlive (object_of T o) → IsAlive (object_of S o)
   pub slots : (s : ObjNo) (row : SessionRow) → session_at T.servers s ≡ Some row → WasSession S.servers s row
   pub linked : (s v : ObjNo) → s.0 < length S.objects → server_of S.servers s ≡ Some v → StillLinked T ms s v
@@ -162,7 +161,6 @@ keeps-none S t = record {
   owned = refl;
   doomed = λ u o some owned. absurd (omega arith);
   objects = omega arith;
-  uses = λ u o row is uses. inr (refl, record { old = row; was = is; uses = uses });
   alive = λ o made is. is;
   slots = λ s row is. record { old = row; was = is; slots = refl };
   linked = λ s v made is. inl is;
@@ -194,15 +192,6 @@ keeps-closing S T t ms effects o h is =
     let own : first.0 ≡ was.old = cc in
     ap closes now.1 ∙ was.still (sym (ap (λ (z : ServerRow). z.is_closing) own) ∙ first.2)
 
-uses-then : (first second : List (Option ThreadRow)) (es fs : List Effect) (u o : ObjNo) → ((old : ThreadRow) → get_or second u.0 None ≡ Some old → old.uses ≡ Some o → UsesTold first es u o) → UsesTold second fs u o → UsesTold first (es ++ fs) u o
-uses-then first second es fs u o before last = elim last as (λ _. UsesTold first (es ++ fs) u o) [
-  | inl told ↦ inl (used_told-append es fs u ∙ ap (λ (x : Option ObjNo). or_before x (used_told es u)) told)
-  | inr same ↦ elim (before same.1.old same.1.was same.1.uses) as (λ _. UsesTold first (es ++ fs) u o) [
-    | inl told ↦ inl (used_told-append es fs u ∙ (ap (λ (x : Option ObjNo). or_before x (used_told es u)) same.0 ∙ told))
-    | inr also ↦ inr (used_told-append es fs u ∙ (ap (λ (x : Option ObjNo). or_before x (used_told es u)) same.0 ∙ also.0), also.1)
-  ]
-]
-
 pub keeps-then : (S T U : State) (t : ObjNo) (m : Move) (ms : List Move) (es fs : List Effect) → Keeps S T t (m ∷ []) es → Keeps T U t ms fs → Keeps S U t (m ∷ ms) (es ++ fs)
 keeps-then S T U t m ms es fs h g = record {
   servers = λ o row is.
@@ -223,7 +212,6 @@ keeps-then S T U t m ms es fs h g = record {
     | inr none ↦ keeps-closing T U t ms fs o g (h.doomed u o (omega arith) (subst (λ (l : List (List ObjNo)). 0 < times_owned l u o) g.owned owned))
   ];
   objects = let a = h.objects in let b = g.objects in omega arith;
-  uses = λ u o row is used. uses-then S.threads T.threads es fs u o (λ old was uses. h.uses u o old was uses) (g.uses u o row is used);
   alive = λ o made is. h.alive o made (g.alive o (let a = h.objects in omega arith) is);
   slots = λ s row is. let two = g.slots s row is in let one = h.slots s two.old two.was in record { old = one.old; was = one.was; slots = one.slots ∙ two.slots };
   linked = λ s v made is. elim (h.linked s v made is) as (λ _. StillLinked U (m ∷ ms) s v) [

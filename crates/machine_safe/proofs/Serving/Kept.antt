@@ -11,7 +11,7 @@ use Rattle.machine.specs.declared.moves.Move.TheVariants.{Lose, Pay, Death}
 use Rattle.machine.specs.declared.state.State.{State}
 use Rattle.machine_laws.proofs.Fitting.Living.{alive_inside, handle_is_alive}
 use Rattle.machine_safe.proofs.Serving.Keeps.{Keeps, changing_bit, keeps-none, keeps-then, StillLinked}
-use Rattle.machine_safe.proofs.Serving.KeptRows.{at-closed, at-move, at-same, at-steps, closed-long, link-closed, link-move, objects-move, owned-move, server-move, server-same, there-move}
+use Rattle.machine_safe.proofs.Serving.KeptRows.{at-pay, at-move, at-steps, closed-long, link-closed, link-move, objects-move, owned-move, server-move, server-same, there-move}
 use Rattle.machine_safe.proofs.Serving.Quiet.{lost-move, pay-lost}
 use Rattle.machine_safe.proofs.Serving.Told.{unlinking-close, unlinking-move, unowned-close, unowned-move}
 use Rattle.machine_safe.specs.Served.{handles_lost}
@@ -25,13 +25,12 @@ use Rattle.state_rows.specs.ServerRows.{server_at, is_closing}
 use Rattle.state_rows.specs.declared.duty.Owed.{Owed}
 use Rattle.state_rows.specs.declared.duty.Owed.TheVariants.{Close, Sweep}
 use Rattle.state_rows.specs.declared.servers.ServerRow.{ServerRow}
-use Rattle.state_rows.specs.declared.thread.ThreadRow.{ThreadRow}
 use Rattle.std.proofs.Common.{List, None, Option, Some, [], ap, arith, get_or, length, length-set, refl, ℕ, ◌+◌, ◌<◌, ◌∷◌, ◌≡◌, ◌≤◌, subst, sym, true, inl, inr}
 use Rattle.sym_base.specs.declared.number.ObjNo.{ObjNo}
 use Rattle.machine.specs.Serving.{times_owned}
-use Rattle.machine_safe.proofs.Deaths.Other.{doomed_bit}
+use Rattle.machine_laws.proofs.Fitting.Regular.{doomed_bit}
 use Rattle.machine.specs.declared.death_move.DeathMove.TheVariants.{Doom}
-use Rattle.machine_safe.proofs.Serving.KeptUses.{alive-closed, alive-move, linked-closed, linked-move, session-closed, session-move, unused-close, uses-move, using-closed}
+use Rattle.machine_safe.proofs.Serving.KeptUses.{alive-closed, alive-move, linked-closed, linked-move, session-closed, session-move}
 use Rattle.state_rows.specs.declared.object.ObjectRow.{ObjectRow}
 
 -- each server was made
@@ -64,7 +63,6 @@ keeps-move script S t m rows made fits none = record {
   owned = owned-move script S t m made fits none;
   doomed = doomed-move script S t m fits;
   objects = objects-move script S t m fits;
-  uses = λ u o row is uses. uses-move script S t m fits u o row is uses;
   alive = alive-move script S t m fits;
   slots = session-move script S t m fits none;
   linked = λ s v inside is. linked-move script S t m fits none s v is;
@@ -96,14 +94,13 @@ keeps-pay script S t (Close h o) rest rows owes = record {
   owned = refl;
   doomed = λ u x some owned. absurd (omega arith);
   objects = let a = closed-long (dies S o) o S.objects in omega arith;
-  uses = λ u x row is uses. inr (unused-close (dies S o) h o u, using-closed (dies S o) o S.threads u x row is uses);
   alive = λ x inside alive. alive-closed (dies S o) o S.objects x alive;
   slots = λ s row is. session-closed (dies S o) o S.servers s row is;
   linked = λ s v inside is. elim (linked-closed (dies S o) o S.objects S.servers s v is) as (λ _. StillLinked (moved t (Pay (Close h o)) S) (Pay (Close h o) ∷ []) s v) [
     | inl still ↦ inl still
     | inr dead ↦ inr (inl dead)
   ];
-  threads = λ k row is. at-steps S.threads t (Pay (Close h o) ∷ []) k row refl (at-closed (dies S o) o S.threads k row is);
+  threads = λ k row is. at-steps S.threads t (Pay (Close h o) ∷ []) k row refl (at-pay S t (Close h o) k row is);
   unlinked = (unlinking-close (dies S o) h o).unlinked;
   unended = (unlinking-close (dies S o) h o).unended;
   lost = λ v past. pay-lost script S t (Close h o) rest v rows owes;
@@ -116,11 +113,10 @@ keeps-pay script S t (Sweep o) rest rows owes = record {
   owned = refl;
   doomed = λ u x some owned. absurd (omega arith);
   objects = let a = length-set S.objects o.0 None in omega arith;
-  uses = λ u x row is uses. inr (refl, record { old = row; was = set_item (λ (y : Option ThreadRow). y ≡ Some row → get_or S.threads u.0 None ≡ Some row) S.threads o.0 u.0 None None (λ at e. absurd (cc)) (λ e. e) is; uses = uses });
   alive = λ x inside alive. set_item (λ (y : Option ObjectRow). IsAlive y → IsAlive (get_or S.objects x.0 None)) S.objects o.0 x.0 None None (λ at none. absurd none) (λ e. e) alive;
   slots = λ s row is. record { old = row; was = is; slots = refl };
   linked = λ s v inside is. inl is;
-  threads = λ k row is. at-steps S.threads t (Pay (Sweep o) ∷ []) k row refl (at-same S.threads k row (set_item (λ (x : Option ThreadRow). x ≡ Some row → get_or S.threads k None ≡ Some row) S.threads o.0 k None None (λ at e. absurd (cc)) (λ e. e) is));
+  threads = λ k row is. at-steps S.threads t (Pay (Sweep o) ∷ []) k row refl (at-pay S t (Sweep o) k row is);
   unlinked = λ s. refl;
   unended = λ v. refl;
   lost = λ v past. refl;

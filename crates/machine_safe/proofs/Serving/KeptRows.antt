@@ -15,7 +15,7 @@ use Rattle.machine.specs.declared.moves.Move.{Move}
 use Rattle.machine.specs.declared.moves.Move.TheVariants.{Advance, Death, Find, Gain, GoOn, Keep, Lose, Make, Pay, PutDown, Servers, SetPriority, Wait, Wake, Write, WriteMessage}
 use Rattle.machine.specs.declared.server_move.ServerMove.TheVariants.{CloseAll, SetOpen}
 use Rattle.machine.specs.declared.state.State.{State}
-use Rattle.machine_safe.proofs.Deaths.Other.{advance_bit}
+use Rattle.machine_laws.proofs.Fitting.Regular.{advance_bit}
 use Rattle.machine_safe.proofs.Serving.Keeps.{WasAt, WasServer, changing_bit, steps_of}
 use Rattle.move_laws.proofs.Holders.ThreadRows.{row-here, row-other}
 use Rattle.move_laws.proofs.Lists.Mapped.{made-here, made-other, mapped-some}
@@ -33,6 +33,9 @@ use Rattle.std.proofs.Common.{Bool, List, None, Option, Some, [], ap, arith, fal
 use Rattle.std.proofs.lemmas.Bool.{cases_eq, eq-eqb}
 use Rattle.std.specs.Prelude.{is_some, option_map, slice_set, ◌==◌}
 use Rattle.sym_base.specs.declared.number.ObjNo.{ObjNo}
+use Rattle.state_rows.specs.declared.duty.Owed.{Owed}
+use Rattle.state_rows.specs.declared.duty.Owed.TheVariants.{Close, Sweep}
+use Rattle.state_rows.proofs.SoundChanges.{set_item}
 
 -- rows of servers that are the same
 pub server-same : (r : ServerRows) (ms : List Move) (o : ObjNo) (row : ServerRow) → server_at r o ≡ Some row → WasServer r ms o row
@@ -221,3 +224,8 @@ at-move script S t (SetPriority u priority) fits k row is = at-steps S.threads t
 at-move script S t (Death m) fits k row is = at-steps S.threads t (Death m ∷ []) k row refl (at-dies S.threads m k row is)
 at-move script S t (Pay what) fits k row is = absurd fits
 at-move script S t m fits k row is = at-steps S.threads t (m ∷ []) k row refl (at-same S.threads k row is)
+
+-- what is owed is paid
+pub at-pay : (S : State) (t : ObjNo) (what : Owed) (k : ℕ) (row : ThreadRow) → get_or (moved t (Pay what) S).threads k None ≡ Some row → WasAt S.threads k 0 row
+at-pay S t (Close h o) k row is = at-closed (dies S o) o S.threads k row is
+at-pay S t (Sweep o) k row is = at-same S.threads k row (set_item (λ (x : Option ThreadRow). x ≡ Some row → get_or S.threads k None ≡ Some row) S.threads o.0 k None None (λ at e. absurd (cc)) (λ e. e) is)

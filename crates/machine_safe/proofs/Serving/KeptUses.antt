@@ -50,9 +50,12 @@ use Rattle.state_rows.specs.declared.servers.ServerRows.{ServerRows}
 use Rattle.state_rows.specs.declared.servers.SessionRow.{SessionRow}
 use Rattle.state_rows.specs.declared.thread.ThreadRow.{ThreadRow}
 use Rattle.std.proofs.lemmas.Bool.{cases_eq, eq-eqb}
-use Rattle.std.specs.Prelude.{option_map, slice_set}
+use Rattle.std.specs.Prelude.{option_map, slice_set, if◌then◌else◌, ◌==◌}
 use Rattle.sym_base.specs.declared.number.ObjNo.{ObjNo}
 use Rattle.std.proofs.Math.ListN.{get_or-append}
+use Rattle.machine_laws.proofs.Fitting.Regular.{gained_bit, use_bit}
+use Rattle.state_rows.specs.declared.duty.Owed.{Owed}
+use Rattle.state_rows.specs.declared.duty.Owed.TheVariants.{Close, Sweep}
 
 using-same : (threads : List (Option ThreadRow)) (u o : ObjNo) (row : ThreadRow) → get_or threads u.0 None ≡ Some row → row.uses ≡ Some o → WasUsing threads u o
 using-same threads u o row is uses = record { old = row; was = is; uses = uses }
@@ -162,6 +165,37 @@ uses-move script S t (Servers m) fits u o row is uses = inr (unused-server m u, 
 uses-move script S t (Messages m) fits u o row is uses = inr (unused-message m S.messages u, using-same S.threads u o row is uses)
 uses-move script S t (Pay what) fits u o row is uses = absurd fits
 uses-move script S t m fits u o row is uses = inr (refl, using-same S.threads u o row is uses)
+
+-- a move by which a thread comes to use nothing tells of no use
+unused-plus : (h : Holder) (x u : ObjNo) → gained_bit u h ≡ 0 → used_told (effect.Plus h x ∷ []) u ≡ None
+unused-plus (Temp v) x u none = by (v.0 == u.0) none
+  where
+    by : (b : Bool) → ◌≡◌ {A = ℕ} (if b then 1 else 0) 0 → one_if b x ≡ None
+    by true none = absurd (omega arith)
+    by false none = refl
+unused-plus _ x u none = refl
+
+pub unused-move : (script : Script) (S : State) (t : ObjNo) (m : Move) → FitsMove script t m S → (u : ObjNo) → use_bit u m ≡ 0 → used_told (told m S) u ≡ None
+unused-move script S t (Make kind name h) fits u none = unused-plus h (next_object S) u none
+unused-move script S t (Gain h x) fits u none = unused-plus h x u none
+unused-move script S t (Lose h x) fits u none = unused-close (dies S x) h x u
+unused-move script S t (Nano m) fits u none = unused-nano m u
+unused-move script S t (Requests m) fits u none = unused-request m u
+unused-move script S t (Locks m) fits u none = unused-lock m u
+unused-move script S t (Death m) fits u none = unused-death m u
+unused-move script S t (Servers m) fits u none = unused-server m u
+unused-move script S t (Messages m) fits u none = unused-message m S.messages u
+unused-move script S t (Pay what) fits u none = absurd fits
+unused-move script S t m fits u none = refl
+
+-- and so it is where what is owed is paid
+pub unused-pay : (S : State) (what : Owed) (u : ObjNo) → used_told (told (Pay what) S) u ≡ None
+unused-pay S (Close h o) u = unused-close (dies S o) h o u
+unused-pay S (Sweep o) u = refl
+
+pub using-pay : (S : State) (t : ObjNo) (what : Owed) (u o : ObjNo) (row : ThreadRow) → get_or (moved t (Pay what) S).threads u.0 None ≡ Some row → row.uses ≡ Some o → WasUsing S.threads u o
+using-pay S t (Close h x) u o row is uses = using-closed (dies S x) x S.threads u o row is uses
+using-pay S t (Sweep x) u o row is uses = record { old = row; was = set_item (λ (y : Option ThreadRow). y ≡ Some row → get_or S.threads u.0 None ≡ Some row) S.threads x.0 u.0 None None (λ at e. absurd (cc)) (λ e. e) is; uses = uses }
 
 -- an object that is alive was alive, if it was made
 dead_not : (x : Option ObjectRow) → IsAlive (dead_row x) → ⊥

@@ -22,8 +22,9 @@ use Rattle.std.specs.Prelude.{Contains, if◌then◌else◌, ◌==◌, filter, n
 use Rattle.sym_base.specs.declared.number.MsgNo.{MsgNo}
 use Rattle.sym_base.specs.declared.number.ObjNo.{ObjNo}
 use Rattle.machine_safe.proofs.Serving.Slots.{over-append, sends-less, sends-more, sends-quiet, sent_of, slots-kept, over}
-use Rattle.machine_safe.specs.Slotted.{SentOver, is_send, outstanding_in, sent_told, slots_in}
+use Rattle.machine_safe.specs.Slotted.{SentOver, outstanding_in, sent_told, slots_in}
 use Rattle.std.proofs.lemmas.List.{append-nil}
+use Rattle.machine.specs.EntryWords.{is_send}
 
 -- what is known of an outstanding message
 pub record Known (script : Script) (before : List Entry) (p : Post) : Type 0 where

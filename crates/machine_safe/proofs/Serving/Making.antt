@@ -12,14 +12,14 @@ use Rattle.machine.specs.declared.moves.Move.TheVariants.{Make, Servers}
 use Rattle.machine.specs.declared.server_move.ServerMove.TheVariants.{Join, Start}
 use Rattle.machine.specs.declared.state.State.{State}
 use Rattle.machine_safe.proofs.Deaths.EffectSums.{dooms-append}
-use Rattle.machine_safe.proofs.Serving.EffectSums.{ends-append, server_told-append, used_told-append}
+use Rattle.machine_safe.proofs.Serving.EffectSums.{ends-append, server_told-append}
 use Rattle.machine_safe.proofs.Serving.Keeps.{closing-row}
 use Rattle.machine_safe.proofs.Serving.Reading.{Reading, closing_by, further}
 use Rattle.machine_safe.proofs.Serving.Served.{IsServed, Served, closing-count}
 use Rattle.machine_safe.specs.SafeDeaths.{dooms}
-use Rattle.machine_safe.specs.Served.{closes_handle, ends, handles_lost, makes_server, one_if, or_before, owner_told, server_told}
+use Rattle.machine_safe.specs.Served.{closes_handle, ends, handles_lost, one_if, or_before, owner_told, server_told}
 use Rattle.move_laws.proofs.References.Mutexes.{held-holding}
-use Rattle.move_laws.proofs.References.Same.{eqb_apart, if_is}
+use Rattle.move_laws.proofs.References.Same.{eqb_apart, if_is, if_not, if_zero}
 use Rattle.script_types.specs.declared.script.Script.{Script}
 use Rattle.state_rows.proofs.SoundChanges.{set_item}
 use Rattle.state_rows.specs.ServerChanges.{new_session, closing}
@@ -34,6 +34,7 @@ use Rattle.sym_base.specs.declared.kind.Slots.{Slots}
 use Rattle.sym_base.specs.declared.number.ObjNo.{ObjNo}
 use Rattle.machine.specs.References.{same}
 use Rattle.std.proofs.Math.ListN.{get_or-append}
+use Rattle.machine.specs.EntryWords.{makes_server}
 
 -- a thread that is live was doomed in nothing that was told
 abbrev pub Undoomed : Reading → ObjNo → Type 0
@@ -62,6 +63,14 @@ module _ (script : Script) (r : Reading) (S : State) (t : ObjNo) (done : Step) (
     ];
     links = λ s o is. server_told-append r.effects fs s ∙ h.links s o (link-kept s o is);
     ended = λ o some. let a = ends-append r.effects fs o in closing_kept o (h.ended o (omega arith));
+    over = λ u o some.
+        let was : 0 < ends r.effects o = let a = ends-append r.effects fs o in omega arith in
+        let row = closing-row (server_at S.servers o) (h.ended o was) in
+        let made_first = (h.rows o row.0 row.1).made in
+        let count = held-holding S.owned t (next_object S) u o inside in
+        let none : same (next_object S) o ≡ 0 = if_not ((next_object S).0 == o.0) 1 (eqb_apart (next_object S).0 o.0 (λ at. absurd (omega arith))) in
+        let zero = if_zero (t.0 == u.0) (same (next_object S) o) none in
+        let old = h.over u o was in omega arith;
     made = λ u o is. elim (cases_eq (next_object S).0 o.0) as (λ _. (0 < times_owned (made name).owned u o) ⊎ (0 < ends told.effects o)) [
       | inl at ↦
           let now : told.owner o ≡ Some t = owner_here o at in
@@ -75,7 +84,6 @@ module _ (script : Script) (r : Reading) (S : State) (t : ObjNo) (done : Step) (
     ];
     unmade = λ o past. let a = more-objects S (Some (new_object kind.Server name)) in let old = h.unmade o (omega arith) in let none = closings_same o in omega arith;
     places = λ k row is. let old = h.places k row is in record { first = old.first; is = old.is; role = old.role; place = let a = old.place in omega arith };
-    uses = λ u o row is used. used_told-append r.effects fs u ∙ h.uses u o row is used;
     told_made = λ s v is. let a = more-objects S (Some (new_object kind.Server name)) in let inside = h.told_made s v (sym (server_told-append r.effects fs s) ∙ is) in omega arith;
     told_linked = λ s v is alive.
         let was : server_told r.effects s ≡ Some v = sym (server_told-append r.effects fs s) ∙ is in
@@ -172,13 +180,13 @@ module _ (script : Script) (r : Reading) (S : State) (t : ObjNo) (done : Step) (
           ∙ h.links x o (sym (ap link_of (get_or-set_other S.servers.sessions s.0 x.0 (Some (new_session v slots t)) None (λ e. apart (sym e)))) ∙ is))
     ];
     ended = λ o some. let a = ends-append r.effects fs o in closing_kept o (h.ended o (omega arith));
+    over = λ u o some. h.over u o (let a = ends-append r.effects fs o in omega arith);
     made = λ u o is. elim (h.made u o (sym (owner_same o) ∙ is)) as (λ _. (0 < times_owned S.owned u o) ⊎ (0 < ends told.effects o)) [
       | inl owned ↦ inl owned
       | inr over ↦ inr (let a = ends-append r.effects fs o in omega arith)
     ];
     unmade = λ o past. let old = h.unmade o past in let none = closings_same o in omega arith;
     places = λ k row is. let old = h.places k row is in record { first = old.first; is = old.is; role = old.role; place = let a = old.place in omega arith };
-    uses = λ u o row is used. used_told-append r.effects fs u ∙ h.uses u o row is used;
     told_made = λ x o is. elim (cases_eq s.0 x.0) as (λ _. x.0 < length S.objects) [
       | inl at ↦ let inside = may.made in omega arith
       | inr apart ↦ h.told_made x o (before_join x o apart is)

@@ -13,8 +13,8 @@ use Rattle.machine.specs.declared.message_move.MessageMove.TheVariants.{Accept}
 use Rattle.machine.specs.declared.moves.Move.{Move}
 use Rattle.machine.specs.declared.moves.Move.TheVariants.{Messages}
 use Rattle.machine.specs.declared.state.State.{State}
-use Rattle.machine_safe.proofs.Deaths.Other.{serving_bit}
-use Rattle.machine_safe.proofs.Serving.Deeds.{IsSending, status_of_way, IsAnswered}
+use Rattle.machine_laws.proofs.Fitting.Regular.{serving_bit}
+use Rattle.machine_safe.proofs.Serving.Deeds.{IsSending, Looked, status_of_way, IsAnswered}
 use Rattle.machine_safe.proofs.Serving.Doing.{Doing, IsGoing, fits-front, going, keeps-doing, perform-append, tell-append}
 use Rattle.machine_safe.proofs.Serving.Keeps.{Keeps, changing-none, changing_bit, message-none, message_bit, there-row}
 use Rattle.machine_safe.proofs.Serving.Letters.{letters-more}
@@ -23,7 +23,7 @@ use Rattle.machine_safe.proofs.Serving.Reading.{reading}
 use Rattle.machine_safe.proofs.Serving.Served.{served-made}
 use Rattle.machine_safe.proofs.Serving.Turns.{Book, IsTurn, entry_for, served-doing, sent-answer}
 use Rattle.machine_safe.specs.CountAfter.{effects_of, is_by}
-use Rattle.machine_safe.specs.Sent.{Accepts, accepts, finishes, instruction_in, status_by}
+use Rattle.machine_safe.specs.Sent.{Accepts, accepts, accepts_by, finishes, instruction_in, status_by}
 use Rattle.machine_safe.specs.Served.{ends, is_closing_in, server_told}
 use Rattle.move_laws.proofs.Lists.Totals.{total-append}
 use Rattle.move_laws.proofs.Lives.LivesMove.{zero_or}
@@ -41,12 +41,14 @@ use Rattle.sym_base.specs.declared.number.ObjNo.{ObjNo}
 use Rattle.std.proofs.lemmas.List.{map-append}
 use Rattle.machine.specs.Messaging.{slots_of_row}
 use Rattle.machine_safe.proofs.Serving.Slots.{sent_of, slotted-keeps}
-use Rattle.machine_safe.specs.Slotted.{is_send, sent_told, slots_in}
+use Rattle.machine_safe.specs.Slotted.{sent_told, slots_in}
 use Rattle.state_rows.specs.MessageRows.{is_async}
 use Rattle.state_rows.specs.declared.messages.Way.{Way}
 use Rattle.state_rows.specs.declared.messages.Way.TheVariants.{Async, Disconnect, Sync}
 use Rattle.state_rows.specs.declared.servers.SessionRow.{SessionRow}
 use Rattle.std.specs.Prelude.{if◌then◌else◌}
+use Rattle.machine.specs.EntryWords.{is_send}
+use Rattle.machine_laws.proofs.Fitting.Regular.{IsRegular, Kinds}
 
 -- what moves do in which one message is accepted
 record IsPosted (S T : State) (t : ObjNo) (slots : Slots) (row : MsgRow) (effects : List Effect) : Type 0 where
@@ -92,11 +94,11 @@ session-row : (x : Option SessionRow) (v : ObjNo) → link_of x ≡ Some v → (
 session-row None v e = absurd (cc)
 session-row (Some row) v e = (row, refl)
 
-module _ (script : Script) (before : List Entry) (S : State) (place : ℕ) (t : ObjNo) (rows : AreRows script S) (book : Book script before S) where
-  pub turn-sends : (d : Decision) → IsSending S t (instruction_in script before t) d → Doing script S t d.moves → IsTurn script before (entry_for place t S d) (perform t d.moves S)
-  turn-sends d is does = record {
+module _ (script : Script) (before : List Entry) (S : State) (place : ℕ) (t : ObjNo) (rows : AreRows script S) (book : Book script before S) (looked : Looked script before S) where
+  pub turn-sends : {k : Kinds} (d : Decision) → IsRegular k script S t d → IsSending S t (instruction_in script before t) d → Doing script S t d.moves → IsTurn script before (entry_for place t S d) (perform t d.moves S)
+  turn-sends d regular is does = record {
     book = record {
-      served = served-doing script before S place t rows book d does changing is.even is.closed (λ v some. let none = is.detached v in absurd (omega arith));
+      served = served-doing script before S place t rows book d does changing regular is.closed (λ v some. let none = is.detached v in absurd (omega arith));
       letters = letters-more script before S T e book.letters (λ p among. keeps.unlinked p.session) post p.posts p.more by p.next p.none p.unfinished refl refl linked (keeps.unlinked is.row.session) keeps.unended lasts way slots sends;
       slotted = slotted-keeps script before e S T book.slotted keeps.unlinked keeps.slots p.pool;
     };
@@ -107,6 +109,7 @@ module _ (script : Script) (before : List Entry) (S : State) (place : ℕ) (t : 
         number = let a = p.next in let b = book.letters.accepted in omega arith;
         only = p.none;
         client = ap (λ (u : ObjNo). is_by u (Thread t)) is.client ∙ eq-eqb t.0 t.0 refl;
+        step = ap (accepts_by d.step) way ∙ is.named;
         server = is.row.server;
         linked = linked;
         accepting = accepting;
@@ -114,7 +117,7 @@ module _ (script : Script) (before : List Entry) (S : State) (place : ℕ) (t : 
       };
       finish = λ m some. let a = p.unfinished m in absurd (omega arith);
       end = λ v some. let a = keeps.unended v in absurd (omega arith);
-      send = λ asked. sent-answer script before S place t d is.row.session is.row.server rows book is.linked is.accepting (let a = ap accepts p.told in let b = p.none in omega arith) (subst (λ (x : Slots). IsAnswered S t is.row.session x d) is.of_session (is.send asked));
+      send = λ asked. sent-answer script before S place t d is.row.session is.row.server rows book looked is.linked is.accepting (let a = ap accepts p.told in let b = p.none in omega arith) (subst (λ (x : Slots). IsAnswered S t (instruction_in script before t) is.row.session x d) is.of_session (is.send asked));
     };
   }
     where

@@ -25,7 +25,7 @@ use Rattle.machine.specs.declared.state.State.{State}
 use Rattle.machine_safe.proofs.Serving.EffectSums.{accepts-append, finishes-append, handles_lost-append}
 use Rattle.machine_safe.proofs.Serving.Keeps.{lost_bit, message_bit}
 use Rattle.machine_safe.proofs.Serving.Told.{close-accepts, close-finishes, close-lost, unserved-move}
-use Rattle.machine_safe.specs.Served.{handles_lost, is_handle}
+use Rattle.machine_safe.specs.Served.{handles_lost}
 use Rattle.move_laws.proofs.MoveLaws.CopyMoves.{copy_accepts}
 use Rattle.move_laws.proofs.RowLaws.Rising.{edited-value}
 use Rattle.script_types.specs.declared.script.Script.{Script}
@@ -43,6 +43,7 @@ use Rattle.sym_base.specs.declared.number.MsgNo.{MsgNo}
 use Rattle.sym_base.specs.declared.number.ObjNo.{ObjNo}
 use Rattle.machine_safe.specs.Sent.{accepts, finishes}
 use Rattle.sym_base.specs.declared.kind.Slots.{Slots}
+use Rattle.machine.specs.EntryWords.{is_handle}
 
 -- what stays of an outstanding message until it is finished
 pub record Post : Type 0 where

@@ -5,12 +5,13 @@ use Rattle.entry_log.specs.declared.step.Step.{Step}
 use Rattle.machine_safe.proofs.Deaths.Cut.{effects-append}
 use Rattle.machine_safe.proofs.Serving.EffectSums.{handles_lost-append, or-none, or-three, owner_told-append}
 use Rattle.machine_safe.specs.CountAfter.{effects_of}
-use Rattle.machine_safe.specs.Served.{closes_handle, handles_lost, is_doomed, makes_server, or_before, owner_in, owner_told, closings}
+use Rattle.machine_safe.specs.Served.{closes_handle, handles_lost, is_doomed, or_before, owner_in, owner_told, closings}
 use Rattle.std.proofs.Common.{Bool, List, None, Option, [], ap, append_assoc, arith, false, refl, sym, true, ℕ, ◌++◌, ◌+◌, ◌∙◌, ◌∷◌, ◌≡◌}
 use Rattle.std.proofs.lemmas.List.{append-nil}
 use Rattle.std.specs.Prelude.{if◌then◌else◌, nat_lt, ◌||◌}
 use Rattle.sym_base.specs.declared.number.ObjNo.{ObjNo}
 use Rattle.machine_safe.specs.Sent.{answers}
+use Rattle.machine.specs.EntryWords.{makes_server}
 
 pub record Reading : Type 0 where
   pub owner : ObjNo → Option ObjNo

@@ -14,13 +14,12 @@ use Rattle.machine.specs.declared.moves.Move.TheVariants.{Advance, GoOn, Keep, L
 use Rattle.machine.specs.declared.request_move.RequestMove.TheVariants.{SetPending}
 use Rattle.machine.specs.declared.server_move.ServerMove.TheVariants.{SetOpen}
 use Rattle.machine.specs.declared.state.State.{State}
-use Rattle.machine_laws.proofs.Fitting.Posting.{linked_server}
-use Rattle.machine_safe.proofs.Deaths.Other.{IsOther, either, none-then, other-answers, other-look, other-seek, other-unless, serving_bit}
-use Rattle.machine_safe.proofs.Deaths.ServerSteps.{none-post, none-receiver, other-call_to, other-connecting, other-failed, other-made_session, other-send_to}
-use Rattle.machine_safe.proofs.Serving.Deeds.{ClosesOthers, IsSending, OfEach, behind, status_of_way, calm, even, IsAnswered, IsSendOver}
+use Rattle.machine_laws.proofs.Fitting.Posting.{linked_server, tame-wake}
+use Rattle.machine_laws.proofs.Fitting.Regular.{plain, serving_bit}
+use Rattle.machine_safe.proofs.Serving.Deeds.{ClosesOthers, IsSending, OfEach, behind, status_of_way, calm, IsAnswered, IsSendOver, at_send}
 use Rattle.machine_safe.proofs.Serving.Keeps.{changing-none, changing_bit, message-none, message_bit, detach-none, detach_bit}
 use Rattle.machine_safe.specs.CountAfter.{opens}
-use Rattle.machine_safe.specs.Sent.{status_by}
+use Rattle.machine_safe.specs.Sent.{accepts_by, status_by}
 use Rattle.machine_safe.specs.Served.{closes_handle}
 use Rattle.move_laws.proofs.Lists.Cases.{if_cases}
 use Rattle.move_laws.proofs.Lists.Totals.{total-append}
@@ -53,9 +52,11 @@ use Rattle.machine.specs.declared.moves.Move.{Move}
 use Rattle.script_types.specs.declared.instruction.Instr.{Instr}
 use Rattle.sym_base.specs.declared.number.ObjNo.{ObjNo}
 use Rattle.machine.specs.Rows.{thread_of}
-use Rattle.machine_safe.specs.Slotted.{is_send, slots_of_connect}
+use Rattle.machine_safe.specs.Slotted.{slots_of_connect}
 use Rattle.state_rows.specs.ServerChanges.{detached}
 use Rattle.machine_safe.proofs.Serving.Slots.{over}
+use Rattle.machine.specs.EntryWords.{is_send}
+use Rattle.entry_log.specs.declared.effect.StatusNo.TheVariants as status
 
 -- the server that accepts is the session's, and isn't closing
 pub open_is : (S : State) (s o : ObjNo) → open_server S s ≡ Some o → is_closing S.servers o ≡ false
@@ -72,7 +73,7 @@ open_is S s o e = by (server_of S.servers s) e
 -- a receiver that wakes
 pub woken-quiet : (S : State) (o : ObjNo) (rest : List Move) → total serving_bit rest ≡ 0 → total serving_bit (wake_receiver S o (owner_of S.servers o) ++ rest) ≡ 0
 woken-quiet S o rest none =
-    let wakes = (none-receiver S o (owner_of S.servers o)).calm refl in
+    let wakes = (tame-wake {k = plain} S o (owner_of S.servers o)).calm refl in
     let both = total-append serving_bit (wake_receiver S o (owner_of S.servers o)) rest in omega arith
 
 pub behind-quiet : (answers : Bool) (t : ObjNo) → total serving_bit (behind answers t) ≡ 0
@@ -80,13 +81,12 @@ behind-quiet true t = refl
 behind-quiet false t = refl
 
 -- a sending whose moves are these: some before, that of the message, and a receiver that wakes
-pub sending : {S : State} {t : ObjNo} {at : Option Instr} (d : Decision) (front rest : List Move) (s o : ObjNo) (function : ℤ) (args : List Arg) (way : Way) → IsOther true d → d.moves ≡ front ++ (Messages (Accept (slots_of S s) (new_row s o t function args way)) ∷ (wake_receiver S o (owner_of S.servers o) ++ rest)) → tell t front S ≡ [] → total serving_bit front ≡ 0
-    → total changing_bit rest ≡ 0 → total message_bit rest ≡ 0 → open_server S s ≡ Some o → status_by d.step at ≡ status_of_way way → ClosesOthers S d → ((v : ObjNo) → total (detach_bit v) rest ≡ 0) → is_send d.step ≡ is_async way → (is_send d.step ≡ true → IsAnswered S t s (slots_of S s) d) → IsSending S t at d
-sending {S = S} {t = t} d front rest s o function args way other moves silent quiet changing still opens named closed detached asks sends =
+pub sending : {S : State} {t : ObjNo} {at : Option Instr} (d : Decision) (front rest : List Move) (s o : ObjNo) (function : ℤ) (args : List Arg) (way : Way) → d.moves ≡ front ++ (Messages (Accept (slots_of S s) (new_row s o t function args way)) ∷ (wake_receiver S o (owner_of S.servers o) ++ rest)) → tell t front S ≡ [] → total serving_bit front ≡ 0
+    → total changing_bit rest ≡ 0 → total message_bit rest ≡ 0 → open_server S s ≡ Some o → status_by d.step at ≡ status_of_way way → accepts_by d.step (status_of_way way) ≡ true → ClosesOthers S d → ((v : ObjNo) → total (detach_bit v) rest ≡ 0) → is_send d.step ≡ is_async way → (is_send d.step ≡ true → IsAnswered S t at s (slots_of S s) d) → IsSending S t at d
+sending {S = S} {t = t} d front rest s o function args way moves silent quiet changing still opens told named closed detached asks sends =
     let wakes = wake_receiver S o (owner_of S.servers o) in
-    let calm = (none-receiver S o (owner_of S.servers o)).calm refl in
+    let calm = (tame-wake {k = plain} S o (owner_of S.servers o)).calm refl in
     record {
-      even = even (other);
       front = front;
       back = wakes ++ rest;
       slots = slots_of S s;
@@ -99,7 +99,8 @@ sending {S = S} {t = t} d front rest s o function args way other moves silent qu
       client = refl;
       linked = linked_server S s o opens;
       accepting = open_is S s o opens;
-      way = named;
+      way = told;
+      named = named;
       closed = closed;
       detached = λ v.
           let all = ap (total (detach_bit v)) moves in
@@ -114,9 +115,8 @@ sending {S = S} {t = t} d front rest s o function args way other moves silent qu
     }
 
 -- `send`
-deed-send_to : (S : State) (t : ObjNo) (at : Option Instr) (P : Decision → Type 0) (s : ObjNo) (x function y : ℕ) (args : Args) (server : Option ObjNo) → IsSendOver S t s → at ≡ Some (instr.Send x function y args) → open_server S s ≡ server → OfEach S t at P → P (send_to S t s (pos function) y (args_of args) server)
+deed-send_to : (S : State) (t : ObjNo) (at : Option Instr) (P : Decision → Type 0) (s : ObjNo) (x function y : ℕ) (args : Args) (server : Option ObjNo) → IsSendOver S t at s → at ≡ Some (instr.Send x function y args) → open_server S s ≡ server → OfEach S t at P → P (send_to S t s (pos function) y (args_of args) server)
 deed-send_to S t at P s x function y args None over here e each = each.keeps _ (record {
-  even = even (other-send_to S t s (pos function) y (args_of args) None);
   changing = refl;
   still = refl;
   closed = λ closes v some. absurd (omega arith);
@@ -125,7 +125,6 @@ deed-send_to S t at P s x function y args None over here e each = each.keeps _ (
 })
 deed-send_to S t at P s x function y args (Some o) over here e each = if_cases P (is_full S.messages s (slots_of S s)) _ _
     (λ full. each.keeps _ (record {
-      even = record { answers = refl; dooms = λ v. refl; making = λ _. refl };
       changing = refl;
       still = refl;
       closed = λ closes v some. absurd (omega arith);
@@ -133,42 +132,38 @@ deed-send_to S t at P s x function y args (Some o) over here e each = if_cases P
       send = λ sends. record { session = s; over = over; by = inr (o, e, full, refl) };
     }))
     (λ free. each.sends _ (sending (answer t (Of word.Send part.Do) (GoOn t part.Done ∷ Requests (SetPending t y) ∷ post S t s o (pos function) (args_of args) (Async y)) (pos 0)) (GoOn t part.Done ∷ Requests (SetPending t y) ∷ []) (Advance t ∷ []) s o (pos function) (args_of args) (Async y)
-    (other-answers t _ (GoOn t part.Done ∷ Requests (SetPending t y) ∷ post S t s o (pos function) (args_of args) (Async y)) _ refl (λ e. absurd (cc)) (none-then (record { cleans = refl; advances = refl; dooms = λ v. refl; calm = λ _. refl; locks = refl }) (none-then (record { cleans = refl; advances = refl; dooms = λ v. refl; calm = λ _. refl; locks = refl }) (none-post S t s o (pos function) (args_of args) (Async y)))))
-    refl refl refl refl refl e (ap (λ (i : Option Instr). status_by (Of word.Send part.Do) i) here) (λ closes. absurd (cc)) (λ v. refl) refl (λ sends. record { over = over; answer = refl; free = free })))
+    refl refl refl refl refl e (ap (λ (i : Option Instr). status_by (Of word.Send part.Do) i) here) refl (λ closes. absurd (cc)) (λ v. refl) refl (λ sends. record { over = over; answer = refl; free = free })))
 
-pub deed-send : (S : State) (t : ObjNo) (at : Option Instr) (P : Decision → Type 0) (row : ThreadRow) (x function y : ℕ) (args : Args) (p : Option Part) → thread_of S t ≡ Some row → at ≡ Some (instr.Send x function y args) → OfEach S t at P → P (send_step S t row x function y args p)
-deed-send S t at P row x function y args None is here each = calm each _ (either (is_pending S.requests t y) _ _ (record { step = refl; cleans = refl; answers = refl; dooms = λ v. refl; calm = λ _. refl; making = λ _. refl; sends = λ _. refl }) (other-look t word.Send _))
-deed-send S t at P row x function y args (Some part.Done) is here each = calm each _ (record { step = refl; cleans = refl; answers = refl; dooms = λ v. refl; calm = λ _. refl; making = λ _. refl; sends = λ _. refl })
-deed-send S t at P row x function y args (Some p) is here each = by row.uses refl
+pub deed-send : (S : State) (t : ObjNo) (at : Option Instr) (P : Decision → Type 0) (row : ThreadRow) (x function y : ℕ) (args : Args) (p : Part) → thread_of S t ≡ Some row → at ≡ Some (instr.Send x function y args) → OfEach S t at P → P (send_step S t row x function y args (Some p))
+deed-send S t at P row x function y args part.Done is here each = calm each _ refl refl
+deed-send S t at P row x function y args p is here each = by row.uses refl
   where
     by : (uses : Option ObjNo) → row.uses ≡ uses → P (send_do S t (pos function) y (args_of args) uses)
-    by None e = calm each _ (record { step = refl; cleans = refl; answers = refl; dooms = λ v. refl; calm = λ _. refl; making = λ _. refl; sends = λ _. refl })
+    by None e = calm each _ refl refl
     by (Some s) e = if_cases P (is_pending S.requests t y) _ _
-        (λ _. calm each _ (record { step = refl; cleans = refl; answers = refl; dooms = λ v. refl; calm = λ _. refl; making = λ _. refl; sends = λ _. refl }))
-        (λ _. deed-send_to S t at P s x function y args (open_server S s) (record { row = row; is = is; uses = e }) here refl each)
+        (λ _. calm each _ refl refl)
+        (λ _. deed-send_to S t at P s x function y args (open_server S s) (record { here = ap at_send here; row = row; is = is; uses = e }) here refl each)
 
 -- `call`
-deed-call_to : (S : State) (t : ObjNo) (at : Option Instr) (P : Decision → Type 0) (s : ObjNo) (function : ℤ) (args : List Arg) (server : Option ObjNo) → open_server S s ≡ server → OfEach S t at P → P (call_to S t s function args server)
-deed-call_to S t at P s function args None e each = calm each _ (record { step = refl; cleans = refl; answers = refl; dooms = λ v. refl; calm = λ _. refl; making = λ _. refl; sends = λ _. refl })
-deed-call_to S t at P s function args (Some o) e each = each.sends _ (sending (call_to S t s function args (Some o)) (GoOn t part.Done ∷ Wait t waiting.Reply ∷ []) [] s o function args Sync (other-call_to S t s function args (Some o))
-    (ap (λ (ms : List Move). GoOn t part.Done ∷ Wait t waiting.Reply ∷ Messages (Accept (slots_of S s) (new_row s o t function args Sync)) ∷ ms) (sym (append-nil (wake_receiver S o (owner_of S.servers o))))) refl refl refl refl e refl (λ closes. absurd (cc)) (λ v. refl) refl (λ sends. absurd (cc)))
+deed-call_to : (S : State) (t : ObjNo) (at : Option Instr) (P : Decision → Type 0) (s : ObjNo) (function : ℤ) (args : List Arg) (server : Option ObjNo) → status_by (Of word.Call part.Do) at ≡ Some status.Sync → open_server S s ≡ server → OfEach S t at P → P (call_to S t s function args server)
+deed-call_to S t at P s function args None told e each = calm each _ refl refl
+deed-call_to S t at P s function args (Some o) told e each = each.sends _ (sending (call_to S t s function args (Some o)) (GoOn t part.Done ∷ Wait t waiting.Reply ∷ []) [] s o function args Sync
+    (ap (λ (ms : List Move). GoOn t part.Done ∷ Wait t waiting.Reply ∷ Messages (Accept (slots_of S s) (new_row s o t function args Sync)) ∷ ms) (sym (append-nil (wake_receiver S o (owner_of S.servers o))))) refl refl refl refl e told refl (λ closes. absurd (cc)) (λ v. refl) refl (λ sends. absurd (cc)))
 
-deed-call_do : (S : State) (t : ObjNo) (at : Option Instr) (P : Decision → Type 0) (function : ℤ) (args : List Arg) (uses : Option ObjNo) → OfEach S t at P → P (call_do S t function args uses)
-deed-call_do S t at P function args None each = calm each _ (record { step = refl; cleans = refl; answers = refl; dooms = λ v. refl; calm = λ _. refl; making = λ _. refl; sends = λ _. refl })
-deed-call_do S t at P function args (Some s) each = if_cases P (is_some (held_by S.nano t)) _ _
-    (λ _. calm each _ (record { step = refl; cleans = refl; answers = refl; dooms = λ v. refl; calm = λ _. refl; making = λ _. refl; sends = λ _. refl }))
-    (λ _. deed-call_to S t at P s function args (open_server S s) refl each)
+deed-call_do : (S : State) (t : ObjNo) (at : Option Instr) (P : Decision → Type 0) (function : ℤ) (args : List Arg) (uses : Option ObjNo) → status_by (Of word.Call part.Do) at ≡ Some status.Sync → OfEach S t at P → P (call_do S t function args uses)
+deed-call_do S t at P function args None told each = calm each _ refl refl
+deed-call_do S t at P function args (Some s) told each = if_cases P (is_some (held_by S.nano t)) _ _
+    (λ _. calm each _ refl refl)
+    (λ _. deed-call_to S t at P s function args (open_server S s) told refl each)
 
-pub deed-call : (S : State) (t : ObjNo) (at : Option Instr) (P : Decision → Type 0) (row : ThreadRow) (x function : ℕ) (args : Args) (p : Option Part) → OfEach S t at P → P (call_step S t row x function args p)
-deed-call S t at P row x function args None each = calm each _ (other-unless S t word.Call part.Look _ refl (other-look t word.Call _))
-deed-call S t at P row x function args (Some part.Do) each = deed-call_do S t at P (pos function) (args_of args) row.uses each
-deed-call S t at P row x function args (Some _) each = calm each _ (record { step = refl; cleans = refl; answers = refl; dooms = λ v. refl; calm = λ _. refl; making = λ _. refl; sends = λ _. refl })
+pub deed-call : (S : State) (t : ObjNo) (at : Option Instr) (P : Decision → Type 0) (row : ThreadRow) (x function : ℕ) (args : Args) (p : Part) → at ≡ Some (instr.Call x function args) → OfEach S t at P → P (call_step S t row x function args (Some p))
+deed-call S t at P row x function args part.Do here each = deed-call_do S t at P (pos function) (args_of args) row.uses (ap (λ (i : Option Instr). status_by (Of word.Call part.Do) i) here) each
+deed-call S t at P row x function args _ here each = calm each _ refl refl
 
 -- `connect`
 deed-made_session : (S : State) (t : ObjNo) (at : Option Instr) (P : Decision → Type 0) (o : ObjNo) (slots : Slots) (handle : Option NewHandle) → slots_of_connect at ≡ Some slots → OfEach S t at P → P (make_session t o slots (next_object S) handle)
-deed-made_session S t at P o slots None here each = calm each _ (record { step = refl; cleans = refl; answers = refl; dooms = λ v. refl; calm = λ _. refl; making = λ _. refl; sends = λ _. refl })
+deed-made_session S t at P o slots None here each = calm each _ refl refl
 deed-made_session S t at P o slots (Some handle) here each = each.joins _ (record {
-  even = even (other-made_session t o slots (next_object S) (Some handle));
   server = o;
   slots = slots;
   holder = handle.holder;
@@ -182,15 +177,15 @@ deed-made_session S t at P o slots (Some handle) here each = each.joins _ (recor
 })
 
 deed-connect_to : (S : State) (t : ObjNo) (at : Option Instr) (P : Decision → Type 0) (slots : Slots) (o : ObjNo) (server : Option ServerRow) → slots_of_connect at ≡ Some slots → OfEach S t at P → P (connect_to S t slots o server)
-deed-connect_to S t at P slots o None here each = calm each _ (record { step = refl; cleans = refl; answers = refl; dooms = λ v. refl; calm = λ _. refl; making = λ _. refl; sends = λ _. refl })
+deed-connect_to S t at P slots o None here each = calm each _ refl refl
 deed-connect_to S t at P slots o (Some server) here each = if_cases P server.is_closing _ _
-    (λ _. calm each _ (record { step = refl; cleans = refl; answers = refl; dooms = λ v. refl; calm = λ _. refl; making = λ _. refl; sends = λ _. refl }))
+    (λ _. calm each _ refl refl)
     (λ _. if_cases P (length S.objects == OBJECTS) _ _
-    (λ _. calm each _ (record { step = refl; cleans = refl; answers = refl; dooms = λ v. refl; calm = λ _. refl; making = λ _. refl; sends = λ _. refl }))
+    (λ _. calm each _ refl refl)
     (λ _. deed-made_session S t at P o slots (thread_handle S t) here each))
 
 deed-connect_make : (S : State) (t : ObjNo) (at : Option Instr) (P : Decision → Type 0) (slots : Slots) (uses : Option ObjNo) → slots_of_connect at ≡ Some slots → OfEach S t at P → P (connect_make S t slots uses)
-deed-connect_make S t at P slots None here each = calm each _ (record { step = refl; cleans = refl; answers = refl; dooms = λ v. refl; calm = λ _. refl; making = λ _. refl; sends = λ _. refl })
+deed-connect_make S t at P slots None here each = calm each _ refl refl
 deed-connect_make S t at P slots (Some o) here each = deed-connect_to S t at P slots o (server_at S.servers o) here each
 
 -- one that fails loses a handle, which is no close
@@ -202,7 +197,6 @@ undetached-handle t row handle s v = if_cases (λ (h : Holder). detach_bit v (Lo
 
 deed-failed : (S : State) (t : ObjNo) (at : Option Instr) (P : Decision → Type 0) (row : ThreadRow) (s : ObjNo) (code : ℤ) (p : Part) → closes_handle (Of word.Connect p) ≡ false → is_send (Of word.Connect p) ≡ false → OfEach S t at P → P (fail_connect t row p s code)
 deed-failed S t at P row s code p other unsent each = each.keeps _ (record {
-  even = even (other-failed t row p s code);
   changing = let a = unchanged-handle t row row.found s in omega arith;
   still = refl;
   closed = λ closes v some. absurd (cc);
@@ -210,25 +204,24 @@ deed-failed S t at P row s code p other unsent each = each.keeps _ (record {
   send = λ sends. absurd (cc);
 })
 
-deed-connecting : (S : State) (t : ObjNo) (at : Option Instr) (P : Decision → Type 0) (row : ThreadRow) (s : ObjNo) (server : Option ObjNo) → open_server S s ≡ server → OfEach S t at P → P (send_connect S t row s server)
-deed-connecting S t at P row s None e each = deed-failed S t at P row s _ part.Send refl refl each
-deed-connecting S t at P row s (Some o) e each = each.sends _ (sending (send_connect S t row s (Some o)) (GoOn t part.Done ∷ Servers (SetOpen s true) ∷ Wait t waiting.Reply ∷ []) [] s o connects no_args Sync (other-connecting S t row s (Some o))
-    (ap (λ (ms : List Move). GoOn t part.Done ∷ Servers (SetOpen s true) ∷ Wait t waiting.Reply ∷ Messages (Accept (slots_of S s) (new_row s o t connects no_args Sync)) ∷ ms) (sym (append-nil (wake_receiver S o (owner_of S.servers o))))) refl refl refl refl e refl (λ closes. absurd (cc)) (λ v. refl) refl (λ sends. absurd (cc)))
+deed-connecting : (S : State) (t : ObjNo) (at : Option Instr) (P : Decision → Type 0) (row : ThreadRow) (s : ObjNo) (server : Option ObjNo) → status_by (Of word.Connect part.Send) at ≡ Some status.Sync → open_server S s ≡ server → OfEach S t at P → P (send_connect S t row s server)
+deed-connecting S t at P row s None told e each = deed-failed S t at P row s _ part.Send refl refl each
+deed-connecting S t at P row s (Some o) told e each = each.sends _ (sending (send_connect S t row s (Some o)) (GoOn t part.Done ∷ Servers (SetOpen s true) ∷ Wait t waiting.Reply ∷ []) [] s o connects no_args Sync
+    (ap (λ (ms : List Move). GoOn t part.Done ∷ Servers (SetOpen s true) ∷ Wait t waiting.Reply ∷ Messages (Accept (slots_of S s) (new_row s o t connects no_args Sync)) ∷ ms) (sym (append-nil (wake_receiver S o (owner_of S.servers o))))) refl refl refl refl e told refl (λ closes. absurd (cc)) (λ v. refl) refl (λ sends. absurd (cc)))
 
-deed-connect_send : (S : State) (t : ObjNo) (at : Option Instr) (P : Decision → Type 0) (row : ThreadRow) (session : Option ObjNo) → OfEach S t at P → P (connect_send S t row session)
-deed-connect_send S t at P row None each = calm each _ (record { step = refl; cleans = refl; answers = refl; dooms = λ v. refl; calm = λ _. refl; making = λ _. refl; sends = λ _. refl })
-deed-connect_send S t at P row (Some s) each = if_cases P (is_some (held_by S.nano t)) _ _
-    (λ _. calm each _ (record { step = refl; cleans = refl; answers = refl; dooms = λ v. refl; calm = λ _. refl; making = λ _. refl; sends = λ _. refl }))
-    (λ _. deed-connecting S t at P row s (open_server S s) refl each)
+deed-connect_send : (S : State) (t : ObjNo) (at : Option Instr) (P : Decision → Type 0) (row : ThreadRow) (session : Option ObjNo) → status_by (Of word.Connect part.Send) at ≡ Some status.Sync → OfEach S t at P → P (connect_send S t row session)
+deed-connect_send S t at P row None told each = calm each _ refl refl
+deed-connect_send S t at P row (Some s) told each = if_cases P (is_some (held_by S.nano t)) _ _
+    (λ _. calm each _ refl refl)
+    (λ _. deed-connecting S t at P row s (open_server S s) told refl each)
 
 deed-connect_done : (S : State) (t : ObjNo) (at : Option Instr) (P : Decision → Type 0) (row : ThreadRow) (x : ℕ) (session : Option ObjNo) → OfEach S t at P → P (connect_done S t row x session)
-deed-connect_done S t at P row x None each = calm each _ (record { step = refl; cleans = refl; answers = refl; dooms = λ v. refl; calm = λ _. refl; making = λ _. refl; sends = λ _. refl })
+deed-connect_done S t at P row x None each = calm each _ refl refl
 deed-connect_done S t at P row x (Some s) each = if_cases P (int_eq (reply_of S.requests t) (pos 0)) _ _
-    (λ _. calm each _ (record { step = refl; cleans = refl; answers = refl; dooms = λ v. refl; calm = λ _. refl; making = λ _. refl; sends = λ _. refl }))
+    (λ _. calm each _ refl refl)
     (λ _. deed-failed S t at P row s _ part.Done refl refl each)
 
-pub deed-connect : (S : State) (t : ObjNo) (at : Option Instr) (P : Decision → Type 0) (row : ThreadRow) (name : List ℕ) (slots : Slots) (x : ℕ) (p : Option Part) → at ≡ Some (instr.Connect name slots x) → OfEach S t at P → P (connect_step S t row name slots x p)
-deed-connect S t at P row name slots x None here each = calm each _ (other-unless S t word.Connect part.Seek _ refl (other-seek t word.Connect _))
-deed-connect S t at P row name slots x (Some part.Make) here each = deed-connect_make S t at P slots row.uses (ap slots_of_connect here) each
-deed-connect S t at P row name slots x (Some part.Send) here each = deed-connect_send S t at P row (session_made S t row) each
-deed-connect S t at P row name slots x (Some _) here each = deed-connect_done S t at P row x (session_made S t row) each
+pub deed-connect : (S : State) (t : ObjNo) (at : Option Instr) (P : Decision → Type 0) (row : ThreadRow) (name : List ℕ) (slots : Slots) (x : ℕ) (p : Part) → at ≡ Some (instr.Connect name slots x) → OfEach S t at P → P (connect_step S t row name slots x (Some p))
+deed-connect S t at P row name slots x part.Make here each = deed-connect_make S t at P slots row.uses (ap slots_of_connect here) each
+deed-connect S t at P row name slots x part.Send here each = deed-connect_send S t at P row (session_made S t row) (ap (λ (i : Option Instr). status_by (Of word.Connect part.Send) i) here) each
+deed-connect S t at P row name slots x _ here each = deed-connect_done S t at P row x (session_made S t row) each

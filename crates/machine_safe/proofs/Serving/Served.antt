@@ -7,13 +7,13 @@ use Rattle.machine.specs.Serving.{times_owned}
 use Rattle.machine.specs.declared.moves.Move.{Move}
 use Rattle.machine.specs.declared.state.State.{State}
 use Rattle.machine_safe.proofs.Deaths.EffectSums.{dooms-append}
-use Rattle.machine_safe.proofs.Deaths.Other.{closed_bit, doomed_bit, mutex_bit}
-use Rattle.machine_safe.proofs.Serving.EffectSums.{ends-append, server_told-append, used_told-append}
+use Rattle.machine_laws.proofs.Fitting.Regular.{closed_bit, doomed_bit, mutex_bit}
+use Rattle.machine_safe.proofs.Serving.EffectSums.{ends-append, server_told-append}
 use Rattle.machine_safe.proofs.Serving.Keeps.{Keeps, keeps-closing, steps_of, detach_bit}
 use Rattle.machine_safe.proofs.Serving.Kept.{AreMade}
 use Rattle.machine_safe.proofs.Serving.Reading.{IsSame, Reading, closing_by, further}
 use Rattle.machine_safe.specs.SafeDeaths.{dooms}
-use Rattle.machine_safe.specs.Served.{closes_handle, ends, handles_lost, is_doomed, makes_server, or_before, owner_told, server_told}
+use Rattle.machine_safe.specs.Served.{closes_handle, ends, handles_lost, is_doomed, or_before, owner_told, server_told}
 use Rattle.move_laws.proofs.Lives.LivesMove.{zero_or}
 use Rattle.move_laws.proofs.References.Same.{if_zero}
 use Rattle.script_types.specs.declared.script.Script.{Script}
@@ -26,8 +26,8 @@ use Rattle.std.specs.Prelude.{if◌then◌else◌, nat_lt, ◌||◌}
 use Rattle.sym_base.specs.declared.number.ObjNo.{ObjNo}
 use Rattle.machine.specs.Rows.{object_of}
 use Rattle.machine.specs.WellFormed.{IsAlive}
-use Rattle.machine_safe.specs.Slotted.{used_told}
 use Rattle.state_rows.specs.ServerChanges.{detached}
+use Rattle.machine.specs.EntryWords.{makes_server}
 
 -- a server's row
 pub record IsServed (r : Reading) (S : State) (o : ObjNo) (row : ServerRow) : Type 0 where
@@ -43,17 +43,17 @@ pub record IsPlaced (script : Script) (r : Reading) (k : ℕ) (row : ThreadRow) 
   pub role : first.role ≡ row.role
   pub place : row.next_instruction ≡ r.answers k
 
--- Each server has its owner, and is closing, as told; a session's link is told; a server that ended is closing; whoever made a server owns it, or it
--- ended; nothing is told of what isn't made; a thread is at the place of its answers, and
--- uses what it came to use last; and a session that is alive is at the server that is told of it, unless that is closing.
+-- Each server has its owner, and is closing, as told; a session's link is told; a server that ended is closing and
+-- nobody's; whoever made a server owns it, or it
+-- ended; nothing is told of what isn't made; a thread is at the place of its answers; and a session that is alive is at the server that is told of it, unless that is closing.
 pub record Served (script : Script) (r : Reading) (S : State) : Type 0 where
   pub rows : (o : ObjNo) (row : ServerRow) → server_at S.servers o ≡ Some row → IsServed r S o row
   pub links : (s o : ObjNo) → server_of S.servers s ≡ Some o → server_told r.effects s ≡ Some o
   pub ended : (o : ObjNo) → 0 < ends r.effects o → is_closing S.servers o ≡ true
+  pub over : (u o : ObjNo) → 0 < ends r.effects o → times_owned S.owned u o ≡ 0
   pub made : (t o : ObjNo) → r.owner o ≡ Some t → (0 < times_owned S.owned t o) ⊎ (0 < ends r.effects o)
   pub unmade : (o : ObjNo) → length S.objects ≤ o.0 → r.closings o ≡ 0
   pub places : (k : ℕ) (row : ThreadRow) → get_or S.threads k None ≡ Some row → IsPlaced script r k row
-  pub uses : (u o : ObjNo) (row : ThreadRow) → get_or S.threads u.0 None ≡ Some row → row.uses ≡ Some o → used_told r.effects u ≡ Some o
   pub told_made : (s v : ObjNo) → server_told r.effects s ≡ Some v → s.0 < length S.objects
   pub told_linked : (s v : ObjNo) → server_told r.effects s ≡ Some v → IsAlive (object_of S s) → (server_of S.servers s ≡ Some v) ⊎ (is_closing S.servers v ≡ true)
 
@@ -73,10 +73,10 @@ served-same script r q S same h = record {
       };
   links = λ s o is. ap (λ (es : List Effect). server_told es s) (sym same.effects) ∙ h.links s o is;
   ended = λ o some. h.ended o (subst (λ (es : List Effect). 0 < ends es o) (sym same.effects) some);
+  over = λ u o some. h.over u o (subst (λ (es : List Effect). 0 < ends es o) (sym same.effects) some);
   made = λ t o is. subst (λ (es : List Effect). (0 < times_owned S.owned t o) ⊎ (0 < ends es o)) same.effects (h.made t o (same.owner o ∙ is));
   unmade = λ o past. sym (same.closings o) ∙ h.unmade o past;
   places = λ k row is. let was = h.places k row is in record { first = was.first; is = was.is; role = was.role; place = was.place ∙ same.answers k };
-  uses = λ u o row is used. ap (λ (es : List Effect). used_told es u) (sym same.effects) ∙ h.uses u o row is used;
   told_made = λ s v is. h.told_made s v (ap (λ (es : List Effect). server_told es s) same.effects ∙ is);
   told_linked = λ s v is alive. h.told_linked s v (ap (λ (es : List Effect). server_told es s) same.effects ∙ is) alive;
 }
@@ -168,6 +168,7 @@ module _ (script : Script) (r : Reading) (S T : State) (t : ObjNo) (ms : List Mo
     rows = row-then;
     links = λ s o is. server_told-append r.effects fs s ∙ (ap (λ (x : Option ObjNo). or_before x (server_told r.effects s)) (k.unlinked s) ∙ h.links s o (k.links s o is));
     ended = λ o some. let a = ends-append r.effects fs o in let b = k.unended o in keeps-closing S T t ms fs o k (h.ended o (omega arith));
+    over = λ u o some. ap (λ (l : List (List ObjNo)). times_owned l u o) k.owned ∙ h.over u o (let a = ends-append r.effects fs o in let b = k.unended o in omega arith);
     made = λ u o is. elim (h.made u o (sym (same-owner o) ∙ is)) as (λ _. (0 < times_owned T.owned u o) ⊎ (0 < ends (r.effects ++ fs) o)) [
       | inl owned ↦ inl (subst (λ (l : List (List ObjNo)). 0 < times_owned l u o) (sym k.owned) owned)
       | inr over ↦ inr (let a = ends-append r.effects fs o in omega arith)
@@ -180,10 +181,6 @@ module _ (script : Script) (r : Reading) (S T : State) (t : ObjNo) (ms : List Mo
         let w = k.threads n row is in
         let old = h.places n w.old w.was in
         record { first = old.first; is = old.is; role = old.role ∙ w.role; place = let a = w.place in let b = old.place in omega arith };
-    uses = λ u o row is used. elim (k.uses u o row is used) as (λ _. used_told (r.effects ++ fs) u ≡ Some o) [
-      | inl now ↦ used_told-append r.effects fs u ∙ ap (λ (x : Option ObjNo). or_before x (used_told r.effects u)) now
-      | inr same ↦ used_told-append r.effects fs u ∙ (ap (λ (x : Option ObjNo). or_before x (used_told r.effects u)) same.0 ∙ h.uses u o same.1.old same.1.was same.1.uses)
-    ];
     told_made = λ s v is. let more = k.objects in let inside = h.told_made s v (told_before s v is) in omega arith;
     told_linked = λ s v is alive.
         let was = told_before s v is in

@@ -11,7 +11,7 @@ use Rattle.machine_safe.proofs.Serving.Reading.{effects-push}
 use Rattle.machine_safe.specs.CountAfter.{effects_of}
 use Rattle.machine_safe.specs.Sent.{accepts, finishes}
 use Rattle.machine_safe.specs.Served.{server_told}
-use Rattle.machine_safe.specs.Slotted.{SentOver, is_open_in, is_pooled, is_send, outstanding_in, sends_in, sent_told, slots_before, slots_by, slots_from, slots_in, takes_of}
+use Rattle.machine_safe.specs.Slotted.{SentOver, is_open_in, is_pooled, outstanding_in, sends_in, sent_told, slots_before, slots_by, slots_from, slots_in, takes_of}
 use Rattle.move_laws.proofs.Lists.Contents.{contains_behind, contains_first}
 use Rattle.move_laws.proofs.References.Same.{eqb_apart}
 use Rattle.script_types.specs.declared.script.Script.{Script}
@@ -30,6 +30,7 @@ use Rattle.sym_base.specs.declared.number.MsgNo.{MsgNo}
 use Rattle.sym_base.specs.declared.number.ObjNo.{ObjNo}
 use Rattle.machine_safe.proofs.Serving.EffectSums.{finishes-append}
 use Rattle.std.proofs.lemmas.List.Elements.{filter-append}
+use Rattle.machine.specs.EntryWords.{is_send}
 
 -- what is told last
 slots-none : (x : Option Slots) → slots_before x None ≡ x

@@ -13,7 +13,7 @@ use Rattle.machine.specs.declared.moves.Move.{Move}
 use Rattle.machine.specs.declared.moves.Move.TheVariants.{Lose, Servers}
 use Rattle.machine.specs.declared.server_move.ServerMove.TheVariants.{End, Close}
 use Rattle.machine.specs.declared.state.State.{State}
-use Rattle.machine_safe.proofs.Deaths.Other.{advance_bit, closed_bit, doomed_bit, serving_bit}
+use Rattle.machine_laws.proofs.Fitting.Regular.{advance_bit, closed_bit, doomed_bit, serving_bit}
 use Rattle.machine_safe.proofs.Serving.Acting.{behind-still, changing-handle, lost-behind, undetached-behind}
 use Rattle.machine_safe.proofs.Serving.Deeds.{IsClosing, IsStopping, behind}
 use Rattle.machine_safe.proofs.Serving.Doing.{Doing, IsGoing, going, going-then, keeps-going, quiet-doing}
@@ -33,7 +33,10 @@ use Rattle.machine_safe.specs.SafeMessages.{NothingLeft}
 use Rattle.machine_safe.specs.Sent.{finishes}
 use Rattle.machine_safe.specs.Served.{closes_handle, ends, handles_lost, or_before, server_told}
 use Rattle.move_laws.proofs.Lists.Contents.{contains_behind, contains_cases, contains_first, contains_map, none_contained}
-use Rattle.move_laws.proofs.References.Same.{eqb_apart, if_not, if_zero, same_is}
+use Rattle.move_laws.proofs.References.Same.{eqb_apart, if_not, if_zero, same_is, same_self}
+use Rattle.move_laws.proofs.Lives.LivesMove.{zero_or}
+use Rattle.state_rows.specs.declared.servers.ServerRow.{ServerRow}
+use Rattle.machine_safe.proofs.Serving.Keeps.{closing-row}
 use Rattle.move_laws.proofs.RowLaws.OwnedServers.{owned_inside}
 use Rattle.script_types.specs.declared.script.Script.{Script}
 use Rattle.state_rows.specs.MessageRows.{is_at}
@@ -46,8 +49,10 @@ use Rattle.sym_base.specs.declared.number.ObjNo.{ObjNo}
 use Rattle.machine_safe.proofs.Serving.Closing.{served-stopped, served-closing}
 use Rattle.machine_safe.proofs.Serving.KeptUses.{session-closed}
 use Rattle.machine_safe.proofs.Serving.Slots.{slotted-keeps}
-use Rattle.state_rows.specs.ServerRows.{session_at}
+use Rattle.state_rows.specs.ServerRows.{session_at, server_at}
 use Rattle.state_rows.specs.declared.servers.SessionRow.{SessionRow}
+use Rattle.machine_laws.proofs.Fitting.Regular.{IsRegular, Kinds}
+use Rattle.machine_safe.specs.SafeMessages.{IsEnd}
 
 -- how often two objects are one
 abbrev same_bit : ObjNo → ObjNo → ℕ
@@ -70,8 +75,8 @@ module _ (script : Script) (before : List Entry) (S : State) (place : ℕ) (t : 
   posted p among = contains_map post_of S.messages.outstanding p among
 
   -- the handle of a server is closed
-  pub turn-closes : (d : Decision) → IsClosing S t d → Doing script S t d.moves → IsTurn script before (entry_for place t S d) (perform t d.moves S)
-  turn-closes d is does = record {
+  pub turn-closes : {k : Kinds} (d : Decision) → IsRegular k script S t d → IsClosing S t d → Doing script S t d.moves → IsTurn script before (entry_for place t S d) (perform t d.moves S)
+  turn-closes d regular is does = record {
     book = record {
       served = served-same script r2 (reading (before ++ e ∷ [])) (perform t d.moves S) same whole;
       letters = letters-quiet script before S (perform t d.moves S) e book.letters (λ p among. unlinked p.session) q (λ p among. unended p.server);
@@ -134,7 +139,7 @@ module _ (script : Script) (before : List Entry) (S : State) (place : ℕ) (t : 
       whole : Served script r2 (perform t d.moves S)
       whole = subst (λ (l : List Move). Served script r2 (perform t l S)) (sym is.moves)
           (served-keeps script r1 mid (perform t back mid) t back d.step gs served1 keeps
-          (λ x. let a = is.even.dooms x in let b = ap (total (closed_bit x)) is.moves in let c = ap (total (doomed_bit x)) is.moves in let f = doom-told t back mid x in omega arith)
+          (λ x. let a = regular.dooms x in let b = ap (total (closed_bit x)) is.moves in let c = ap (total (doomed_bit x)) is.moves in let f = doom-told t back mid x in omega arith)
           (λ x. doom-among t back mid x)
           (λ x row there. if_zero (closes_handle d.step) (handles_lost gs x) (let a = lost-each script mid t back x last.each in let b = lost-behind is.answers t x in omega arith))
           (λ making. absurd (cc)) (λ x some. let none = undetached-behind is.answers t x in absurd (omega arith)))
@@ -145,7 +150,7 @@ module _ (script : Script) (before : List Entry) (S : State) (place : ℕ) (t : 
       same : IsSame r2 (reading (before ++ e ∷ []))
       same = same-then r2 (further (reading before) d.step e.effects (λ k. steps_of t (Lose is.holder is.server ∷ []) k + steps_of t back k)) (reading (before ++ e ∷ []))
           (subst (λ (l : List Effect). IsSame r2 (further (reading before) d.step l (λ k. steps_of t (Lose is.holder is.server ∷ []) k + steps_of t back k))) (sym told_all) (same-both (reading before) d.step fs gs (steps_of t (Lose is.holder is.server ∷ [])) (steps_of t back)))
-          (same-entry before e (λ k. steps_of t (Lose is.holder is.server ∷ []) k + steps_of t back k) (λ k. let a = counts t back d k (let b = is.even.answers in let c = ap (total advance_bit) is.moves in omega arith) in let none = if_zero (t.0 == k) (total advance_bit (Lose is.holder is.server ∷ [])) refl in omega arith))
+          (same-entry before e (λ k. steps_of t (Lose is.holder is.server ∷ []) k + steps_of t back k) (λ k. let a = counts t back d k (let b = regular.answers in let c = ap (total advance_bit) is.moves in omega arith) in let none = if_zero (t.0 == k) (total advance_bit (Lose is.holder is.server ∷ [])) refl in omega arith))
 
       unlinked : (s : ObjNo) → server_told e.effects s ≡ None
       unlinked s = ap (λ (l : List Effect). server_told l s) told_all ∙ (server_told-append fs gs s ∙ (ap (λ (x : Option ObjNo). or_before x (server_told fs s)) (keeps.unlinked s) ∙ loses.unlinked s))
@@ -163,8 +168,8 @@ module _ (script : Script) (before : List Entry) (S : State) (place : ℕ) (t : 
           record { old = first.old; was = first.was; slots = first.slots ∙ after.slots }
 
   -- a server stops
-  pub turn-stops : (d : Decision) → IsStopping S t d → Doing script S t d.moves → IsTurn script before (entry_for place t S d) (perform t d.moves S)
-  turn-stops d is does = record {
+  pub turn-stops : {k : Kinds} (d : Decision) → IsRegular k script S t d → IsStopping S t d → Doing script S t d.moves → IsTurn script before (entry_for place t S d) (perform t d.moves S)
+  turn-stops d regular is does = record {
     book = record {
       served = served-same script r1 (reading (before ++ e ∷ [])) (perform t d.moves S) same whole;
       letters = letters-quiet script before S (perform t d.moves S) e book.letters (λ p among. unlinked p.session) q
@@ -178,7 +183,7 @@ module _ (script : Script) (before : List Entry) (S : State) (place : ℕ) (t : 
       end = λ u some.
           let a = ended u in
           let own : is.server ≡ u = same_is is.server u (omega arith) in
-          subst (NothingLeft before) own nothing;
+          subst (IsEnd before e) own is_end;
       send = λ sends. let unsent = is.unsent in absurd (cc);
     };
   }
@@ -198,6 +203,15 @@ module _ (script : Script) (before : List Entry) (S : State) (place : ℕ) (t : 
       owned : 0 < times_owned S.owned t is.server
       owned = goes.each.1.0.1
 
+      -- it is its owner's alone
+      alone : (u : ObjNo) → 0 < times_owned S.owned u is.server → u.0 ≡ t.0
+      alone u some =
+          let first = rows.servers.owners u is.server some in
+          let own = rows.servers.owners t is.server owned in
+          let both : Some first.row ≡ Some own.row = sym first.is ∙ own.is in
+          let same_row : first.row ≡ own.row = cc in
+          sym first.owner ∙ (ap (λ (x : ServerRow). x.owner.0) same_row ∙ own.owner)
+
       gs : List Effect
       gs = Terminated is.server ∷ closed_effects (dies (moved t (Servers (End is.server)) S) is.server) (Own t) is.server
 
@@ -205,14 +219,14 @@ module _ (script : Script) (before : List Entry) (S : State) (place : ℕ) (t : 
       r1 = further (reading before) d.step gs (λ k. 0)
 
       whole : Served script r1 (perform t d.moves S)
-      whole = subst (λ (l : List Move). Served script r1 (perform t l S)) (sym is.moves) (served-stopped script (reading before) S t d.step book.served is.server is.makes is.step may (owned_inside S.owned t is.server owned) (let a = rows.servers.once t is.server in let b = owned in omega arith))
+      whole = subst (λ (l : List Move). Served script r1 (perform t l S)) (sym is.moves) (served-stopped script (reading before) S t d.step book.served is.server is.makes is.step may (owned_inside S.owned t is.server owned) (let a = rows.servers.once t is.server in let b = owned in omega arith) alone)
 
       told_all : e.effects ≡ gs
       told_all = ap (λ (l : List Move). tell t l S) is.moves ∙ ap (λ (l : List Effect). Terminated is.server ∷ l) (append-nil (closed_effects (dies (moved t (Servers (End is.server)) S) is.server) (Own t) is.server))
 
       same : IsSame r1 (reading (before ++ e ∷ []))
       same = subst (λ (l : List Effect). IsSame (further (reading before) d.step l (λ k. 0)) (reading (before ++ e ∷ []))) told_all
-          (same-entry before e (λ k. 0) (λ k. let a = counts t [] d k (let b = is.even.answers in let c = ap (total advance_bit) is.moves in omega arith) in let none = if_zero (t.0 == k) (total advance_bit []) refl in omega arith))
+          (same-entry before e (λ k. 0) (λ k. let a = counts t [] d k (let b = regular.answers in let c = ap (total advance_bit) is.moves in omega arith) in let none = if_zero (t.0 == k) (total advance_bit []) refl in omega arith))
 
       unlinked : (s : ObjNo) → server_told e.effects s ≡ None
       unlinked s = ap (λ (l : List Effect). server_told l s) told_all ∙ (unlinking-close (dies (moved t (Servers (End is.server)) S) is.server) (Own t) is.server).unlinked s
@@ -239,3 +253,13 @@ module _ (script : Script) (before : List Entry) (S : State) (place : ℕ) (t : 
             let own : out.post.server ≡ is.server = cc in
             absurd (left out.post out.among (ap (λ (x : ObjNo). x.0) own))
       ]
+
+      is_end : IsEnd before e is.server
+      is_end =
+          let row = closing-row (server_at S.servers is.server) may.closing in record {
+            closing = sym (book.served.rows is.server row.0 row.1).closing ∙ row.2;
+            first = zero_or (ends (effects_of before) is.server) (λ some. let none = book.served.over t is.server some in let own = owned in absurd (omega arith));
+            once = let a = ended is.server in let own = same_self is.server in omega arith;
+            alone = q.accepts;
+            left = nothing;
+          }

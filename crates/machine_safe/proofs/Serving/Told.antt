@@ -31,10 +31,11 @@ use Rattle.machine.specs.NanoMoves.{nano_told}
 use Rattle.machine.specs.References.{dies, same}
 use Rattle.machine.specs.RequestMoves.{request_told}
 use Rattle.machine_safe.specs.Sent.{accepts, finishes}
-use Rattle.machine_safe.specs.Served.{ends, handles_lost, owner_told, server_told, is_handle}
-use Rattle.machine_safe.proofs.Deaths.Other.{mutex_bit, serving_bit}
+use Rattle.machine_safe.specs.Served.{ends, handles_lost, owner_told, server_told}
+use Rattle.machine_laws.proofs.Fitting.Regular.{mutex_bit, serving_bit}
 use Rattle.machine_safe.proofs.Serving.Keeps.{changing_bit}
 use Rattle.std.specs.Prelude.{if◌then◌else◌}
+use Rattle.machine.specs.EntryWords.{is_handle}
 
 -- effects that tell of no link, and of no end of a server
 pub record IsUnlinking (effects : List Effect) : Type 0 where

@@ -9,15 +9,15 @@ use Rattle.machine.specs.WellFormed.{AreRows, IsAlive}
 use Rattle.machine.specs.declared.decision.Decision.{Decision}
 use Rattle.machine.specs.declared.moves.Move.{Move}
 use Rattle.machine.specs.declared.state.State.{State}
-use Rattle.machine_safe.proofs.Deaths.Other.{advance_bit, answer_bit}
-use Rattle.machine_safe.proofs.Serving.Deeds.{ClosesOthers, IsEven, IsKeeping, Detaches, IsAnswered, IsRefusal}
+use Rattle.machine_laws.proofs.Fitting.Regular.{advance_bit, answer_bit}
+use Rattle.machine_safe.proofs.Serving.Deeds.{ClosesOthers, IsKeeping, Detaches, IsAnswered, IsRefusal, Looked, at_send}
 use Rattle.machine_safe.proofs.Serving.Doing.{Doing, keeps-doing, lost-doing, quiet-doing}
 use Rattle.machine_safe.proofs.Serving.Fated.{doom-among, doom-told}
 use Rattle.machine_safe.proofs.Serving.Keeps.{changing_bit, steps_of, closing-row, there-row}
 use Rattle.machine_safe.proofs.Serving.Letters.{Letters, letters-quiet}
 use Rattle.machine_safe.proofs.Serving.Reading.{further, reading, same-entry}
 use Rattle.machine_safe.proofs.Serving.Served.{Served, served-keeps, served-made, served-same}
-use Rattle.machine_safe.specs.SafeMessages.{IsAcceptance, IsFinish, NothingLeft}
+use Rattle.machine_safe.specs.SafeMessages.{IsAcceptance, IsFinish, IsEnd}
 use Rattle.machine_safe.specs.Sent.{accepts, finishes}
 use Rattle.machine_safe.specs.Served.{closes_handle, ends, handles_lost, is_closing_in, server_told}
 use Rattle.move_laws.proofs.Lives.LivesMove.{zero_or}
@@ -29,17 +29,24 @@ use Rattle.std.specs.Prelude.{if◌then◌else◌, is_some, ◌&&◌, ◌==◌, 
 use Rattle.sym_base.specs.declared.number.MsgNo.{MsgNo}
 use Rattle.sym_base.specs.declared.number.ObjNo.{ObjNo}
 use Rattle.machine.specs.Messaging.{open_server, slots_of, slots_of_row}
-use Rattle.machine.specs.Rows.{object_of}
+use Rattle.machine.specs.Rows.{object_of, thread_of}
 use Rattle.machine_laws.proofs.Fitting.Living.{use_is_alive}
 use Rattle.machine_laws.proofs.Fitting.Posting.{linked_server, open_session}
 use Rattle.machine_safe.proofs.Serving.Sending.{open_is}
 use Rattle.machine_safe.proofs.Serving.Slots.{Slotted, slotted-keeps, used-is}
 use Rattle.machine_safe.specs.CountAfter.{effects_of}
 use Rattle.machine_safe.specs.SafeBusy.{IsSendAnswer, accepted_of, accepts_in, answer_of, is_full_in}
-use Rattle.machine_safe.specs.Slotted.{SentOver, is_send, slots_in, takes_of, used_in}
+use Rattle.machine_safe.specs.Slotted.{SentOver, slots_in, takes_of, used_in}
 use Rattle.state_rows.specs.MessageRows.{all_slots, is_full, takes_slot, used_slots}
 use Rattle.state_rows.specs.declared.servers.SessionRow.{SessionRow}
 use Rattle.std.proofs.lemmas.List.Sums.{length-filter}
+use Rattle.machine.specs.EntryWords.{is_send}
+use Rattle.machine_laws.proofs.Fitting.Regular.{IsRegular, Kinds}
+use Rattle.machine.specs.Task.{instruction, instructions_of}
+use Rattle.machine_safe.specs.Sent.{answers, at_place, instruction_in}
+use Rattle.state_rows.specs.declared.thread.Role.{Role}
+use Rattle.state_rows.specs.declared.thread.ThreadRow.{ThreadRow}
+use Rattle.std.specs.Prelude.{slice_get}
 
 -- servers, sessions, threads and messages are as a history tells
 pub record Book (script : Script) (before : List Entry) (S : State) : Type 0 where
@@ -49,9 +56,9 @@ pub record Book (script : Script) (before : List Entry) (S : State) : Type 0 whe
 
 -- what an entry promises
 pub record IsLawful (script : Script) (before : List Entry) (e : Entry) : Type 0 where
-  pub acceptance : 0 < accepts e.effects → IsAcceptance before e
+  pub acceptance : 0 < accepts e.effects → IsAcceptance script before e
   pub finish : (m : MsgNo) → 0 < finishes e.effects m → IsFinish script before e m
-  pub end : (v : ObjNo) → 0 < ends e.effects v → NothingLeft before v
+  pub end : (v : ObjNo) → 0 < ends e.effects v → IsEnd before e v
   pub send : is_send e.step ≡ true → IsSendAnswer script before e
 
 pub record IsTurn (script : Script) (before : List Entry) (e : Entry) (T : State) : Type 0 where
@@ -125,13 +132,19 @@ full-told script before S s book is =
     session-row None is = absurd (cc)
     session-row (Some row) is = (row, refl)
 
+-- a thread is at the instruction of its place
+pub at-instruction : (script : Script) (before : List Entry) (S : State) (t : ObjNo) (row : ThreadRow) → Book script before S → thread_of S t ≡ Some row → instruction_in script before t ≡ instruction script row
+at-instruction script before S t row book is =
+    let p = book.served.places t.0 row is in
+    ap (at_place script (answers before t)) p.is ∙ (ap (λ (n : ℕ). slice_get (instructions_of script p.first.role) n) (sym p.place) ∙ ap (λ (r : Role). slice_get (instructions_of script r) row.next_instruction) p.role)
+
 -- the answer of a `send` that is refused, and of one that isn't
-refused-answer : (script : Script) (before : List Entry) (S : State) (place : ℕ) (t : ObjNo) (d : Decision) → AreRows script S → Book script before S → accepts (tell t d.moves S) ≡ 0 → IsRefusal S t d → IsSendAnswer script before (entry_for place t S d)
-refused-answer script before S place t d rows book none r = record {
+refused-answer : (script : Script) (before : List Entry) (S : State) (place : ℕ) (t : ObjNo) (d : Decision) → AreRows script S → Book script before S → Looked script before S → accepts (tell t d.moves S) ≡ 0 → IsRefusal S t (instruction_in script before t) d → IsSendAnswer script before (entry_for place t S d)
+refused-answer script before S place t d rows book looked none r = record {
   thread = t;
   actor = refl;
   session = r.session;
-  used = book.served.uses t r.session r.over.row r.over.is r.over.uses;
+  looked = looked t r.session r.over.row r.over.is (ap at_send (sym (at-instruction script before S t r.over.row book r.over.is)) ∙ r.over.here) r.over.uses;
   answer = elim r.by as (λ _. d.answer ≡ Some (answer_of (told) (full))) [
     | inl closed ↦ closed.1 ∙ sym (ap (λ (b : Bool). Some (answer_of b full)) (closing-told script before S r.session book alive closed.0))
     | inr busy ↦ busy.3 ∙ sym (both (λ (b c : Bool). Some (answer_of b c)) (accepting busy.0 busy.1) (is_busy busy.0 busy.1 busy.2))
@@ -160,15 +173,15 @@ refused-answer script before S place t d rows book none r = record {
     both : {A : Type 0} (f : Bool → Bool → A) {b c x y : Bool} → b ≡ x → c ≡ y → f b c ≡ f x y
     both f {b = b} {y = y} p q = ap (f b) q ∙ ap (λ z. f z y) p
 
-pub sent-answer : (script : Script) (before : List Entry) (S : State) (place : ℕ) (t : ObjNo) (d : Decision) (s v : ObjNo) → AreRows script S → Book script before S → server_of S.servers s ≡ Some v → is_closing S.servers v ≡ false → accepts (tell t d.moves S) ≡ 1 → IsAnswered S t s (slots_of S s) d → IsSendAnswer script before (entry_for place t S d)
-sent-answer script before S place t d s v rows book linked open_server_is one r =
+pub sent-answer : (script : Script) (before : List Entry) (S : State) (place : ℕ) (t : ObjNo) (d : Decision) (s v : ObjNo) → AreRows script S → Book script before S → Looked script before S → server_of S.servers s ≡ Some v → is_closing S.servers v ≡ false → accepts (tell t d.moves S) ≡ 1 → IsAnswered S t (instruction_in script before t) s (slots_of S s) d → IsSendAnswer script before (entry_for place t S d)
+sent-answer script before S place t d s v rows book looked linked open_server_is one r =
     let told = accepting-told script before S s v rows book linked open_server_is in
     let full = full-told script before S s book (session-of s v linked) ∙ r.free in
     record {
       thread = t;
       actor = refl;
       session = s;
-      used = book.served.uses t s r.over.row r.over.is r.over.uses;
+      looked = looked t s r.over.row r.over.is (ap at_send (sym (at-instruction script before S t r.over.row book r.over.is)) ∙ r.over.here) r.over.uses;
       answer = r.answer ∙ sym (ap (λ (b : Bool). Some (answer_of b (is_full_in script before s (slots_in script before s)))) told ∙ ap (λ (b : Bool). Some (answer_of true b)) full);
       accepted = one ∙ sym (ap (λ (b : Bool). accepted_of b (is_full_in script before s (slots_in script before s))) told ∙ ap (accepted_of true) full);
     }
@@ -182,7 +195,7 @@ sent-answer script before S place t d s v rows book linked open_server_is one r 
 
 module _ (script : Script) (before : List Entry) (S : State) (place : ℕ) (t : ObjNo) (rows : AreRows script S) (book : Book script before S) where
   -- servers after moves that leave them
-  pub served-doing : (d : Decision) → Doing script S t d.moves → total changing_bit d.moves ≡ 0 → IsEven d → ClosesOthers S d → Detaches S d → Served script (reading (before ++ entry_for place t S d ∷ [])) (perform t d.moves S)
+  pub served-doing : {k : Kinds} (d : Decision) → Doing script S t d.moves → total changing_bit d.moves ≡ 0 → IsRegular k script S t d → ClosesOthers S d → Detaches S d → Served script (reading (before ++ entry_for place t S d ∷ [])) (perform t d.moves S)
   served-doing d does none is closed detaches =
       let fs = tell t d.moves S in
       let k = keeps-doing script S t d.moves does rows (served-made script (reading before) S book.served) none in
@@ -197,15 +210,15 @@ module _ (script : Script) (before : List Entry) (S : State) (place : ℕ) (t : 
       lost_none true e v row there = zero_or (handles_lost (tell t d.moves S) v) (λ some. let most = lost-doing script S t d.moves v does rows in let gone = closed e v (omega arith) in absurd (cc))
 
   -- nothing of servers and messages changes
-  pub turn-keeps : (d : Decision) → IsKeeping S t d → Doing script S t d.moves → IsTurn script before (entry_for place t S d) (perform t d.moves S)
-  turn-keeps d is does =
+  pub turn-keeps : {k : Kinds} (d : Decision) → IsRegular k script S t d → Looked script before S → IsKeeping S t (instruction_in script before t) d → Doing script S t d.moves → IsTurn script before (entry_for place t S d) (perform t d.moves S)
+  turn-keeps d regular looked is does =
       let k = keeps-doing script S t d.moves does rows (served-made script (reading before) S book.served) is.changing in
       let q = quiet-doing script S t d.moves does is.still in
       record {
         book = record {
-          served = served-doing d does is.changing is.even is.closed is.detaches;
+          served = served-doing d does is.changing regular is.closed is.detaches;
           letters = letters-quiet script before S (perform t d.moves S) (entry_for place t S d) book.letters (λ p among. k.unlinked p.session) q (λ p among. k.unended p.server);
           slotted = slotted-keeps script before (entry_for place t S d) S (perform t d.moves S) book.slotted k.unlinked k.slots q.pool;
         };
-        lawful = unserving script before (entry_for place t S d) q.accepts q.finishes k.unended (λ sends. refused-answer script before S place t d rows book q.accepts (is.send sends));
+        lawful = unserving script before (entry_for place t S d) q.accepts q.finishes k.unended (λ sends. refused-answer script before S place t d rows book looked q.accepts (is.send sends));
       }

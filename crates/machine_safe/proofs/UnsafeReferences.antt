@@ -1,0 +1,65 @@
+-- The definition of safe references, tried on histories, changed by hand, that aren't safe.
+use Rattle.std.proofs.Common.{◌≡◌, ℕ, ◌<◌, ◌≤◌, List, [], ◌∷◌, None, refl, arith}
+use Rattle.sym_base.specs.declared.number.ObjNo.{ObjNo}
+use Rattle.sym_base.specs.declared.word.Word.TheVariants as word
+use Rattle.script_types.specs.declared.script.Script.{Script}
+use Rattle.entry_log.specs.declared.effect.Effect.{Effect}
+use Rattle.entry_log.specs.declared.effect.Effect.TheVariants.{Plus, Minus, Dead, Swept}
+use Rattle.entry_log.specs.declared.effect.Holder.TheVariants.{InProcess}
+use Rattle.entry_log.specs.declared.entry.Actor.TheVariants.{Thread}
+use Rattle.entry_log.specs.declared.entry.Entry.{Entry}
+use Rattle.entry_log.specs.declared.step.Part.TheVariants as part
+use Rattle.entry_log.specs.declared.step.Step.TheVariants.{Of}
+use Rattle.machine.specs.Boot.{boot}
+use Rattle.machine.specs.References.{count_of}
+use Rattle.machine_safe.specs.SafeReferences.{IsSafeReferences}
+
+-- thread 3 opens object 5 by place 0 of the table of process 2, and closes that
+abbrev number : ℕ → ObjNo
+number n = record { 0 = n }
+
+abbrev acts : ℕ → List Effect → Entry
+acts place effects = record { place = place; actor = Thread (number 3); step = Of word.Close part.Do; effects = effects; answer = None }
+
+abbrev opens : ℕ → Entry
+opens place = acts place (Plus (InProcess (number 2) 0) (number 5) ∷ [])
+
+abbrev closes : ℕ → Entry
+closes place = acts place (Minus (InProcess (number 2) 0) (number 5) ∷ [])
+
+abbrev ends : ℕ → Entry
+ends place = acts place (Minus (InProcess (number 2) 0) (number 5) ∷ Dead (number 5) ∷ [])
+
+abbrev sweeps : ℕ → Entry
+sweeps place = acts place (Swept (number 5) ∷ [])
+
+-- it doesn't die twice
+died_twice : (script : Script) → IsSafeReferences script (ends 1 ∷ ends 2 ∷ []) → ⊥
+died_twice script safe = let few : 2 ≤ 1 = (safe.over (number 5)).dies in omega arith
+
+-- nor without a reference that goes
+died_held : (script : Script) → IsSafeReferences script (acts 1 (Dead (number 5) ∷ []) ∷ []) → ⊥
+died_held script safe = let some : 0 < 0 = (safe.only (number 5) [] (acts 1 (Dead (number 5) ∷ [])) [] refl (omega arith)).0 in omega arith
+
+-- where the last goes, it dies
+lived_on : (script : Script) → count_of (boot script) (number 5) ≡ 0 → IsSafeReferences script (opens 1 ∷ closes 2 ∷ []) → ⊥
+lived_on script none safe = let some : 0 < 0 = safe.always (number 5) (opens 1 ∷ []) (closes 2) [] refl (omega arith) (omega arith) in omega arith
+
+-- nobody opens it afterwards
+opened_late : (script : Script) → IsSafeReferences script (ends 1 ∷ opens 2 ∷ []) → ⊥
+opened_late script safe = let none : ◌≡◌ {A = ℕ} 1 0 = (safe.over (number 5)).closed [] (ends 1) (opens 2 ∷ []) refl (omega arith) in omega arith
+
+-- its row goes once, and not before
+swept_twice : (script : Script) → IsSafeReferences script (ends 1 ∷ sweeps 2 ∷ sweeps 3 ∷ []) → ⊥
+swept_twice script safe = let few : 2 ≤ 1 = (safe.over (number 5)).once in omega arith
+
+swept_alive : (script : Script) → IsSafeReferences script (sweeps 1 ∷ []) → ⊥
+swept_alive script safe = let some : 0 < 0 = (safe.over (number 5)).swept [] (sweeps 1) [] refl (omega arith) in omega arith
+
+-- and a holder doesn't get it twice
+opened_twice : (script : Script) → IsSafeReferences script (opens 1 ∷ opens 2 ∷ []) → ⊥
+opened_twice script safe = let none = safe.holders.1.0 in omega arith
+
+-- nor gives up one that it hasn't
+closed_unheld : (script : Script) → IsSafeReferences script (closes 1 ∷ []) → ⊥
+closed_unheld script safe = let held = safe.holders.0 in omega arith
