@@ -7,6 +7,7 @@ pub mod Copying
 pub mod Deaths
 pub mod Dooms
 pub mod Finishing
+pub mod Instructions
 pub mod Interrupts
 pub mod KernelThreads
 pub mod Living
@@ -22,6 +23,7 @@ pub mod Shared
 pub mod Staying
 pub mod Stepping
 pub mod Steps
+pub mod Tame
 pub mod Uncalled
 pub mod Waiters
 pub mod Working

@@ -45,7 +45,8 @@ use Rattle.move_laws.proofs.RowLaws.Declared.{dfc_inside, idfc_inside, queue_ins
 use Rattle.machine_laws.proofs.Fitting.Stepping.{fits-both}
 use Rattle.machine_laws.proofs.Fitting.Uncalled.{is_uncalled}
 use Rattle.machine_laws.proofs.Fitting.Waiters.{waits_nowhere}
-use Rattle.machine_laws.proofs.Fitting.Regular.{IsTame, Kinds, plain, tame-both, tame-moves}
+use Rattle.machine_laws.proofs.Fitting.Regular.{IsTame, Kinds, plain}
+use Rattle.machine_laws.proofs.Fitting.Tame.{tame-both, tame-moves}
 
 -- the moves fit one by one, what they may owe has room, and they tell at most four effects
 pub record Goes (script : Script) (t : ObjNo) (S : State) (ms : List Move) : Type 0 where

@@ -43,7 +43,8 @@ use Rattle.move_laws.proofs.RowLaws.Tables.{slot_inside, table_inside}
 use Rattle.machine_laws.proofs.Fitting.Living.{handle_is_alive}
 use Rattle.machine_laws.proofs.Fitting.Posting.{MayPost, accepted_fits, of_wake, open_session, posted, stay-post, woken_fits}
 use Rattle.machine_laws.proofs.Fitting.Staying.{AllStay, Stays, stays-lose, stays-servers}
-use Rattle.machine_laws.proofs.Fitting.Regular.{IsTame, serving, tame-at}
+use Rattle.machine_laws.proofs.Fitting.Regular.{IsTame, serving}
+use Rattle.machine_laws.proofs.Fitting.Tame.{tame-at}
 
 -- the handle of an object stands in a table, and its holder holds it as long as tables and threads are there
 pub record IsHandle (S : State) (h : Holder) (o : ObjNo) : Type 0 where

@@ -48,7 +48,8 @@ use Rattle.machine_laws.proofs.Fitting.Dooms.{GoOnAfter, after-doom, fits-after,
 use Rattle.machine_laws.proofs.Fitting.KernelThreads.{fits-answer, fits-look_kind}
 use Rattle.machine_laws.proofs.Fitting.Uncalled.{not_sent}
 use Rattle.machine_laws.proofs.Fitting.Stepping.{FitsDecision, IsStepping, at-with_row, fits-answers, fits-nothing, fits-refuse, has_signals, live_thread}
-use Rattle.machine_laws.proofs.Fitting.Regular.{IsTame, looking, may_tell, plain, regular-moves, tame-both, tame-in, tame-moves}
+use Rattle.machine_laws.proofs.Fitting.Regular.{IsTame, looking, plain}
+use Rattle.machine_laws.proofs.Fitting.Tame.{may_tell, regular-moves, tame-both, tame-in, tame-moves}
 
 -- a thread on which a call isn't refused is live
 live-by : (stage : Stage) → unless_live stage None ≡ None → stage ≡ Live

@@ -49,7 +49,8 @@ use Rattle.machine_laws.proofs.Fitting.KernelThreads.{held_holder, mutex_inside,
 use Rattle.machine_laws.proofs.Fitting.Stepping.{FitsDecision, IsStepping, at_instruction, at-with_row, fits-answers, fits-refuse, has_signals}
 use Rattle.machine_laws.proofs.Fitting.Waiters.{without_apart}
 use Rattle.move_laws.proofs.RowLaws.Awaited.{dropped_none, undropped}
-use Rattle.machine_laws.proofs.Fitting.Regular.{IsRegular, IsTame, looking, may_tell, plain, regular-moves, tame-both, tame-doom, tame-in, tame-moves}
+use Rattle.machine_laws.proofs.Fitting.Regular.{IsRegular, IsTame, looking, plain}
+use Rattle.machine_laws.proofs.Fitting.Tame.{may_tell, regular-moves, tame-both, tame-doom, tame-in, tame-moves}
 
 -- a thread that may be doomed: it is there with all its rows, is live, and holds no fast mutex
 pub record MayDie (S : State) (u : ObjNo) : Type 0 where

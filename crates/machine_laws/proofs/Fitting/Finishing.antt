@@ -35,7 +35,8 @@ use Rattle.move_laws.proofs.Lists.Totals.{inside}
 use Rattle.move_laws.proofs.RowLaws.Rising.{one_goes}
 use Rattle.machine_laws.proofs.Fitting.Bodies.{OwesNothing, light-end, light-then, no_moves}
 use Rattle.machine_laws.proofs.Fitting.Waiters.{waits_nowhere}
-use Rattle.machine_laws.proofs.Fitting.Regular.{IsTame, Kinds, serving, tame-at, tame-both, tame-moves}
+use Rattle.machine_laws.proofs.Fitting.Regular.{IsTame, Kinds, serving}
+use Rattle.machine_laws.proofs.Fitting.Tame.{tame-at, tame-both, tame-moves}
 use Rattle.machine.specs.Bodies.{end_wait, ends_wait}
 
 -- a message that is outstanding stands at its number

@@ -14,7 +14,8 @@ use Rattle.machine.specs.Interrupts.{immediate_plan, move_call, supervisor}
 use Rattle.machine.specs.WellFormed.{AreRows}
 use Rattle.move_laws.proofs.RowLaws.Declared.{first-all}
 use Rattle.machine_laws.proofs.Fitting.Bodies.{Goes, OwesNothing, goes-light, light-body, no_moves}
-use Rattle.machine_laws.proofs.Fitting.Regular.{plain, tame-moves}
+use Rattle.machine_laws.proofs.Fitting.Regular.{plain}
+use Rattle.machine_laws.proofs.Fitting.Tame.{tame-moves}
 
 -- the supervisor is there
 pub sane-supervisor : (script : Script) (S : State) → AreRows script S → Sane script supervisor S

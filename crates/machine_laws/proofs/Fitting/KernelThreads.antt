@@ -54,7 +54,8 @@ use Rattle.machine_laws.proofs.Fitting.Shared.{IsCheap}
 use Rattle.machine_laws.proofs.Fitting.Stepping.{FitsDecision, IsStepping, fits-nothing, fits-refuse, fits-use, at_instruction, at-with_row, serves_none, live-changed, stepping_live, unspent}
 use Rattle.machine_laws.proofs.Fitting.Uncalled.{is_uncalled, stepping_uncalled}
 use Rattle.machine_laws.proofs.Fitting.Waiters.{waits_nowhere, stepping_nowhere}
-use Rattle.machine_laws.proofs.Fitting.Regular.{Kinds, looking, may_tell, plain, regular-answer, regular-moves, tame, tame-both, tame-in, tame-moves}
+use Rattle.machine_laws.proofs.Fitting.Regular.{Kinds, looking, plain}
+use Rattle.machine_laws.proofs.Fitting.Tame.{may_tell, regular-answer, regular-moves, tame, tame-both, tame-in, tame-moves}
 
 pub none_of : {A : Type 0} (x : Option A) → is_some x ≡ false → x ≡ None
 none_of None e = refl

@@ -49,7 +49,8 @@ use Rattle.machine_laws.proofs.Fitting.Living.{alive_inside, use_is_alive}
 use Rattle.machine_laws.proofs.Fitting.Stepping.{FitsDecision, IsStepping, fits-answers, fits-nothing, fits-refuse, at_instruction, at-with_row, live-changed, stepping_live, unspent}
 use Rattle.machine_laws.proofs.Fitting.Uncalled.{stepping_uncalled, waiter_uncalled}
 use Rattle.machine_laws.proofs.Fitting.Waiters.{passed_is, stepping_nowhere, struck_nowhere, woke_is}
-use Rattle.machine_laws.proofs.Fitting.Regular.{IsTame, Kinds, locking, looking, may_tell, regular-moves, tame-at, tame-both, tame-moves}
+use Rattle.machine_laws.proofs.Fitting.Regular.{IsTame, Kinds, locking, looking}
+use Rattle.machine_laws.proofs.Fitting.Tame.{may_tell, regular-moves, tame-at, tame-both, tame-moves}
 
 -- an answer after a move in the rows of mutexes and semaphores, and where a waiter goes on after it
 fits-locked : {k : Kinds} {script : Script} {S : State} {t : ObjNo} {row : ThreadRow} {instr : Instr} (told : Step) (named : may_tell k told ≡ true) (m : LockMove) → IsTame k 0 (move.Locks m ∷ []) → IsStepping script S t row instr → FitsLocks t m S → FitsDecision k script t S (answer t told (move.Locks m ∷ []) (pos 0))

@@ -17,7 +17,8 @@ use Rattle.machine.specs.MemoryCalls.{fill_do, peek_do}
 use Rattle.move_laws.proofs.Lists.Cases.{if_cases}
 use Rattle.machine_laws.proofs.Fitting.KernelThreads.{fits-answer}
 use Rattle.machine_laws.proofs.Fitting.Stepping.{FitsDecision, IsStepping, fits-answers, fits-refuse}
-use Rattle.machine_laws.proofs.Fitting.Regular.{looking, tame-moves}
+use Rattle.machine_laws.proofs.Fitting.Regular.{looking}
+use Rattle.machine_laws.proofs.Fitting.Tame.{tame-moves}
 
 -- `fill`
 pub fits-fill : {script : Script} {S : State} {t : ObjNo} {row : ThreadRow} {instr : Instr} (at length byte : ℕ) → IsStepping script S t row instr → FitsDecision looking script t S (fill_do t row at length byte)

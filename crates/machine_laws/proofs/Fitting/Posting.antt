@@ -37,7 +37,8 @@ use Rattle.machine_laws.proofs.Fitting.Bodies.{OwesNothing}
 use Rattle.machine_laws.proofs.Fitting.Staying.{AllStay, stays-messages, stays-wake}
 use Rattle.machine_laws.proofs.Fitting.Uncalled.{is_uncalled}
 use Rattle.machine_laws.proofs.Fitting.Waiters.{waits_nowhere}
-use Rattle.machine_laws.proofs.Fitting.Regular.{IsTame, Kinds, serving, tame-at, tame-moves}
+use Rattle.machine_laws.proofs.Fitting.Regular.{IsTame, Kinds, serving}
+use Rattle.machine_laws.proofs.Fitting.Tame.{tame-at, tame-moves}
 
 -- a session whose messages a server accepts is one, and its server is one
 chosen_server : (b : Bool) (x : Option ObjNo) (o : ObjNo) → (if b then x else None) ≡ Some o → x ≡ Some o

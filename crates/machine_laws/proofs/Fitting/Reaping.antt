@@ -51,7 +51,8 @@ use Rattle.machine_laws.proofs.Fitting.Stepping.{FitsDecision, FitsStep, by_kind
 use Rattle.machine_laws.proofs.Fitting.Uncalled.{logged_unsent, waiter_uncalled}
 use Rattle.machine_laws.proofs.Fitting.Waiters.{struck_nowhere, waits_nowhere}
 use Rattle.machine_laws.proofs.Fitting.Working.{IsGiven, OfFirst, empty_left, empty_right, first-all, first-both, fits-work, no-items, none-owned}
-use Rattle.machine_laws.proofs.Fitting.Regular.{freeing, kind_given, plain, regular-moves, serving, tame, tame-at, tame-both, tame-moves}
+use Rattle.machine_laws.proofs.Fitting.Regular.{freeing, kind_given, plain, serving}
+use Rattle.machine_laws.proofs.Fitting.Tame.{regular-moves, tame, tame-at, tame-both, tame-moves}
 
 -- a doomed thread that acts: it waits for nothing, and isn't between a find and its return
 pub record IsDying (script : Script) (S : State) (t : ObjNo) (row : ThreadRow) : Type 0 where

@@ -1,9 +1,6 @@
 -- What the laws of whole histories need of a decision: whether it answers as it ends its instruction, whom it cleans, which servers begin to
 -- close, and what it leaves alone.
-use Rattle.std.proofs.Common.{◌≡◌, ℕ, ℤ, ◌+◌, List, [], ◌∷◌, ◌++◌, arith, refl, sym, ap, ◌∙◌, Option, Some, None, Bool, true, false, ◌<◌, ◌⊎◌, inl, inr}
-use Rattle.std.specs.Prelude.{◌==◌, ◌&&◌, ◌||◌, not}
-use Rattle.std.proofs.lemmas.Bool.{and_parts, eqb-true}
-use Rattle.sym_base.specs.declared.kind.Exit.{Exit}
+use Rattle.std.proofs.Common.{◌≡◌, ℕ, ℤ, List, [], Option, Some, None, Bool, true, false, ◌<◌, ◌⊎◌}
 use Rattle.sym_base.specs.declared.number.ObjNo.{ObjNo}
 use Rattle.script_types.specs.declared.instruction.Instr.{Instr}
 use Rattle.script_types.specs.declared.instruction.Instr.TheVariants as instr
@@ -11,9 +8,6 @@ use Rattle.script_types.specs.declared.script.Script.{Script}
 use Rattle.entry_log.specs.declared.effect.Holder.{Holder}
 use Rattle.entry_log.specs.declared.effect.Holder.TheVariants.{Temp}
 use Rattle.entry_log.specs.declared.step.Part.{Part}
-use Rattle.entry_log.specs.declared.step.Step.{Step}
-use Rattle.state_rows.specs.declared.duty.Owed.{Owed}
-use Rattle.state_rows.specs.declared.duty.Owed.TheVariants.{Close, Sweep}
 use Rattle.state_rows.specs.declared.thread.Stage.TheVariants.{Doomed}
 use Rattle.state_rows.specs.declared.thread.ThreadRow.{ThreadRow}
 use Rattle.machine.specs.declared.death_move.DeathMove.TheVariants.{Clean, Doom}
@@ -26,16 +20,11 @@ use Rattle.machine.specs.declared.moves.Move.{Move}
 use Rattle.machine.specs.declared.moves.Move.TheVariants.{Advance, Death, Gain, Lose, Make, Servers, Messages, Locks}
 use Rattle.machine.specs.declared.server_move.ServerMove.TheVariants.{CloseAll, SetOpen}
 use Rattle.machine.specs.declared.state.State.{State}
-use Rattle.machine.specs.Decide.{answer, go_on}
-use Rattle.machine.specs.Dooms.{doom}
 use Rattle.machine.specs.Holdings.{holdings}
 use Rattle.machine.specs.Reaping.{clean}
 use Rattle.machine.specs.References.{same, total}
 use Rattle.machine.specs.Rows.{owed_of, thread_of}
 use Rattle.machine.specs.EntryWords.{is_clean, is_send, makes_server}
-use Rattle.machine.specs.Steps.{pay}
-use Rattle.move_laws.proofs.Lists.Totals.{total-append}
-use Rattle.move_laws.proofs.References.Same.{eqb_apart, if_not}
 
 -- what a kind of decision may do: serve, change who has a mutex, and come to use an object
 pub record Kinds : Type 0 where
@@ -158,184 +147,3 @@ pub record IsTame (k : Kinds) (ends : ℕ) (ms : List Move) : Type 0 where
   pub calm : k.serves ≡ false → total serving_bit ms ≡ 0
   pub mutexes : k.locks ≡ false → total mutex_bit ms ≡ 0
   pub uses : (u : ObjNo) → total (use_bit u) ms ≡ 0
-
--- whether a kind may tell this step: it is no cleaning, no `send` where the kind doesn't serve, and makes no server where it changes mutexes
-abbrev pub may_tell : Kinds → Step → Bool
-may_tell k step = (not (makes_server step) || not k.locks) && ((not (is_send step) || k.serves) && not (is_clean step))
-
--- whether all that a kind's moves do can be seen at each of them
-abbrev closing_bit : Move → ℕ
-closing_bit (Servers (CloseAll u)) = 1
-closing_bit (Death (Doom u exit)) = 1
-closing_bit _ = 0
-
-abbrev holding_bit : Holder → ℕ
-holding_bit (Temp v) = 1
-holding_bit _ = 0
-
-abbrev using_bit : Move → ℕ
-using_bit (Make kind name h) = holding_bit h
-using_bit (Gain h o) = holding_bit h
-using_bit _ = 0
-
-abbrev is_tame_move : Kinds → Move → Bool
-is_tame_move k m = (cleaning_bit m + closing_bit m + using_bit m == 0) && ((k.serves || serving_bit m == 0) && (k.locks || mutex_bit m == 0))
-
-abbrev pub are_tame : Kinds → List Move → Bool
-are_tame k [] = true
-are_tame k (m ∷ ms) = is_tame_move k m && are_tame k ms
-
-abbrev pub is_tame : Kinds → Decision → Bool
-is_tame k d = (total advance_bit d.moves == answer_bit d.answer) && (are_tame plain d.moves && may_tell k d.step)
-
-second : (x y : Bool) → (x || y) ≡ true → x ≡ false → y ≡ true
-second true y e none = absurd (cc)
-second false y e none = e
-
-first : (x y : Bool) → (x || y) ≡ true → y ≡ false → x ≡ true
-first true y e none = refl
-first false y e none = absurd (cc)
-
-negated : (x : Bool) → not x ≡ true → x ≡ false
-negated true e = absurd (cc)
-negated false e = refl
-
--- what can be seen so
-closed-none : (v : ObjNo) (m : Move) → closing_bit m ≡ 0 → closed_bit v m ≡ 0
-closed-none v (Servers (CloseAll u)) none = absurd (omega arith)
-closed-none v _ none = refl
-
-doomed-none : (v : ObjNo) (m : Move) → closing_bit m ≡ 0 → doomed_bit v m ≡ 0
-doomed-none v (Death (Doom u exit)) none = absurd (omega arith)
-doomed-none v _ none = refl
-
-held-none : (u : ObjNo) (h : Holder) → holding_bit h ≡ 0 → gained_bit u h ≡ 0
-held-none u (Temp v) none = absurd (omega arith)
-held-none u _ none = refl
-
-used-none : (u : ObjNo) (m : Move) → using_bit m ≡ 0 → use_bit u m ≡ 0
-used-none u (Make kind name h) none = held-none u h none
-used-none u (Gain h o) none = held-none u h none
-used-none u _ none = refl
-
-total-none : (k : Kinds) (bit : Move → ℕ) → ((m : Move) → is_tame_move k m ≡ true → bit m ≡ 0) → (ms : List Move) → are_tame k ms ≡ true → total bit ms ≡ 0
-total-none k bit none [] e = refl
-total-none k bit none (m ∷ ms) e =
-    let parts = and_parts (is_tame_move k m) (are_tame k ms) e in
-    let here = none m parts.0 in
-    let rest = total-none k bit none ms parts.1 in omega arith
-
-module _ (k : Kinds) (ms : List Move) (e : are_tame k ms ≡ true) where
-  abbrev alone : Move → Bool
-  alone m = cleaning_bit m + closing_bit m + using_bit m == 0
-
-  abbrev calm_move : Move → Bool
-  calm_move m = k.serves || serving_bit m == 0
-
-  abbrev free_move : Move → Bool
-  free_move m = k.locks || mutex_bit m == 0
-
-  alone-is : (m : Move) → is_tame_move k m ≡ true → cleaning_bit m + closing_bit m + using_bit m ≡ 0
-  alone-is m is = eqb-true (cleaning_bit m + closing_bit m + using_bit m) 0 (and_parts (alone m) (calm_move m && free_move m) is).0
-
-  seen-cleans : total cleaning_bit ms ≡ 0
-  seen-cleans = total-none k cleaning_bit (λ m is. let none = alone-is m is in omega arith) ms e
-
-  seen-dooms : (v : ObjNo) → total (closed_bit v) ms ≡ total (doomed_bit v) ms
-  seen-dooms v =
-      total-none k (closed_bit v) (λ m is. closed-none v m (let none = alone-is m is in omega arith)) ms e
-      ∙ sym (total-none k (doomed_bit v) (λ m is. doomed-none v m (let none = alone-is m is in omega arith)) ms e)
-
-  seen-calm : k.serves ≡ false → total serving_bit ms ≡ 0
-  seen-calm calm = total-none k serving_bit (λ m is. eqb-true (serving_bit m) 0 (second k.serves (serving_bit m == 0) (and_parts (calm_move m) (free_move m) (and_parts (alone m) (calm_move m && free_move m) is).1).0 calm)) ms e
-
-  seen-mutexes : k.locks ≡ false → total mutex_bit ms ≡ 0
-  seen-mutexes calm = total-none k mutex_bit (λ m is. eqb-true (mutex_bit m) 0 (second k.locks (mutex_bit m == 0) (and_parts (calm_move m) (free_move m) (and_parts (alone m) (calm_move m && free_move m) is).1).1 calm)) ms e
-
-  seen-uses : (u : ObjNo) → total (use_bit u) ms ≡ 0
-  seen-uses u = total-none k (use_bit u) (λ m is. used-none u m (let none = alone-is m is in omega arith)) ms e
-
--- moves of a kind, and moves that are of any
-pub tame-at : (k : Kinds) {n : ℕ} (ms : List Move) → are_tame k ms ≡ true → total advance_bit ms ≡ n → IsTame k n ms
-tame-at k ms e ends = record { cleans = seen-cleans k ms e; advances = ends; dooms = seen-dooms k ms e; calm = seen-calm k ms e; mutexes = seen-mutexes k ms e; uses = seen-uses k ms e }
-
-pub tame-in : {k : Kinds} {n : ℕ} {ms : List Move} → IsTame plain n ms → IsTame k n ms
-tame-in h = record { cleans = h.cleans; advances = h.advances; dooms = h.dooms; calm = λ _. h.calm refl; mutexes = λ _. h.mutexes refl; uses = h.uses }
-
-pub tame-moves : {k : Kinds} {n : ℕ} (ms : List Move) → are_tame plain ms ≡ true → total advance_bit ms ≡ n → IsTame k n ms
-tame-moves ms e ends = tame-in (tame-at plain ms e ends)
-
-pub tame-both : {k : Kinds} {n m : ℕ} (xs ys : List Move) → IsTame k n xs → IsTame k m ys → IsTame k (n + m) (xs ++ ys)
-tame-both xs ys h g = record {
-  cleans = let both = total-append cleaning_bit xs ys in let p = h.cleans in let q = g.cleans in omega arith;
-  advances = let both = total-append advance_bit xs ys in let p = h.advances in let q = g.advances in omega arith;
-  dooms = λ v. let both = total-append (closed_bit v) xs ys in let all = total-append (doomed_bit v) xs ys in let p = h.dooms v in let q = g.dooms v in omega arith;
-  calm = λ e. let both = total-append serving_bit xs ys in let p = h.calm e in let q = g.calm e in omega arith;
-  mutexes = λ e. let both = total-append mutex_bit xs ys in let p = h.mutexes e in let q = g.mutexes e in omega arith;
-  uses = λ u. let both = total-append (use_bit u) xs ys in let p = h.uses u in let q = g.uses u in omega arith;
-}
-
-doom-closes : (u : ObjNo) (exit : Exit) (v : ObjNo) → total (closed_bit v) (doom u exit) ≡ total (doomed_bit v) (doom u exit)
-doom-closes u exit v = omega arith
-
-pub tame-doom : {k : Kinds} (u : ObjNo) (exit : Exit) → IsTame k 0 (doom u exit)
-tame-doom u exit = record { cleans = refl; advances = refl; dooms = doom-closes u exit; calm = λ _. refl; mutexes = λ _. refl; uses = λ u. refl }
-
--- what a kind may tell
-module _ (k : Kinds) (step : Step) (e : may_tell k step ≡ true) where
-  told-parts : ((not (makes_server step) || not k.locks) ≡ true) × (((not (is_send step) || k.serves) && not (is_clean step)) ≡ true)
-  told-parts = and_parts (not (makes_server step) || not k.locks) ((not (is_send step) || k.serves) && not (is_clean step)) e
-
-  told-makes : makes_server step ≡ true → k.locks ≡ false
-  told-makes is = negated k.locks (second (not (makes_server step)) (not k.locks) told-parts.0 (ap not is))
-
-  told-sends : k.serves ≡ false → is_send step ≡ false
-  told-sends calm = negated (is_send step) (first (not (is_send step)) k.serves (and_parts (not (is_send step) || k.serves) (not (is_clean step)) told-parts.1).0 calm)
-
-  told-cleans : is_clean step ≡ false
-  told-cleans = negated (is_clean step) (and_parts (not (is_send step) || k.serves) (not (is_clean step)) told-parts.1).1
-
--- a decision of such moves, an answer after them, and a decision whose moves show all
-pub regular-moves : {k : Kinds} {script : Script} {S : State} {t : ObjNo} (d : Decision) → may_tell k d.step ≡ true → IsTame k (answer_bit d.answer) d.moves → IsRegular k script S t d
-regular-moves {k = k} d named h = record {
-  answers = h.advances;
-  dooms = h.dooms;
-  calm = h.calm;
-  making = λ is. h.mutexes (told-makes k d.step named is);
-  sends = told-sends k d.step named;
-  cleans = λ _. h.cleans;
-  known = λ is. let no = told-cleans k d.step named in absurd (cc);
-  uses = λ u _. h.uses u;
-}
-
-pub regular-answer : {k : Kinds} {script : Script} {S : State} {t : ObjNo} (told : Step) (ms : List Move) (code : ℤ) → may_tell k told ≡ true → IsTame k 0 ms → IsRegular k script S t (answer t told ms code)
-regular-answer {t = t} told ms code named h = regular-moves (answer t told ms code) named (tame-both ms (Advance t ∷ []) h (tame-moves (Advance t ∷ []) refl refl))
-
-pub tame : {k : Kinds} {script : Script} {S : State} {t : ObjNo} (d : Decision) → is_tame k d ≡ true → IsRegular k script S t d
-tame {k = k} d e =
-    let parts = and_parts (total advance_bit d.moves == answer_bit d.answer) (are_tame plain d.moves && may_tell k d.step) e in
-    let more = and_parts (are_tame plain d.moves) (may_tell k d.step) parts.1 in
-    regular-moves d more.1 (tame-moves d.moves more.0 (eqb-true (total advance_bit d.moves) (answer_bit d.answer) parts.0))
-
--- what is owed is paid
-pub regular-pay : {script : Script} {S : State} {t : ObjNo} (what : Owed) → IsRegular plain script S t (pay what)
-regular-pay (Close h o) = tame _ refl
-regular-pay (Sweep o) = tame _ refl
-
--- a thread comes to use an object, and goes on to another step
-pub regular-use : {k : Kinds} {script : Script} {S : State} (t : ObjNo) (told : Step) (o : ObjNo) (part : Part) → may_tell k told ≡ true → k.uses ≡ true → IsRegular k script S t (go_on t told (Gain (Temp t) o) part)
-regular-use {k = k} t told o part named uses = record {
-  answers = refl;
-  dooms = λ v. refl;
-  calm = λ _. refl;
-  making = λ _. refl;
-  sends = told-sends k told named;
-  cleans = λ _. refl;
-  known = λ is. let unclean = told-cleans k told named in absurd (cc);
-  uses = own;
-}
-  where
-    own : (u : ObjNo) → (u.0 ≡ t.0 → ⊥) ⊎ ((k.uses ≡ false) ⊎ (0 < answer_bit (go_on t told (Gain (Temp t) o) part).answer)) → total (use_bit u) (go_on t told (Gain (Temp t) o) part).moves ≡ 0
-    own u (inl apart) = let none : same t u ≡ 0 = if_not (t.0 == u.0) 1 (eqb_apart t.0 u.0 (λ e. apart (sym e))) in omega arith
-    own u (inr (inl plainly)) = absurd (cc)
-    own u (inr (inr answered)) = absurd (omega arith)

@@ -42,7 +42,8 @@ use Rattle.machine_laws.proofs.Fitting.Uncalled.{stepping_uncalled}
 use Rattle.machine_laws.proofs.Fitting.Waiters.{stepping_nowhere}
 use Rattle.machine.specs.Task.{is_returning}
 use Rattle.machine.specs.Moves.{moved, with_part}
-use Rattle.machine_laws.proofs.Fitting.Regular.{looking, may_tell, plain, tame-moves}
+use Rattle.machine_laws.proofs.Fitting.Regular.{looking, plain}
+use Rattle.machine_laws.proofs.Fitting.Tame.{may_tell, tame-moves}
 
 -- `queue`
 pub fits-queue : {script : Script} {S : State} {t : ObjNo} {row : ThreadRow} {instr : Instr} (name : List ℕ) → IsStepping script S t row instr → FitsDecision looking script t S (queue_do script S t name)

@@ -45,7 +45,8 @@ use Rattle.machine_laws.proofs.Fitting.Stepping.{FitsDecision, IsStepping, at-wi
 use Rattle.machine_laws.proofs.Fitting.Steps.{room_left}
 use Rattle.machine_laws.proofs.Fitting.Uncalled.{stepping_uncalled}
 use Rattle.machine_laws.proofs.Fitting.Waiters.{stepping_nowhere}
-use Rattle.machine_laws.proofs.Fitting.Regular.{looking, may_tell, plain, serving, tame-at, tame-moves}
+use Rattle.machine_laws.proofs.Fitting.Regular.{looking, plain, serving}
+use Rattle.machine_laws.proofs.Fitting.Tame.{may_tell, tame-at, tame-moves}
 
 -- a thread that makes a step may come to owe something, unless it comes back from a find
 pub owes_more : {script : Script} {S : State} {t : ObjNo} {row : ThreadRow} {instr : Instr} → IsStepping script S t row instr → is_returning row.part ≡ false → MayOweMore S t

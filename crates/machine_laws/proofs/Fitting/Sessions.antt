@@ -63,7 +63,8 @@ use Rattle.machine_laws.proofs.Fitting.Stepping.{FitsDecision, IsStepping, at_in
 use Rattle.machine_laws.proofs.Fitting.Steps.{handle_named, room_left}
 use Rattle.machine_laws.proofs.Fitting.Uncalled.{not_sent, stepping_uncalled}
 use Rattle.machine_laws.proofs.Fitting.Waiters.{stepping_nowhere}
-use Rattle.machine_laws.proofs.Fitting.Regular.{kind_of, looking, may_tell, regular-moves, serving, tame-at, tame-both, tame-moves}
+use Rattle.machine_laws.proofs.Fitting.Regular.{kind_of, looking, serving}
+use Rattle.machine_laws.proofs.Fitting.Tame.{may_tell, regular-moves, tame-at, tame-both, tame-moves}
 
 -- a session is made, where the server is one and isn't closing
 module _ (script : Script) (S : State) (t : ObjNo) (row : ThreadRow) (instr : Instr) (o : ObjNo) (slots : Slots) (h : IsStepping script S t row instr) (going : is_returning row.part ≡ false) (server : ServerRow) (is : server_at S.servers o ≡ Some server) (accepts : server.is_closing ≡ false) (room : length S.objects < OBJECTS) (alive : IsAlive (object_of S o)) (first : begun row.part ≡ 0) where

@@ -38,7 +38,8 @@ use Rattle.move_laws.proofs.Holders.ThreadRows.{row-here}
 use Rattle.move_laws.proofs.Lists.Totals.{inside, total-append, total-with}
 use Rattle.move_laws.proofs.Numbers.FewEffects.{tell_few}
 use Rattle.move_laws.proofs.RowLaws.Threads.{row-kept, map_some}
-use Rattle.machine_laws.proofs.Fitting.Regular.{IsRegular, IsTame, Kinds, may_tell, regular-answer, regular-use, tame, tame-both, tame-moves}
+use Rattle.machine_laws.proofs.Fitting.Regular.{IsRegular, IsTame, Kinds}
+use Rattle.machine_laws.proofs.Fitting.Tame.{may_tell, regular-answer, regular-use, tame, tame-both, tame-moves}
 
 -- the moves of a decision fit, what they tell and owe is little, and it is regular for its kind
 pub record FitsDecision (k : Kinds) (script : Script) (t : ObjNo) (S : State) (d : Decision) : Type 0 where

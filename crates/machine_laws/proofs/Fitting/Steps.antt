@@ -50,7 +50,8 @@ use Rattle.machine_laws.proofs.Fitting.KernelThreads.{fits-unless}
 use Rattle.machine_laws.proofs.Fitting.Stepping.{FitsDecision, FitsStep, IsStepping, answers_step, at_instruction, by_kinds, fits-handle, fits-nothing, fits-refuse}
 use Rattle.machine_laws.proofs.Fitting.Staying.{stay-perform}
 use Rattle.machine_laws.proofs.Fitting.Shared.{fits-look, fits-seek, fits-return, fits-give, fits-give_own, of_process_handle}
-use Rattle.machine_laws.proofs.Fitting.Regular.{IsTame, looking, may_tell, plain, serving, tame-both, tame-in, tame-moves}
+use Rattle.machine_laws.proofs.Fitting.Regular.{IsTame, looking, plain, serving}
+use Rattle.machine_laws.proofs.Fitting.Tame.{may_tell, tame-both, tame-in, tame-moves}
 
 -- what follows the making of an object fits then, leaves the threads, and is tame
 record Begins (script : Script) (t : ObjNo) (start : Option LockMove) (T : State) : Type 0 where

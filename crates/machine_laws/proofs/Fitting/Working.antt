@@ -28,7 +28,8 @@ use Rattle.move_laws.proofs.Lists.Cases.{if_cases}
 use Rattle.move_laws.proofs.References.Same.{same_object, same_self}
 use Rattle.machine_laws.proofs.Fitting.Finishing.{finishes}
 use Rattle.machine_laws.proofs.Fitting.Stepping.{FitsDecision, fits-nothing}
-use Rattle.machine_laws.proofs.Fitting.Regular.{kind_given, regular-moves, serving, tame-at}
+use Rattle.machine_laws.proofs.Fitting.Regular.{kind_given, serving}
+use Rattle.machine_laws.proofs.Fitting.Tame.{regular-moves, tame-at}
 use Rattle.machine.specs.EntryWords.{is_handle}
 use Rattle.move_laws.proofs.Lists.Contents.{contains_behind, contains_cases, contains_filter, contains_first, none_contained}
 use Rattle.move_laws.proofs.RowLaws.Rising.{found_one}

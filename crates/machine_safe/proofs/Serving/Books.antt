@@ -22,7 +22,8 @@ use Rattle.machine_laws.proofs.AtBoot.BootServing.{no_session}
 use Rattle.machine_laws.proofs.AtBoot.Born.{born_row, each_born}
 use Rattle.machine_laws.proofs.Fitting.Bodies.{Goes}
 use Rattle.machine_laws.proofs.Fitting.Interrupts.{goes-immediate, goes-interrupt, light-immediate, light-interrupt}
-use Rattle.machine_laws.proofs.Fitting.Regular.{IsRegular, IsTame, Kinds, advance_bit, plain, tame-moves}
+use Rattle.machine_laws.proofs.Fitting.Regular.{IsRegular, IsTame, Kinds, advance_bit, plain}
+use Rattle.machine_laws.proofs.Fitting.Tame.{tame-moves}
 use Rattle.machine_safe.proofs.Deaths.Rows.{row_bit, stage_live}
 use Rattle.machine_safe.proofs.Serving.Deeds.{Looked, OfEach, calm}
 use Rattle.machine_safe.proofs.Serving.Doing.{Doing, doing, doing-by, keeps-doing, lost-doing, quiet-doing}

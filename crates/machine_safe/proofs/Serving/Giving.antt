@@ -29,7 +29,8 @@ use Rattle.state_rows.specs.declared.messages.Message.{Message}
 use Rattle.sym_base.specs.declared.number.MsgNo.{MsgNo}
 use Rattle.sym_base.specs.declared.number.ObjNo.{ObjNo}
 use Rattle.machine_laws.proofs.Fitting.Actions.{each-action}
-use Rattle.machine_laws.proofs.Fitting.Regular.{IsRegular, kind_given, regular-pay}
+use Rattle.machine_laws.proofs.Fitting.Regular.{IsRegular, kind_given}
+use Rattle.machine_laws.proofs.Fitting.Tame.{regular-pay}
 use Rattle.machine_laws.proofs.Fitting.Working.{IsGiven}
 use Rattle.script_types.specs.Shape.{IsShaped}
 
