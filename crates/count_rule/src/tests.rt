@@ -1,6 +1,6 @@
 //! Tickets that open before and after the last close, in one thread and in several.
-ghost use Rattle.std.specs.Prelude.{◌≡◌, ◌<◌, ◌+◌, length, None, Some};
-ghost use Rattle.ref_words.specs.Words.{IsFresh, own_at, opened, created, sent_out, closed};
+ghost use Rattle.std.specs.Prelude.{◌≡◌, ◌<◌, None, Some};
+ghost use Rattle.ref_words.specs.Words.{own_at, closed};
 
 use crate::{StateSeat, Ticket};
 use ref_words::{Closed, Found, RefWords};
@@ -43,5 +43,67 @@ fn each_of_two_tickets_holds(rt: HostRuntime) -> Result<(), Fail> {
     assert_eq!(rt; words.close(7), Closed::Stays);
     assert_eq!(rt; words.take_back(first), Found::Held);
     assert_eq!(rt; words.close(7), Closed::Last);
+    Ok(())
+}
+
+/// The kernel closes its one reference, in a thread of its own.
+fn closing(mut words: StateSeat) -> (StateSeat, Closed)
+    requires { 0 < own_at words 0 }
+    ensures { result.0 ≡ closed result.1 words 0 }
+{
+    let left = words.close(0);
+    (words, left)
+}
+
+/// A ticket opens, in a thread of its own.
+fn opening(mut ticket: Ticket) -> (Ticket, Found)
+    requires { ticket.found ≡ None }
+    ensures { result.0 ≡ record ticket { found = Some result.1 } }
+{
+    let found = ticket.open();
+    (ticket, found)
+}
+
+/// Two tickets open, each in a thread of its own.
+fn opening_both<R: Threads + Sync>(
+    rt: &R,
+    one: Ticket,
+    two: Ticket,
+) -> ((Ticket, Found), (Ticket, Found))
+    requires { (one.found ≡ None) × (two.found ≡ None) }
+    ensures one { result.0.0 ≡ record one { found = Some result.0.1 } }
+    ensures two { result.1.0 ≡ record two { found = Some result.1.1 } }
+{
+    join(rt, move || opening(one), move || opening(two))
+}
+
+/// Whichever comes first: both tickets hold and the object has two references in the end, or both find it dead.
+#[test]
+fn tickets_open_while_the_kernel_closes(rt: HostRuntime) -> Result<(), Fail> {
+    for _ in 0..1000 {
+        let mut words = StateSeat::new(rt.alloc(), 1)?;
+        words.create(0);
+        let one = words.send_out(0);
+        let two = words.send_out(0);
+        let ((closed, left), ((one, first), (two, second))) = join(
+            &rt,
+            move || closing(words),
+            || opening_both(&rt, one, two),
+        );
+        let mut words = closed;
+        match (left, first, second) {
+            (Closed::Stays, Found::Held, Found::Held) => {
+                assert_eq!(rt; words.take_back(two), Found::Held);
+                assert_eq!(rt; words.take_back(one), Found::Held);
+                assert_eq!(rt; words.close(0), Closed::Stays);
+                assert_eq!(rt; words.close(0), Closed::Last);
+            }
+            (Closed::Last, Found::Dead, Found::Dead) => {
+                assert_eq!(rt; words.take_back(one), Found::Dead);
+                assert_eq!(rt; words.take_back(two), Found::Dead);
+            }
+            other => panic!(rt; "the words say otherwise: {other:?}"),
+        }
+    }
     Ok(())
 }
