@@ -1,6 +1,5 @@
 -- The kernel's seat between two calls, through each of them.
-use Rattle.std.proofs.Common.{◌≡◌, ◌≢◌, ℕ, ◌+◌, ◌-◌, ◌<◌, ◌≤◌, ◌↔◌, List, [], ◌∷◌, length, sym, refl, ap, ◌∙◌, subst, arith, IfSome, Some, None, get_or, set, length-set}
-use Rattle.std.proofs.lemmas.List.{get_or_read}
+use Rattle.std.proofs.Common.{◌≡◌, ◌≢◌, ℕ, ◌+◌, ◌≤◌, ◌↔◌, List, [], length, sym, refl, ap, ◌∙◌, subst, arith, IfSome}
 use Rattle.atomic_table.specs.Seated.{TableId}
 use Rattle.atomic_table.specs.declared.shared.Seat.{Seat}
 use Rattle.ref_words.specs.declared.answer.Found.{Found}
@@ -8,14 +7,14 @@ use Rattle.ref_words.specs.declared.answer.Found.TheVariants.{Held, Dead}
 use Rattle.ref_words.specs.declared.answer.Stage.{Stage}
 use Rattle.ref_words.specs.declared.answer.Stage.TheVariants.{Fresh, InUse, Gone}
 use Rattle.ref_words.specs.declared.slip.Slip.{Slip}
-use Rattle.ref_words.specs.Words.{Words, IsOut, own_found, taken_back, without}
+use Rattle.ref_words.specs.Words.{IsOut, own_found}
 use Rattle.count_rule.specs.declared.view.Counted.{Counted}
 use Rattle.count_rule.specs.declared.view.View.{View}
 use Rattle.count_rule.specs.declared.view.View.TheVariants.{Kernel}
 use Rattle.count_rule.specs.Views.{words_of, own_of, stage_of}
 use Rattle.count_rule.specs.Shows.{IsKept, WasOut}
 use Rattle.count_rule.specs.Moves.{counted_of, joining, looking}
-use Rattle.count_rule.specs.Seats.{counts, IsKernels, IsCalm, Knows, IsSeated}
+use Rattle.count_rule.specs.Seats.{counts, IsCalm, Knows, IsSeated}
 use Rattle.count_rule.proofs.Kept.{kept_held, kept_dead, fewer}
 
 in_use_of : (stage : Stage) → stage ≢ Fresh → stage ≢ Gone → stage ≡ InUse

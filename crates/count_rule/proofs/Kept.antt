@@ -1,12 +1,11 @@
 -- What counts and notes keep, through each change.
-use Rattle.std.proofs.Common.{◌≡◌, ◌≢◌, ℕ, ◌+◌, ◌-◌, ◌<◌, ◌≤◌, List, [], length, replicate, refl, ap, arith, inl, inr, eqb, get_or, set, length-set}
+use Rattle.std.proofs.Common.{◌≡◌, ℕ, ◌+◌, ◌<◌, List, [], length, replicate, refl, ap, arith, inl, inr, eqb, get_or, length-set}
 use Rattle.std.proofs.lemmas.Bool.{cases_Bool, eqb-true, cases_lt}
 use Rattle.std.proofs.lemmas.List.{get_or_past, get_or-replicate, length-replicate}
 use Rattle.std.proofs.lemmas.Grind.{common_steps}
 use Rattle.ref_words.specs.declared.slip.Slip.{Slip}
 use Rattle.ref_words.specs.declared.answer.Found.TheVariants.{Held, Dead}
-use Rattle.ref_words.specs.declared.answer.Stage.{Stage}
-use Rattle.ref_words.specs.declared.answer.Stage.TheVariants.{Fresh, InUse, Gone}
+use Rattle.ref_words.specs.declared.answer.Stage.TheVariants.{Fresh, InUse}
 use Rattle.ref_words.specs.declared.answer.Closed.TheVariants.{Stays, Last}
 use Rattle.ref_words.specs.Words.{Words, own_at, stage_at, IsFresh, IsCreated, IsOut, created, opened, sent_out, taken_back, closed, without, same_slip}
 use Rattle.ref_words.proofs.Notes.{notes_all, notes_append, copies_append, copies_without, copies_out, length_without, notes_without, notes_without_itself, out-before_take, out-before_send, same_slip-true}

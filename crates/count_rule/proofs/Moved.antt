@@ -1,15 +1,15 @@
 -- The steps of the kernel's seat on one word, but for the last close: create, known open, close, and the look after a join.
-use Rattle.std.proofs.Common.{◌≡◌, ◌≢◌, ℕ, ◌+◌, ◌-◌, ◌%◌, ◌^◌, ◌<◌, ◌≤◌, List, [], ◌∷◌, length, set, sym, refl, ap, ◌∙◌, subst, arith, Some, None, IfSome, length-set, get_or, get_or-set_other, get_or-set_same, mod-eq_of_lt}
+use Rattle.std.proofs.Common.{◌≡◌, ℕ, ◌+◌, ◌-◌, ◌%◌, ◌^◌, ◌<◌, ◌≤◌, List, [], ◌∷◌, length, set, sym, refl, ap, ◌∙◌, subst, arith, Some, None, IfSome, length-set, get_or, get_or-set_other, get_or-set_same, mod-eq_of_lt}
 use mathlib.Core.Option.{none, some, some-injective, some-ne-none}
 use lib.ListN.{get_elem?}
 use lib.Seq.{set-get_or}
 use Rattle.atomic_table.specs.Table.{State, Me, step, keeps, Allows}
-use Rattle.ref_words.specs.declared.answer.Stage.TheVariants.{Fresh, InUse, Gone}
+use Rattle.ref_words.specs.declared.answer.Stage.TheVariants.{Fresh, InUse}
 use Rattle.ref_words.specs.Words.{IsFresh}
 use Rattle.count_rule.specs.declared.view.Counted.{Counted}
 use Rattle.count_rule.specs.declared.view.View.{View}
 use Rattle.count_rule.specs.declared.view.View.TheVariants.{Kernel}
-use Rattle.count_rule.specs.Views.{words_of, own_of, stage_of, late_of}
+use Rattle.count_rule.specs.Views.{words_of, own_of}
 use Rattle.count_rule.specs.Shows.{IsStillHeld, WasOut, Shows, Holds}
 use Rattle.count_rule.specs.Moves.{counted_of, creating, opening_known, closing_one, looking, creates, opens_known, closes, looks}
 use Rattle.count_rule.specs.Seats.{IsCalm}

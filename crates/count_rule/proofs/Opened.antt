@@ -1,7 +1,7 @@
 -- The step of a ticket: open.
-use Rattle.std.proofs.Common.{◌≡◌, ◌≢◌, ℕ, ◌+◌, ◌%◌, ◌^◌, ◌<◌, ◌≤◌, ◌↔◌, Bool, true, false, ◌&&◌, eqb, ltb, List, [], ◌∷◌, length, set, sym, refl, ap, ◌∙◌, subst, inl, inr, arith, Option, Some, None, IfSome, length-set, get_or, get_or-set_other, get_or-set_same, mod-eq_of_lt, lt-ltb, le-ltb}
+use Rattle.std.proofs.Common.{◌≡◌, ◌≢◌, ℕ, ◌+◌, ◌%◌, ◌^◌, ◌<◌, ◌≤◌, ◌↔◌, true, false, ◌&&◌, eqb, ltb, List, [], length, set, sym, refl, ap, ◌∙◌, subst, arith, Option, Some, None, IfSome, length-set, get_or, get_or-set_other, get_or-set_same, mod-eq_of_lt, lt-ltb, le-ltb}
 use mathlib.Core.Logic.{dite}
-use mathlib.Core.Option.{none, some, some-injective, some-ne-none}
+use mathlib.Core.Option.{none, some, some-injective}
 use native.Mathlib.Decide.{ℕ_discrete}
 use lib.ListN.{get_elem?}
 use Rattle.atomic_table.specs.Table.{State, Me, step, keeps, Allows}
@@ -15,8 +15,8 @@ use Rattle.ref_words.specs.Words.{IsOut, same_slip}
 use Rattle.ref_words.proofs.Notes.{same_slip-itself, out_copies}
 use Rattle.count_rule.specs.declared.view.Counted.{Counted}
 use Rattle.count_rule.specs.declared.view.View.{View}
-use Rattle.count_rule.specs.declared.view.View.TheVariants.{Kernel, Ticket, Spent}
-use Rattle.count_rule.specs.Views.{words_of, own_of, stage_of, late_of, ticket_bit, tickets, holds_open, found_dead, holding, too_late}
+use Rattle.count_rule.specs.declared.view.View.TheVariants.{Kernel, Ticket}
+use Rattle.count_rule.specs.Views.{words_of, own_of, stage_of, late_of, ticket_bit, holds_open, found_dead, holding, too_late}
 use Rattle.count_rule.specs.Shows.{IsShown, IsShownAt, IsStillHeld, Shows, Holds}
 use Rattle.count_rule.specs.Moves.{found_at, slip_of, opens}
 use Rattle.count_rule.proofs.Tickets.{tickets_set, tickets_at, bit_here, bit_else}

@@ -1,18 +1,16 @@
 -- Lists of shares that are all of one table, and the table at the start.
-use Rattle.std.proofs.Common.{◌≡◌, ◌≢◌, ℕ, ◌+◌, ◌<◌, List, [], ◌∷◌, ◌++◌, length, replicate, sym, refl, ap, ◌∙◌, subst, arith, inl, inr, get_or, length-append, map}
+use Rattle.std.proofs.Common.{◌≡◌, ℕ, ◌<◌, List, [], ◌∷◌, ◌++◌, length, replicate, sym, refl, ◌∙◌, subst, arith, inl, inr, get_or, length-append}
 use Rattle.std.proofs.lemmas.Bool.{cases_lt}
-use Rattle.std.proofs.lemmas.List.{get_or_append_left, get_or_past, get_or-replicate, length-replicate, get_or-append_right}
+use Rattle.std.proofs.lemmas.List.{get_or_append_left, get_or_past, get_or-replicate, length-replicate}
 use Rattle.std.proofs.Math.Seq.{get_or-append_seam}
 use mathlib.Core.Logic.{dite}
 use native.Mathlib.Decide.{ℕ_discrete}
-use Rattle.atomic_table.specs.Table.{State, opening}
+use Rattle.atomic_table.specs.Table.{opening}
 use Rattle.atomic_table.specs.Seated.{TableId}
-use Rattle.ref_words.specs.declared.answer.Stage.{Stage}
 use Rattle.ref_words.specs.declared.answer.Stage.TheVariants.{Fresh}
-use Rattle.count_rule.specs.declared.view.View.{View}
 use Rattle.count_rule.specs.declared.view.View.TheVariants.{Kernel}
-use Rattle.count_rule.specs.Views.{fresh_counted, stage_of, holding, too_late}
-use Rattle.count_rule.specs.Shows.{IsShown, Shows, Holds}
+use Rattle.count_rule.specs.Views.{fresh_counted}
+use Rattle.count_rule.specs.Shows.{Shows, Holds}
 use Rattle.count_rule.specs.Seats.{identity_of}
 use Rattle.count_rule.proofs.Kept.{kept_fresh, fresh_none}
 

@@ -4,7 +4,7 @@ use Rattle.std.proofs.lemmas.Bool.{and_parts}
 use mathlib.Core.Logic.{dite}
 use native.Mathlib.Decide.{ℕ_discrete}
 use Rattle.ref_words.specs.declared.answer.Stage.{Stage}
-use Rattle.ref_words.specs.declared.answer.Stage.TheVariants.{Fresh, InUse, Gone}
+use Rattle.ref_words.specs.declared.answer.Stage.TheVariants.{InUse, Gone}
 use Rattle.ref_words.specs.declared.slip.Slip.{Slip}
 use Rattle.ref_words.specs.Plain.{notes_of}
 use Rattle.count_rule.specs.declared.view.Counted.{Counted}

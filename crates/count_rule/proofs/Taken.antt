@@ -1,5 +1,5 @@
 -- The join, by which a ticket comes back.
-use Rattle.std.proofs.Common.{◌≡◌, ◌≢◌, ℕ, ◌+◌, ◌<◌, ◌≤◌, Bool, true, false, not, ◌&&◌, eqb, if◌then◌else◌, List, [], ◌∷◌, length, filter, set, sym, refl, ap, ◌∙◌, subst, inl, inr, arith, Option, Some, None, get_or, length-set, get_or-set_other, get_or-set_same}
+use Rattle.std.proofs.Common.{◌≡◌, ◌≢◌, ℕ, ◌+◌, ◌<◌, ◌≤◌, Bool, true, false, ◌&&◌, eqb, if◌then◌else◌, List, [], ◌∷◌, length, filter, set, sym, refl, ap, ◌∙◌, subst, inl, inr, arith, Option, Some, get_or, length-set, get_or-set_other, get_or-set_same}
 use Rattle.std.proofs.lemmas.Bool.{cases_Bool}
 use mathlib.Core.Logic.{dite}
 use mathlib.Core.Option.{some}
@@ -19,7 +19,7 @@ use Rattle.count_rule.specs.declared.view.Counted.{Counted}
 use Rattle.count_rule.specs.declared.view.View.{View}
 use Rattle.count_rule.specs.declared.view.View.TheVariants.{Kernel, Ticket, Spent}
 use Rattle.count_rule.specs.Views.{words_of, own_of, stage_of, late_of, ticket_bit, tickets, holds_open, found_dead, holding, too_late}
-use Rattle.count_rule.specs.Shows.{IsShown, IsStillHeld, WasOut, Shows, Holds}
+use Rattle.count_rule.specs.Shows.{IsShown, IsStillHeld, Shows, Holds}
 use Rattle.count_rule.specs.Moves.{counted_of, slip_of, found_of, joining, joined_with}
 use Rattle.count_rule.specs.Seats.{IsCalm}
 use Rattle.count_rule.proofs.Tickets.{tickets_set, tickets_kernel, bit_here, bit_else}

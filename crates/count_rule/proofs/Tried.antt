@@ -1,5 +1,5 @@
 -- The last close: the compare and exchange that wins, and the one that fails.
-use Rattle.std.proofs.Common.{◌≡◌, ◌≢◌, ℕ, ◌+◌, ◌-◌, ◌<◌, ◌≤◌, Bool, true, false, eqb, List, [], ◌∷◌, length, filter, set, sym, refl, ap, ◌∙◌, subst, inl, inr, arith, Some, None, IsTrue, length-set, get_or, get_or-set_other, get_or-set_same, eqb-true, eq-eqb}
+use Rattle.std.proofs.Common.{◌≡◌, ◌≢◌, ℕ, ◌-◌, ◌<◌, ◌≤◌, Bool, eqb, List, [], ◌∷◌, length, filter, set, sym, refl, ◌∙◌, subst, inl, inr, arith, IsTrue, length-set, get_or, get_or-set_other, get_or-set_same, eqb-true, eq-eqb}
 use Rattle.std.proofs.lemmas.Bool.{cases_Bool}
 use Rattle.std.specs.List.{list_any}
 use mathlib.Core.Option.{none}
@@ -11,7 +11,7 @@ use Rattle.ref_words.specs.Words.{HasNoteOut}
 use Rattle.count_rule.specs.declared.view.Counted.{Counted}
 use Rattle.count_rule.specs.declared.view.View.{View}
 use Rattle.count_rule.specs.declared.view.View.TheVariants.{Kernel}
-use Rattle.count_rule.specs.Views.{words_of, own_of, stage_of, holding}
+use Rattle.count_rule.specs.Views.{words_of, own_of, holding}
 use Rattle.count_rule.specs.Shows.{IsStillHeld, WasOut, Shows, Holds}
 use Rattle.count_rule.specs.Moves.{counted_of, closing_last, failing, tried, tries_last}
 use Rattle.count_rule.specs.Seats.{IsCalm}

@@ -1,17 +1,16 @@
 -- What each kind of atomic step makes of the view of its one seat.
-use Rattle.std.specs.Prelude.{◌≡◌, ◌≢◌, ℕ, ◌+◌, ◌-◌, Bool, true, false, ◌==◌, nat_lt, List, [], ◌∷◌, ◌++◌, slice_set, if◌then◌else◌, IfSome, IsTrue, Option, Some, None}
+use Rattle.std.specs.Prelude.{◌≡◌, ◌≢◌, ℕ, ◌+◌, ◌-◌, Bool, true, false, ◌==◌, nat_lt, List, [], ◌∷◌, ◌++◌, slice_set, if◌then◌else◌, IfSome, IsTrue, Some, None}
 use Rattle.std.specs.List.{list_any}
 use Rattle.atomic_table.specs.Table.{Step, Me}
 use Rattle.ref_words.specs.declared.answer.Found.{Found}
 use Rattle.ref_words.specs.declared.answer.Found.TheVariants.{Held, Dead}
 use Rattle.ref_words.specs.declared.answer.Stage.TheVariants.{InUse, Gone}
 use Rattle.ref_words.specs.declared.slip.Slip.{Slip}
-use Rattle.ref_words.specs.Words.{without, own_found, stages_closed}
+use Rattle.ref_words.specs.Words.{without, own_found}
 use Rattle.count_rule.specs.declared.view.Counted.{Counted}
-use Rattle.count_rule.specs.declared.view.Joined.{Joined}
 use Rattle.count_rule.specs.declared.view.View.{View}
 use Rattle.count_rule.specs.declared.view.View.TheVariants.{Kernel, Ticket, Spent}
-use Rattle.count_rule.specs.Views.{fresh_counted, words_of, own_of, late_of}
+use Rattle.count_rule.specs.Views.{mark, fresh_counted, words_of, own_of, late_of}
 use Rattle.count_rule.specs.Shows.{WasOut, IsFoundAt}
 
 -- create: own count 1
@@ -59,14 +58,15 @@ looking k = record k { joined = None }
 
 -- what a ticket finds by the word that was there: the mark tells
 abbrev pub found_at : ℕ → Found
-found_at n = if nat_lt n 9223372036854775808 then Held else Dead
+found_at n = if nat_lt n mark then Held else Dead
 
--- the kernel's part of a view, and a change of it
+-- what the kernel knows, by its view
 abbrev pub counted_of : View → Counted
 counted_of (Kernel k) = k
 counted_of (Ticket slip found) = fresh_counted 0
 counted_of Spent = fresh_counted 0
 
+-- the view of a kernel whose knowledge changes
 abbrev pub in_kernel : (Counted → Counted) → View → View
 in_kernel change v = Kernel (change (counted_of v))
 
@@ -92,9 +92,11 @@ module _ {S : Type 0} where
   abbrev pub opens : Step S → Me S View → ℕ → Me S View → Type 0
   opens step old n new = Becomes old new (Ticket (slip_of old.0) (Some (found_at n))) × IsFoundAt (slip_of old.0) (found_at n)
 
+  -- create: the kernel knows own count 1 at the word's place
   abbrev pub creates : Step S → Me S View → ℕ → Me S View → Type 0
   creates step old n new = Becomes old new (in_kernel (creating step.word) old.0)
 
+  -- known open: one more
   abbrev pub opens_known : Step S → Me S View → ℕ → Me S View → Type 0
   opens_known step old n new = Becomes old new (in_kernel (opening_known step.word) old.0)
 
@@ -103,16 +105,19 @@ module _ {S : Type 0} where
   tries_last step old n new =
       Becomes old new (in_kernel (tried step.word (n == 1)) old.0) × (n ≢ 1 → IsTrue (list_any (λ slip. slip.place == step.word) (counted_of old.0).out))
 
+  -- close: one less
   abbrev pub closes : Step S → Me S View → ℕ → Me S View → Type 0
   closes step old n new = Becomes old new (in_kernel (closing_one step.word) old.0)
 
+  -- a look tells besides that the note was out, and that its answer was right
   abbrev pub looks : Step S → Me S View → ℕ → Me S View → Type 0
   looks step old n new = Becomes old new (in_kernel looking old.0) × IfSome (counted_of old.0).joined (WasOut (counted_of old.0))
 
--- what a split leaves with the kernel, and what the new ticket has
+-- what a split leaves with the kernel
 abbrev pub sent : ℕ → View → View
 sent p v = in_kernel (sending p) v
 
+-- and what the new ticket has
 abbrev pub new_ticket : ℕ → View → View
 new_ticket p v = Ticket (record { place = p; number = (counted_of v).made + 1 }) None
 

@@ -1,10 +1,9 @@
 -- The seats between two calls: the kernel's, and those of tickets; and what contracts see of a ticket.
-use Rattle.std.specs.Prelude.{◌≡◌, ℕ, ◌+◌, ◌<◌, List, [], ◌∷◌, length, Option, Some, None}
+use Rattle.std.specs.Prelude.{◌≡◌, ℕ, ◌<◌, List, [], ◌∷◌, length, Option, None}
 use Rattle.atomic_table.specs.Seated.{TableId}
 use Rattle.atomic_table.specs.declared.shared.Seat.{Seat}
 use Rattle.ref_words.specs.declared.answer.Found.{Found}
 use Rattle.ref_words.specs.declared.slip.Slip.{Slip}
-use Rattle.ref_words.specs.Words.{Words}
 use Rattle.count_rule.specs.declared.view.Counted.{Counted}
 use Rattle.count_rule.specs.declared.view.View.{View}
 use Rattle.count_rule.specs.declared.view.View.TheVariants.{Kernel, Ticket}

@@ -1,5 +1,5 @@
 -- Words and views: what the words of the table show of the kernel's counts and of the tickets.
-use Rattle.std.specs.Prelude.{◌≡◌, ℕ, ◌+◌, ◌<◌, ◌≤◌, ◌↔◌, Bool, List, [], ◌∷◌, length, filter, slice_index, IfSome, Option, None, IsTrue}
+use Rattle.std.specs.Prelude.{◌≡◌, ℕ, ◌+◌, ◌<◌, ◌≤◌, ◌↔◌, Bool, List, [], length, filter, slice_index, IfSome, None, IsTrue}
 use Rattle.std.specs.List.{list_any}
 use mathlib.Core.Option.{some}
 use lib.ListN.{get_elem?}
@@ -15,7 +15,7 @@ use Rattle.count_rule.specs.declared.view.Counted.{Counted}
 use Rattle.count_rule.specs.declared.view.Joined.{Joined}
 use Rattle.count_rule.specs.declared.view.View.{View}
 use Rattle.count_rule.specs.declared.view.View.TheVariants.{Kernel, Ticket}
-use Rattle.count_rule.specs.Views.{words_of, own_of, stage_of, late_of, tickets, holding, too_late}
+use Rattle.count_rule.specs.Views.{mark, words_of, own_of, stage_of, late_of, tickets, holding, too_late}
 
 -- What counts and notes keep at any time: only a place in use has an own count; only created places have
 -- notes out, each once and with a number of those that were given; and no count comes near its type's end.
@@ -33,7 +33,7 @@ pub record IsKept (w : Words) : Type 0 where
 abbrev pub IsShown : Stage → ℕ → ℕ → ℕ → ℕ → Type 0
 IsShown Fresh word own holds late = (word ≡ 0) × (own ≡ 0) × (holds ≡ 0) × (late ≡ 0)
 IsShown InUse word own holds late = (word ≡ own + holds) × (0 < word) × (late ≡ 0)
-IsShown Gone word own holds late = (word ≡ 9223372036854775808 + late) × (own ≡ 0) × (holds ≡ 0)
+IsShown Gone word own holds late = (word ≡ mark + late) × (own ≡ 0) × (holds ≡ 0)
 
 -- the word of a place shows its count, and the tickets on it
 abbrev pub IsShownAt : Counted → List ℕ → List View → ℕ → Type 0

@@ -79,7 +79,7 @@ pub(crate) fn close(table: &CountTable, seat: &mut CountSeat, place: u32)
     table.shared.fetch_sub::<Close>(seat, place as usize, 1);
 }
 
-/// The kernel sends a ticket out for the place that `A` picks.
+/// The kernel sends a ticket out for the place that `A` picks. `place` ties it to a number, for the clauses alone.
 pub(crate) fn split<A: At>(table: &CountTable, seat: &mut CountSeat, place: u32) -> CountSeat
     requires picked { place ≡ A.place }
     requires seat { IsKernels table.now.shared.table_id seat.old }

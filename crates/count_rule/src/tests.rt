@@ -1,6 +1,6 @@
 //! Tickets that open before and after the last close, in one thread and in several.
-ghost use Rattle.std.specs.Prelude.{◌≡◌, ◌<◌, None, Some};
-ghost use Rattle.ref_words.specs.Words.{own_at, closed};
+ghost use Rattle.std.specs.Prelude.{◌≡◌, ◌<◌, length, None, Some};
+ghost use Rattle.ref_words.specs.Words.{IsFresh, own_at, closed};
 
 use crate::{StateSeat, Ticket};
 use ref_words::{Closed, Found, RefWords};
@@ -43,6 +43,36 @@ fn each_of_two_tickets_holds(rt: HostRuntime) -> Result<(), Fail> {
     assert_eq!(rt; words.close(7), Closed::Stays);
     assert_eq!(rt; words.take_back(first), Found::Held);
     assert_eq!(rt; words.close(7), Closed::Last);
+    Ok(())
+}
+
+/// Makes an object with two references, sends a note out for it, and closes one: known by the bound alone.
+fn sent_while_known<W: RefWords>(words: &mut W, place: u32) -> W::Note
+    requires fresh { IsFresh (W.meaning words.old) place }
+    requires few_out { length (W.meaning words.old).out < 64 }
+    requires few_made { (W.meaning words.old).made < 4294967295 }
+    ensures is_new { W.IsNew result }
+    ensures fits { W.Fits words.new result }
+    ensures place { (W.slip result).place ≡ place }
+    ensures one { own_at (W.meaning words.new) place ≡ 1 }
+{
+    words.create(place);
+    words.open_known(place);
+    let note = words.send_out(place);
+    let _ = words.close(W::place_of(&note));
+    note
+}
+
+#[test]
+fn a_ticket_raises_a_count_that_is_known(rt: HostRuntime) -> Result<(), Fail> {
+    let mut words = StateSeat::new(rt.alloc(), 4)?;
+    assert_eq!(rt; words.places(), 4);
+    let mut ticket = sent_while_known(&mut words, 3);
+    assert_eq!(rt; ticket.place(), 3);
+    assert_eq!(rt; ticket.open(), Found::Held);
+    assert_eq!(rt; words.take_back(ticket), Found::Held);
+    assert_eq!(rt; words.close(3), Closed::Stays);
+    assert_eq!(rt; words.close(3), Closed::Last);
     Ok(())
 }
 

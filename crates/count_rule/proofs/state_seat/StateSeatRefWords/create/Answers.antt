@@ -1,4 +1,4 @@
-use Rattle.std.proofs.Common.{length, ap, sym, subst, set, length-set}
+use Rattle.std.proofs.Common.{ap, sym, subst, set, length-set}
 use Rattle.ref_words.specs.Words.{Words, IsFresh}
 use Rattle.count_rule.specs.Moves.{creating}
 use Rattle.count_rule.specs.Seats.{counts}

@@ -1,4 +1,4 @@
-use Rattle.std.proofs.Common.{◌≡◌, ℕ, ◌+◌, ◌<◌, List, [], ◌∷◌, ◌++◌, length, get_or, ap, sym, refl, subst, ◌∙◌, arith, Some, None, length-append}
+use Rattle.std.proofs.Common.{◌+◌, ◌<◌, [], ◌∷◌, ◌++◌, length, ap, sym, refl, subst, ◌∙◌, arith, None, length-append}
 use Rattle.std.specs.Option.{option_to_list}
 use Rattle.ref_words.specs.Words.{Words, own_at, IsCreated}
 use Rattle.count_rule.specs.declared.view.View.TheVariants.{Ticket}

@@ -3,7 +3,7 @@ use Rattle.std.proofs.lemmas.List.{get_or_read}
 use Rattle.ref_words.specs.declared.answer.Found.TheVariants.{Held, Dead}
 use Rattle.ref_words.specs.Words.{own_found}
 use Rattle.count_rule.specs.declared.view.View.TheVariants.{Ticket}
-use Rattle.count_rule.specs.Views.{words_of, own_of}
+use Rattle.count_rule.specs.Views.{words_of}
 use Rattle.count_rule.specs.Moves.{slip_of, found_of}
 use Rattle.count_rule.specs.Seats.{counts}
 use Rattle.count_rule.proofs.Shares.{all_more, identity_tells}
