@@ -1,4 +1,6 @@
 -- The steps of the kernel's seat on one word, but for the last close: create, known open, close, and the look after a join.
+use native.Mathlib.Decide.{ℕ_discrete}
+use mathlib.Core.Logic.{dite}
 use Rattle.std.proofs.Common.{◌≡◌, ℕ, ◌+◌, ◌-◌, ◌%◌, ◌^◌, ◌<◌, ◌≤◌, List, [], ◌∷◌, length, set, sym, refl, ap, ◌∙◌, subst, arith, Some, None, IfSome, length-set, get_or, get_or-set_other, get_or-set_same, mod-eq_of_lt}
 use mathlib.Core.Option.{none, some, some-injective, some-ne-none}
 use lib.ListN.{get_elem?}
@@ -115,7 +117,7 @@ inside_words k words views p r known = let inside = known_placed k.own p known i
 two_there : (k : Counted) (words : List ℕ) (views : List View) (p : ℕ) → Shows k words views → 0 < own_of k p → (own_of k p ≡ 1 → k.closing ≡ Some p) → 2 ≤ get_or words p 0
 two_there k words views p r known failed =
     let inside = inside_words k words views p r known in let was = shown_as k words views p InUse r inside (r.kept.in_use p known) in
-    mathlib.Core.Logic.dite (native.Mathlib.Decide.ℕ_discrete (own_of k p) 1)
+    dite (ℕ_discrete (own_of k p) 1)
     (λ one. let held : IsStillHeld k words p = subst (λ x. IfSome x (IsStillHeld k words)) (failed one) r.closing in held.2)
     (λ more. omega (arith, was.0))
 

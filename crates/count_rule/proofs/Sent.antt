@@ -1,5 +1,6 @@
 -- The split, by which a ticket goes out.
-use Rattle.std.proofs.Common.{◌≡◌, ◌≢◌, ℕ, ◌+◌, ◌<◌, ◌≤◌, Bool, true, false, ◌&&◌, eqb, if◌then◌else◌, List, [], ◌∷◌, ◌++◌, length, filter, set, sym, refl, ap, ◌∙◌, subst, inl, inr, arith, Option, Some, None, length-append}
+use Rattle.ref_words.specs.declared.answer.Found.{Found}
+use Rattle.std.proofs.Common.{◌≡◌, ℕ, ◌+◌, ◌<◌, Bool, false, ◌&&◌, eqb, List, [], ◌∷◌, ◌++◌, length, filter, set, sym, refl, ap, ◌∙◌, subst, inl, inr, arith, Option, None, length-append, get_or}
 use Rattle.std.proofs.lemmas.Bool.{cases_Bool}
 use Rattle.std.proofs.lemmas.List.Elements.{filter-append}
 use mathlib.Core.Option.{some}
@@ -22,7 +23,7 @@ use Rattle.count_rule.proofs.Shown.{none_if}
 use Rattle.count_rule.proofs.Moved.{sees, first_set}
 
 -- a ticket that didn't open is counted neither way
-bit_unopened : (flag : Option Rattle.ref_words.specs.declared.answer.Found.Found → Bool) → flag None ≡ false → (p : ℕ) (s : Slip) → ticket_bit (λ slip found. eqb slip.place p && flag found) (Ticket s None) ≡ 0
+bit_unopened : (flag : Option Found → Bool) → flag None ≡ false → (p : ℕ) (s : Slip) → ticket_bit (λ slip found. eqb slip.place p && flag found) (Ticket s None) ≡ 0
 bit_unopened flag none p s =
     elim (cases_Bool (eqb s.place p)) [
       | inl here ↦ rw (here, none) refl
@@ -41,7 +42,7 @@ sent_shows : (k : Counted) (words : List ℕ) (views : List View) (p : ℕ) → 
 sent_shows k words views p r at calm made low few short =
     let slip : Slip = record { place = p; number = k.made + 1 } in
     let new : List View = set views 0 (Kernel (sending p k)) ++ Ticket slip None ∷ [] in
-    let count : (test : Slip → Option Rattle.ref_words.specs.declared.answer.Found.Found → Bool) → tickets test new ≡ tickets test views + ticket_bit test (Ticket slip None) =
+    let count : (test : Slip → Option Found → Bool) → tickets test new ≡ tickets test views + ticket_bit test (Ticket slip None) =
     λ test. tickets_snoc test (set views 0 (Kernel (sending p k))) (Ticket slip None) ∙ ap (λ (n : ℕ). n + ticket_bit test (Ticket slip None)) (tickets_kernel test views 0 k (sending p k) at) in
     record {
       as_many = r.as_many;
@@ -49,7 +50,7 @@ sent_shows k words views p r at calm made low few short =
       shown = λ q inside.
           let as_many : holding q views ≡ holding q new = omega (arith, count (λ s f. eqb s.place q && holds_open f), bit_unopened holds_open refl q slip) in
           let as_late : too_late q views ≡ too_late q new = omega (arith, count (λ s f. eqb s.place q && found_dead f), bit_unopened found_dead refl q slip) in
-          subst (λ (x : ℕ × ℕ). IsShown (stage_of k q) (Rattle.std.proofs.Common.get_or words q 0) (own_of k q) x.0 (late_of k q + x.1)) (λ i. (as_many i, as_late i)) (r.shown q inside);
+          subst (λ (x : ℕ × ℕ). IsShown (stage_of k q) (get_or words q 0) (own_of k q) x.0 (late_of k q + x.1)) (λ i. (as_many i, as_late i)) (r.shown q inside);
       are_notes = λ test.
           let both : length (filter test (k.out ++ slip ∷ [])) ≡ length (filter test k.out) + length (filter test (slip ∷ [])) = rw (filter-append test k.out (slip ∷ []), length-append) refl in
           omega (arith, count (λ s f. test s), r.are_notes test, filter_one test slip);

@@ -1,5 +1,5 @@
 -- The seats between two calls: the kernel's, and those of tickets; and what contracts see of a ticket.
-use Rattle.std.specs.Prelude.{◌≡◌, ℕ, ◌<◌, List, [], ◌∷◌, length, Option, None}
+use Rattle.std.specs.Prelude.{◌≡◌, ℕ, ◌+◌, ◌<◌, ◌≤◌, List, [], ◌∷◌, length, All, Option, None}
 use Rattle.atomic_table.specs.Seated.{TableId}
 use Rattle.atomic_table.specs.declared.shared.Seat.{Seat}
 use Rattle.ref_words.specs.declared.answer.Found.{Found}
@@ -52,3 +52,11 @@ module _ {S : Type 0} where
     pub ticket : seat.me ≡ (Ticket (slip_of seat.me.0) found, [])
     pub place_is : (slip_of seat.me.0).place ≡ place
     pub placed : place < z.words
+
+-- The state seat between two calls: its seat, a share of the table for each ticket that may go out, and room for
+-- those that are out.
+pub record IsWhole {S : Type 0} (z : TableId) (seat : Seat S View) (own : List ℕ) (shares : List TableId) (room : ℕ) : Type 0 where
+  pub seated : IsSeated z seat own
+  pub same_table : All (λ share. share ≡ z) shares
+  pub has_room : 64 ≤ room
+  pub in_all : length shares + length (counts seat).out ≡ 64

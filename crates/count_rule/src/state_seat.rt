@@ -27,16 +27,16 @@ pub struct StateSeat {
 }
 
 impl Model for StateSeat {
-    ghost use Rattle.std.specs.Prelude.{◌≡◌, ◌+◌, ◌≤◌, length, All, vec_capacity};
+    ghost use Rattle.std.specs.Prelude.{vec_capacity};
     ghost use Rattle.ref_words.specs.Words.{Words};
     ghost use Rattle.count_rule.specs.Views.{words_of};
-    ghost use Rattle.count_rule.specs.Seats.{counts, IsSeated, identity_of};
+    ghost use Rattle.count_rule.specs.Seats.{counts, IsWhole, identity_of};
 
     ghost Value = { Words };
 
     ghost view = { λ s. words_of (identity_of s.seat.table_id) (counts s.seat) };
 
-    ghost invariant = { λ s. IsSeated s.share s.seat s.own.items × All (λ share. share ≡ s.share) s.shares.items × (64 ≤ vec_capacity s.shares) × (length s.shares.items + length (counts s.seat).out ≡ 64) };
+    ghost invariant = { λ s. IsWhole s.share s.seat s.own.items s.shares.items (vec_capacity s.shares) };
 }
 
 /// As many shares of the table as tickets may be out.

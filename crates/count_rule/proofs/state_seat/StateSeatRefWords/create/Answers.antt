@@ -10,9 +10,9 @@ pub invariant_of-self : goal.invariant_of-self
 invariant_of-self c =
     let was = c.self.invariant in let k = counts c.self.inside.seat in
     let fresh = subst (λ (w : Words). IsFresh w c.args.place) (sym c.self.view_is) c.requires in
-    let new = creating c.args.place k in (
-      seated_by _ _ _ c.self.inside.seat c.create.new.seat new was.0 c.create.ensures was.0.calm (kept_created _ _ was.0.kept fresh) (ap (λ xs. set xs c.args.place 1) was.0.own_is) (length-set _ _ _),
-      was.1,
-      was.2,
-      out_by _ c.self.inside.seat c.create.new.seat new c.create.ensures was.3,
-    )
+    let new = creating c.args.place k in record {
+      seated = seated_by _ _ _ c.self.inside.seat c.create.new.seat new was.seated c.create.ensures was.seated.calm (kept_created _ _ was.seated.kept fresh) (ap (λ xs. set xs c.args.place 1) was.seated.own_is) (length-set _ _ _);
+      same_table = was.same_table;
+      has_room = was.has_room;
+      in_all = out_by _ c.self.inside.seat c.create.new.seat new c.create.ensures was.in_all;
+    }
