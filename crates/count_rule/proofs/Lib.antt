@@ -1,0 +1,10 @@
+mod Tickets
+mod Kept
+mod Shown
+mod Moved
+mod Opened
+mod Tried
+mod Sent
+mod Taken
+mod Shares
+mod Between

@@ -1,0 +1,4 @@
+pub mod Views
+pub mod Shows
+pub mod Moves
+pub mod Seats
