@@ -1,37 +1,34 @@
--- What an action leaves in the tables and in the queues: what it does to the definitions' state.
-use Rattle.std.specs.Prelude.{◌≡◌, true, IsTrue, List}
+-- What an action leaves in the tables and in the queues: what it does to the definitions' state and to the list of ready threads.
+use Rattle.std.specs.Prelude.{◌≡◌, List}
 use Rattle.sym_base.specs.declared.number.ObjNo.{ObjNo}
 use Rattle.script_types.specs.declared.script.Script.{Script}
 use Rattle.entry_log.specs.declared.entry.Actor.{Actor}
-use Rattle.entry_log.specs.declared.entry.Actor.TheVariants.{Thread}
 use Rattle.ready_list.specs.Ready.{Ready}
+use Rattle.machine.specs.declared.decision.Decision.{Decision}
 use Rattle.machine.specs.declared.decision.Outcome.{Outcome}
-use Rattle.machine.specs.declared.state.State.{State}
-use Rattle.machine.specs.Arrivals.{is_listed}
+use Rattle.machine.specs.Arrivals.{ready_after}
+use Rattle.machine.specs.Arrived.{arrived_next}
 use Rattle.machine.specs.Choice.{priority_of}
-use Rattle.machine.specs.Task.{is_ready, is_able}
-use Rattle.machine.specs.Transition.{Transition, left}
+use Rattle.machine.specs.History.{transition}
+use Rattle.machine.specs.Transition.{Transition, carried_out, left}
+use Rattle.machine.specs.WellFormed.{IsReadyList}
 use Rattle.kernel_tables.specs.declared.tables.Tables.{Tables}
 use Rattle.kernel_tables.specs.Noted.{AreKept}
 use Rattle.kernel_tables.specs.ReadyQueues.{AreReady}
-use Rattle.kernel_tables.specs.StateOf.{state_of, with_ready}
+use Rattle.kernel_tables.specs.StateOf.{state_of}
 
--- a thread that acts is able
-abbrev pub MayAct : Script → State → Actor → Type 0
-MayAct script S (Thread t) = IsTrue (is_able script S t)
-MayAct script S _ = Unit {0}
-
--- the tables and the queues stand for the state that an action left, of which this is told
-pub record IsLeft {W N : Type 0} (tables : Tables W N) (r : Ready) (outcome : Outcome) (done : Transition) : Type 0 where
-  pub did : left (with_ready (state_of tables) done.state.ready) outcome ≡ done
-  pub queues : AreReady (priority_of (state_of tables)) done.state.ready r
-
--- each thread of a list is ready
-abbrev pub EachReady : Script → State → List ObjNo → Type 0
-EachReady script S qs = (t : ObjNo) → is_listed qs t ≡ true → is_ready script S t ≡ true
-
--- from the old tables and queues the action was made, whichever list of ready threads these have, and the new tables
--- keep what they keep beside the rows
-pub record Does {W N : Type 0} (script : Script) (old : Tables W N) (before : Ready) (new : Tables W N) (after : Ready) (outcome : Outcome) (action : State → Transition) : Type 0 where
-  pub each : (qs : List ObjNo) → AreReady (priority_of (state_of old)) qs before → EachReady script (state_of old) qs → IsLeft new after outcome (action (with_ready (state_of old) qs))
+-- from the old tables and queues an action was made: the new tables stand for the state that it left, and this is told of it;
+-- where the old queues had the list of ready threads, the new ones have what it was changed to; and what the tables keep beside
+-- the rows is kept
+pub record Does {W N : Type 0} (script : Script) (old : Tables W N) (before : Ready) (new : Tables W N) (after : Ready) (outcome : Outcome) (done : Transition) (change : List ObjNo → List ObjNo) : Type 0 where
+  pub did : left (state_of new) outcome ≡ done
+  pub queues : (qs : List ObjNo) → IsReadyList script (state_of old) qs → AreReady (priority_of (state_of old)) qs before → AreReady (priority_of (state_of new)) (change qs) after
   pub kept : AreKept new
+
+-- the action of thread t that was decided on
+abbrev pub CarriesOut : {W N : Type 0} → Script → ObjNo → Tables W N → Ready → Tables W N → Ready → Outcome → Decision → Type 0
+CarriesOut script t old before new after outcome d = Does script old before new after outcome (carried_out script t (state_of old) d) (ready_after script t d.moves (state_of old))
+
+-- the action of an actor
+abbrev pub Acts : {W N : Type 0} → Script → Tables W N → Ready → Tables W N → Ready → Outcome → Actor → Type 0
+Acts script old before new after outcome actor = Does script old before new after outcome (transition script (state_of old) actor) (arrived_next script (state_of old) actor)

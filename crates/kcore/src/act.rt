@@ -1,22 +1,20 @@
 //! Actions: of a thread, of an interrupt or of the immediate queue, or the end of a time slice.
-ghost use Rattle.std.specs.Prelude.{◌≡◌, ℕ, [], Some, None, IsTrue};
+ghost use Rattle.std.specs.Prelude.{◌≡◌, [], Some, None, IsTrue};
 ghost use Rattle.sym_base.specs.declared.limits.TheConstants.Limits.{BOOT_OBJECTS};
-ghost use Rattle.sym_base.specs.declared.number.ObjNo.{ObjNo};
-ghost use Rattle.sym_base.specs.Greatest.{first_of_greatest};
 ghost use Rattle.script_types.specs.Shape.{IsShaped};
-ghost use Rattle.machine.specs.History.{transition};
-ghost use Rattle.machine.specs.Tick.{moved_behind};
-ghost use Rattle.state_rows.specs.Nano.{turned};
+ghost use Rattle.machine.specs.Choice.{priority_of};
+ghost use Rattle.machine.specs.History.{CanAct};
+ghost use Rattle.machine.specs.Steps.{decision_of};
+ghost use Rattle.machine.specs.Tick.{after_tick};
 ghost use Rattle.machine.specs.declared.task.Task.TheVariants as task;
 ghost use Rattle.machine.specs.Task.{is_able, task_of};
-ghost use Rattle.machine.specs.Transition.{act, carried_out};
 ghost use Rattle.exec_user.specs.Stepping.{step_at};
 ghost use Rattle.machine.specs.WellFormed.{AreRows};
 ghost use Rattle.kernel_tables.specs.Noted.{AreKept};
-ghost use Rattle.kcore.specs.Done.{Does, MayAct};
+ghost use Rattle.kcore.specs.Done.{Acts, CarriesOut};
 ghost use Rattle.kcore.specs.Told.{IsTold, told_in};
 ghost use Rattle.kernel_tables.specs.Performed.{IsPerformed};
-ghost use Rattle.kernel_tables.specs.ReadyQueues.{Follow, SomeReady};
+ghost use Rattle.kernel_tables.specs.ReadyQueues.{Follow};
 ghost use Rattle.kernel_tables.specs.StateOf.{state_of};
 
 use crate::bodies::run_body;
@@ -27,7 +25,6 @@ use entry_log::{Actor, Effects, Entry, Step};
 use exec_user::{ExecUser, phase_at};
 use kernel_tables::{Tables, leave_along, turn};
 use machine::Decision;
-use nano_sync::NanoSync;
 use next_actions::{NextAction, next_action};
 use ready_list::ReadyList;
 use ref_words::RefWords;
@@ -84,7 +81,7 @@ fn step<W: RefWords + Drop>(
     requires next { task_of script.now (state_of tables.old) thread ≡ Some (task.Step instr.now) }
     requires empty { entry.old.effects ≡ [] }
     ensures told { IsTold entry.old entry.new }
-    ensures does { Does script.now tables.old ready.old tables.new ready.new (told_in entry.new) (λ S. carried_out script.now thread S (step_at script.now (state_of tables.old) thread instr.now)) }
+    ensures does { CarriesOut script.now thread tables.old ready.old tables.new ready.new (told_in entry.new) (step_at script.now (state_of tables.old) thread instr.now) }
 {
     let answer = make_step(
         script,
@@ -117,7 +114,7 @@ fn act<W: RefWords + Drop>(
     requires able { IsTrue (is_able script.now (state_of tables.old) thread) }
     requires empty { entry.old.effects ≡ [] }
     ensures told { IsTold entry.old entry.new }
-    ensures does { Does script.now tables.old ready.old tables.new ready.new (told_in entry.new) (λ S. act script.now S thread) }
+    ensures does { CarriesOut script.now thread tables.old ready.old tables.new ready.new (told_in entry.new) (decision_of script.now (state_of tables.old) thread) }
 {
     match next_action(decision, script, tables, thread) {
         NextAction::Decided => carry_out(script, tables, ready, thread, decision, entry),
@@ -140,13 +137,13 @@ fn act<W: RefWords + Drop>(
 }
 
 /// The end of a time slice.
-fn tick(nano: &NanoSync, ready: &mut ReadyList, entry: &mut Entry)
+fn tick<W: RefWords + Drop>(tables: &Tables<W>, ready: &mut ReadyList, entry: &mut Entry)
     requires empty { entry.old.effects ≡ [] }
     ensures told { IsTold entry.old entry.new }
-    ensures queues { (rank : ObjNo → ℕ) → Follow rank (λ qs. moved_behind qs (turned nano.now (first_of_greatest rank qs))) ready.old ready.new }
+    ensures queues { Follow (priority_of (state_of tables.now)) (after_tick (state_of tables.now)) ready.old ready.new }
     ensures outcome { told_in entry.new ≡ record { step = Step.Turn; effects = []; answer = None } }
 {
-    turn(nano, ready);
+    turn(tables, ready);
     entry.step = Step::Turn;
     entry.answer = None;
 }
@@ -173,15 +170,15 @@ pub fn transition<W: RefWords + Drop>(
     requires shaped { IsShaped script.now }
     requires rows { AreRows script.now (state_of tables.old) }
     requires kept { AreKept tables.old }
-    requires ready { SomeReady ready.old }
-    requires able { MayAct script.now (state_of tables.old) actor }
+    requires size { ready.old.threads ≡ BOOT_OBJECTS }
+    requires can { CanAct script.now (state_of tables.old) actor }
     requires empty { entry.old.effects ≡ [] }
     ensures told { IsTold entry.old entry.new }
-    ensures does { Does script.now tables.old ready.old tables.new ready.new (told_in entry.new) (λ S. transition script.now S actor) }
+    ensures does { Acts script.now tables.old ready.old tables.new ready.new (told_in entry.new) actor }
 {
     match actor {
         Actor::Thread(thread) => act(script, tables, ready, decision, thread, entry),
-        Actor::Tick => tick(&tables.nano, ready, entry),
+        Actor::Tick => tick(tables, ready, entry),
         Actor::Irq(number) => interrupt(script, tables, ready, decision, number, entry),
         Actor::Idfc => immediate(script, tables, ready, decision, entry),
         Actor::Idle => idle(entry),

@@ -5,10 +5,9 @@ ghost use Rattle.sym_base.specs.declared.limits.TheConstants.Limits.{BOOT_OBJECT
 ghost use Rattle.script_types.specs.Shape.{IsShaped};
 ghost use Rattle.machine.specs.Bodies.{ops_moves, run_body};
 ghost use Rattle.machine.specs.Moves.{tell};
-ghost use Rattle.machine.specs.Transition.{carried_out};
 ghost use Rattle.kernel_tables.specs.Moved.{MovesGo};
 ghost use Rattle.kernel_tables.specs.Noted.{AreKept};
-ghost use Rattle.kcore.specs.Done.{Does};
+ghost use Rattle.kcore.specs.Done.{CarriesOut};
 ghost use Rattle.kcore.specs.Told.{IsTold, told_in};
 ghost use Rattle.kernel_tables.specs.Performed.{ActionGoes, IsPerformed};
 ghost use Rattle.kernel_tables.specs.StateOf.{state_of};
@@ -67,7 +66,7 @@ pub fn run_body<W: RefWords + Drop>(
     requires size { ready.old.threads ≡ BOOT_OBJECTS }
     requires empty { entry.old.effects ≡ [] }
     ensures told { IsTold entry.old entry.new }
-    ensures does { Does script.now tables.old ready.old tables.new ready.new (told_in entry.new) (λ S. carried_out script.now thread S (run_body script.now thread (state_of tables.old) body)) }
+    ensures does { CarriesOut script.now thread tables.old ready.old tables.new ready.new (told_in entry.new) (run_body script.now thread (state_of tables.old) body) }
 {
     let mut made = Made::new();
     leave_queue(moves, tables, body);

@@ -4,13 +4,12 @@ ghost use Rattle.sym_base.specs.declared.limits.TheConstants.Limits.{BOOT_OBJECT
 ghost use Rattle.script_types.specs.Shape.{IsShaped};
 ghost use Rattle.machine.specs.Dooms.{end};
 ghost use Rattle.machine.specs.Steps.{decision_of};
-ghost use Rattle.machine.specs.Transition.{carried_out};
 ghost use Rattle.machine.specs.WellFormed.{AreRows};
 ghost use Rattle.death.specs.Dying.{IfNothingLeft, IfStep, IsReapable, MayBury, MayEnd};
 ghost use Rattle.kernel_tables.specs.Noted.{AreKept};
 ghost use Rattle.kernel_tables.specs.Performed.{IsPerformed};
 ghost use Rattle.kernel_tables.specs.StateOf.{state_of};
-ghost use Rattle.kcore.specs.Done.{Does};
+ghost use Rattle.kcore.specs.Done.{CarriesOut};
 ghost use Rattle.kcore.specs.Told.{IsTold, told_in};
 
 use crate::plans::carry_out;
@@ -68,7 +67,7 @@ pub fn end<W: RefWords + Drop>(
     requires may { MayEnd (state_of tables.old) thread }
     requires empty { entry.old.effects ≡ [] }
     ensures told { IsTold entry.old entry.new }
-    ensures does { Does script.now tables.old ready.old tables.new ready.new (told_in entry.new) (λ S. carried_out script.now thread S (end thread)) }
+    ensures does { CarriesOut script.now thread tables.old ready.old tables.new ready.new (told_in entry.new) (end thread) }
 {
     make_end(script, tables, ready, decision, thread, &mut entry.effects);
     leave_along(script, tables, ready, thread, decision.moves.as_slice());
@@ -120,7 +119,7 @@ pub fn reap<W: RefWords + Drop>(
     requires dying { IsReapable script.now (state_of tables.old) thread }
     requires empty { entry.old.effects ≡ [] }
     ensures told { IsTold entry.old entry.new }
-    ensures does { Does script.now tables.old ready.old tables.new ready.new (told_in entry.new) (λ S. carried_out script.now thread S (decision_of script.now (state_of tables.old) thread)) }
+    ensures does { CarriesOut script.now thread tables.old ready.old tables.new ready.new (told_in entry.new) (decision_of script.now (state_of tables.old) thread) }
 {
     match make_reap(script, tables, ready, decision, thread, &mut entry.effects) {
         Reaped::NothingLeft => carry_out(script, tables, ready, thread, decision, entry),
@@ -177,7 +176,7 @@ pub fn bury<W: RefWords + Drop>(
     requires may { MayBury script.now (state_of tables.old) thread dfc }
     requires empty { entry.old.effects ≡ [] }
     ensures told { IsTold entry.old entry.new }
-    ensures does { Does script.now tables.old ready.old tables.new ready.new (told_in entry.new) (λ S. carried_out script.now thread S (decision_of script.now (state_of tables.old) thread)) }
+    ensures does { CarriesOut script.now thread tables.old ready.old tables.new ready.new (told_in entry.new) (decision_of script.now (state_of tables.old) thread) }
 {
     make_burial(
         script,

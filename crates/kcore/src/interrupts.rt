@@ -2,10 +2,14 @@
 ghost use Rattle.std.specs.Prelude.{◌≡◌, []};
 ghost use Rattle.sym_base.specs.declared.limits.TheConstants.Limits.{BOOT_OBJECTS};
 ghost use Rattle.script_types.specs.Shape.{IsShaped};
-ghost use Rattle.machine.specs.Interrupts.{immediate, interrupt};
+ghost use Rattle.machine.specs.declared.plan.Body.TheVariants.{Interrupt};
+ghost use Rattle.machine.specs.declared.plan.Plan.TheVariants.{Runs};
+ghost use Rattle.machine.specs.Bodies.{decision_by};
+ghost use Rattle.machine.specs.Interrupts.{immediate_plan, supervisor};
+ghost use Rattle.state_rows.specs.Deferred.{next_immediate};
 ghost use Rattle.machine.specs.WellFormed.{AreRows};
 ghost use Rattle.kernel_tables.specs.Noted.{AreKept};
-ghost use Rattle.kcore.specs.Done.{Does};
+ghost use Rattle.kcore.specs.Done.{CarriesOut};
 ghost use Rattle.kcore.specs.Told.{IsTold, told_in};
 ghost use Rattle.kernel_tables.specs.StateOf.{state_of};
 
@@ -38,7 +42,7 @@ pub fn interrupt<W: RefWords + Drop>(
     requires size { ready.old.threads ≡ BOOT_OBJECTS }
     requires empty { entry.old.effects ≡ [] }
     ensures told { IsTold entry.old entry.new }
-    ensures does { Does script.now tables.old ready.old tables.new ready.new (told_in entry.new) (λ S. interrupt script.now S number) }
+    ensures does { CarriesOut script.now supervisor tables.old ready.old tables.new ready.new (told_in entry.new) (decision_by script.now supervisor (state_of tables.old) (Runs (Interrupt number))) }
 {
     let body = Body::Interrupt(number);
     run_body(
@@ -66,7 +70,7 @@ pub fn immediate<W: RefWords + Drop>(
     requires size { ready.old.threads ≡ BOOT_OBJECTS }
     requires empty { entry.old.effects ≡ [] }
     ensures told { IsTold entry.old entry.new }
-    ensures does { Does script.now tables.old ready.old tables.new ready.new (told_in entry.new) (λ S. immediate script.now S) }
+    ensures does { let S = state_of tables.old in CarriesOut script.now supervisor tables.old ready.old tables.new ready.new (told_in entry.new) (decision_by script.now supervisor S (immediate_plan script.now S (next_immediate S.deferred))) }
 {
     let body = immediate_action(decision, script, tables);
     follow(script, tables, ready, decision, SUPERVISOR, body, entry);

@@ -7,6 +7,7 @@ ghost use Rattle.script_types.specs.Source.{IsWellFormed};
 ghost use Rattle.machine.specs.Slots.{IsDeclared};
 ghost use Rattle.machine.specs.FinalRows.{exit_of_row, rows_from, IsNextRow};
 ghost use Rattle.entry_log.specs.declared.entry.Actor.TheVariants as Actor;
+ghost use Rattle.machine.specs.Arrived.{arrived};
 ghost use Rattle.machine.specs.Choice.{priority_of};
 ghost use Rattle.machine.specs.Task.{is_able};
 ghost use Rattle.machine.specs.History.{after, entry_by, entry_of, CanAct, IsLegal};
@@ -17,7 +18,7 @@ ghost use Rattle.kernel_tables.specs.Noted.{AreKept};
 ghost use Rattle.ready_list.specs.Arrival.{AreQueuesOf};
 ghost use Rattle.sym_base.specs.declared.number.ObjNo.{ObjNo};
 ghost use Rattle.kernel_tables.specs.ReadyQueues.{pairs};
-ghost use Rattle.kernel_tables.specs.StateOf.{state_of, with_ready};
+ghost use Rattle.kernel_tables.specs.StateOf.{state_of};
 
 use crate::act::transition;
 use crate::boot;
@@ -59,7 +60,7 @@ impl<W: RefWords> Model for Kernel<W> {
 
 /// Whom a slot lets act.
 fn slot_actor<W: RefWords + Drop>(tables: &Tables<W>, ready: &ReadyList, slot: Slot) -> Actor
-    ensures { (qs : List ObjNo) → AreQueuesOf (pairs (priority_of (state_of tables.now)) qs) ready.now → result ≡ slot_actor (with_ready (state_of tables.now) qs) slot }
+    ensures { (qs : List ObjNo) → AreQueuesOf (pairs (priority_of (state_of tables.now)) qs) ready.now → result ≡ slot_actor (state_of tables.now) qs slot }
 {
     match slot {
         Slot::Go => chosen(tables, ready),
@@ -186,7 +187,7 @@ impl Kernel<PlainWords> {
         requires room { length self.old.history < self.old.room }
         ensures script { self.new.script ≡ self.old.script }
         ensures room { self.new.room ≡ self.old.room }
-        ensures entry { let S = after self.old.script self.old.history in self.new.history ≡ self.old.history ++ entry_by self.old.script S (length self.old.history + 1) (slot_actor S slot) ∷ [] }
+        ensures entry { let S = after self.old.script self.old.history in let qs = arrived self.old.script self.old.history in self.new.history ≡ self.old.history ++ entry_by self.old.script S (length self.old.history + 1) (slot_actor S qs slot) ∷ [] }
         ensures safe { IsSafe self.new.script self.new.history }
         ensures holders { AreHoldersReady self.new.script self.new.history }
     {

@@ -4,10 +4,9 @@ ghost use Rattle.sym_base.specs.declared.limits.TheConstants.Limits.{BOOT_OBJECT
 ghost use Rattle.script_types.specs.Shape.{IsShaped};
 ghost use Rattle.next_actions.specs.Planned.{planned};
 ghost use Rattle.machine.specs.Bodies.{decision_by};
-ghost use Rattle.machine.specs.Transition.{carried_out};
 ghost use Rattle.kernel_tables.specs.Noted.{AreKept};
 ghost use Rattle.kernel_tables.specs.Performed.{ActionGoes};
-ghost use Rattle.kcore.specs.Done.{Does};
+ghost use Rattle.kcore.specs.Done.{CarriesOut};
 ghost use Rattle.kcore.specs.Told.{IsTold, told_in};
 ghost use Rattle.kernel_tables.specs.StateOf.{state_of};
 
@@ -34,7 +33,7 @@ pub fn carry_out<W: RefWords + Drop>(
     requires size { ready.old.threads ≡ BOOT_OBJECTS }
     requires empty { entry.old.effects ≡ [] }
     ensures told { IsTold entry.old entry.new }
-    ensures does { Does script.now tables.old ready.old tables.new ready.new (told_in entry.new) (λ S. carried_out script.now thread S decision.now) }
+    ensures does { CarriesOut script.now thread tables.old ready.old tables.new ready.new (told_in entry.new) decision.now }
 {
     let moves = decision.moves.as_slice();
     perform(script, tables, ready, thread, moves, &mut entry.effects);
@@ -59,7 +58,7 @@ pub fn follow<W: RefWords + Drop>(
     requires size { ready.old.threads ≡ BOOT_OBJECTS }
     requires empty { entry.old.effects ≡ [] }
     ensures told { IsTold entry.old entry.new }
-    ensures does { Does script.now tables.old ready.old tables.new ready.new (told_in entry.new) (λ S. carried_out script.now thread S (decision_by script.now thread (state_of tables.old) (planned decision.old body))) }
+    ensures does { CarriesOut script.now thread tables.old ready.old tables.new ready.new (told_in entry.new) (decision_by script.now thread (state_of tables.old) (planned decision.old body)) }
 {
     match body {
         None => carry_out(script, tables, ready, thread, decision, entry),

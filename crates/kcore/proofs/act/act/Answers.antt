@@ -1,18 +1,15 @@
-use Rattle.std.proofs.Common.{◌≡◌, ◌∙◌, refl, subst, sym}
+use Rattle.std.proofs.Common.{◌≡◌, refl, subst, sym}
 use Rattle.machine.specs.declared.decision.Decision.{Decision}
-use Rattle.machine.specs.declared.state.State.{State}
 use Rattle.machine.specs.Bodies.{run_body}
 use Rattle.machine.specs.Dooms.{end}
 use Rattle.machine.specs.Rows.{thread_of}
 use Rattle.machine.specs.Steps.{decision_of}
-use Rattle.machine.specs.Transition.{act}
 use Rattle.kernel_tables.specs.Performed.{ActionGoes}
 use Rattle.kernel_tables.specs.StateOf.{state_of}
 use Rattle.kernel_tables.proofs.GoingActions.{action_goes}
+use Rattle.kcore.specs.Done.{CarriesOut}
 use Rattle.kcore.specs.Told.{told_in}
-use Rattle.kcore.proofs.ActionsDone.{does_same}
 use Rattle.kcore.proofs.DeathRows.{may_end, may_reap}
-use Rattle.kcore.proofs.DecidedApart.{decision_apart}
 use Rattle.kcore.proofs.act.act.Goals as goal
 
 pub carry_out-requires-clause-goes : goal.carry_out-requires-clause-goes
@@ -46,53 +43,19 @@ step-requires-clause-next g c = rw c.in-Steps.is at c.next_action.ensures.step
 
 -- what is done is what the thread decides
 pub returns-in-Decided-clause-does : goal.returns-in-Decided-clause-does
-unfolding act
-returns-in-Decided-clause-does g c =
-    let script = c.args.script.now in
-    let t = c.args.thread in
-    let X = state_of c.args.tables.now in
-    let is = rw c.in-Decided.is at c.next_action.ensures.decided in
-    does_same script t _ (λ (S : State). decision_of script S t) c.args.tables.now c.carry_out.new.tables c.args.ready.now c.carry_out.new.ready (told_in c.carry_out.new.entry) (λ qs. is ∙ sym (decision_apart script X qs t)) c.carry_out.ensures.does
+returns-in-Decided-clause-does g c = rw (rw c.in-Decided.is at c.next_action.ensures.decided) at c.carry_out.ensures.does
 
 pub returns-in-Runs-clause-does : goal.returns-in-Runs-clause-does
-unfolding act
 returns-in-Runs-clause-does g c =
-    let script = c.args.script.now in
-    let t = c.args.thread in
     let X = state_of c.args.tables.now in
-    let is : run_body script t X c.in-Runs.body ≡ decision_of script X t = rw c.in-Runs.is at c.next_action.ensures.decided in
-    does_same script t (run_body script t X c.in-Runs.body) (λ (S : State). decision_of script S t) c.args.tables.now c.run_body.new.tables c.args.ready.now c.run_body.new.ready (told_in c.run_body.new.entry) (λ qs. is ∙ sym (decision_apart script X qs t)) c.run_body.ensures.does
+    let is : run_body c.args.script.now c.args.thread X c.in-Runs.body ≡ decision_of c.args.script.now X c.args.thread = rw c.in-Runs.is at c.next_action.ensures.decided in
+    subst (CarriesOut c.args.script.now c.args.thread c.args.tables.now c.args.ready.now c.run_body.new.tables c.run_body.new.ready (told_in c.run_body.new.entry)) is c.run_body.ensures.does
 
 pub returns-in-Steps-clause-does : goal.returns-in-Steps-clause-does
-unfolding act
-returns-in-Steps-clause-does g c =
-    let script = c.args.script.now in
-    let t = c.args.thread in
-    let X = state_of c.args.tables.now in
-    let is = rw c.in-Steps.is at c.next_action.ensures.decided in
-    does_same script t _ (λ (S : State). decision_of script S t) c.args.tables.now c.step.new.tables c.args.ready.now c.step.new.ready (told_in c.step.new.entry) (λ qs. is ∙ sym (decision_apart script X qs t)) c.step.ensures.does
-
-pub returns-in-Dies-clause-does : goal.returns-in-Dies-clause-does
-unfolding act
-returns-in-Dies-clause-does g c =
-    let script = c.args.script.now in
-    let t = c.args.thread in
-    let X = state_of c.args.tables.now in
-    does_same script t (decision_of script X t) (λ (S : State). decision_of script S t) c.args.tables.now c.reap.new.tables c.args.ready.now c.reap.new.ready (told_in c.reap.new.entry) (λ qs. sym (decision_apart script X qs t)) c.reap.ensures.does
+returns-in-Steps-clause-does g c = rw (rw c.in-Steps.is at c.next_action.ensures.decided) at c.step.ensures.does
 
 pub returns-in-Ends-clause-does : goal.returns-in-Ends-clause-does
-unfolding act
 returns-in-Ends-clause-does g c =
-    let script = c.args.script.now in
-    let t = c.args.thread in
     let X = state_of c.args.tables.now in
-    let is : end t ≡ decision_of script X t = rw c.in-Ends.is at c.next_action.ensures.decided in
-    does_same script t (end t) (λ (S : State). decision_of script S t) c.args.tables.now c.end.new.tables c.args.ready.now c.end.new.ready (told_in c.end.new.entry) (λ qs. is ∙ sym (decision_apart script X qs t)) c.end.ensures.does
-
-pub returns-in-Buries-clause-does : goal.returns-in-Buries-clause-does
-unfolding act
-returns-in-Buries-clause-does g c =
-    let script = c.args.script.now in
-    let t = c.args.thread in
-    let X = state_of c.args.tables.now in
-    does_same script t (decision_of script X t) (λ (S : State). decision_of script S t) c.args.tables.now c.bury.new.tables c.args.ready.now c.bury.new.ready (told_in c.bury.new.entry) (λ qs. sym (decision_apart script X qs t)) c.bury.ensures.does
+    let is : end c.args.thread ≡ decision_of c.args.script.now X c.args.thread = rw c.in-Ends.is at c.next_action.ensures.decided in
+    subst (CarriesOut c.args.script.now c.args.thread c.args.tables.now c.args.ready.now c.end.new.tables c.end.new.ready (told_in c.end.new.entry)) is c.end.ensures.does

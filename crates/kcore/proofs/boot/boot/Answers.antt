@@ -6,22 +6,18 @@ use Rattle.script_types.proofs.ShapeLaws.{formed_is_shaped}
 use Rattle.state_rows.specs.declared.messages.MessageRows.{MessageRows}
 use Rattle.machine.specs.declared.boot.Born.{Born}
 use Rattle.machine.specs.declared.state.State.{State}
-use Rattle.machine.specs.Arrivals.{is_listed}
 use Rattle.machine.specs.Boot.{boot, born}
-use Rattle.machine.specs.Choice.{priority_of, priority_of_row}
+use Rattle.machine.specs.Choice.{priority_of_row}
 use Rattle.machine.specs.References.{count_of}
-use Rattle.machine.specs.WellFormed.{AreApart}
 use Rattle.machine.specs.Moves.{use_of_row}
 use Rattle.machine.proofs.BornFew.{born_few}
 use Rattle.machine_laws.proofs.AtBoot.Born.{each_born}
-use Rattle.machine_laws.proofs.AtBoot.BootRows.{rows-boot, well_formed-boot}
+use Rattle.machine_laws.proofs.AtBoot.BootRows.{rows-boot}
 use Rattle.move_laws.proofs.Numbers.CountSmall.{count_small}
 use Rattle.kcore.specs.BootTable.{AreNew, FirstStand}
 use Rattle.kernel_tables.specs.Counts.{Agrees}
-use Rattle.kernel_tables.specs.ReadyQueues.{AreReady}
 use Rattle.kernel_tables.specs.StateOf.{slots_of}
 use Rattle.kcore.proofs.BootFields.{fields_at_boot, no_locks_are, no_servers_are, threads_at_boot}
-use Rattle.kcore.proofs.BootReady.{listed_known, listed_ranged}
 use Rattle.kcore.proofs.BootTables.{new_at_boot, agrees_at_boot}
 use Rattle.kcore.proofs.BootUses.{none_used}
 use Rattle.kcore.proofs.boot.boot.Goals as goal
@@ -48,20 +44,6 @@ counted-requires-clause-born g c =
     let script = c.args.script.now in
     let all : c.as_slice.result.now ≡ born script = c.as_slice.ensures ∙ c.in_ok-all.ensures in
     subst (λ (S : State). AreNew c.as_slice.result.now S) (sym c.in_ok-state.ensures) (subst (λ (bs : List Born). AreNew bs (boot script)) (sym all) (new_at_boot script c.requires.valid))
-
-pub queues_of-requires-clause-once : goal.queues_of-requires-clause-once
-queues_of-requires-clause-once g c =
-    subst (λ (S : State). AreApart S.ready) (sym c.in_ok-state.ensures) (well_formed-boot c.args.script.now c.requires.valid).ready.once
-
-pub queues_of-requires-clause-known : goal.queues_of-requires-clause-known
-queues_of-requires-clause-known g c =
-    let script = c.args.script.now in
-    subst (λ (S : State). (t : ObjNo) → is_listed S.ready t ≡ true → t.0 < BOOT_OBJECTS) (sym c.in_ok-state.ensures) (listed_known script (boot script) (well_formed-boot script c.requires.valid))
-
-pub queues_of-requires-clause-ranged : goal.queues_of-requires-clause-ranged
-queues_of-requires-clause-ranged g c =
-    let script = c.args.script.now in
-    subst (λ (S : State). (t : ObjNo) → is_listed S.ready t ≡ true → priority_of S t < 64) (sym c.in_ok-state.ensures) (listed_ranged script (boot script) (well_formed-boot script c.requires.valid))
 
 pub tables_of-requires-clause-shaped : goal.tables_of-requires-clause-shaped
 tables_of-requires-clause-shaped g c = formed_is_shaped c.args.script.now c.requires.valid
@@ -108,9 +90,3 @@ returns-clause-kept g c =
       };
       numbered = let accepted = ap (λ (r : MessageRows). r.accepted) made.messages in omega arith;
     }
-
-pub returns-clause-queues : goal.returns-clause-queues
-returns-clause-queues g c =
-    let script = c.args.script.now in
-    let ready = c.in_ok-ready.ready in
-    subst (λ (S : State). AreReady (priority_of S) S.ready ready) c.in_ok-state.ensures c.in_ok-ready.ensures

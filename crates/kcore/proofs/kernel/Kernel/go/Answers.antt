@@ -5,7 +5,7 @@ use Rattle.machine.specs.declared.decision.Outcome.{Outcome}
 use Rattle.machine.specs.History.{entry_of}
 use Rattle.kcore.specs.Told.{IsTold, told_in}
 use Rattle.kcore.proofs.LastEntry.{last_is, last_told}
-use Rattle.kcore.proofs.Goes.{rows_stand, shape_stands, some_stand, may_stand, kernel_goes_on, entry_told, safe_history}
+use Rattle.kcore.proofs.Goes.{rows_stand, shape_stands, may_stand, kernel_goes_on, entry_told, safe_history}
 use Rattle.machine_safe.proofs.ReadyHolders.{holders_ready}
 use Rattle.kcore.proofs.kernel.Kernel.go.Goals as goal
 
@@ -22,13 +22,11 @@ transition-requires-clause-rows g c =
 pub transition-requires-clause-kept : goal.transition-requires-clause-kept
 transition-requires-clause-kept g c = c.self.invariant.stands.kept
 
-pub transition-requires-clause-ready : goal.transition-requires-clause-ready
-transition-requires-clause-ready g c =
-    let k = c.self.inside in
-    some_stand k.script k.history.items k.tables k.ready c.self.invariant.stands
+pub transition-requires-clause-size : goal.transition-requires-clause-size
+transition-requires-clause-size g c = c.self.invariant.stands.queues.size
 
-pub transition-requires-clause-able : goal.transition-requires-clause-able
-transition-requires-clause-able g c =
+pub transition-requires-clause-can : goal.transition-requires-clause-can
+transition-requires-clause-can g c =
     let k = c.self.inside in
     may_stand k.script k.history.items k.tables k.ready c.args.actor c.self.invariant.stands (rw (← c.self.view_is) at c.requires.can)
 
