@@ -1,4 +1,4 @@
--- What an action leaves in the tables and in the queues is what the definitions say.
+-- What an action leaves in the core is what the definitions say.
 use Rattle.std.proofs.Common.{◌≡◌, ◌∙◌, inl, inr, ℕ, true, false, List, [], ◌∷◌, ◌++◌, sym, ap, subst}
 use Rattle.std.specs.Prelude.{◌==◌, not, ◌&&◌, filter, if◌then◌else◌, None}
 use Rattle.std.proofs.lemmas.Bool.{cases_Bool, or_parts, eq-eqb}
@@ -7,7 +7,6 @@ use Rattle.script_types.specs.declared.script.Script.{Script}
 use Rattle.entry_log.specs.declared.effect.Effect.{Effect}
 use Rattle.entry_log.specs.declared.entry.Actor.TheVariants.{Tick, Idle}
 use Rattle.entry_log.specs.declared.step.Step.TheVariants.{Turn, Wait}
-use Rattle.ready_list.specs.Ready.{Ready}
 use Rattle.machine.specs.declared.decision.Decision.{Decision}
 use Rattle.machine.specs.declared.decision.Outcome.{Outcome}
 use Rattle.machine.specs.declared.moves.Move.{Move}
@@ -18,13 +17,11 @@ use Rattle.machine.specs.Moves.{moved, perform, tell}
 use Rattle.machine.specs.Task.{is_ready}
 use Rattle.machine.specs.Tick.{after_tick}
 use Rattle.machine.specs.Transition.{left, carried_out}
-use Rattle.kernel_tables.specs.declared.tables.Tables.{Tables}
-use Rattle.kernel_tables.specs.Noted.{AreKept}
+use Rattle.kernel_tables.specs.CoreView.{CoreView}
 use Rattle.kernel_tables.specs.Moved.{MovesGo}
 use Rattle.kernel_tables.specs.Performed.{IsPerformed}
 use Rattle.kcore.specs.Done.{Acts, CarriesOut}
 use Rattle.kernel_tables.specs.ReadyQueues.{AreReady, Follow, leave_along}
-use Rattle.kernel_tables.specs.StateOf.{state_of}
 use Rattle.kernel_tables.proofs.ReadyLists.{is_touched, leave_is_filter, listed_behind, taken_listed}
 
 -- who came, or was there
@@ -53,32 +50,29 @@ stays_ready script t (m ∷ ms) S qs u go was listed apart =
     (λ there. go.0.apart u parts.0 ∙ was (taken_listed m qs u (arrive_listed script (moved t m S) (touched t m) (taken_out m qs) u there parts.0))) listed parts.1
 
 -- an action of a thread that was decided on
-pub carried_does : {W N : Type 0} (script : Script) (t : ObjNo) (d : Decision) (old new : Tables W N) (before between after : Ready) (outcome : Outcome) (effects : List Effect) → MovesGo script t d.moves (state_of old) → IsPerformed script t d.moves old new before between [] effects
-    → ((rank : ObjNo → ℕ) → Follow rank (leave_along script (state_of new) t d.moves) between after) → outcome ≡ record { step = d.step; effects = effects; answer = d.answer } → CarriesOut script t old before new after outcome d
-carried_does script t d old new before between after outcome effects go made follow told =
-    let S = state_of old in
-    let T = state_of new in
+pub carried_does : (script : Script) (t : ObjNo) (d : Decision) (old mid new : CoreView) (outcome : Outcome) (effects : List Effect) → MovesGo script t d.moves old.state → IsPerformed script t d.moves old.state mid.state old.ready mid.ready [] effects → new.state ≡ mid.state
+    → ((rank : ObjNo → ℕ) → Follow rank (leave_along script mid.state t d.moves) mid.ready new.ready) → outcome ≡ record { step = d.step; effects = effects; answer = d.answer } → CarriesOut script t old new outcome d
+carried_does script t d old mid new outcome effects went made same follow told =
+    let S = old.state in
+    let T = mid.state in
     let named : List Effect → Outcome = λ es. record { step = d.step; effects = es; answer = d.answer } in
     record {
-      did = ap (λ (U : State). left U outcome) made.state ∙ ap (left (perform t d.moves S)) (told ∙ ap named made.told);
+      did = ap (λ (U : State). left U outcome) (same ∙ made.state) ∙ ap (left (perform t d.moves S)) (told ∙ ap named made.told);
       queues = λ qs list ready.
           let came = arrivals script t d.moves S qs in
-          let stay = leave_is_filter script T t d.moves came (λ u listed apart. ap (λ (U : State). is_ready script U u) made.state ∙ stays_ready script t d.moves S qs u go (λ there. sym (list.exact u) ∙ there) listed apart) in
+          let stay = leave_is_filter script T t d.moves came (λ u listed apart. ap (λ (U : State). is_ready script U u) made.state ∙ stays_ready script t d.moves S qs u went (λ there. sym (list.exact u) ∙ there) listed apart) in
           let rest : leave_along script T t d.moves came ≡ ready_after script t d.moves S qs = stay ∙ ap (λ (U : State). filter (is_ready script U) came) made.state in
-          subst (λ (l : List ObjNo). AreReady (priority_of T) l after) rest (follow (priority_of T) came (made.queues qs ready));
-      kept = made.kept;
+          let left_in : AreReady (priority_of T) (ready_after script t d.moves S qs) new.ready = subst (λ (l : List ObjNo). AreReady (priority_of T) l new.ready) rest (follow (priority_of T) came (made.queues qs ready)) in
+          subst (λ (U : State). AreReady (priority_of U) (ready_after script t d.moves S qs) new.ready) (sym same) left_in;
     }
 
 -- a time slice ends
-pub tick_does : {W N : Type 0} (script : Script) (tables : Tables W N) (before after : Ready) (outcome : Outcome) → AreKept tables → Follow (priority_of (state_of tables)) (after_tick (state_of tables)) before after → outcome ≡ record { step = Turn; effects = []; answer = None }
-    → Acts script tables before tables after outcome Tick
-tick_does script tables before after outcome kept follow told = record {
-  did = ap (left (state_of tables)) told;
-  queues = λ qs list ready. follow qs ready;
-  kept = kept;
+pub tick_does : (script : Script) (old new : CoreView) (outcome : Outcome) → new.state ≡ old.state → Follow (priority_of old.state) (after_tick old.state) old.ready new.ready → outcome ≡ record { step = Turn; effects = []; answer = None } → Acts script old new outcome Tick
+tick_does script old new outcome same follow told = record {
+  did = ap (λ (U : State). left U outcome) same ∙ ap (left old.state) told;
+  queues = λ qs list ready. subst (λ (U : State). AreReady (priority_of U) (after_tick old.state qs) new.ready) (sym same) (follow qs ready);
 }
 
 -- nobody acts
-pub idle_does : {W N : Type 0} (script : Script) (tables : Tables W N) (r : Ready) (outcome : Outcome) → AreKept tables → outcome ≡ record { step = Wait; effects = []; answer = None }
-    → Acts script tables r tables r outcome Idle
-idle_does script tables r outcome kept told = record { did = ap (left (state_of tables)) told; queues = λ qs list ready. ready; kept = kept }
+pub idle_does : (script : Script) (core : CoreView) (outcome : Outcome) → outcome ≡ record { step = Wait; effects = []; answer = None } → Acts script core core outcome Idle
+idle_does script core outcome told = record { did = ap (left core.state) told; queues = λ qs list ready. ready }

@@ -24,7 +24,7 @@ use crate::boot_tables::{locks_of, priority_of, procs_of, server_tables};
 use cleanup::Cleanup;
 use handles::Handles;
 use kern_sync::KernSync;
-use kernel_tables::{CallQueues, ObjectTable, Tables};
+use kernel_tables::{CallQueues, Core, ObjectTable, Tables};
 use machine::{Born, State, all_born, count_of, ready_at_boot, state_at_boot};
 use nano_sync::NanoSync;
 use procs::Procs;
@@ -250,23 +250,40 @@ fn tables_of<W: RefWords + Drop>(
     Ok(tables)
 }
 
-/// The tables and the queues of ready threads at boot.
+/// The tables at boot.
+fn tables_at_boot<W: RefWords + Drop>(
+    alloc: Global,
+    script: &Script,
+    words: W,
+    state: &State,
+) -> Result<Tables<W>, NoMemory>
+    requires valid { IsWellFormed script.now }
+    requires places { length (W.meaning words).own ≡ OBJECTS }
+    requires fresh { NoneCreated (W.meaning words) }
+    requires boot { state.now ≡ boot script.now }
+    ensures state { IfOk result (λ tables. state_of tables ≡ boot script.now) }
+    ensures kept { IfOk result (λ tables. AreKept tables) }
+{
+    let all = all_born(alloc, script)?;
+    let objects = counted(alloc, words, all.as_slice(), state)?;
+    let tables = tables_of(alloc, script, all.as_slice(), objects, state)?;
+    Ok(tables)
+}
+
+/// The core at boot.
 pub fn boot<W: RefWords + Drop>(
     alloc: Global,
     script: &Script,
     words: W,
-) -> Result<(Tables<W>, ReadyList), NoMemory>
+) -> Result<Core<W>, NoMemory>
     requires valid { IsWellFormed script.now }
     requires places { length (W.meaning words).own ≡ OBJECTS }
     requires fresh { NoneCreated (W.meaning words) }
-    ensures state { IfOk result (λ made. state_of made.0 ≡ boot script.now) }
-    ensures kept { IfOk result (λ made. AreKept made.0) }
-    ensures queues { IfOk result (λ made. AreReady (priority_of (boot script.now)) (ready_at_boot script.now) made.1) }
+    ensures state { IfOk result (λ core. core.state ≡ boot script.now) }
+    ensures queues { IfOk result (λ core. AreReady (priority_of (boot script.now)) (ready_at_boot script.now) core.ready) }
 {
-    let all = all_born(alloc, script)?;
     let state = state_at_boot(alloc, script)?;
-    let objects = counted(alloc, words, all.as_slice(), &state)?;
     let ready = queues_at_boot(alloc, script, &state)?;
-    let tables = tables_of(alloc, script, all.as_slice(), objects, &state)?;
-    Ok((tables, ready))
+    let tables = tables_at_boot(alloc, script, words, &state)?;
+    Ok(Core::new(tables, ready))
 }

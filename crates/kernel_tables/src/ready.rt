@@ -154,7 +154,9 @@ pub fn chosen<W: RefWords + Drop>(tables: &Tables<W>, ready: &ReadyList) -> Acto
 
 /// Puts the first thread of the highest queue behind its equals, unless it holds a fast mutex.
 pub fn turn<W: RefWords + Drop>(tables: &Tables<W>, ready: &mut ReadyList)
-    ensures { Follow (priority_of (state_of tables.now)) (after_tick (state_of tables.now)) ready.old ready.new }
+    requires { ready.old.threads ≡ BOOT_OBJECTS }
+    ensures size { ready.new.threads ≡ BOOT_OBJECTS }
+    ensures queues { Follow (priority_of (state_of tables.now)) (after_tick (state_of tables.now)) ready.old ready.new }
 {
     nano::tick(ready, &tables.nano);
 }

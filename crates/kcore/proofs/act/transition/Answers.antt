@@ -1,8 +1,5 @@
-use Rattle.std.proofs.Common.{subst, sym}
-use Rattle.entry_log.specs.declared.entry.Actor.{Actor}
 use Rattle.machine.specs.Interrupts.{immediate, interrupt}
 use Rattle.machine.specs.Transition.{act}
-use Rattle.kcore.specs.Done.{Acts}
 use Rattle.kcore.specs.Told.{told_in}
 use Rattle.kcore.proofs.ActionsDone.{tick_does, idle_does}
 use Rattle.kcore.proofs.act.transition.Goals as goal
@@ -12,7 +9,7 @@ unfolding act
 returns-in-Thread-clause-does g c = rw c.in-Thread.is c.act.ensures.does
 
 pub returns-in-Tick-clause-does : goal.returns-in-Tick-clause-does
-returns-in-Tick-clause-does g c = rw c.in-Tick.is (tick_does c.args.script.now c.args.tables.now c.args.ready.now c.tick.new.ready (told_in c.tick.new.entry) c.requires.kept c.tick.ensures.queues c.tick.ensures.outcome)
+returns-in-Tick-clause-does g c = rw c.in-Tick.is (tick_does c.args.script.now c.args.core.now c.tick.new.core (told_in c.tick.new.entry) c.tick.ensures.state c.tick.ensures.queues c.tick.ensures.outcome)
 
 pub returns-in-Irq-clause-does : goal.returns-in-Irq-clause-does
 unfolding interrupt
@@ -23,4 +20,4 @@ unfolding immediate
 returns-in-Idfc-clause-does g c = rw c.in-Idfc.is c.immediate.ensures.does
 
 pub returns-in-Idle-clause-does : goal.returns-in-Idle-clause-does
-returns-in-Idle-clause-does g c = rw c.in-Idle.is (idle_does c.args.script.now c.args.tables.now c.args.ready.now (told_in c.idle.new.entry) c.requires.kept c.idle.ensures.outcome)
+returns-in-Idle-clause-does g c = rw c.in-Idle.is (idle_does c.args.script.now c.args.core.now (told_in c.idle.new.entry) c.idle.ensures.outcome)

@@ -13,7 +13,7 @@ go-requires-clause-can c =
     let H = after k.script k.history.items in
     let qs = arrived k.script k.history.items in
     let is : c.slot_actor-actor.result ≡ slot_actor H qs c.args.slot = c.slot_actor-actor.ensures qs h.queues.queues ∙ ap (λ (U : State). slot_actor U qs c.args.slot) h.state in
-    rw (← c.self.view_is) (slot_goes k.script k.history.items k.tables k.ready c.args.slot c.slot_actor-actor.result (rw (← c.self.view_is) at c.requires.declared) h is)
+    rw (← c.self.view_is) (slot_goes k.script k.history.items k.core c.args.slot c.slot_actor-actor.result (rw (← c.self.view_is) at c.requires.declared) h is)
 
 pub returns-clause-entry : goal.returns-clause-entry
 returns-clause-entry c =
