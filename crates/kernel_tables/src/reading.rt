@@ -79,7 +79,7 @@ impl<W: RefWords + Drop> Reads for Tables<W> {
         self.objects.find(kind, name)
     }
 
-    fn is_last(&self, object: ObjNo) -> bool {
+    fn dies(&self, object: ObjNo) -> bool {
         self.objects.count(object) == 1
     }
 

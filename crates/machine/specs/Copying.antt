@@ -1,7 +1,6 @@
 -- `read` and `write`: a server copies bytes from its client's memory to its own process's, or the other way. A copy goes in pieces of at most 64
 -- bytes, one a step.
 use Rattle.std.specs.Prelude.{ℕ, ℤ, pos, min, [], ◌∷◌, Option, Some, None}
-use Rattle.sym_base.specs.declared.error.Error.{Error}
 use Rattle.sym_base.specs.declared.error.Error.TheVariants as error
 use Rattle.sym_base.specs.declared.number.ObjNo.{ObjNo}
 use Rattle.sym_base.specs.declared.word.Word.TheVariants as word

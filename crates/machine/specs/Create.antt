@@ -4,7 +4,6 @@ use Rattle.state_rows.specs.ObjectRows.{is_taken}
 use Rattle.sym_base.specs.declared.error.Error.TheVariants.{AlreadyExists, Overflow}
 use Rattle.sym_base.specs.declared.kind.Kind.{Kind}
 use Rattle.sym_base.specs.declared.kind.Kind.TheVariants.{Mutex, Semaphore}
-use Rattle.sym_base.specs.declared.limits.TheConstants.Limits.{OBJECTS}
 use Rattle.sym_base.specs.declared.number.ObjNo.{ObjNo}
 use Rattle.sym_base.specs.declared.word.Word.TheVariants.{Create}
 use Rattle.entry_log.specs.declared.step.Step.TheVariants.{Of}
@@ -18,7 +17,7 @@ use Rattle.machine.specs.declared.moves.Move.TheVariants.{Make, Locks}
 use Rattle.state_rows.specs.declared.thread.ThreadRow.{ThreadRow}
 use Rattle.machine.specs.declared.state.State.{State}
 use Rattle.machine.specs.Handles.{process_handle}
-use Rattle.machine.specs.Moves.{next_object}
+use Rattle.machine.specs.Moves.{no_number_left, next_object}
 use Rattle.machine.specs.Decide.{refuse, answer_handle}
 
 -- what follows the making of an object: nothing, or a semaphore's start
@@ -36,7 +35,7 @@ make_with_handle t kind name start x (Some handle) =
 abbrev pub create_do : State → ObjNo → ThreadRow → Kind → List ℕ → Option LockMove → ℕ → Decision
 create_do S t row kind name start x =
     if is_taken kind name S.objects then refuse t (Of Create Do) AlreadyExists
-    else if length S.objects == OBJECTS then refuse t (Of Create Do) Overflow
+    else if no_number_left S then refuse t (Of Create Do) Overflow
     else make_with_handle t kind name start x (process_handle S row.process)
 
 abbrev pub create_mutex_do : State → ObjNo → ThreadRow → List ℕ → ℕ → Decision

@@ -129,7 +129,7 @@ pub record MayGoOn (script : Script) (S : State) (t : ObjNo) (part : Option Part
 
 -- an object may be made of this kind and name: there is room, and its name isn't taken
 pub record MayMake (S : State) (kind : Kind) (name : List ℕ) : Type 0 where
-  pub room : length S.objects < OBJECTS
+  pub room : (next_object S).0 < OBJECTS
   pub new : is_taken kind name S.objects ≡ false
 
 -- a session has no name

@@ -43,7 +43,7 @@ IsUncalled S u = (row : ThreadRow) → thread_of S u ≡ Some row → row.stage 
 -- an object that may become a server of a thread: the one that is made next, and the thread is live
 pub record MayStartServer (S : State) (o u : ObjNo) : Type 0 where
   pub next : o ≡ next_object S
-  pub room : length S.objects < OBJECTS
+  pub room : (next_object S).0 < OBJECTS
   pub owner : IsLiveThread S.threads u
 
 -- an object that may become a session at a server: it was made, after all threads, is no session yet, and no server, session, message or duty

@@ -1,5 +1,5 @@
 -- Histories: each entry is what its actor does in the state before it.
-use Rattle.std.specs.Prelude.{◌≡◌, ℕ, ◌+◌, false, IsTrue, is_some, List, [], ◌∷◌, Option, None}
+use Rattle.std.specs.Prelude.{◌≡◌, ℕ, ◌+◌, false, IsTrue, is_some, List, [], ◌∷◌, None}
 use Rattle.sym_base.specs.declared.number.ObjNo.{ObjNo}
 use Rattle.script_types.specs.declared.script.Script.{Script}
 use Rattle.entry_log.specs.declared.entry.Actor.{Actor}

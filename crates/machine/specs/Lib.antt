@@ -22,6 +22,7 @@ pub mod Find
 pub mod Fits
 pub mod FitsCopies
 pub mod FitsServers
+pub mod Fresh
 pub mod Handles
 pub mod HeldIn
 pub mod History

@@ -1,7 +1,8 @@
 -- What each move changes in the rows, and what it tells. The ready list isn't among the rows here: it follows
 -- the moves apart.
-use Rattle.std.specs.Prelude.{ℕ, ◌+◌, Bool, if◌then◌else◌, List, [], ◌∷◌, ◌++◌, length, Option, Some, None, false, slice_set}
+use Rattle.std.specs.Prelude.{ℕ, ◌+◌, ◌==◌, Bool, if◌then◌else◌, List, [], ◌∷◌, ◌++◌, length, Option, Some, None, false, slice_set}
 use Rattle.std.specs.List.{slice_index_or}
+use Rattle.sym_base.specs.declared.limits.TheConstants.Limits.{OBJECTS}
 use Rattle.sym_base.specs.declared.number.ObjNo.{ObjNo}
 use Rattle.sym_base.specs.declared.kind.Kind.{Kind}
 use Rattle.entry_log.specs.declared.effect.Holder.{Holder}
@@ -22,7 +23,7 @@ use Rattle.state_rows.specs.declared.thread.ThreadRow.{ThreadRow}
 use Rattle.machine.specs.declared.state.State.{State}
 use Rattle.machine.specs.Rows.{thread_of, with_row, owing, without_first}
 use Rattle.machine.specs.Handles.{with_slot, taken_slot, freed_slot}
-use Rattle.machine.specs.References.{is_last}
+use Rattle.machine.specs.References.{dies}
 use Rattle.machine.specs.NanoMoves.{nano_moved, nano_told}
 use Rattle.machine.specs.DeferredMoves.{deferred_moved}
 use Rattle.machine.specs.RequestMoves.{request_moved, request_told}
@@ -35,9 +36,13 @@ use Rattle.machine.specs.ServerMoves.{servers_moved, server_told, owned_gain, ow
 use Rattle.machine.specs.MessageMoves.{messages_moved, message_told, message_owed}
 use Rattle.state_rows.specs.ServerRows.{server_of}
 
--- the number that the next object gets
+-- the number that a new object gets, which is fresh (`Fresh`)
 abbrev pub next_object : State → ObjNo
 next_object S = record { 0 = length S.objects }
+
+-- whether no number is left for a new object
+abbrev pub no_number_left : State → Bool
+no_number_left S = (next_object S).0 == OBJECTS
 
 -- an object that is made
 abbrev pub new_object : Kind → List ℕ → ObjectRow
@@ -107,12 +112,12 @@ link_or (Some p) other = Some p
 abbrev pub link_of : State → ObjNo → Option ObjNo
 link_of S o = link_or (link_of_row (thread_of S o)) (server_of S.servers o)
 
--- with its last reference an object dies, and its own link is taken off its row
+-- where an object dies as a reference is given up, its own link is taken off its row
 abbrev pub objects_closed : Bool → ObjNo → List (Option ObjectRow) → List (Option ObjectRow)
-objects_closed last o objects = if last then slice_set objects o.0 (dead_row (slice_index_or objects o.0 None)) else objects
+objects_closed dying o objects = if dying then slice_set objects o.0 (dead_row (slice_index_or objects o.0 None)) else objects
 
 abbrev pub threads_closed : Bool → ObjNo → List (Option ThreadRow) → List (Option ThreadRow)
-threads_closed last o threads = if last then with_row threads o unlinked else threads
+threads_closed dying o threads = if dying then with_row threads o unlinked else threads
 
 -- whoever closes it owes the close of that link, and then the sweep
 abbrev pub owed_link : ObjNo → Option ObjNo → List Owed
@@ -120,11 +125,11 @@ owed_link o None = []
 owed_link o (Some p) = Close (Link o) p ∷ []
 
 abbrev pub owed_by_close : Bool → ObjNo → Option ObjNo → List Owed
-owed_by_close last o link = if last then owed_link o link ++ Sweep o ∷ [] else []
+owed_by_close dying o link = if dying then owed_link o link ++ Sweep o ∷ [] else []
 
 -- what is told of a close
 abbrev pub closed_effects : Bool → Holder → ObjNo → List Effect
-closed_effects last h o = if last then Minus h o ∷ Dead o ∷ [] else Minus h o ∷ []
+closed_effects dying h o = if dying then Minus h o ∷ Dead o ∷ [] else Minus h o ∷ []
 
 -- a thread whose instruction is over owes the close of its temporary reference
 abbrev pub owed_use : ObjNo → Option ObjNo → List Owed
@@ -152,11 +157,11 @@ moved t (Gain h o) S = record S {
   threads = threads_gain h o S.threads;
 }
 moved t (Lose h o) S = record S {
-  objects = objects_closed (is_last S o) o S.objects;
+  objects = objects_closed (dies S o) o S.objects;
   handles = tables_lose h S.handles;
-  threads = threads_closed (is_last S o) o (threads_lose h S.threads);
-  owed = owing S.owed t (owed_by_close (is_last S o) o (link_of S o));
-  servers = servers_closed (is_last S o) o (servers_lose h S.servers);
+  threads = threads_closed (dies S o) o (threads_lose h S.threads);
+  owed = owing S.owed t (owed_by_close (dies S o) o (link_of S o));
+  servers = servers_closed (dies S o) o (servers_lose h S.servers);
   owned = owned_lose h o S.owned;
 }
 moved t (Find u o) S = record S { threads = with_row S.threads u (with_found o) }
@@ -191,10 +196,10 @@ moved t (Messages m) S = record S { messages = messages_moved m S.messages; owed
 moved t (Fill p at length byte) S = record S { memories = with_memory S.memories p (filled at length byte) }
 moved t (Copies m) S = record S { memories = memories_copied m S.threads S.messages S.memories; messages = messages_copied m S.threads S.messages }
 moved t (Pay (Close h o)) S = record S {
-  objects = objects_closed (is_last S o) o S.objects;
-  threads = threads_closed (is_last S o) o S.threads;
-  owed = owing (without_first S.owed t) t (owed_by_close (is_last S o) o (link_of S o));
-  servers = servers_closed (is_last S o) o S.servers;
+  objects = objects_closed (dies S o) o S.objects;
+  threads = threads_closed (dies S o) o S.threads;
+  owed = owing (without_first S.owed t) t (owed_by_close (dies S o) o (link_of S o));
+  servers = servers_closed (dies S o) o S.servers;
 }
 moved t (Pay (Sweep o)) S = record S {
   objects = slice_set S.objects o.0 None;
@@ -206,7 +211,7 @@ moved t (Pay (Sweep o)) S = record S {
 abbrev pub told : Move → State → List Effect
 told (Make kind name h) S = Plus h (next_object S) ∷ []
 told (Gain h o) S = Plus h o ∷ []
-told (Lose h o) S = closed_effects (is_last S o) h o
+told (Lose h o) S = closed_effects (dies S o) h o
 told (Find t o) S = Seek o ∷ []
 told (Miss o) S = Missed o ∷ []
 told (GoOn t part) S = []
@@ -228,7 +233,7 @@ told (Servers m) S = server_told m
 told (Messages m) S = message_told m S.messages
 told (Fill p at length byte) S = []
 told (Copies m) S = []
-told (Pay (Close h o)) S = closed_effects (is_last S o) h o
+told (Pay (Close h o)) S = closed_effects (dies S o) h o
 told (Pay (Sweep o)) S = Swept o ∷ []
 
 -- the rows after several moves

@@ -75,9 +75,10 @@ server_names S o = total (total (mutex_names o)) S.owned + total (session_names 
 abbrev pub count_of : State → ObjNo → ℕ
 count_of S o = total (total (slot_names o)) S.handles + total (thread_names o) S.threads + kernel_names S o + total (total (owed_names o)) S.owed + total (total (mutex_names o)) S.mutexes + server_names S o
 
--- whether an object has one reference
-abbrev pub is_last : State → ObjNo → Bool
-is_last S o = count_of S o == 1
+-- whether an object dies as one of its references is given up: it has no other. Each move and each effect of a close asks
+-- this alone
+abbrev pub dies : State → ObjNo → Bool
+dies S o = count_of S o == 1
 
 -- how often effects add a reference to an object
 abbrev pub pluses : List Effect → ObjNo → ℕ

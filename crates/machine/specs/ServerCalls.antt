@@ -2,7 +2,6 @@
 use Rattle.std.specs.Prelude.{ℕ, ℤ, pos, ◌==◌, ◌&&◌, Bool, false, if◌then◌else◌, length, slice_index, List, [], ◌∷◌, Option, Some, None}
 use Rattle.sym_base.specs.declared.error.Error.TheVariants.{AlreadyExists, BadHandle, Overflow}
 use Rattle.sym_base.specs.declared.kind.Kind.TheVariants as kind
-use Rattle.sym_base.specs.declared.limits.TheConstants.Limits.{OBJECTS}
 use Rattle.sym_base.specs.declared.number.ObjNo.{ObjNo}
 use Rattle.sym_base.specs.declared.number.MsgNo.{MsgNo}
 use Rattle.sym_base.specs.declared.word.Word.TheVariants as word
@@ -28,7 +27,7 @@ use Rattle.machine.specs.Decide.{nothing, answer, refuse, wait_for, unless_holdi
 use Rattle.machine.specs.Handles.{thread_handle}
 use Rattle.machine.specs.Look.{look_kind}
 use Rattle.machine.specs.Messaging.{finish}
-use Rattle.machine.specs.Moves.{next_object}
+use Rattle.machine.specs.Moves.{no_number_left, next_object}
 
 -- handles full: an overflow; else a server is made, which the thread owns and has a handle of
 abbrev pub make_server : ObjNo → ObjNo → List ℕ → ℕ → Option NewHandle → Decision
@@ -40,7 +39,7 @@ make_server t o name x (Some handle) =
 abbrev pub server_do : State → ObjNo → List ℕ → ℕ → Decision
 server_do S t name x =
     if is_taken kind.Server name S.objects then refuse t (Of word.Server Do) AlreadyExists
-    else if length S.objects == OBJECTS then refuse t (Of word.Server Do) Overflow
+    else if no_number_left S then refuse t (Of word.Server Do) Overflow
     else make_server t (next_object S) name x (thread_handle S t)
 
 -- the first message that the server hasn't taken is taken, and its number goes to a register and is answered

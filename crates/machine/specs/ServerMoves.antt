@@ -52,12 +52,12 @@ abbrev pub servers_lose : Holder → ServerRows → ServerRows
 servers_lose (holder.Link s) r = after_detach r s
 servers_lose _ r = r
 
--- with its last reference a session is linked to no server any more
+-- a session that dies as a reference is given up is linked to no server any more
 abbrev pub sessions_closed : Bool → ObjNo → List (Option SessionRow) → List (Option SessionRow)
-sessions_closed last o sessions = if last then slice_set sessions o.0 (option_map detached (slice_index_or sessions o.0 None)) else sessions
+sessions_closed dying o sessions = if dying then slice_set sessions o.0 (option_map detached (slice_index_or sessions o.0 None)) else sessions
 
 abbrev pub linked_closed : Bool → Option ObjNo → ObjNo → List (List ObjNo) → List (List ObjNo)
-linked_closed last server o linked = if last then unlisted server o linked else linked
+linked_closed dying server o linked = if dying then unlisted server o linked else linked
 
 abbrev pub servers_closed : Bool → ObjNo → ServerRows → ServerRows
-servers_closed last o r = record r { sessions = sessions_closed last o r.sessions; linked = linked_closed last (server_of r o) o r.linked }
+servers_closed dying o r = record r { sessions = sessions_closed dying o r.sessions; linked = linked_closed dying (server_of r o) o r.linked }

@@ -6,7 +6,6 @@ use Rattle.sym_base.specs.declared.error.Error.TheVariants.{InUse, Overflow, Ser
 use Rattle.sym_base.specs.declared.kind.Arg.{Arg}
 use Rattle.sym_base.specs.declared.kind.Kind.TheVariants as kind
 use Rattle.sym_base.specs.declared.kind.Slots.{Slots}
-use Rattle.sym_base.specs.declared.limits.TheConstants.Limits.{OBJECTS}
 use Rattle.sym_base.specs.declared.number.ObjNo.{ObjNo}
 use Rattle.sym_base.specs.declared.word.Word.TheVariants as word
 use Rattle.script_types.specs.declared.instruction.Args.{Args}
@@ -31,7 +30,7 @@ use Rattle.machine.specs.Find.{seek, return_to}
 use Rattle.machine.specs.Handles.{holder_of, thread_handle, object_at}
 use Rattle.machine.specs.Look.{look_kind}
 use Rattle.machine.specs.Messaging.{connects, no_args, slots_of, open_server, post}
-use Rattle.machine.specs.Moves.{next_object}
+use Rattle.machine.specs.Moves.{no_number_left, next_object}
 
 -- the four arguments of an instruction
 abbrev pub args_of : Args → List Arg
@@ -51,7 +50,7 @@ abbrev pub connect_to : State → ObjNo → Slots → ObjNo → Option ServerRow
 connect_to S t slots o None = nothing
 connect_to S t slots o (Some server) =
     if server.is_closing then refuse t (Of word.Connect AtMake) ServerTerminated
-    else if length S.objects == OBJECTS then refuse t (Of word.Connect AtMake) Overflow
+    else if no_number_left S then refuse t (Of word.Connect AtMake) Overflow
     else make_session t o slots (next_object S) (thread_handle S t)
 
 abbrev pub connect_make : State → ObjNo → Slots → Option ObjNo → Decision

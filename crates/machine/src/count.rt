@@ -1,7 +1,7 @@
 //! Counting references by going over all the rows that hold one. Counts stand still at the end of their
 //! type, which no state that a history leaves comes near.
 ghost use Rattle.std.specs.Prelude.{◌≡◌, ◌-◌, ◌^◌, ◌<◌, ◌≤◌, min, nat_lt};
-ghost use Rattle.machine.specs.References.{total, same, option_names, slot_names, thread_names, owed_names, mutex_names, session_names, message_names, server_names, kernel_names, stage_holds, count_of, is_last};
+ghost use Rattle.machine.specs.References.{total, same, option_names, slot_names, thread_names, owed_names, mutex_names, session_names, message_names, server_names, kernel_names, stage_holds, count_of, dies};
 
 use crate::rows::thread_of;
 use crate::{HandleSlot, Owed, State, ThreadRow};
@@ -225,10 +225,10 @@ pub fn is_counted(state: &State, object: ObjNo) -> bool
     capped_count(state, object) > 0
 }
 
-/// Whether an object has one reference.
+/// Whether an object dies as one of its references is given up: it has no other.
 #[tactic(auto, using(crate::proofs::Capped::capped_is_one))]
-pub fn is_last(state: &State, object: ObjNo) -> bool
-    ensures { result ≡ is_last state.now object }
+pub fn dies(state: &State, object: ObjNo) -> bool
+    ensures { result ≡ dies state.now object }
 {
     capped_count(state, object) == 1
 }

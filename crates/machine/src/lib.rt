@@ -30,7 +30,7 @@ mod touches;
 pub use boot::{Born, all_born};
 pub use boot_state::{boot_of, ready_at_boot, state_at_boot};
 pub use copy_rules::{CopyMove, Job};
-pub use count::{count_of, is_counted, is_last};
+pub use count::{count_of, dies, is_counted};
 pub use death_move::{DeathMove, wait_ended};
 pub use decision::{Decision, Outcome, entry_of};
 pub use deferred_move::DeferredMove;

@@ -3,3 +3,4 @@ pub mod Bits
 pub mod LivesMove
 pub mod Kinds
 pub mod Closes
+pub mod Fresh

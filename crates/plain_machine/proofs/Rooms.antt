@@ -26,7 +26,7 @@ use Rattle.machine.specs.MessageMoves.{messages_moved}
 use Rattle.machine.specs.DeathMoves.{death_row, death_thread}
 use Rattle.machine.specs.Handles.{with_slot, taken_slot, freed_slot}
 use Rattle.machine.specs.Moves.{moved, with_use, unlinked, with_found, with_kept, with_part, with_register, with_message, advanced, with_waiting, with_priority, tables_gain, tables_lose, threads_gain, threads_lose, threads_closed, objects_closed, next_object, new_object}
-use Rattle.machine.specs.References.{is_last}
+use Rattle.machine.specs.References.{dies}
 use Rattle.machine.specs.Room.{HasRoom, IsSmallTable, AreSmallTables, MayAdvance}
 use Rattle.machine.specs.Rows.{with_row}
 use Rattle.move_laws.proofs.Lists.Sets.{set_keeps}
@@ -140,7 +140,7 @@ long_closed false o threads = refl
 threads_long : (t : ObjNo) (m : Move) (S : State) → length (moved t m S).threads ≡ length S.threads
 threads_long t (Make kind name h) S = long_gained h (next_object S) S.threads
 threads_long t (Gain h o) S = long_gained h o S.threads
-threads_long t (Lose h o) S = long_closed (is_last S o) o (threads_lose h S.threads) ∙ long_lost h S.threads
+threads_long t (Lose h o) S = long_closed (dies S o) o (threads_lose h S.threads) ∙ long_lost h S.threads
 threads_long t (Find u o) S = long_row S.threads u (with_found o)
 threads_long t (Miss o) S = refl
 threads_long t (GoOn u part) S = long_row S.threads u (with_part part)
@@ -162,7 +162,7 @@ threads_long t (Servers m) S = refl
 threads_long t (Messages m) S = refl
 threads_long t (Fill p at long byte) S = refl
 threads_long t (Copies m) S = refl
-threads_long t (Pay (Close h o)) S = long_closed (is_last S o) o S.threads
+threads_long t (Pay (Close h o)) S = long_closed (dies S o) o S.threads
 threads_long t (Pay (Sweep o)) S = length-set S.threads o.0 None
 
 -- room for more is room for less
@@ -219,9 +219,9 @@ room_moved t (Gain h o) n S room = record {
   messages = let few = room.messages in omega arith;
 }
 room_moved t (Lose h o) n S room = record {
-  objects = let few = room.objects in let long = length_closed (is_last S o) o S.objects in omega arith;
+  objects = let few = room.objects in let long = length_closed (dies S o) o S.objects in omega arith;
   threads = let few = room.threads in let long = threads_long t (Lose h o) S in omega arith;
-  instructions = threads_unlinked (is_last S o) o n (threads_lose h S.threads) (threads_lost h n S.threads (threads_less n (n + 1) (omega arith) S.threads room.instructions));
+  instructions = threads_unlinked (dies S o) o n (threads_lose h S.threads) (threads_lost h n S.threads (threads_less n (n + 1) (omega arith) S.threads room.instructions));
   tables = tables_lost h S.handles room.tables;
   messages = let few = room.messages in omega arith;
 }
@@ -247,9 +247,9 @@ room_moved t (Messages m) n S room = with_threads n S (moved t (Messages m) S) r
 room_moved t (Fill p at long byte) n S room = with_threads n S (moved t (Fill p at long byte) S) refl refl (omega arith) (threads_long t (Fill p at long byte) S) (threads_less n (n + 1) (omega arith) S.threads room.instructions) room
 room_moved t (Copies m) n S room = with_threads n S (moved t (Copies m) S) refl refl (let same = copy_accepts m S.threads S.messages in omega arith) (threads_long t (Copies m) S) (threads_less n (n + 1) (omega arith) S.threads room.instructions) room
 room_moved t (Pay (Close h o)) n S room = record {
-  objects = let few = room.objects in let long = length_closed (is_last S o) o S.objects in omega arith;
+  objects = let few = room.objects in let long = length_closed (dies S o) o S.objects in omega arith;
   threads = let few = room.threads in let long = threads_long t (Pay (Close h o)) S in omega arith;
-  instructions = threads_unlinked (is_last S o) o n S.threads (threads_less n (n + 1) (omega arith) S.threads room.instructions);
+  instructions = threads_unlinked (dies S o) o n S.threads (threads_less n (n + 1) (omega arith) S.threads room.instructions);
   tables = room.tables;
   messages = let few = room.messages in omega arith;
 }

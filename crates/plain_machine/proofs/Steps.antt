@@ -15,7 +15,7 @@ use Rattle.machine.specs.declared.moves.Move.{Move}
 use Rattle.machine.specs.declared.moves.Move.TheVariants.{Pay}
 use Rattle.state_rows.specs.declared.handle_slot.HandleSlot.{HandleSlot}
 use Rattle.machine.specs.declared.state.State.{State}
-use Rattle.machine.specs.Arrived.{arrived, arrived_next}
+use Rattle.machine.specs.Arrived.{arrived_next}
 use Rattle.machine.specs.History.{after, next, entry_by, IsNext}
 use Rattle.plain_machine.specs.PlainView.{IsPlain}
 use Rattle.plain_machine.specs.Allowed.{IsSmall, TellsFew, AllowsAction}

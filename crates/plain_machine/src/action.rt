@@ -96,7 +96,14 @@ pub fn run_body(
         ops_of(script, body),
         &mut course,
     )?;
-    course.end(alloc, script, state, ready, step_of_body(script, body), None)
+    course.end(
+        alloc,
+        script,
+        state,
+        ready,
+        step_of_body(script, body),
+        None,
+    )
 }
 
 /// What was decided on.

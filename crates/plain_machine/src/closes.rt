@@ -5,18 +5,18 @@ ghost use Rattle.machine.specs.Rows.{thread_of};
 
 use crate::slots::lose_slot;
 use entry_log::Holder;
-use machine::{Move, Owed, State, is_last, object_of, set_row, thread_in};
+use machine::{Move, Owed, State, dies, object_of, set_row, thread_in};
 use plain_rows::{drop_first_owed, owe_close, threads_closed, threads_lose};
 use plain_servers::{owned_lose, server_of, servers_closed, servers_lose};
 use state_rows::dead_row;
 use std::alloc::Global;
 use sym_base::{NoMemory, ObjNo, ThreadNo};
 
-/// With its last reference an object dies.
-fn close_object(state: &mut State, last: bool, object: ObjNo)
-    ensures { state.new ≡ record state.old { objects = objects_closed last object state.old.objects } }
+/// An object that dies as a reference is given up is dead from then on.
+fn close_object(state: &mut State, dying: bool, object: ObjNo)
+    ensures { state.new ≡ record state.old { objects = objects_closed dying object state.old.objects } }
 {
-    if last {
+    if dying {
         let dead = dead_row(object_of(state, object));
         set_row(&mut state.objects, object, dead);
     }
@@ -39,7 +39,7 @@ fn link_of(state: &State, object: ObjNo) -> Option<ObjNo>
     }
 }
 
-/// A holder gives its reference up, and the thread owes what a last one leaves to do.
+/// A holder gives its reference up, and the thread owes what a close leaves to do.
 pub fn lose(
     alloc: Global,
     state: &mut State,
@@ -49,16 +49,16 @@ pub fn lose(
 ) -> Result<(), NoMemory>
     ensures { OnOk result (state.new ≡ moved thread (Move.Lose holder object) state.old) }
 {
-    let last = is_last(state, object);
+    let dying = dies(state, object);
     let link = link_of(state, object);
     lose_slot(state, holder);
     threads_lose(&mut state.threads, holder);
     servers_lose(alloc, &mut state.servers, holder)?;
     owned_lose(alloc, &mut state.owned, holder, object)?;
-    close_object(state, last, object);
-    threads_closed(&mut state.threads, last, object);
-    servers_closed(alloc, &mut state.servers, last, object)?;
-    owe_close(&mut state.owed, thread, last, object, link)
+    close_object(state, dying, object);
+    threads_closed(&mut state.threads, dying, object);
+    servers_closed(alloc, &mut state.servers, dying, object)?;
+    owe_close(&mut state.owed, thread, dying, object, link)
 }
 
 /// The thread pays a close that it owes.
@@ -71,13 +71,13 @@ fn pay_close(
 ) -> Result<(), NoMemory>
     ensures { OnOk result (state.new ≡ moved thread (Move.Pay (Owed.Close holder object)) state.old) }
 {
-    let last = is_last(state, object);
+    let dying = dies(state, object);
     let link = link_of(state, object);
-    close_object(state, last, object);
-    threads_closed(&mut state.threads, last, object);
-    servers_closed(alloc, &mut state.servers, last, object)?;
+    close_object(state, dying, object);
+    threads_closed(&mut state.threads, dying, object);
+    servers_closed(alloc, &mut state.servers, dying, object)?;
     drop_first_owed(&mut state.owed, thread);
-    owe_close(&mut state.owed, thread, last, object, link)
+    owe_close(&mut state.owed, thread, dying, object, link)
 }
 
 /// The thread removes the row of a dead object.

@@ -42,11 +42,7 @@ fn turned(state: &State, first: Option<ThreadNo>) -> Option<ThreadNo>
 
 /// The ready thread of greatest priority that has been ready longest goes behind its equals, unless it holds
 /// a fast mutex.
-pub fn tick(
-    alloc: Global,
-    state: &State,
-    ready: &mut Items<ThreadNo>,
-) -> Result<Outcome, NoMemory>
+pub fn tick(alloc: Global, state: &State, ready: &mut Items<ThreadNo>) -> Result<Outcome, NoMemory>
     ensures outcome { IfOk result (λ outcome. left state.now outcome ≡ tick state.now) }
     ensures ready { OnOk result (ready.new ≡ after_tick state.now ready.old) }
 {

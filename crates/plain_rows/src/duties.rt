@@ -7,17 +7,17 @@ use entry_log::Holder;
 use machine::Owed;
 use sym_base::{Items, NoMemory, ObjNo, ThreadNo};
 
-/// Adds what a close leaves to do: where it was of the last reference, the close of the object's own link,
+/// Adds what a close leaves to do: where the object dies of it, the close of the object's own link,
 /// and then the sweep.
 fn push_close(
     duties: &mut Items<Owed>,
-    last: bool,
+    dying: bool,
     object: ObjNo,
     link: Option<ObjNo>,
 ) -> Result<(), NoMemory>
-    ensures { OnOk result (duties.new ≡ duties.old ++ owed_by_close last object link) }
+    ensures { OnOk result (duties.new ≡ duties.old ++ owed_by_close dying object link) }
 {
-    if !last {
+    if !dying {
         return Ok(());
     }
     if let Some(linked) = link {
@@ -31,16 +31,16 @@ fn push_close(
 pub fn owe_close(
     owed: &mut Items<Items<Owed>>,
     thread: ThreadNo,
-    last: bool,
+    dying: bool,
     object: ObjNo,
     link: Option<ObjNo>,
 ) -> Result<(), NoMemory>
-    ensures { OnOk result (owed.new ≡ owing owed.old thread (owed_by_close last object link)) }
+    ensures { OnOk result (owed.new ≡ owing owed.old thread (owed_by_close dying object link)) }
 {
     let at = thread.0 as usize;
     if at < owed.len() {
         let duties = owed.get_mut(at);
-        push_close(duties, last, object, link)?;
+        push_close(duties, dying, object, link)?;
     }
     Ok(())
 }

@@ -138,11 +138,11 @@ pub fn threads_lose(threads: &mut Items<Option<ThreadRow>>, holder: Holder)
     }
 }
 
-/// With the last reference to a thread its own link is taken off its row.
-pub fn threads_closed(threads: &mut Items<Option<ThreadRow>>, last: bool, object: ObjNo)
-    ensures { threads.new ≡ threads_closed last object threads.old }
+/// As a thread dies its own link is taken off its row.
+pub fn threads_closed(threads: &mut Items<Option<ThreadRow>>, dying: bool, object: ObjNo)
+    ensures { threads.new ≡ threads_closed dying object threads.old }
 {
-    if last {
+    if dying {
         let at = object.0 as usize;
         if at < threads.len() {
             unlinked(threads.get_mut(at));

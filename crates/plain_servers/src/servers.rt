@@ -165,16 +165,16 @@ pub fn servers_lose(alloc: Global, rows: &mut ServerRows, holder: Holder) -> Res
     }
 }
 
-/// With its last reference a session is linked to no server any more.
+/// A session that dies is linked to no server any more.
 pub fn servers_closed(
     alloc: Global,
     rows: &mut ServerRows,
-    last: bool,
+    dying: bool,
     object: ObjNo,
 ) -> Result<(), NoMemory>
-    ensures { OnOk result (rows.new ≡ servers_closed last object rows.old) }
+    ensures { OnOk result (rows.new ≡ servers_closed dying object rows.old) }
 {
-    if last {
+    if dying {
         detach(alloc, rows, object)
     } else {
         Ok(())

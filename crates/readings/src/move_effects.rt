@@ -17,13 +17,13 @@ use machine::{DeathMove, LockMove, MessageMove, Move, NanoMove, Owed, RequestMov
 use state_rows::{Locked, Unlocked};
 use sym_base::{MsgNo, ObjNo, ThreadNo};
 
-/// Tells a close: with its last reference an object dies.
-fn tell_close(effects: &mut Effects, last: bool, holder: Holder, object: ObjNo)
-    requires { length effects.old + length (closed_effects last holder object) ≤ 4 }
-    ensures { effects.new ≡ effects.old ++ closed_effects last holder object }
+/// Tells a close, and the death where the object dies of it.
+fn tell_close(effects: &mut Effects, dying: bool, holder: Holder, object: ObjNo)
+    requires { length effects.old + length (closed_effects dying holder object) ≤ 4 }
+    ensures { effects.new ≡ effects.old ++ closed_effects dying holder object }
 {
     effects.push(Effect::Minus(holder, object));
-    if last {
+    if dying {
         effects.push(Effect::Dead(object));
     }
 }
@@ -34,7 +34,7 @@ fn tell_loss<R: Reads>(effects: &mut Effects, reads: &R, holder: Holder, object:
     requires few { length effects.old + length (told (Move.Lose holder object) (R.state reads.now)) ≤ 4 }
     ensures { effects.new ≡ effects.old ++ told (Move.Lose holder object) (R.state reads.now) }
 {
-    tell_close(effects, reads.is_last(object), holder, object);
+    tell_close(effects, reads.dies(object), holder, object);
 }
 
 /// Tells the payment of an item, from the state before it.
@@ -44,7 +44,7 @@ fn tell_payment<R: Reads>(effects: &mut Effects, reads: &R, what: Owed)
     ensures { effects.new ≡ effects.old ++ told (Move.Pay what) (R.state reads.now) }
 {
     match what {
-        Owed::Close(holder, object) => tell_close(effects, reads.is_last(object), holder, object),
+        Owed::Close(holder, object) => tell_close(effects, reads.dies(object), holder, object),
         Owed::Sweep(object) => effects.push(Effect::Swept(object)),
     }
 }

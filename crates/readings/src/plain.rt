@@ -1,7 +1,7 @@
 //! The plain machine's state, read by decisions.
 use crate::Reads;
 use machine::{
-    Holding, NewHandle, Owed, State, ThreadRow, critical_count, first_owed, held_place, is_last,
+    Holding, NewHandle, Owed, State, ThreadRow, critical_count, dies, first_owed, held_place,
     is_protected, mutex_holder, object_of, process_handle, row_of, signal_count, suspend_count,
     table_of, thread_handle, thread_in, wanted_mutex,
 };
@@ -58,8 +58,8 @@ impl Reads for State {
         find_object(self, kind, name)
     }
 
-    fn is_last(&self, object: ObjNo) -> bool {
-        is_last(self, object)
+    fn dies(&self, object: ObjNo) -> bool {
+        dies(self, object)
     }
 
     fn objects_made(&self) -> usize {

@@ -11,7 +11,7 @@ ghost use Rattle.machine.specs.Handles.{process_handle, thread_handle};
 ghost use Rattle.machine.specs.Memory.{byte_of};
 ghost use Rattle.state_rows.specs.HandleNumbers.{index_of, is_local};
 ghost use Rattle.state_rows.specs.Locks.{owner_at, count_at, best_waiter};
-ghost use Rattle.machine.specs.References.{is_last};
+ghost use Rattle.machine.specs.References.{dies};
 ghost use Rattle.machine.specs.Rows.{object_of, thread_of, table_of, first_owed};
 ghost use Rattle.state_rows.specs.declared.deferred.Item.TheVariants.{Move};
 ghost use Rattle.state_rows.specs.Deferred.{next_of as next_call_of, next_immediate, is_queued, queue_of};
@@ -78,10 +78,10 @@ pub trait Reads {
         requires { is_readable self.now }
         ensures { result ≡ find_object (state self.now) kind name.now };
 
-    /// Whether an object has one reference.
-    fn is_last(&self, object: ObjNo) -> bool
+    /// Whether an object dies as one of its references is given up: it has no other.
+    fn dies(&self, object: ObjNo) -> bool
         requires { is_readable self.now }
-        ensures { result ≡ is_last (state self.now) object };
+        ensures { result ≡ dies (state self.now) object };
 
     /// The number of objects that were made.
     fn objects_made(&self) -> usize

@@ -29,7 +29,7 @@ use Rattle.machine.specs.Fits.{EachFits, FitsMove, Holds, most_owed}
 use Rattle.machine.specs.FitsServers.{HasNumber, HasSpare}
 use Rattle.machine.specs.Messaging.{disconnects, no_args, open_server, slots_of}
 use Rattle.machine.specs.Moves.{closed_effects, moved, tell, told, with_waiting}
-use Rattle.machine.specs.References.{count_of, is_last, kernel_holds, message_names, option_names, same, slot_names, total}
+use Rattle.machine.specs.References.{count_of, dies, kernel_holds, message_names, option_names, same, slot_names, total}
 use Rattle.machine.specs.Rows.{table_of, thread_of}
 use Rattle.machine.specs.Serving.{open_bit, session_bit}
 use Rattle.machine.specs.Task.{is_returning}
@@ -79,7 +79,7 @@ part_going : {script : Script} {S : State} {t : ObjNo} → MayClose script S t �
 part_going h = ap (λ (r : Option ThreadRow). is_returning (part_of r)) h.is ∙ h.going
 
 -- an object with a handle and a message has two references
-two_references : (S : State) (owner o : ObjNo) (i : ℕ) → (slot_at (table_of S owner) i).object ≡ Some o → 0 < total (message_names o) S.messages.outstanding → is_last S o ≡ false
+two_references : (S : State) (owner o : ObjNo) (i : ℕ) → (slot_at (table_of S owner) i).object ≡ Some o → 0 < total (message_names o) S.messages.outstanding → dies S o ≡ false
 two_references S owner o i is message =
     let within = slot_inside (table_of S owner) i o is in
     let named : slot_names o (slot_at (table_of S owner) i) ≡ same o o = ap (option_names o) is in
@@ -167,7 +167,7 @@ module _ (script : Script) (S : State) (t : ObjNo) (h : Holder) (o : ObjNo) (may
       message : Message
       message = record { number = next_number S.messages; slots = slots_of S o; row = new_row o v t disconnects no_args Disconnect }
 
-  not_last : (v : ObjNo) (T : State) → T.handles ≡ S.handles → T.messages ≡ (posted S closing t o v disconnects no_args Disconnect).messages → is_last T o ≡ false
+  not_last : (v : ObjNo) (T : State) → T.handles ≡ S.handles → T.messages ≡ (posted S closing t o v disconnects no_args Disconnect).messages → dies T o ≡ false
   not_last v T handles messages =
       two_references T handle.owner o handle.index (same_slot S.handles T.handles handle.owner handle.index o handles handle.slot)
       (subst (λ (m : MessageRows). 0 < total (message_names o) m.outstanding) (sym messages) (named_by v))
@@ -179,7 +179,7 @@ module _ (script : Script) (S : State) (t : ObjNo) (h : Holder) (o : ObjNo) (may
         each = (session, (accepted, ((part_going may, handle.holds T refl (λ p. refl)), tt)));
         told = told_then t (Servers (SetOpen o false)) (Messages message ∷ Lose h o ∷ []) S 0 4 (omega arith)
             (told_then t (Messages message) (Lose h o ∷ []) closing 3 1 (omega arith)
-            (told_then t (Lose h o) [] T 1 0 (closed_one (is_last T o) h o (not_last v T refl refl)) (omega arith)));
+            (told_then t (Lose h o) [] T 1 0 (closed_one (dies T o) h o (not_last v T refl refl)) (omega arith)));
         light = omega arith;
       })
       (λ u row is receiving.
@@ -198,7 +198,7 @@ module _ (script : Script) (S : State) (t : ObjNo) (h : Holder) (o : ObjNo) (may
         told = told_then t (Servers (SetOpen o false)) (Messages message ∷ Wake u ∷ Lose h o ∷ []) S 0 4 (omega arith)
             (told_then t (Messages message) (Wake u ∷ Lose h o ∷ []) closing 3 1 (omega arith)
             (told_then t (Wake u) (Lose h o ∷ []) T 0 1 (omega arith)
-            (told_then t (Lose h o) [] W 1 0 (closed_one (is_last W o) h o (not_last v W refl refl)) (omega arith))));
+            (told_then t (Lose h o) [] W 1 0 (closed_one (dies W o) h o (not_last v W refl refl)) (omega arith))));
         light = omega arith;
       })
     where

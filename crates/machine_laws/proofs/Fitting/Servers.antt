@@ -62,7 +62,7 @@ fits-server {script = script} {S = S} {t = t} {row = row} name x h going =
         let o = next_object S in
         let started = moved t (move.Servers (Start o t)) S in
         let sized = h.rows.servers.servers_sized in
-        let alive : IsAlive (object_of (moved t (move.Make kind.Server name (Own t)) started) o) = subst IsAlive (sym (get_or_push S.objects (Some (new_object kind.Server name)) None (length S.objects) refl)) refl in
+        let alive : IsAlive (object_of (moved t (move.Make kind.Server name (Own t)) started) o) = subst IsAlive (sym (get_or_push S.objects (Some (new_object kind.Server name)) None o.0 refl)) refl in
         fits-handle (Of word.Server part.Do) (move.Servers (Start o t) ∷ move.Make kind.Server name (Own t) ∷ move.Gain (InThread t i) o ∷ []) x number h h.registers (
           record { next = refl; room = room; owner = live_thread h going },
           (

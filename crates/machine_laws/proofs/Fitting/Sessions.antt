@@ -49,7 +49,7 @@ use Rattle.move_laws.proofs.Holders.ThreadRows.{row-here, row-other}
 use Rattle.move_laws.proofs.Lists.Cases.{if_cases}
 use Rattle.move_laws.proofs.Lists.Mapped.{mapped-some}
 use Rattle.move_laws.proofs.Lists.Totals.{total-set, total-with}
-use Rattle.move_laws.proofs.MoveLaws.ServerMoves.{unmade_uncounted}
+use Rattle.move_laws.proofs.Lives.Fresh.{next_fresh}
 use Rattle.move_laws.proofs.Numbers.Registers.{send_small}
 use Rattle.move_laws.proofs.RowLaws.MessagesKept.{begun_one, fewer-with_row}
 use Rattle.machine_laws.proofs.Fitting.Deaths.{not_logged, set_awaited}
@@ -80,14 +80,14 @@ module _ (script : Script) (S : State) (t : ObjNo) (row : ThreadRow) (instr : In
       let s = next_object S in
       let within = alive_inside S.objects o.0 alive in
       let longer = length_push S.objects (Some (new_object kind.Session [])) in
-      let none = unmade_uncounted script S s (omega arith) h.rows in
-      let fresh = h.rows.servers.sessions_made s (omega arith) in
+      let fresh = next_fresh script S h.rows in
+      let none = fresh.count in
       record {
         made = omega arith;
         later = h.rows.sized.first;
         other = λ same. absurd (omega arith);
-        fresh = fresh;
-        alone = record { no_session = h.rows.servers.linked_made s (omega arith); no_server = ap link_of fresh };
+        fresh = fresh.session;
+        alone = record { no_session = fresh.linked; no_server = ap link_of fresh.session };
         unnamed = omega arith;
         unowed = omega arith;
         server = ap is_some is;
@@ -107,7 +107,7 @@ module _ (script : Script) (S : State) (t : ObjNo) (row : ThreadRow) (instr : In
   spare_made i number =
       let s = next_object S in
       let sized = h.rows.servers.sessions_sized in
-      let fresh = h.rows.servers.sessions_made s (omega arith) in
+      let fresh = (next_fresh script S h.rows).session in
       let new = new_session o slots t in
       let first = fewer-with_row sending_bit S.threads t (with_kept number) (λ r at. omega arith) in
       let second = fewer-with_row sending_bit (moved t (move.Keep t number) (joined i)).threads t (with_use None) (λ r at. omega arith) in

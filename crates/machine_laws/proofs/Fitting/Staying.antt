@@ -21,7 +21,7 @@ use Rattle.machine.specs.Bodies.{end_wait, ends_wait}
 use Rattle.machine.specs.Fits.{IsAtInstruction}
 use Rattle.machine.specs.Messaging.{close_refused, finish, is_refused, reply, reply_to}
 use Rattle.machine.specs.Moves.{moved, perform, threads_closed, threads_lose, unlinked, with_use, with_waiting, with_part}
-use Rattle.machine.specs.References.{is_last}
+use Rattle.machine.specs.References.{dies}
 use Rattle.machine.specs.Rows.{thread_of}
 use Rattle.machine.specs.ThreadCalls.{is_live}
 use Rattle.std.proofs.Common.{ℤ}
@@ -66,7 +66,7 @@ stays-lost script S T t (Temp u) same at = at-with_row script S T t u (with_use 
 stays-lost script S T t _ same at = record { row = at.row; is = ap (λ (threads : List (Option ThreadRow)). get_or threads t.0 None) same ∙ at.is; next = at.next }
 
 pub stays-lose : (script : Script) (t : ObjNo) (h : Holder) (o : ObjNo) → Stays script t (move.Lose h o)
-stays-lose script t h o = record { at = λ S at. stays-unlinked script (record S { threads = threads_lose h S.threads }) (moved t (move.Lose h o) S) t o (is_last S o) refl (stays-lost script S (record S { threads = threads_lose h S.threads }) t h refl at) }
+stays-lose script t h o = record { at = λ S at. stays-unlinked script (record S { threads = threads_lose h S.threads }) (moved t (move.Lose h o) S) t o (dies S o) refl (stays-lost script S (record S { threads = threads_lose h S.threads }) t h refl at) }
 
 -- what finishes a message
 stay-end_wait : (script : Script) (S : State) (t u : ObjNo) (s : ℕ) (row : Option ThreadRow) → AllStay script t (end_wait S u s row)

@@ -30,6 +30,7 @@ use Rattle.state_rows.specs.HandleSlots.{slot_at}
 use Rattle.state_rows.specs.HandleNumbers.{index_of, is_local}
 use Rattle.machine.specs.Closing.{close_moves}
 use Rattle.machine.specs.Moves.{moved, perform, next_object, new_object}
+use Rattle.move_laws.proofs.Lives.Fresh.{next_fresh}
 use Rattle.machine.specs.References.{stage_holds, total}
 use Rattle.machine.specs.Close.{close_do, close_handle}
 use Rattle.machine.specs.Create.{start_moves, create_do, create_mutex_do, create_semaphore_do, make_with_handle}
@@ -85,13 +86,13 @@ pub fits-create_mutex : {script : Script} {S : State} {t : ObjNo} {row : ThreadR
 fits-create_mutex name x h = fits-create Mutex name None x (λ e. absurd (cc)) h h.registers (λ i. record { each = tt; threads = refl })
 
 pub fits-create_semaphore : {script : Script} {S : State} {t : ObjNo} {row : ThreadRow} (name : List ℕ) (count x : ℕ) → IsStepping script S t row (instr.CreateSemaphore name count x) → FitsDecision script t S (create_semaphore_do S t row name count x)
-fits-create_semaphore {S = S} name count x h = fits-create Semaphore name (Some (Start (next_object S) count)) x (λ e. absurd (cc)) h h.registers (λ i. record {
+fits-create_semaphore {script = script} {S = S} name count x h = fits-create Semaphore name (Some (Start (next_object S) count)) x (λ e. absurd (cc)) h h.registers (λ i. record {
   each = (
     record {
       object = let longer = length_push S.objects (Some (new_object Semaphore name)) in omega arith;
       few = count_few name count x h.ranges;
-      free = h.rows.locks.owners_made (next_object S) (omega arith);
-      alone = h.rows.locks.waiters_made (next_object S) (omega arith);
+      free = (next_fresh script S h.rows).owner;
+      alone = (next_fresh script S h.rows).waiters;
     },
     tt,
   );

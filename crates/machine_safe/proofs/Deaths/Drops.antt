@@ -23,7 +23,7 @@ use Rattle.machine.specs.Fits.{EachFits, Sane}
 use Rattle.machine.specs.Holdings.{stage_left}
 use Rattle.machine.specs.Interrupts.{immediate, immediate_plan, interrupt, supervisor}
 use Rattle.machine.specs.Moves.{moved, perform}
-use Rattle.machine.specs.References.{is_last, stage_holds, total}
+use Rattle.machine.specs.References.{dies, stage_holds, total}
 use Rattle.machine.specs.Rows.{owed_of, thread_of}
 use Rattle.machine.specs.Steps.{decision_of}
 use Rattle.machine.specs.Transition.{act}
@@ -83,7 +83,7 @@ record OwnCleaning (script : Script) (S : State) (t u : ObjNo) : Type 0 where
 
 -- a payment cleans nobody
 paid-kept : (script : Script) (S : State) (t : ObjNo) (what : Owed) (rest : List Owed) → owed_of S t ≡ what ∷ rest → t.0 < length S.owed → AreRows script S → (u : ObjNo) → row_bit stage_left (thread_of (moved t (Pay what) S) u) ≡ row_bit stage_left (thread_of S u)
-paid-kept script S t (Close h o) rest owes here rows u = (keeps-closed (is_last S o) o S.threads).stages stage_left u.0
+paid-kept script S t (Close h o) rest owes here rows u = (keeps-closed (dies S o) o S.threads).stages stage_left u.0
 paid-kept script S t (Sweep o) rest owes here rows u =
     let unheld : row_bit stage_holds (thread_of S o) ≡ 0 = sym (held-is (thread_of S o)) ∙ sweep-unheld script S t o rest owes here rows in
     bit-swept stage_left S.threads o.0 u.0 (let le = left-held (thread_of S o) in omega arith)

@@ -33,7 +33,7 @@ use Rattle.machine.specs.Holding.{is_holder, same_pair}
 use Rattle.machine.specs.Holdings.{stage_left}
 use Rattle.machine.specs.MessageMoves.{message_told}
 use Rattle.machine.specs.Moves.{advanced, closed_effects, moved, next_object, threads_closed, threads_gain, threads_lose, told, unlinked, with_found, with_kept, with_message, with_part, with_priority, with_register, with_use, with_waiting}
-use Rattle.machine.specs.References.{is_last, same, stage_holds}
+use Rattle.machine.specs.References.{dies, same, stage_holds}
 use Rattle.machine.specs.RequestMoves.{request_moved, request_told}
 use Rattle.machine.specs.Rows.{owed_of, thread_of}
 use Rattle.machine.specs.ServerMoves.{server_told}
@@ -70,7 +70,7 @@ is_death _ = false
 pub keeps-move : (script : Script) (S : State) (t : ObjNo) (m : Move) → FitsMove script t m S → is_death m ≡ false → KeepsRows S.threads (moved t m S).threads
 keeps-move script S t (Make kind name h) fits other = keeps-gain h (next_object S) S.threads
 keeps-move script S t (Gain h o) fits other = keeps-gain h o S.threads
-keeps-move script S t (Lose h o) fits other = keeps-then S.threads (threads_lose h S.threads) (threads_closed (is_last S o) o (threads_lose h S.threads)) (keeps-lose h S.threads) (keeps-closed (is_last S o) o (threads_lose h S.threads))
+keeps-move script S t (Lose h o) fits other = keeps-then S.threads (threads_lose h S.threads) (threads_closed (dies S o) o (threads_lose h S.threads)) (keeps-lose h S.threads) (keeps-closed (dies S o) o (threads_lose h S.threads))
 keeps-move script S t (Find u o) fits other = keeps-with_row S.threads u (with_found o) (λ row. refl) (λ row. refl)
 keeps-move script S t (GoOn u part) fits other = keeps-with_row S.threads u (with_part part) (λ row. refl) (λ row. refl)
 keeps-move script S t (Keep u number) fits other = keeps-with_row S.threads u (with_kept number) (λ row. refl) (λ row. refl)
@@ -238,7 +238,7 @@ dies-death script S t (Bury u) fits =
 pub dies-move : (script : Script) (S : State) (t : ObjNo) (m : Move) → AreRows script S → FitsMove script t m S → Dies S (moved t m S) (told m S)
 dies-move script S t (Make kind name h) rows fits = dies-calm S _ _ (keeps-move script S t (Make kind name h) fits refl) refl refl (calm-plus h (next_object S)) (make-gains S h (next_object S) fits.1)
 dies-move script S t (Gain h o) rows fits = dies-calm S _ _ (keeps-move script S t (Gain h o) fits refl) refl refl (calm-plus h o) (plus-gains S h o fits.0)
-dies-move script S t (Lose h o) rows fits = dies-calm S _ _ (keeps-move script S t (Lose h o) fits refl) refl refl (calm-close (is_last S o) h o) (close-gains S (is_last S o) h o)
+dies-move script S t (Lose h o) rows fits = dies-calm S _ _ (keeps-move script S t (Lose h o) fits refl) refl refl (calm-close (dies S o) h o) (close-gains S (dies S o) h o)
 dies-move script S t (Find u o) rows fits = dies-calm S _ _ (keeps-move script S t (Find u o) fits refl) refl refl (calm-found o) (λ v h x none own. refl)
 dies-move script S t (Miss o) rows fits = dies-calm S _ _ (keeps-same S.threads) refl refl (calm-missed o) (λ v h x none own. refl)
 dies-move script S t (Nano m) rows fits = dies-nano script S t m fits
@@ -252,7 +252,7 @@ dies-move script S t m rows fits = dies-row S (moved t m S) (keeps-move script S
 
 -- and what a payment tells
 pub dies-pay : (script : Script) (S : State) (t : ObjNo) (what : Owed) (rest : List Owed) → owed_of S t ≡ what ∷ rest → t.0 < length S.owed → AreRows script S → Dies S (moved t (Pay what) S) (told (Pay what) S)
-dies-pay script S t (Close h o) rest owes here rows = dies-calm S _ _ (keeps-closed (is_last S o) o S.threads) refl refl (calm-close (is_last S o) h o) (close-gains S (is_last S o) h o)
+dies-pay script S t (Close h o) rest owes here rows = dies-calm S _ _ (keeps-closed (dies S o) o S.threads) refl refl (calm-close (dies S o) h o) (close-gains S (dies S o) h o)
 dies-pay script S t (Sweep o) rest owes here rows =
     let unheld : row_bit stage_holds (thread_of S o) ≡ 0 = sym (held-is (thread_of S o)) ∙ sweep-unheld script S t o rest owes here rows in
     let left : row_bit stage_left (thread_of S o) ≡ 0 = (let le = left-held (thread_of S o) in omega arith) in

@@ -24,7 +24,7 @@ use Rattle.machine.specs.Fits.{FitsMove, IsAtStage, IsFree, MayMakeWith}
 use Rattle.machine.specs.Handles.{freed_slot, taken_slot, with_slot}
 use Rattle.machine.specs.Holdings.{left_of, process_handles, stage_left}
 use Rattle.machine.specs.Moves.{moved, next_object, tables_gain, tables_lose, threads_closed}
-use Rattle.machine.specs.References.{is_last, stage_holds, total}
+use Rattle.machine.specs.References.{dies, stage_holds, total}
 use Rattle.machine.specs.Rows.{owed_of, thread_of, with_row}
 use Rattle.machine.specs.WellFormed.{AreRows}
 use Rattle.move_laws.proofs.Holders.ThreadRows.{row-here, row-other}
@@ -180,7 +180,7 @@ emptied-swept script S o rows gone h p none zero = by (get_or S.threads p.0 None
     ]
 
 pub emptied-pay : (script : Script) (S : State) (t : ObjNo) (what : Owed) (rest : List Owed) → AreRows script S → owed_of S t ≡ what ∷ rest → t.0 < length S.owed → AreEmptied S → AreEmptied (moved t (Pay what) S)
-emptied-pay script S t (Close h o) rest rows owes here e = emptied-rows S (moved t (Pay (Close h o)) S) (left-rows S.threads (threads_closed (is_last S o) o S.threads) (keeps-closed (is_last S o) o S.threads)) refl e
+emptied-pay script S t (Close h o) rest rows owes here e = emptied-rows S (moved t (Pay (Close h o)) S) (left-rows S.threads (threads_closed (dies S o) o S.threads) (keeps-closed (dies S o) o S.threads)) refl e
 emptied-pay script S t (Sweep o) rest rows owes here e =
     let unheld : row_bit stage_holds (thread_of S o) ≡ 0 = sym (held-is (thread_of S o)) ∙ sweep-unheld script S t o rest owes here rows in
     emptied-swept script S o.0 rows (let le = left-held (thread_of S o) in omega arith) e

@@ -6,7 +6,7 @@ use Rattle.entry_log.specs.declared.effect.Holder.TheVariants.{Own}
 use Rattle.entry_log.specs.declared.step.Step.{Step}
 use Rattle.machine.specs.FitsServers.{MayEnd}
 use Rattle.machine.specs.Moves.{closed_effects, moved, told}
-use Rattle.machine.specs.References.{is_last, same}
+use Rattle.machine.specs.References.{dies, same}
 use Rattle.machine.specs.Serving.{times_owned}
 use Rattle.machine.specs.declared.moves.Move.TheVariants.{Lose, Servers}
 use Rattle.machine.specs.declared.server_move.ServerMove.TheVariants.{End, Close}
@@ -78,13 +78,13 @@ module _ (script : Script) (r : Reading) (S : State) (t : ObjNo) (done : Step) (
     owner_same o = ap (λ (b : Bool). or_before (if b then owner_told fs o else None) (r.owner o)) makes
 
     closings_more : (o : ObjNo) → now_told.closings o ≡ r.closings o + same v o
-    closings_more o = let a = ap (λ (b : Bool). if b then handles_lost fs o else 0) closing_step in let b = closed-lost (is_last (begun v) v) holder v o handle in omega arith
+    closings_more o = let a = ap (λ (b : Bool). if b then handles_lost fs o else 0) closing_step in let b = closed-lost (dies (begun v) v) holder v o handle in omega arith
 
     closing_now : (o w : ObjNo) → now_told.owner o ≡ Some w → closing_by now_told o ≡ nat_lt 0 (r.closings o + same v o + dooms r.effects w)
     closing_now o w is =
         let a = closings_more o in
         let b = dooms-append r.effects fs w in
-        let c = closed-dooms (is_last (begun v) v) holder v w in
+        let c = closed-dooms (dies (begun v) v) holder v w in
         closing-count now_told o w is ∙ ap (nat_lt 0) (let equal : now_told.closings o + dooms now_told.effects w ≡ r.closings o + same v o + dooms r.effects w = omega arith in equal)
 
     row_now : (o : ObjNo) (row : ServerRow) → server_at gone.servers o ≡ Some row → IsServed now_told gone o row
@@ -160,7 +160,7 @@ module _ (script : Script) (r : Reading) (S : State) (t : ObjNo) (done : Step) (
     stopped = moved t (Lose (Own t) v) (moved t (Servers (End v)) S)
 
     abbrev last : Bool
-    last = is_last (moved t (Servers (End v)) S) v
+    last = dies (moved t (Servers (End v)) S) v
 
     abbrev told_then : List Effect
     told_then = Terminated v ∷ closed_effects last (Own t) v

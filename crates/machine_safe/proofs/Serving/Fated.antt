@@ -6,7 +6,7 @@ use Rattle.machine.specs.DeathMoves.{death_told}
 use Rattle.machine.specs.LockMoves.{lock_told}
 use Rattle.machine.specs.Moves.{closed_effects, moved, tell, told}
 use Rattle.machine.specs.NanoMoves.{nano_told}
-use Rattle.machine.specs.References.{is_last, total}
+use Rattle.machine.specs.References.{dies, total}
 use Rattle.machine.specs.RequestMoves.{request_told}
 use Rattle.machine.specs.ServerMoves.{server_told}
 use Rattle.machine.specs.declared.death_move.DeathMove.{DeathMove}
@@ -66,7 +66,7 @@ fated-death (Clean u) v = omega arith
 fated-death (Bury u) v = omega arith
 
 fated-move : (m : Move) (S : State) (v : ObjNo) → dooms (told m S) v ≤ doomed_bit v m
-fated-move (Lose h o) S v = let a = unfated-close (is_last S o) h o v in omega arith
+fated-move (Lose h o) S v = let a = unfated-close (dies S o) h o v in omega arith
 fated-move (Nano m) S v = let a = unfated-nano m v in omega arith
 fated-move (Requests m) S v = let a = unfated-request m v in omega arith
 fated-move (Locks m) S v = let a = unfated-lock m v in omega arith
@@ -75,7 +75,7 @@ fated-move (Servers m) S v = let a = unfated-server m v in omega arith
 fated-move (Messages (Accept slots row)) S v = omega arith
 fated-move (Messages (Take o)) S v = omega arith
 fated-move (Messages (Finish m code)) S v = omega arith
-fated-move (Pay (Close h o)) S v = let a = unfated-close (is_last S o) h o v in omega arith
+fated-move (Pay (Close h o)) S v = let a = unfated-close (dies S o) h o v in omega arith
 fated-move (Pay (Sweep o)) S v = omega arith
 fated-move m S v = omega arith
 

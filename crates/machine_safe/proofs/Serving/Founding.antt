@@ -29,7 +29,7 @@ use Rattle.machine_safe.specs.CountAfter.{effects_of}
 use Rattle.machine_safe.specs.SafeDeaths.{dooms}
 use Rattle.machine_safe.specs.Served.{ends, handles_lost, server_told}
 use Rattle.script_types.specs.declared.script.Script.{Script}
-use Rattle.std.proofs.Common.{Bool, List, None, [], ap, arith, subst, sym, ℕ, ◌++◌, ◌+◌, ◌∙◌, ◌∷◌, ◌≡◌, Option, Some, get_or, length}
+use Rattle.std.proofs.Common.{Bool, List, None, [], ap, arith, subst, sym, ℕ, ◌++◌, ◌+◌, ◌∙◌, ◌∷◌, ◌≡◌, Option, Some, get_or}
 use Rattle.std.specs.Prelude.{if◌then◌else◌}
 use Rattle.sym_base.specs.declared.number.ObjNo.{ObjNo}
 use Rattle.machine_safe.proofs.Serving.Slots.{slotted-keeps}
@@ -117,4 +117,4 @@ module _ (script : Script) (before : List Entry) (S : State) (place : ℕ) (t : 
       slots : (s : ObjNo) (row : SessionRow) → session_at (perform t d.moves S).servers s ≡ Some row → WasSession S.servers s row
       slots s row is_row =
           let later = keeps.slots s row (ap (λ (l : List Move). session_at (perform t l S).servers s) (sym is.moves) ∙ is_row) in
-          record { old = later.old; was = set_item (λ (x : Option SessionRow). x ≡ Some later.old → get_or S.servers.sessions s.0 None ≡ Some later.old) S.servers.sessions (length S.objects) s.0 None None (λ at none. absurd (cc)) (λ same_row. same_row) later.was; slots = later.slots }
+          record { old = later.old; was = set_item (λ (x : Option SessionRow). x ≡ Some later.old → get_or S.servers.sessions s.0 None ≡ Some later.old) S.servers.sessions (next_object S).0 s.0 None None (λ at none. absurd (cc)) (λ same_row. same_row) later.was; slots = later.slots }

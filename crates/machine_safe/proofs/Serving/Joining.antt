@@ -27,6 +27,7 @@ use Rattle.machine_safe.proofs.Serving.Served.{Served, served-keeps, served-made
 use Rattle.machine_safe.proofs.Serving.Turns.{Book, IsTurn, counts, entry_for, unserving}
 use Rattle.machine_safe.specs.Served.{ends, handles_lost, one_if, or_before, server_told}
 use Rattle.move_laws.proofs.Lists.Contents.{contains_map}
+use Rattle.move_laws.proofs.Lives.Fresh.{next_fresh}
 use Rattle.move_laws.proofs.References.Same.{eqb_apart, if_zero}
 use Rattle.script_types.specs.declared.script.Script.{Script}
 use Rattle.state_rows.specs.ServerRows.{server_at, session_at}
@@ -142,17 +143,17 @@ module _ (script : Script) (before : List Entry) (S : State) (place : ℕ) (t : 
           (subst (λ (l : List Effect). IsSame (further r1 d.step (hs ++ gs) (λ k. 0 + steps_of t is.back k)) (further (reading before) d.step l (λ k. steps_of t (one ∷ []) k + (0 + steps_of t is.back k)))) (sym told_all) (same-both (reading before) d.step fs (hs ++ gs) (steps_of t (one ∷ [])) (λ k. 0 + steps_of t is.back k)))
           (same-entry before e (λ k. steps_of t (one ∷ []) k + (0 + steps_of t is.back k)) (λ k. let a = counts t is.back d k (let b = is.even.answers in let c = ap (total advance_bit) is.moves in omega arith) in let none = if_zero (t.0 == k) (total advance_bit (one ∷ [])) refl in omega arith)))
 
-      apart : (p : Post) → Contains (posts S) p → (length S.objects ≡ p.session.0 → ⊥)
+      apart : (p : Post) → Contains (posts S) p → ((next_object S).0 ≡ p.session.0 → ⊥)
       apart p among at =
           let was = posted p among in
           let session : is_some (session_at S.servers p.session) ≡ true = ap (λ (x : Post). is_some (session_at S.servers x.session)) (sym was.2) ∙ rows.messages.sessions was.0 was.1 in
-          let none : session_at S.servers p.session ≡ None = rows.servers.sessions_made p.session (omega arith) in
+          let none : session_at S.servers p.session ≡ None = ap (λ (n : ℕ). get_or S.servers.sessions n None) (sym at) ∙ (next_fresh script S rows).session in
           let no_session = ap is_some none in absurd (cc)
 
       unlinked : (p : Post) → Contains (posts S) p → server_told e.effects p.session ≡ None
       unlinked p among =
           ap (λ (l : List Effect). server_told l p.session) told_all ∙ (server_told-append fs (hs ++ gs) p.session ∙ (ap (λ (x : Option ObjNo). or_before x (server_told fs p.session)) (server_told-append hs gs p.session
-          ∙ (ap (λ (x : Option ObjNo). or_before x (server_told hs p.session)) (keeps.unlinked p.session) ∙ ap (λ (b : Bool). one_if b is.server) (eqb_apart (length S.objects) p.session.0 (apart p among)))) ∙ makes.unlinked p.session))
+          ∙ (ap (λ (x : Option ObjNo). or_before x (server_told hs p.session)) (keeps.unlinked p.session) ∙ ap (λ (b : Bool). one_if b is.server) (eqb_apart (next_object S).0 p.session.0 (apart p among)))) ∙ makes.unlinked p.session))
 
       unended : (v : ObjNo) → ends e.effects v ≡ 0
       unended v = let a = ap (λ (l : List Effect). ends l v) told_all in let b = ends-append fs (hs ++ gs) v in let c = makes.unended v in let f = keeps.unended v in omega arith
@@ -160,31 +161,31 @@ module _ (script : Script) (before : List Entry) (S : State) (place : ℕ) (t : 
       q : IsQuiet S (perform t d.moves S) e.effects
       q = quiet-doing script S t d.moves does (let a = ap (total message_bit) is.moves in let b = message-none is.back is.quiet in omega arith)
 
-      session_room : length S.objects < length T.servers.sessions
+      session_room : (next_object S).0 < length T.servers.sessions
       session_room = let a = later.each.0.made in let b = later.sane.rows.sized.objects_few in let c = later.sane.rows.servers.sessions_sized in omega arith
 
-      link-told : (s : ObjNo) → length S.objects ≡ s.0 → server_told e.effects s ≡ Some is.server
+      link-told : (s : ObjNo) → (next_object S).0 ≡ s.0 → server_told e.effects s ≡ Some is.server
       link-told s at =
           ap (λ (l : List Effect). server_told l s) told_all ∙ (server_told-append fs (hs ++ gs) s ∙ ap (λ (x : Option ObjNo). or_before x (server_told fs s)) (server_told-append hs gs s
-          ∙ (ap (λ (x : Option ObjNo). or_before x (server_told hs s)) (keeps.unlinked s) ∙ ap (λ (b : Bool). one_if b is.server) (eq-eqb (length S.objects) s.0 at))))
+          ∙ (ap (λ (x : Option ObjNo). or_before x (server_told hs s)) (keeps.unlinked s) ∙ ap (λ (b : Bool). one_if b is.server) (eq-eqb (next_object S).0 s.0 at))))
 
-      link-untold : (s : ObjNo) → (length S.objects ≡ s.0 → ⊥) → server_told e.effects s ≡ None
+      link-untold : (s : ObjNo) → ((next_object S).0 ≡ s.0 → ⊥) → server_told e.effects s ≡ None
       link-untold s other =
           ap (λ (l : List Effect). server_told l s) told_all ∙ (server_told-append fs (hs ++ gs) s ∙ (ap (λ (x : Option ObjNo). or_before x (server_told fs s)) (server_told-append hs gs s
-          ∙ (ap (λ (x : Option ObjNo). or_before x (server_told hs s)) (keeps.unlinked s) ∙ ap (λ (b : Bool). one_if b is.server) (eqb_apart (length S.objects) s.0 other))) ∙ makes.unlinked s))
+          ∙ (ap (λ (x : Option ObjNo). or_before x (server_told hs s)) (keeps.unlinked s) ∙ ap (λ (b : Bool). one_if b is.server) (eqb_apart (next_object S).0 s.0 other))) ∙ makes.unlinked s))
 
       -- the session has the slots of the instruction, and the others theirs
       slots : (s : ObjNo) (row : SessionRow) → session_at (perform t d.moves S).servers s ≡ Some row → slots_in script (before ++ e ∷ []) s ≡ Some row.slots
       slots s row is_row =
           let after = keeps.slots s row (ap (λ (l : List Move). session_at (perform t l S).servers s) (sym is.moves) ∙ is_row) in
-          elim (cases_eq (length S.objects) s.0) as (λ _. slots_in script (before ++ e ∷ []) s ≡ Some row.slots) [
+          elim (cases_eq (next_object S).0 s.0) as (λ _. slots_in script (before ++ e ∷ []) s ≡ Some row.slots) [
             | inl at ↦
-                let inside : length S.objects < length T.servers.sessions = session_room in
-                let new : session_at mid.servers s ≡ Some (new_session is.server is.slots t) = ap (λ (n : ℕ). get_or mid.servers.sessions n None) (sym at) ∙ get_or-set_same T.servers.sessions (length S.objects) (Some (new_session is.server is.slots t)) None inside in
+                let inside : (next_object S).0 < length T.servers.sessions = session_room in
+                let new : session_at mid.servers s ≡ Some (new_session is.server is.slots t) = ap (λ (n : ℕ). get_or mid.servers.sessions n None) (sym at) ∙ get_or-set_same T.servers.sessions (next_object S).0 (Some (new_session is.server is.slots t)) None inside in
                 let both : Some after.old ≡ Some (new_session is.server is.slots t) = sym after.was ∙ new in
                 let own : after.old ≡ new_session is.server is.slots t = cc in
                 slots-joined script before e s is.server is.slots (link-told s at) is.connects ∙ ap Some (sym (ap (λ (z : SessionRow). z.slots) own) ∙ after.slots)
             | inr other ↦
-                let first = makes.slots s after.old (sym (get_or-set_other T.servers.sessions (length S.objects) s.0 (Some (new_session is.server is.slots t)) None (λ at. other (sym at))) ∙ after.was) in
+                let first = makes.slots s after.old (sym (get_or-set_other T.servers.sessions (next_object S).0 s.0 (Some (new_session is.server is.slots t)) None (λ at. other (sym at))) ∙ after.was) in
                 slots-kept script before e s (link-untold s other) ∙ (book.slotted.sessions s first.old first.was ∙ ap Some (first.slots ∙ after.slots))
           ]

@@ -3,7 +3,7 @@ use Rattle.entry_log.specs.declared.effect.Effect.{Effect}
 use Rattle.entry_log.specs.declared.effect.Holder.TheVariants.{InProcess, InThread}
 use Rattle.machine.specs.Fits.{EachFits, FitsMove, Sane, most_owed}
 use Rattle.machine.specs.Moves.{moved, perform, tell, told}
-use Rattle.machine.specs.References.{is_last, same, total}
+use Rattle.machine.specs.References.{dies, same, total}
 use Rattle.machine.specs.Rows.{owed_of, table_of}
 use Rattle.machine.specs.WellFormed.{AreRows, weight, IsAlive}
 use Rattle.machine.specs.declared.moves.Move.{Move}
@@ -92,22 +92,22 @@ pub keeps-pay : (script : Script) (S : State) (t : ObjNo) (what : Owed) (rest : 
 keeps-pay script S t (Close h o) rest rows owes = record {
   servers = λ x row is. server-same S.servers (Pay (Close h o) ∷ []) x row is;
   there = λ x is. is;
-  links = λ s x is. link-closed (is_last S o) o S.servers s x is;
+  links = λ s x is. link-closed (dies S o) o S.servers s x is;
   owned = refl;
   doomed = λ u x some owned. absurd (omega arith);
-  objects = let a = closed-long (is_last S o) o S.objects in omega arith;
-  uses = λ u x row is uses. inr (unused-close (is_last S o) h o u, using-closed (is_last S o) o S.threads u x row is uses);
-  alive = λ x inside alive. alive-closed (is_last S o) o S.objects x alive;
-  slots = λ s row is. session-closed (is_last S o) o S.servers s row is;
-  linked = λ s v inside is. elim (linked-closed (is_last S o) o S.objects S.servers s v is) as (λ _. StillLinked (moved t (Pay (Close h o)) S) (Pay (Close h o) ∷ []) s v) [
+  objects = let a = closed-long (dies S o) o S.objects in omega arith;
+  uses = λ u x row is uses. inr (unused-close (dies S o) h o u, using-closed (dies S o) o S.threads u x row is uses);
+  alive = λ x inside alive. alive-closed (dies S o) o S.objects x alive;
+  slots = λ s row is. session-closed (dies S o) o S.servers s row is;
+  linked = λ s v inside is. elim (linked-closed (dies S o) o S.objects S.servers s v is) as (λ _. StillLinked (moved t (Pay (Close h o)) S) (Pay (Close h o) ∷ []) s v) [
     | inl still ↦ inl still
     | inr dead ↦ inr (inl dead)
   ];
-  threads = λ k row is. at-steps S.threads t (Pay (Close h o) ∷ []) k row refl (at-closed (is_last S o) o S.threads k row is);
-  unlinked = (unlinking-close (is_last S o) h o).unlinked;
-  unended = (unlinking-close (is_last S o) h o).unended;
+  threads = λ k row is. at-steps S.threads t (Pay (Close h o) ∷ []) k row refl (at-closed (dies S o) o S.threads k row is);
+  unlinked = (unlinking-close (dies S o) h o).unlinked;
+  unended = (unlinking-close (dies S o) h o).unended;
   lost = λ v past. pay-lost script S t (Close h o) rest v rows owes;
-  unowned = λ none v. unowned-close (is_last S o) h o v;
+  unowned = λ none v. unowned-close (dies S o) h o v;
 }
 keeps-pay script S t (Sweep o) rest rows owes = record {
   servers = λ x row is. server-same S.servers (Pay (Sweep o) ∷ []) x row is;

@@ -5,7 +5,7 @@ use Rattle.entry_log.specs.declared.effect.Holder.TheVariants.{Link, Own, Temp}
 use Rattle.machine.specs.DeathMoves.{death_row, death_thread}
 use Rattle.machine.specs.Fits.{FitsMove}
 use Rattle.machine.specs.Moves.{advanced, moved, new_object, next_object, objects_closed, threads_closed, threads_gain, threads_lose, unlinked, with_found, with_kept, with_message, with_part, with_priority, with_register, with_use, with_waiting}
-use Rattle.machine.specs.References.{is_last, mutex_names, total}
+use Rattle.machine.specs.References.{dies, mutex_names, total}
 use Rattle.machine.specs.Rows.{with_row}
 use Rattle.machine.specs.ServerMoves.{all_closing, owned_by, servers_closed, servers_lose}
 use Rattle.machine.specs.WellFormed.{AreRows}
@@ -124,7 +124,7 @@ all-links [] r = refl
 all-links (x ∷ xs) r = all-links xs (after_closing r x)
 
 pub link-move : (script : Script) (S : State) (t : ObjNo) (m : Move) → FitsMove script t m S → changing_bit m ≡ 0 → (s o : ObjNo) → server_of (moved t m S).servers s ≡ Some o → server_of S.servers s ≡ Some o
-link-move script S t (Lose h x) fits none s o is = link-lost h S.servers s o (link-closed (is_last S x) x (servers_lose h S.servers) s o is)
+link-move script S t (Lose h x) fits none s o is = link-lost h S.servers s o (link-closed (dies S x) x (servers_lose h S.servers) s o is)
 link-move script S t (Servers (CloseAll u)) fits none s o is = ap (λ (l : List (Option SessionRow)). link_of (get_or l s.0 None)) (sym (all-links (owned_by S.owned u) S.servers)) ∙ is
 link-move script S t (Servers (SetOpen x to)) fits none s o is = link-mapped (opened to) S.servers.sessions x.0 s o (λ row e. e) is
 link-move script S t (Servers m) fits none s o is = absurd (omega arith)
@@ -148,7 +148,7 @@ closed-long false o objects = refl
 
 pub objects-move : (script : Script) (S : State) (t : ObjNo) (m : Move) → FitsMove script t m S → length S.objects ≤ length (moved t m S).objects
 objects-move script S t (Make kind name h) fits = let a = length-append S.objects (Some (new_object kind name) ∷ []) in omega arith
-objects-move script S t (Lose h o) fits = let a = closed-long (is_last S o) o S.objects in omega arith
+objects-move script S t (Lose h o) fits = let a = closed-long (dies S o) o S.objects in omega arith
 objects-move script S t (Pay what) fits = absurd fits
 objects-move script S t m fits = omega arith
 
@@ -185,7 +185,7 @@ pub at-move : (script : Script) (S : State) (t : ObjNo) (m : Move) → FitsMove 
 at-move script S t (Make kind name h) fits k row is = at-steps S.threads t (Make kind name h ∷ []) k row refl (at-gained h (next_object S) S.threads k row is)
 at-move script S t (Gain h o) fits k row is = at-steps S.threads t (Gain h o ∷ []) k row refl (at-gained h o S.threads k row is)
 at-move script S t (Lose h o) fits k row is =
-    let one = at-closed (is_last S o) o (threads_lose h S.threads) k row is in
+    let one = at-closed (dies S o) o (threads_lose h S.threads) k row is in
     let two = at-lost h S.threads k one.old one.was in
     at-steps S.threads t (Lose h o ∷ []) k row refl (record { old = two.old; was = two.was; role = two.role ∙ one.role; place = let a = one.place in let b = two.place in omega arith })
 at-move script S t (Find u o) fits k row is = at-steps S.threads t (Find u o ∷ []) k row refl (at-with S.threads u (with_found o) (λ r. refl) (λ r. refl) k row is)

@@ -14,7 +14,7 @@ use Rattle.machine.specs.LockMoves.{lock_told}
 use Rattle.machine.specs.MessageMoves.{message_told}
 use Rattle.machine.specs.Moves.{advanced, closed_effects, moved, new_object, next_object, objects_closed, threads_closed, threads_gain, threads_lose, told, unlinked, with_found, with_kept, with_message, with_part, with_priority, with_register, with_use, with_waiting}
 use Rattle.machine.specs.NanoMoves.{nano_told}
-use Rattle.machine.specs.References.{is_last, same, total}
+use Rattle.machine.specs.References.{dies, same, total}
 use Rattle.machine.specs.RequestMoves.{request_told}
 use Rattle.machine.specs.Rows.{object_of, with_row}
 use Rattle.machine.specs.WellFormed.{IsAlive}
@@ -142,8 +142,8 @@ pub uses-move : (script : Script) (S : State) (t : ObjNo) (m : Move) → FitsMov
 uses-move script S t (Make kind name h) fits u o row is uses = using-gained h (next_object S) S.threads u o row is uses
 uses-move script S t (Gain h x) fits u o row is uses = using-gained h x S.threads u o row is uses
 uses-move script S t (Lose h x) fits u o row is uses =
-    let one = using-closed (is_last S x) x (threads_lose h S.threads) u o row is uses in
-    inr (unused-close (is_last S x) h x u, using-lost h S.threads u o one.old one.was one.uses)
+    let one = using-closed (dies S x) x (threads_lose h S.threads) u o row is uses in
+    inr (unused-close (dies S x) h x u, using-lost h S.threads u o one.old one.was one.uses)
 uses-move script S t (Find v x) fits u o row is uses = inr (refl, using-with S.threads v (with_found x) u o row (λ r. refl) is uses)
 uses-move script S t (GoOn v part) fits u o row is uses = inr (refl, using-with S.threads v (with_part part) u o row (λ r. refl) is uses)
 uses-move script S t (Keep v number) fits u o row is uses = inr (refl, using-with S.threads v (with_kept number) u o row (λ r. refl) is uses)
@@ -177,7 +177,7 @@ alive-closed false x objects o alive = alive
 
 pub alive-move : (script : Script) (S : State) (t : ObjNo) (m : Move) → FitsMove script t m S → (o : ObjNo) → o.0 < length S.objects → IsAlive (object_of (moved t m S) o) → IsAlive (object_of S o)
 alive-move script S t (Make kind name h) fits o made alive = subst IsAlive (get_or-append S.objects (Some (new_object kind name) ∷ []) None o.0 made) alive
-alive-move script S t (Lose h x) fits o made alive = alive-closed (is_last S x) x S.objects o alive
+alive-move script S t (Lose h x) fits o made alive = alive-closed (dies S x) x S.objects o alive
 alive-move script S t (Pay what) fits o made alive = absurd fits
 alive-move script S t m fits o made alive = alive
 
@@ -203,7 +203,7 @@ closing-sessions (x ∷ xs) r = closing-sessions xs (after_closing r x)
 
 pub session-move : (script : Script) (S : State) (t : ObjNo) (m : Move) → FitsMove script t m S → changing_bit m ≡ 0 → (s : ObjNo) (row : SessionRow) → session_at (moved t m S).servers s ≡ Some row → WasSession S.servers s row
 session-move script S t (Lose h x) fits none s row is =
-    let one = session-closed (is_last S x) x (servers_lose h S.servers) s row is in
+    let one = session-closed (dies S x) x (servers_lose h S.servers) s row is in
     let two = session-lost h S.servers s one.old one.was in
     record { old = two.old; was = two.was; slots = two.slots ∙ one.slots }
 session-move script S t (Servers (CloseAll u)) fits none s row is = record { old = row; was = ap (λ (l : List (Option SessionRow)). get_or l s.0 None) (sym (closing-sessions (owned_by S.owned u) S.servers)) ∙ is; slots = refl }
@@ -235,7 +235,7 @@ linked-lost _ S x s v holds is = inl is
 pub linked-move : (script : Script) (S : State) (t : ObjNo) (m : Move) → FitsMove script t m S → changing_bit m ≡ 0 → (s v : ObjNo) → server_of S.servers s ≡ Some v → StillLinked (moved t m S) (m ∷ []) s v
 linked-move script S t (Lose h x) fits none s v is = elim (linked-lost h S x s v fits.1 is) as (λ _. StillLinked (moved t (Lose h x) S) (Lose h x ∷ []) s v) [
   | inr detached ↦ inr (inr detached)
-  | inl still ↦ elim (linked-closed (is_last S x) x S.objects (servers_lose h S.servers) s v still) as (λ _. StillLinked (moved t (Lose h x) S) (Lose h x ∷ []) s v) [
+  | inl still ↦ elim (linked-closed (dies S x) x S.objects (servers_lose h S.servers) s v still) as (λ _. StillLinked (moved t (Lose h x) S) (Lose h x ∷ []) s v) [
     | inl linked ↦ inl linked
     | inr dead ↦ inr (inl dead)
   ]

@@ -56,13 +56,13 @@ module _ (script : Script) (r : Reading) (S : State) (t : ObjNo) (done : Step) (
 
   pub served-made_server : (name : List ℕ) → MayStartServer S (next_object S) t → t.0 < length S.owned → makes_server done ≡ true → closes_handle done ≡ false → Undoomed r t → Served script (further r done (Plus (Own t) (next_object S) ∷ []) (λ k. 0)) (made name)
   served-made_server name may inside makes other undoomed = record {
-    rows = λ o row is. elim (cases_eq o.0 (length S.objects)) as (λ _. IsServed told (made name) o row) [
+    rows = λ o row is. elim (cases_eq o.0 (next_object S).0) as (λ _. IsServed told (made name) o row) [
       | inl at ↦ own_row o row at is
-      | inr apart ↦ old_row o row apart (sym (get_or-set_other S.servers.servers (length S.objects) o.0 (Some new_server) None apart) ∙ is)
+      | inr apart ↦ old_row o row apart (sym (get_or-set_other S.servers.servers (next_object S).0 o.0 (Some new_server) None apart) ∙ is)
     ];
     links = λ s o is. server_told-append r.effects fs s ∙ h.links s o (link-kept s o is);
     ended = λ o some. let a = ends-append r.effects fs o in closing_kept o (h.ended o (omega arith));
-    made = λ u o is. elim (cases_eq (length S.objects) o.0) as (λ _. (0 < times_owned (made name).owned u o) ⊎ (0 < ends told.effects o)) [
+    made = λ u o is. elim (cases_eq (next_object S).0 o.0) as (λ _. (0 < times_owned (made name).owned u o) ⊎ (0 < ends told.effects o)) [
       | inl at ↦
           let now : told.owner o ≡ Some t = owner_here o at in
           let both : Some u ≡ Some t = sym is ∙ now in
@@ -81,7 +81,7 @@ module _ (script : Script) (r : Reading) (S : State) (t : ObjNo) (done : Step) (
         let was : server_told r.effects s ≡ Some v = sym (server_told-append r.effects fs s) ∙ is in
         let inside = h.told_made s v was in
         elim (h.told_linked s v was (subst IsAlive (get_or-append S.objects (Some (new_object kind.Server name) ∷ []) None s.0 inside) alive)) as (λ _. (server_of (made name).servers s ≡ Some v) ⊎ (is_closing (made name).servers v ≡ true)) [
-          | inl linked ↦ inl (ap link_of (get_or-set_other S.servers.sessions (length S.objects) s.0 None None (λ e. absurd (omega arith))) ∙ linked)
+          | inl linked ↦ inl (ap link_of (get_or-set_other S.servers.sessions (next_object S).0 s.0 None None (λ e. absurd (omega arith))) ∙ linked)
           | inr closing ↦ inr (closing_kept v closing)
         ];
   }
@@ -92,15 +92,15 @@ module _ (script : Script) (r : Reading) (S : State) (t : ObjNo) (done : Step) (
       told : Reading
       told = further r done fs (λ k. 0)
 
-      owner_there : (v : ObjNo) (b : Bool) → b ≡ true → or_before (if b then owner_told fs v else None) (r.owner v) ≡ or_before (one_if (length S.objects == v.0) t) (r.owner v)
+      owner_there : (v : ObjNo) (b : Bool) → b ≡ true → or_before (if b then owner_told fs v else None) (r.owner v) ≡ or_before (one_if ((next_object S).0 == v.0) t) (r.owner v)
       owner_there v true e = refl
       owner_there v false e = absurd (cc)
 
-      owner_here : (v : ObjNo) → length S.objects ≡ v.0 → told.owner v ≡ Some t
-      owner_here v at = owner_there v (makes_server done) makes ∙ ap (λ (b : Bool). or_before (one_if b t) (r.owner v)) (eq-eqb (length S.objects) v.0 at)
+      owner_here : (v : ObjNo) → (next_object S).0 ≡ v.0 → told.owner v ≡ Some t
+      owner_here v at = owner_there v (makes_server done) makes ∙ ap (λ (b : Bool). or_before (one_if b t) (r.owner v)) (eq-eqb (next_object S).0 v.0 at)
 
-      owner_other : (v : ObjNo) → (length S.objects ≡ v.0 → ⊥) → told.owner v ≡ r.owner v
-      owner_other v apart = owner_there v (makes_server done) makes ∙ ap (λ (b : Bool). or_before (one_if b t) (r.owner v)) (eqb_apart (length S.objects) v.0 apart)
+      owner_other : (v : ObjNo) → ((next_object S).0 ≡ v.0 → ⊥) → told.owner v ≡ r.owner v
+      owner_other v apart = owner_there v (makes_server done) makes ∙ ap (λ (b : Bool). or_before (one_if b t) (r.owner v)) (eqb_apart (next_object S).0 v.0 apart)
 
       closings_same : (v : ObjNo) → told.closings v ≡ r.closings v
       closings_same v = let a = ap (λ (b : Bool). r.closings v + (if b then handles_lost fs v else 0)) other in omega arith
@@ -111,17 +111,17 @@ module _ (script : Script) (r : Reading) (S : State) (t : ObjNo) (done : Step) (
           let b = dooms-append r.effects fs w in
           closing-count told v w is ∙ ap (nat_lt 0) (let same : told.closings v + dooms told.effects w ≡ r.closings v + dooms r.effects w = omega arith in same)
 
-      owns_new : (o : ObjNo) → length S.objects ≡ o.0 → 1 ≤ times_owned (made name).owned t o
+      owns_new : (o : ObjNo) → (next_object S).0 ≡ o.0 → 1 ≤ times_owned (made name).owned t o
       owns_new o at =
           let more = held-holding S.owned t (next_object S) t o inside in
           let self = if_is (t.0 == t.0) (same (next_object S) o) (eq-eqb t.0 t.0 refl) in
-          let one : same (next_object S) o ≡ 1 = ap (λ (b : Bool). if b then 1 else 0) (eq-eqb (length S.objects) o.0 at) in omega arith
+          let one : same (next_object S) o ≡ 1 = ap (λ (b : Bool). if b then 1 else 0) (eq-eqb (next_object S).0 o.0 at) in omega arith
 
-      own_row : (o : ObjNo) (row : ServerRow) → o.0 ≡ length S.objects → server_at (made name).servers o ≡ Some row → IsServed told (made name) o row
+      own_row : (o : ObjNo) (row : ServerRow) → o.0 ≡ (next_object S).0 → server_at (made name).servers o ≡ Some row → IsServed told (made name) o row
       own_row o row at is =
           let few = may.room in
           let sized = rows.servers.servers_sized in
-          let here : server_at (made name).servers o ≡ Some new_server = ap (λ (n : ℕ). get_or (made name).servers.servers n None) at ∙ get_or-set_same S.servers.servers (length S.objects) (Some new_server) None (omega arith) in
+          let here : server_at (made name).servers o ≡ Some new_server = ap (λ (n : ℕ). get_or (made name).servers.servers n None) at ∙ get_or-set_same S.servers.servers (next_object S).0 (Some new_server) None (omega arith) in
           let both : Some row ≡ Some new_server = sym is ∙ here in
           let own : row ≡ new_server = cc in
           subst (IsServed told (made name) o) (sym own) (record {
@@ -131,7 +131,7 @@ module _ (script : Script) (r : Reading) (S : State) (t : ObjNo) (done : Step) (
             owned = λ not. let a = owns_new o (sym at) in omega arith;
           })
 
-      old_row : (o : ObjNo) (row : ServerRow) → (o.0 ≡ length S.objects → ⊥) → server_at S.servers o ≡ Some row → IsServed told (made name) o row
+      old_row : (o : ObjNo) (row : ServerRow) → (o.0 ≡ (next_object S).0 → ⊥) → server_at S.servers o ≡ Some row → IsServed told (made name) o row
       old_row o row apart is =
           let old = h.rows o row is in
           let owner = owner_other o (λ e. apart (sym e)) ∙ old.owner in
@@ -143,12 +143,12 @@ module _ (script : Script) (r : Reading) (S : State) (t : ObjNo) (done : Step) (
           }
 
       link-kept : (s o : ObjNo) → server_of (made name).servers s ≡ Some o → server_of S.servers s ≡ Some o
-      link-kept s o is = set_item (λ (x : Option SessionRow). link_of x ≡ Some o → link_of (get_or S.servers.sessions s.0 None) ≡ Some o) S.servers.sessions (length S.objects) s.0 None None (λ at e. absurd (cc)) (λ e. e) is
+      link-kept s o is = set_item (λ (x : Option SessionRow). link_of x ≡ Some o → link_of (get_or S.servers.sessions s.0 None) ≡ Some o) S.servers.sessions (next_object S).0 s.0 None None (λ at e. absurd (cc)) (λ e. e) is
 
       closing_kept : (o : ObjNo) → is_closing S.servers o ≡ true → is_closing (made name).servers o ≡ true
-      closing_kept o is = elim (cases_eq o.0 (length S.objects)) as (λ _. is_closing (made name).servers o ≡ true) [
+      closing_kept o is = elim (cases_eq o.0 (next_object S).0) as (λ _. is_closing (made name).servers o ≡ true) [
         | inl at ↦ let row = closing-row (server_at S.servers o) is in let made = (h.rows o row.0 row.1).made in absurd (omega arith)
-        | inr apart ↦ ap closes (get_or-set_other S.servers.servers (length S.objects) o.0 (Some new_server) None apart) ∙ is
+        | inr apart ↦ ap closes (get_or-set_other S.servers.servers (next_object S).0 o.0 (Some new_server) None apart) ∙ is
       ]
 
   -- a session joins a server

@@ -12,7 +12,7 @@ use Rattle.entry_log.specs.declared.effect.Holder.TheVariants.{InProcess, InThre
 use Rattle.machine.specs.CopyMoves.{messages_copied}
 use Rattle.machine.specs.Fits.{EachFits, FitsMove}
 use Rattle.machine.specs.Moves.{closed_effects, moved, perform, tell, told}
-use Rattle.machine.specs.References.{is_last, same, total}
+use Rattle.machine.specs.References.{dies, same, total}
 use Rattle.machine.specs.Rows.{owed_of}
 use Rattle.machine.specs.ServerMoves.{server_told}
 use Rattle.machine.specs.WellFormed.{AreRows, EachMayOwe, MayOwe}
@@ -111,7 +111,7 @@ quiet-told S T effects same accepts finishes = record {
 pub quiet-move : (script : Script) (S : State) (t : ObjNo) (m : Move) → FitsMove script t m S → message_bit m ≡ 0 → IsQuiet S (moved t m S) (told m S)
 quiet-move script S t (Messages (Take o)) fits none = let taken = quiet-take S.messages (next_of S.messages o) in record { posts = taken.0; accepted = taken.1; pool = taken.2; accepts = refl; finishes = λ m. refl }
 quiet-move script S t (Messages m) fits none = absurd (omega arith)
-quiet-move script S t (Lose h o) fits none = quiet-told S (moved t (Lose h o) S) (told (Lose h o) S) refl (close-accepts (is_last S o) h o) (close-finishes (is_last S o) h o)
+quiet-move script S t (Lose h o) fits none = quiet-told S (moved t (Lose h o) S) (told (Lose h o) S) refl (close-accepts (dies S o) h o) (close-finishes (dies S o) h o)
 quiet-move script S t (Servers m) fits none = quiet-told S (moved t (Servers m) S) (server_told m) refl (server-accepts m) (server-finishes m)
   where
     server-accepts : (m : ServerMove) → accepts (server_told m) ≡ 0
@@ -134,12 +134,12 @@ quiet-each script S t (m ∷ ms) fits none = quiet-then S (moved t m S) (perform
 -- what is owed is paid
 pub quiet-pay : (S : State) (t : ObjNo) (what : Owed) → IsQuiet S (moved t (Pay what) S) (told (Pay what) S)
 quiet-pay S t (Sweep o) = record { posts = refl; accepted = refl; pool = refl; accepts = refl; finishes = λ m. refl }
-quiet-pay S t (Close h o) = record { posts = refl; accepted = refl; pool = refl; accepts = close-accepts (is_last S o) h o; finishes = λ m. close-finishes (is_last S o) h o m }
+quiet-pay S t (Close h o) = record { posts = refl; accepted = refl; pool = refl; accepts = close-accepts (dies S o) h o; finishes = λ m. close-finishes (dies S o) h o m }
 
 -- no payment is a close of a handle
 pub pay-lost : (script : Script) (S : State) (t : ObjNo) (what : Owed) (rest : List Owed) (v : ObjNo) → AreRows script S → owed_of S t ≡ what ∷ rest → handles_lost (told (Pay what) S) v ≡ 0
 pay-lost script S t (Sweep o) rest v rows owes = refl
-pay-lost script S t (Close h o) rest v rows owes = close-lost (is_last S o) h o v (by h (subst (EachMayOwe S.threads S.servers S.messages.accepted t.0) owes (rows.duties.own t.0)).0)
+pay-lost script S t (Close h o) rest v rows owes = close-lost (dies S o) h o v (by h (subst (EachMayOwe S.threads S.servers S.messages.accepted t.0) owes (rows.duties.own t.0)).0)
   where
     by : (g : Holder) → MayOwe S.threads S.servers S.messages.accepted t.0 g o → is_handle g ≡ false
     by (InProcess p i) may = absurd may
@@ -152,7 +152,7 @@ lost-close true h o v = omega arith
 lost-close false h o v = omega arith
 
 pub lost-move : (script : Script) (S : State) (t : ObjNo) (m : Move) (v : ObjNo) → FitsMove script t m S → handles_lost (told m S) v ≤ lost_bit v m
-lost-move script S t (Lose h o) v fits = lost-close (is_last S o) h o v
+lost-move script S t (Lose h o) v fits = lost-close (dies S o) h o v
 lost-move script S t (Servers (Join s o slots u)) v fits = omega arith
 lost-move script S t (Servers (End o)) v fits = omega arith
 lost-move script S t (Servers m) v fits = omega arith

@@ -5,7 +5,7 @@ use Rattle.entry_log.specs.declared.effect.Holder.TheVariants.{Own}
 use Rattle.entry_log.specs.declared.entry.Entry.{Entry}
 use Rattle.machine.specs.FitsServers.{MayEnd}
 use Rattle.machine.specs.Moves.{closed_effects, moved, perform, tell, told}
-use Rattle.machine.specs.References.{is_last, total}
+use Rattle.machine.specs.References.{dies, total}
 use Rattle.machine.specs.Serving.{times_owned}
 use Rattle.machine.specs.WellFormed.{AreRows}
 use Rattle.machine.specs.declared.decision.Decision.{Decision}
@@ -170,7 +170,7 @@ module _ (script : Script) (before : List Entry) (S : State) (place : ℕ) (t : 
       letters = letters-quiet script before S (perform t d.moves S) e book.letters (λ p among. unlinked p.session) q
           (λ p among. let a = ended p.server in let none : same_bit is.server p.server ≡ 0 = if_not (is.server.0 == p.server.0) 1 (eqb_apart is.server.0 p.server.0 (λ at. left p among (sym at))) in omega arith);
       slotted = slotted-keeps script before e S (perform t d.moves S) book.slotted unlinked
-          (λ s row is_row. session-closed (is_last (moved t (Servers (End is.server)) S) is.server) is.server S.servers s row (ap (λ (l : List Move). session_at (perform t l S).servers s) (sym is.moves) ∙ is_row)) q.pool;
+          (λ s row is_row. session-closed (dies (moved t (Servers (End is.server)) S) is.server) is.server S.servers s row (ap (λ (l : List Move). session_at (perform t l S).servers s) (sym is.moves) ∙ is_row)) q.pool;
     };
     lawful = record {
       acceptance = λ some. let a = q.accepts in absurd (omega arith);
@@ -199,7 +199,7 @@ module _ (script : Script) (before : List Entry) (S : State) (place : ℕ) (t : 
       owned = goes.each.1.0.1
 
       gs : List Effect
-      gs = Terminated is.server ∷ closed_effects (is_last (moved t (Servers (End is.server)) S) is.server) (Own t) is.server
+      gs = Terminated is.server ∷ closed_effects (dies (moved t (Servers (End is.server)) S) is.server) (Own t) is.server
 
       r1 : Reading
       r1 = further (reading before) d.step gs (λ k. 0)
@@ -208,17 +208,17 @@ module _ (script : Script) (before : List Entry) (S : State) (place : ℕ) (t : 
       whole = subst (λ (l : List Move). Served script r1 (perform t l S)) (sym is.moves) (served-stopped script (reading before) S t d.step book.served is.server is.makes is.step may (owned_inside S.owned t is.server owned) (let a = rows.servers.once t is.server in let b = owned in omega arith))
 
       told_all : e.effects ≡ gs
-      told_all = ap (λ (l : List Move). tell t l S) is.moves ∙ ap (λ (l : List Effect). Terminated is.server ∷ l) (append-nil (closed_effects (is_last (moved t (Servers (End is.server)) S) is.server) (Own t) is.server))
+      told_all = ap (λ (l : List Move). tell t l S) is.moves ∙ ap (λ (l : List Effect). Terminated is.server ∷ l) (append-nil (closed_effects (dies (moved t (Servers (End is.server)) S) is.server) (Own t) is.server))
 
       same : IsSame r1 (reading (before ++ e ∷ []))
       same = subst (λ (l : List Effect). IsSame (further (reading before) d.step l (λ k. 0)) (reading (before ++ e ∷ []))) told_all
           (same-entry before e (λ k. 0) (λ k. let a = counts t [] d k (let b = is.even.answers in let c = ap (total advance_bit) is.moves in omega arith) in let none = if_zero (t.0 == k) (total advance_bit []) refl in omega arith))
 
       unlinked : (s : ObjNo) → server_told e.effects s ≡ None
-      unlinked s = ap (λ (l : List Effect). server_told l s) told_all ∙ (unlinking-close (is_last (moved t (Servers (End is.server)) S) is.server) (Own t) is.server).unlinked s
+      unlinked s = ap (λ (l : List Effect). server_told l s) told_all ∙ (unlinking-close (dies (moved t (Servers (End is.server)) S) is.server) (Own t) is.server).unlinked s
 
       ended : (x : ObjNo) → ends e.effects x ≡ same_bit is.server x
-      ended x = let a = ap (λ (l : List Effect). ends l x) told_all in let b = (unlinking-close (is_last (moved t (Servers (End is.server)) S) is.server) (Own t) is.server).unended x in omega arith
+      ended x = let a = ap (λ (l : List Effect). ends l x) told_all in let b = (unlinking-close (dies (moved t (Servers (End is.server)) S) is.server) (Own t) is.server).unended x in omega arith
 
       q : IsQuiet S (perform t d.moves S) e.effects
       q = quiet-doing script S t d.moves does (let a = ap (total message_bit) is.moves in omega arith)

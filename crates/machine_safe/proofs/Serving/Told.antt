@@ -28,7 +28,7 @@ use Rattle.machine.specs.Fits.{FitsMove}
 use Rattle.machine.specs.LockMoves.{lock_told}
 use Rattle.machine.specs.Moves.{closed_effects, next_object, told}
 use Rattle.machine.specs.NanoMoves.{nano_told}
-use Rattle.machine.specs.References.{is_last, same}
+use Rattle.machine.specs.References.{dies, same}
 use Rattle.machine.specs.RequestMoves.{request_told}
 use Rattle.machine_safe.specs.Sent.{accepts, finishes}
 use Rattle.machine_safe.specs.Served.{ends, handles_lost, owner_told, server_told, is_handle}
@@ -99,7 +99,7 @@ unserved-move script S t (Make kind name (Link s)) fits none = absurd fits.1
 unserved-move script S t (Make kind name h) fits none = record { links = record { unlinked = λ s. refl; unended = λ v. refl }; accepts = refl; finishes = λ m. refl; lost = λ v. refl }
 unserved-move script S t (Gain (Link s) o) fits none = absurd fits.0
 unserved-move script S t (Gain h o) fits none = record { links = record { unlinked = λ s. refl; unended = λ v. refl }; accepts = refl; finishes = λ m. refl; lost = λ v. refl }
-unserved-move script S t (Lose (Temp u) o) fits none = unserved-close (is_last S o) (Temp u) o refl
+unserved-move script S t (Lose (Temp u) o) fits none = unserved-close (dies S o) (Temp u) o refl
 unserved-move script S t (Lose h o) fits none = absurd (omega arith)
 unserved-move script S t (Nano m) fits none = unserved-nano m
 unserved-move script S t (Requests m) fits none = unserved-request m
@@ -115,7 +115,7 @@ unserved-move script S t m fits none = record { links = record { unlinked = λ s
 
 -- one that makes and ends no server
 pub unlinking-move : (script : Script) (S : State) (t : ObjNo) (m : Move) → FitsMove script t m S → changing_bit m ≡ 0 → IsUnlinking (told m S)
-unlinking-move script S t (Lose h o) fits none = unlinking-close (is_last S o) h o
+unlinking-move script S t (Lose h o) fits none = unlinking-close (dies S o) h o
 unlinking-move script S t (Messages (Accept slots row)) fits none = record { unlinked = λ s. refl; unended = λ v. refl }
 unlinking-move script S t (Messages (Take o)) fits none = record { unlinked = λ s. refl; unended = λ v. refl }
 unlinking-move script S t (Messages (Finish m code)) fits none = record { unlinked = λ s. refl; unended = λ v. refl }
@@ -157,7 +157,7 @@ unowned-move script S t (Make kind name (Own u)) made fits none unlocked v = let
 unowned-move script S t (Make kind name h) made fits none unlocked v = refl
 unowned-move script S t (Gain (Own u) o) made fits none unlocked v = absurd fits.0
 unowned-move script S t (Gain h o) made fits none unlocked v = refl
-unowned-move script S t (Lose h o) made fits none unlocked v = unowned-close (is_last S o) h o v
+unowned-move script S t (Lose h o) made fits none unlocked v = unowned-close (dies S o) h o v
 unowned-move script S t (Nano m) made fits none unlocked v = unowned-nano m v
 unowned-move script S t (Requests m) made fits none unlocked v = unowned-request m v
 unowned-move script S t (Locks m) made fits none unlocked v = unowned-lock m v unlocked

@@ -10,7 +10,7 @@ use Rattle.state_rows.specs.ObjectRows.{dead_row}
 use Rattle.state_rows.specs.declared.object.ObjectRow.{ObjectRow}
 use Rattle.machine.specs.declared.state.State.{State}
 use Rattle.machine.specs.Moves.{objects_closed, closed_effects}
-use Rattle.machine.specs.References.{same, count_of, is_last}
+use Rattle.machine.specs.References.{same, count_of, dies}
 use Rattle.machine.specs.Rows.{object_of}
 use Rattle.machine.specs.Told.{deaths}
 use Rattle.machine.specs.WellFormed.{IsAlive, is_dead, sweeps_of}
@@ -45,7 +45,7 @@ not_one : (n : ℕ) → (n == 1) ≡ false → n ≢ 1
 not_one n h e = cc (eq-eqb n 1 e)
 
 -- a living object has a reference less
-pub lives-closed : (last : Bool) (S T : State) (holder : Holder) (o : ObjNo) → is_last S o ≡ last → IsAlive (object_of S o) → T.objects ≡ objects_closed last o S.objects → ((p : ObjNo) → count_of T p + same o p ≡ count_of S p) → ((p : ObjNo) → sweeps_of T p ≡ sweeps_of S p + deaths (closed_effects last holder o) p) → LivesMove S T (closed_effects last holder o)
+pub lives-closed : (last : Bool) (S T : State) (holder : Holder) (o : ObjNo) → dies S o ≡ last → IsAlive (object_of S o) → T.objects ≡ objects_closed last o S.objects → ((p : ObjNo) → count_of T p + same o p ≡ count_of S p) → ((p : ObjNo) → sweeps_of T p ≡ sweeps_of S p + deaths (closed_effects last holder o) p) → LivesMove S T (closed_effects last holder o)
 lives-closed false S T holder o e alive objects counts owed =
     let long : length T.objects ≡ length S.objects = ap length objects in
     record {

@@ -21,7 +21,7 @@ use Rattle.state_rows.specs.declared.thread.ThreadRow.{ThreadRow}
 use Rattle.machine.specs.declared.state.State.{State}
 use Rattle.machine.specs.Rows.{object_of, with_row, owing}
 use Rattle.machine.specs.Moves.{link_of, link_of_row, link_or, objects_closed, threads_closed, owed_link, owed_by_close, closed_effects}
-use Rattle.machine.specs.References.{total, same, thread_names, owed_names, option_names, count_of, is_last}
+use Rattle.machine.specs.References.{total, same, thread_names, owed_names, option_names, count_of, dies}
 use Rattle.machine.specs.Holding.{is_holder, same_pair, link_names}
 use Rattle.machine.specs.HeldIn.{held_in, use_names, owed_by}
 use Rattle.machine.specs.Task.{is_returning}
@@ -70,7 +70,7 @@ pub record HasLost (script : Script) (S : State) (t : ObjNo) (h : Holder) (o : O
   pub servers_are : AreServers (λ row. is_spent row.stage) (length S.objects) threads S.locks owned servers
   pub messages : AreMessages (IsUntold S.requests S.logons) threads servers S.messages
   pub going : is_returning (part_of (get_or threads t.0 None)) ≡ false
-  pub few : total weight (get_or owed t.0 []) + total weight (owed_by_close (is_last S o) o (link_of S o)) ≤ 12
+  pub few : total weight (get_or owed t.0 []) + total weight (owed_by_close (dies S o) o (link_of S o)) ≤ 12
 
 -- a row without its link
 abbrev unlinked : ThreadRow → ThreadRow
@@ -156,7 +156,7 @@ detached_bits threads servers outstanding o =
     let c = open_detached (get_or servers.sessions o.0 None) in
     let d = c.0 in let e = c.1 in (omega arith, omega arith)
 
-pub sound-closed : (last : Bool) (script : Script) (S : State) (t : ObjNo) (h : Holder) (o : ObjNo) (handles : List (List HandleSlot)) (threads : List (Option ThreadRow)) (owed : List (List Owed)) (servers : ServerRows) (owned : List (List ObjNo)) → is_last S o ≡ last → t.0 < length S.threads → HasLost script S t h o handles threads owed servers owned → AreRows script S
+pub sound-closed : (last : Bool) (script : Script) (S : State) (t : ObjNo) (h : Holder) (o : ObjNo) (handles : List (List HandleSlot)) (threads : List (Option ThreadRow)) (owed : List (List Owed)) (servers : ServerRows) (owned : List (List ObjNo)) → dies S o ≡ last → t.0 < length S.threads → HasLost script S t h o handles threads owed servers owned → AreRows script S
     → Sound script S (record S { objects = objects_closed last o S.objects; handles = handles; threads = threads_closed last o threads; owed = owing owed t (owed_by_close last o (link_of S o)); servers = servers_closed last o servers; owned = owned }) (closed_effects last h o)
 sound-closed false script S t h o handles threads owed servers owned e inside_t lost rows =
     let T : State = record S { handles = handles; threads = threads; owed = owing owed t []; servers = servers; owned = owned } in

@@ -17,7 +17,7 @@ use Rattle.machine.specs.Handles.{freed_slot, with_slot}
 use Rattle.machine.specs.Moves.{moved, told, tables_lose, threads_lose, link_of, link_of_row, link_or}
 use Rattle.machine.specs.ServerMoves.{owned_lose, servers_lose}
 use Rattle.machine.specs.Serving.{times_owned}
-use Rattle.machine.specs.References.{total, thread_names, option_names, slot_names, is_last, same}
+use Rattle.machine.specs.References.{total, thread_names, option_names, slot_names, dies, same}
 use Rattle.machine.specs.Holding.{is_holder, same_pair}
 use Rattle.machine.specs.Fits.{FitsMove, Holds, Uses}
 use Rattle.machine.specs.Task.{is_returning}
@@ -52,7 +52,7 @@ lost-slot script S t thread owner i o is there going few rows =
     let slot = slot_at (table_of S owner) i in
     let inside = slot_inside (table_of S owner) i o there in
     let outside = table_inside S.handles owner.0 i inside in
-    let light = close_weight (is_last S o) o (link_of S o) in
+    let light = close_weight (dies S o) o (link_of S o) in
     record {
       counts = λ p. let a = count-with_slot S.handles owner i freed_slot p outside inside in let b : slot_names p slot ≡ same o p = ap (option_names p) there in omega arith;
       held = λ g x.
@@ -93,7 +93,7 @@ lost-use : (script : Script) (S : State) (t u o : ObjNo) → Uses S u o → is_r
 lost-use script S t u o uses going few rows =
     let f : ThreadRow → ThreadRow = λ row. record row { uses = None } in
     let row = uses.row in
-    let light = close_weight (is_last S o) o (link_of S o) in
+    let light = close_weight (dies S o) o (link_of S o) in
     let named : (p : ObjNo) → option_names p row.uses ≡ same o p = λ p. ap (option_names p) uses.uses in
     record {
       counts = λ p.
@@ -142,7 +142,7 @@ lost-link : (script : Script) (S : State) (t s o : ObjNo) → server_of S.server
 lost-link script S t s o linked going few rows =
     let new = after_detach S.servers s in
     let free = server_unlinked script S o (rows.servers.sessions s o linked) rows in
-    let light = close_weight (is_last S o) o (link_of S o) in
+    let light = close_weight (dies S o) o (link_of S o) in
     let bits = detached_bits S.threads S.servers S.messages.outstanding s in
     let used = bits.0 in let there = bits.1 in
     let still : (x : ObjNo) → IsSession S.servers x → IsSession new x = λ x is. mapped-some detached S.servers.sessions s.0 x.0 ∙ is in
@@ -175,7 +175,7 @@ lost-own : (script : Script) (S : State) (t u o : ObjNo) → 0 < times_owned S.o
 lost-own script S t u o owns going few rows =
     let once : times_owned S.owned u o ≡ 1 = let a = rows.servers.once u o in omega arith in
     let inside = owned_inside S.owned u o owns in
-    let light = close_weight (is_last S o) o (link_of S o) in
+    let light = close_weight (dies S o) o (link_of S o) in
     record {
       counts = λ p. let a = count-not_holding S.owned u o p inside once in omega arith;
       held = λ g x. let a = holds-unowned S.owned S.servers.sessions S.messages.outstanding u o inside once g x in omega arith;
@@ -207,4 +207,4 @@ lost script S t (Own u) o holds going few rows = lost-own script S t u o holds g
 lost script S t _ o holds going few rows = absurd holds
 
 pub sound-lose : (script : Script) (S : State) (t : ObjNo) (h : Holder) (o : ObjNo) → FitsMove script t (Lose h o) S → total weight (owed_of S t) + 3 ≤ 12 → t.0 < length S.threads → AreRows script S → Sound script S (moved t (Lose h o) S) (told (Lose h o) S)
-sound-lose script S t h o fits few inside rows = sound-closed (is_last S o) script S t h o (tables_lose h S.handles) (threads_lose h S.threads) S.owed (servers_lose h S.servers) (owned_lose h o S.owned) refl inside (lost script S t h o fits.1 fits.0 few rows) rows
+sound-lose script S t h o fits few inside rows = sound-closed (dies S o) script S t h o (tables_lose h S.handles) (threads_lose h S.threads) S.owed (servers_lose h S.servers) (owned_lose h o S.owned) refl inside (lost script S t h o fits.1 fits.0 few rows) rows

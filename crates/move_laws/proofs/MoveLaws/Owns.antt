@@ -24,7 +24,7 @@ use Rattle.move_laws.proofs.Holders.HoldersMove.{holders-plus}
 use Rattle.move_laws.proofs.Holders.Serving.{holds-owned}
 use Rattle.move_laws.proofs.Lists.Totals.{inside, total_within}
 use Rattle.move_laws.proofs.Lives.Kinds.{lives-made}
-use Rattle.move_laws.proofs.MoveLaws.ServerMoves.{unmade_uncounted}
+use Rattle.move_laws.proofs.Lives.Fresh.{next_fresh}
 use Rattle.move_laws.proofs.MoveLaws.Sound.{Sound, sound-of}
 use Rattle.move_laws.proofs.References.Mutexes.{count-holding}
 use Rattle.move_laws.proofs.References.Same.{if_le}
@@ -69,7 +69,7 @@ sound-owned script S kind name u may own rows =
             let stage : row.stage ≡ Live = subst (λ (r : ThreadRow). r.stage ≡ Live) same_row own.owner.live in
             (ap is_live stage, ap is_spent stage);
         inside = inside_owned;
-        unowned = λ t. let none = unmade_uncounted script S o (omega arith) rows in let within = total_within (mutex_names o) S.owned t.0 in omega arith;
+        unowned = λ t. let none = (next_fresh script S rows).count in let within = total_within (mutex_names o) S.owned t.0 in omega arith;
       }) rows.servers;
       messages = rows.messages;
     })
@@ -90,7 +90,7 @@ sound-owned script S kind name u may own rows =
 
     unheld : held_in S (Own u) o ≡ 0
     unheld =
-        let none = unmade_uncounted script S o (omega arith) rows in
+        let none = (next_fresh script S rows).count in
         let a = total_within (mutex_names o) S.mutexes u.0 in
         let b = all_owed_by_le (Own u) o S.owed in
         let c = total_within (mutex_names o) S.owned u.0 in omega arith

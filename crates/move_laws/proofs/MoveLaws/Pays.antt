@@ -17,7 +17,7 @@ use Rattle.state_rows.specs.declared.thread.ThreadRow.{ThreadRow}
 use Rattle.machine.specs.declared.state.State.{State}
 use Rattle.machine.specs.Rows.{object_of, thread_of, owed_of, without_first}
 use Rattle.machine.specs.Moves.{moved, told, link_of, link_of_row, link_or, owed_by_close}
-use Rattle.machine.specs.References.{total, count_of, is_last, message_names, owed_names, kernel_holds, stage_holds, thread_names}
+use Rattle.machine.specs.References.{total, count_of, dies, message_names, owed_names, kernel_holds, stage_holds, thread_names}
 use Rattle.machine.specs.Serving.{AreMessages, AreServers}
 use Rattle.machine.specs.HeldIn.{owed_by, rows_hold}
 use Rattle.machine.specs.Task.{is_returning}
@@ -60,9 +60,9 @@ sound-pay_close script S t h o rest e inside rows =
     let here : t.0 < length S.owed = let a = rows.sized.duties in omega arith in
     let own : EachMayOwe S.threads S.servers S.messages.accepted t.0 (Close h o ∷ rest) = subst (EachMayOwe S.threads S.servers S.messages.accepted t.0) e (rows.duties.own t.0) in
     let few : total weight (Close h o ∷ rest) ≤ 12 = subst (λ (l : List Owed). total weight l ≤ 12) e (rows.duties.few t.0) in
-    let lighter = room_by S.threads S.servers S.messages.accepted t.0 (is_last S o) h o (link_of S o) refl own.0 in
+    let lighter = room_by S.threads S.servers S.messages.accepted t.0 (dies S o) h o (link_of S o) refl own.0 in
     let left : get_or (without_first S.owed t) t.0 [] ≡ rest = get_or-set_same S.owed t.0 (drop 1 (owed_of S t)) [] here ∙ ap (drop 1) e in
-    sound-closed (is_last S o) script S t h o S.handles S.threads (without_first S.owed t) S.servers S.owned refl inside
+    sound-closed (dies S o) script S t h o S.handles S.threads (without_first S.owed t) S.servers S.owned refl inside
     (record {
       counts = λ p. let a = total-paying (owed_names p) S.owed t (Close h o) rest here e in omega arith;
       held = λ g x. let a = total-paying (owed_by g x) S.owed t (Close h o) rest here e in omega arith;

@@ -11,7 +11,7 @@ use Rattle.machine.specs.declared.moves.Move.TheVariants.{Make, Gain, Lose, Find
 use Rattle.machine.specs.declared.state.State.{State}
 use Rattle.machine.specs.Rows.{owed_of}
 use Rattle.machine.specs.Moves.{moved, told, perform, tell, closed_effects, link_of, owed_by_close, owed_use, use_of}
-use Rattle.machine.specs.References.{total, is_last, RefsMove}
+use Rattle.machine.specs.References.{total, dies, RefsMove}
 use Rattle.machine.specs.Told.{removals}
 use Rattle.machine.specs.Fits.{FitsMove, EachFits, Fits, Sane, most_owed}
 use Rattle.machine.specs.WellFormed.{weight}
@@ -67,7 +67,7 @@ sound-pay script S t (Sweep o) rest e s = sound-pay_sweep script S t o rest e s.
 
 -- a move adds so much at most to the weight of what the thread owes
 pub weight-move : (script : Script) (S : State) (t : ObjNo) (m : Move) → FitsMove script t m S → total weight (owed_of (moved t m S) t) ≤ total weight (owed_of S t) + most_owed m
-weight-move script S t (Lose h o) fits = let a = weight-owing S.owed t (owed_by_close (is_last S o) o (link_of S o)) in let b = close_weight (is_last S o) o (link_of S o) in omega arith
+weight-move script S t (Lose h o) fits = let a = weight-owing S.owed t (owed_by_close (dies S o) o (link_of S o)) in let b = close_weight (dies S o) o (link_of S o) in omega arith
 weight-move script S t (Advance u) fits = subst (λ (y : ObjNo). total weight (owed_of (moved t (Advance u) S) y) ≤ total weight (owed_of S y) + 4) fits.0
     (let a = weight-owing S.owed u (owed_use u (use_of S u)) in let b = use_weight u (use_of S u) in omega arith)
 weight-move script S t (PutDown u) fits = subst (λ (y : ObjNo). total weight (owed_of (moved t (PutDown u) S) y) ≤ total weight (owed_of S y) + 4) fits.0
@@ -84,7 +84,7 @@ close_removes false h o p = refl
 
 -- a move that fits sweeps nothing
 move_removes : (script : Script) (S : State) (t : ObjNo) (m : Move) (p : ObjNo) → FitsMove script t m S → removals (told m S) p ≡ 0
-move_removes script S t (Lose h o) p fits = close_removes (is_last S o) h o p
+move_removes script S t (Lose h o) p fits = close_removes (dies S o) h o p
 move_removes script S t (Nano m) p fits = (nano_silent S m).quiet.removals p
 move_removes script S t (Requests m) p fits = (request_silent S m).quiet.removals p
 move_removes script S t (Locks m) p fits = lock_removes m p

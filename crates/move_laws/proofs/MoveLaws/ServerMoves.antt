@@ -20,7 +20,8 @@ use Rattle.machine.specs.Fits.{FitsMove}
 use Rattle.machine.specs.FitsServers.{FitsServers, MayJoinServer, MayStartServer}
 use Rattle.machine.specs.HeldIn.{held_in, servers_hold}
 use Rattle.machine.specs.Holding.{is_holder, link_names}
-use Rattle.machine.specs.Moves.{moved, told}
+use Rattle.machine.specs.Fresh.{IsFresh}
+use Rattle.machine.specs.Moves.{moved, next_object, told}
 use Rattle.machine.specs.References.{count_of, mutex_names, option_names, owed_names, session_names, total}
 use Rattle.machine.specs.ServerMoves.{all_closing, owned_by, server_told}
 use Rattle.machine.specs.Serving.{AreServers, open_bit, session_bit, sessions_there, sessions_used, times_owned, numbers_used}
@@ -36,7 +37,7 @@ use Rattle.move_laws.proofs.Lists.Mapped.{mapped-none, mapped-some}
 use Rattle.move_laws.proofs.Lists.Totals.{total-set, total-with, total_any, total_within}
 use Rattle.move_laws.proofs.Lives.Bits.{alive_not_gone}
 use Rattle.move_laws.proofs.Lives.Kinds.{lives-plus, lives-quiet}
-use Rattle.move_laws.proofs.Lives.LivesMove.{zero_or}
+use Rattle.move_laws.proofs.Lives.Fresh.{next_fresh}
 use Rattle.move_laws.proofs.MoveLaws.RowMoves.{IsSilent, silent}
 use Rattle.move_laws.proofs.MoveLaws.Sound.{Sound, sound-none, sound-of, sound-then}
 use Rattle.move_laws.proofs.References.Same.{same_object, same_self}
@@ -131,10 +132,6 @@ sound-set_open script S s false fits rows =
     let closed = c.1 in let same_bit = c.2 in let few = rows.messages.few in let numbered = rows.messages.numbered in
     sound-served script S (after_set_open S.servers s false) [] (silent S) (served_session script S s false (omega arith) (omega arith) rows) rows
 
--- nothing refers to an object that isn't made yet
-pub unmade_uncounted : (script : Script) (S : State) (o : ObjNo) → length S.objects ≤ o.0 → AreRows script S → count_of S o ≡ 0
-unmade_uncounted script S o past rows = zero_or (count_of S o) (λ some. let a = alive_not_gone S.objects o (rows.lives.alive o some) in let made = a.1 in absurd (omega arith))
-
 -- an object that is made next is a server
 sound-start : (script : Script) (S : State) (o u : ObjNo) → MayStartServer S o u → AreRows script S → Sound script S (record S { servers = after_add_server S.servers o u }) []
 sound-start script S o u may rows = subst (λ (new : ServerRows). Sound script S (record S { servers = new }) []) (sym same_rows) (sound-served script S new [] (silent S)
@@ -147,16 +144,19 @@ sound-start script S o u may rows = subst (λ (new : ServerRows). Sound script S
     new = record S.servers { servers = slice_set S.servers.servers o.0 (Some row) }
 
     past : length S.objects ≤ o.0
-    past = let at : o.0 ≡ length S.objects = ap (λ (x : ObjNo). x.0) may.next in omega arith
+    past = let at : o.0 ≡ (next_object S).0 = ap (λ (x : ObjNo). x.0) may.next in omega arith
+
+    fresh : IsFresh S o
+    fresh = subst (IsFresh S) (sym may.next) (next_fresh script S rows)
 
     unowned : (t : ObjNo) → times_owned S.owned t o ≡ 0
-    unowned t = let none = unmade_uncounted script S o past rows in let within = total_within (mutex_names o) S.owned t.0 in omega arith
+    unowned t = let none = fresh.count in let within = total_within (mutex_names o) S.owned t.0 in omega arith
 
     same_rows : after_add_server S.servers o u ≡ new
     same_rows = unmade_session (λ row. is_spent row.stage) (length S.objects) S.threads S.locks S.owned S.servers o u past rows.servers
 
     started : AreServers (λ row. is_spent row.stage) (length S.objects) S.threads S.locks S.owned (after_add_server S.servers o u)
-    started = servers-start (λ row. is_spent row.stage) (length S.objects) S.threads S.locks S.owned S.servers o u (record { next = past; first = rows.sized.first; unowned = unowned; unlocked = rows.locks.owners_made o past }) rows.servers
+    started = servers-start (λ row. is_spent row.stage) (length S.objects) S.threads S.locks S.owned S.servers o u (record { next = past; first = rows.sized.first; unowned = unowned; unlocked = fresh.owner }) rows.servers
 
 -- an object becomes a session, which refers to its server
 sound-join : (script : Script) (S : State) (s o : ObjNo) (slots : Slots) (u : ObjNo) → MayJoinServer S s o → AreRows script S → Sound script S (record S { servers = after_add_session S.servers s o slots u }) (Plus (Link s) o ∷ [])

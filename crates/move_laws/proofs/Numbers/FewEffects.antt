@@ -29,7 +29,7 @@ use Rattle.machine.specs.MessageMoves.{message_told}
 use Rattle.machine.specs.NanoMoves.{nano_told}
 use Rattle.machine.specs.RequestMoves.{request_told}
 use Rattle.machine.specs.ServerMoves.{server_told}
-use Rattle.machine.specs.References.{total, is_last}
+use Rattle.machine.specs.References.{total, dies}
 
 closed_few : (last : Bool) (h : Holder) (o : ObjNo) → length (closed_effects last h o) ≤ 2
 closed_few true h o = omega arith
@@ -70,8 +70,8 @@ death_few (Bury t) = omega arith
 death_few _ = omega arith
 
 told_few : (m : Move) (S : State) → length (told m S) ≤ most_told m
-told_few (Lose h o) S = closed_few (is_last S o) h o
-told_few (Pay (Close h o)) S = closed_few (is_last S o) h o
+told_few (Lose h o) S = closed_few (dies S o) h o
+told_few (Pay (Close h o)) S = closed_few (dies S o) h o
 told_few (Pay (Sweep o)) S = omega arith
 told_few (Nano m) S = nano_few m
 told_few (Requests m) S = request_few m

@@ -37,7 +37,7 @@ use Rattle.machine.specs.DeathMoves.{death_row}
 use Rattle.machine.specs.LockMoves.{owed_moved}
 use Rattle.machine.specs.NanoMoves.{nano_moved, nano_thread}
 use Rattle.machine.specs.DeferredMoves.{deferred_moved, deferred_threads, thread_of_queue}
-use Rattle.machine.specs.References.{is_last}
+use Rattle.machine.specs.References.{dies}
 use Rattle.machine.specs.Arrivals.{is_listed, touched}
 use Rattle.machine.specs.declared.task.Task.TheVariants.{End}
 use Rattle.machine.specs.Task.{instruction, is_returning, is_waiting_row, is_ready, next_call, by_stage, live_task, pay_or, return_or, served_queue}
@@ -175,7 +175,7 @@ ready-untouched script S t (Make kind name h) u threads joins none = ready-gain 
 ready-untouched script S t (Gain h o) u threads joins none = ready-gain script S.deferred S.nano (first_owed S u) S.threads h o u
 ready-untouched script S t (Lose h o) u threads joins none =
     ready-by script S (moved t (Lose h o) S) u refl refl (owed-other S.owed t u _ (apart_of t u none))
-    (ready-closed script S.deferred S.nano (first_owed S u) (threads_lose h S.threads) (is_last S o) o u ∙ ready-lose script S.deferred S.nano (first_owed S u) S.threads h u)
+    (ready-closed script S.deferred S.nano (first_owed S u) (threads_lose h S.threads) (dies S o) o u ∙ ready-lose script S.deferred S.nano (first_owed S u) S.threads h u)
 ready-untouched script S t (Find v o) u threads joins none = ready-with_row script S.deferred S.nano (first_owed S u) S.threads v (with_found o) u (record { waiting = λ row. refl; task = λ script calls first row. refl })
 ready-untouched script S t (Miss o) u threads joins none = refl
 ready-untouched script S t (GoOn v part) u threads joins none = ap (ready_row script S.deferred S.nano u (first_owed S u)) (row-other S.threads v (with_part part) u.0 (apart_of v u none))
@@ -211,7 +211,7 @@ ready-untouched script S t (Copies m) u threads joins none = refl
 ready-untouched script S t (Pay (Close h o)) u threads joins none =
     let apart = apart_of t u none in
     ready-by script S (moved t (Pay (Close h o)) S) u refl refl (get_or-set_other _ t.0 u.0 _ [] (λ e. apart (sym e)) ∙ owed-other S.owed t u _ apart)
-    (ready-closed script S.deferred S.nano (first_owed S u) S.threads (is_last S o) o u)
+    (ready-closed script S.deferred S.nano (first_owed S u) S.threads (dies S o) o u)
 ready-untouched script S t (Pay (Sweep o)) u threads joins none =
     let parts = or_parts (t.0 == u.0) (is_listed (o ∷ []) u) none in
     ready-by script S (moved t (Pay (Sweep o)) S) u refl refl (owed-other S.owed t u _ (eqb-false t.0 u.0 parts.0))
