@@ -8,7 +8,7 @@ ghost use Rattle.ready_list.specs.Arrival.{AreQueuesOf};
 ghost use Rattle.machine.specs.Choice.{chosen, priority_of};
 ghost use Rattle.machine.specs.Tick.{after_tick};
 ghost use Rattle.kernel_tables.specs.Moved.{AreKnown};
-ghost use Rattle.kernel_tables.specs.ReadyQueues.{Follow, SomeReady, pairs, leave, leave_along};
+ghost use Rattle.kernel_tables.specs.ReadyQueues.{Follow, pairs, leave, leave_along};
 ghost use Rattle.kernel_tables.specs.StateOf.{state_of};
 
 use crate::tables::Tables;
