@@ -1,5 +1,5 @@
 -- The step of an instruction that a thread is at is what the thread does next, and its moves go through.
-use Rattle.std.proofs.Common.{◌≡◌, ◌∙◌, ℕ, true, ap, subst}
+use Rattle.std.proofs.Common.{◌≡◌, ◌∙◌, true, ap, subst}
 use Rattle.std.specs.Prelude.{Bool, Option}
 use Rattle.sym_base.specs.declared.number.ObjNo.{ObjNo}
 use Rattle.script_types.specs.declared.instruction.Instr.{Instr}
@@ -20,21 +20,21 @@ use Rattle.kernel_tables.proofs.GoingActions.{action_goes}
 use Rattle.exec_user.specs.Stepping.{IsAtStep, step_at}
 
 -- what the thread does next is the step
-pub step_decided : (script : Script) (S : State) (t : ObjNo) (instr : Instr) (phase : ℕ) → IsAtStep script S t instr phase → decision_of script S t ≡ step_at script S t instr
-step_decided script S t instr phase at =
+pub step_decided : (script : Script) (S : State) (t : ObjNo) (instr : Instr) → IsAtStep script S t instr → decision_of script S t ≡ step_at script S t instr
+step_decided script S t instr at =
     ap (λ (able : Bool). decision_where script able S t (task_of script S t)) at.able ∙ ap (λ (what : Option Task). decision_where script true S t what) at.next
 
 -- its moves go through
-pub step_goes : (script : Script) (S : State) (t : ObjNo) (instr : Instr) (phase : ℕ) → IsShaped script → AreRows script S → IsAtStep script S t instr phase → ActionGoes script t (step_at script S t instr).moves S
-step_goes script S t instr phase shaped rows at =
-    subst (λ (d : Decision). ActionGoes script t d.moves S) (step_decided script S t instr phase at) (action_goes script S t shaped rows)
+pub step_goes : (script : Script) (S : State) (t : ObjNo) (instr : Instr) → IsShaped script → AreRows script S → IsAtStep script S t instr → ActionGoes script t (step_at script S t instr).moves S
+step_goes script S t instr shaped rows at =
+    subst (λ (d : Decision). ActionGoes script t d.moves S) (step_decided script S t instr at) (action_goes script S t shaped rows)
 
 -- its registers are those that there are
-pub step_registers : (script : Script) (S : State) (t : ObjNo) (instr : Instr) (phase : ℕ) → IsShaped script → IsAtStep script S t instr phase → HasRegisters instr
-step_registers script S t instr phase shaped at =
+pub step_registers : (script : Script) (S : State) (t : ObjNo) (instr : Instr) → IsShaped script → IsAtStep script S t instr → HasRegisters instr
+step_registers script S t instr shaped at =
     task_has_registers script S t (thread_of S t) instr shaped at.next
 
 -- its numbers are in their ranges
-pub step_ranges : (script : Script) (S : State) (t : ObjNo) (instr : Instr) (phase : ℕ) → IsShaped script → IsAtStep script S t instr phase → is_source_line (line.Instr instr) ≡ true
-step_ranges script S t instr phase shaped at =
+pub step_ranges : (script : Script) (S : State) (t : ObjNo) (instr : Instr) → IsShaped script → IsAtStep script S t instr → is_source_line (line.Instr instr) ≡ true
+step_ranges script S t instr shaped at =
     task_has_ranges script S t (thread_of S t) instr shaped at.next

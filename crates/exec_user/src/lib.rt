@@ -5,4 +5,4 @@ mod next;
 mod step;
 
 pub use next::{Next, phase_of};
-pub use step::{ExecUser, Outcome, phase_at};
+pub use step::{ExecUser, Outcome};

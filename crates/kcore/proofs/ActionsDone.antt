@@ -1,34 +1,27 @@
--- What an action leaves in the tables and in the queues is what the definitions say, whichever list of ready threads the
--- queues have.
+-- What an action leaves in the core is what the definitions say.
 use Rattle.std.proofs.Common.{◌≡◌, ◌∙◌, inl, inr, ℕ, true, false, List, [], ◌∷◌, ◌++◌, sym, ap, subst}
 use Rattle.std.specs.Prelude.{◌==◌, not, ◌&&◌, filter, if◌then◌else◌, None}
 use Rattle.std.proofs.lemmas.Bool.{cases_Bool, or_parts, eq-eqb}
 use Rattle.sym_base.specs.declared.number.ObjNo.{ObjNo}
 use Rattle.script_types.specs.declared.script.Script.{Script}
 use Rattle.entry_log.specs.declared.effect.Effect.{Effect}
+use Rattle.entry_log.specs.declared.entry.Actor.TheVariants.{Tick, Idle}
 use Rattle.entry_log.specs.declared.step.Step.TheVariants.{Turn, Wait}
-use Rattle.ready_list.specs.Ready.{Ready}
 use Rattle.machine.specs.declared.decision.Decision.{Decision}
 use Rattle.machine.specs.declared.decision.Outcome.{Outcome}
 use Rattle.machine.specs.declared.moves.Move.{Move}
 use Rattle.machine.specs.declared.state.State.{State}
-use Rattle.machine.specs.Arrivals.{is_listed, touched, taken_out, arrive, arrivals}
+use Rattle.machine.specs.Arrivals.{is_listed, touched, taken_out, arrive, arrivals, ready_after}
 use Rattle.machine.specs.Choice.{priority_of}
 use Rattle.machine.specs.Moves.{moved, perform, tell}
 use Rattle.machine.specs.Task.{is_ready}
-use Rattle.machine.specs.Tick.{moved_behind, tick}
-use Rattle.state_rows.specs.Nano.{turned}
-use Rattle.machine.specs.Transition.{left, carried_out, idle}
-use Rattle.sym_base.specs.Greatest.{first_of_greatest}
-use Rattle.kernel_tables.specs.declared.tables.Tables.{Tables}
-use Rattle.kernel_tables.specs.Noted.{AreKept}
+use Rattle.machine.specs.Tick.{after_tick}
+use Rattle.machine.specs.Transition.{left, carried_out}
+use Rattle.kernel_tables.specs.CoreView.{CoreView}
 use Rattle.kernel_tables.specs.Moved.{MovesGo}
 use Rattle.kernel_tables.specs.Performed.{IsPerformed}
-use Rattle.kcore.specs.Done.{IsLeft, Does}
+use Rattle.kcore.specs.Done.{Acts, CarriesOut}
 use Rattle.kernel_tables.specs.ReadyQueues.{AreReady, Follow, leave_along}
-use Rattle.kernel_tables.specs.StateOf.{state_of, with_ready}
-use Rattle.kcore.proofs.MovesApart.{perform_apart, tell_apart, arrivals_apart}
-use Rattle.kcore.proofs.ReadyApart.{filter_apart}
 use Rattle.kernel_tables.proofs.ReadyLists.{is_touched, leave_is_filter, listed_behind, taken_listed}
 
 -- who came, or was there
@@ -57,56 +50,29 @@ stays_ready script t (m ∷ ms) S qs u go was listed apart =
     (λ there. go.0.apart u parts.0 ∙ was (taken_listed m qs u (arrive_listed script (moved t m S) (touched t m) (taken_out m qs) u there parts.0))) listed parts.1
 
 -- an action of a thread that was decided on
-pub carried_does : {W N : Type 0} (script : Script) (t : ObjNo) (d : Decision) (old new : Tables W N) (before between after : Ready) (outcome : Outcome) (effects : List Effect) → MovesGo script t d.moves (state_of old) → IsPerformed script t d.moves old new before between [] effects
-    → ((rank : ObjNo → ℕ) → Follow rank (leave_along script (state_of new) t d.moves) between after) → outcome ≡ record { step = d.step; effects = effects; answer = d.answer } → Does script old before new after outcome (λ S. carried_out script t S d)
-carried_does script t d old new before between after outcome effects go did follow told = record {
-  each = λ qs ready each.
-      let X = state_of old in
-      let S = with_ready X qs in
-      let T = state_of new in
-      let came = arrivals script t d.moves X qs in
-      let rest = filter (is_ready script T) came in
-      let done = carried_out script t S d in
-      let rows : perform t d.moves S ≡ with_ready T qs = perform_apart t d.moves X qs ∙ ap (λ (U : State). with_ready U qs) (sym did.state) in
-      let list : done.state.ready ≡ rest = ap (λ (U : State). filter (is_ready script U) (arrivals script t d.moves S qs)) rows ∙ (filter_apart script T qs (arrivals script t d.moves S qs) ∙ ap (filter (is_ready script T)) (arrivals_apart script t d.moves X qs qs)) in
-      let state : with_ready T done.state.ready ≡ done.state = ap (λ (U : State). with_ready U done.state.ready) (sym rows) in
-      let tells : effects ≡ tell t d.moves S = did.told ∙ sym (tell_apart t d.moves X qs) in
-      let tale : outcome ≡ done.outcome = told ∙ ap (λ (es : List Effect). let o : Outcome = record { step = d.step; effects = es; answer = d.answer } in o) tells in
-      let left_is : leave_along script T t d.moves came ≡ rest = leave_is_filter script T t d.moves came (λ u listed apart.
-      ap (λ (U : State). is_ready script U u) did.state ∙ stays_ready script t d.moves X qs u go (each u) listed apart) in
-      record {
-        did = ap (λ (U : State). left U outcome) state ∙ ap (left done.state) tale;
-        queues = subst (λ (l : List ObjNo). AreReady (priority_of T) l after) (left_is ∙ sym list) (follow (priority_of T) came (did.queues qs ready));
-      };
-  kept = did.kept;
-}
-
--- an action of which the same was decided, whichever threads are ready
-pub does_same : {W N : Type 0} (script : Script) (t : ObjNo) (d : Decision) (decide : State → Decision) (old new : Tables W N) (before after : Ready) (outcome : Outcome) → ((qs : List ObjNo) → d ≡ decide (with_ready (state_of old) qs))
-    → Does script old before new after outcome (λ S. carried_out script t S d) → Does script old before new after outcome (λ S. carried_out script t S (decide S))
-does_same script t d decide old new before after outcome same does = record {
-  each = λ qs ready each.
-      let S = with_ready (state_of old) qs in
-      subst (λ (x : Decision). IsLeft new after outcome (carried_out script t S x)) (same qs) (does.each qs ready each);
-  kept = does.kept;
-}
+pub carried_does : (script : Script) (t : ObjNo) (d : Decision) (old mid new : CoreView) (outcome : Outcome) (effects : List Effect) → MovesGo script t d.moves old.state → IsPerformed script t d.moves old.state mid.state old.ready mid.ready [] effects → new.state ≡ mid.state
+    → ((rank : ObjNo → ℕ) → Follow rank (leave_along script mid.state t d.moves) mid.ready new.ready) → outcome ≡ record { step = d.step; effects = effects; answer = d.answer } → CarriesOut script t old new outcome d
+carried_does script t d old mid new outcome effects went made same follow told =
+    let S = old.state in
+    let T = mid.state in
+    let named : List Effect → Outcome = λ es. record { step = d.step; effects = es; answer = d.answer } in
+    record {
+      did = ap (λ (U : State). left U outcome) (same ∙ made.state) ∙ ap (left (perform t d.moves S)) (told ∙ ap named made.told);
+      queues = λ qs list ready.
+          let came = arrivals script t d.moves S qs in
+          let stay = leave_is_filter script T t d.moves came (λ u listed apart. ap (λ (U : State). is_ready script U u) made.state ∙ stays_ready script t d.moves S qs u went (λ there. sym (list.exact u) ∙ there) listed apart) in
+          let rest : leave_along script T t d.moves came ≡ ready_after script t d.moves S qs = stay ∙ ap (λ (U : State). filter (is_ready script U) came) made.state in
+          let left_in : AreReady (priority_of T) (ready_after script t d.moves S qs) new.ready = subst (λ (l : List ObjNo). AreReady (priority_of T) l new.ready) rest (follow (priority_of T) came (made.queues qs ready)) in
+          subst (λ (U : State). AreReady (priority_of U) (ready_after script t d.moves S qs) new.ready) (sym same) left_in;
+    }
 
 -- a time slice ends
-pub tick_does : {W N : Type 0} (script : Script) (tables : Tables W N) (before after : Ready) (outcome : Outcome) → AreKept tables → ((rank : ObjNo → ℕ) → Follow rank (λ qs. moved_behind qs (turned tables.nano (first_of_greatest rank qs))) before after) → outcome ≡ record { step = Turn; effects = []; answer = None } → Does script tables before tables after outcome (λ S. tick S)
-unfolding tick
-tick_does script tables before after outcome kept follow told = record {
-  each = λ qs ready each.
-      let S = with_ready (state_of tables) qs in
-      record {
-        did = ap (λ (o : Outcome). left (tick S).state o) told;
-        queues = follow (priority_of (state_of tables)) qs ready;
-      };
-  kept = kept;
+pub tick_does : (script : Script) (old new : CoreView) (outcome : Outcome) → new.state ≡ old.state → Follow (priority_of old.state) (after_tick old.state) old.ready new.ready → outcome ≡ record { step = Turn; effects = []; answer = None } → Acts script old new outcome Tick
+tick_does script old new outcome same follow told = record {
+  did = ap (λ (U : State). left U outcome) same ∙ ap (left old.state) told;
+  queues = λ qs list ready. subst (λ (U : State). AreReady (priority_of U) (after_tick old.state qs) new.ready) (sym same) (follow qs ready);
 }
 
 -- nobody acts
-pub idle_does : {W N : Type 0} (script : Script) (tables : Tables W N) (r : Ready) (outcome : Outcome) → AreKept tables → outcome ≡ record { step = Wait; effects = []; answer = None } → Does script tables r tables r outcome idle
-idle_does script tables r outcome kept told = record {
-  each = λ qs ready each. record { did = ap (λ (o : Outcome). left (with_ready (state_of tables) qs) o) told; queues = ready };
-  kept = kept;
-}
+pub idle_does : (script : Script) (core : CoreView) (outcome : Outcome) → outcome ≡ record { step = Wait; effects = []; answer = None } → Acts script core core outcome Idle
+idle_does script core outcome told = record { did = ap (left core.state) told; queues = λ qs list ready. ready }

@@ -94,11 +94,11 @@ unfolding boot_of
 memories_at_boot script = memories_each (born script)
 
 -- a state is its fields
-all_fields : (S : State) (objects : List (Option ObjectRow)) (handles : List (List HandleSlot)) (threads : List (Option ThreadRow)) (owed : List (List Owed)) (nano : NanoRows) (deferred : DeferredRows) (requests : RequestRows) (locks : LockRows) (mutexes : List (List ObjNo)) (logons : List (List (ObjNo × ℕ))) (servers : ServerRows) (owned : List (List ObjNo)) (messages : MessageRows) (memories : List (Option (List ℕ))) → objects ≡ S.objects → handles ≡ S.handles → threads ≡ S.threads → owed ≡ S.owed → nano ≡ S.nano → deferred ≡ S.deferred → requests ≡ S.requests → locks ≡ S.locks → mutexes ≡ S.mutexes → logons ≡ S.logons → servers ≡ S.servers → owned ≡ S.owned → messages ≡ S.messages → memories ≡ S.memories → record { objects = objects; handles = handles; threads = threads; ready = S.ready; owed = owed; nano = nano; deferred = deferred; requests = requests; locks = locks; mutexes = mutexes; logons = logons; servers = servers; owned = owned; messages = messages; memories = memories } ≡ S
+all_fields : (S : State) (objects : List (Option ObjectRow)) (handles : List (List HandleSlot)) (threads : List (Option ThreadRow)) (owed : List (List Owed)) (nano : NanoRows) (deferred : DeferredRows) (requests : RequestRows) (locks : LockRows) (mutexes : List (List ObjNo)) (logons : List (List (ObjNo × ℕ))) (servers : ServerRows) (owned : List (List ObjNo)) (messages : MessageRows) (memories : List (Option (List ℕ))) → objects ≡ S.objects → handles ≡ S.handles → threads ≡ S.threads → owed ≡ S.owed → nano ≡ S.nano → deferred ≡ S.deferred → requests ≡ S.requests → locks ≡ S.locks → mutexes ≡ S.mutexes → logons ≡ S.logons → servers ≡ S.servers → owned ≡ S.owned → messages ≡ S.messages → memories ≡ S.memories → record { objects = objects; handles = handles; threads = threads; owed = owed; nano = nano; deferred = deferred; requests = requests; locks = locks; mutexes = mutexes; logons = logons; servers = servers; owned = owned; messages = messages; memories = memories } ≡ S
 all_fields S objects handles threads owed nano deferred requests locks mutexes logons servers owned messages memories o h t w n d r l m g v q x b = rw (o, h, t, w, n, d, r, l, m, g, v, q, x, b) refl
 
 -- the tables that are made for what stands at boot
-pub fields_at_boot : (script : Script) (all : List Born) (state : State) (objects : List (Option ObjectRow)) (handles : List (List HandleSlot)) (threads : List (Option ThreadRow)) (owed : List (List Owed)) (nano : NanoRows) (deferred : DeferredRows) (requests : RequestRows) (locks : LockRows) (mutexes : List (List ObjNo)) (logons : List (List (ObjNo × ℕ))) (servers : ServerRows) (owned : List (List ObjNo)) (messages : MessageRows) (memories : List (Option (List ℕ))) → all ≡ born script → state ≡ boot script → objects ≡ take (length all) (map (λ (b : Born). Some b.object) all) → handles ≡ map (λ (_ : Born). replicate HANDLES fresh_slot) all → threads ≡ state.threads → owed ≡ map (λ (_ : Born). []) all → nano ≡ nano_of script.fast all → deferred ≡ calls_of script → requests ≡ new_rows (length all) DEVICES → locks ≡ lock_rows OBJECTS → mutexes ≡ map (λ (_ : Born). []) all → logons ≡ map (λ (_ : Born). []) all → servers ≡ no_rows OBJECTS → owned ≡ map (λ (_ : Born). []) all → messages ≡ no_messages OBJECTS script.pool → memories ≡ map memory_of_row state.threads → record { objects = objects; handles = handles; threads = threads; ready = (boot script).ready; owed = owed; nano = nano; deferred = deferred; requests = requests; locks = locks; mutexes = mutexes; logons = logons; servers = servers; owned = owned; messages = messages; memories = memories } ≡ boot script
+pub fields_at_boot : (script : Script) (all : List Born) (state : State) (objects : List (Option ObjectRow)) (handles : List (List HandleSlot)) (threads : List (Option ThreadRow)) (owed : List (List Owed)) (nano : NanoRows) (deferred : DeferredRows) (requests : RequestRows) (locks : LockRows) (mutexes : List (List ObjNo)) (logons : List (List (ObjNo × ℕ))) (servers : ServerRows) (owned : List (List ObjNo)) (messages : MessageRows) (memories : List (Option (List ℕ))) → all ≡ born script → state ≡ boot script → objects ≡ take (length all) (map (λ (b : Born). Some b.object) all) → handles ≡ map (λ (_ : Born). replicate HANDLES fresh_slot) all → threads ≡ state.threads → owed ≡ map (λ (_ : Born). []) all → nano ≡ nano_of script.fast all → deferred ≡ calls_of script → requests ≡ new_rows (length all) DEVICES → locks ≡ lock_rows OBJECTS → mutexes ≡ map (λ (_ : Born). []) all → logons ≡ map (λ (_ : Born). []) all → servers ≡ no_rows OBJECTS → owned ≡ map (λ (_ : Born). []) all → messages ≡ no_messages OBJECTS script.pool → memories ≡ map memory_of_row state.threads → record { objects = objects; handles = handles; threads = threads; owed = owed; nano = nano; deferred = deferred; requests = requests; locks = locks; mutexes = mutexes; logons = logons; servers = servers; owned = owned; messages = messages; memories = memories } ≡ boot script
 fields_at_boot script all state objects handles threads owed nano deferred requests locks mutexes logons servers owned messages memories born_are state_is o h t w n d r l m g v q x b =
     let long : length (map (λ (b : Born). Some b.object) all) ≤ length all = let e = length-map all (λ (b : Born). Some b.object) in omega arith in
     let rows : objects ≡ (boot script).objects = o ∙ (take_all (length all) (map (λ (b : Born). Some b.object) all) long ∙ (ap (map (λ (b : Born). Some b.object)) born_are ∙ sym (objects_at_boot script))) in

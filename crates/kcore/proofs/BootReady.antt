@@ -22,18 +22,18 @@ use Rattle.kernel_tables.proofs.ReadyQueues.{nobody_queued, ready_queued, other_
 use Rattle.kernel_tables.proofs.ReadyRows.{ready_row}
 
 -- a listed thread has a row
-listed_row : (script : Script) (S : State) (t : ObjNo) → IsWellFormed script S → is_listed S.ready t ≡ true → (row : ThreadRow) × (thread_of S t ≡ Some row)
-listed_row script S t h listed = ready_row script S t (sym (h.ready.exact t) ∙ listed)
+listed_row : (script : Script) (S : State) (qs : List ObjNo) (t : ObjNo) → IsWellFormed script S qs → is_listed qs t ≡ true → (row : ThreadRow) × (thread_of S t ≡ Some row)
+listed_row script S qs t h listed = ready_row script S t (sym (h.ready.exact t) ∙ listed)
 
-pub listed_known : (script : Script) (S : State) → IsWellFormed script S → (t : ObjNo) → is_listed S.ready t ≡ true → t.0 < BOOT_OBJECTS
-listed_known script S h t listed =
-    let r = listed_row script S t h listed in
+pub listed_known : (script : Script) (S : State) (qs : List ObjNo) → IsWellFormed script S qs → (t : ObjNo) → is_listed qs t ≡ true → t.0 < BOOT_OBJECTS
+listed_known script S qs h t listed =
+    let r = listed_row script S qs t h listed in
     let within = inside S.threads t.0 r.0 r.1 in
     let few = h.rows.sized.threads_few in omega arith
 
-pub listed_ranged : (script : Script) (S : State) → IsWellFormed script S → (t : ObjNo) → is_listed S.ready t ≡ true → priority_of S t < 64
-listed_ranged script S h t listed =
-    let r = listed_row script S t h listed in
+pub listed_ranged : (script : Script) (S : State) (qs : List ObjNo) → IsWellFormed script S qs → (t : ObjNo) → is_listed qs t ≡ true → priority_of S t < 64
+listed_ranged script S qs h t listed =
+    let r = listed_row script S qs t h listed in
     let is : priority_of S t ≡ r.0.priority = ap priority_of_row r.1 in
     let low = (h.rows.threads.rows t.0 r.0 r.1).priority in omega arith
 

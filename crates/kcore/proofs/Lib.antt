@@ -1,5 +1,4 @@
 mod ActionsDone
-mod BodiesApart
 mod BootFields
 mod BootNano
 mod BootProcs
@@ -7,11 +6,7 @@ mod BootReady
 mod BootTables
 mod BootUses
 mod DeathRows
-mod DecidedApart
 mod Goes
 mod LastEntry
 mod ListSteps
-mod MovesApart
-mod ReadyApart
 mod RunningOps
-mod ServersApart

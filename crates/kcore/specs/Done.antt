@@ -1,37 +1,31 @@
--- What an action leaves in the tables and in the queues: what it does to the definitions' state.
-use Rattle.std.specs.Prelude.{◌≡◌, true, IsTrue, List}
+-- What an action leaves in the core: what it does to the definitions' state and to the list of ready threads.
+use Rattle.std.specs.Prelude.{◌≡◌, List}
 use Rattle.sym_base.specs.declared.number.ObjNo.{ObjNo}
 use Rattle.script_types.specs.declared.script.Script.{Script}
 use Rattle.entry_log.specs.declared.entry.Actor.{Actor}
-use Rattle.entry_log.specs.declared.entry.Actor.TheVariants.{Thread}
 use Rattle.ready_list.specs.Ready.{Ready}
+use Rattle.machine.specs.declared.decision.Decision.{Decision}
 use Rattle.machine.specs.declared.decision.Outcome.{Outcome}
 use Rattle.machine.specs.declared.state.State.{State}
-use Rattle.machine.specs.Arrivals.{is_listed}
+use Rattle.machine.specs.Arrivals.{ready_after}
+use Rattle.machine.specs.Arrived.{arrived_next}
 use Rattle.machine.specs.Choice.{priority_of}
-use Rattle.machine.specs.Task.{is_ready, is_able}
-use Rattle.machine.specs.Transition.{Transition, left}
-use Rattle.kernel_tables.specs.declared.tables.Tables.{Tables}
-use Rattle.kernel_tables.specs.Noted.{AreKept}
+use Rattle.machine.specs.History.{transition}
+use Rattle.machine.specs.Transition.{Transition, carried_out, left}
+use Rattle.machine.specs.WellFormed.{IsReadyList}
+use Rattle.kernel_tables.specs.CoreView.{CoreView}
 use Rattle.kernel_tables.specs.ReadyQueues.{AreReady}
-use Rattle.kernel_tables.specs.StateOf.{state_of, with_ready}
 
--- a thread that acts is able
-abbrev pub MayAct : Script → State → Actor → Type 0
-MayAct script S (Thread t) = IsTrue (is_able script S t)
-MayAct script S _ = Unit {0}
+-- an action was made: the new state is the one that it left, of which this is told; and where the old queues had the list of ready
+-- threads, the new ones have what it was changed to
+pub record Does (script : Script) (old : State) (before : Ready) (new : State) (after : Ready) (outcome : Outcome) (done : Transition) (change : List ObjNo → List ObjNo) : Type 0 where
+  pub did : left new outcome ≡ done
+  pub queues : (qs : List ObjNo) → IsReadyList script old qs → AreReady (priority_of old) qs before → AreReady (priority_of new) (change qs) after
 
--- the tables and the queues stand for the state that an action left, of which this is told
-pub record IsLeft {W N : Type 0} (tables : Tables W N) (r : Ready) (outcome : Outcome) (done : Transition) : Type 0 where
-  pub did : left (with_ready (state_of tables) done.state.ready) outcome ≡ done
-  pub queues : AreReady (priority_of (state_of tables)) done.state.ready r
+-- the action of thread t that was decided on
+abbrev pub CarriesOut : Script → ObjNo → CoreView → CoreView → Outcome → Decision → Type 0
+CarriesOut script t old new outcome d = Does script old.state old.ready new.state new.ready outcome (carried_out script t old.state d) (ready_after script t d.moves old.state)
 
--- each thread of a list is ready
-abbrev pub EachReady : Script → State → List ObjNo → Type 0
-EachReady script S qs = (t : ObjNo) → is_listed qs t ≡ true → is_ready script S t ≡ true
-
--- from the old tables and queues the action was made, whichever list of ready threads these have, and the new tables
--- keep what they keep beside the rows
-pub record Does {W N : Type 0} (script : Script) (old : Tables W N) (before : Ready) (new : Tables W N) (after : Ready) (outcome : Outcome) (action : State → Transition) : Type 0 where
-  pub each : (qs : List ObjNo) → AreReady (priority_of (state_of old)) qs before → EachReady script (state_of old) qs → IsLeft new after outcome (action (with_ready (state_of old) qs))
-  pub kept : AreKept new
+-- the action of an actor
+abbrev pub Acts : Script → CoreView → CoreView → Outcome → Actor → Type 0
+Acts script old new outcome actor = Does script old.state old.ready new.state new.ready outcome (transition script old.state actor) (arrived_next script old.state actor)

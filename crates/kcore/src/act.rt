@@ -1,152 +1,74 @@
 //! Actions: of a thread, of an interrupt or of the immediate queue, or the end of a time slice.
-ghost use Rattle.std.specs.Prelude.{◌≡◌, ℕ, [], Some, None, IsTrue};
-ghost use Rattle.sym_base.specs.declared.limits.TheConstants.Limits.{BOOT_OBJECTS};
-ghost use Rattle.sym_base.specs.declared.number.ObjNo.{ObjNo};
-ghost use Rattle.sym_base.specs.Greatest.{first_of_greatest};
-ghost use Rattle.script_types.specs.Shape.{IsShaped};
-ghost use Rattle.machine.specs.History.{transition};
-ghost use Rattle.machine.specs.Tick.{moved_behind};
-ghost use Rattle.state_rows.specs.Nano.{turned};
-ghost use Rattle.machine.specs.declared.task.Task.TheVariants as task;
-ghost use Rattle.machine.specs.Task.{is_able, task_of};
-ghost use Rattle.machine.specs.Transition.{act, carried_out};
-ghost use Rattle.exec_user.specs.Stepping.{step_at};
-ghost use Rattle.machine.specs.WellFormed.{AreRows};
-ghost use Rattle.kernel_tables.specs.Noted.{AreKept};
-ghost use Rattle.kcore.specs.Done.{Does, MayAct};
+ghost use Rattle.std.specs.Prelude.{◌≡◌, [], Some, None, IsTrue};
+ghost use Rattle.machine.specs.Choice.{priority_of};
+ghost use Rattle.machine.specs.History.{CanAct};
+ghost use Rattle.machine.specs.Steps.{decision_of};
+ghost use Rattle.machine.specs.Task.{is_able};
+ghost use Rattle.machine.specs.Tick.{after_tick};
+ghost use Rattle.exec_user.specs.Stepping.{IsAtStep, step_at};
+ghost use Rattle.kernel_tables.specs.CoreView.{RunsScript};
+ghost use Rattle.kernel_tables.specs.ReadyQueues.{Follow};
+ghost use Rattle.kcore.specs.Done.{Acts, CarriesOut};
 ghost use Rattle.kcore.specs.Told.{IsTold, told_in};
-ghost use Rattle.kernel_tables.specs.Performed.{IsPerformed};
-ghost use Rattle.kernel_tables.specs.ReadyQueues.{Follow, SomeReady};
-ghost use Rattle.kernel_tables.specs.StateOf.{state_of};
 
 use crate::bodies::run_body;
 use crate::deaths::{bury, end, reap};
 use crate::interrupts::{immediate, interrupt};
-use crate::plans::carry_out;
-use entry_log::{Actor, Effects, Entry, Step};
-use exec_user::{ExecUser, phase_at};
-use kernel_tables::{Tables, leave_along, turn};
-use machine::Decision;
-use nano_sync::NanoSync;
+use crate::plans::{carry_out, finish};
+use entry_log::{Actor, Entry, Step};
+use exec_user::ExecUser;
+use kernel_tables::Core;
 use next_actions::{NextAction, next_action};
-use ready_list::ReadyList;
 use ref_words::RefWords;
 use script_types::{Instr, Script};
 use sym_base::ThreadNo;
 
-/// A step of the instruction that a thread is at, whose effects come into an empty list. Whoever isn't ready any more
-/// stays in the queues.
-fn make_step<W: RefWords + Drop>(
-    script: &Script,
-    tables: &mut Tables<W>,
-    ready: &mut ReadyList,
-    decision: &mut Decision,
-    thread: ThreadNo,
-    instr: &Instr,
-    effects: &mut Effects,
-) -> Option<i32>
-    requires shaped { IsShaped script.now }
-    requires rows { AreRows script.now (state_of tables.old) }
-    requires kept { AreKept tables.old }
-    requires size { ready.old.threads ≡ BOOT_OBJECTS }
-    requires able { IsTrue (is_able script.now (state_of tables.old) thread) }
-    requires next { task_of script.now (state_of tables.old) thread ≡ Some (task.Step instr.now) }
-    requires empty { effects.old ≡ [] }
-    ensures size { ready.new.threads ≡ BOOT_OBJECTS }
-    ensures decided { decision.new ≡ step_at script.now (state_of tables.old) thread instr.now }
-    ensures performed { IsPerformed script.now thread (step_at script.now (state_of tables.old) thread instr.now).moves tables.old tables.new ready.old ready.new [] effects.new }
-    ensures answer { result ≡ (step_at script.now (state_of tables.old) thread instr.now).answer }
-{
-    let phase = phase_at(tables, thread);
-    let mut user = ExecUser {
-        tables,
-        ready,
-        decision,
-    };
-    user.tell_step(script, thread, instr, phase, effects)
-}
-
 /// A step of the instruction that a thread is at.
 fn step<W: RefWords + Drop>(
     script: &Script,
-    tables: &mut Tables<W>,
-    ready: &mut ReadyList,
-    decision: &mut Decision,
+    core: &mut Core<W>,
     thread: ThreadNo,
     instr: &Instr,
     entry: &mut Entry,
 )
-    requires shaped { IsShaped script.now }
-    requires rows { AreRows script.now (state_of tables.old) }
-    requires kept { AreKept tables.old }
-    requires size { ready.old.threads ≡ BOOT_OBJECTS }
-    requires able { IsTrue (is_able script.now (state_of tables.old) thread) }
-    requires next { task_of script.now (state_of tables.old) thread ≡ Some (task.Step instr.now) }
+    requires runs { RunsScript script.now core.old }
+    requires at { IsAtStep script.now core.old.state thread instr.now }
     requires empty { entry.old.effects ≡ [] }
     ensures told { IsTold entry.old entry.new }
-    ensures does { Does script.now tables.old ready.old tables.new ready.new (told_in entry.new) (λ S. carried_out script.now thread S (step_at script.now (state_of tables.old) thread instr.now)) }
+    ensures does { CarriesOut script.now thread core.old core.new (told_in entry.new) (step_at script.now core.old.state thread instr.now) }
 {
-    let answer = make_step(
-        script,
-        tables,
-        ready,
-        decision,
-        thread,
-        instr,
-        &mut entry.effects,
-    );
-    let moves = decision.moves.as_slice();
-    leave_along(script, tables, ready, thread, moves);
-    entry.step = decision.step;
-    entry.answer = answer;
+    let mut user = ExecUser { core };
+    user.tell_step(script, thread, instr, &mut entry.effects);
+    finish(script, core, thread, entry);
 }
 
 /// The next action of an able thread, decided in the place of the decision before it.
-fn act<W: RefWords + Drop>(
-    script: &Script,
-    tables: &mut Tables<W>,
-    ready: &mut ReadyList,
-    decision: &mut Decision,
-    thread: ThreadNo,
-    entry: &mut Entry,
-)
-    requires shaped { IsShaped script.now }
-    requires rows { AreRows script.now (state_of tables.old) }
-    requires kept { AreKept tables.old }
-    requires size { ready.old.threads ≡ BOOT_OBJECTS }
-    requires able { IsTrue (is_able script.now (state_of tables.old) thread) }
+fn act<W: RefWords + Drop>(script: &Script, core: &mut Core<W>, thread: ThreadNo, entry: &mut Entry)
+    requires runs { RunsScript script.now core.old }
+    requires able { IsTrue (is_able script.now core.old.state thread) }
     requires empty { entry.old.effects ≡ [] }
     ensures told { IsTold entry.old entry.new }
-    ensures does { Does script.now tables.old ready.old tables.new ready.new (told_in entry.new) (λ S. act script.now S thread) }
+    ensures does { CarriesOut script.now thread core.old core.new (told_in entry.new) (decision_of script.now core.old.state thread) }
 {
-    match next_action(decision, script, tables, thread) {
-        NextAction::Decided => carry_out(script, tables, ready, thread, decision, entry),
-        NextAction::Runs(body) => {
-            run_body(
-                script,
-                tables,
-                ready,
-                &mut decision.moves,
-                thread,
-                body,
-                entry,
-            );
-        }
-        NextAction::Steps(instr) => step(script, tables, ready, decision, thread, instr, entry),
-        NextAction::Dies => reap(script, tables, ready, decision, thread, entry),
-        NextAction::Ends => end(script, tables, ready, decision, thread, entry),
-        NextAction::Buries(dfc) => bury(script, tables, ready, decision, thread, dfc, entry),
+    match next_action(&mut core.decision, script, &core.tables, thread) {
+        NextAction::Decided => carry_out(script, core, thread, entry),
+        NextAction::Runs(body) => run_body(script, core, thread, body, entry),
+        NextAction::Steps(instr) => step(script, core, thread, instr, entry),
+        NextAction::Dies => reap(script, core, thread, entry),
+        NextAction::Ends => end(script, core, thread, entry),
+        NextAction::Buries(dfc) => bury(script, core, thread, dfc, entry),
     }
 }
 
 /// The end of a time slice.
-fn tick(nano: &NanoSync, ready: &mut ReadyList, entry: &mut Entry)
+fn tick<W: RefWords + Drop>(core: &mut Core<W>, entry: &mut Entry)
     requires empty { entry.old.effects ≡ [] }
     ensures told { IsTold entry.old entry.new }
-    ensures queues { (rank : ObjNo → ℕ) → Follow rank (λ qs. moved_behind qs (turned nano.now (first_of_greatest rank qs))) ready.old ready.new }
+    ensures state { core.new.state ≡ core.old.state }
+    ensures queues { Follow (priority_of core.old.state) (after_tick core.old.state) core.old.ready core.new.ready }
     ensures outcome { told_in entry.new ≡ record { step = Step.Turn; effects = []; answer = None } }
 {
-    turn(nano, ready);
+    core.turn();
     entry.step = Step::Turn;
     entry.answer = None;
 }
@@ -164,26 +86,21 @@ fn idle(entry: &mut Entry)
 /// An action of an actor, told by an entry that has no effects yet.
 pub fn transition<W: RefWords + Drop>(
     script: &Script,
-    tables: &mut Tables<W>,
-    ready: &mut ReadyList,
-    decision: &mut Decision,
+    core: &mut Core<W>,
     actor: Actor,
     entry: &mut Entry,
 )
-    requires shaped { IsShaped script.now }
-    requires rows { AreRows script.now (state_of tables.old) }
-    requires kept { AreKept tables.old }
-    requires ready { SomeReady ready.old }
-    requires able { MayAct script.now (state_of tables.old) actor }
+    requires runs { RunsScript script.now core.old }
+    requires can { CanAct script.now core.old.state actor }
     requires empty { entry.old.effects ≡ [] }
     ensures told { IsTold entry.old entry.new }
-    ensures does { Does script.now tables.old ready.old tables.new ready.new (told_in entry.new) (λ S. transition script.now S actor) }
+    ensures does { Acts script.now core.old core.new (told_in entry.new) actor }
 {
     match actor {
-        Actor::Thread(thread) => act(script, tables, ready, decision, thread, entry),
-        Actor::Tick => tick(&tables.nano, ready, entry),
-        Actor::Irq(number) => interrupt(script, tables, ready, decision, number, entry),
-        Actor::Idfc => immediate(script, tables, ready, decision, entry),
+        Actor::Thread(thread) => act(script, core, thread, entry),
+        Actor::Tick => tick(core, entry),
+        Actor::Irq(number) => interrupt(script, core, number, entry),
+        Actor::Idfc => immediate(script, core, entry),
         Actor::Idle => idle(entry),
     }
 }

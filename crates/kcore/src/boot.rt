@@ -8,7 +8,7 @@ ghost use Rattle.state_rows.specs.DeclaredCalls.{calls_of};
 ghost use Rattle.ref_words.specs.Words.{NoneCreated};
 ghost use Rattle.state_rows.specs.ObjectRows.{is_session, is_taken};
 ghost use Rattle.machine.specs.Arrivals.{is_listed};
-ghost use Rattle.machine.specs.Boot.{boot, memory_of_row, nano_of};
+ghost use Rattle.machine.specs.Boot.{boot, memory_of_row, nano_of, ready_at_boot};
 ghost use Rattle.machine.specs.Choice.{priority_of};
 ghost use Rattle.state_rows.specs.HandleSlots.{fresh_slot};
 ghost use Rattle.machine.specs.References.{count_of};
@@ -18,14 +18,14 @@ ghost use Rattle.state_rows.specs.RequestChanges.{new_rows as request_rows};
 ghost use Rattle.kcore.specs.BootTable.{AreNew, AreOver, AreTables, FirstStand, no_locks};
 ghost use Rattle.kernel_tables.specs.Noted.{AreKept, AreRanked};
 ghost use Rattle.kernel_tables.specs.ReadyQueues.{AreReady};
-ghost use Rattle.kernel_tables.specs.StateOf.{slots_of, state_of, with_ready};
+ghost use Rattle.kernel_tables.specs.StateOf.{slots_of, state_of};
 
 use crate::boot_tables::{locks_of, priority_of, procs_of, server_tables};
 use cleanup::Cleanup;
 use handles::Handles;
 use kern_sync::KernSync;
-use kernel_tables::{CallQueues, ObjectTable, Tables};
-use machine::{Born, State, all_born, count_of, state_at_boot};
+use kernel_tables::{CallQueues, Core, ObjectTable, Tables};
+use machine::{Born, State, all_born, count_of, ready_at_boot, state_at_boot};
 use nano_sync::NanoSync;
 use procs::Procs;
 use ready_list::ReadyList;
@@ -131,18 +131,28 @@ fn requests_of(alloc: Global, all: &[Born]) -> Result<Requests, NoMemory>
     Requests::new(alloc, all.len() as u16, Limits::DEVICES as u8)
 }
 
-/// The queues of a state's ready threads.
-fn queues_of(alloc: Global, state: &State) -> Result<ReadyList, NoMemory>
-    requires once { AreApart state.now.ready }
-    requires known { (t : ObjNo) → is_listed state.now.ready t ≡ true → t.0 < BOOT_OBJECTS }
-    requires ranged { (t : ObjNo) → is_listed state.now.ready t ≡ true → priority_of state.now t < 64 }
-    ensures { IfOk result (λ list. AreReady (priority_of state.now) state.now.ready list) }
+/// The queues of ready threads, by their priorities in a state.
+fn queues_of(alloc: Global, state: &State, threads: &[ThreadNo]) -> Result<ReadyList, NoMemory>
+    requires once { AreApart threads.now }
+    requires known { (t : ObjNo) → is_listed threads.now t ≡ true → t.0 < BOOT_OBJECTS }
+    requires ranged { (t : ObjNo) → is_listed threads.now t ≡ true → priority_of state.now t < 64 }
+    ensures { IfOk result (λ list. AreReady (priority_of state.now) threads.now list) }
 {
     let mut list = ReadyList::new(alloc, Limits::BOOT_OBJECTS as u16)?;
-    for thread in state.ready.as_slice() {
+    for thread in threads {
         list.add(*thread, priority_of(state, *thread));
     }
     Ok(list)
+}
+
+/// The queues of the threads that are ready at boot.
+fn queues_at_boot(alloc: Global, script: &Script, state: &State) -> Result<ReadyList, NoMemory>
+    requires valid { IsWellFormed script.now }
+    requires boot { state.now ≡ boot script.now }
+    ensures { IfOk result (λ list. AreReady (priority_of (boot script.now)) (ready_at_boot script.now) list) }
+{
+    let threads = ready_at_boot(alloc, script)?;
+    queues_of(alloc, state, threads.as_slice())
 }
 
 /// The handle tables, which are empty, and the lists of what each owes and has, which have nothing.
@@ -240,23 +250,40 @@ fn tables_of<W: RefWords + Drop>(
     Ok(tables)
 }
 
-/// The tables and the queues of ready threads at boot.
+/// The tables at boot.
+fn tables_at_boot<W: RefWords + Drop>(
+    alloc: Global,
+    script: &Script,
+    words: W,
+    state: &State,
+) -> Result<Tables<W>, NoMemory>
+    requires valid { IsWellFormed script.now }
+    requires places { length (W.meaning words).own ≡ OBJECTS }
+    requires fresh { NoneCreated (W.meaning words) }
+    requires boot { state.now ≡ boot script.now }
+    ensures state { IfOk result (λ tables. state_of tables ≡ boot script.now) }
+    ensures kept { IfOk result (λ tables. AreKept tables) }
+{
+    let all = all_born(alloc, script)?;
+    let objects = counted(alloc, words, all.as_slice(), state)?;
+    let tables = tables_of(alloc, script, all.as_slice(), objects, state)?;
+    Ok(tables)
+}
+
+/// The core at boot.
 pub fn boot<W: RefWords + Drop>(
     alloc: Global,
     script: &Script,
     words: W,
-) -> Result<(Tables<W>, ReadyList), NoMemory>
+) -> Result<Core<W>, NoMemory>
     requires valid { IsWellFormed script.now }
     requires places { length (W.meaning words).own ≡ OBJECTS }
     requires fresh { NoneCreated (W.meaning words) }
-    ensures state { IfOk result (λ made. with_ready (state_of made.0) (boot script.now).ready ≡ boot script.now) }
-    ensures kept { IfOk result (λ made. AreKept made.0) }
-    ensures queues { IfOk result (λ made. AreReady (priority_of (boot script.now)) (boot script.now).ready made.1) }
+    ensures state { IfOk result (λ core. core.state ≡ boot script.now) }
+    ensures queues { IfOk result (λ core. AreReady (priority_of (boot script.now)) (ready_at_boot script.now) core.ready) }
 {
-    let all = all_born(alloc, script)?;
     let state = state_at_boot(alloc, script)?;
-    let objects = counted(alloc, words, all.as_slice(), &state)?;
-    let ready = queues_of(alloc, &state)?;
-    let tables = tables_of(alloc, script, all.as_slice(), objects, &state)?;
-    Ok((tables, ready))
+    let ready = queues_at_boot(alloc, script, &state)?;
+    let tables = tables_at_boot(alloc, script, words, &state)?;
+    Ok(Core::new(tables, ready))
 }

@@ -7,6 +7,7 @@ ghost use Rattle.script_types.specs.Source.{IsWellFormed};
 ghost use Rattle.machine.specs.Slots.{IsDeclared};
 ghost use Rattle.machine.specs.FinalRows.{exit_of_row, rows_from, IsNextRow};
 ghost use Rattle.entry_log.specs.declared.entry.Actor.TheVariants as Actor;
+ghost use Rattle.machine.specs.Arrived.{arrived};
 ghost use Rattle.machine.specs.Choice.{priority_of};
 ghost use Rattle.machine.specs.Task.{is_able};
 ghost use Rattle.machine.specs.History.{after, entry_by, entry_of, CanAct, IsLegal};
@@ -14,19 +15,17 @@ ghost use Rattle.machine.specs.Run.{slot_actor};
 ghost use Rattle.machine_safe.specs.ReadyHolders.{AreHoldersReady};
 ghost use Rattle.machine_safe.specs.Safe.{IsSafe};
 ghost use Rattle.kernel_tables.specs.Noted.{AreKept};
+ghost use Rattle.kernel_tables.specs.StateOf.{state_of};
 ghost use Rattle.ready_list.specs.Arrival.{AreQueuesOf};
 ghost use Rattle.sym_base.specs.declared.number.ObjNo.{ObjNo};
 ghost use Rattle.kernel_tables.specs.ReadyQueues.{pairs};
-ghost use Rattle.kernel_tables.specs.StateOf.{state_of, with_ready};
 
 use crate::act::transition;
 use crate::boot;
 use entry_log::{Actor, Effects, Entry, FinalRow, Step};
-use kernel_tables::{Tables, chosen};
-use machine::Decision;
+use kernel_tables::{Core, Tables};
 use procs::Procs;
 use readings::is_able;
-use ready_list::ReadyList;
 use ref_words::{PlainWords, RefWords};
 use script_types::{Script, Slot};
 use std::alloc::Global;
@@ -38,10 +37,7 @@ use sym_base::{Exit, NoMemory, ObjNo, ThreadNo};
 #[derive(Drop)]
 pub struct Kernel<W: RefWords> {
     script: Script,
-    tables: Tables<W>,
-    ready: ReadyList,
-    /// What the last action did: its place is used again.
-    decision: Decision,
+    core: Core<W>,
     history: Vec<Entry>,
     room: u32,
 }
@@ -54,15 +50,15 @@ impl<W: RefWords> Model for Kernel<W> {
 
     ghost view = { λ k. record { script = k.script; history = k.history.items; room = k.room } };
 
-    ghost invariant = { λ k. IsKernel k.script k.history.items k.tables k.ready k.room (vec_capacity k.history) };
+    ghost invariant = { λ k. IsKernel k.script k.history.items k.core k.room (vec_capacity k.history) };
 }
 
 /// Whom a slot lets act.
-fn slot_actor<W: RefWords + Drop>(tables: &Tables<W>, ready: &ReadyList, slot: Slot) -> Actor
-    ensures { (qs : List ObjNo) → AreQueuesOf (pairs (priority_of (state_of tables.now)) qs) ready.now → result ≡ slot_actor (with_ready (state_of tables.now) qs) slot }
+fn slot_actor<W: RefWords + Drop>(core: &Core<W>, slot: Slot) -> Actor
+    ensures { (qs : List ObjNo) → AreQueuesOf (pairs (priority_of core.now.state) qs) core.now.ready → result ≡ slot_actor core.now.state qs slot }
 {
     match slot {
-        Slot::Go => chosen(tables, ready),
+        Slot::Go => core.chosen(),
         Slot::Irq(number) => Actor::Irq(number),
         Slot::Tick => Actor::Tick,
     }
@@ -117,13 +113,11 @@ impl<W: RefWords + Drop> Kernel<W> {
         requires room { room ≤ SHARED_HISTORY }
         ensures { IfOk result (λ kernel. kernel ≡ record { script = script; history = []; room = room }) }
     {
-        let (tables, ready) = boot::boot(alloc, &script, words)?;
+        let core = boot::boot(alloc, &script, words)?;
         let history = Vec::with_capacity(alloc, room as usize)?;
         Ok(Kernel {
             script,
-            tables,
-            ready,
-            decision: Decision::new(),
+            core,
             history,
             room,
         })
@@ -141,21 +135,15 @@ impl<W: RefWords + Drop> Kernel<W> {
     {
         let at = self.history.as_slice().len();
         self.history.push_reserved(new_entry(at as u32 + 1, actor));
-        transition(
-            &self.script,
-            &mut self.tables,
-            &mut self.ready,
-            &mut self.decision,
-            actor,
-            &mut self.history[at],
-        );
+        transition(&self.script, &mut self.core, actor, &mut self.history[at]);
     }
 
     /// Whether a thread may act: it is ready, and wants no fast mutex that another holds.
     pub fn able(&self, t: ThreadNo) -> bool
         ensures { result ≡ is_able self.now.script (after self.now.script self.now.history) t }
     {
-        is_able(&self.script, &self.tables, t)
+        let core = &self.core;
+        is_able(&self.script, &core.tables, t)
     }
 
     /// What happened so far, in order. It is a legal history of the script, in which each object died
@@ -174,7 +162,8 @@ impl<W: RefWords + Drop> Kernel<W> {
     pub fn next_row(&self, from: u16) -> Option<FinalRow>
         ensures { IsNextRow (rows_from (after self.now.script self.now.history)) from result }
     {
-        next_row(&self.tables, from)
+        let core = &self.core;
+        next_row(&core.tables, from)
     }
 }
 
@@ -186,11 +175,11 @@ impl Kernel<PlainWords> {
         requires room { length self.old.history < self.old.room }
         ensures script { self.new.script ≡ self.old.script }
         ensures room { self.new.room ≡ self.old.room }
-        ensures entry { let S = after self.old.script self.old.history in self.new.history ≡ self.old.history ++ entry_by self.old.script S (length self.old.history + 1) (slot_actor S slot) ∷ [] }
+        ensures entry { let S = after self.old.script self.old.history in let qs = arrived self.old.script self.old.history in self.new.history ≡ self.old.history ++ entry_by self.old.script S (length self.old.history + 1) (slot_actor S qs slot) ∷ [] }
         ensures safe { IsSafe self.new.script self.new.history }
         ensures holders { AreHoldersReady self.new.script self.new.history }
     {
-        let actor = slot_actor(&self.tables, &self.ready, slot);
+        let actor = slot_actor(&self.core, slot);
         self.go(actor);
     }
 

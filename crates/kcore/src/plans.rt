@@ -1,78 +1,69 @@
-//! What an actor decided is carried out: moves that were decided at once, or a body.
+//! What was decided is carried out: moves that were decided at once, or a body.
 ghost use Rattle.std.specs.Prelude.{◌≡◌, []};
-ghost use Rattle.sym_base.specs.declared.limits.TheConstants.Limits.{BOOT_OBJECTS};
 ghost use Rattle.script_types.specs.Shape.{IsShaped};
 ghost use Rattle.next_actions.specs.Planned.{planned};
+ghost use Rattle.machine.specs.declared.decision.Decision.{Decision};
 ghost use Rattle.machine.specs.Bodies.{decision_by};
-ghost use Rattle.machine.specs.Transition.{carried_out};
-ghost use Rattle.kernel_tables.specs.Noted.{AreKept};
-ghost use Rattle.kernel_tables.specs.Performed.{ActionGoes};
-ghost use Rattle.kcore.specs.Done.{Does};
+ghost use Rattle.kernel_tables.specs.CoreView.{CoreView};
+ghost use Rattle.kernel_tables.specs.Performed.{ActionGoes, IsMade};
+ghost use Rattle.kcore.specs.Done.{CarriesOut};
 ghost use Rattle.kcore.specs.Told.{IsTold, told_in};
-ghost use Rattle.kernel_tables.specs.StateOf.{state_of};
 
 use crate::bodies::run_body;
 use entry_log::Entry;
-use kernel_tables::{Tables, leave_along, perform};
-use machine::{Body, Decision};
-use ready_list::ReadyList;
+use kernel_tables::Core;
+use machine::Body;
 use ref_words::RefWords;
 use script_types::Script;
 use sym_base::ThreadNo;
 
-/// A decision of a thread.
-pub fn carry_out<W: RefWords + Drop>(
+/// The end of an action that was made: whoever isn't ready any more leaves, and the entry, which has the effects, tells the rest.
+pub fn finish<W: RefWords + Drop>(
     script: &Script,
-    tables: &mut Tables<W>,
-    ready: &mut ReadyList,
+    core: &mut Core<W>,
     thread: ThreadNo,
-    decision: &Decision,
     entry: &mut Entry,
 )
-    requires goes { ActionGoes script.now thread decision.now.moves (state_of tables.old) }
-    requires kept { AreKept tables.old }
-    requires size { ready.old.threads ≡ BOOT_OBJECTS }
+    ensures told { IsTold entry.old entry.new }
+    ensures does { (d : Decision) (old : CoreView) → IsMade script.now thread d old core.old entry.old.effects → CarriesOut script.now thread old core.new (told_in entry.new) d }
+{
+    core.leave(script, thread);
+    entry.step = core.decision.step;
+    entry.answer = core.decision.answer;
+}
+
+/// What was decided for a thread.
+pub fn carry_out<W: RefWords + Drop>(
+    script: &Script,
+    core: &mut Core<W>,
+    thread: ThreadNo,
+    entry: &mut Entry,
+)
+    requires goes { ActionGoes script.now thread core.old.decision.moves core.old.state }
     requires empty { entry.old.effects ≡ [] }
     ensures told { IsTold entry.old entry.new }
-    ensures does { Does script.now tables.old ready.old tables.new ready.new (told_in entry.new) (λ S. carried_out script.now thread S decision.now) }
+    ensures does { CarriesOut script.now thread core.old core.new (told_in entry.new) core.old.decision }
 {
-    let moves = decision.moves.as_slice();
-    perform(script, tables, ready, thread, moves, &mut entry.effects);
-    leave_along(script, tables, ready, thread, moves);
-    entry.step = decision.step;
-    entry.answer = decision.answer;
+    core.make(script, thread, &mut entry.effects);
+    finish(script, core, thread, entry);
 }
 
 /// What was decided for a thread, or a body, where there is one.
 pub fn follow<W: RefWords + Drop>(
     script: &Script,
-    tables: &mut Tables<W>,
-    ready: &mut ReadyList,
-    decision: &mut Decision,
+    core: &mut Core<W>,
     thread: ThreadNo,
     body: Option<Body>,
     entry: &mut Entry,
 )
     requires shaped { IsShaped script.now }
-    requires goes { ActionGoes script.now thread (decision_by script.now thread (state_of tables.old) (planned decision.old body)).moves (state_of tables.old) }
-    requires kept { AreKept tables.old }
-    requires size { ready.old.threads ≡ BOOT_OBJECTS }
+    requires goes { ActionGoes script.now thread (decision_by script.now thread core.old.state (planned core.old.decision body)).moves core.old.state }
     requires empty { entry.old.effects ≡ [] }
     ensures told { IsTold entry.old entry.new }
-    ensures does { Does script.now tables.old ready.old tables.new ready.new (told_in entry.new) (λ S. carried_out script.now thread S (decision_by script.now thread (state_of tables.old) (planned decision.old body))) }
+    ensures does { CarriesOut script.now thread core.old core.new (told_in entry.new) (decision_by script.now thread core.old.state (planned core.old.decision body)) }
 {
     match body {
-        None => carry_out(script, tables, ready, thread, decision, entry),
-        Some(body) => {
-            run_body(
-                script,
-                tables,
-                ready,
-                &mut decision.moves,
-                thread,
-                body,
-                entry,
-            );
-        }
+        None => carry_out(script, core, thread, entry),
+        Some(body) => run_body(script, core, thread, body, entry),
     }
 }

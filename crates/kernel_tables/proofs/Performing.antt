@@ -3,7 +3,6 @@ use Rattle.std.proofs.Common.{◌≡◌, ℕ, ◌+◌, ◌<◌, ◌≤◌, List,
 use Rattle.std.specs.Prelude.{◌==◌, true}
 use Rattle.std.proofs.Math.ListN.{drop_of_length-le}
 use Rattle.std.proofs.lemmas.Bool.{eq-eqb, or_left, or_right}
-use Rattle.sym_base.specs.declared.limits.TheConstants.Limits.{BOOT_OBJECTS}
 use Rattle.sym_base.specs.declared.number.ObjNo.{ObjNo}
 use Rattle.script_types.specs.declared.script.Script.{Script}
 use Rattle.entry_log.specs.declared.effect.Effect.{Effect}
@@ -59,20 +58,19 @@ moves_part script t [] ns S go = (tt, go)
 moves_part script t (m ∷ ms) ns S go = let parts = moves_part script t ms ns (moved t m S) go.1 in ((go.0, parts.0), parts.1)
 
 -- no move
-pub performed_none : {W N : Type 0} (script : Script) (t : ObjNo) (tables : Tables W N) (r : Ready) (was : List Effect) → AreKept tables → IsPerformed script t [] tables tables r r was was
-performed_none script t tables r was kept = record { state = refl; kept = kept; told = sym (append-nil was); queues = λ qs ready. ready }
+pub performed_none : (script : Script) (t : ObjNo) (S : State) (r : Ready) (was : List Effect) → IsPerformed script t [] S S r r was was
+performed_none script t S r was = record { state = refl; told = sym (append-nil was); queues = λ qs ready. ready }
 
 -- moves, and then others
-pub performed_then : {W N : Type 0} (script : Script) (t : ObjNo) (ms ns : List Move) (old mid new : Tables W N) (before between after : Ready) (was es is : List Effect) → IsPerformed script t ms old mid before between was es → IsPerformed script t ns mid new between after es is → IsPerformed script t (ms ++ ns) old new before after was is
-performed_then script t ms ns old mid new before between after was es is first second =
-    let S = state_of old in
+pub performed_then : (script : Script) (t : ObjNo) (ms ns : List Move) (old mid new : State) (before between after : Ready) (was es is : List Effect) → IsPerformed script t ms old mid before between was es → IsPerformed script t ns mid new between after es is → IsPerformed script t (ms ++ ns) old new before after was is
+performed_then script t ms ns S mid new before between after was es is first second =
+    let T = perform t ms S in
     record {
       state = second.state ∙ (ap (perform t ns) first.state ∙ sym (perform_append t ms ns S));
-      kept = second.kept;
-      told = second.told ∙ (ap (λ (T : State). es ++ tell t ns T) first.state ∙ (ap (λ (l : List Effect). l ++ tell t ns (perform t ms S)) first.told
-          ∙ (append_assoc was (tell t ms S) (tell t ns (perform t ms S)) ∙ ap (λ (l : List Effect). was ++ l) (sym (tell_append t ms ns S)))));
+      told = second.told ∙ (ap (λ (U : State). es ++ tell t ns U) first.state ∙ (ap (λ (l : List Effect). l ++ tell t ns T) first.told
+          ∙ (append_assoc was (tell t ms S) (tell t ns T) ∙ ap (λ (l : List Effect). was ++ l) (sym (tell_append t ms ns S)))));
       queues = λ qs ready.
-          subst (λ (l : List ObjNo). AreReady (priority_of (state_of new)) l after) (ap (λ (T : State). arrivals script t ns T (arrivals script t ms S qs)) first.state ∙ sym (arrivals_append script t ms ns S qs))
+          subst (λ (l : List ObjNo). AreReady (priority_of new) l after) (ap (λ (U : State). arrivals script t ns U (arrivals script t ms S qs)) first.state ∙ sym (arrivals_append script t ms ns S qs))
           (second.queues (arrivals script t ms S qs) (first.queues qs ready));
     }
 
@@ -87,12 +85,12 @@ still_agree t m old new agree refs is o =
     omega arith
 
 -- one move
-pub performed_one : {W N : Type 0} (script : Script) (t : ObjNo) (m : Move) (old new : Tables W N) (before between after : Ready) (was : List Effect) → MoveGoes script t m (state_of old) → AreKept old → IsMoved t m old new → ((rank : ObjNo → ℕ) → Follow rank (taken_out m) before between) → Follow (priority_of (state_of new)) (arrive script (state_of new) (touched t m)) between after → IsPerformed script t (m ∷ []) old new before after was (was ++ told m (state_of old))
-performed_one script t m old new before between after was goes kept is out follow =
+pub performed_one : {W N : Type 0} (script : Script) (t : ObjNo) (m : Move) (old new : Tables W N) (before between after : Ready) (was : List Effect) → MoveGoes script t m (state_of old) → IsMoved t m old new → ((rank : ObjNo → ℕ) → Follow rank (taken_out m) before between)
+    → Follow (priority_of (state_of new)) (arrive script (state_of new) (touched t m)) between after → IsPerformed script t (m ∷ []) (state_of old) (state_of new) before after was (was ++ told m (state_of old))
+performed_one script t m old new before between after was goes is out follow =
     let S = state_of old in
     record {
       state = is.state;
-      kept = record { counts = still_agree t m old new kept.counts goes.refs is; tied = is.tied; numbered = subst (λ (U : State). U.messages.accepted < 2147483648) (sym is.state) goes.numbered };
       told = ap (λ (l : List Effect). was ++ l) (sym (append-nil (told m S)));
       queues = λ qs ready.
           let left = taken_out m qs in
@@ -101,45 +99,50 @@ performed_one script t m old new before between after was goes kept is out follo
           (follow left (ranks_same (priority_of S) (priority_of (state_of new)) left between ranks (out (priority_of S) qs ready)));
     }
 
+-- what the tables keep beside the rows is kept
+pub still_kept : {W N : Type 0} (script : Script) (t : ObjNo) (m : Move) (old new : Tables W N) → MoveGoes script t m (state_of old) → AreKept old → IsMoved t m old new → AreKept new
+still_kept script t m old new goes kept is = record {
+  counts = still_agree t m old new kept.counts goes.refs is;
+  tied = is.tied;
+  numbered = subst (λ (U : State). U.messages.accepted < 2147483648) (sym is.state) goes.numbered;
+}
+
 -- on the way: some of the moves were made, and the rest go through
-pub record OnTheWay {W N : Type 0} (script : Script) (t : ObjNo) (ms : List Move) (old : Tables W N) (before : Ready) (was : List Effect) (rest : List Move) (tables : Tables W N) (r : Ready) (effects : List Effect) : Type 0 where
+pub record OnTheWay (script : Script) (t : ObjNo) (ms : List Move) (old : State) (before : Ready) (was : List Effect) (rest : List Move) (S : State) (r : Ready) (effects : List Effect) : Type 0 where
   pub made : List Move
-  pub performed : IsPerformed script t made old tables before r was effects
+  pub performed : IsPerformed script t made old S before r was effects
   pub whole : made ++ rest ≡ ms
-  pub go : MovesGo script t rest (state_of tables)
-  pub size : r.threads ≡ BOOT_OBJECTS
+  pub go : MovesGo script t rest S
 
 -- before the first
-pub way_begins : {W N : Type 0} (script : Script) (t : ObjNo) (ms : List Move) (tables : Tables W N) (r : Ready) (was : List Effect) → MovesGo script t ms (state_of tables) → AreKept tables → r.threads ≡ BOOT_OBJECTS → OnTheWay script t ms tables r was ms tables r was
-way_begins script t ms tables r was go kept size = record { made = []; performed = performed_none script t tables r was kept; whole = refl; go = go; size = size }
+pub way_begins : (script : Script) (t : ObjNo) (ms : List Move) (S : State) (r : Ready) (was : List Effect) → MovesGo script t ms S → OnTheWay script t ms S r was ms S r was
+way_begins script t ms S r was go = record { made = []; performed = performed_none script t S r was; whole = refl; go = go }
 
 -- some of the rest are made
-pub way_goes_on : {W N : Type 0} (script : Script) (t : ObjNo) (ms ns rest : List Move) (old tables new : Tables W N) (before r after : Ready) (was effects more : List Effect) → OnTheWay script t ms old before was (ns ++ rest) tables r effects → IsPerformed script t ns tables new r after effects more → after.threads ≡ BOOT_OBJECTS → OnTheWay script t ms old before was rest new after more
-way_goes_on script t ms ns rest old tables new before r after was effects more h next size = record {
+pub way_goes_on : (script : Script) (t : ObjNo) (ms ns rest : List Move) (old S new : State) (before r after : Ready) (was effects more : List Effect) → OnTheWay script t ms old before was (ns ++ rest) S r effects → IsPerformed script t ns S new r after effects more → OnTheWay script t ms old before was rest new after more
+way_goes_on script t ms ns rest old S new before r after was effects more h next = record {
   made = h.made ++ ns;
-  performed = performed_then script t h.made ns old tables new before r after was effects more h.performed next;
+  performed = performed_then script t h.made ns old S new before r after was effects more h.performed next;
   whole = append_assoc h.made ns rest ∙ h.whole;
-  go = subst (MovesGo script t rest) (sym next.state) (moves_part script t ns rest (state_of tables) h.go).1;
-  size = size;
+  go = subst (MovesGo script t rest) (sym next.state) (moves_part script t ns rest S h.go).1;
 }
 
 -- after the last
-pub way_ends : {W N : Type 0} (script : Script) (t : ObjNo) (ms : List Move) (old tables : Tables W N) (before r : Ready) (was effects : List Effect) → OnTheWay script t ms old before was [] tables r effects → IsPerformed script t ms old tables before r was effects
-way_ends script t ms old tables before r was effects h =
-    subst (λ (l : List Move). IsPerformed script t l old tables before r was effects) (sym (append-nil h.made) ∙ h.whole) h.performed
+pub way_ends : (script : Script) (t : ObjNo) (ms : List Move) (old S : State) (before r : Ready) (was effects : List Effect) → OnTheWay script t ms old before was [] S r effects → IsPerformed script t ms old S before r was effects
+way_ends script t ms old S before r was effects h =
+    subst (λ (l : List Move). IsPerformed script t l old S before r was effects) (sym (append-nil h.made) ∙ h.whole) h.performed
 
 -- an entry's effects are few, and so are those so far with those of the next moves
-pub way_few : {W N : Type 0} (script : Script) (t : ObjNo) (ms ns rest : List Move) (old tables : Tables W N) (before r : Ready) (was effects : List Effect) → length was + length (tell t ms (state_of old)) ≤ 4 → OnTheWay script t ms old before was (ns ++ rest) tables r effects → length effects + length (tell t ns (state_of tables)) ≤ 4
-way_few script t ms ns rest old tables before r was effects few h =
-    let S = state_of old in
-    let T = perform t h.made S in
-    let all : length (tell t h.made S ++ tell t (ns ++ rest) T) ≡ length (tell t ms S) = ap length (sym (tell_append t h.made (ns ++ rest) S)) ∙ ap (λ (l : List Move). length (tell t l S)) h.whole in
-    let outer = length-append (tell t h.made S) (tell t (ns ++ rest) T) in
+pub way_few : (script : Script) (t : ObjNo) (ms ns rest : List Move) (old S : State) (before r : Ready) (was effects : List Effect) → length was + length (tell t ms old) ≤ 4 → OnTheWay script t ms old before was (ns ++ rest) S r effects → length effects + length (tell t ns S) ≤ 4
+way_few script t ms ns rest old S before r was effects few h =
+    let T = perform t h.made old in
+    let all : length (tell t h.made old ++ tell t (ns ++ rest) T) ≡ length (tell t ms old) = ap length (sym (tell_append t h.made (ns ++ rest) old)) ∙ ap (λ (l : List Move). length (tell t l old)) h.whole in
+    let outer = length-append (tell t h.made old) (tell t (ns ++ rest) T) in
     let next : length (tell t (ns ++ rest) T) ≡ length (tell t ns T ++ tell t rest (perform t ns T)) = ap length (tell_append t ns rest T) in
     let inner = length-append (tell t ns T) (tell t rest (perform t ns T)) in
-    let here : length (tell t ns (state_of tables)) ≡ length (tell t ns T) = ap (λ (U : State). length (tell t ns U)) h.performed.state in
-    let so_far : length effects ≡ length (was ++ tell t h.made S) = ap length h.performed.told in
-    let sum = length-append was (tell t h.made S) in
+    let here : length (tell t ns S) ≡ length (tell t ns T) = ap (λ (U : State). length (tell t ns U)) h.performed.state in
+    let so_far : length effects ≡ length (was ++ tell t h.made old) = ap length h.performed.told in
+    let sum = length-append was (tell t h.made old) in
     omega arith
 
 -- the threads that are left so far, those of the queues, and without those that leave with the rest they are all that are

@@ -149,6 +149,11 @@ chosen_stands nano rank r t is none qs h =
     let clash : None ≡ Some (rank t) = none ∙ chosen_priority rank qs r t h.once h.queues (chosen_by rank qs r t h is) in
     absurd (cc)
 
+-- the queues stay those of as many threads
+pub rotated_size : (r : Ready) (p : Option ℕ) → (rotated_at r p).threads ≡ r.threads
+rotated_size r None = refl
+rotated_size r (Some p) = refl
+
 -- what the end of a time slice does to the queues it does to the list
 pub tick_follows : (sync : NanoRows) (rank : ObjNo → ℕ) (r : Ready) → Follow rank (λ qs. moved_behind qs (turned sync (first_of_greatest rank qs))) r (after_tick r sync)
 tick_follows sync rank r = by (first_of_highest r.queues) refl

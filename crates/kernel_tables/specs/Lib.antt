@@ -6,4 +6,5 @@ pub mod LockMoved
 pub mod ServerMoved
 pub mod Moved
 pub mod ReadyQueues
+pub mod CoreView
 pub mod Performed

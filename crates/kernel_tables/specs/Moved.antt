@@ -16,7 +16,7 @@ use Rattle.machine.specs.declared.moves.Move.TheVariants.{Make, Gain, Lose, Find
 use Rattle.machine.specs.declared.state.State.{State}
 use Rattle.state_rows.specs.declared.thread.ThreadRow.{ThreadRow}
 use Rattle.script_types.specs.declared.script.Script.{Script}
-use Rattle.machine.specs.Moves.{moved, told, objects_closed, threads_closed, owed_by_close, use_of_row}
+use Rattle.machine.specs.Moves.{moved, next_object, told, objects_closed, threads_closed, owed_by_close, use_of_row}
 use Rattle.machine.specs.Arrivals.{is_listed, touched}
 use Rattle.machine.specs.Fits.{FitsDeferred}
 use Rattle.machine.specs.FitsCopies.{FitsCopies}
@@ -39,8 +39,8 @@ use Rattle.kernel_tables.specs.StateOf.{state_of}
 
 -- there is room for one more object, and nothing refers to it yet
 pub record IsNew (S : State) : Type 0 where
-  pub room : length S.objects < OBJECTS
-  pub fresh : count_of S (record { 0 = length S.objects }) ≡ 0
+  pub room : (next_object S).0 < OBJECTS
+  pub fresh : count_of S (next_object S) ≡ 0
 
 -- a thread with a row, whose call uses nothing
 pub record UsesNothing (x : Option ThreadRow) : Type 0 where

@@ -26,10 +26,6 @@ pub record AreReady (rank : ObjNo → ℕ) (qs : List ObjNo) (r : Ready) : Type 
   pub known : (t : ObjNo) → is_listed qs t ≡ true → t.0 < BOOT_OBJECTS
   pub size : r.threads ≡ BOOT_OBJECTS
 
--- they have some ready threads
-abbrev pub SomeReady : Ready → Type 0
-SomeReady r = (rank : ObjNo → ℕ) × (qs : List ObjNo) × AreReady rank qs r
-
 -- the queues change as the list of ready threads does, whichever it is
 abbrev pub Follow : (ObjNo → ℕ) → (List ObjNo → List ObjNo) → Ready → Ready → Type 0
 Follow rank change old new = (qs : List ObjNo) → AreReady rank qs old → AreReady rank (change qs) new

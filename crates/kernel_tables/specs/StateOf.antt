@@ -1,7 +1,5 @@
--- The definitions' state that the kernel's tables stand for, but for the ready threads, which stand in queues
--- of their own.
-use Rattle.std.specs.Prelude.{List, [], map}
-use Rattle.sym_base.specs.declared.number.ObjNo.{ObjNo}
+-- The definitions' state that the kernel's tables stand for.
+use Rattle.std.specs.Prelude.{List, map}
 use Rattle.state_rows.specs.declared.handle_slot.HandleSlot.{HandleSlot}
 use Rattle.handles.specs.HandleTable.{HandleTable}
 use Rattle.machine.specs.declared.state.State.{State}
@@ -11,13 +9,12 @@ use Rattle.kernel_tables.specs.declared.tables.Tables.{Tables}
 abbrev pub slots_of : List HandleTable → List (List HandleSlot)
 slots_of tables = map (λ (t : HandleTable). t.slots) tables
 
--- each field of the state is the value of one table, and nobody is ready
+-- each field of the state is the value of one table
 abbrev pub state_of : {W N : Type 0} → Tables W N → State
 state_of tables = record {
   objects = tables.objects.rows;
   handles = slots_of tables.handles;
   threads = tables.procs.threads;
-  ready = [];
   owed = tables.cleanup.duties;
   nano = tables.nano;
   deferred = tables.deferred;
@@ -30,7 +27,3 @@ state_of tables = record {
   messages = tables.messages;
   memories = tables.procs.processes;
 }
-
--- a state with these ready threads
-abbrev pub with_ready : State → List ObjNo → State
-with_ready S qs = record S { ready = qs }

@@ -31,8 +31,9 @@ pub fn perform<W: RefWords + Drop>(
     requires kept { AreKept tables.old }
     requires few { length effects.old + length (tell thread moves.now (state_of tables.old)) ≤ 4 }
     requires size { ready.old.threads ≡ BOOT_OBJECTS }
+    ensures kept { AreKept tables.new }
     ensures size { ready.new.threads ≡ BOOT_OBJECTS }
-    ensures performed { IsPerformed script.now thread moves.now tables.old tables.new ready.old ready.new effects.old effects.new }
+    ensures performed { IsPerformed script.now thread moves.now (state_of tables.old) (state_of tables.new) ready.old ready.new effects.old effects.new }
 {
     for change in moves {
         tell(effects, tables, change);

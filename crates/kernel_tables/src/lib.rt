@@ -4,6 +4,7 @@
 mod actions;
 mod copy_moves;
 mod death_moves;
+mod kernel_core;
 mod lock_moves;
 mod moves;
 mod reading;
@@ -12,7 +13,6 @@ mod server_moves;
 mod tables;
 mod work;
 
-pub use actions::perform;
-pub use ready::{chosen, leave_along, turn};
+pub use kernel_core::Core;
 pub use table_moves::{CallQueues, ObjectTable};
 pub use tables::Tables;

@@ -1,23 +1,19 @@
 //! The queues of ready threads follow the moves of an action: who becomes ready comes, and who has nothing left to
 //! do leaves at the end.
-ghost use Rattle.std.specs.Prelude.{◌≡◌, ℕ, ◌<◌, List, option_map};
+ghost use Rattle.std.specs.Prelude.{◌≡◌, ℕ, ◌<◌, List};
 ghost use Rattle.sym_base.specs.declared.limits.TheConstants.Limits.{BOOT_OBJECTS};
 ghost use Rattle.sym_base.specs.declared.number.ObjNo.{ObjNo};
 ghost use Rattle.machine.specs.Arrivals.{arrive, one_of, taken_out, threads_of, unlisted};
-ghost use Rattle.sym_base.specs.Greatest.{first_of_greatest};
 ghost use Rattle.ready_list.specs.Arrival.{AreQueuesOf};
-ghost use Rattle.machine.specs.Choice.{priority_of};
-ghost use Rattle.machine.specs.Tick.{moved_behind};
-ghost use Rattle.state_rows.specs.Deferred.{next_immediate};
-ghost use Rattle.state_rows.specs.Nano.{in_place_of, turned, actor_of, item_or};
+ghost use Rattle.machine.specs.Choice.{chosen, priority_of};
+ghost use Rattle.machine.specs.Tick.{after_tick};
 ghost use Rattle.kernel_tables.specs.Moved.{AreKnown};
-ghost use Rattle.kernel_tables.specs.ReadyQueues.{Follow, SomeReady, pairs, leave, leave_along};
+ghost use Rattle.kernel_tables.specs.ReadyQueues.{Follow, pairs, leave, leave_along};
 ghost use Rattle.kernel_tables.specs.StateOf.{state_of};
 
 use crate::tables::Tables;
 use entry_log::Actor;
 use machine::{Move, Owed, TouchedThreads, touched};
-use nano_sync::NanoSync;
 use readings::{is_ready, wanted_holder};
 use ready_list::ReadyList;
 use ref_words::RefWords;
@@ -151,14 +147,16 @@ pub fn leave_along<W: RefWords + Drop>(
 /// queue, or who acts in its place, or nobody.
 #[tactic(auto, using(crate::proofs::ReadyChanges::chosen_follows))]
 pub fn chosen<W: RefWords + Drop>(tables: &Tables<W>, ready: &ReadyList) -> Actor
-    ensures { (rank : ObjNo → ℕ) (qs : List ObjNo) → AreQueuesOf (pairs rank qs) ready.now → result ≡ item_or (next_immediate (state_of tables.now).deferred) (actor_of (option_map (in_place_of (state_of tables.now).nano) (first_of_greatest rank qs))) }
+    ensures { (qs : List ObjNo) → AreQueuesOf (pairs (priority_of (state_of tables.now)) qs) ready.now → result ≡ chosen (state_of tables.now) qs }
 {
     nano::chosen(ready, &tables.nano, tables.deferred.calls())
 }
 
 /// Puts the first thread of the highest queue behind its equals, unless it holds a fast mutex.
-pub fn turn(nano: &NanoSync, ready: &mut ReadyList)
-    ensures { (rank : ObjNo → ℕ) → Follow rank (λ qs. moved_behind qs (turned nano.now (first_of_greatest rank qs))) ready.old ready.new }
+pub fn turn<W: RefWords + Drop>(tables: &Tables<W>, ready: &mut ReadyList)
+    requires { ready.old.threads ≡ BOOT_OBJECTS }
+    ensures size { ready.new.threads ≡ BOOT_OBJECTS }
+    ensures queues { Follow (priority_of (state_of tables.now)) (after_tick (state_of tables.now)) ready.old ready.new }
 {
-    nano::tick(ready, nano);
+    nano::tick(ready, &tables.nano);
 }

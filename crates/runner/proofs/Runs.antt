@@ -1,9 +1,11 @@
 -- The history that a schedule makes.
 use Rattle.std.proofs.Common.{◌≡◌, ℕ, suc, ◌+◌, ◌<◌, ◌≤◌, List, [], ◌∷◌, ◌++◌, length, drop, get_or, refl, ap, ◌∙◌, append_assoc, arith}
 use Rattle.std.proofs.lemmas.List.{drop_more, length-append}
+use Rattle.sym_base.specs.declared.number.ObjNo.{ObjNo}
 use Rattle.entry_log.specs.declared.entry.Entry.{Entry}
-use Rattle.machine_laws.proofs.Reached.Histories.{after-push}
-use Rattle.machine.specs.Boot.{boot}
+use Rattle.machine_laws.proofs.Reached.Histories.{after-push, arrived-push}
+use Rattle.machine.specs.Arrived.{arrived, arrived_next}
+use Rattle.machine.specs.Boot.{boot, ready_at_boot}
 use Rattle.machine.specs.History.{after, next, entry_by}
 use Rattle.machine.specs.declared.state.State.{State}
 use Rattle.machine_laws.proofs.ValidSlots.{valid_slots_few}
@@ -15,16 +17,16 @@ use Rattle.script_types.specs.declared.script.Slot.TheVariants.{Go}
 
 -- the entry of the next slot
 abbrev pub next_entry : Script → List Entry → Slot → Entry
-next_entry script history slot = entry_by script (after script history) (length history + 1) (slot_actor (after script history) slot)
+next_entry script history slot = entry_by script (after script history) (length history + 1) (slot_actor (after script history) (arrived script history) slot)
 
 -- a history and the run of the slots that are left, one slot later
-pub run_next : (script : Script) (history : List Entry) (slot : Slot) (rest : List Slot) (whole : List Entry) → history ++ run_from script (after script history) (length history + 1) (slot ∷ rest) ≡ whole → (history ++ next_entry script history slot ∷ []) ++ run_from script (after script (history ++ next_entry script history slot ∷ [])) (length (history ++ next_entry script history slot ∷ []) + 1) rest ≡ whole
+pub run_next : (script : Script) (history : List Entry) (slot : Slot) (rest : List Slot) (whole : List Entry) → history ++ run_from script (after script history) (arrived script history) (length history + 1) (slot ∷ rest) ≡ whole → let longer = history ++ next_entry script history slot ∷ [] in longer ++ run_from script (after script longer) (arrived script longer) (length longer + 1) rest ≡ whole
 run_next script history slot rest whole h =
     let e = next_entry script history slot in
-    rw (append_assoc, after-push script history e, length-append {A = Entry}) h
+    rw (append_assoc, after-push script history e, arrived-push script history e, length-append {A = Entry}) h
 
 -- one slot of the schedule was taken
-pub run_step : (script : Script) (history new : List Entry) (i : ℕ) (whole : List Entry) → i < length script.slots → new ≡ history ++ next_entry script history (get_or script.slots i Go) ∷ [] → history ++ run_from script (after script history) (length history + 1) (drop i script.slots) ≡ whole → new ++ run_from script (after script new) (length new + 1) (drop (i + 1) script.slots) ≡ whole
+pub run_step : (script : Script) (history new : List Entry) (i : ℕ) (whole : List Entry) → i < length script.slots → new ≡ history ++ next_entry script history (get_or script.slots i Go) ∷ [] → history ++ run_from script (after script history) (arrived script history) (length history + 1) (drop i script.slots) ≡ whole → new ++ run_from script (after script new) (arrived script new) (length new + 1) (drop (i + 1) script.slots) ≡ whole
 run_step script history new i whole h made rest =
     let left = drop_more script.slots i Go h in
     let rest = rw left at rest in
@@ -35,9 +37,9 @@ pub run_longer : (history new : List Entry) (e : Entry) → new ≡ history ++ e
 run_longer history new e made = ap length made ∙ length-append history (e ∷ [])
 
 -- a run has an entry for each slot, and so few entries
-length-run_from : (script : Script) (S : State) (place : ℕ) (slots : List Slot) → length (run_from script S place slots) ≡ length slots
-length-run_from script S place [] = refl
-length-run_from script S place (slot ∷ slots) = ap suc (length-run_from script (next script S (slot_actor S slot)) (place + 1) slots)
+length-run_from : (script : Script) (S : State) (qs : List ObjNo) (place : ℕ) (slots : List Slot) → length (run_from script S qs place slots) ≡ length slots
+length-run_from script S qs place [] = refl
+length-run_from script S qs place (slot ∷ slots) = let actor = slot_actor S qs slot in ap suc (length-run_from script (next script S actor) (arrived_next script S actor qs) (place + 1) slots)
 
 pub run_few : (script : Script) → IsWellFormed script → length (run script) ≤ 65536
-run_few script valid = omega (arith, length-run_from script (boot script) 1 script.slots, valid_slots_few script valid)
+run_few script valid = omega (arith, length-run_from script (boot script) (ready_at_boot script) 1 script.slots, valid_slots_few script valid)

@@ -1,98 +1,74 @@
-use Rattle.std.proofs.Common.{◌≡◌, ◌∙◌, refl, subst, sym}
+use Rattle.std.proofs.Common.{◌≡◌, refl, subst, sym}
 use Rattle.machine.specs.declared.decision.Decision.{Decision}
-use Rattle.machine.specs.declared.state.State.{State}
 use Rattle.machine.specs.Bodies.{run_body}
 use Rattle.machine.specs.Dooms.{end}
 use Rattle.machine.specs.Rows.{thread_of}
 use Rattle.machine.specs.Steps.{decision_of}
-use Rattle.machine.specs.Transition.{act}
+use Rattle.kernel_tables.specs.CoreView.{CoreView}
 use Rattle.kernel_tables.specs.Performed.{ActionGoes}
 use Rattle.kernel_tables.specs.StateOf.{state_of}
 use Rattle.kernel_tables.proofs.GoingActions.{action_goes}
+use Rattle.kcore.specs.Done.{CarriesOut}
 use Rattle.kcore.specs.Told.{told_in}
-use Rattle.kcore.proofs.ActionsDone.{does_same}
 use Rattle.kcore.proofs.DeathRows.{may_end, may_reap}
-use Rattle.kcore.proofs.DecidedApart.{decision_apart}
 use Rattle.kcore.proofs.act.act.Goals as goal
 
 pub carry_out-requires-clause-goes : goal.carry_out-requires-clause-goes
 carry_out-requires-clause-goes g c =
     let is = rw c.in-Decided.is at c.next_action.ensures.decided in
-    rw is (action_goes c.args.script.now (state_of c.args.tables.now) c.args.thread c.requires.shaped c.requires.rows)
+    rw is (rw (← c.core.view_is) at (action_goes c.args.script.now c.args.core.now.state c.args.thread c.requires.runs.shaped c.requires.runs.rows))
 
 pub run_body-requires-clause-goes : goal.run_body-requires-clause-goes
 run_body-requires-clause-goes g c =
     let script = c.args.script.now in
     let t = c.args.thread in
-    let X = state_of c.args.tables.now in
+    let X = state_of c.core.inside.tables in
     let is : run_body script t X c.in-Runs.body ≡ decision_of script X t = rw c.in-Runs.is at c.next_action.ensures.decided in
-    subst (λ (d : Decision). ActionGoes script t d.moves X) (sym is) (action_goes script X t c.requires.shaped c.requires.rows)
+    subst (λ (d : Decision). ActionGoes script t d.moves X) (sym is) (rw (← c.core.view_is) at (action_goes script c.args.core.now.state t c.requires.runs.shaped c.requires.runs.rows))
 
 pub reap-requires-clause-dying : goal.reap-requires-clause-dying
 reap-requires-clause-dying g c =
-    let X = state_of c.args.tables.now in
-    may_reap c.args.script.now X c.args.thread (thread_of X c.args.thread) refl c.requires.able (rw c.in-Dies.is at c.next_action.ensures.suits)
+    let X = state_of c.core.inside.tables in
+    may_reap c.args.script.now X c.args.thread (thread_of X c.args.thread) refl (rw (← c.core.view_is) at c.requires.able) (rw c.in-Dies.is at c.next_action.ensures.suits)
 
 pub end-requires-clause-may : goal.end-requires-clause-may
 end-requires-clause-may g c =
-    let X = state_of c.args.tables.now in
-    may_end c.args.script.now X c.args.thread (thread_of X c.args.thread) refl c.requires.able (rw c.in-Ends.is at c.next_action.ensures.suits)
+    let X = state_of c.core.inside.tables in
+    may_end c.args.script.now X c.args.thread (thread_of X c.args.thread) refl (rw (← c.core.view_is) at c.requires.able) (rw c.in-Ends.is at c.next_action.ensures.suits)
 
 pub bury-requires-clause-may : goal.bury-requires-clause-may
-bury-requires-clause-may g c = record { able = c.requires.able; next = rw c.in-Buries.is at c.next_action.ensures.step }
+bury-requires-clause-may g c = record { able = rw (← c.core.view_is) at c.requires.able; next = rw c.in-Buries.is at c.next_action.ensures.step }
 
-pub step-requires-clause-next : goal.step-requires-clause-next
-step-requires-clause-next g c = rw c.in-Steps.is at c.next_action.ensures.step
+pub step-requires-clause-at : goal.step-requires-clause-at
+step-requires-clause-at g c = record { able = rw (← c.core.view_is) at c.requires.able; next = rw c.in-Steps.is at c.next_action.ensures.step }
 
 -- what is done is what the thread decides
 pub returns-in-Decided-clause-does : goal.returns-in-Decided-clause-does
-unfolding act
-returns-in-Decided-clause-does g c =
-    let script = c.args.script.now in
-    let t = c.args.thread in
-    let X = state_of c.args.tables.now in
-    let is = rw c.in-Decided.is at c.next_action.ensures.decided in
-    does_same script t _ (λ (S : State). decision_of script S t) c.args.tables.now c.carry_out.new.tables c.args.ready.now c.carry_out.new.ready (told_in c.carry_out.new.entry) (λ qs. is ∙ sym (decision_apart script X qs t)) c.carry_out.ensures.does
+returns-in-Decided-clause-does g c = rw (← c.core.view_is) (rw (rw c.in-Decided.is at c.next_action.ensures.decided) at c.carry_out.ensures.does)
 
 pub returns-in-Runs-clause-does : goal.returns-in-Runs-clause-does
-unfolding act
 returns-in-Runs-clause-does g c =
     let script = c.args.script.now in
     let t = c.args.thread in
-    let X = state_of c.args.tables.now in
+    let X = state_of c.core.inside.tables in
+    let old : CoreView = record { state = X; ready = c.core.inside.ready; decision = c.core.inside.decision } in
     let is : run_body script t X c.in-Runs.body ≡ decision_of script X t = rw c.in-Runs.is at c.next_action.ensures.decided in
-    does_same script t (run_body script t X c.in-Runs.body) (λ (S : State). decision_of script S t) c.args.tables.now c.run_body.new.tables c.args.ready.now c.run_body.new.ready (told_in c.run_body.new.entry) (λ qs. is ∙ sym (decision_apart script X qs t)) c.run_body.ensures.does
+    rw (← c.core.view_is) (subst (CarriesOut script t old c.run_body.new.core (told_in c.run_body.new.entry)) is c.run_body.ensures.does)
 
 pub returns-in-Steps-clause-does : goal.returns-in-Steps-clause-does
-unfolding act
-returns-in-Steps-clause-does g c =
-    let script = c.args.script.now in
-    let t = c.args.thread in
-    let X = state_of c.args.tables.now in
-    let is = rw c.in-Steps.is at c.next_action.ensures.decided in
-    does_same script t _ (λ (S : State). decision_of script S t) c.args.tables.now c.step.new.tables c.args.ready.now c.step.new.ready (told_in c.step.new.entry) (λ qs. is ∙ sym (decision_apart script X qs t)) c.step.ensures.does
-
-pub returns-in-Dies-clause-does : goal.returns-in-Dies-clause-does
-unfolding act
-returns-in-Dies-clause-does g c =
-    let script = c.args.script.now in
-    let t = c.args.thread in
-    let X = state_of c.args.tables.now in
-    does_same script t (decision_of script X t) (λ (S : State). decision_of script S t) c.args.tables.now c.reap.new.tables c.args.ready.now c.reap.new.ready (told_in c.reap.new.entry) (λ qs. sym (decision_apart script X qs t)) c.reap.ensures.does
+returns-in-Steps-clause-does g c = rw (← c.core.view_is) (rw (rw c.in-Steps.is at c.next_action.ensures.decided) at c.step.ensures.does)
 
 pub returns-in-Ends-clause-does : goal.returns-in-Ends-clause-does
-unfolding act
 returns-in-Ends-clause-does g c =
     let script = c.args.script.now in
     let t = c.args.thread in
-    let X = state_of c.args.tables.now in
+    let X = state_of c.core.inside.tables in
+    let old : CoreView = record { state = X; ready = c.core.inside.ready; decision = c.core.inside.decision } in
     let is : end t ≡ decision_of script X t = rw c.in-Ends.is at c.next_action.ensures.decided in
-    does_same script t (end t) (λ (S : State). decision_of script S t) c.args.tables.now c.end.new.tables c.args.ready.now c.end.new.ready (told_in c.end.new.entry) (λ qs. is ∙ sym (decision_apart script X qs t)) c.end.ensures.does
+    rw (← c.core.view_is) (subst (CarriesOut script t old c.end.new.core (told_in c.end.new.entry)) is c.end.ensures.does)
+
+pub returns-in-Dies-clause-does : goal.returns-in-Dies-clause-does
+returns-in-Dies-clause-does g c = rw (← c.core.view_is) c.reap.ensures.does
 
 pub returns-in-Buries-clause-does : goal.returns-in-Buries-clause-does
-unfolding act
-returns-in-Buries-clause-does g c =
-    let script = c.args.script.now in
-    let t = c.args.thread in
-    let X = state_of c.args.tables.now in
-    does_same script t (decision_of script X t) (λ (S : State). decision_of script S t) c.args.tables.now c.bury.new.tables c.args.ready.now c.bury.new.ready (told_in c.bury.new.entry) (λ qs. sym (decision_apart script X qs t)) c.bury.ensures.does
+returns-in-Buries-clause-does g c = rw (← c.core.view_is) c.bury.ensures.does

@@ -1,19 +1,11 @@
-use Rattle.std.proofs.Common.{refl}
-use Rattle.kernel_tables.specs.StateOf.{state_of}
-use Rattle.exec_user.specs.Phases.{phase_at}
-use Rattle.exec_user.specs.Stepping.{IsAtStep, step_at}
-use Rattle.exec_user.proofs.Steps.{step_goes}
-use Rattle.kcore.proofs.ActionsDone.{carried_does}
+use Rattle.std.proofs.Common.{rules, subst}
+use Rattle.exec_user.specs.Stepping.{step_at}
+use Rattle.kernel_tables.specs.CoreView.{CoreView}
+use Rattle.kernel_tables.specs.Performed.{IsMade}
 use Rattle.kcore.proofs.act.step.Goals as goal
 
--- what was decided is the step, and its moves were made
+-- the step was made in the core that was lent
 pub returns-clause-does : goal.returns-clause-does
 returns-clause-does g c =
-    let script = c.args.script.now in
-    let t = c.args.thread in
-    let X = state_of c.args.tables.now in
-    let d = step_at script X t c.args.instr.now in
-    let at : IsAtStep script X t c.args.instr.now (phase_at X t) = record { able = c.requires.able; next = c.requires.next; phase = refl } in
-    let goes = step_goes script X t c.args.instr.now (phase_at X t) c.requires.shaped c.requires.rows at in
-    let follow = rw (c.as_slice-moves.ensures.moves, c.make_step-answer.ensures.decided) at c.leave_along.ensures.queues in
-    carried_does script t d c.args.tables.now c.make_step-answer.new.tables c.args.ready.now c.make_step-answer.new.ready c.leave_along.new.ready _ c.make_step-answer.new.effects goes.each c.make_step-answer.ensures.performed follow (rw (c.make_step-answer.ensures.decided, c.make_step-answer.ensures.answer) refl)
+    let d = step_at c.args.script.now c.args.core.now.state c.args.thread c.args.instr.now in
+    c.finish.ensures.does d c.args.core.now (subst (λ (v : CoreView). IsMade c.args.script.now c.args.thread d c.args.core.now v c.tell_step.new.effects) (search rules) c.tell_step.ensures.made)

@@ -13,21 +13,19 @@ loop-thread-init c = subst (λ (r : Ready). AreReady (priority_of c.args.state.n
 
 pub add-requires-clause-fresh : goal.add-requires-clause-fresh
 add-requires-clause-fresh c =
-    let S = c.args.state.now in
-    let ts = c.as_slice-thread-items.result.now in
+    let ts = c.args.threads.now in
     let k = c.loop-thread.thread-index in
     let none : ObjNo = record { 0 = 0 } in
-    let at : slice_get S.ready k ≡ Some (get_or ts k none) = ap (λ (l : List ObjNo). slice_get l k) (sym c.as_slice-thread-items.ensures) ∙ slice_get-get_or ts k none c.loop-thread-test.true in
-    not_ready_yet (priority_of S) S.ready k (get_or ts k none) c.loop-thread.list c.requires.once c.loop-thread.invariant at
+    not_ready_yet (priority_of c.args.state.now) ts k (get_or ts k none) c.loop-thread.list c.requires.once c.loop-thread.invariant (slice_get-get_or ts k none c.loop-thread-test.true)
 
 pub loop-thread-preserved : goal.loop-thread-preserved
 loop-thread-preserved c =
     let S = c.args.state.now in
-    let ts = c.as_slice-thread-items.result.now in
+    let ts = c.args.threads.now in
     let k = c.loop-thread.thread-index in
     let none : ObjNo = record { 0 = 0 } in
     let t = get_or ts k none in
-    let at : slice_get S.ready k ≡ Some t = ap (λ (l : List ObjNo). slice_get l k) (sym c.as_slice-thread-items.ensures) ∙ slice_get-get_or ts k none c.loop-thread-test.true in
-    let listed = got_listed S.ready k t at in
+    let at : slice_get ts k ≡ Some t = slice_get-get_or ts k none c.loop-thread-test.true in
+    let listed = got_listed ts k t at in
     let made : c.add.new.self ≡ added c.loop-thread.list t (priority_of S t) = c.add.ensures ∙ ap (added c.loop-thread.list t) c.priority_of.ensures in
-    subst (AreReady (priority_of S) (take (k + 1) S.ready)) (sym made) (one_more_ready (priority_of S) S.ready k t c.loop-thread.list (c.requires.known t listed) (c.requires.ranged t listed) c.requires.once c.loop-thread.invariant at)
+    subst (AreReady (priority_of S) (take (k + 1) ts)) (sym made) (one_more_ready (priority_of S) ts k t c.loop-thread.list (c.requires.known t listed) (c.requires.ranged t listed) c.requires.once c.loop-thread.invariant at)

@@ -4,4 +4,4 @@ use Rattle.kernel_tables.specs.ReadyQueues.{AreReady}
 use Rattle.kcore.proofs.boot.queues_of.Given as goal
 
 abbrev pub invariant-loop-thread : goal.invariant-loop-thread
-invariant-loop-thread l = AreReady (priority_of l.state) (take l.thread-index l.state.ready) l.list
+invariant-loop-thread l = AreReady (priority_of l.state) (take l.thread-index l.threads) l.list

@@ -1,4 +1,5 @@
 use Rattle.std.proofs.Common.{◌≡◌, ◌+◌, ◌++◌, length, drop}
+use Rattle.machine.specs.Arrived.{arrived}
 use Rattle.machine.specs.History.{after}
 use Rattle.machine.specs.Run.{run, run_from}
 use Rattle.runner.proofs.history.make_history.Given as goal
@@ -9,5 +10,5 @@ invariant-loop-slot l = record {
   script : l.kernel.script ≡ l.fn.script;
   room : l.kernel.room ≡ length l.fn.script.slots;
   count : length l.kernel.history ≡ l.slot-index;
-  rest : l.kernel.history ++ run_from l.fn.script (after l.fn.script l.kernel.history) (length l.kernel.history + 1) (drop l.slot-index l.fn.script.slots) ≡ run l.fn.script;
+  rest : l.kernel.history ++ run_from l.fn.script (after l.fn.script l.kernel.history) (arrived l.fn.script l.kernel.history) (length l.kernel.history + 1) (drop l.slot-index l.fn.script.slots) ≡ run l.fn.script;
 }

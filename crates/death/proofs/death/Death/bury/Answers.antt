@@ -1,14 +1,10 @@
-use Rattle.std.proofs.Common.{◌∙◌, subst, sym}
-use Rattle.machine.specs.declared.decision.Decision.{Decision}
-use Rattle.kernel_tables.specs.Performed.{ActionGoes}
-use Rattle.kernel_tables.specs.StateOf.{state_of}
+use Rattle.std.proofs.Common.{◌∙◌}
 use Rattle.kernel_tables.proofs.GoingActions.{action_goes}
 use Rattle.death.proofs.Dying.{buries}
 use Rattle.death.proofs.death.Death.bury.Goals as goal
 
-pub make_moves-requires-clause-goes : goal.make_moves-requires-clause-goes
-make_moves-requires-clause-goes g c =
-    let script = c.args.script.now in
-    let S = state_of c.args.self.now.tables.now in
-    let decided = c.bury.ensures ∙ buries script S c.args.t c.args.dfc c.requires.may in
-    subst (λ (d : Decision). ActionGoes script c.args.t d.moves S) (sym decided) (action_goes script S c.args.t c.requires.shaped c.requires.rows)
+pub make-requires-clause-goes : goal.make-requires-clause-goes
+make-requires-clause-goes g c =
+    let goes = action_goes c.args.script.now c.args.self.now.core.now.state c.args.t c.requires.runs.shaped c.requires.runs.rows in
+    let decided = buries c.args.script.now c.args.self.now.core.now.state c.args.t c.args.dfc c.requires.may in
+    rw (c.bury.ensures ∙ rw (← c.core.view_is) at decided) (rw (← c.core.view_is) at goes)

@@ -1,12 +1,7 @@
-use Rattle.std.proofs.Common.{subst, sym}
-use Rattle.machine.specs.declared.decision.Decision.{Decision}
-use Rattle.kernel_tables.specs.Performed.{ActionGoes}
-use Rattle.kernel_tables.specs.StateOf.{state_of}
 use Rattle.kernel_tables.proofs.GoingActions.{action_goes}
 use Rattle.death.proofs.death.Death.reap_one.Goals as goal
 
-pub make_moves-requires-clause-goes : goal.make_moves-requires-clause-goes
-make_moves-requires-clause-goes g c =
-    let script = c.args.script.now in
-    let S = state_of c.args.self.now.tables.now in
-    subst (λ (d : Decision). ActionGoes script c.args.t d.moves S) (sym c.decide_reaped-reaped.ensures.decided) (action_goes script S c.args.t c.requires.shaped c.requires.rows)
+pub make-requires-clause-goes : goal.make-requires-clause-goes
+make-requires-clause-goes g c =
+    let goes = action_goes c.args.script.now c.args.self.now.core.now.state c.args.t c.requires.runs.shaped c.requires.runs.rows in
+    rw c.decide_reaped.ensures.decided (rw (← c.core.view_is) at goes)

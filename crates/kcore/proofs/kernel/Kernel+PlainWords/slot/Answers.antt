@@ -1,4 +1,5 @@
 use Rattle.std.proofs.Common.{◌≡◌, ◌∙◌, ap}
+use Rattle.machine.specs.Arrived.{arrived}
 use Rattle.machine.specs.History.{after}
 use Rattle.machine.specs.Run.{slot_actor}
 use Rattle.machine.specs.declared.state.State.{State}
@@ -10,13 +11,15 @@ go-requires-clause-can c =
     let k = c.self.inside in
     let h = c.self.invariant.stands in
     let H = after k.script k.history.items in
-    let is : c.slot_actor-actor.result ≡ slot_actor H c.args.slot = c.slot_actor-actor.ensures H.ready h.queues.queues ∙ ap (λ (U : State). slot_actor U c.args.slot) h.state in
-    rw (← c.self.view_is) (slot_goes k.script k.history.items k.tables k.ready c.args.slot c.slot_actor-actor.result (rw (← c.self.view_is) at c.requires.declared) h is)
+    let qs = arrived k.script k.history.items in
+    let is : c.slot_actor-actor.result ≡ slot_actor H qs c.args.slot = c.slot_actor-actor.ensures qs h.queues.queues ∙ ap (λ (U : State). slot_actor U qs c.args.slot) h.state in
+    rw (← c.self.view_is) (slot_goes k.script k.history.items k.core c.args.slot c.slot_actor-actor.result (rw (← c.self.view_is) at c.requires.declared) h is)
 
 pub returns-clause-entry : goal.returns-clause-entry
 returns-clause-entry c =
     let k = c.self.inside in
     let h = c.self.invariant.stands in
     let H = after k.script k.history.items in
-    let is : c.slot_actor-actor.result ≡ slot_actor H c.args.slot = c.slot_actor-actor.ensures H.ready h.queues.queues ∙ ap (λ (U : State). slot_actor U c.args.slot) h.state in
+    let qs = arrived k.script k.history.items in
+    let is : c.slot_actor-actor.result ≡ slot_actor H qs c.args.slot = c.slot_actor-actor.ensures qs h.queues.queues ∙ ap (λ (U : State). slot_actor U qs c.args.slot) h.state in
     rw (← c.self.view_is, ← is) (rw (← c.self.view_is) at c.go.ensures.entry)

@@ -6,5 +6,5 @@ pub invariant_of-result : goal.invariant_of-result
 invariant_of-result g c = record {
   fits = let room = c.in_ok-history.ensures.exact in omega arith;
   few = c.requires.room;
-  stands = rw c.in_ok-history.ensures.items (stands_at_boot c.args.script c.in_ok-tables.tables c.in_ok-tables.ready c.requires.valid c.in_ok-tables.ensures.state c.in_ok-tables.ensures.kept c.in_ok-tables.ensures.queues);
+  stands = rw c.in_ok-history.ensures.items (stands_at_boot c.args.script c.in_ok-core.core c.requires.valid c.in_ok-core.ensures.state c.in_ok-core.ensures.queues);
 }

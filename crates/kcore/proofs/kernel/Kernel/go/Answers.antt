@@ -5,32 +5,19 @@ use Rattle.machine.specs.declared.decision.Outcome.{Outcome}
 use Rattle.machine.specs.History.{entry_of}
 use Rattle.kcore.specs.Told.{IsTold, told_in}
 use Rattle.kcore.proofs.LastEntry.{last_is, last_told}
-use Rattle.kcore.proofs.Goes.{rows_stand, shape_stands, some_stand, may_stand, kernel_goes_on, entry_told, safe_history}
+use Rattle.kcore.proofs.Goes.{runs_stand, may_stand, kernel_goes_on, entry_told, safe_history}
 use Rattle.machine_safe.proofs.ReadyHolders.{holders_ready}
 use Rattle.kcore.proofs.kernel.Kernel.go.Goals as goal
 
-pub transition-requires-clause-shaped : goal.transition-requires-clause-shaped
-transition-requires-clause-shaped g c =
+pub transition-requires-clause-runs : goal.transition-requires-clause-runs
+transition-requires-clause-runs g c =
     let k = c.self.inside in
-    shape_stands k.script k.history.items k.tables k.ready c.self.invariant.stands
+    runs_stand k.script k.history.items k.core c.self.invariant.stands
 
-pub transition-requires-clause-rows : goal.transition-requires-clause-rows
-transition-requires-clause-rows g c =
+pub transition-requires-clause-can : goal.transition-requires-clause-can
+transition-requires-clause-can g c =
     let k = c.self.inside in
-    rows_stand k.script k.history.items k.tables k.ready c.self.invariant.stands
-
-pub transition-requires-clause-kept : goal.transition-requires-clause-kept
-transition-requires-clause-kept g c = c.self.invariant.stands.kept
-
-pub transition-requires-clause-ready : goal.transition-requires-clause-ready
-transition-requires-clause-ready g c =
-    let k = c.self.inside in
-    some_stand k.script k.history.items k.tables k.ready c.self.invariant.stands
-
-pub transition-requires-clause-able : goal.transition-requires-clause-able
-transition-requires-clause-able g c =
-    let k = c.self.inside in
-    may_stand k.script k.history.items k.tables k.ready c.args.actor c.self.invariant.stands (rw (← c.self.view_is) at c.requires.can)
+    may_stand k.script k.history.items k.core c.args.actor c.self.invariant.stands (rw (← c.self.view_is) at c.requires.can)
 
 pub transition-requires-clause-empty : goal.transition-requires-clause-empty
 transition-requires-clause-empty g c =
@@ -55,7 +42,7 @@ invariant_of-self g c =
     record {
       fits = let a = c.push_reserved.ensures.capacity in let b = c.self.invariant.fits in omega (arith, a);
       few = c.self.invariant.few;
-      stands = kernel_goes_on k.script k.history.items _ k.tables c.transition.new.tables k.ready c.transition.new.ready c.args.actor (told_in e) ((length c.as_slice-at.result.now) + 1) e (rw (← c.self.view_is) at c.requires.can) c.self.invariant.stands c.transition.ensures.does (ap (λ (n : ℕ). n + 1) at) told pushed;
+      stands = kernel_goes_on k.script k.history.items _ k.core c.transition.new.core c.args.actor (told_in e) ((length c.as_slice-at.result.now) + 1) e (rw (← c.self.view_is) at c.requires.can) c.self.invariant.stands c.transition.ensures.does (ap (λ (n : ℕ). n + 1) at) told pushed;
     }
 
 pub returns-clause-safe : goal.returns-clause-safe
@@ -67,7 +54,7 @@ returns-clause-safe g c =
     let is = last_is k.history.items items c.new_entry.result (length c.as_slice-at.result.now) c.index_mut.result.now c.push_reserved.ensures.items at c.index_mut.ensures.value in
     let told = told_as c.index_mut.result.now c.new_entry.result e ((length c.as_slice-at.result.now) + 1) c.args.actor _ is c.new_entry.ensures c.transition.ensures.told in
     let pushed = last_told k.history.items items c.new_entry.result (length c.as_slice-at.result.now) e c.push_reserved.ensures.items at in
-    safe_history k.script _ c.transition.new.tables c.transition.new.ready (kernel_goes_on k.script k.history.items _ k.tables c.transition.new.tables k.ready c.transition.new.ready c.args.actor (told_in e) ((length c.as_slice-at.result.now) + 1) e (rw (← c.self.view_is) at c.requires.can) c.self.invariant.stands c.transition.ensures.does (ap (λ (n : ℕ). n + 1) at) told pushed)
+    safe_history k.script _ c.transition.new.core (kernel_goes_on k.script k.history.items _ k.core c.transition.new.core c.args.actor (told_in e) ((length c.as_slice-at.result.now) + 1) e (rw (← c.self.view_is) at c.requires.can) c.self.invariant.stands c.transition.ensures.does (ap (λ (n : ℕ). n + 1) at) told pushed)
 
 pub returns-clause-entry : goal.returns-clause-entry
 returns-clause-entry g c =
@@ -78,7 +65,7 @@ returns-clause-entry g c =
     let is = last_is k.history.items items c.new_entry.result (length c.as_slice-at.result.now) c.index_mut.result.now c.push_reserved.ensures.items at c.index_mut.ensures.value in
     let told = told_as c.index_mut.result.now c.new_entry.result e ((length c.as_slice-at.result.now) + 1) c.args.actor _ is c.new_entry.ensures c.transition.ensures.told in
     let pushed = last_told k.history.items items c.new_entry.result (length c.as_slice-at.result.now) e c.push_reserved.ensures.items at in
-    let tale = entry_told k.script k.history.items k.tables c.transition.new.tables k.ready c.transition.new.ready c.args.actor (told_in e) ((length c.as_slice-at.result.now) + 1) e c.self.invariant.stands c.transition.ensures.does (ap (λ (n : ℕ). n + 1) at) told in
+    let tale = entry_told k.script k.history.items k.core c.transition.new.core c.args.actor (told_in e) ((length c.as_slice-at.result.now) + 1) e c.self.invariant.stands c.transition.ensures.does (ap (λ (n : ℕ). n + 1) at) told in
     rw (← c.self.view_is) (pushed ∙ ap (λ (x : Entry). k.history.items ++ x ∷ []) tale)
 
 pub returns-clause-holders : goal.returns-clause-holders

@@ -9,7 +9,7 @@ use Rattle.kcore.proofs.kernel.Kernel.history.Goals as goal
 pub returns-clause-safe : goal.returns-clause-safe
 returns-clause-safe g c =
     let k = c.self.inside in
-    subst (λ (v : KernelView). IsSafe v.script v.history) c.self.view_is (safe_history k.script k.history.items k.tables k.ready c.self.invariant.stands)
+    subst (λ (v : KernelView). IsSafe v.script v.history) c.self.view_is (safe_history k.script k.history.items k.core c.self.invariant.stands)
 
 pub returns-clause-holders : goal.returns-clause-holders
 returns-clause-holders g c =

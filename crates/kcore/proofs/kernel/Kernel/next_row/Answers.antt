@@ -1,10 +1,10 @@
-use Rattle.machine.specs.History.{after}
-use Rattle.kernel_tables.specs.StateOf.{state_of}
-use Rattle.kcore.proofs.Goes.{next_row_apart}
+use Rattle.std.proofs.Common.{subst}
+use Rattle.machine.specs.declared.state.State.{State}
+use Rattle.machine.specs.FinalRows.{rows_from, IsNextRow}
+use Rattle.kernel_tables.specs.CoreView.{CoreView}
 use Rattle.kcore.proofs.kernel.Kernel.next_row.Goals as goal
 
 pub returns : goal.returns
 returns g c =
-    let k = c.self.inside in
-    let S = after k.script k.history.items in
-    rw (← c.self.view_is) (next_row_apart (state_of k.tables) S S.ready c.args.from c.next_row.result c.self.invariant.stands.state c.next_row.ensures)
+    let next = λ (S : State). IsNextRow (rows_from S) c.args.from c.next_row.result in
+    rw (← c.self.view_is) (subst next c.self.invariant.stands.state (subst (λ (v : CoreView). next v.state) c.core.view_is c.next_row.ensures))

@@ -1,0 +1,89 @@
+use Rattle.std.proofs.Common.{◌≡◌, ◌<◌, ◌≤◌, ◌∙◌, List, get_or, sym, ap, subst, length, arith, true, map, take, replicate, ℕ, Some, None}
+use Rattle.std.specs.Prelude.{slice_index}
+use Rattle.sym_base.specs.declared.limits.TheConstants.Limits.{BOOT_OBJECTS}
+use Rattle.sym_base.specs.declared.number.ObjNo.{ObjNo}
+use Rattle.script_types.proofs.ShapeLaws.{formed_is_shaped}
+use Rattle.state_rows.specs.declared.messages.MessageRows.{MessageRows}
+use Rattle.machine.specs.declared.boot.Born.{Born}
+use Rattle.machine.specs.declared.state.State.{State}
+use Rattle.machine.specs.Boot.{boot, born}
+use Rattle.machine.specs.Choice.{priority_of_row}
+use Rattle.machine.specs.References.{count_of}
+use Rattle.machine.specs.Moves.{use_of_row}
+use Rattle.machine.proofs.BornFew.{born_few}
+use Rattle.machine_laws.proofs.AtBoot.Born.{each_born}
+use Rattle.machine_laws.proofs.AtBoot.BootRows.{rows-boot}
+use Rattle.move_laws.proofs.Numbers.CountSmall.{count_small}
+use Rattle.kcore.specs.BootTable.{AreNew, FirstStand}
+use Rattle.kernel_tables.specs.Counts.{Agrees}
+use Rattle.kernel_tables.specs.StateOf.{slots_of}
+use Rattle.kcore.proofs.BootFields.{fields_at_boot, no_locks_are, no_servers_are, threads_at_boot}
+use Rattle.kcore.proofs.BootTables.{new_at_boot, agrees_at_boot}
+use Rattle.kcore.proofs.BootUses.{none_used}
+use Rattle.kcore.proofs.boot.tables_at_boot.Goals as goal
+
+pub all_born-requires : goal.all_born-requires
+all_born-requires g c = formed_is_shaped c.args.script.now c.requires.valid
+
+pub counted-requires-clause-few : goal.counted-requires-clause-few
+counted-requires-clause-few g c =
+    let few = born_few c.args.script.now (formed_is_shaped c.args.script.now c.requires.valid) in
+    let e = ap length (c.as_slice.ensures ∙ c.in_ok-all.ensures) in
+    omega arith
+
+pub counted-requires-clause-small : goal.counted-requires-clause-small
+counted-requires-clause-small g c =
+    let script = c.args.script.now in
+    subst (λ (S : State). (o : ObjNo) → count_of S o < 65536) (sym c.requires.boot) (count_small script (boot script) (rows-boot script c.requires.valid))
+
+pub counted-requires-clause-born : goal.counted-requires-clause-born
+counted-requires-clause-born g c =
+    let script = c.args.script.now in
+    let all : c.as_slice.result.now ≡ born script = c.as_slice.ensures ∙ c.in_ok-all.ensures in
+    subst (λ (S : State). AreNew c.as_slice.result.now S) (sym c.requires.boot) (subst (λ (bs : List Born). AreNew bs (boot script)) (sym all) (new_at_boot script c.requires.valid))
+
+pub tables_of-requires-clause-shaped : goal.tables_of-requires-clause-shaped
+tables_of-requires-clause-shaped g c = formed_is_shaped c.args.script.now c.requires.valid
+
+pub tables_of-requires-clause-few : goal.tables_of-requires-clause-few
+tables_of-requires-clause-few g c =
+    let few = born_few c.args.script.now (formed_is_shaped c.args.script.now c.requires.valid) in
+    let e = ap length (c.as_slice-2.ensures ∙ c.in_ok-all.ensures) in
+    omega arith
+
+pub tables_of-requires-clause-known : goal.tables_of-requires-clause-known
+tables_of-requires-clause-known g c =
+    let script = c.args.script.now in
+    subst (λ (S : State). length S.threads ≤ BOOT_OBJECTS) (sym c.requires.boot) (rows-boot script c.requires.valid).sized.threads_few
+
+pub returns-clause-state : goal.returns-clause-state
+returns-clause-state g c =
+    let script = c.args.script.now in
+    let tables = c.in_ok-tables.tables in
+    let made = c.in_ok-tables.ensures in
+    let all : c.as_slice-2.result.now ≡ c.as_slice.result.now = c.as_slice-2.ensures ∙ sym c.as_slice.ensures in
+    let rows = subst (λ (bs : List Born). tables.objects.rows ≡ take (length bs) (map (λ (b : Born). Some b.object) bs)) (sym all) (ap (λ o. o.rows) made.objects ∙ c.in_ok-objects.ensures.rows_are) in
+    fields_at_boot script c.as_slice-2.result.now c.args.state.now tables.objects.rows (slots_of tables.handles) tables.procs.threads tables.cleanup.duties tables.nano tables.deferred tables.requests tables.locks.rows tables.cleanup.mutexes tables.cleanup.logons tables.servers tables.cleanup.servers tables.messages tables.procs.processes
+    (c.as_slice-2.ensures ∙ c.in_ok-all.ensures) c.requires.boot rows made.handles (ap (λ p. p.threads) made.procs) made.owed made.nano made.deferred made.requests (no_locks_are tables.locks.rows made.locks) made.mutexes made.logons (no_servers_are tables.servers made.servers) made.owned made.messages (ap (λ p. p.processes) made.procs)
+
+pub returns-clause-kept : goal.returns-clause-kept
+returns-clause-kept g c =
+    let script = c.args.script.now in
+    let tables = c.in_ok-tables.tables in
+    let made = c.in_ok-tables.ensures in
+    let objects = c.in_ok-objects.objects in
+    let all : c.as_slice.result.now ≡ born script = c.as_slice.ensures ∙ c.in_ok-all.ensures in
+    let long : length c.as_slice-2.result.now ≡ length (born script) = ap length (c.as_slice-2.ensures ∙ c.in_ok-all.ensures) in
+    let agree : Agrees objects.counts (boot script) = agrees_at_boot script c.requires.valid c.as_slice.result.now objects.rows objects.counts all (subst (λ (S : State). FirstStand c.as_slice.result.now S objects.rows objects.counts (length c.as_slice.result.now)) c.requires.boot c.in_ok-objects.ensures) in
+    let threads : tables.procs.threads ≡ map (λ (b : Born). b.thread) (born script) = ap (λ p. p.threads) made.procs ∙ (ap (λ (S : State). S.threads) c.requires.boot ∙ threads_at_boot script) in
+    let state = returns-clause-state g c in
+    record {
+      counts = λ o. ap (λ (counts : List ℕ). slice_index counts o.0) (ap (λ t. t.counts) made.objects) ∙ (agree o ∙ sym (ap (λ (S : State). count_of S o) state));
+      tied = record {
+        uses = made.uses ∙ (ap (λ (n : ℕ). replicate n None) long ∙ (none_used script (length (born script)) (born script) (each_born script (formed_is_shaped script c.requires.valid)) ∙ sym (ap (map use_of_row) threads)));
+        ranks = λ u. made.ranks u ∙ sym (ap (λ p. priority_of_row (get_or p.threads u.0 None)) made.procs);
+        listed = made.listed;
+        ranked = made.ranked;
+      };
+      numbered = let accepted = ap (λ (r : MessageRows). r.accepted) made.messages in omega arith;
+    }

@@ -1,0 +1,121 @@
+//! The core of the kernel: what its actions change.
+ghost use Rattle.std.specs.Prelude.{◌≡◌, ℕ, ◌+◌, ◌≤◌, [], List, length};
+ghost use Rattle.sym_base.specs.declared.limits.TheConstants.Limits.{BOOT_OBJECTS};
+ghost use Rattle.sym_base.specs.declared.number.ObjNo.{ObjNo};
+ghost use Rattle.ready_list.specs.Arrival.{AreQueuesOf};
+ghost use Rattle.machine.specs.Choice.{chosen, priority_of};
+ghost use Rattle.machine.specs.Moves.{tell};
+ghost use Rattle.machine.specs.Tick.{after_tick};
+ghost use Rattle.kernel_tables.specs.Moved.{MovesGo};
+ghost use Rattle.kernel_tables.specs.Noted.{AreKept};
+ghost use Rattle.kernel_tables.specs.Performed.{ActionGoes, IsMade, IsPerformed};
+ghost use Rattle.kernel_tables.specs.ReadyQueues.{Follow, leave_along, pairs};
+ghost use Rattle.kernel_tables.specs.StateOf.{state_of};
+
+use crate::actions::perform;
+use crate::ready::{chosen, leave_along, turn};
+use crate::tables::Tables;
+use entry_log::{Actor, Effects};
+use machine::{Decision, Move};
+use ready_list::ReadyList;
+use ref_words::RefWords;
+use script_types::Script;
+use std::marker::Model;
+use sym_base::ThreadNo;
+
+/// The tables, the queues of ready threads, and what was decided last. A contract sees the definitions' state in place of the
+/// tables. What the tables keep beside the rows is always what the rows say.
+#[derive(Drop)]
+pub struct Core<W: RefWords> {
+    pub tables: Tables<W>,
+    pub ready: ReadyList,
+    /// What was decided last: its place is used again.
+    pub decision: Decision,
+}
+
+impl<W: RefWords> Model for Core<W> {
+    ghost use Rattle.kernel_tables.specs.CoreView.{CoreView, IsCore};
+    ghost use Rattle.kernel_tables.specs.StateOf.{state_of};
+
+    ghost Value = { CoreView };
+
+    ghost view = { λ c. record { state = state_of c.tables; ready = c.ready; decision = c.decision } };
+
+    ghost invariant = { λ c. IsCore c.tables c.ready };
+}
+
+impl<W: RefWords + Drop> Core<W> {
+    /// A core over these tables and queues. Nothing was decided yet.
+    pub fn new(tables: Tables<W>, ready: ReadyList) -> Core<W>
+        requires kept { AreKept tables }
+        requires size { ready.threads ≡ BOOT_OBJECTS }
+        ensures state { result.state ≡ state_of tables }
+        ensures ready { result.ready ≡ ready }
+    {
+        Core {
+            tables,
+            ready,
+            decision: Decision::new(),
+        }
+    }
+
+    /// The moves that were decided are made in an action of a thread, one after the other. What they tell comes behind what was
+    /// told before, and whom they make ready comes. Whoever isn't ready any more stays in the queues.
+    pub fn perform(&mut self, script: &Script, thread: ThreadNo, effects: &mut Effects)
+        requires go { MovesGo script.now thread self.old.decision.moves self.old.state }
+        requires few { length effects.old + length (tell thread self.old.decision.moves self.old.state) ≤ 4 }
+        ensures decision { self.new.decision ≡ self.old.decision }
+        ensures performed { IsPerformed script.now thread self.old.decision.moves self.old.state self.new.state self.old.ready self.new.ready effects.old effects.new }
+    {
+        perform(
+            script,
+            &mut self.tables,
+            &mut self.ready,
+            thread,
+            self.decision.moves.as_slice(),
+            effects,
+        );
+    }
+
+    /// The action of a thread that was decided is made. Its effects come into an empty list.
+    pub fn make(&mut self, script: &Script, thread: ThreadNo, effects: &mut Effects)
+        requires goes { ActionGoes script.now thread self.old.decision.moves self.old.state }
+        requires empty { effects.old ≡ [] }
+        ensures made { IsMade script.now thread self.old.decision self.old self.new effects.new }
+    {
+        self.perform(script, thread, effects);
+    }
+
+    /// Of those that moves in an action of a thread touched, who isn't ready leaves the queues.
+    pub fn leave_along(&mut self, script: &Script, thread: ThreadNo, moves: &[Move])
+        ensures state { self.new.state ≡ self.old.state }
+        ensures queues { (rank : ObjNo → ℕ) → Follow rank (leave_along script.now self.old.state thread moves.now) self.old.ready self.new.ready }
+    {
+        leave_along(script, &self.tables, &mut self.ready, thread, moves);
+    }
+
+    /// Of those that the moves touched that were decided for a thread, who isn't ready leaves the queues.
+    pub fn leave(&mut self, script: &Script, thread: ThreadNo)
+        ensures state { self.new.state ≡ self.old.state }
+        ensures decision { self.new.decision ≡ self.old.decision }
+        ensures queues { (rank : ObjNo → ℕ) → Follow rank (leave_along script.now self.old.state thread self.old.decision.moves) self.old.ready self.new.ready }
+    {
+        let moves = self.decision.moves.as_slice();
+        leave_along(script, &self.tables, &mut self.ready, thread, moves);
+    }
+
+    /// Whom the queues let act.
+    pub fn chosen(&self) -> Actor
+        ensures { (qs : List ObjNo) → AreQueuesOf (pairs (priority_of self.now.state) qs) self.now.ready → result ≡ chosen self.now.state qs }
+    {
+        chosen(&self.tables, &self.ready)
+    }
+
+    /// A time slice ends: the first thread of the highest queue goes behind its equals, unless it holds a fast mutex.
+    pub fn turn(&mut self)
+        ensures state { self.new.state ≡ self.old.state }
+        ensures queues { Follow (priority_of self.old.state) (after_tick self.old.state) self.old.ready self.new.ready }
+    {
+        turn(&self.tables, &mut self.ready);
+    }
+}
