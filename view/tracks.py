@@ -1,0 +1,199 @@
+"""What lasts between rows, drawn for one block: lanes, stripes, lifelines of objects, and messages."""
+from bisect import bisect_right
+
+from layout import BLOCK, ROW, Layout
+from record import Reading, Span, Stripe
+from state import Kind, Message, Thing
+from svg import clip, escape
+
+# How much of its lane a state fills.
+FILLS = {
+    Kind.READY: 1.0, Kind.WANTS: 1.0, Kind.WAITS: 0.62, Kind.UNKNOWN: 0.62, Kind.SUSPENDED: 0.5, Kind.OUT: 0.8,
+    Kind.DOOMED: 1.0, Kind.CLEANED: 1.0, Kind.IDLE: 0.16,
+}
+STRIPE, EDGE = 12, 4
+
+
+def middle(row: int) -> int:
+    return row * ROW + ROW // 2
+
+
+class Tracks:
+    """Draws what lasts, block by block. Coordinates are those of the block."""
+
+    def __init__(self, reading: Reading, layout: Layout):
+        self.reading, self.layout = reading, layout
+        self.firsts = {number: [it.first for it in spans] for number, spans in reading.spans.items()}
+        self.by_block: dict[int, list] = {}
+        for thing in list(layout.objects) + list(layout.boots):
+            self.spread(thing, thing.born, thing.swept)
+        for message in layout.messages:
+            self.spread(message, message.accepted, message.finished)
+        self.stripes: dict[int, list[tuple[int, Stripe, int]]] = {}
+        for number in layout.lanes:
+            self.spread_stripes(number)
+
+    def spread(self, what: Thing | Message, first: int, last: int | None) -> None:
+        """Notes in which blocks a life is seen."""
+        begin = max(self.layout.row_of(first), 0) // BLOCK
+        end = len(self.layout.shown) if last is None else self.layout.row_of(last)
+        for block in range(begin, min(end, len(self.layout.shown) - 1) // BLOCK + 1):
+            self.by_block.setdefault(block, []).append(what)
+
+    def spread_stripes(self, number: int) -> None:
+        """Notes in which blocks each stripe is seen, and which place it has beside others of its lane."""
+        last_of: list[int] = []
+        for stripe in self.reading.stripes[number]:
+            place = next((it for it, last in enumerate(last_of) if last < stripe.first), len(last_of))
+            last_of[place:place + 1] = [stripe.last or len(self.reading.rows) + 1]
+            first = max(self.layout.row_of(stripe.first), 0)
+            last = len(self.layout.shown) - 1 if stripe.last is None else self.layout.row_of(stripe.last)
+            for block in range(first // BLOCK, min(last, len(self.layout.shown) - 1) // BLOCK + 1):
+                self.stripes.setdefault(block, []).append((number, stripe, place))
+
+    def block(self, block: int, crossed: list[list[tuple[int, int]]]) -> list[str]:
+        """The shapes of a block. `crossed` has for each of its rows what arrows and boxes cover."""
+        begin = block * BLOCK
+        end = min(begin + BLOCK, len(self.layout.shown))
+        found = []
+        for number in self.layout.lanes:
+            found += self.lane(number, begin, end, crossed)
+        for number, stripe, place in self.stripes.get(block, []):
+            found += self.stripe(number, stripe, place, begin, end)
+        for what in self.by_block.get(block, []):
+            found += self.life(what, begin, end) if isinstance(what, Thing) else self.message(what, begin, end)
+        return found
+
+    def lane(self, number: int, begin: int, end: int, crossed: list[list[tuple[int, int]]]) -> list[str]:
+        """The states of a lane in the rows of a block."""
+        spans, found = self.reading.spans[number], []
+        place = self.layout.shown[begin].first.entry.place
+        at = bisect_right(self.firsts[number], place) - 1
+        while at < len(spans):
+            first = max(self.layout.row_of(spans[at].first), begin)
+            last = end if at + 1 == len(spans) else self.row_or_end(spans[at + 1].first, begin, end)
+            if first >= end:
+                break
+            if last > first:
+                found += self.state(number, spans[at], first - begin, last - begin, crossed)
+            at += 1
+        return found
+
+    def row_or_end(self, place: int, begin: int, end: int) -> int:
+        return max(begin, min(self.layout.row_of(place), end))
+
+    def state(self, number: int, span: Span, first: int, last: int, crossed: list[list[tuple[int, int]]]) -> list[str]:
+        kind, wide = span.standing.kind, self.layout.wide - STRIPE - EDGE
+        left = self.layout.lanes[number] + STRIPE
+        if kind is Kind.BURIED:
+            return []
+        fill = round(wide * FILLS[kind])
+        x = left + (wide - fill) // 2
+        found = [f'<path class="{kind.value}" d="M{x} {first * ROW}h{fill}v{(last - first) * ROW}h-{fill}z"/>']
+        if kind is Kind.CLEANED and self.is_buried_behind(number, span):
+            found.append(f'<path class="bar" d="M{left} {last * ROW}h{wide}"/>')
+        if span.standing.words:
+            found += self.words(span.standing.words, left, wide, first, last, crossed)
+        return found
+
+    def is_buried_behind(self, number: int, span: Span) -> bool:
+        return self.reading.spans[number][-1].standing.kind is Kind.BURIED and span is self.reading.spans[number][-2]
+
+    def words(self, words: str, left: int, wide: int, first: int, last: int, crossed: list) -> list[str]:
+        """For what a lane waits, in the first of its rows that nothing covers."""
+        for row in range(first, last):
+            if not any(begin < left + wide and left < end for begin, end in crossed[row]):
+                text = escape(clip(words, int(wide / 5.2)))
+                return [f'<text class="s" x="{left + wide // 2}" y="{middle(row) + 3}">{text}</text>']
+        return []
+
+    def stripe(self, number: int, stripe: Stripe, place: int, begin: int, end: int) -> list[str]:
+        first = self.row_or_end(stripe.first, begin, end) - begin
+        last = (end if stripe.last is None else min(self.row_or_end(stripe.last, begin, end) + 1, end)) - begin
+        if last <= first:
+            return []
+        thick = {"fast": 5, "mutex": 4, "critical": 2, "noted": 3}[stripe.kind]
+        x = self.layout.lanes[number] + STRIPE - 1 - thick - 4 * (place % 2)
+        title = {"critical": "in a critical section", "noted": "an exit is noted"}.get(stripe.kind, stripe.label)
+        found = [f'<path class="k {stripe.kind}" d="M{x} {first * ROW}h{thick}v{(last - first) * ROW}h-{thick}z">'
+                 f'<title>{escape(title)}</title></path>']
+        if stripe.label and self.layout.wide >= 60:
+            at = f"{self.layout.lanes[number] + STRIPE + 2} {first * ROW + 8}"
+            text = escape(clip(stripe.label.split(" ")[0], 8))
+            found.append(f'<text class="l" x="{at.split(" ")[0]}" y="{at.split(" ")[1]}">{text}</text>')
+        return found
+
+    def life(self, thing: Thing, begin: int, end: int) -> list[str]:
+        """The lifeline of an object: wide by its count, dotted from its death to its sweep."""
+        x = self.layout.objects.get(thing) or self.layout.boots[thing]
+        marks = self.marks(thing)
+        found = []
+        for at, (row, count) in enumerate(marks):
+            last = marks[at + 1][0] if at + 1 < len(marks) else self.last_row(thing.swept)
+            found += self.piece(x, row, last, count, self.is_dead(thing, row), begin, end)
+        for at, (row, count) in enumerate(marks):
+            if begin <= row < end:
+                named = at == 0 and thing.born > 0
+                found += self.mark(thing, x, middle(row - begin), count, row == self.died_row(thing), named)
+        return found
+
+    def marks(self, thing: Thing) -> list[tuple[int, int]]:
+        """The count behind each row in which it changes; a row -1 stands for what was before."""
+        marks: dict[int, int] = {}
+        for place, count in thing.changes:
+            marks[self.layout.row_of(place)] = count
+        return sorted(marks.items())
+
+    def died_row(self, thing: Thing) -> int | None:
+        return None if thing.died is None else self.layout.row_of(thing.died)
+
+    def is_dead(self, thing: Thing, row: int) -> bool:
+        return thing.died is not None and row >= self.layout.row_of(thing.died)
+
+    def last_row(self, place: int | None) -> int:
+        return len(self.layout.shown) if place is None else self.layout.row_of(place)
+
+    def piece(self, x: int, row: int, last: int, count: int, dead: bool, begin: int, end: int) -> list[str]:
+        top = max(middle(row - begin) if row >= 0 else 0, 0)
+        bottom = min(middle(last - begin) if last < len(self.layout.shown) else (end - begin) * ROW, (end - begin) * ROW)
+        if bottom <= top or row >= end:
+            return []
+        sort = "gone" if dead else "kept" if count == 0 else f"c{min(count, 6)}"
+        return [f'<path class="{sort}" d="M{x} {top}V{bottom}"/>']
+
+    @staticmethod
+    def mark(thing: Thing, x: int, y: int, count: int, died: bool, named: bool) -> list[str]:
+        found = []
+        if died:
+            found.append(f'<path class="x" d="M{x - 5} {y - 5}l10 10m0-10l-10 10"/>')
+        else:
+            found.append(f'<circle class="o" cx="{x}" cy="{y}" r="7"/><text class="c" x="{x}" y="{y + 3}">{count}</text>')
+        if named:
+            name = thing.kind if thing.name in ("-", "?") else thing.name
+            text = escape(clip(f"{name} {thing.number}", 8))
+            found.append(f'<text class="n l" data-k="o{thing.number}" x="{x + 9}" y="{y - 3}">{text}</text>')
+        return found
+
+    def message(self, message: Message, begin: int, end: int) -> list[str]:
+        """A message: dashed while it is queued, a square where it is taken, thick until it is finished."""
+        x, layout = self.layout.messages[message], self.layout
+        first = layout.row_of(message.accepted)
+        last = self.last_row(message.finished)
+        taken = last if message.taken is None else layout.row_of(message.taken)
+        found = self.stretch(x, first, taken, "queued", begin, end)
+        found += self.stretch(x, taken, last, "taken", begin, end) if message.taken else []
+        if begin <= first < end:
+            text = f"{message.number} {clip(message.what, 7)}"
+            found.append(f'<circle class="m" cx="{x}" cy="{middle(first - begin)}" r="4"/>'
+                         f'<text class="n l" data-k="m{message.number}" x="{x + 6}" y="{middle(first - begin)}">{text}</text>')
+        if message.taken and begin <= taken < end:
+            found.append(f'<path class="m" d="M{x - 4} {middle(taken - begin) - 4}h8v8h-8z"/>')
+        if message.finished and begin <= last < end:
+            y = middle(last - begin)
+            found.append(f'<path class="m" d="M{x - 5} {y}h10"/><text class="l" x="{x + 6}" y="{y + 8}">{message.code}</text>')
+        return found
+
+    def stretch(self, x: int, row: int, last: int, sort: str, begin: int, end: int) -> list[str]:
+        top = max(middle(row - begin) if row >= 0 else 0, 0)
+        bottom = min(middle(last - begin) if last < len(self.layout.shown) else (end - begin) * ROW, (end - begin) * ROW)
+        return [f'<path class="{sort}" d="M{x} {top}V{bottom}"/>'] if bottom > top and row < end else []
