@@ -7,8 +7,10 @@ from state import Message, Thing, Thread
 ROW, BLOCK = 22, 40
 MOST_COLUMNS = 14
 NARROWEST, WIDEST, LANES = 46, 132, 960
-OBJECT, MESSAGE, BOOT, CALLS = 48, 44, 34, 92
+OBJECT, MESSAGE, BOOT, CALLS = 54, 58, 34, 92
 SIGN = 6.7
+# How wide a group of columns is at least, for its title.
+LEAST = 56
 
 
 @dataclass
@@ -137,7 +139,7 @@ class Planner:
         for place, column in enumerate(kept):
             for life in column:
                 target[life[2]] = begin + place * wide + 14
-        self.at += len(kept) * wide
+        self.at += max(len(kept) * wide, LEAST * bool(kept))
         left_out = sum(len(it) for it in columns) - sum(len(it) for it in kept)
         if left_out:
             self.layout.skipped.append(f"Not drawn, as they change least: {left_out} {what}.")

@@ -10,7 +10,7 @@ from tracks import EDGE, STRIPE, Tracks
 
 HEAD = 46
 # How wide and high a picture may be on A4 across, in millimetres, beside the head and a block of rows.
-PAPER_WIDE, PAPER_HIGH = 277, 176
+PAPER_WIDE, PAPER_HIGH = 277, 160
 ASKED = "Up, down, Home and End choose an entry, h hides what comes next, Esc shows all. A click on a name dims the rest."
 KEY = [
     ("ready", "ready"), ("wants", "wants a fast mutex"), ("waits", "waits"), ("unknown", "unknown"),
@@ -120,7 +120,8 @@ class Writer:
         """The page, piece by piece."""
         sheet = style.sheet(width_on_paper(self.layout))
         yield (f'<!DOCTYPE html>\n<html lang="en"><head><meta charset="utf-8"><title>{html.escape(self.name)}</title>\n'
-               f'<meta name="viewport" content="width=device-width"><style>{sheet}</style></head><body>\n')
+               f'<meta name="viewport" content="width=device-width"><style>{sheet}</style></head>'
+               f'<body{" class=over" if self.overview() else ""}>\n')
         yield self.before()
         yield f"<table>{self.head()}<tbody>\n"
         yield from self.blocks()

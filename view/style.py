@@ -4,14 +4,14 @@ hides, filters and scrolls."""
 LIGHT = {
     "back": "#ffffff", "text": "#1c1c1c", "faint": "#6b6b6b", "rule": "#d9d9d9",
     "ready": "#a9d8a5", "wants": "#f3b562", "waits": "#f3dc8e", "grey": "#cfcfcf", "rose": "#eeb0b8", "pale": "#ececec",
-    "out": "#b9d9ee", "blue": "#2f6db3", "red": "#c0272d", "owed": "#77777b", "plum": "#8e3b80", "violet": "#6a4fb3",
-    "ochre": "#a06a00", "green": "#1f7a3a", "life": "#48505c", "on": "#ffffff",
+    "out": "#b9d9ee", "blue": "#2f6db3", "red": "#c0272d", "plum": "#8e3b80", "violet": "#6a4fb3",
+    "ochre": "#a06a00", "green": "#1f7a3a", "life": "#48505c",
 }
 DARK = {
     "back": "#16181c", "text": "#e8e8e8", "faint": "#a2a2a8", "rule": "#34373d",
     "ready": "#2f6b3a", "wants": "#9a6417", "waits": "#7b6a22", "grey": "#4b4e55", "rose": "#84404b", "pale": "#2b2d32",
-    "out": "#2d587a", "blue": "#4f8fd6", "red": "#e0565b", "owed": "#7d8087", "plum": "#b765aa", "violet": "#8f78d8",
-    "ochre": "#e0ac45", "green": "#5fc27a", "life": "#b4bcc8", "on": "#ffffff",
+    "out": "#2d587a", "blue": "#6aa5e6", "red": "#ef6a6f", "plum": "#b765aa", "violet": "#8f78d8",
+    "ochre": "#e0ac45", "green": "#5fc27a", "life": "#b4bcc8",
 }
 
 SHAPES = """
@@ -30,8 +30,8 @@ text{fill:var(--text)}
 .x{stroke:var(--red);stroke-width:2.5;fill:none}.o{fill:var(--back);stroke:var(--life)}
 .queued{stroke:var(--blue);stroke-width:2;stroke-dasharray:4 3}.taken{stroke:var(--blue);stroke-width:4}
 circle.m,path.m{fill:var(--blue);stroke:var(--blue);stroke-width:2}rect.m{fill:var(--back);stroke:var(--blue)}
-.b{stroke:none}path.plain{fill:var(--blue)}path.bad{fill:var(--red)}path.owed{fill:var(--owed)}
-path.b.death{fill:var(--plum)}path.b.call{fill:var(--violet)}text.b{fill:var(--on);text-anchor:middle}
+.b{stroke:none}path.plain{fill:#2f6db3}path.bad{fill:#c0272d}path.owed{fill:#6f6f74}
+path.b.death{fill:#8e3b80}path.b.call{fill:#6a4fb3}text.b{fill:#fff;text-anchor:middle}
 .a{fill:none;stroke-width:1.6}.a.message{stroke:var(--blue)}.a.signal{stroke:var(--ochre)}.a.mutex{stroke:var(--green)}
 .a.call{stroke:var(--violet)}.a.death{stroke:var(--plum)}.a.thread{stroke:var(--faint)}
 .h.message{fill:var(--blue)}.h.signal{fill:var(--ochre)}.h.mutex{fill:var(--green)}.h.call{fill:var(--violet)}
@@ -47,7 +47,7 @@ PAGE = """
 html{color-scheme:light dark}
 body{margin:0 0 5.5em;background:var(--back);color:var(--text);font:14px system-ui,sans-serif}
 header,footer{padding:.4em 12px;max-width:72em}h1{font-size:1.2em;margin:.3em 0}header p{margin:.3em 0}
-table{border-collapse:collapse}td,th{padding:0;text-align:left}thead th{position:sticky;top:0;background:var(--back)}
+table{border-collapse:collapse}td,th{padding:0;text-align:left}thead th{position:sticky;top:0;z-index:2;background:var(--back)}
 .block{content-visibility:auto}.r>use{fill:transparent;stroke:none;pointer-events:all}.r:hover>use{stroke:var(--rule)}
 .r.on>use{stroke:var(--red);stroke-width:2}.r.dim{opacity:.15}.n{cursor:pointer}.n.on{fill:var(--red);font-weight:700}
 .cover{fill:var(--back)}.hiding #left,.hiding #over,.hiding .found{visibility:hidden}
@@ -55,11 +55,12 @@ table{border-collapse:collapse}td,th{padding:0;text-align:left}thead th{position
 border-top:2px solid var(--rule);margin:0;font:13px system-ui,sans-serif;white-space:pre-wrap}
 #over{position:fixed;right:0;top:0;height:calc(100vh - 5.5em);width:70px;background:var(--back);
 border-left:1px solid var(--rule);cursor:pointer}
-.found{color:var(--red)}pre{font:12px ui-monospace,monospace}.key span{display:inline-block;padding:0 .5em;margin:.1em}
+.over{padding-right:78px}.key{font-size:12px}.found{color:var(--red)}pre{font:12px ui-monospace,monospace}.key span{display:inline-block;padding:0 .5em;margin:.1em}
 @media print{@page{size:A4 landscape;margin:9mm}body{margin:0}#panel,#over,.key summary{display:none}
 thead{display:table-header-group}thead th{position:static}tr{break-inside:avoid}.block{content-visibility:visible}
 *{-webkit-print-color-adjust:exact;print-color-adjust:exact}table svg{width:var(--paper);height:auto}
-.block{height:auto!important;contain-intrinsic-size:none!important}header,footer{max-width:none}}
+.block{width:auto!important;height:auto!important;contain-intrinsic-size:none!important}
+header,footer{max-width:none;padding:0}header{font-size:11px}h1{font-size:14px}.key{font-size:10px}.over{padding:0}}
 """
 
 SCRIPT = """

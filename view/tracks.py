@@ -14,6 +14,12 @@ FILLS = {
 STRIPE, EDGE = 12, 4
 
 
+def object_label(thing: Thing) -> str:
+    """The name of an object as it fits its column, with its number whole."""
+    name = {"-": "sess", "?": "?"}.get(thing.name, thing.name)
+    return f"{clip(name, 8 - len(str(thing.number)))} {thing.number}"
+
+
 def middle(row: int) -> int:
     return row * ROW + ROW // 2
 
@@ -169,8 +175,7 @@ class Tracks:
         else:
             found.append(f'<circle class="o" cx="{x}" cy="{y}" r="7"/><text class="c" x="{x}" y="{y + 3}">{count}</text>')
         if named:
-            name = thing.kind if thing.name in ("-", "?") else thing.name
-            text = escape(clip(f"{name} {thing.number}", 8))
+            text = escape(object_label(thing))
             found.append(f'<text class="n l" data-k="o{thing.number}" x="{x + 9}" y="{y - 3}">{text}</text>')
         return found
 
