@@ -70,7 +70,8 @@ class Boxes:
         if place is None:
             return []
         left, wide = place
-        found = [self.arrow(left, wide, it) for it in merged(row.arrows)]
+        far = sorted(merged(row.arrows), key=lambda it: -abs(self.layout.lanes.get(it.to, left) - left))
+        found = [self.arrow(left, wide, it) for it in far]
         sort = "bad" if row.refused else row.box
         step = row.entry.actor if row.entry.actor.startswith("irq") else row.entry.step
         text = escape(clip(step, int((wide - 4) / 5.9)))

@@ -6,9 +6,9 @@ from typing import TYPE_CHECKING
 from history import History, Left
 from record import Row
 from script import Misfit, Script
-from standing import READY, standing
+from standing import standing
 from state import Kind, Stage, Thing, Thread, boot
-from steps import is_known, is_of_instruction
+from steps import is_of_instruction
 
 if TYPE_CHECKING:
     from reading import Reader
@@ -23,7 +23,7 @@ def check_actor(reader: Reader, row: Row, actor: Thread | None) -> None:
             row.wrong.append(f"{row.entry.step} isn't the oldest of the immediate queue")
     elif actor:
         check_thread(reader, row, actor)
-        check_word(row, actor, reader.script)
+        check_word(row, actor)
 
 
 def check_idle(reader: Reader, row: Row) -> None:
@@ -82,7 +82,7 @@ def effective_priority(reader: Reader, actor: Thread) -> int:
                                    if it.wants == actor.fast and not it.stopped()])
 
 
-def check_word(row: Row, actor: Thread, script: Script) -> None:
+def check_word(row: Row, actor: Thread) -> None:
     """Checks the first word of a step against the instruction, and that a thread at its end has none left."""
     step = row.entry.step
     left = len(actor.lane.instructions) - actor.answers
@@ -94,6 +94,16 @@ def check_word(row: Row, actor: Thread, script: Script) -> None:
             row.wrong.append(f"the instruction is `{row.instruction.text()}`, and not `{word}`")
     elif step in ("end", "flush") and left > 0:
         row.wrong.append(f"{actor.name} ends, and has {left} instructions left")
+
+
+def check_counts(reader: Reader, row: Row) -> None:
+    """Checks that an object dies with its last reference, unless a thread is out on it."""
+    for number in {it.number for it in row.entry.effects if it.kind == "-"}:
+        thing = reader.state.things.get(number)
+        if not thing or thing.refs or thing.died is not None:
+            continue
+        if not any(reader.shared and it.out is thing for it in reader.state.threads.values()):
+            row.wrong.append(f"the last reference to object {number} goes, and it isn't dead")
 
 
 def check_boot(script: Script, history: History) -> None:

@@ -45,6 +45,10 @@ def plus(reader: Reader, row: Row, actor: Thread | None, effect: Effect) -> None
     thing = thing_of(reader, row, effect.number)
     if effect.holder in thing.refs:
         row.wrong.append(f"{effect.holder} holds object {thing.number} already")
+    if thing.died is not None:
+        row.wrong.append(f"object {thing.number} is opened, and is dead")
+    if row.found and effect.holder.startswith("tmp") and row.found is not thing:
+        row.wrong.append(f"object {thing.number} is opened, and another one was found")
     thing.refs.add(effect.holder)
     thing.changes.append((row.entry.place, len(thing.refs)))
     plus_of_holder(reader, row, effect, thing)

@@ -154,6 +154,7 @@ def first_misfit(script: Script, history: History, entries: list[Entry]) -> tupl
     if len(entries) > len(script.slots):
         line = entries[len(script.slots)].place
     if len(entries) != len(script.slots):
-        why = f"there are {len(entries)} entries, and the script's schedule has {len(script.slots)} slots"
+        why = f"the script's schedule has {len(script.slots)} slots, and there are "
+        why += ("more" if len(entries) > len(script.slots) else "fewer") + " entries"
         return line, Misfit("history", line, why)
     return None

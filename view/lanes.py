@@ -96,6 +96,7 @@ class Lanes:
         self.reading, self.width, self.colour = reading, width, colour
         self.columns = columns_of(reading, width, names)
         self.cursors = {it.number: Cursor(reading.spans[it.number]) for it in self.columns.threads}
+        self.words: dict[int, str] = {}
         self.notes_at = self.columns.first + self.columns.wide * len(self.columns.threads) + 1
 
     def head(self) -> list[str]:
@@ -117,22 +118,32 @@ class Lanes:
         if row.entry.actor in ("tick", "idle"):
             sign = "~" if row.entry.actor == "tick" else "."
             line.put(columns.first - 1, sign * (self.notes_at - columns.first))
-        self.put_states(line, place, bare=row.entry.actor in ("tick", "idle"))
+        self.put_states(line, place)
         line.put(0, str(place).rjust(len(str(len(self.reading.rows)))))
         self.put_actor(line, row)
+        self.put_words(line)
         text = line.text()
         if self.colour:
             text = self.coloured(text, row)
         notes = notes_of(row)[:max(self.width - self.notes_at, 0)]
         return (text + " " * (self.notes_at - len(line.text())) + notes).rstrip() if notes else text
 
-    def put_states(self, line: Line, place: int, bare: bool) -> None:
+    def put_states(self, line: Line, place: int) -> None:
+        """The sign of each lane. What a state is for stands once, in the first of its lines that nothing covers."""
         for thread in self.columns.threads:
-            at = self.columns.at(thread.number)
             now, begins = self.cursors[thread.number].at(place)
-            words = short(now.words) if begins and not bare else ""
+            if begins:
+                self.words[thread.number] = short(now.words)
             if SIGNS[now.kind]:
-                line.put(at, (SIGNS[now.kind] + words)[:self.columns.wide - 1])
+                line.put(self.columns.at(thread.number), SIGNS[now.kind])
+
+    def put_words(self, line: Line) -> None:
+        room = self.columns.wide - 2
+        for number, words in list(self.words.items()):
+            at = self.columns.at(number) + 1
+            if words and all(it == " " for it in line.cells[at:at + room]):
+                line.put(at, words[:room])
+                self.words[number] = ""
 
     def put_actor(self, line: Line, row: Row) -> None:
         """The step in brackets, and the arrows from it to other columns."""

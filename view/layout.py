@@ -47,7 +47,7 @@ class Layout:
 
     def row_of(self, place: int) -> int:
         """The row of an entry, in the range of the page: -1 before it, and the number of rows behind it."""
-        if place < self.shown[0].first.entry.place:
+        if not self.shown or place < self.shown[0].first.entry.place:
             return -1
         return self.row_at.get(place, len(self.shown))
 

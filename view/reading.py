@@ -45,11 +45,13 @@ class Reader:
             self.touch(actor)
             row.about.add(f"t{actor.number}")
             row.acts_for = acts_for(self.state, actor)
+            row.found = actor.out if row.entry.is_return() else None
         read_effects(self, row, actor)
         run_calls(self, row, actor)
         if actor:
             row.thing = actor.about
             self.read_thread_step(row, actor)
+        checks.check_counts(self, row)
         row.box = box_of(row)
         row.refused = is_refusal(row)
         self.settle(entry.place)

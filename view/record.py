@@ -18,13 +18,14 @@ class Arrow:
 @dataclass
 class Row:
     """One entry, with the line of the script that it comes from (0 where there is none), the object that its call is
-    about, its arrows, in whose place the holder of a fast mutex acts, what it is about (`t3`, `o5`, `m2`), and what
+    about, the one that a return was to open, its arrows, in whose place the holder of a fast mutex acts, what it is about (`t3`, `o5`, `m2`), and what
     disagrees."""
 
     entry: Entry
     instruction: Instruction | None = None
     line: int = 0
     thing: Thing | None = None
+    found: Thing | None = None
     box: str = "plain"
     raw: bool = False
     acts_for: str = ""

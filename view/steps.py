@@ -63,7 +63,7 @@ def touch_waiters(reader: Reader, thing) -> None:
 
 def called_on(reader: Reader, row: Row, actor: Thread) -> Thread | None:
     """The thread that a call is about, where the call was answered with 0."""
-    if row.entry.answer != 0 or not actor.about:
+    if row.entry.answer != 0 or not actor.about or actor.about.kind != "thread":
         return None
     thread = reader.state.threads.get(actor.about.number)
     if thread:

@@ -65,7 +65,7 @@ class Tracks:
         for number in self.layout.lanes:
             found += self.lane(number, begin, end, crossed)
         for number, stripe, place in self.stripes.get(block, []):
-            found += self.stripe(number, stripe, place, begin, end)
+            found += self.stripe(number, stripe, place, begin, end, crossed)
         for what in self.by_block.get(block, []):
             found += self.life(what, begin, end) if isinstance(what, Thing) else self.message(what, begin, end)
         return found
@@ -113,20 +113,22 @@ class Tracks:
                 return [f'<text class="s" x="{left + wide // 2}" y="{middle(row) + 3}">{text}</text>']
         return []
 
-    def stripe(self, number: int, stripe: Stripe, place: int, begin: int, end: int) -> list[str]:
+    def stripe(self, number: int, stripe: Stripe, place: int, begin: int, end: int, crossed: list) -> list[str]:
+        """A stripe at the left of a lane, with its name in the first of its rows that nothing covers."""
         first = self.row_or_end(stripe.first, begin, end) - begin
         last = (end if stripe.last is None else min(self.row_or_end(stripe.last, begin, end) + 1, end)) - begin
         if last <= first:
             return []
         thick = {"fast": 5, "mutex": 4, "critical": 2, "noted": 3}[stripe.kind]
-        x = self.layout.lanes[number] + STRIPE - 1 - thick - 4 * (place % 2)
+        left = self.layout.lanes[number] + STRIPE
+        x = left - 1 - thick - 4 * (place % 2)
         title = {"critical": "in a critical section", "noted": "an exit is noted"}.get(stripe.kind, stripe.label)
         found = [f'<path class="k {stripe.kind}" d="M{x} {first * ROW}h{thick}v{(last - first) * ROW}h-{thick}z">'
                  f'<title>{escape(title)}</title></path>']
-        if stripe.label and self.layout.wide >= 60:
-            at = f"{self.layout.lanes[number] + STRIPE + 2} {first * ROW + 8}"
-            text = escape(clip(stripe.label.split(" ")[0], 8))
-            found.append(f'<text class="l" x="{at.split(" ")[0]}" y="{at.split(" ")[1]}">{text}</text>')
+        free = [row for row in range(first, last) if not any(low < left + 40 and left < high for low, high in crossed[row])]
+        if stripe.label and free:
+            text = escape(clip(stripe.label.split(" ")[0], 7))
+            found.append(f'<text class="l" x="{left + 1}" y="{free[0] * ROW + 19}">{text}</text>')
         return found
 
     def life(self, thing: Thing, begin: int, end: int) -> list[str]:

@@ -86,7 +86,7 @@ class Wording:
         """What an entry does, in words."""
         place = row.entry.place
         counts: dict[int, int] = {}
-        parts = [self.actor_words(row)] + [self.effect(it, place, counts) for it in row.entry.effects]
+        parts = [self.actor_words(row)] + [self.effect(it, row, counts) for it in row.entry.effects]
         if row.acts_for:
             parts.insert(1, f"it acts for {row.acts_for}, which wants f{self.fast_of(row)}")
         return "; ".join(it for it in parts if it) + "."
@@ -156,8 +156,11 @@ class Wording:
         counts[effect.number] = counts.get(effect.number, 0) + 1
         return str(thing.changes[at][1]) if at < len(thing.changes) else "?"
 
-    def effect(self, effect: Effect, place: int, counts: dict[int, int]) -> str:
+    def effect(self, effect: Effect, row: Row, counts: dict[int, int]) -> str:
         """One effect in words."""
+        place = row.entry.place
+        if effect.kind == "missed":
+            return f"{row.found.label() if row.found else 'it'} is dead by now, so it isn't opened"
         if effect.kind in "+-":
             left = self.count_after(effect, place, counts)
             verb = "refers to" if effect.kind == "+" else "gives up"
@@ -185,7 +188,7 @@ class Wording:
             return f"{self.thread(number)} {verb}"
         texts = {
             "dead": "is dead, as that was its last reference", "swept": "is swept, and its name is free",
-            "seek": "", "missed": "is dead by now, so it isn't opened", "ended": "has ended",
+            "seek": "", "ended": "has ended",
         }
         if effect.kind == "raw":
             return f"{effect.text} isn't known to this reader"
