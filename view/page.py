@@ -63,9 +63,13 @@ class Writer:
         self.whole = first == 1 and last == len(reading.rows)
         self.range = f"entries {first} to {last} of {len(reading.rows)}"
 
+    def count(self) -> int:
+        """The number of blocks."""
+        return (len(self.layout.shown) + BLOCK - 1) // BLOCK
+
     def blocks(self):
         """The rows of the table, one for each block."""
-        for block in range((len(self.layout.shown) + BLOCK - 1) // BLOCK):
+        for block in range(self.count()):
             yield self.block(block)
 
     def block(self, block: int) -> str:

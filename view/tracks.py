@@ -31,7 +31,9 @@ class Tracks:
         self.reading, self.layout = reading, layout
         self.firsts = {number: [it.first for it in spans] for number, spans in reading.spans.items()}
         self.by_block: dict[int, list] = {}
+        self.marks: dict[Thing, list[tuple[int, int]]] = {}
         for thing in list(layout.objects) + list(layout.boots):
+            self.marks[thing] = self.marks_of(thing)
             self.spread(thing, thing.born, thing.swept)
         for message in layout.messages:
             self.spread(message, message.accepted, message.finished)
@@ -134,29 +136,24 @@ class Tracks:
     def life(self, thing: Thing, begin: int, end: int) -> list[str]:
         """The lifeline of an object: wide by its count, dotted from its death to its sweep."""
         x = self.layout.objects.get(thing) or self.layout.boots[thing]
-        marks = self.marks(thing)
-        found = []
-        for at, (row, count) in enumerate(marks):
+        marks, lines, signs = self.marks[thing], [], []
+        at = max(bisect_right(marks, (begin, -1)) - 1, 0)
+        died = len(self.layout.shown) if thing.died is None else self.layout.row_of(thing.died)
+        while at < len(marks) and marks[at][0] < end:
+            row, count = marks[at]
             last = marks[at + 1][0] if at + 1 < len(marks) else self.last_row(thing.swept)
-            found += self.piece(x, row, last, count, self.is_dead(thing, row), begin, end)
-        for at, (row, count) in enumerate(marks):
-            if begin <= row < end:
-                named = at == 0 and thing.born > 0
-                found += self.mark(thing, x, middle(row - begin), count, row == self.died_row(thing), named)
-        return found
+            lines += self.piece(x, row, last, count, row >= died, begin, end)
+            if row >= begin:
+                signs += self.mark(thing, x, middle(row - begin), count, row == died, at == 0 and thing.born > 0)
+            at += 1
+        return lines + signs
 
-    def marks(self, thing: Thing) -> list[tuple[int, int]]:
+    def marks_of(self, thing: Thing) -> list[tuple[int, int]]:
         """The count behind each row in which it changes; a row -1 stands for what was before."""
         marks: dict[int, int] = {}
         for place, count in thing.changes:
             marks[self.layout.row_of(place)] = count
         return sorted(marks.items())
-
-    def died_row(self, thing: Thing) -> int | None:
-        return None if thing.died is None else self.layout.row_of(thing.died)
-
-    def is_dead(self, thing: Thing, row: int) -> bool:
-        return thing.died is not None and row >= self.layout.row_of(thing.died)
 
     def last_row(self, place: int | None) -> int:
         return len(self.layout.shown) if place is None else self.layout.row_of(place)
