@@ -7,7 +7,7 @@ from state import Message, Thing, Thread
 ROW, BLOCK = 22, 40
 MOST_COLUMNS = 14
 NARROWEST, WIDEST, LANES = 46, 132, 960
-OBJECT, MESSAGE, BOOT, CALLS = 54, 58, 34, 92
+OBJECT, MESSAGE, BOOT, CALLS = 54, 66, 34, 92
 SIGN = 6.7
 # How wide a group of columns is at least, for its title.
 LEAST = 56
@@ -173,7 +173,8 @@ class Planner:
         layout.source = layout.printed + int(SIGN * printed) + 16
         script = self.reading.script
         source = 0 if self.small else max([len(script.line(it.line)) + 6 for it in rows if it.line] + [12])
-        layout.width = layout.source + int(SIGN * min(source, 60)) + 8
+        wrong = max([len("; ".join(it.wrong)) for it in rows] + [0])
+        layout.width = layout.source + int(SIGN * max(min(source, 60), wrong)) + 8
 
 
 def plan(reading: Reading, first: int, last: int, small: bool = False) -> Layout:

@@ -18,6 +18,15 @@ KEY = [
     ("idle", "a queue without calls"),
 ]
 
+BOXES = [
+    ("b plain", "a step"), ("b bad", "refused"), ("b owed", "owed"), ("b death", "deaths, closing servers"),
+    ("b call", "interrupts and calls"),
+]
+STRIPES = [
+    ("k fast", "holds a fast mutex"), ("k mutex", "owns a mutex"), ("k critical", "critical section"),
+    ("k noted", "exit noted"),
+]
+
 
 def width_on_paper(layout: Layout) -> str:
     """How wide the pictures are on paper: a page takes the head and a whole block."""
@@ -137,11 +146,17 @@ class Writer:
 
 
 def key() -> str:
-    """The key: each state as a lane shows it."""
+    """The key: each state as a lane shows it, the colours of boxes, and the stripes."""
     widths = {"waits": 22, "unknown": 22, "suspended": 18, "idle": 6}
-    parts = [f'<span><svg width="36" height="14" style="display:inline"><path class="{sort}" '
-             f'd="M0 1h{widths.get(sort, 34)}v12h-{widths.get(sort, 34)}z"/></svg> {words}</span>' for sort, words in KEY]
-    return "".join(parts)
+    lines = [[(sort, widths.get(sort, 34), words) for sort, words in KEY],
+             [(sort, 34, words) for sort, words in BOXES] + [(sort, 5, words) for sort, words in STRIPES]]
+    return "".join(f'<div>{"".join(sample(*it) for it in line)}</div>' for line in lines)
+
+
+def sample(sort: str, wide: int, words: str) -> str:
+    """One sample of the key."""
+    return (f'<span><svg width="{wide + 2}" height="14" style="display:inline"><path class="{sort}" '
+            f'd="M0 1h{wide}v12h-{wide}z"/></svg> {words}</span>')
 
 
 def small_picture(reading: Reading, first: int, last: int) -> str:

@@ -34,7 +34,7 @@ def want_words(state: State, thread: Thread) -> str:
 def wait_standing(state: State, thread: Thread) -> Standing:
     waiters = state.waiters.get(thread.wait.thing)
     if thread.wait.word == "wait" and waiters and waiters.may_be_served(thread):
-        return Standing(Kind.UNKNOWN, f"{thread.wait.label()}, or was served")
+        return Standing(Kind.UNKNOWN, f"{thread.wait.thing.name}, or was served")
     return Standing(Kind.WAITS, thread.wait.label())
 
 

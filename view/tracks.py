@@ -128,9 +128,12 @@ class Tracks:
         found = [f'<path class="k {stripe.kind}" d="M{x} {first * ROW}h{thick}v{(last - first) * ROW}h-{thick}z">'
                  f'<title>{escape(title)}</title></path>']
         free = [row for row in range(first, last) if not any(low < left + 40 and left < high for low, high in crossed[row])]
-        if stripe.label and free:
-            text = escape(clip(stripe.label.split(" ")[0], 7))
+        text = escape(clip(stripe.label.split(" ")[0], 7))
+        if text and free:
             found.append(f'<text class="l" x="{left + 1}" y="{free[0] * ROW + 19}">{text}</text>')
+        elif text:
+            at = f"{x - 2} {first * ROW + min(ROW * (last - first), 6 * len(text) + 4)}"
+            found.append(f'<text class="l" transform="translate({at}) rotate(-90)">{text}</text>')
         return found
 
     def life(self, thing: Thing, begin: int, end: int) -> list[str]:
