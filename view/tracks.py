@@ -20,6 +20,11 @@ def object_label(thing: Thing) -> str:
     return f"{clip(name, 8 - len(str(thing.number)))} {thing.number}"
 
 
+def name_of_line(key: str, x: int, y: int, text: str) -> str:
+    """The name of a line, by which rows can be filtered."""
+    return f'<text class="n l" data-k="{key}" x="{x}" y="{y}">{escape(text)}</text>'
+
+
 def middle(row: int) -> int:
     return row * ROW + ROW // 2
 
@@ -141,6 +146,8 @@ class Tracks:
         x = self.layout.objects.get(thing) or self.layout.boots[thing]
         marks, lines, signs = self.marks[thing], [], []
         at = max(bisect_right(marks, (begin, -1)) - 1, 0)
+        if begin == 0 and marks[0][0] < 0 and thing.born > 0:
+            signs.append(name_of_line(f"o{thing.number}", x + 8, 9, object_label(thing)))
         died = len(self.layout.shown) if thing.died is None else self.layout.row_of(thing.died)
         while at < len(marks) and marks[at][0] < end:
             row, count = marks[at]
@@ -177,8 +184,7 @@ class Tracks:
         else:
             found.append(f'<circle class="o" cx="{x}" cy="{y}" r="7"/><text class="c" x="{x}" y="{y + 3}">{count}</text>')
         if named:
-            text = escape(object_label(thing))
-            found.append(f'<text class="n l" data-k="o{thing.number}" x="{x + 9}" y="{y - 3}">{text}</text>')
+            found.append(name_of_line(f"o{thing.number}", x + 9, y - 3, object_label(thing)))
         return found
 
     def message(self, message: Message, begin: int, end: int) -> list[str]:
@@ -189,10 +195,11 @@ class Tracks:
         taken = last if message.taken is None else layout.row_of(message.taken)
         found = self.stretch(x, first, taken, "queued", begin, end)
         found += self.stretch(x, taken, last, "taken", begin, end) if message.taken else []
+        y = middle(first - begin) if first >= 0 else 9
         if begin <= first < end:
-            text = f"{message.number} {clip(message.what, 7)}"
-            found.append(f'<circle class="m" cx="{x}" cy="{middle(first - begin)}" r="4"/>'
-                         f'<text class="n l" data-k="m{message.number}" x="{x + 6}" y="{middle(first - begin)}">{text}</text>')
+            found.append(f'<circle class="m" cx="{x}" cy="{y}" r="4"/>')
+        if begin <= first < end or first < 0 and begin == 0:
+            found.append(name_of_line(f"m{message.number}", x + 6, y, f"{message.number} {clip(message.what, 7)}"))
         if message.taken and begin <= taken < end:
             found.append(f'<path class="m" d="M{x - 4} {middle(taken - begin) - 4}h8v8h-8z"/>')
         if message.finished and begin <= last < end:
