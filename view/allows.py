@@ -7,7 +7,7 @@ from dataclasses import dataclass, field, replace
 from history import Entry, History
 from reading import Reader
 from record import Row
-from script import Script
+from script import Lane, Script
 from state import Kind, Stage, Thread
 
 READY = (Kind.READY, Kind.WANTS, Kind.DOOMED)
@@ -41,7 +41,7 @@ class Ahead:
 class Backward:
     """Goes over a history from its end, and keeps what lies ahead of each place."""
 
-    def __init__(self, script: Script, history: History, words: dict[int, list[tuple[str, ...]]]):
+    def __init__(self, script: Script, history: History, words: dict[int, tuple[str, ...]]):
         self.words = words
         self.about = abouts(history)
         self.left = {it.number: it for it in history.left}
@@ -83,7 +83,7 @@ class Backward:
     def undo_status(self, entry: Entry, actor: int) -> None:
         """Requests make a status pending, and what reads it tells whether it is."""
         words = self.words.get(entry.place, ())
-        status = next((int(it[1:]) for it in words[1:] if it[0] == "s" and it[1:].isdigit()), None)
+        status = next((int(it[1:]) for it in words[1:] if it[0] == "s" and it[1:].isdigit()), -1)
         signalled = any(it.kind == "signal" and it.holder == str(status) for it in entry.effects)
         if entry.step in ("request.do", "send.do", "logon.do") and entry.answer == 0:
             if not signalled:
@@ -133,13 +133,15 @@ def abouts(history: History) -> dict[int, int]:
 
 def instructions(script: Script, history: History) -> dict[int, tuple[str, ...]]:
     """The words of the instruction of each entry: that of the number of its thread's earlier answers."""
-    lanes = [None, None] + script.queues + script.kernel_threads
+    lanes: list[Lane | None] = [None, None, *script.queues, *script.kernel_threads]
     for _, threads in script.processes:
-        lanes += [None] + threads
+        lanes += [None, *threads]
     answers: dict[int, int] = {}
     found = {}
     for entry in history.entries:
-        lane = lanes[entry.thread] if entry.thread is not None and entry.thread < len(lanes) else None
+        if entry.thread is None or entry.thread >= len(lanes):
+            continue
+        lane = lanes[entry.thread]
         at = answers.get(entry.thread, 0)
         if lane and at < len(lane.instructions):
             found[entry.place] = lane.instructions[at].words
@@ -171,15 +173,10 @@ def thread_wrong(reader: Reader, thread: Thread, ahead: Ahead, place: int, follo
     """What doesn't fit of one thread."""
     number, now = thread.number, reader.now[thread.number].kind
     comes, doom = ahead.next.get(number), ahead.doom.get(number)
-    undoomed = comes is not None and (doom is None or doom >= comes.place)
     if follows and follows.thread == number and now in STILL:
         yield f"acts next, and is {now.value}"
-    if now is Kind.WAITS and undoomed and comes.step != f"{waiting_word(thread)}.done":
-        yield f"waits, and goes on with {comes.step}"
-    if now is Kind.WANTS and undoomed and comes.step != "flock.done":
-        yield f"wants a fast mutex, and goes on with {comes.step}"
-    if undoomed and comes.step == "flock.done" and thread.wants is None:
-        yield "takes a fast mutex next, and wants none"
+    if comes and (doom is None or doom >= comes.place):
+        yield from step_wrong(thread, now, comes.step)
     if follows and follows.actor == "idle" and now in READY:
         yield "is ready, and nobody acts"
     yield from stage_wrong(thread, ahead, doom)
@@ -192,8 +189,14 @@ def thread_wrong(reader: Reader, thread: Thread, ahead: Ahead, place: int, follo
             yield f"has s{status} {'not ' * told}pending, and what follows tells else"
 
 
-def waiting_word(thread: Thread) -> str:
-    return thread.wait.word if thread.wait else ""
+def step_wrong(thread: Thread, now: Kind, step: str):
+    """What doesn't fit the next step of a thread that isn't doomed before."""
+    if now is Kind.WAITS and thread.wait and step != f"{thread.wait.word}.done":
+        yield f"waits, and goes on with {step}"
+    if now is Kind.WANTS and step != "flock.done":
+        yield f"wants a fast mutex, and goes on with {step}"
+    if step == "flock.done" and thread.wants is None:
+        yield "takes a fast mutex next, and wants none"
 
 
 def stage_wrong(thread: Thread, ahead: Ahead, doom: int | None):
@@ -221,7 +224,8 @@ def objects_wrong(reader: Reader, backward: Backward, ahead: Ahead):
         if number in ahead.owner and (thing.owner.number if thing.owner else None) != ahead.owner[number]:
             yield f"mutex {number} has another owner by what follows"
         left = backward.left.get(number)
-        if left and number not in ahead.swept and thing.kind != "?" and (thing.kind, thing.name) != (left.kind, left.name):
+        stays = left and number not in ahead.swept and thing.kind != "?"
+        if left and stays and (thing.kind, thing.name) != (left.kind, left.name):
             yield f"object {number} is {left.kind} {left.name} at the end"
     for number, message in state.messages.items():
         if number in ahead.taken and message.taken:

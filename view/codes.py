@@ -33,7 +33,8 @@ REASONS: dict[tuple[str, int], str] = {
     ("complete.do", -8): NO_MESSAGE, ("function.do", -8): NO_MESSAGE, ("fill.do", -6): "it passes the memory's end",
     ("read.piece", -8): NO_MESSAGE, ("write.piece", -8): NO_MESSAGE,
     ("read.piece", -13): "the client isn't live", ("write.piece", -13): "the client isn't live",
-    ("read.piece", -38): "the argument is no good descriptor", ("write.piece", -38): "the argument is no good descriptor",
+    ("read.piece", -38): "the argument is no good descriptor",
+    ("write.piece", -38): "the argument is no good descriptor",
     ("read.piece", -6): "the place is behind the descriptor's length, or passes the memory's end",
     ("write.piece", -6): "the place is behind the descriptor's length, or passes the memory's end",
     ("write.piece", -9): "the descriptor takes fewer bytes",
@@ -54,4 +55,4 @@ def name_of(code: int) -> str:
 def reason(step: str, code: int) -> str:
     """Why a step answers an error, or nothing where that isn't known."""
     part = step.partition(".")[2]
-    return REASONS.get((step, code)) or BY_PART.get((part, code), "")
+    return REASONS.get((step, code)) or BY_PART.get((part, code)) or ""

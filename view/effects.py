@@ -5,7 +5,7 @@ from typing import TYPE_CHECKING
 
 from history import Effect
 from record import Arrow, Row
-from state import Message, Stage, Thing, Thread
+from state import Message, Stage, Thing, Thread, Wait
 from steps import exit_text, touch_waiters
 
 if TYPE_CHECKING:
@@ -177,17 +177,17 @@ def signal(reader: Reader, row: Row, actor: Thread | None, effect: Effect) -> No
         row.arrows.append(Arrow("signal", thread.number, f"{label} = {effect.other}"))
     if effect.holder != "w":
         thread.pending.discard(int(effect.holder))
-    if thread.wait and ends_wait(thread, effect.holder):
+    if thread.wait and ends_wait(thread.wait, thread.pending, effect.holder):
         reader.end_wait(thread)
 
 
-def ends_wait(thread: Thread, status: str) -> bool:
-    """Whether a signal of a status ends the thread's wait."""
+def ends_wait(wait: Wait, pending: set[int], status: str) -> bool:
+    """Whether a signal of a status ends a wait, where those statuses are still pending."""
     if status == "w":
-        return thread.wait.word in ("connect", "call")
-    if thread.wait.word == "waitfor":
-        return thread.wait.status not in thread.pending
-    return thread.wait.word == "waitany"
+        return wait.word in ("connect", "call")
+    if wait.word == "waitfor":
+        return wait.status not in pending
+    return wait.word == "waitany"
 
 
 def accept(reader: Reader, row: Row, actor: Thread | None, effect: Effect) -> None:

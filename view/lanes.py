@@ -1,6 +1,6 @@
 """Lanes of text: a column a thread, a line an entry, fitted to a width."""
 import textwrap
-from dataclasses import dataclass
+from dataclasses import dataclass, field
 
 import codes
 from record import Arrow, Reading, Row, Span
@@ -23,13 +23,10 @@ class Columns:
     threads: list[Thread]
     first: int
     wide: int
+    at: dict[int, int] = field(init=False)
 
-    def at(self, number: int) -> int | None:
-        """Where the column of a thread begins."""
-        for place, thread in enumerate(self.threads):
-            if thread.number == number:
-                return self.first + place * self.wide
-        return None
+    def __post_init__(self) -> None:
+        self.at = {it.number: self.first + place * self.wide for place, it in enumerate(self.threads)}
 
 
 def columns_of(reading: Reading, width: int, names: list[str]) -> Columns:
@@ -48,8 +45,8 @@ def columns_of(reading: Reading, width: int, names: list[str]) -> Columns:
                 acts[row.entry.thread] += 1
         kept = sorted(threads, key=lambda it: -acts[it.number])[:most]
         threads = [it for it in threads if it in kept]
-    longest = max([len(row.entry.step) + 3 for row in reading.rows] + [len(it.name) + 1 for it in threads] + [NARROWEST])
-    wide = min(room // max(len(threads), 1), longest, WIDEST)
+    longest = max([len(row.entry.step) + 3 for row in reading.rows] + [len(it.name) + 1 for it in threads] + [0])
+    wide = min(room // max(len(threads), 1), max(longest, NARROWEST), WIDEST)
     return Columns(threads, first, wide)
 
 
@@ -135,23 +132,22 @@ class Lanes:
             if begins:
                 self.words[thread.number] = short(now.words)
             if SIGNS[now.kind]:
-                line.put(self.columns.at(thread.number), SIGNS[now.kind])
+                line.put(self.columns.at[thread.number], SIGNS[now.kind])
 
     def put_words(self, line: Line) -> None:
         room = self.columns.wide - 2
         for number, words in list(self.words.items()):
-            at = self.columns.at(number) + 1
+            at = self.columns.at[number] + 1
             if words and all(it == " " for it in line.cells[at:at + room]):
                 line.put(at, words[:room])
                 self.words[number] = ""
 
     def put_actor(self, line: Line, row: Row) -> None:
         """The step in brackets, and the arrows from it to other columns."""
-        at, room = self.columns.at(row.entry.thread or -1), self.columns.wide - 1
+        at, room = self.columns.at.get(row.entry.thread or 0), self.columns.wide - 1
         step = row.entry.step
         if row.entry.actor in ("tick", "idle"):
-            at, step, room = self.columns.first + 2, row.entry.actor, 8
-            line.put(at, f" {step} ")
+            line.put(self.columns.first + 2, f" {row.entry.actor} ")
             return
         if row.entry.thread is None:
             at, room = self.columns.first - 12, 11
@@ -159,14 +155,18 @@ class Lanes:
         if at is None:
             return
         box = f"[{step[:room - 2]}]"
-        for arrow in sorted(row.arrows, key=lambda it: -abs((self.columns.at(it.to) or 0) - at)):
+        for arrow in self.farthest_first(row.arrows, at):
             self.put_arrow(line, at, len(box), arrow)
         line.put(at, box)
 
+    def farthest_first(self, arrows: list[Arrow], at: int) -> list[Arrow]:
+        """The arrows to other columns. A near one is written over a far one."""
+        there = [it for it in arrows if self.columns.at.get(it.to, at) != at]
+        return sorted(there, key=lambda it: -abs(self.columns.at[it.to] - at))
+
     def put_arrow(self, line: Line, at: int, box: int, arrow: Arrow) -> None:
-        to = self.columns.at(arrow.to)
-        if to is None or to == at:
-            return
+        """An arrow with its label, from behind the box to the sign of the other lane."""
+        to = self.columns.at[arrow.to]
         label = ("msg " if arrow.kind == "message" else "") + arrow.label
         left, right = (at + box, to) if to > at else (to + 1, at)
         room = right - left

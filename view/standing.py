@@ -1,5 +1,5 @@
 """How each lane stands after an entry, and which ready lane has the greatest priority."""
-from state import Kind, Stage, Standing, State, Thread
+from state import Kind, Stage, Standing, State, Thread, Wait
 
 # The kinds in which a thread is ready for certain.
 READY = (Kind.READY, Kind.WANTS, Kind.DOOMED)
@@ -18,24 +18,26 @@ def standing(state: State, thread: Thread, shared: bool) -> Standing:
     if thread.stopped():
         return Standing(Kind.SUSPENDED, thread.wait.label() if thread.wait else "")
     if thread.wants is not None:
-        return Standing(Kind.WANTS, want_words(state, thread))
+        return Standing(Kind.WANTS, want_words(state, thread.wants))
     if thread.wait:
-        return wait_standing(state, thread)
+        return wait_standing(state, thread, thread.wait)
     if thread.lane.serves and not thread.calls and not thread.owed:
         return Standing(Kind.IDLE)
     return Standing(Kind.READY)
 
 
-def want_words(state: State, thread: Thread) -> str:
-    holder = state.fast.get(thread.wants)
-    return f"f{thread.wants}" + (f": {holder.name} acts for it" if holder else "")
+def want_words(state: State, number: int) -> str:
+    """Which fast mutex a thread wants, and who acts for it."""
+    holder = state.fast.get(number)
+    return f"f{number}" + (f": {holder.name} acts for it" if holder else "")
 
 
-def wait_standing(state: State, thread: Thread) -> Standing:
-    waiters = state.waiters.get(thread.wait.thing)
-    if thread.wait.word == "wait" and waiters and waiters.may_be_served(thread):
-        return Standing(Kind.UNKNOWN, f"{thread.wait.thing.name}, or was served")
-    return Standing(Kind.WAITS, thread.wait.label())
+def wait_standing(state: State, thread: Thread, wait: Wait) -> Standing:
+    """A thread that waits, or that was served: of several waiters of a semaphore a history doesn't tell."""
+    waiters = state.waiters.get(wait.thing) if wait.thing else None
+    if wait.thing and waiters and waiters.may_be_served(thread):
+        return Standing(Kind.UNKNOWN, f"{wait.thing.name}, or was served")
+    return Standing(Kind.WAITS, wait.label())
 
 
 class Ready:

@@ -168,7 +168,7 @@ def pending(reader: Reader, row: Row, actor: Thread) -> None:
 def receive(reader: Reader, row: Row, actor: Thread) -> None:
     if row.entry.step == "receive.done":
         wait_done(reader, row, actor)
-    message = reader.state.messages.get(row.entry.answer)
+    message = reader.state.messages.get(row.entry.answer or 0)
     if message and message.taken is None:
         message.taken = row.entry.place
         row.about.add(f"m{message.number}")

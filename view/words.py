@@ -2,7 +2,7 @@
 from bisect import bisect_left
 
 import codes
-from history import Effect
+from history import Effect, Entry
 from record import Reading, Row
 from state import Message, Thing
 
@@ -27,7 +27,8 @@ STEPS = {
     "terminate.look": "looks a handle up, to terminate the thread", "terminate.do": "terminates {x}",
     "panic.look": "looks a handle up, to make the thread panic", "panic.do": "makes {x} panic",
     "exittype.look": "looks a handle up, to ask how the thread ended", "exittype.do": "is told how {x} ended",
-    "logon.look": "looks a handle up, to hear of the thread's death", "logon.do": "asks to be told of the death of {x}",
+    "logon.look": "looks a handle up, to hear of the thread's death",
+    "logon.do": "asks to be told of the death of {x}",
     "exit.do": "exits", "flock.do": "takes the fast mutex|finds the fast mutex held, wants it, and stays ready",
     "flock.done": "takes the fast mutex, which is free now", "funlock.do": "gives the fast mutex up",
     "fswait.do": "takes a signal of its fast semaphore|has no signal at its fast semaphore, and waits",
@@ -93,35 +94,37 @@ class Wording:
 
     def fast_of(self, row: Row) -> str:
         """The fast mutex that the actor held in this row."""
-        stripes = self.reading.stripes[row.entry.thread]
+        stripes = self.reading.stripes.get(row.entry.thread or 0, [])
         held = [it.label[1:] for it in stripes if it.kind == "fast" and it.first <= row.entry.place]
         return held[-1] if held else "?"
 
     def actor_words(self, row: Row) -> str:
+        """Who acts, and what it does."""
         entry = row.entry
-        if entry.actor == "tick":
-            return "A time slice ends: the first of the ready threads goes behind its equals, if it holds no fast mutex"
-        if entry.actor == "idle":
-            return "Nobody is ready, so nobody acts"
-        if entry.actor.startswith("irq"):
-            return f"Interrupt {entry.actor[3:]} comes, and queues its calls"
-        if entry.actor == "idfc":
-            return self.call_words(entry.step)
+        if entry.thread is None:
+            return self.outside_words(entry)
         name = self.reading.threads[entry.thread].name
         if entry.step.endswith(".run"):
             return f"Thread {name} runs call {entry.step[:-4]} of its queue"
         return f"Thread {name} {self.step_words(row)}"
 
     @staticmethod
-    def call_words(step: str) -> str:
-        name, _, part = step.rpartition(".")
+    def outside_words(entry: Entry) -> str:
+        """An entry that no thread makes."""
+        if entry.actor == "tick":
+            return "A time slice ends: the first of the ready threads goes behind its equals, if it holds no fast mutex"
+        if entry.actor == "idle":
+            return "Nobody is ready, so nobody acts"
+        if entry.actor.startswith("irq"):
+            return f"Interrupt {entry.actor[3:]} comes, and queues its calls"
+        name, _, part = entry.step.rpartition(".")
         if part == "move":
             return f"Call {name} moves from the immediate queue to its own"
         return f"The immediate call {name} runs, before any thread"
 
     def step_words(self, row: Row) -> str:
         entry = row.entry
-        if row.refused:
+        if row.refused and entry.answer is not None:
             why = codes.reason(entry.step, entry.answer)
             word = entry.step.partition(".")[0]
             return f"is refused `{word}` with {codes.name_of(entry.answer)}" + (f": {why}" if why else "")
