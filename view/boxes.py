@@ -54,7 +54,8 @@ class Boxes:
         end = max(layout.lanes.values(), default=begin) + layout.wide
         actor = shown.first.entry.actor
         text = f"{shown.folded()} × idle" if shown.folded() > 1 else actor
-        return (f'<path class="{actor}" d="M{begin} {MIDDLE}H{end}"/>'
+        sort = "tick" if actor == "tick" else "rest"
+        return (f'<path class="{sort}" d="M{begin} {MIDDLE}H{end}"/>'
                 f'<text class="l" x="{begin + 2}" y="8">{text}</text>')
 
     def box_at(self, row: Row) -> tuple[int, int] | None:

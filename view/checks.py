@@ -42,7 +42,7 @@ def check_thread(reader: Reader, row: Row, actor: Thread) -> None:
     """Checks how a thread stands that acts."""
     if reader.shared and actor.out:
         if not row.entry.is_return():
-            row.wrong.append(f"{actor.name} is out on object {actor.out.number}, and makes another step than its return")
+            row.wrong.append(f"{actor.name} is out on object {actor.out.number}, and doesn't return")
         return
     row.wrong += [f"{actor.name} {why}" for why in hindrances(reader, row, actor)]
     if reader.state.immediate:

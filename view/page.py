@@ -11,7 +11,8 @@ from tracks import EDGE, STRIPE, Tracks
 HEAD = 46
 # How wide and high a picture may be on A4 across, in millimetres, beside the head and a block of rows.
 PAPER_WIDE, PAPER_HIGH = 277, 160
-ASKED = "Up, down, Home and End choose an entry, h hides what comes next, Esc shows all. A click on a name dims the rest."
+ASKED = ("Up, down, Home and End choose an entry, h hides what comes next, Esc shows all. "
+         "A click on a name dims the rest.")
 KEY = [
     ("ready", "ready"), ("wants", "wants a fast mutex"), ("waits", "waits"), ("unknown", "unknown"),
     ("suspended", "suspended"), ("out", "out (found, not opened)"), ("doomed", "doomed"), ("cleaned", "cleaned"),
@@ -44,8 +45,9 @@ def head_shapes(reading: Reading, layout: Layout) -> list[str]:
             found.append(f'<text class="l" x="{x}" y="11">{clip(thread.lane.process or "kernel", signs)}</text>'
                          f'<path class="line" d="M{x - 6} 4v40"/>')
             last = thread.process
+        below = clip(f"t{thread.number}, {thread.lane.priority}", signs)
         found.append(f'<text class="n w" data-k="t{thread.number}" x="{x}" y="26">{clip(thread.name, signs)}</text>'
-                     f'<text class="l" x="{x}" y="40">{clip(f"t{thread.number}, {thread.lane.priority}", signs)}</text>')
+                     f'<text class="l" x="{x}" y="40">{below}</text>')
     titles = [(layout.calls, "interrupts", layout.calls), (layout.objects_at, "objects", layout.objects),
               (layout.messages_at, "messages", layout.messages), (layout.boots_at, "of boot", layout.boots),
               (layout.printed, "printed line, as it is proved", True)]
@@ -124,7 +126,8 @@ class Writer:
         each = 64 / max(len(lanes), 1)
         paths = []
         for place, thread in enumerate(lanes):
-            d = "".join(f"M{3 + place * each:.1f} {it}h{max(each - 1, 0.6):.1f}" for it in sorted(seen.get(thread.number, ())))
+            left, wide = 3 + place * each, max(each - 1, 0.6)
+            d = "".join(f"M{left:.1f} {it}h{wide:.1f}" for it in sorted(seen.get(thread.number, ())))
             paths.append(f'<path class="c2" d="{d}"/>' if d else "")
         return (f'<svg id="over" viewBox="0 0 70 {bins}" preserveAspectRatio="none">'
                 f'<title>Who acts when</title>{"".join(paths)}</svg>\n')

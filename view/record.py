@@ -18,8 +18,8 @@ class Arrow:
 @dataclass
 class Row:
     """One entry, with the line of the script that it comes from (0 where there is none), the object that its call is
-    about, the one that a return was to open, its arrows, in whose place the holder of a fast mutex acts, what it is about (`t3`, `o5`, `m2`), and what
-    disagrees."""
+    about, the one that a return was to open, its arrows, in whose place the holder of a fast mutex acts, what it is
+    about (`t3`, `o5`, `m2`), and what disagrees."""
 
     entry: Entry
     instruction: Instruction | None = None

@@ -21,7 +21,7 @@ text{fill:var(--text)}
 .unknown{fill:var(--waits);stroke:var(--text);stroke-dasharray:1 3}
 .suspended{fill:var(--grey);stroke:var(--faint);stroke-dasharray:5 3}
 .out{fill:var(--out);stroke:var(--blue);stroke-dasharray:2 2}
-.doomed{fill:var(--rose)}.cleaned{fill:var(--pale)}path.idle{fill:var(--ready)}.bar{stroke:var(--text);stroke-width:3}
+.doomed{fill:var(--rose)}.cleaned{fill:var(--pale)}.idle{fill:var(--ready)}.bar{stroke:var(--text);stroke-width:3}
 .s{font-size:9.5px;text-anchor:middle}.l{font-size:9.5px;fill:var(--faint)}.c{font-size:9px;text-anchor:middle}
 .k.fast{fill:var(--green)}.k.mutex{fill:var(--ochre)}.k.critical{fill:var(--text)}.k.noted{fill:var(--plum)}
 .c1,.c2,.c3,.c4,.c5,.c6,.kept,.gone,.queued,.taken{stroke:var(--life);fill:none}
@@ -37,7 +37,7 @@ path.b.death{fill:#8e3b80}path.b.call{fill:#6a4fb3}text.b{fill:#fff;text-anchor:
 .h.message{fill:var(--blue)}.h.signal{fill:var(--ochre)}.h.mutex{fill:var(--green)}.h.call{fill:var(--violet)}
 .h.death{fill:var(--plum)}.h.thread{fill:var(--faint)}
 .t{font-size:9.5px;paint-order:stroke;stroke:var(--back);stroke-width:2.5px}
-.tick{stroke:var(--faint);stroke-dasharray:7 4;fill:none}path.idle[d*=H]{fill:none;stroke:var(--faint);stroke-dasharray:1 4}
+.tick,.rest{stroke:var(--faint);stroke-dasharray:7 4;fill:none}.rest{stroke-dasharray:1 4}
 .p{font:11px ui-monospace,monospace;white-space:pre}.i{font:11px ui-monospace,monospace;fill:var(--faint)}
 .e{fill:var(--faint)}path.wrong{stroke:var(--red);stroke-width:2;fill:none}text.wrong{fill:var(--red)}
 .w{font-weight:600}.line{stroke:var(--rule);fill:none}
@@ -47,7 +47,8 @@ PAGE = """
 html{color-scheme:light dark}
 body{margin:0 0 5.5em;background:var(--back);color:var(--text);font:14px system-ui,sans-serif}
 header,footer{padding:.4em 12px;max-width:72em}h1{font-size:1.2em;margin:.3em 0}header p{margin:.3em 0}
-table{border-collapse:collapse}td,th{padding:0;text-align:left}thead th{position:sticky;top:0;z-index:2;background:var(--back)}
+table{border-collapse:collapse}td,th{padding:0;text-align:left}
+thead th{position:sticky;top:0;z-index:2;background:var(--back)}
 .block{content-visibility:auto}.r>use{fill:transparent;stroke:none;pointer-events:all}.r:hover>use{stroke:var(--rule)}
 .r.on>use{stroke:var(--red);stroke-width:2}.r.dim{opacity:.15}.n{cursor:pointer}.n.on{fill:var(--red);font-weight:700}
 .cover{fill:var(--back)}.hiding #left,.hiding #over,.hiding .found{visibility:hidden}
@@ -55,7 +56,8 @@ table{border-collapse:collapse}td,th{padding:0;text-align:left}thead th{position
 border-top:2px solid var(--rule);margin:0;font:13px system-ui,sans-serif;white-space:pre-wrap}
 #over{position:fixed;right:0;top:0;height:calc(100vh - 5.5em);width:70px;background:var(--back);
 border-left:1px solid var(--rule);cursor:pointer}
-.over{padding-right:78px}.key{font-size:12px}.found{color:var(--red)}pre{font:12px ui-monospace,monospace}.key span{display:inline-block;padding:0 .5em;margin:.1em}
+.over{padding-right:78px}.found{color:var(--red)}pre{font:12px ui-monospace,monospace}
+.key{font-size:12px}.key span{display:inline-block;padding:0 .5em;margin:.1em}
 @media print{@page{size:A4 landscape;margin:9mm}body{margin:0}#panel,#over,.key summary{display:none}
 thead{display:table-header-group}thead th{position:static}tr{break-inside:avoid}.block{content-visibility:visible}
 *{-webkit-print-color-adjust:exact;print-color-adjust:exact}table svg{width:var(--paper);height:auto}
@@ -66,7 +68,8 @@ header,footer{max-width:none;padding:0}header{font-size:11px}h1{font-size:14px}.
 SCRIPT = """
 (() => {
 const rows = [...document.querySelectorAll('.r')], covers = [...document.querySelectorAll('.cover')];
-const panel = document.getElementById('panel'), over = document.getElementById('over'), names = document.querySelectorAll('.n');
+const panel = document.getElementById('panel'), over = document.getElementById('over');
+const names = document.querySelectorAll('.n');
 const asked = panel.textContent, place = it => +it.id.slice(1);
 let at = -1, hides = false, only = '';
 const text = it => it.firstElementChild.textContent.split('\\n\\n');
@@ -77,7 +80,10 @@ const draw = scroll => {
   document.body.classList.toggle('hiding', hides);
   const it = rows[at], parts = it ? text(it) : [];
   panel.textContent = it ? parts[0].split('\\n')[0] + '\\n' + parts[1] : asked;
-  if (it && scroll) it.closest('.block').scrollIntoView({block: 'nearest'}), it.scrollIntoView({block: 'center', inline: 'nearest'});
+  if (it && scroll) {
+    it.closest('.block').scrollIntoView({block: 'nearest'});
+    it.scrollIntoView({block: 'center', inline: 'nearest'});
+  }
   history.replaceState(null, '', it ? '#' + it.id + (hides ? ',h' : '') : location.pathname + location.search);
 };
 const go = k => { at = Math.max(0, Math.min(rows.length - 1, k)); draw(true); };
@@ -93,7 +99,11 @@ const open = () => {
 const keys = {ArrowDown: () => go(at + 1), ArrowUp: () => go(at - 1), Home: () => go(0), End: () => go(rows.length - 1),
   h: () => { hides = !hides; if (at < 0) at = 0; draw(true); },
   Escape: () => { at = -1; hides = false; only = ''; filter(''); draw(); }};
-addEventListener('keydown', it => { if (keys[it.key] && !it.ctrlKey && !it.altKey && !it.metaKey) it.preventDefault(), keys[it.key](); });
+addEventListener('keydown', it => {
+  if (!keys[it.key] || it.ctrlKey || it.altKey || it.metaKey) return;
+  it.preventDefault();
+  keys[it.key]();
+});
 addEventListener('click', it => {
   const name = it.target.closest('.n'), row = it.target.closest('.r');
   if (name) filter(name.dataset.k); else if (row) at = rows.indexOf(row), draw();

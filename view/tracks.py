@@ -20,6 +20,11 @@ def object_label(thing: Thing) -> str:
     return f"{clip(name, 8 - len(str(thing.number)))} {thing.number}"
 
 
+def is_free(left: int, right: int, crossed: list[tuple[int, int]]) -> bool:
+    """Whether nothing covers a part of a row."""
+    return not any(low < right and left < high for low, high in crossed)
+
+
 def name_of_line(key: str, x: int, y: int, text: str) -> str:
     """The name of a line, by which rows can be filtered."""
     return f'<text class="n l" data-k="{key}" x="{x}" y="{y}">{escape(text)}</text>'
@@ -115,7 +120,7 @@ class Tracks:
     def words(self, words: str, left: int, wide: int, first: int, last: int, crossed: list) -> list[str]:
         """For what a lane waits, in the first of its rows that nothing covers."""
         for row in range(first, last):
-            if not any(begin < left + wide and left < end for begin, end in crossed[row]):
+            if is_free(left, left + wide, crossed[row]):
                 text = escape(clip(words, int(wide / 5.2)))
                 return [f'<text class="s" x="{left + wide // 2}" y="{middle(row) + 3}">{text}</text>']
         return []
@@ -132,7 +137,7 @@ class Tracks:
         title = {"critical": "in a critical section", "noted": "an exit is noted"}.get(stripe.kind, stripe.label)
         found = [f'<path class="k {stripe.kind}" d="M{x} {first * ROW}h{thick}v{(last - first) * ROW}h-{thick}z">'
                  f'<title>{escape(title)}</title></path>']
-        free = [row for row in range(first, last) if not any(low < left + 40 and left < high for low, high in crossed[row])]
+        free = [row for row in range(first, last) if is_free(left, left + 40, crossed[row])]
         text = escape(clip(stripe.label.split(" ")[0], 7))
         if text and free:
             found.append(f'<text class="l" x="{left + 1}" y="{free[0] * ROW + 19}">{text}</text>')
@@ -169,12 +174,16 @@ class Tracks:
         return len(self.layout.shown) if place is None else self.layout.row_of(place)
 
     def piece(self, x: int, row: int, last: int, count: int, dead: bool, begin: int, end: int) -> list[str]:
-        top = max(middle(row - begin) if row >= 0 else 0, 0)
-        bottom = min(middle(last - begin) if last < len(self.layout.shown) else (end - begin) * ROW, (end - begin) * ROW)
-        if bottom <= top or row >= end:
-            return []
+        """A piece of a lifeline, as wide as its count."""
         sort = "gone" if dead else "kept" if count == 0 else f"c{min(count, 6)}"
-        return [f'<path class="{sort}" d="M{x} {top}V{bottom}"/>']
+        return self.stretch(x, row, last, sort, begin, end)
+
+    def stretch(self, x: int, row: int, last: int, sort: str, begin: int, end: int) -> list[str]:
+        """A line down from the middle of a row to that of another, as far as the block shows it."""
+        high = (end - begin) * ROW
+        top = max(middle(row - begin) if row >= 0 else 0, 0)
+        bottom = min(middle(last - begin) if last < len(self.layout.shown) else high, high)
+        return [f'<path class="{sort}" d="M{x} {top}V{bottom}"/>'] if bottom > top and row < end else []
 
     @staticmethod
     def mark(thing: Thing, x: int, y: int, count: int, died: bool, named: bool) -> list[str]:
@@ -182,7 +191,8 @@ class Tracks:
         if died:
             found.append(f'<path class="x" d="M{x - 5} {y - 5}l10 10m0-10l-10 10"/>')
         else:
-            found.append(f'<circle class="o" cx="{x}" cy="{y}" r="7"/><text class="c" x="{x}" y="{y + 3}">{count}</text>')
+            found.append(f'<circle class="o" cx="{x}" cy="{y}" r="7"/>'
+                         f'<text class="c" x="{x}" y="{y + 3}">{count}</text>')
         if named:
             found.append(name_of_line(f"o{thing.number}", x + 9, y - 3, object_label(thing)))
         return found
@@ -204,10 +214,6 @@ class Tracks:
             found.append(f'<path class="m" d="M{x - 4} {middle(taken - begin) - 4}h8v8h-8z"/>')
         if message.finished and begin <= last < end:
             y = middle(last - begin)
-            found.append(f'<path class="m" d="M{x - 5} {y}h10"/><text class="l" x="{x + 6}" y="{y + 8}">{message.code}</text>')
+            found.append(f'<path class="m" d="M{x - 5} {y}h10"/>'
+                         f'<text class="l" x="{x + 6}" y="{y + 8}">{message.code}</text>')
         return found
-
-    def stretch(self, x: int, row: int, last: int, sort: str, begin: int, end: int) -> list[str]:
-        top = max(middle(row - begin) if row >= 0 else 0, 0)
-        bottom = min(middle(last - begin) if last < len(self.layout.shown) else (end - begin) * ROW, (end - begin) * ROW)
-        return [f'<path class="{sort}" d="M{x} {top}V{bottom}"/>'] if bottom > top and row < end else []
