@@ -75,7 +75,7 @@ class Boxes:
         found = [self.arrow(left, wide, it) for it in far]
         sort = "bad" if row.refused else row.box
         step = row.entry.actor if row.entry.actor.startswith("irq") else row.entry.step
-        text = escape(clip(step, int((wide - 4) / 5.9)))
+        text = escape(clip(step, int(wide / 5.9)))
         found.append(f'<path class="b {sort}" d="M{left} 3h{wide}v16h-{wide}z"/>'
                      f'<text class="b" x="{left + wide // 2}" y="15">{text}</text>')
         return found
@@ -100,7 +100,7 @@ class Boxes:
         if arrow.kind == "message":
             return line + number_label(end + 8 * way, way, arrow.label)
         anchor = "" if way == 1 else ' text-anchor="end"'
-        text = escape(clip(arrow.label, int((self.inner - 10) / 5.2)))
+        text = escape(clip(arrow.label, max(int((self.inner - 10) / 5.2), 9)))
         return line + f'<text class="t {arrow.kind}" x="{end + 8 * way}" y="15"{anchor}>{text}</text>'
 
     def covered(self, row: Row) -> list[tuple[int, int]]:

@@ -200,7 +200,7 @@ class Lanes:
         return found + self.foot()
 
     def foot(self) -> list[str]:
-        found = ["", *textwrap.wrap(KEY, self.width, break_on_hyphens=False)]
+        found = ["", KEY]
         shown = {it.number for it in self.columns.threads}
         rest = [it.name for it in self.reading.acting() if it.number not in shown]
         if rest:
@@ -208,7 +208,8 @@ class Lanes:
         quiet = [it.name for it in self.reading.quiet()]
         if quiet:
             found.append("Never act or change: " + ", ".join(quiet))
-        return found + [f"!! line {line}: {why}" for line, why in self.reading.wrong_at_end]
+        found += [f"!! line {line}: {why}" for line, why in self.reading.wrong_at_end]
+        return [line for it in found for line in textwrap.wrap(it, self.width, break_on_hyphens=False) or [""]]
 
 
 def notes_of(row: Row) -> str:

@@ -7,5 +7,7 @@ def escape(text: str) -> str:
 
 
 def clip(text: str, most: int) -> str:
-    """A text cut to so many signs, with a dot where it was cut."""
-    return text if len(text) <= most else text[:max(most - 1, 1)] + "."
+    """A text cut to so many signs, with a dot where it was cut and there is room for one."""
+    if len(text) <= most:
+        return text
+    return text[:most - 1] + "." if most > 6 else text[:max(most, 1)]
