@@ -45,7 +45,7 @@ def head_shapes(reading: Reading, layout: Layout) -> list[str]:
             found.append(f'<text class="l" x="{x}" y="11">{clip(thread.lane.process or "kernel", signs)}</text>'
                          f'<path class="line" d="M{x - 6} 4v40"/>')
             last = thread.process
-        below = clip(f"t{thread.number}, {thread.lane.priority}", signs)
+        below = f"t{thread.number}, {thread.lane.priority}"
         found.append(f'<text class="n w" data-k="t{thread.number}" x="{x}" y="26">{clip(thread.name, signs)}</text>'
                      f'<text class="l" x="{x}" y="40">{below}</text>')
     titles = [(layout.calls, "interrupts", layout.calls), (layout.objects_at, "objects", layout.objects),
