@@ -11,6 +11,8 @@ from tracks import EDGE, STRIPE, Tracks
 HEAD = 46
 # How wide and high a picture may be on A4 across, in millimetres, beside the head and a block of rows.
 PAPER_WIDE, PAPER_HIGH = 277, 160
+# A unit of a screen in millimetres.
+UNIT = 25.4 / 96
 ASKED = ("Up, down, Home and End choose an entry, h hides what comes next, Esc shows all. "
          "A click on a name dims the rest.")
 KEY = [
@@ -30,9 +32,10 @@ STRIPES = [
 
 
 def width_on_paper(layout: Layout) -> str:
-    """How wide the pictures are on paper: a page takes the head and a whole block."""
+    """How wide the pictures are on paper: a page takes the head and a whole block, and nothing is larger than on
+    a screen."""
     rows = min(BLOCK, len(layout.shown))
-    return f"{min(PAPER_WIDE, PAPER_HIGH * layout.width / (HEAD + rows * ROW)):.1f}mm"
+    return f"{min(PAPER_WIDE, PAPER_HIGH * layout.width / (HEAD + rows * ROW), layout.width * UNIT):.1f}mm"
 
 
 def head_shapes(reading: Reading, layout: Layout) -> list[str]:
@@ -60,8 +63,9 @@ def head_shapes(reading: Reading, layout: Layout) -> list[str]:
 
 def rulers(layout: Layout, high: int) -> str:
     """Thin lines between the columns."""
-    at = [layout.objects_at, layout.messages_at, layout.boots_at, layout.printed]
-    return "".join(f'<path class="line" d="M{x - 5} 0V{high}"/>' for x in sorted(set(at)))
+    at = [layout.objects_at] * bool(layout.objects) + [layout.messages_at] * bool(layout.messages)
+    at += [layout.boots_at] * bool(layout.boots) + [layout.printed]
+    return "".join(f'<path class="line" d="M{x - 5} 0V{high}"/>' for x in at)
 
 
 class Writer:

@@ -46,7 +46,7 @@ path.b.death{fill:#8e3b80}path.b.call{fill:#6a4fb3}text.b{fill:#fff;text-anchor:
 PAGE = """
 html{color-scheme:light dark}
 body{margin:0 0 5.5em;background:var(--back);color:var(--text);font:14px system-ui,sans-serif}
-header,footer{padding:.4em 12px;max-width:72em}h1{font-size:1.2em;margin:.3em 0}header p{margin:.3em 0}
+header,footer{padding:.4em 12px}h1{font-size:1.2em;margin:.3em 0}header p{margin:.3em 0;max-width:72em}
 table{border-collapse:collapse}td,th{padding:0;text-align:left}
 thead th{position:sticky;top:0;z-index:2;background:var(--back)}
 .block{content-visibility:auto}.r>use{fill:transparent;stroke:none;pointer-events:all}.r:hover>use{stroke:var(--rule)}
@@ -62,7 +62,8 @@ border-left:1px solid var(--rule);cursor:pointer}
 thead{display:table-header-group}thead th{position:static}tr{break-inside:avoid}.block{content-visibility:visible}
 *{-webkit-print-color-adjust:exact;print-color-adjust:exact}table svg{width:var(--paper);height:auto}
 .block{width:auto!important;height:auto!important;contain-intrinsic-size:none!important}
-header,footer{max-width:none;padding:0}header{font-size:11px}h1{font-size:14px}.key{font-size:10px}.over{padding:0}}
+header,footer{padding:0}header{font-size:11px}header p{max-width:none}h1{font-size:14px}.key{font-size:10px}
+.over{padding:0}}
 """
 
 SCRIPT = """
