@@ -2,6 +2,8 @@
 
 The reader goes forward. This goes backward from the end, by rules of its own, and asks after each entry whether what
 the reader knows there can be followed by what follows."""
+from __future__ import annotations
+
 from dataclasses import dataclass, field, replace
 
 from history import Entry, History

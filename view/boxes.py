@@ -1,4 +1,6 @@
 """The entries of a block: box, arrows, texts and the title of each row."""
+from __future__ import annotations
+
 from layout import BLOCK, ROW, Layout, Shown
 from record import Arrow, Reading, Row
 from svg import clip, escape

@@ -8,7 +8,7 @@ from record import Row
 from script import Misfit, Script
 from standing import standing
 from state import Kind, Stage, Thing, Thread, boot
-from steps import is_of_instruction
+from steps import call_of, is_of_instruction
 
 if TYPE_CHECKING:
     from reading import Reader
@@ -67,11 +67,15 @@ def hindrances(reader: Reader, row: Row, actor: Thread) -> list[str]:
         return [f"wants f{actor.wants}"]
     if now.kind is Kind.DOOMED and is_of_instruction(row.entry.step) and not row.entry.is_return():
         return ["is doomed, and makes a step of an instruction"]
-    if row.entry.step == "bury" or row.entry.step.endswith(".run"):
-        name = row.entry.step.removesuffix(".run")
-        if not any(it == name or name == "bury" and it.startswith("burial") for it in actor.calls):
-            return ["has no such call"]
+    call = call_of(row.entry.step)
+    if call and call not in actor.calls or row.entry.step == "bury" and not has_burial(actor):
+        return ["has no such call"]
     return []
+
+
+def has_burial(actor: Thread) -> bool:
+    """Whether a burial is queued."""
+    return any(it.startswith("burial") for it in actor.calls)
 
 
 def effective_priority(reader: Reader, actor: Thread) -> int:

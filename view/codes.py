@@ -1,4 +1,5 @@
 """Error codes by their Symbian names, and why a step answers one."""
+from __future__ import annotations
 
 NAMES = {
     -1: "KErrNotFound", -2: "KErrGeneral", -3: "KErrCancel", -6: "KErrArgument", -8: "KErrBadHandle",

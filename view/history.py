@@ -1,4 +1,6 @@
 """The printed history as entries, effects and the objects that are left, and how it fits the script's schedule."""
+from __future__ import annotations
+
 import re
 from dataclasses import dataclass
 

@@ -1,4 +1,6 @@
 """Lanes of text: a column a thread, a line an entry, fitted to a width."""
+from __future__ import annotations
+
 import textwrap
 from dataclasses import dataclass, field
 

@@ -1,4 +1,6 @@
 """Where the columns of a page stand: lanes, objects, messages, boot objects, the printed line and the instruction."""
+from __future__ import annotations
+
 from dataclasses import dataclass, field
 
 from record import Reading, Row

@@ -1,4 +1,6 @@
 """The page: one HTML file that needs nothing from outside, and a small picture of some rows."""
+from __future__ import annotations
+
 import html
 
 import style

@@ -2,6 +2,8 @@
 
 It reads and never decides: no choice of who acts, no tables of handles, no answers. What a history doesn't tell is
 unknown."""
+from __future__ import annotations
+
 import checks
 from calls import run_calls
 from effects import read_effects

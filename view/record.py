@@ -1,4 +1,6 @@
 """What the pictures are drawn from: a row for each entry, and what lasts between entries."""
+from __future__ import annotations
+
 from dataclasses import dataclass, field
 
 from history import Entry, History

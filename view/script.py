@@ -1,6 +1,8 @@
 """The script's text as the picture needs it: who is declared, which instructions each thread has, and the slots.
 
 Only scripts that `eka2` accepted come here, so no form of a line is judged."""
+from __future__ import annotations
+
 from dataclasses import dataclass, field
 
 

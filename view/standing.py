@@ -1,4 +1,6 @@
 """How each lane stands after an entry, and which ready lane has the greatest priority."""
+from __future__ import annotations
+
 from state import Kind, Stage, Standing, State, Thread, Wait
 
 # The kinds in which a thread is ready for certain.

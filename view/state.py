@@ -1,4 +1,6 @@
 """What the reader knows at a moment: threads, objects, messages, and the queues of calls."""
+from __future__ import annotations
+
 from dataclasses import dataclass, field
 from enum import Enum
 

@@ -32,8 +32,14 @@ def is_of_instruction(step: str) -> bool:
     return step not in OWED and step not in DEATHS and not step.endswith(".run")
 
 
+def call_of(step: str) -> str:
+    """The name of the call that a step runs, and nothing where it is another step."""
+    return step[:-len(".run")] if step.endswith(".run") else ""
+
+
 def is_known(step: str, script: Script) -> bool:
-    return step in KNOWN or step in OWED or step in DEATHS or step.removesuffix(".run") in script.dfcs
+    """Whether the reader knows what a step does."""
+    return step in KNOWN or step in OWED or step in DEATHS or call_of(step) in script.dfcs
 
 
 def read_step(reader: Reader, row: Row, actor: Thread) -> None:

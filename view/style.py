@@ -1,5 +1,6 @@
 """The page's style sheet and its script. All shapes and words come from the generator: the script only selects,
 hides, filters and scrolls."""
+from __future__ import annotations
 
 LIGHT = {
     "back": "#ffffff", "text": "#1c1c1c", "faint": "#6b6b6b", "rule": "#d9d9d9",

@@ -1,4 +1,5 @@
 """Small helpers of the SVG writers."""
+from __future__ import annotations
 
 
 def escape(text: str) -> str:

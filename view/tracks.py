@@ -1,4 +1,6 @@
 """What lasts between rows, drawn for one block: lanes, stripes, lifelines of objects, and messages."""
+from __future__ import annotations
+
 from bisect import bisect_right
 
 from layout import BLOCK, ROW, Layout

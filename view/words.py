@@ -1,10 +1,13 @@
 """A sentence for each entry, in the words of docs/kernel.md and docs/servers.md."""
+from __future__ import annotations
+
 from bisect import bisect_left
 
 import codes
 from history import Effect, Entry
 from record import Reading, Row
 from state import Message, Thing
+from steps import call_of
 
 # What a step does. `{x}` is what the call is about; behind `|` stands what it does where it has no answer.
 STEPS = {
@@ -105,8 +108,8 @@ class Wording:
         if entry.thread is None:
             return self.outside_words(entry)
         name = self.reading.threads[entry.thread].name
-        if entry.step.endswith(".run"):
-            return f"Thread {name} runs call {entry.step[:-4]} of its queue"
+        if call_of(entry.step):
+            return f"Thread {name} runs call {call_of(entry.step)} of its queue"
         return f"Thread {name} {self.step_words(row)}"
 
     @staticmethod
