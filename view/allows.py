@@ -5,6 +5,7 @@ the reader knows there can be followed by what follows."""
 from __future__ import annotations
 
 from dataclasses import dataclass, field, replace
+from typing import Iterator
 
 from history import Entry, History
 from reading import Reader
@@ -37,13 +38,14 @@ class Ahead:
     swept: dict[int, int] = field(default_factory=dict)
 
     def copy(self) -> "Ahead":
+        """The same, to be kept while this one is changed."""
         return replace(self, **{name: dict(value) for name, value in vars(self).items()})
 
 
 class Backward:
     """Goes over a history from its end, and keeps what lies ahead of each place."""
 
-    def __init__(self, script: Script, history: History, words: dict[int, tuple[str, ...]]):
+    def __init__(self, script: Script, history: History, words: dict[int, tuple[str, ...]]) -> None:
         self.words = words
         self.about = abouts(history)
         self.left = {it.number: it for it in history.left}
@@ -98,6 +100,7 @@ class Backward:
             self.ahead.pending[actor, status] = entry.answer == -14
 
     def undo_effect(self, entry: Entry, effect) -> None:
+        """Goes back over one effect."""
         ahead, number = self.ahead, effect.number
         if effect.kind in "+-":
             ahead.counts[number] = ahead.counts.get(number, 0) + (1 if effect.kind == "-" else -1)
@@ -152,7 +155,7 @@ def instructions(script: Script, history: History) -> dict[int, tuple[str, ...]]
     return found
 
 
-def contradictions(script: Script, history: History):
+def contradictions(script: Script, history: History) -> Iterator[str]:
     """Each place at which the reader's state and what follows don't fit."""
     reader = Reader(script, history)
     backward = Backward(script, history, instructions(script, history))
@@ -171,7 +174,7 @@ def contradictions(script: Script, history: History):
             yield f"after entry {entry.place}: {why}"
 
 
-def thread_wrong(reader: Reader, thread: Thread, ahead: Ahead, place: int, follows: Entry | None):
+def thread_wrong(reader: Reader, thread: Thread, ahead: Ahead, place: int, follows: Entry | None) -> Iterator[str]:
     """What doesn't fit of one thread."""
     number, now = thread.number, reader.now[thread.number].kind
     comes, doom = ahead.next.get(number), ahead.doom.get(number)
@@ -191,7 +194,7 @@ def thread_wrong(reader: Reader, thread: Thread, ahead: Ahead, place: int, follo
             yield f"has s{status} {'not ' * told}pending, and what follows tells else"
 
 
-def step_wrong(thread: Thread, now: Kind, step: str):
+def step_wrong(thread: Thread, now: Kind, step: str) -> Iterator[str]:
     """What doesn't fit the next step of a thread that isn't doomed before."""
     if now is Kind.WAITS and thread.wait and step != f"{thread.wait.word}.done":
         yield f"waits, and goes on with {step}"
@@ -201,21 +204,23 @@ def step_wrong(thread: Thread, now: Kind, step: str):
         yield "takes a fast mutex next, and wants none"
 
 
-def stage_wrong(thread: Thread, ahead: Ahead, doom: int | None):
+def stage_wrong(thread: Thread, ahead: Ahead, doom: int | None) -> Iterator[str]:
+    """How far a thread is in its death, against its doom and its clean ahead."""
     if (thread.stage is Stage.LIVE) != (doom is not None or thread.exit is None):
         yield f"is {thread.stage.value}, and its doom lies elsewhere"
     if thread.stage in (Stage.CLEANED, Stage.BURIED) and thread.number in ahead.clean:
         yield "is cleaned, and is cleaned again"
 
 
-def counts_wrong(thread: Thread, ahead: Ahead):
+def counts_wrong(thread: Thread, ahead: Ahead) -> Iterator[str]:
+    """The suspensions and critical sections of a thread, against those that later steps need."""
     for what, has in (("suspended", thread.suspended), ("critical", thread.critical)):
         key = (what, thread.number)
         if has < ahead.least.get(key, 0) or ahead.exact.get(key, has) != has:
             yield f"has the count {has} of {what}, and what follows needs {ahead.least.get(key, 0)}"
 
 
-def objects_wrong(reader: Reader, backward: Backward, ahead: Ahead):
+def objects_wrong(reader: Reader, backward: Backward, ahead: Ahead) -> Iterator[str]:
     """What doesn't fit of objects, mutexes and messages."""
     state = reader.state
     for number in set(ahead.counts) | set(state.things):
@@ -234,7 +239,7 @@ def objects_wrong(reader: Reader, backward: Backward, ahead: Ahead):
             yield f"message {number} is taken, and is taken again"
 
 
-def queues_wrong(reader: Reader, follows: Entry | None):
+def queues_wrong(reader: Reader, follows: Entry | None) -> Iterator[str]:
     """What doesn't fit of the queues of calls and of priorities, by the entry that follows."""
     if not follows:
         return
@@ -251,7 +256,7 @@ def queues_wrong(reader: Reader, follows: Entry | None):
         yield from priorities_wrong(reader, state.threads[follows.thread])
 
 
-def priorities_wrong(reader: Reader, actor: Thread):
+def priorities_wrong(reader: Reader, actor: Thread) -> Iterator[str]:
     """Who acts next has the greatest priority of those that are ready, or holds what such a thread wants."""
     for thread in reader.state.threads.values():
         if reader.now[thread.number].kind in READY and thread.priority > actor.priority and not actor.unknown:

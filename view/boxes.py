@@ -13,12 +13,13 @@ MIDDLE = ROW // 2
 class Boxes:
     """Draws rows. Each is a group that is moved down, so that all rows have the same coordinates."""
 
-    def __init__(self, reading: Reading, layout: Layout, small: bool = False):
+    def __init__(self, reading: Reading, layout: Layout, small: bool = False) -> None:
         self.reading, self.layout, self.small = reading, layout, small
         self.wording = Wording(reading)
         self.inner = layout.wide - STRIPE - EDGE
 
     def block(self, block: int) -> list[str]:
+        """The rows of a block."""
         shown = self.layout.shown[block * BLOCK:(block + 1) * BLOCK]
         return [self.row(it, at) for at, it in enumerate(shown)]
 

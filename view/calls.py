@@ -27,6 +27,7 @@ def run_calls(reader: Reader, row: Row, actor: Thread | None) -> None:
 
 
 def interrupt(reader: Reader, row: Row, number: int) -> None:
+    """The body of an interrupt queues its calls in the immediate queue, if they don't stand there already."""
     body = reader.script.irqs.get(number)
     if not body:
         raise Misfit("history", row.entry.place, f"the script has no body of irq {number}")
@@ -72,6 +73,7 @@ def serve(reader: Reader, row: Row, actor: Thread, name: str, part: str) -> None
 
 
 def run_body(reader: Reader, row: Row, body: Body) -> None:
+    """What the operations of a body tell: a device's completion is told by its effect."""
     for operation in body.operations:
         if operation[0] == "fssignal":
             signal_fast(reader, row, operation[1])
@@ -85,6 +87,7 @@ def is_queued(reader: Reader, name: str) -> bool:
 
 
 def queue_thread(reader: Reader, name: str) -> Thread:
+    """The thread of the queue of a deferred function call."""
     return reader.state.names[reader.script.dfcs[name].queue]
 
 
@@ -95,6 +98,7 @@ def join(reader: Reader, row: Row, name: str) -> None:
 
 
 def join_queue(reader: Reader, row: Row, name: str) -> None:
+    """A call stands in its own queue from now on."""
     thread = queue_thread(reader, name)
     thread.calls.append(name)
     reader.touch(thread)

@@ -27,6 +27,7 @@ def check_actor(reader: Reader, row: Row, actor: Thread | None) -> None:
 
 
 def check_idle(reader: Reader, row: Row) -> None:
+    """Checks that nobody could act."""
     if reader.state.immediate:
         row.wrong.append("nobody acts, and the immediate queue has an item")
     if reader.ready.greatest() >= 0:
@@ -34,6 +35,7 @@ def check_idle(reader: Reader, row: Row) -> None:
 
 
 def ready_names(reader: Reader) -> str:
+    """The ready threads of the greatest priority."""
     names = [reader.state.threads[it].name for it in sorted(reader.ready.at[reader.ready.greatest()])]
     return " and ".join(names)
 

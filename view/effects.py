@@ -39,6 +39,7 @@ def made_by(row: Row) -> tuple[str, str] | None:
 
 
 def plus(reader: Reader, row: Row, actor: Thread | None, effect: Effect) -> None:
+    """A holder gets a reference. The first one of an object makes it."""
     made = made_by(row)
     if effect.number not in reader.state.things and made:
         reader.state.make(effect.number, *made, row.entry.place)
@@ -69,6 +70,7 @@ def plus_of_holder(reader: Reader, row: Row, effect: Effect, thing: Thing) -> No
 
 
 def own(reader: Reader, thread: Thread, thing: Thing) -> None:
+    """A thread owns a mutex or a server."""
     thing.owner = thread
     if thing.kind == "mutex":
         thread.mutexes.append(thing)
@@ -90,6 +92,7 @@ def message_reference(reader: Reader, row: Row, message: Message | None, thing: 
 
 
 def minus(reader: Reader, row: Row, actor: Thread | None, effect: Effect) -> None:
+    """A holder gives its reference up."""
     thing = thing_of(reader, row, effect.number)
     if effect.holder not in thing.refs:
         row.wrong.append(f"{effect.holder} doesn't hold object {thing.number}")
@@ -98,6 +101,7 @@ def minus(reader: Reader, row: Row, actor: Thread | None, effect: Effect) -> Non
 
 
 def dead(reader: Reader, row: Row, actor: Thread | None, effect: Effect) -> None:
+    """An object dies; the thread of a queue owes its link and its sweep."""
     thing = thing_of(reader, row, effect.number)
     if thing.refs:
         row.wrong.append(f"object {thing.number} dies, and its count is {len(thing.refs)}")
@@ -107,6 +111,7 @@ def dead(reader: Reader, row: Row, actor: Thread | None, effect: Effect) -> None
 
 
 def swept(reader: Reader, row: Row, actor: Thread | None, effect: Effect) -> None:
+    """The row of an object goes, so its number names nothing now."""
     thing = thing_of(reader, row, effect.number)
     if thing.died is None:
         row.wrong.append(f"object {thing.number} is swept, and isn't dead")
@@ -115,12 +120,14 @@ def swept(reader: Reader, row: Row, actor: Thread | None, effect: Effect) -> Non
 
 
 def seek(reader: Reader, row: Row, actor: Thread | None, effect: Effect) -> None:
+    """A thread has found an object, and is out on it until its return."""
     thing = thing_of(reader, row, effect.number)
     if actor:
         actor.out = thing
 
 
 def missed(reader: Reader, row: Row, actor: Thread | None, effect: Effect) -> None:
+    """A return doesn't open what its seek found."""
     row.about.add(f"o{effect.number}")
     if actor and actor.out and actor.out.died is None:
         row.wrong.append(f"object {effect.number} is missed, and isn't dead")
@@ -144,6 +151,7 @@ def take(reader: Reader, row: Row, actor: Thread | None, effect: Effect) -> None
 
 
 def give(reader: Reader, row: Row, actor: Thread | None, effect: Effect) -> None:
+    """A thread gives a mutex or a fast mutex up."""
     thread = reader.state.threads[effect.number]
     reader.touch(thread)
     if effect.holder == "f":
@@ -162,6 +170,7 @@ def give(reader: Reader, row: Row, actor: Thread | None, effect: Effect) -> None
 
 
 def touch_wanting(reader: Reader, number: int) -> None:
+    """Of those that want a fast mutex it changes who acts for them."""
     for thread in reader.state.threads.values():
         if thread.wants == number:
             reader.touch(thread)
@@ -191,6 +200,7 @@ def ends_wait(wait: Wait, pending: set[int], status: str) -> bool:
 
 
 def accept(reader: Reader, row: Row, actor: Thread | None, effect: Effect) -> None:
+    """A message is accepted; its instruction tells what it is and how its end is told."""
     words = row.instruction.words if row.instruction else ()
     what, status = "close", ""
     if row.entry.step == "connect.send":
@@ -206,6 +216,7 @@ def accept(reader: Reader, row: Row, actor: Thread | None, effect: Effect) -> No
 
 
 def finish(reader: Reader, row: Row, actor: Thread | None, effect: Effect) -> None:
+    """A message is finished."""
     row.about.add(f"m{effect.number}")
     message = reader.state.messages.pop(effect.number, None)
     if not message:
@@ -215,6 +226,7 @@ def finish(reader: Reader, row: Row, actor: Thread | None, effect: Effect) -> No
 
 
 def ended(reader: Reader, row: Row, actor: Thread | None, effect: Effect) -> None:
+    """A server has ended."""
     thing_of(reader, row, effect.number)
 
 
@@ -237,6 +249,7 @@ def doom(reader: Reader, row: Row, actor: Thread | None, effect: Effect) -> None
 
 
 def bury(reader: Reader, row: Row, actor: Thread | None, effect: Effect) -> None:
+    """The death of a thread is finished."""
     thread = reader.state.threads[effect.number]
     reader.touch(thread)
     row.about.add(f"t{thread.number}")

@@ -40,9 +40,11 @@ class Entry:
     thread: int | None
 
     def has(self, kind: str) -> bool:
+        """Whether it has an effect of a kind."""
         return any(it.kind == kind for it in self.effects)
 
     def is_return(self) -> bool:
+        """Whether it is the opening behind a find."""
         return self.step in ("open.return", "connect.return")
 
 
@@ -99,6 +101,7 @@ def read_entry(line: str, place: int) -> Entry:
 
 
 def read_left(line: str, number: int) -> Left:
+    """The object of a line."""
     words = line.split(" ")
     if len(words) < 4 or not words[0].isdigit() or not words[3].isdigit():
         raise Misfit("history", number, "it is no line of an object that is left")

@@ -55,7 +55,7 @@ def columns_of(reading: Reading, width: int, names: list[str]) -> Columns:
 class Cursor:
     """The span that a row belongs to, of a thread's list; rows are asked for in their order."""
 
-    def __init__(self, spans: list[Span]):
+    def __init__(self, spans: list[Span]) -> None:
         self.spans, self.place = spans, 0
 
     def at(self, row: int) -> tuple[Standing, bool]:
@@ -76,22 +76,24 @@ def short(words: str) -> str:
 class Line:
     """A line of text that is written at places."""
 
-    def __init__(self, width: int):
+    def __init__(self, width: int) -> None:
         self.cells = [" "] * width
 
     def put(self, at: int, text: str) -> None:
+        """Writes a text from a place on, as far as the line goes."""
         for place, sign in enumerate(text, at):
             if 0 <= place < len(self.cells):
                 self.cells[place] = sign
 
     def text(self) -> str:
+        """The line, without spaces at its end."""
         return "".join(self.cells).rstrip()
 
 
 class Lanes:
     """Writes a reading as lanes of text."""
 
-    def __init__(self, reading: Reading, width: int, names: list[str], colour: bool = False):
+    def __init__(self, reading: Reading, width: int, names: list[str], colour: bool = False) -> None:
         self.reading, self.width, self.colour = reading, width, colour
         self.columns = columns_of(reading, width, names)
         self.cursors = {it.number: Cursor(reading.spans[it.number]) for it in self.columns.threads}
@@ -137,6 +139,7 @@ class Lanes:
                 line.put(self.columns.at[thread.number], SIGNS[now.kind])
 
     def put_words(self, line: Line) -> None:
+        """What states are for, in lines in which nothing covers it."""
         room = self.columns.wide - 2
         for number, words in list(self.words.items()):
             at = self.columns.at[number] + 1
@@ -202,6 +205,7 @@ class Lanes:
         return found + self.foot()
 
     def foot(self) -> list[str]:
+        """What stands below: the signs, who has no column, and what disagrees at the end."""
         found = ["", KEY]
         shown = {it.number for it in self.columns.threads}
         rest = [it.name for it in self.reading.acting() if it.number not in shown]

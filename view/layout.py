@@ -23,6 +23,7 @@ class Shown:
     last: Row
 
     def folded(self) -> int:
+        """How many entries the row stands for."""
         return self.last.entry.place - self.first.entry.place + 1
 
 
@@ -91,7 +92,7 @@ def most_telling(columns: list, changes, most: int = MOST_COLUMNS) -> list:
 class Planner:
     """Places the columns of a reading from left to right."""
 
-    def __init__(self, reading: Reading, first: int, last: int, small: bool):
+    def __init__(self, reading: Reading, first: int, last: int, small: bool) -> None:
         self.reading, self.first, self.last, self.small = reading, first, last, small
         shown = fold(reading.rows[first - 1:last])
         row_at = {place: at for at, it in enumerate(shown)
@@ -100,6 +101,7 @@ class Planner:
         self.at = 12 + 8 * len(str(last))
 
     def plan(self) -> Layout:
+        """Places all columns."""
         self.place_lanes()
         self.place_objects()
         self.place_messages()
@@ -108,9 +110,11 @@ class Planner:
         return self.layout
 
     def rows(self) -> list[Row]:
+        """The rows of the range."""
         return self.reading.rows[self.first - 1:self.last]
 
     def place_lanes(self) -> None:
+        """The column of interrupts, and the lanes of threads that act or change."""
         layout = self.layout
         if any(it.entry.actor == "idfc" or it.entry.actor.startswith("irq") for it in self.rows()):
             layout.calls = self.at
@@ -148,14 +152,17 @@ class Planner:
         return begin
 
     def changes(self, thing: Thing) -> int:
+        """How often the count of an object changes in the range."""
         return sum(1 for place, _ in thing.changes if self.first <= place <= self.last)
 
     def place_objects(self) -> None:
+        """The columns of objects that were made."""
         made = [it for it in self.reading.things if it.born > 0]
         layout = self.layout
         layout.objects_at = self.place_columns(pack(self.lives(made)), OBJECT, layout.objects, "objects", self.changes)
 
     def place_messages(self) -> None:
+        """The columns of messages."""
         end = len(self.reading.rows) + 1
         lives = [(it.accepted, it.finished or end, it) for it in self.reading.messages]
         columns = pack([it for it in lives if it[0] <= self.last and it[1] >= self.first])
@@ -163,12 +170,14 @@ class Planner:
         layout.messages_at = self.place_columns(columns, MESSAGE, layout.messages, "messages", lambda it: 3)
 
     def place_boots(self) -> None:
+        """The columns of objects of boot whose count changes."""
         boots = [it for it in self.reading.things if it.born == 0 and self.changes(it)]
         columns = [[it] for it in self.lives(boots)]
         layout = self.layout
         layout.boots_at = self.place_columns(columns, BOOT, layout.boots, "objects of boot", self.changes)
 
     def place_texts(self) -> None:
+        """The printed line, and the instruction or what disagrees."""
         layout, rows = self.layout, self.rows()
         layout.printed = self.at + 10
         printed = max([len(it.entry.text) for it in rows] + [12])

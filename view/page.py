@@ -2,6 +2,7 @@
 from __future__ import annotations
 
 import html
+from typing import Iterator
 
 import style
 from boxes import Boxes
@@ -73,7 +74,7 @@ def rulers(layout: Layout, high: int) -> str:
 class Writer:
     """Writes the page of a reading, of the entries from `first` to `last`."""
 
-    def __init__(self, reading: Reading, name: str, first: int, last: int):
+    def __init__(self, reading: Reading, name: str, first: int, last: int) -> None:
         self.reading, self.name = reading, name
         self.layout = plan(reading, first, last)
         self.boxes, self.tracks = Boxes(reading, self.layout), Tracks(reading, self.layout)
@@ -84,12 +85,13 @@ class Writer:
         """The number of blocks."""
         return (len(self.layout.shown) + BLOCK - 1) // BLOCK
 
-    def blocks(self):
+    def blocks(self) -> Iterator[str]:
         """The rows of the table, one for each block."""
         for block in range(self.count()):
             yield self.block(block)
 
     def block(self, block: int) -> str:
+        """A row of the table: the picture of a block."""
         shown = self.layout.shown[block * BLOCK:(block + 1) * BLOCK]
         crossed = [self.boxes.covered(it.first) for it in shown]
         wide, high = self.layout.width, len(shown) * ROW
@@ -100,6 +102,7 @@ class Writer:
         return f'<tr><td><div class="block" {size}>{picture}</div></td></tr>\n'
 
     def head(self) -> str:
+        """The head of the table, which stays above and is printed on each sheet."""
         wide = self.layout.width
         hit = f'<defs><rect id="h" width="{wide}" height="{ROW}"/></defs>'
         shapes = "".join(head_shapes(self.reading, self.layout))
@@ -138,7 +141,7 @@ class Writer:
         return (f'<svg id="over" viewBox="0 0 70 {bins}" preserveAspectRatio="none">'
                 f'<title>Who acts when</title>{"".join(paths)}</svg>\n')
 
-    def pieces(self):
+    def pieces(self) -> Iterator[str]:
         """The page, piece by piece."""
         sheet = style.sheet(width_on_paper(self.layout))
         yield (f'<!DOCTYPE html>\n<html lang="en"><head><meta charset="utf-8"><title>{html.escape(self.name)}</title>\n'

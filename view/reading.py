@@ -21,7 +21,7 @@ BLOCKING = {"lock.do", "wait.do", "fswait.do", "waitany.do", "waitfor.do", "conn
 class Reader:
     """Reads entry after entry. `state` is what is known after those that were read."""
 
-    def __init__(self, script: Script, history: History):
+    def __init__(self, script: Script, history: History) -> None:
         self.script, self.shared = script, history.shared
         self.state: State = boot(script)
         self.ready = Ready()
@@ -60,6 +60,7 @@ class Reader:
         self.reading.rows.append(row)
 
     def actor_of(self, row: Row) -> Thread | None:
+        """The thread that acts."""
         number = row.entry.thread
         if number is None:
             return None
@@ -77,6 +78,7 @@ class Reader:
             row.line = row.instruction.line
 
     def read_thread_step(self, row: Row, actor: Thread) -> None:
+        """What a thread's step tells beside its effects."""
         entry = row.entry
         if entry.step in BLOCKING and entry.answer is None and not self.is_doomed_by(row, actor):
             self.begin_wait(row, actor)
@@ -91,9 +93,11 @@ class Reader:
 
     @staticmethod
     def is_doomed_by(row: Row, actor: Thread) -> bool:
+        """Whether an entry dooms its own actor."""
         return any(it.kind == "doom" and it.number == actor.number for it in row.entry.effects)
 
     def begin_wait(self, row: Row, actor: Thread) -> None:
+        """A thread waits from now on, for the object of its call, for its status, or for any."""
         word = row.entry.step.partition(".")[0]
         status = None
         if word == "waitfor" and row.instruction:

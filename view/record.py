@@ -82,6 +82,7 @@ class Reading:
                 if number in busy or len(self.spans[number]) > 1 or self.stripes[number]]
 
     def quiet(self) -> list[Thread]:
+        """The threads that never act or change."""
         acting = {it.number for it in self.acting()}
         return [it for number, it in sorted(self.threads.items()) if number not in acting]
 
@@ -89,7 +90,7 @@ class Reading:
 class Stripes:
     """The stripes of one thread that aren't ended yet, by kind and label."""
 
-    def __init__(self, done: list[Stripe]):
+    def __init__(self, done: list[Stripe]) -> None:
         self.done = done
         self.open: dict[tuple[str, str], Stripe] = {}
 

@@ -9,7 +9,7 @@ from dataclasses import dataclass, field
 class Misfit(Exception):
     """A line that doesn't fit: of which text, its number from 1, and why."""
 
-    def __init__(self, text: str, line: int, why: str):
+    def __init__(self, text: str, line: int, why: str) -> None:
         super().__init__(f"{text}, line {line}: {why}")
 
 
@@ -21,6 +21,7 @@ class Instruction:
     words: tuple[str, ...]
 
     def text(self) -> str:
+        """The instruction with single spaces."""
         return " ".join(self.words)
 
 
@@ -107,6 +108,7 @@ def text_lines(data: bytes, name: str) -> list[str]:
 
 
 def version_of(words: list[str], number: int) -> int:
+    """The version that the header tells."""
     if len(words) != 2 or words[0] != "eka2" or not words[1].isdigit():
         raise Misfit("script", number, "a script begins with `eka2` and its version")
     return int(words[1])
@@ -121,6 +123,7 @@ def declare(script: Script, lane: Lane | None, number: int, words: list[str]) ->
 
 
 def declare_words(script: Script, lane: Lane | None, number: int, words: list[str]) -> Lane | None:
+    """What a line declares, by its first word."""
     head, rest = words[0], words[1:]
     if head in ("pool", "fast"):
         return None
@@ -146,6 +149,7 @@ def declare_words(script: Script, lane: Lane | None, number: int, words: list[st
 
 
 def declare_thread(script: Script, number: int, head: str, rest: list[str]) -> Lane:
+    """A thread of the kernel or of the last process."""
     lane = Lane(rest[0], int(rest[1]), number, held=rest[2:] == ["held"])
     if head == "kthread":
         script.kernel_threads.append(lane)
@@ -156,6 +160,7 @@ def declare_thread(script: Script, number: int, head: str, rest: list[str]) -> L
 
 
 def add_slots(script: Script, number: int, words: list[str]) -> None:
+    """The slots of a line of the schedule."""
     if words[0] == "go":
         script.slots += [Slot("go", number)] * int(words[1])
     elif words[0] != "schedule":

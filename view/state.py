@@ -58,6 +58,7 @@ class Thing:
     server: "Thing | None" = None
 
     def label(self) -> str:
+        """How a sentence names the object."""
         return f"{self.kind} {self.number}" if self.name in ("-", "?") else f"{self.kind} {self.name}"
 
     def linked(self) -> bool:
@@ -74,6 +75,7 @@ class Wait:
     status: int | None = None
 
     def label(self) -> str:
+        """What the wait is for."""
         if self.word in ("lock", "wait", "receive") and self.thing:
             return f"message to {self.thing.name}" if self.word == "receive" else self.thing.label()
         texts = {"fswait": "fast semaphore", "waitany": "any request", "waitfor": f"s{self.status}"}
@@ -108,12 +110,15 @@ class Thread:
 
     @property
     def name(self) -> str:
+        """The name that the script gives."""
         return self.lane.name
 
     def protected(self) -> bool:
+        """Whether nothing may suspend or doom it now."""
         return self.fast is not None or self.critical > 0
 
     def stopped(self) -> bool:
+        """Whether it is suspended, and nothing puts that off."""
         return self.suspended > 0 and not self.protected()
 
 
@@ -164,6 +169,7 @@ class Waiters:
         return done
 
     def may_be_served(self, thread: Thread) -> bool:
+        """Whether a signal may have ended the wait of a thread."""
         return thread in self.old and self.most > 0
 
 
@@ -190,6 +196,7 @@ class State:
         return thing
 
     def supervisor(self) -> Thread:
+        """The thread that buries the others."""
         return self.threads[1]
 
 
@@ -211,6 +218,7 @@ def boot(script: Script) -> State:
 
 
 def add_thread(state: State, process: int, lane: Lane) -> None:
+    """A thread with its link to its process, and with the kernel's own reference."""
     number = len(state.things)
     state.make(number, "thread", lane.name, 0).refs.add("krn")
     state.things[process].refs.add(f"lnk{number}")

@@ -55,6 +55,7 @@ def read_step(reader: Reader, row: Row, actor: Thread) -> None:
 
 
 def wait_done(reader: Reader, row: Row, actor: Thread) -> None:
+    """A wait is over, whoever ended it: of several waiters of a semaphore this one was served."""
     if actor.wait and actor.wait.thing in reader.state.waiters:
         reader.waiters(actor.wait.thing).leave(actor, True)
         touch_waiters(reader, actor.wait.thing)
@@ -62,6 +63,7 @@ def wait_done(reader: Reader, row: Row, actor: Thread) -> None:
 
 
 def touch_waiters(reader: Reader, thing) -> None:
+    """Of the waiters of a semaphore any may have been served."""
     waiters = reader.waiters(thing)
     for thread in waiters.old + waiters.fresh:
         reader.touch(thread)
@@ -79,6 +81,7 @@ def called_on(reader: Reader, row: Row, actor: Thread) -> Thread | None:
 
 
 def suspend(reader: Reader, row: Row, actor: Thread) -> None:
+    """A suspension more."""
     thread = called_on(reader, row, actor)
     if thread:
         thread.suspended += 1
@@ -86,6 +89,7 @@ def suspend(reader: Reader, row: Row, actor: Thread) -> None:
 
 
 def resume(reader: Reader, row: Row, actor: Thread) -> None:
+    """A suspension less."""
     thread = called_on(reader, row, actor)
     if thread:
         thread.suspended -= 1
@@ -93,6 +97,7 @@ def resume(reader: Reader, row: Row, actor: Thread) -> None:
 
 
 def set_priority(reader: Reader, row: Row, actor: Thread) -> None:
+    """A priority is set."""
     thread = called_on(reader, row, actor)
     if thread and row.instruction:
         thread.priority = int(row.instruction.words[2])
@@ -116,24 +121,29 @@ def note_exit(reader: Reader, row: Row, actor: Thread) -> None:
 
 
 def flock(reader: Reader, row: Row, actor: Thread) -> None:
+    """A fast mutex that is held is wanted from now on."""
     if row.entry.answer is None and row.instruction and not row.entry.has("doom"):
         actor.wants = int(row.instruction.words[1][1:])
 
 
 def enter(reader: Reader, row: Row, actor: Thread) -> None:
+    """A critical section more."""
     actor.critical += 1
 
 
 def leave(reader: Reader, row: Row, actor: Thread) -> None:
+    """A critical section less."""
     if row.entry.answer == 0 and actor.critical:
         actor.critical -= 1
 
 
 def flush(reader: Reader, row: Row, actor: Thread) -> None:
+    """All critical sections end."""
     actor.critical = 0
 
 
 def fssignal(reader: Reader, row: Row, actor: Thread) -> None:
+    """A kernel thread signals a fast semaphore."""
     if row.entry.answer == 0 and row.instruction:
         signal_fast(reader, row, row.instruction.words[1])
 
@@ -172,6 +182,7 @@ def pending(reader: Reader, row: Row, actor: Thread) -> None:
 
 
 def receive(reader: Reader, row: Row, actor: Thread) -> None:
+    """A message is taken."""
     if row.entry.step == "receive.done":
         wait_done(reader, row, actor)
     message = reader.state.messages.get(row.entry.answer or 0)

@@ -118,6 +118,7 @@ open();
 
 
 def variables(colours: dict[str, str]) -> str:
+    """Colours as variables of a style sheet."""
     return "".join(f"--{name}:{value};" for name, value in colours.items())
 
 

@@ -33,13 +33,14 @@ def name_of_line(key: str, x: int, y: int, text: str) -> str:
 
 
 def middle(row: int) -> int:
+    """The middle of a row."""
     return row * ROW + ROW // 2
 
 
 class Tracks:
     """Draws what lasts, block by block. Coordinates are those of the block."""
 
-    def __init__(self, reading: Reading, layout: Layout):
+    def __init__(self, reading: Reading, layout: Layout) -> None:
         self.reading, self.layout = reading, layout
         self.firsts = {number: [it.first for it in spans] for number, spans in reading.spans.items()}
         self.by_block: dict[int, list] = {}
@@ -100,9 +101,11 @@ class Tracks:
         return found
 
     def row_or_end(self, place: int, begin: int, end: int) -> int:
+        """The row of an entry, as far as a block shows it."""
         return max(begin, min(self.layout.row_of(place), end))
 
     def state(self, number: int, span: Span, first: int, last: int, crossed: list[list[tuple[int, int]]]) -> list[str]:
+        """One state of a lane, from a row of the block to another."""
         kind, wide = span.standing.kind, self.layout.wide - STRIPE - EDGE
         left = self.layout.lanes[number] + STRIPE
         if kind is Kind.BURIED:
@@ -117,6 +120,7 @@ class Tracks:
         return found
 
     def is_buried_behind(self, number: int, span: Span) -> bool:
+        """Whether a state of a cleaned thread ends with its burial."""
         return self.reading.spans[number][-1].standing.kind is Kind.BURIED and span is self.reading.spans[number][-2]
 
     def words(self, words: str, left: int, wide: int, first: int, last: int, crossed: list) -> list[str]:
@@ -173,6 +177,7 @@ class Tracks:
         return sorted(marks.items())
 
     def last_row(self, place: int | None) -> int:
+        """The row of an end, or that behind the last."""
         return len(self.layout.shown) if place is None else self.layout.row_of(place)
 
     def piece(self, x: int, row: int, last: int, count: int, dead: bool, begin: int, end: int) -> list[str]:
@@ -189,6 +194,7 @@ class Tracks:
 
     @staticmethod
     def mark(thing: Thing, x: int, y: int, count: int, died: bool, named: bool) -> list[str]:
+        """A new count, or a death, with the name where the object is made."""
         found = []
         if died:
             found.append(f'<path class="x" d="M{x - 5} {y - 5}l10 10m0-10l-10 10"/>')

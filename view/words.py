@@ -66,7 +66,7 @@ STEPS = {
 class Wording:
     """The sentences of a reading."""
 
-    def __init__(self, reading: Reading):
+    def __init__(self, reading: Reading) -> None:
         self.reading = reading
         self.processes = {it.number: it.name for it in reading.things if it.kind == "process" and it.born == 0}
         self.makings: dict[int, list[Thing]] = {}
@@ -80,6 +80,7 @@ class Wording:
         return found[-1] if found else None
 
     def label(self, number: int, place: int) -> str:
+        """How a sentence names the object of a number at an entry."""
         thing = self.thing(number, place)
         return f"object {number}" if not thing else f"{thing.kind} {number}" if thing.name == "-" else thing.label()
 
@@ -127,6 +128,7 @@ class Wording:
         return f"The immediate call {name} runs, before any thread"
 
     def step_words(self, row: Row) -> str:
+        """What a thread's step does, or why it is refused."""
         entry = row.entry
         if row.refused and entry.answer is not None:
             why = codes.reason(entry.step, entry.answer)
@@ -142,11 +144,13 @@ class Wording:
         return text + self.answer_words(row)
 
     def found_words(self, row: Row) -> str:
+        """What a seek has found."""
         found = [it.number for it in row.entry.effects if it.kind == "seek"]
         return self.label(found[0], row.entry.place) if found else "it"
 
     @staticmethod
     def answer_words(row: Row) -> str:
+        """The answer, if the sentence doesn't tell it already."""
         answer = row.entry.answer
         if answer is None or row.entry.step in ("close.do", "lock.do", "unlock.do", "lock.done"):
             return ""
@@ -181,12 +185,14 @@ class Wording:
         return self.other_effect(effect, place)
 
     def signal(self, effect: Effect) -> str:
+        """A completion in words."""
         code = codes.name_of(effect.other) if effect.other < 0 else str(effect.other)
         if effect.holder == "w":
             return f"{self.thread(effect.number)}'s wait for its message ends with {code}"
         return f"status s{effect.holder} of {self.thread(effect.number)} gets {code}, and it has a signal more"
 
     def other_effect(self, effect: Effect, place: int) -> str:
+        """The effects that are neither a reference, nor of a mutex, nor a completion."""
         number = effect.number
         if effect.kind in ("accept", "finish"):
             return self.message(effect)
@@ -202,6 +208,7 @@ class Wording:
         return f"{self.label(number, place)} {texts[effect.kind]}" if texts[effect.kind] else ""
 
     def message(self, effect: Effect) -> str:
+        """The acceptance or the end of a message."""
         if effect.kind == "finish":
             code = codes.name_of(effect.other) if effect.other < 0 else str(effect.other)
             return f"message {effect.number} is finished with {code}"
@@ -210,6 +217,7 @@ class Wording:
         return f"message {effect.number} is accepted" + (f" for server {server.name}" if server else "")
 
     def thread(self, number: int) -> str:
+        """The name of a thread."""
         return self.reading.threads[number].name if number in self.reading.threads else f"thread {number}"
 
     def holder(self, holder: str, place: int) -> str:
