@@ -98,6 +98,7 @@ def check_word(row: Row, actor: Thread) -> None:
             row.wrong.append(f"{actor.name} has no instruction left")
         elif row.instruction.words[0] != word:
             row.wrong.append(f"the instruction is `{row.instruction.text()}`, and not `{word}`")
+            row.instruction = None
     elif step in ("end", "flush") and left > 0:
         row.wrong.append(f"{actor.name} ends, and has {left} instructions left")
 

@@ -24,6 +24,7 @@ def thing_of(reader: Reader, row: Row, number: int) -> Thing:
     if thing is None:
         row.wrong.append(f"there is no object {number}")
         thing = reader.state.make(number, "?", "?", row.entry.place)
+        thing.changes.append((row.entry.place, 0))
     row.about.add(f"o{number}")
     return thing
 

@@ -38,7 +38,14 @@ class Reader:
             self.stripes[thread.number] = Stripes(self.reading.stripes[thread.number])
 
     def read(self, row: Row) -> None:
-        """Reads one entry: checks it against what is known, and then notes what it tells."""
+        """Reads one entry. Raises Misfit where it names what isn't there."""
+        try:
+            self.read_entry(row)
+        except KeyError as why:
+            raise Misfit("history", row.entry.place, f"it names {why}, which the script hasn't") from None
+
+    def read_entry(self, row: Row) -> None:
+        """Checks an entry against what is known, and then notes what it tells."""
         entry = row.entry
         actor = self.actor_of(row)
         self.find_instruction(row, actor)
