@@ -110,7 +110,10 @@ addEventListener('click', it => {
   const name = it.target.closest('.n'), row = it.target.closest('.r');
   if (name) filter(name.dataset.k); else if (row) at = rows.indexOf(row), draw();
 });
-if (over) over.onclick = it => go(Math.floor(it.offsetY / over.clientHeight * rows.length));
+if (over) over.onclick = it => {
+  const box = over.getBoundingClientRect();
+  go(Math.floor((it.clientY - box.top) / box.height * rows.length));
+};
 addEventListener('hashchange', open);
 open();
 })();
