@@ -18,7 +18,7 @@ pub record RanScript (text_of : Script → List ℕ) (input left old new : Optio
   -- Refused: the whole input has a first bad line, and the line that names it and its reason was written
   pub refused : ended ≡ status.Refused → WroteRefusal input old new
   pub refused_at_end : ended ≡ status.Refused → IsAtEnd left
-  -- WriteFault: a front of the text that the input calls for was written
+  -- WriteFault: a prefix of the text that the input calls for was written
   pub front : ended ≡ status.WriteFault → WroteFront text_of input old new
   -- completeness: where nothing failed, the input alone decides, but for want of memory
   pub accepted : (script : Script) → IsSomeAnd input (λ bytes. IsInput bytes script) → reads → writes → (ended ≡ status.Done) ⊎ (ended ≡ status.NoMemory)
@@ -27,7 +27,7 @@ pub record RanScript (text_of : Script → List ℕ) (input left old new : Optio
 
 -- A command that reads nothing, and writes this text.
 pub record WroteText (text : List ℕ) (old new : Option (List ℕ)) (writes : Type 0) (ended : Status) : Type 0 where
-  -- the whole text was written, or a front of it, or nothing, and there is no other end
+  -- the whole text was written, or a prefix of it, or nothing, and there is no other end
   pub faults : (ended ≡ status.Done) ⊎ (ended ≡ status.WriteFault) ⊎ (ended ≡ status.NoMemory)
   pub done : ended ≡ status.Done → Wrote old new text
   pub front : ended ≡ status.WriteFault → WrotePrefix old new text

@@ -146,8 +146,8 @@ impl<W: RefWords + Drop> Kernel<W> {
         is_able(&self.script, &core.tables, t)
     }
 
-    /// What happened so far, in order. It is a legal history of the script, in which each object died
-    /// exactly where its last reference went, and after which whoever holds a fast mutex is ready.
+    /// What happened so far, in order. It is a legal history of the script; its references, deaths, messages, servers
+    /// and busy answers are safe; and after it whoever holds a fast mutex is ready.
     pub fn history(&self) -> &[Entry]
         ensures entries { result.now ≡ self.now.history }
         ensures legal { IsLegal self.now.script self.now.history }

@@ -83,7 +83,7 @@ born_kernel script =
 abbrev pub born : Script → List Born
 born script = born_kernel script ++ born_processes script.threads 0 (length (born_kernel script)) script.processes
 
--- the threads that have an instruction and aren't held are ready, in order of number
+-- the threads that are declared and aren't held are ready, in order of number
 abbrev pub ready_from : ℕ → List Born → List ObjNo
 ready_from n [] = []
 ready_from n (b ∷ bs) = if b.works then record { 0 = n } ∷ ready_from (n + 1) bs else ready_from (n + 1) bs

@@ -9,7 +9,7 @@ use Rattle.edge_io.specs.Written.{Wrote, WrotePrefix}
 pub next_line : {A : Type 0} (f : A → List ℕ) (left rest : List A) (x : A) (line : List ℕ) → left ≡ x ∷ rest → line ≡ f x → flat_map f left ≡ line ++ flat_map f rest
 next_line f left rest x line e h = rw (e, h) refl
 
--- a front of the first, second, third or fourth part of a text
+-- a prefix of the first, second, third or fourth part of a text
 pub front_1 : (a b : Option (List ℕ)) (ws xs ys zs : List ℕ) → WrotePrefix a b ws → WrotePrefix a b (ws ++ xs ++ ys ++ zs)
 front_1 a b ws xs ys zs p = prefix_of_more a b (ws ++ xs ++ ys) zs (prefix_of_more a b (ws ++ xs) ys (prefix_of_more a b ws xs p))
 

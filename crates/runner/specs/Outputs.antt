@@ -44,7 +44,7 @@ pub record WroteRefusal (input old new : Option (List ℕ)) : Type 0 where
   pub why : Reason
   pub refusal : WroteRefusalOf line why input old new
 
--- a front of the text that the input calls for was written, and nothing else
+-- a prefix of the text that the input calls for was written, and nothing else
 pub record WroteFront (text_of : Script → List ℕ) (input old new : Option (List ℕ)) : Type 0 where
   pub text : List ℕ
   pub called_for : IsScriptText text_of input text ⊎ IsRefusalText input text

@@ -33,7 +33,7 @@ fn load(alloc: Global, seed: u64, size: u32) -> Result<Summary, NoMemory>
 
 /// Makes the script of a seed and a size, which is the number of each client's rounds, 1 to 500, runs it, and writes one
 /// line of what the run comes to: its slots, its entries, the messages accepted and finished, and the objects that are
-/// left. After `WriteFault` a front of the line stands, and after `NoMemory` nothing was written. The other faults don't
+/// left. After `WriteFault` a prefix of the line stands, and after `NoMemory` nothing was written. The other faults don't
 /// come.
 pub fn run_load<K: Sink>(alloc: Global, seed: u64, size: u32, sink: &mut K) -> Result<(), RunFault>
     requires some { 1 ≤ size }

@@ -27,7 +27,7 @@ fn made_text(alloc: Global, seed: u64, size: u32) -> Result<Vec<u8>, NoMemory>
 }
 
 /// Makes the script of a seed and a size, which is the number of each client's rounds, 1 to 500, and writes its
-/// canonical text, which is read as that script again. After `WriteFault` a front of the text stands, and after
+/// canonical text, which is read as that script again. After `WriteFault` a prefix of the text stands, and after
 /// `NoMemory` nothing was written. The other faults don't come.
 pub fn write_made<K: Sink>(
     alloc: Global,

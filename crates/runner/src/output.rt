@@ -1,4 +1,4 @@
-//! Writing a history, or the line of a refusal. Each line goes out, with its line feed, as one piece.
+//! Writing a history, or the line of a refusal. Each line goes out with its line feed, by one `write_whole`.
 ghost use Rattle.std.specs.Prelude.{◌≡◌, ◌≤◌, [], ◌∷◌, drop, is_some, length, OnOk, OnErr};
 ghost use Rattle.std.specs.List.{flat_map};
 ghost use Rattle.edge_io.specs.Faults.{Rose};

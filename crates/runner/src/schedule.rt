@@ -17,7 +17,7 @@ use std::alloc::Global;
 /// Reads a script, runs it and writes its history. The whole input is read before it is judged, and
 /// the whole history is made before its first byte is written. Of a script that is refused one line is
 /// written, which tells its first bad line, from 1, and why it is bad. Of an input of more than
-/// 1,048,576 bytes one byte too many is read, and nothing is written. After `WriteFault` a front of the
+/// 1,048,576 bytes one byte too many is read, and nothing is written. After `WriteFault` a prefix of the
 /// text stands, and after the other faults nothing was written.
 pub fn run_schedule<S: Source, K: Sink>(
     alloc: Global,
