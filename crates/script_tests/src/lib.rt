@@ -1,4 +1,4 @@
-//! Tests of reading and printing scripts.
+//! Tests of reading and printing scripts, and of calls below that nothing else makes.
 #![tactic(auto)]
 
 #[cfg(test)]
@@ -6,6 +6,12 @@ mod every_form;
 #[cfg(test)]
 mod form_tests;
 #[cfg(test)]
+mod nano_tests;
+#[cfg(test)]
+mod number_tests;
+#[cfg(test)]
 mod print_tests;
+#[cfg(test)]
+mod procs_tests;
 #[cfg(test)]
 mod tests;
