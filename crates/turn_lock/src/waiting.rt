@@ -17,7 +17,7 @@ pub(crate) const NEXT: usize = 0;
 /// The word with the number whose turn it is.
 pub(crate) const SERVING: usize = 1;
 
-/// For how many microseconds a pass sleeps that has waited long.
+/// For how many microseconds a pass sleeps between two looks.
 const SLEEP: u64 = 50;
 
 impl<V: History> Turns<V> {
@@ -35,20 +35,21 @@ impl<V: History> Turns<V> {
             if serving == ticket {
                 return;
             }
-            self.pause(rt, &backoff, serving);
+            self.pause(rt, &backoff, serving, ticket.wrapping_sub(serving));
         }
         unreachable!()
     }
 
-    /// Spins at first, then yields the processor, and at last sleeps for a little.
-    fn pause<R: Wait>(&self, rt: &R, backoff: &Backoff, serving: u64) {
-        if backoff.is_completed() {
-            let seen = (serving % (1 << 32)) as u32;
-            self.table
-                .shared
-                .park_timeout(rt, SERVING, seen, Duration::from_micros(SLEEP));
-        } else {
+    /// The pass that is served next spins at first, then yields the processor, and at last sleeps for a little. One that has others
+    /// before it sleeps at once.
+    fn pause<R: Wait>(&self, rt: &R, backoff: &Backoff, serving: u64, ahead: u64) {
+        if ahead == 1 && !backoff.is_completed() {
             backoff.snooze();
+            return;
         }
+        let seen = (serving % (1 << 32)) as u32;
+        self.table
+            .shared
+            .park_timeout(rt, SERVING, seen, Duration::from_micros(SLEEP));
     }
 }
