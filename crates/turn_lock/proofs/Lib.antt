@@ -1,0 +1,10 @@
+pub mod Totals
+pub mod Logs
+pub mod Keeping
+pub mod Turning
+pub mod Sharing
+pub mod Knowing
+pub mod Hands
+pub mod Passing
+pub mod Dealing
+pub mod Closing

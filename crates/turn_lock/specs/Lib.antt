@@ -1,0 +1,9 @@
+pub mod Log
+pub mod Views
+pub mod Weights
+pub mod Rule
+pub mod Steps
+pub mod Shares
+pub mod LockId
+pub mod Waits
+pub mod Passes
