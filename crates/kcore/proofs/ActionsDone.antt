@@ -13,10 +13,10 @@ use Rattle.machine.specs.declared.moves.Move.{Move}
 use Rattle.machine.specs.declared.state.State.{State}
 use Rattle.machine.specs.Arrivals.{is_listed, touched, taken_out, arrive, arrivals, ready_after}
 use Rattle.machine.specs.Choice.{priority_of}
-use Rattle.machine.specs.Moves.{moved, perform, tell}
+use Rattle.machine.specs.Moves.{moved, perform}
 use Rattle.machine.specs.Task.{is_ready}
 use Rattle.machine.specs.Tick.{after_tick}
-use Rattle.machine.specs.Transition.{left, carried_out}
+use Rattle.machine.specs.Transition.{left}
 use Rattle.kernel_tables.specs.CoreView.{CoreView}
 use Rattle.kernel_tables.specs.Moved.{MovesGo}
 use Rattle.kernel_tables.specs.Performed.{IsPerformed}

@@ -12,7 +12,7 @@ use Rattle.script_types.specs.Source.{IsWellFormed}
 use Rattle.machine.specs.Arrived.{arrived, arrived_next}
 use Rattle.machine.specs.Boot.{boot, ready_at_boot}
 use Rattle.machine.specs.Choice.{priority_of}
-use Rattle.machine.specs.History.{transition, next, entry_of, entry_by, after, CanAct, IsLegal}
+use Rattle.machine.specs.History.{next, entry_of, entry_by, after, CanAct, IsLegal}
 use Rattle.machine.specs.Run.{slot_actor}
 use Rattle.machine.specs.Slots.{IsDeclared}
 use Rattle.machine.specs.Transition.{Transition}

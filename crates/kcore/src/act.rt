@@ -1,5 +1,5 @@
 //! Actions: of a thread, of an interrupt or of the immediate queue, or the end of a time slice.
-ghost use Rattle.std.specs.Prelude.{◌≡◌, [], Some, None, IsTrue};
+ghost use Rattle.std.specs.Prelude.{◌≡◌, [], None, IsTrue};
 ghost use Rattle.machine.specs.Choice.{priority_of};
 ghost use Rattle.machine.specs.History.{CanAct};
 ghost use Rattle.machine.specs.Steps.{decision_of};

@@ -1,5 +1,4 @@
-use Rattle.std.proofs.Common.{◌≡◌, ◌∙◌, ◌+◌, length, drop, ap, arith}
-use Rattle.machine.specs.declared.decision.Decision.{Decision}
+use Rattle.std.proofs.Common.{◌∙◌, ◌+◌, length, drop, ap, arith}
 use Rattle.machine.specs.Bodies.{op_moves, ops_moves}
 use Rattle.machine.specs.Moves.{perform}
 use Rattle.kernel_tables.specs.CoreView.{CoreView}

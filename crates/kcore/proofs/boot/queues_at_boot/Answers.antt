@@ -1,11 +1,5 @@
-use Rattle.std.proofs.Common.{◌≡◌, ◌<◌, List, subst, sym, true}
-use Rattle.sym_base.specs.declared.limits.TheConstants.Limits.{BOOT_OBJECTS}
-use Rattle.sym_base.specs.declared.number.ObjNo.{ObjNo}
 use Rattle.script_types.proofs.ShapeLaws.{formed_is_shaped}
-use Rattle.machine.specs.declared.state.State.{State}
-use Rattle.machine.specs.Arrivals.{is_listed}
 use Rattle.machine.specs.Boot.{boot, ready_at_boot}
-use Rattle.machine.specs.WellFormed.{AreApart, IsWellFormed}
 use Rattle.machine_laws.proofs.AtBoot.BootRows.{well_formed-boot}
 use Rattle.kcore.proofs.BootReady.{listed_known, listed_ranged}
 use Rattle.kcore.proofs.boot.queues_at_boot.Goals as goal
