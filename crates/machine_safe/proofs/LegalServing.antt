@@ -90,7 +90,7 @@ module _ (script : Script) (history before : List Entry) (e : Entry) (later : Li
     | inl done ↦ done
     | inr out ↦
         let known = book.letters.known out.post out.among in
-        let both : Some out.post.server ≡ Some v = sym known.linked ∙ (ap (server_told (effects_of before)) out.over ∙ linked) in
+        let both : Some out.post.server ≡ Some v = sym known.linked ∙ (ap (server_told (effects_of before)) out.over ∙ (sym (book.slotted.servers a.by.session) ∙ linked)) in
         let own : out.post.server ≡ v = cc in
         let same_end = ap (ends (effects_of before)) own in
         let lasts = known.lasts in

@@ -57,6 +57,10 @@ serves = acts 1 3 (step.Of word.Server part.Do) (effect.Plus (holder.Own (number
 abbrev pub joins : Entry
 joins = acts 2 5 (step.Of word.Connect part.Make) (effect.Plus (holder.InThread (number 5) 0) (number 7) ∷ effect.Plus (holder.Link (number 7)) (number 6) ∷ []) None
 
+-- the session is linked in another step than the one that makes sessions
+abbrev pub links_elsewhere : Entry
+links_elsewhere = acts 2 5 (step.Of word.Dup part.Do) (effect.Plus (holder.Link (number 7)) (number 6) ∷ []) None
+
 abbrev pub connects : Entry
 connects = acts 3 5 (step.Of word.Connect part.Send) (accepted 1) None
 

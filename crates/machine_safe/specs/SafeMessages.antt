@@ -19,7 +19,7 @@ use Rattle.entry_log.specs.declared.step.Step.TheVariants as step
 use Rattle.machine_safe.specs.CountAfter.{effects_of, is_by}
 use Rattle.machine_safe.specs.SafeDeaths.{StandsAt, dooms}
 use Rattle.machine_safe.specs.Sent.{Accepts, WasAccepted, accepts, accepts_by, finishes, instruction_in, status_by}
-use Rattle.machine_safe.specs.Served.{ends, is_closing_in, owner_in, server_told}
+use Rattle.machine_safe.specs.Served.{ends, is_closing_in, owner_in, server_in}
 
 -- An acceptance: messages are numbered 1, 2 and so on, an entry accepts one at most, which the acting thread sends, in a step that accepts, with
 -- the status that its instruction names; and the session's server isn't closing before it, and has not ended.
@@ -31,7 +31,7 @@ pub record IsAcceptance (script : Script) (before : List Entry) (e : Entry) : Ty
   pub client : is_by by.client e.actor ≡ true
   pub step : accepts_by e.step (status_by e.step (instruction_in script before by.client)) ≡ true
   pub server : ObjNo
-  pub linked : server_told (effects_of before) by.session ≡ Some server
+  pub linked : server_in before by.session ≡ Some server
   pub accepting : is_closing_in before server ≡ false
   pub lasts : ends (effects_of before) server ≡ 0
 
@@ -56,7 +56,7 @@ pub record IsFinish (script : Script) (before : List Entry) (e : Entry) (m : Msg
   pub accepted : WasAccepted before m
   pub once : finishes (effects_of before) m ≡ 0
   pub server : ObjNo
-  pub linked : server_told (effects_of before) accepted.by.session ≡ Some server
+  pub linked : server_in before accepted.by.session ≡ Some server
   pub owner : ObjNo
   pub owns : owner_in before server ≡ Some owner
   pub actor : e.actor ≡ Thread owner
@@ -67,7 +67,7 @@ pub record IsFinish (script : Script) (before : List Entry) (e : Entry) (m : Msg
 
 -- nothing is left of a server: each message over a session of it is finished
 abbrev pub NothingLeft : List Entry → ObjNo → Type 0
-NothingLeft before v = (m : MsgNo) (accepted : WasAccepted before m) → server_told (effects_of before) accepted.by.session ≡ Some v → finishes (effects_of before) m ≡ 1
+NothingLeft before v = (m : MsgNo) (accepted : WasAccepted before m) → server_in before accepted.by.session ≡ Some v → finishes (effects_of before) m ≡ 1
 
 -- The end of a server: it is closing and has not ended, nothing is left of it, and nothing is accepted beside it.
 pub record IsEnd (before : List Entry) (e : Entry) (v : ObjNo) : Type 0 where

@@ -23,11 +23,23 @@ or_before (Some o) earlier = Some o
 abbrev pub one_if : Bool → ObjNo → Option ObjNo
 one_if is o = if is then Some o else None
 
--- the server of a session: what the session's link refers to
+-- what effects tell that a session's link refers to
 abbrev pub server_told : List Effect → ObjNo → Option ObjNo
 server_told [] s = None
 server_told (Plus (Link x) v ∷ rest) s = or_before (server_told rest s) (one_if (x.0 == s.0) v)
 server_told (_ ∷ rest) s = server_told rest s
+
+-- the server of a session: what the link refers to that it got in the entry that made it, which is the second step of a `connect`
+abbrev pub makes_session : Step → Bool
+makes_session (step.Of word.Connect part.Make) = true
+makes_session _ = false
+
+abbrev pub link_by : Entry → ObjNo → Option ObjNo
+link_by e s = if makes_session e.step then server_told e.effects s else None
+
+abbrev pub server_in : List Entry → ObjNo → Option ObjNo
+server_in [] s = None
+server_in (e ∷ es) s = or_before (server_in es s) (link_by e s)
 
 -- the owner of a server: the thread that got it as its own in the entry that made it
 abbrev pub owner_told : List Effect → ObjNo → Option ObjNo

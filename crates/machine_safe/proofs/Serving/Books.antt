@@ -188,5 +188,5 @@ book-boot script shaped = record {
     later = λ m above. refl;
     sends = refl;
   };
-  slotted = record { sessions = λ s row is. let none = no_session OBJECTS s in absurd (cc); pool = refl };
+  slotted = record { sessions = λ s row is. let none = no_session OBJECTS s in absurd (cc); pool = refl; servers = λ s. refl };
 }

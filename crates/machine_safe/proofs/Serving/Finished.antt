@@ -247,7 +247,7 @@ module _ (script : Script) (before : List Entry) (S : State) (place : ℕ) (t : 
             accepted = known.accepted;
             once = known.unfinished;
             server = is.message.row.server;
-            linked = ap (server_told (effects_of before)) known.session ∙ known.linked;
+            linked = book.slotted.servers known.accepted.by.session ∙ (ap (server_told (effects_of before)) known.session ∙ known.linked);
             owner = t;
             owns = row.owner ∙ ap Some server.2;
             actor = refl;

@@ -111,7 +111,7 @@ module _ (script : Script) (before : List Entry) (S : State) (place : ℕ) (t : 
         client = ap (λ (u : ObjNo). is_by u (Thread t)) is.client ∙ eq-eqb t.0 t.0 refl;
         step = ap (accepts_by d.step) way ∙ is.named;
         server = is.row.server;
-        linked = linked;
+        linked = book.slotted.servers is.row.session ∙ linked;
         accepting = accepting;
         lasts = lasts;
       };

@@ -19,7 +19,7 @@ use Rattle.machine_safe.proofs.Serving.Reading.{further, reading, same-entry}
 use Rattle.machine_safe.proofs.Serving.Served.{Served, served-keeps, served-made, served-same}
 use Rattle.machine_safe.specs.SafeMessages.{IsAcceptance, IsFinish, IsEnd}
 use Rattle.machine_safe.specs.Sent.{accepts, finishes}
-use Rattle.machine_safe.specs.Served.{closes_handle, ends, handles_lost, is_closing_in, server_told}
+use Rattle.machine_safe.specs.Served.{closes_handle, ends, handles_lost, is_closing_in, server_in, server_told}
 use Rattle.move_laws.proofs.Lives.LivesMove.{zero_or}
 use Rattle.script_types.specs.declared.script.Script.{Script}
 use Rattle.state_rows.specs.ServerRows.{server_at, IsSession, closes, is_closing, link_of, server_of, session_at}
@@ -88,14 +88,14 @@ counts t ms d k same = by (t.0 == k) d.answer same
     by false x same = refl
 
 -- a session that is alive, as it is in the rows and as it is told
-accepting-told : (script : Script) (before : List Entry) (S : State) (s v : ObjNo) → AreRows script S → Book script before S → server_of S.servers s ≡ Some v → is_closing S.servers v ≡ false → accepts_in before (server_told (effects_of before) s) ≡ true
+accepting-told : (script : Script) (before : List Entry) (S : State) (s v : ObjNo) → AreRows script S → Book script before S → server_of S.servers s ≡ Some v → is_closing S.servers v ≡ false → accepts_in before (server_in before s) ≡ true
 accepting-told script before S s v rows book linked open_server_is =
     let row = there-row (server_at S.servers v) (rows.servers.sessions s v linked) in
     let told : is_closing_in before v ≡ false = sym (book.served.rows v row.0 row.1).closing ∙ (sym (ap closes row.1) ∙ open_server_is) in
-    ap (accepts_in before) (book.served.links s v linked) ∙ ap not told
+    ap (accepts_in before) (book.slotted.servers s ∙ book.served.links s v linked) ∙ ap not told
 
-closing-told : (script : Script) (before : List Entry) (S : State) (s : ObjNo) → Book script before S → IsAlive (object_of S s) → open_server S s ≡ None → accepts_in before (server_told (effects_of before) s) ≡ false
-closing-told script before S s book alive none = by (server_told (effects_of before) s) refl
+closing-told : (script : Script) (before : List Entry) (S : State) (s : ObjNo) → Book script before S → IsAlive (object_of S s) → open_server S s ≡ None → accepts_in before (server_in before s) ≡ false
+closing-told script before S s book alive none = by (server_in before s) (book.slotted.servers s)
   where
     closing : (v : ObjNo) → is_closing S.servers v ≡ true → not (is_closing_in before v) ≡ false
     closing v is = let row = closing-row (server_at S.servers v) is in ap not (sym (book.served.rows v row.0 row.1).closing ∙ row.2)
@@ -107,9 +107,9 @@ closing-told script before S s book alive none = by (server_told (effects_of bef
         where_open true e none = e
         where_open false e none = absurd (cc)
 
-    by : (x : Option ObjNo) → server_told (effects_of before) s ≡ x → accepts_in before x ≡ false
+    by : (x : Option ObjNo) → x ≡ server_told (effects_of before) s → accepts_in before x ≡ false
     by None e = refl
-    by (Some v) e = elim (book.served.told_linked s v e alive) as (λ _. not (is_closing_in before v) ≡ false) [
+    by (Some v) e = elim (book.served.told_linked s v (sym e) alive) as (λ _. not (is_closing_in before v) ≡ false) [
       | inl is ↦ closing v (linked v is)
       | inr is ↦ closing v is
     ]
@@ -156,7 +156,7 @@ refused-answer script before S place t d rows book looked none r = record {
 }
   where
     told : Bool
-    told = accepts_in before (server_told (effects_of before) r.session)
+    told = accepts_in before (server_in before r.session)
 
     full : Bool
     full = is_full_in script before r.session (slots_in script before r.session)
