@@ -16,7 +16,7 @@ use Rattle.machine_safe.specs.SafeDeaths.{StandsAt, cleanings}
 use Rattle.machine_safe.specs.SafeMessages.{IsSafeMessages, NothingLeft}
 use Rattle.machine_safe.specs.SafeServers.{IsSafeServers}
 use Rattle.machine_safe.specs.Sent.{finishes}
-use Rattle.machine_safe.specs.Served.{ends, owner_in, server_told}
+use Rattle.machine_safe.specs.Served.{ends, owner_in}
 use Rattle.script_types.proofs.ShapeLaws.{formed_is_shaped}
 use Rattle.script_types.specs.declared.script.Script.{Script}
 use Rattle.std.proofs.Common.{List, Some, [], ap, append_assoc, arith, inl, inr, refl, subst, sym, ◌++◌, ◌<◌, ◌∙◌, ◌∷◌, ◌≡◌}
@@ -90,7 +90,7 @@ module _ (script : Script) (history before : List Entry) (e : Entry) (later : Li
     | inl done ↦ done
     | inr out ↦
         let known = book.letters.known out.post out.among in
-        let both : Some out.post.server ≡ Some v = sym known.linked ∙ (ap (server_told (effects_of before)) out.over ∙ (sym (book.slotted.servers a.by.session) ∙ linked)) in
+        let both : Some out.post.server ≡ Some v = sym out.at ∙ linked in
         let own : out.post.server ≡ v = cc in
         let same_end = ap (ends (effects_of before)) own in
         let lasts = known.lasts in

@@ -1,5 +1,5 @@
 -- The definition of safe messages, tried on histories, changed by hand, that aren't safe.
-use Rattle.std.proofs.Common.{◌≡◌, ℕ, ℤ, ◌+◌, List, [], ◌∷◌, ◌++◌, Option, Some, None, Bool, true, false, refl, sym, ap, subst, arith, length}
+use Rattle.std.proofs.Common.{◌≡◌, ℕ, ℤ, ◌+◌, List, [], ◌∷◌, ◌++◌, ◌∙◌, Option, Some, None, Bool, true, false, refl, sym, ap, subst, arith, length}
 use Rattle.std.specs.Prelude.{pos, nat_lt}
 use Rattle.sym_base.specs.declared.number.MsgNo.{MsgNo}
 use Rattle.sym_base.specs.declared.number.ObjNo.{ObjNo}
@@ -175,12 +175,12 @@ finished_unaccepted script safe =
     let a = end.accepted in at-each never_accepted [] opens a.before a.at a.later each_other a.stands a.by
 
 -- or by another than the owner of its server.
-abbrev NamesSession : List Entry → Entry → Type 0
-NamesSession before e = (by : Accepts e (message 1)) → number 7 ≡ by.session
+abbrev NamesServer : List Entry → Entry → Type 0
+NamesServer before e = (by : Accepts e (message 1)) → Some (number 6) ≡ server_in before by.session
 
-each_session : AtEach NamesSession [] opens
+each_server : AtEach NamesServer [] opens
 unfolding second_object
-each_session = (λ a. absurd (other_told serves (message 1) refl a), (λ a. absurd (other_told joins (message 1) refl a), (λ a. ap second_object a.told, tt)))
+each_server = (λ a. absurd (other_told serves (message 1) refl a), (λ a. absurd (other_told joins (message 1) refl a), (λ a. ap (server_in (serves ∷ joins ∷ [])) (ap second_object a.told), tt)))
 
 abbrev ends_own : Entry
 ends_own = acts 4 5 (step.Of word.Complete part.Do) (effect.Finish (message 1) (pos 0) ∷ effect.Signal (number 5) status.Sync (pos 0) ∷ []) (Some (pos 0))
@@ -189,8 +189,7 @@ finished_by_another : (script : Script) → IsSafeMessages script (opens ++ ends
 finished_by_another script safe =
     let end = safe.finished opens ends_own [] (message 1) refl (omega arith) in
     let a = end.accepted in
-    let session : number 7 ≡ a.by.session = at-each NamesSession [] opens a.before a.at a.later each_session a.stands a.by in
-    let server : Some (number 6) ≡ Some end.server = subst (λ (x : ObjNo). server_in opens x ≡ Some end.server) (sym session) end.linked in
+    let server : Some (number 6) ≡ Some end.server = at-each NamesServer [] opens a.before a.at a.later each_server a.stands a.by ∙ end.linked in
     let own : number 6 ≡ end.server = cc in
     let owner : Some (number 3) ≡ Some end.owner = subst (λ (v : ObjNo). owner_in opens v ≡ Some end.owner) (sym own) end.owns in
     let actor : Thread (number 5) ≡ Thread end.owner = end.actor in

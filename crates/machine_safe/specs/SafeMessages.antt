@@ -50,13 +50,13 @@ abbrev pub notice : Option StatusNo → Bool → ObjNo → ℤ → List Effect
 notice (Some status) false client code = effect.Signal client status code ∷ []
 notice _ doomed client code = []
 
--- The end of a message: it was accepted and isn't finished yet, the owner of its session's server finishes it, with the code of its
+-- The end of a message: it was accepted and isn't finished yet, the owner of the server that its session was at then finishes it, with the code of its
 -- instruction or as the server is closing; and beside it stands what its client is told, and nothing else.
 pub record IsFinish (script : Script) (before : List Entry) (e : Entry) (m : MsgNo) : Type 0 where
   pub accepted : WasAccepted before m
   pub once : finishes (effects_of before) m ≡ 0
   pub server : ObjNo
-  pub linked : server_in before accepted.by.session ≡ Some server
+  pub linked : server_in accepted.before accepted.by.session ≡ Some server
   pub owner : ObjNo
   pub owns : owner_in before server ≡ Some owner
   pub actor : e.actor ≡ Thread owner
@@ -65,9 +65,9 @@ pub record IsFinish (script : Script) (before : List Entry) (e : Entry) (m : Msg
   pub told : e.effects ≡ effect.Finish m code ∷
       notice (status_by accepted.at.step (instruction_in script accepted.before accepted.by.client)) (nat_lt 0 (dooms (effects_of before) accepted.by.client)) accepted.by.client code
 
--- nothing is left of a server: each message over a session of it is finished
+-- nothing is left of a server: each message is finished whose session was at it as that was accepted
 abbrev pub NothingLeft : List Entry → ObjNo → Type 0
-NothingLeft before v = (m : MsgNo) (accepted : WasAccepted before m) → server_in before accepted.by.session ≡ Some v → finishes (effects_of before) m ≡ 1
+NothingLeft before v = (m : MsgNo) (accepted : WasAccepted before m) → server_in accepted.before accepted.by.session ≡ Some v → finishes (effects_of before) m ≡ 1
 
 -- The end of a server: it is closing and has not ended, nothing is left of it, and nothing is accepted beside it.
 pub record IsEnd (before : List Entry) (e : Entry) (v : ObjNo) : Type 0 where

@@ -33,7 +33,6 @@ use Rattle.machine_safe.specs.CountAfter.{effects_of}
 use Rattle.machine_safe.specs.SafeDeaths.{dooms}
 use Rattle.machine_safe.specs.SafeMessages.{IsFinish, code_by, notice}
 use Rattle.machine_safe.specs.Sent.{accepts, finishes, instruction_in, status_by}
-use Rattle.machine_safe.specs.Served.{server_told}
 use Rattle.move_laws.proofs.Lists.Contents.{contains_behind, contains_cases, contains_first, found_there, none_contained}
 use Rattle.move_laws.proofs.Lists.Totals.{total-append}
 use Rattle.move_laws.proofs.MoveLaws.RowMoves.{silent}
@@ -247,7 +246,7 @@ module _ (script : Script) (before : List Entry) (S : State) (place : ℕ) (t : 
             accepted = known.accepted;
             once = known.unfinished;
             server = is.message.row.server;
-            linked = book.slotted.servers known.accepted.by.session ∙ (ap (server_told (effects_of before)) known.session ∙ known.linked);
+            linked = known.linked_then;
             owner = t;
             owns = row.owner ∙ ap Some server.2;
             actor = refl;

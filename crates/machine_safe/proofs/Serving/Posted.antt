@@ -99,7 +99,7 @@ module _ (script : Script) (before : List Entry) (S : State) (place : ℕ) (t : 
   turn-sends d regular is does = record {
     book = record {
       served = served-doing script before S place t rows book d does changing regular is.closed (λ v some. let none = is.detached v in absurd (omega arith));
-      letters = letters-more script before S T e book.letters (λ p among. keeps.unlinked p.session) post p.posts p.more by p.next p.none p.unfinished refl refl linked (keeps.unlinked is.row.session) keeps.unended lasts way slots sends;
+      letters = letters-more script before S T e book.letters (λ p among. keeps.unlinked p.session) post p.posts p.more by p.next p.none p.unfinished refl refl (book.slotted.servers is.row.session ∙ linked) linked (keeps.unlinked is.row.session) keeps.unended lasts way slots sends;
       slotted = slotted-keeps script before e S T book.slotted keeps.unlinked keeps.slots p.pool;
     };
     lawful = record {

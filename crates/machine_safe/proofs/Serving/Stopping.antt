@@ -249,7 +249,7 @@ module _ (script : Script) (before : List Entry) (S : State) (place : ℕ) (t : 
         | inl done ↦ done
         | inr out ↦
             let known = book.letters.known out.post out.among in
-            let both : Some out.post.server ≡ Some is.server = sym known.linked ∙ (ap (server_told (effects_of before)) out.over ∙ (sym (book.slotted.servers a.by.session) ∙ linked)) in
+            let both : Some out.post.server ≡ Some is.server = sym out.at ∙ linked in
             let own : out.post.server ≡ is.server = cc in
             absurd (left out.post out.among (ap (λ (x : ObjNo). x.0) own))
       ]
