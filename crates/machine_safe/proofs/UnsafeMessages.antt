@@ -18,7 +18,7 @@ use Rattle.machine_safe.specs.CountAfter.{effects_of, is_by}
 use Rattle.machine_safe.specs.SafeDeaths.{dooms}
 use Rattle.machine_safe.specs.SafeMessages.{IsSafeMessages, notice, code_of_complete}
 use Rattle.machine_safe.specs.Sent.{Accepts, accepts, accepts_by, instruction_in, status_by}
-use Rattle.machine_safe.specs.Served.{ends, owner_in, server_in, is_closing_in}
+use Rattle.machine_safe.specs.Served.{ends_in, owner_in, server_in, is_closing_in}
 use Rattle.machine_safe.proofs.ServedHistory.{served_script, number, message, acts, accepted, serves, joins, connects, completes, first_end, connected, sends, closes, stops, opens, links_elsewhere, AtEach, at-each, other_told, number_told}
 
 -- No message is finished a second time.
@@ -160,7 +160,7 @@ accepted_ended script safe =
     let session : number 7 ≡ a.by.session = ap second_object a.by.told in
     let server : Some (number 6) ≡ Some a.server = subst (λ (x : ObjNo). server_in (opens ++ first_end ∷ connected ∷ stops ∷ []) x ≡ Some a.server) (sym session) a.linked in
     let own : number 6 ≡ a.server = cc in
-    let lasts : ◌≡◌ {A = ℕ} 1 0 = subst (λ (v : ObjNo). ends (effects_of (opens ++ first_end ∷ connected ∷ stops ∷ [])) v ≡ 0) (sym own) a.lasts in absurd (omega arith)
+    let lasts : ◌≡◌ {A = ℕ} 1 0 = subst (λ (v : ObjNo). ends_in (opens ++ first_end ∷ connected ∷ stops ∷ []) v ≡ 0) (sym own) a.lasts in absurd (omega arith)
 
 -- No message is finished that wasn't accepted,
 abbrev never_accepted : List Entry → Entry → Type 0

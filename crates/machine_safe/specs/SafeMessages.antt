@@ -19,7 +19,7 @@ use Rattle.entry_log.specs.declared.step.Step.TheVariants as step
 use Rattle.machine_safe.specs.CountAfter.{effects_of, is_by}
 use Rattle.machine_safe.specs.SafeDeaths.{StandsAt, dooms}
 use Rattle.machine_safe.specs.Sent.{Accepts, WasAccepted, accepts, accepts_by, finishes, instruction_in, status_by}
-use Rattle.machine_safe.specs.Served.{ends, is_closing_in, owner_in, server_in}
+use Rattle.machine_safe.specs.Served.{ends, ends_in, is_closing_in, owner_in, server_in}
 
 -- An acceptance: messages are numbered 1, 2 and so on, an entry accepts one at most, which the acting thread sends, in a step that accepts, with
 -- the status that its instruction names; and the session's server isn't closing before it, and has not ended.
@@ -33,7 +33,7 @@ pub record IsAcceptance (script : Script) (before : List Entry) (e : Entry) : Ty
   pub server : ObjNo
   pub linked : server_in before by.session ≡ Some server
   pub accepting : is_closing_in before server ≡ false
-  pub lasts : ends (effects_of before) server ≡ 0
+  pub lasts : ends_in before server ≡ 0
 
 -- the code that an entry may finish a message with: that of its `complete`, and that of a server which is closing
 abbrev pub code_of_complete : Option Instr → Option ℤ
@@ -72,7 +72,7 @@ NothingLeft before v = (m : MsgNo) (accepted : WasAccepted before m) → server_
 -- The end of a server: it is closing and has not ended, nothing is left of it, and nothing is accepted beside it.
 pub record IsEnd (before : List Entry) (e : Entry) (v : ObjNo) : Type 0 where
   pub closing : is_closing_in before v ≡ true
-  pub first : ends (effects_of before) v ≡ 0
+  pub first : ends_in before v ≡ 0
   pub once : ends e.effects v ≡ 1
   pub alone : accepts e.effects ≡ 0
   pub left : NothingLeft before v

@@ -36,6 +36,7 @@ use Rattle.state_rows.specs.declared.servers.ServerRow.{ServerRow}
 use Rattle.std.proofs.Common.{Bool, List, None, Option, Some, [], arith, length, refl, sym, true, ℕ, ◌++◌, ◌+◌, ◌∙◌, ◌∷◌, ◌≡◌, ◌≤◌, subst, ap, get_or, get_or-set_other, get_or-set_same, inl, inr, ◌<◌}
 use Rattle.std.specs.Prelude.{Contains, if◌then◌else◌, is_some, ◌==◌}
 use Rattle.sym_base.specs.declared.number.ObjNo.{ObjNo}
+use Rattle.machine_safe.proofs.Serving.Since.{fresh-on}
 use Rattle.machine_safe.proofs.Serving.Slots.{link-made, links-told, slots-joined, slots-kept}
 use Rattle.machine_safe.specs.Sent.{instruction_in}
 use Rattle.machine_safe.specs.Slotted.{slots_in}
@@ -65,6 +66,7 @@ module _ (script : Script) (before : List Entry) (S : State) (place : ℕ) (t : 
       served = served-same script _ (reading (before ++ e ∷ [])) (perform t d.moves S) same whole;
       letters = letters-quiet script before S (perform t d.moves S) e book.letters unlinked q (λ p among. unended p.server);
       slotted = record { sessions = slots; pool = q.pool ∙ book.slotted.pool; servers = λ s. links-told before e s (book.slotted.servers s) (link-made e s is.joins) };
+      fresh = fresh-on before e book.fresh (λ makes. let none = is.makes in absurd (cc));
     };
     lawful = unserving script before e q.accepts q.finishes unended (λ sends. let unsent = is.unsent in absurd (cc));
   }
