@@ -16,7 +16,7 @@ use Rattle.machine_safe.specs.SafeDeaths.{StandsAt, cleanings}
 use Rattle.machine_safe.specs.SafeMessages.{IsSafeMessages, NothingLeft}
 use Rattle.machine_safe.specs.SafeServers.{IsSafeServers}
 use Rattle.machine_safe.specs.Sent.{finishes}
-use Rattle.machine_safe.specs.Served.{ends, owner_in, server_told}
+use Rattle.machine_safe.specs.Served.{ends, ends_in, owner_in}
 use Rattle.script_types.proofs.ShapeLaws.{formed_is_shaped}
 use Rattle.script_types.specs.declared.script.Script.{Script}
 use Rattle.std.proofs.Common.{List, Some, [], ap, append_assoc, arith, inl, inr, refl, subst, sym, ◌++◌, ◌<◌, ◌∙◌, ◌∷◌, ◌≡◌}
@@ -85,12 +85,15 @@ module _ (script : Script) (history before : List Entry) (e : Entry) (later : Li
     | inr over ↦ over
   ]
 
+  server-over : 0 < ends_in before v
+  server-over = let same = (book.fresh v t owns).ends in let some = server-ended in omega arith
+
   nothing-left : NothingLeft before v
   nothing-left m a linked = elim (book.letters.all m a) as (λ _. finishes (effects_of before) m ≡ 1) [
     | inl done ↦ done
     | inr out ↦
         let known = book.letters.known out.post out.among in
-        let both : Some out.post.server ≡ Some v = sym known.linked ∙ (ap (server_told (effects_of before)) out.over ∙ linked) in
+        let both : Some out.post.server ≡ Some v = sym out.at ∙ linked in
         let own : out.post.server ≡ v = cc in
         let same_end = ap (ends (effects_of before)) own in
         let lasts = known.lasts in
@@ -99,6 +102,6 @@ module _ (script : Script) (history before : List Entry) (e : Entry) (later : Li
 
 pub legal_servers : (script : Script) (history : List Entry) → IsWellFormed script → IsLegal script history → IsSafeServers history
 legal_servers script history valid legal = record {
-  ended = λ before e later t v is cleaned owns. server-ended script history before e later t v valid legal is cleaned owns;
+  ended = λ before e later t v is cleaned owns. server-over script history before e later t v valid legal is cleaned owns;
   finished = λ before e later t v is cleaned owns. nothing-left script history before e later t v valid legal is cleaned owns;
 }

@@ -24,7 +24,7 @@ use Rattle.machine.specs.Boot.{boot_of}
 use Rattle.machine_safe.specs.CountAfter.{effects_of}
 use Rattle.machine_safe.specs.SafeMessages.{IsAcceptance, IsEnd, IsFinish, IsSafeMessages, NothingLeft}
 use Rattle.machine_safe.specs.Sent.{Accepts, accepts, finishes}
-use Rattle.machine_safe.specs.Served.{ends}
+use Rattle.machine_safe.specs.Served.{ends, ends_in, is_closing_in}
 use Rattle.machine.specs.Decide.{answer}
 
 -- Process 2 has thread 3, which serves, and process 4 has thread 5, its client.
@@ -56,6 +56,10 @@ serves = acts 1 3 (step.Of word.Server part.Do) (effect.Plus (holder.Own (number
 
 abbrev pub joins : Entry
 joins = acts 2 5 (step.Of word.Connect part.Make) (effect.Plus (holder.InThread (number 5) 0) (number 7) ∷ effect.Plus (holder.Link (number 7)) (number 6) ∷ []) None
+
+-- the session is linked in another step than the one that makes sessions
+abbrev pub links_elsewhere : Entry
+links_elsewhere = acts 2 5 (step.Of word.Dup part.Do) (effect.Plus (holder.Link (number 7)) (number 6) ∷ []) None
 
 abbrev pub connects : Entry
 connects = acts 3 5 (step.Of word.Connect part.Send) (accepted 1) None
@@ -156,6 +160,16 @@ second_finished = record {
 -- nothing is left as the server stops
 abbrev pub before_stop : List Entry
 before_stop = serves ∷ joins ∷ connects ∷ first_end ∷ connected ∷ sends 6 2 ∷ second_end ∷ closes 8 ∷ []
+
+-- A server that is made with the number of one that ended isn't closing, and has not ended.
+abbrev made_again : List Entry
+made_again = before_stop ++ stops ∷ serves ∷ []
+
+again_open : is_closing_in made_again (number 6) ≡ false
+again_open = refl
+
+again_lasts : ends_in made_again (number 6) ≡ 0
+again_lasts = refl
 
 abbrev pub IsDone : List Entry → Entry → Type 0
 IsDone before e = (m : MsgNo) → Accepts e m → finishes (effects_of before_stop) m ≡ 1

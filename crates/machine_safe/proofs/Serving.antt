@@ -22,6 +22,7 @@ pub mod Quiet
 pub mod Reading
 pub mod Sending
 pub mod Served
+pub mod Since
 pub mod Slots
 pub mod Stopping
 pub mod Told

@@ -1,5 +1,5 @@
 -- The definition of safe busy answers, tried on a session with one slot: a `send` that is accepted, and one that isn't while that is outstanding;
--- and two histories, changed by hand, that aren't safe.
+-- and five histories, changed by hand, that aren't safe.
 use Rattle.entry_log.specs.declared.effect.Effect.TheVariants as effect
 use Rattle.entry_log.specs.declared.effect.Holder.TheVariants as holder
 use Rattle.entry_log.specs.declared.step.Part.TheVariants as part
@@ -7,10 +7,9 @@ use Rattle.entry_log.specs.declared.step.Step.TheVariants as step
 use Rattle.sym_base.specs.declared.word.Word.TheVariants as word
 use Rattle.entry_log.specs.declared.entry.Entry.{Entry}
 use Rattle.machine.specs.Boot.{boot_of}
-use Rattle.machine_safe.proofs.ServedHistory.{closes, connects, acts, connected, first_end, joins, number, sends, served_script, serves}
-use Rattle.machine_safe.specs.CountAfter.{effects_of}
+use Rattle.machine_safe.proofs.ServedHistory.{closes, connects, links_elsewhere, acts, connected, first_end, joins, number, sends, served_script, serves}
 use Rattle.machine_safe.specs.SafeBusy.{IsSafeBusy, IsSendAnswer, accepted_of, accepts_in, is_full_in}
-use Rattle.machine_safe.specs.Served.{server_told}
+use Rattle.machine_safe.specs.Served.{server_in}
 use Rattle.machine_safe.specs.Slotted.{looked_in, slots_in}
 use Rattle.std.proofs.Common.{List, None, Some, [], arith, refl, subst, sym, ℕ, ◌++◌, ◌∷◌, ◌≡◌}
 use Rattle.sym_base.specs.ErrorCode.{error_code}
@@ -41,7 +40,7 @@ is_busy = record { thread = number 5; actor = refl; session = number 7; looked =
 
 -- how many messages a `send` over the session accepts, as told
 abbrev wanted : List Entry → ObjNo → ℕ
-wanted before s = accepted_of (accepts_in before (server_told (effects_of before) s)) (is_full_in served_script before s (slots_in served_script before s))
+wanted before s = accepted_of (accepts_in before (server_in before s)) (is_full_in served_script before s (slots_in served_script before s))
 
 -- No `send` is refused as busy with a slot left.
 busy_with_slot : IsSafeBusy served_script (with_slot ++ is_refused 7 ∷ []) → ⊥
@@ -78,6 +77,19 @@ accepted_after_other safe =
     let session : Some (number 7) ≡ Some a.session = subst (λ (u : ObjNo). looked_in looked_away u ≡ Some a.session) (sym thread) a.looked in
     let own : number 7 ≡ a.session = cc in
     let none : ◌≡◌ {A = ℕ} 1 0 = subst (λ (s : ObjNo). 1 ≡ wanted looked_away s) (sym own) a.accepted in absurd (omega arith)
+
+-- Nor over a session that only another step linked: it is at no server then.
+abbrev linked_elsewhere : List Entry
+linked_elsewhere = serves ∷ links_elsewhere ∷ looks 3 ∷ []
+
+accepted_elsewhere : IsSafeBusy served_script (linked_elsewhere ++ sends 4 1 ∷ []) → ⊥
+unfolding boot_of
+accepted_elsewhere safe =
+    let a = safe.answers linked_elsewhere (sends 4 1) [] refl refl in
+    let thread : number 5 ≡ a.thread = cc in
+    let session : Some (number 7) ≡ Some a.session = subst (λ (u : ObjNo). looked_in linked_elsewhere u ≡ Some a.session) (sym thread) a.looked in
+    let own : number 7 ≡ a.session = cc in
+    let none : ◌≡◌ {A = ℕ} 1 0 = subst (λ (s : ObjNo). 1 ≡ wanted linked_elsewhere s) (sym own) a.accepted in absurd (omega arith)
 
 -- And one to a server that is closing is answered as terminated, and not accepted.
 abbrev closed_away : List Entry

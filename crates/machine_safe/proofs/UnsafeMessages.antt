@@ -1,5 +1,5 @@
 -- The definition of safe messages, tried on histories, changed by hand, that aren't safe.
-use Rattle.std.proofs.Common.{◌≡◌, ℕ, ℤ, ◌+◌, List, [], ◌∷◌, ◌++◌, Option, Some, None, Bool, true, false, refl, sym, ap, subst, arith, length}
+use Rattle.std.proofs.Common.{◌≡◌, ℕ, ℤ, ◌+◌, List, [], ◌∷◌, ◌++◌, ◌∙◌, Option, Some, None, Bool, true, false, refl, sym, ap, subst, arith, length}
 use Rattle.std.specs.Prelude.{pos, nat_lt}
 use Rattle.sym_base.specs.declared.number.MsgNo.{MsgNo}
 use Rattle.sym_base.specs.declared.number.ObjNo.{ObjNo}
@@ -18,8 +18,8 @@ use Rattle.machine_safe.specs.CountAfter.{effects_of, is_by}
 use Rattle.machine_safe.specs.SafeDeaths.{dooms}
 use Rattle.machine_safe.specs.SafeMessages.{IsSafeMessages, notice, code_of_complete}
 use Rattle.machine_safe.specs.Sent.{Accepts, accepts, accepts_by, instruction_in, status_by}
-use Rattle.machine_safe.specs.Served.{ends, owner_in, server_told, is_closing_in}
-use Rattle.machine_safe.proofs.ServedHistory.{served_script, number, message, acts, accepted, serves, joins, connects, completes, first_end, connected, sends, closes, stops, opens, AtEach, at-each, other_told, number_told}
+use Rattle.machine_safe.specs.Served.{ends_in, owner_in, server_in, is_closing_in}
+use Rattle.machine_safe.proofs.ServedHistory.{served_script, number, message, acts, accepted, serves, joins, connects, completes, first_end, connected, sends, closes, stops, opens, links_elsewhere, AtEach, at-each, other_told, number_told}
 
 -- No message is finished a second time.
 finished_twice : (script : Script) → IsSafeMessages script (opens ++ first_end ∷ completes 5 1 (effect.Finish (message 1) (pos 0) ∷ []) ∷ []) → ⊥
@@ -88,7 +88,7 @@ unfolding second_object
 accepted_late script safe =
     let a = safe.acceptances (opens ++ first_end ∷ connected ∷ closes 6 ∷ []) (sends 7 2) [] refl (omega arith) in
     let session : number 7 ≡ a.by.session = ap second_object a.by.told in
-    let server : Some (number 6) ≡ Some a.server = subst (λ (s : ObjNo). server_told (effects_of (opens ++ first_end ∷ connected ∷ closes 6 ∷ [])) s ≡ Some a.server) (sym session) a.linked in
+    let server : Some (number 6) ≡ Some a.server = subst (λ (s : ObjNo). server_in (opens ++ first_end ∷ connected ∷ closes 6 ∷ []) s ≡ Some a.server) (sym session) a.linked in
     let own : number 6 ≡ a.server = cc in
     let accepting : true ≡ false = subst (λ (v : ObjNo). is_closing_in (opens ++ first_end ∷ connected ∷ closes 6 ∷ []) v ≡ false) (sym own) a.accepting in cc
 
@@ -143,6 +143,14 @@ accepted_for_another script safe =
     let client : number 5 ≡ a.by.client = ap third_object a.by.told in
     let other : false ≡ true = subst (λ (u : ObjNo). is_by u (Thread (number 3)) ≡ true) (sym client) a.client in cc
 
+-- Nor over a session that is linked in another step than the one that makes sessions.
+accepted_elsewhere : (script : Script) → IsSafeMessages script (serves ∷ links_elsewhere ∷ connects ∷ []) → ⊥
+unfolding second_object
+accepted_elsewhere script safe =
+    let a = safe.acceptances (serves ∷ links_elsewhere ∷ []) connects [] refl (omega arith) in
+    let session : number 7 ≡ a.by.session = ap second_object a.by.told in
+    let server : None ≡ Some a.server = subst (λ (s : ObjNo). server_in (serves ∷ links_elsewhere ∷ []) s ≡ Some a.server) (sym session) a.linked in cc
+
 -- Nor by a server that ended.
 accepted_ended : (script : Script) → IsSafeMessages script (opens ++ first_end ∷ connected ∷ stops ∷ sends 7 2 ∷ []) → ⊥
 unfolding second_object
@@ -150,9 +158,9 @@ accepted_ended script safe =
     let before = opens ++ first_end ∷ connected ∷ stops ∷ [] in
     let a = safe.acceptances (opens ++ first_end ∷ connected ∷ stops ∷ []) (sends 7 2) [] refl (omega arith) in
     let session : number 7 ≡ a.by.session = ap second_object a.by.told in
-    let server : Some (number 6) ≡ Some a.server = subst (λ (x : ObjNo). server_told (effects_of (opens ++ first_end ∷ connected ∷ stops ∷ [])) x ≡ Some a.server) (sym session) a.linked in
+    let server : Some (number 6) ≡ Some a.server = subst (λ (x : ObjNo). server_in (opens ++ first_end ∷ connected ∷ stops ∷ []) x ≡ Some a.server) (sym session) a.linked in
     let own : number 6 ≡ a.server = cc in
-    let lasts : ◌≡◌ {A = ℕ} 1 0 = subst (λ (v : ObjNo). ends (effects_of (opens ++ first_end ∷ connected ∷ stops ∷ [])) v ≡ 0) (sym own) a.lasts in absurd (omega arith)
+    let lasts : ◌≡◌ {A = ℕ} 1 0 = subst (λ (v : ObjNo). ends_in (opens ++ first_end ∷ connected ∷ stops ∷ []) v ≡ 0) (sym own) a.lasts in absurd (omega arith)
 
 -- No message is finished that wasn't accepted,
 abbrev never_accepted : List Entry → Entry → Type 0
@@ -167,12 +175,12 @@ finished_unaccepted script safe =
     let a = end.accepted in at-each never_accepted [] opens a.before a.at a.later each_other a.stands a.by
 
 -- or by another than the owner of its server.
-abbrev NamesSession : List Entry → Entry → Type 0
-NamesSession before e = (by : Accepts e (message 1)) → number 7 ≡ by.session
+abbrev NamesServer : List Entry → Entry → Type 0
+NamesServer before e = (by : Accepts e (message 1)) → Some (number 6) ≡ server_in before by.session
 
-each_session : AtEach NamesSession [] opens
+each_server : AtEach NamesServer [] opens
 unfolding second_object
-each_session = (λ a. absurd (other_told serves (message 1) refl a), (λ a. absurd (other_told joins (message 1) refl a), (λ a. ap second_object a.told, tt)))
+each_server = (λ a. absurd (other_told serves (message 1) refl a), (λ a. absurd (other_told joins (message 1) refl a), (λ a. ap (server_in (serves ∷ joins ∷ [])) (ap second_object a.told), tt)))
 
 abbrev ends_own : Entry
 ends_own = acts 4 5 (step.Of word.Complete part.Do) (effect.Finish (message 1) (pos 0) ∷ effect.Signal (number 5) status.Sync (pos 0) ∷ []) (Some (pos 0))
@@ -181,8 +189,7 @@ finished_by_another : (script : Script) → IsSafeMessages script (opens ++ ends
 finished_by_another script safe =
     let end = safe.finished opens ends_own [] (message 1) refl (omega arith) in
     let a = end.accepted in
-    let session : number 7 ≡ a.by.session = at-each NamesSession [] opens a.before a.at a.later each_session a.stands a.by in
-    let server : Some (number 6) ≡ Some end.server = subst (λ (x : ObjNo). server_told (effects_of opens) x ≡ Some end.server) (sym session) end.linked in
+    let server : Some (number 6) ≡ Some end.server = at-each NamesServer [] opens a.before a.at a.later each_server a.stands a.by ∙ end.linked in
     let own : number 6 ≡ end.server = cc in
     let owner : Some (number 3) ≡ Some end.owner = subst (λ (v : ObjNo). owner_in opens v ≡ Some end.owner) (sym own) end.owns in
     let actor : Thread (number 5) ≡ Thread end.owner = end.actor in

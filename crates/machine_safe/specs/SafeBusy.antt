@@ -9,10 +9,9 @@ use Rattle.script_types.specs.declared.script.Script.{Script}
 use Rattle.entry_log.specs.declared.entry.Actor.TheVariants.{Thread}
 use Rattle.entry_log.specs.declared.entry.Entry.{Entry}
 use Rattle.state_rows.specs.MessageRows.{all_slots}
-use Rattle.machine_safe.specs.CountAfter.{effects_of}
 use Rattle.machine_safe.specs.SafeDeaths.{StandsAt}
 use Rattle.machine_safe.specs.Sent.{accepts}
-use Rattle.machine_safe.specs.Served.{is_closing_in, server_told}
+use Rattle.machine_safe.specs.Served.{is_closing_in, server_in}
 use Rattle.machine_safe.specs.Slotted.{looked_in, slots_in, used_in}
 use Rattle.machine.specs.EntryWords.{is_send}
 
@@ -42,8 +41,8 @@ pub record IsSendAnswer (script : Script) (before : List Entry) (e : Entry) : Ty
   pub actor : e.actor ≡ Thread thread
   pub session : ObjNo
   pub looked : looked_in before thread ≡ Some session
-  pub answer : e.answer ≡ Some (answer_of (accepts_in before (server_told (effects_of before) session)) (is_full_in script before session (slots_in script before session)))
-  pub accepted : accepts e.effects ≡ accepted_of (accepts_in before (server_told (effects_of before) session)) (is_full_in script before session (slots_in script before session))
+  pub answer : e.answer ≡ Some (answer_of (accepts_in before (server_in before session)) (is_full_in script before session (slots_in script before session)))
+  pub accepted : accepts e.effects ≡ accepted_of (accepts_in before (server_in before session)) (is_full_in script before session (slots_in script before session))
 
 pub record IsSafeBusy (script : Script) (history : List Entry) : Type 0 where
   pub answers : (before : List Entry) (e : Entry) (later : List Entry) → StandsAt history before e later → is_send e.step ≡ true → IsSendAnswer script before e

@@ -19,7 +19,7 @@ use Rattle.entry_log.specs.declared.step.Step.TheVariants as step
 use Rattle.machine_safe.specs.CountAfter.{effects_of, is_by}
 use Rattle.machine_safe.specs.SafeDeaths.{StandsAt, dooms}
 use Rattle.machine_safe.specs.Sent.{Accepts, WasAccepted, accepts, accepts_by, finishes, instruction_in, status_by}
-use Rattle.machine_safe.specs.Served.{ends, is_closing_in, owner_in, server_told}
+use Rattle.machine_safe.specs.Served.{ends, ends_in, is_closing_in, owner_in, server_in}
 
 -- An acceptance: messages are numbered 1, 2 and so on, an entry accepts one at most, which the acting thread sends, in a step that accepts, with
 -- the status that its instruction names; and the session's server isn't closing before it, and has not ended.
@@ -31,9 +31,9 @@ pub record IsAcceptance (script : Script) (before : List Entry) (e : Entry) : Ty
   pub client : is_by by.client e.actor ≡ true
   pub step : accepts_by e.step (status_by e.step (instruction_in script before by.client)) ≡ true
   pub server : ObjNo
-  pub linked : server_told (effects_of before) by.session ≡ Some server
+  pub linked : server_in before by.session ≡ Some server
   pub accepting : is_closing_in before server ≡ false
-  pub lasts : ends (effects_of before) server ≡ 0
+  pub lasts : ends_in before server ≡ 0
 
 -- the code that an entry may finish a message with: that of its `complete`, and that of a server which is closing
 abbrev pub code_of_complete : Option Instr → Option ℤ
@@ -50,13 +50,13 @@ abbrev pub notice : Option StatusNo → Bool → ObjNo → ℤ → List Effect
 notice (Some status) false client code = effect.Signal client status code ∷ []
 notice _ doomed client code = []
 
--- The end of a message: it was accepted and isn't finished yet, the owner of its session's server finishes it, with the code of its
+-- The end of a message: it was accepted and isn't finished yet, the owner of the server that its session was at then finishes it, with the code of its
 -- instruction or as the server is closing; and beside it stands what its client is told, and nothing else.
 pub record IsFinish (script : Script) (before : List Entry) (e : Entry) (m : MsgNo) : Type 0 where
   pub accepted : WasAccepted before m
   pub once : finishes (effects_of before) m ≡ 0
   pub server : ObjNo
-  pub linked : server_told (effects_of before) accepted.by.session ≡ Some server
+  pub linked : server_in accepted.before accepted.by.session ≡ Some server
   pub owner : ObjNo
   pub owns : owner_in before server ≡ Some owner
   pub actor : e.actor ≡ Thread owner
@@ -65,14 +65,14 @@ pub record IsFinish (script : Script) (before : List Entry) (e : Entry) (m : Msg
   pub told : e.effects ≡ effect.Finish m code ∷
       notice (status_by accepted.at.step (instruction_in script accepted.before accepted.by.client)) (nat_lt 0 (dooms (effects_of before) accepted.by.client)) accepted.by.client code
 
--- nothing is left of a server: each message over a session of it is finished
+-- nothing is left of a server: each message is finished whose session was at it as that was accepted
 abbrev pub NothingLeft : List Entry → ObjNo → Type 0
-NothingLeft before v = (m : MsgNo) (accepted : WasAccepted before m) → server_told (effects_of before) accepted.by.session ≡ Some v → finishes (effects_of before) m ≡ 1
+NothingLeft before v = (m : MsgNo) (accepted : WasAccepted before m) → server_in accepted.before accepted.by.session ≡ Some v → finishes (effects_of before) m ≡ 1
 
 -- The end of a server: it is closing and has not ended, nothing is left of it, and nothing is accepted beside it.
 pub record IsEnd (before : List Entry) (e : Entry) (v : ObjNo) : Type 0 where
   pub closing : is_closing_in before v ≡ true
-  pub first : ends (effects_of before) v ≡ 0
+  pub first : ends_in before v ≡ 0
   pub once : ends e.effects v ≡ 1
   pub alone : accepts e.effects ≡ 0
   pub left : NothingLeft before v

@@ -3,11 +3,10 @@
 use Rattle.std.specs.Prelude.{◌≡◌, ◌<◌, List, [], ◌∷◌, Some}
 use Rattle.sym_base.specs.declared.number.ObjNo.{ObjNo}
 use Rattle.entry_log.specs.declared.entry.Entry.{Entry}
-use Rattle.machine_safe.specs.CountAfter.{effects_of}
 use Rattle.machine_safe.specs.SafeDeaths.{StandsAt, cleanings}
 use Rattle.machine_safe.specs.SafeMessages.{NothingLeft}
-use Rattle.machine_safe.specs.Served.{ends, owner_in}
+use Rattle.machine_safe.specs.Served.{ends_in, owner_in}
 
 pub record IsSafeServers (history : List Entry) : Type 0 where
-  pub ended : (before : List Entry) (e : Entry) (later : List Entry) (t v : ObjNo) → StandsAt history before e later → 0 < cleanings (e ∷ []) t → owner_in before v ≡ Some t → 0 < ends (effects_of before) v
+  pub ended : (before : List Entry) (e : Entry) (later : List Entry) (t v : ObjNo) → StandsAt history before e later → 0 < cleanings (e ∷ []) t → owner_in before v ≡ Some t → 0 < ends_in before v
   pub finished : (before : List Entry) (e : Entry) (later : List Entry) (t v : ObjNo) → StandsAt history before e later → 0 < cleanings (e ∷ []) t → owner_in before v ≡ Some t → NothingLeft before v

@@ -1,6 +1,6 @@
 -- What the entries of a history tell of servers: who owns one, which server a session is at, and whether a server is
 -- closing or has ended.
-use Rattle.std.specs.Prelude.{ℕ, ◌+◌, ◌==◌, ◌||◌, Bool, true, false, nat_lt, if◌then◌else◌, List, [], ◌∷◌, Option, Some, None}
+use Rattle.std.specs.Prelude.{ℕ, ◌+◌, ◌==◌, ◌||◌, Bool, true, false, is_some, nat_lt, if◌then◌else◌, List, [], ◌∷◌, Option, Some, None}
 use Rattle.sym_base.specs.declared.number.ObjNo.{ObjNo}
 use Rattle.sym_base.specs.declared.word.Word.TheVariants as word
 use Rattle.entry_log.specs.declared.effect.Effect.{Effect}
@@ -23,11 +23,23 @@ or_before (Some o) earlier = Some o
 abbrev pub one_if : Bool → ObjNo → Option ObjNo
 one_if is o = if is then Some o else None
 
--- the server of a session: what the session's link refers to
+-- what effects tell that a session's link refers to
 abbrev pub server_told : List Effect → ObjNo → Option ObjNo
 server_told [] s = None
 server_told (Plus (Link x) v ∷ rest) s = or_before (server_told rest s) (one_if (x.0 == s.0) v)
 server_told (_ ∷ rest) s = server_told rest s
+
+-- the server of a session: what the link refers to that it got in the entry that made it, which is the second step of a `connect`
+abbrev pub makes_session : Step → Bool
+makes_session (step.Of word.Connect part.Make) = true
+makes_session _ = false
+
+abbrev pub link_by : Entry → ObjNo → Option ObjNo
+link_by e s = if makes_session e.step then server_told e.effects s else None
+
+abbrev pub server_in : List Entry → ObjNo → Option ObjNo
+server_in [] s = None
+server_in (e ∷ es) s = or_before (server_in es s) (link_by e s)
 
 -- the owner of a server: the thread that got it as its own in the entry that made it
 abbrev pub owner_told : List Effect → ObjNo → Option ObjNo
@@ -38,6 +50,12 @@ owner_told (_ ∷ rest) v = owner_told rest v
 abbrev pub owner_in : List Entry → ObjNo → Option ObjNo
 owner_in [] v = None
 owner_in (e ∷ es) v = or_before (owner_in es v) (if makes_server e.step then owner_told e.effects v else None)
+
+-- The entries from the last on that made a server, or all where none did: what stands before that is told of another server of its number, and of
+-- another thread of its owner's.
+abbrev pub since : List Entry → ObjNo → List Entry
+since [] v = []
+since (e ∷ es) v = if is_some (owner_in es v) then since es v else e ∷ es
 
 -- how often handles of an object are closed, by `close` or in the death of a thread
 abbrev pub handles_lost : List Effect → ObjNo → ℕ
@@ -54,16 +72,19 @@ abbrev pub closings : List Entry → ObjNo → ℕ
 closings [] v = 0
 closings (e ∷ es) v = (if closes_handle e.step then handles_lost e.effects v else 0) + closings es v
 
--- a server is closing once its handle is closed or its owner is doomed
+-- a server is closing once, since it was made, its handle is closed or its owner is doomed
 abbrev pub is_doomed : List Effect → Option ObjNo → Bool
 is_doomed effects None = false
 is_doomed effects (Some t) = nat_lt 0 (dooms effects t)
 
 abbrev pub is_closing_in : List Entry → ObjNo → Bool
-is_closing_in es v = nat_lt 0 (closings es v) || is_doomed (effects_of es) (owner_in es v)
+is_closing_in es v = nat_lt 0 (closings (since es v) v) || is_doomed (effects_of (since es v)) (owner_in es v)
 
--- how often a server ended
+-- how often a server ended, and how often since it was made
 abbrev pub ends : List Effect → ObjNo → ℕ
 ends [] v = 0
 ends (Terminated o ∷ rest) v = same o v + ends rest v
 ends (_ ∷ rest) v = ends rest v
+
+abbrev pub ends_in : List Entry → ObjNo → ℕ
+ends_in es v = ends (effects_of (since es v)) v

@@ -22,7 +22,7 @@ use Rattle.state_rows.specs.MessageRows.{is_pool}
 use Rattle.machine.specs.EntryWords.{is_send}
 use Rattle.machine_safe.specs.CountAfter.{effects_of, is_by}
 use Rattle.machine_safe.specs.Sent.{finishes, instruction_in}
-use Rattle.machine_safe.specs.Served.{one_if, or_before, server_told}
+use Rattle.machine_safe.specs.Served.{link_by, one_if, or_before}
 
 -- the object that effects say a thread came to use last
 abbrev pub used_told : List Effect → ObjNo → Option ObjNo
@@ -55,7 +55,7 @@ slots_by script before _ = None
 abbrev pub slots_from : Script → List Entry → List Entry → ObjNo → Option Slots
 slots_from script before [] s = None
 slots_from script before (e ∷ es) s =
-    slots_before (slots_from script (before ++ e ∷ []) es s) (if is_some (server_told e.effects s) then slots_by script before e.actor else None)
+    slots_before (slots_from script (before ++ e ∷ []) es s) (if is_some (link_by e s) then slots_by script before e.actor else None)
 
 abbrev pub slots_in : Script → List Entry → ObjNo → Option Slots
 slots_in script es s = slots_from script [] es s

@@ -61,6 +61,7 @@ use Rattle.entry_log.specs.declared.step.Step.TheVariants as step
 use Rattle.state_rows.specs.declared.deferred.Item.TheVariants as item
 use Rattle.machine_safe.proofs.Serving.Giving.{deed-of}
 use Rattle.machine.specs.declared.moves.Move.{Move}
+use Rattle.machine_safe.proofs.Serving.Since.{fresh-on}
 use Rattle.machine_safe.proofs.Serving.Slots.{slotted-keeps}
 use Rattle.script_types.specs.declared.declaration.DfcDecl.{DfcDecl}
 use Rattle.script_types.specs.declared.declaration.IdfcDecl.{IdfcDecl}
@@ -94,6 +95,7 @@ turn-without script before S place t actor d rows book nobody silent unsent calm
             (λ _. calm.mutexes refl) (λ v some. let none = detach-none v d.moves (calm.calm refl) in absurd (omega arith)));
         letters = letters-quiet script before S (perform t d.moves S) e book.letters (λ p among. k.unlinked p.session) q (λ p among. k.unended p.server);
         slotted = slotted-keeps script before e S (perform t d.moves S) book.slotted k.unlinked k.slots q.pool;
+        fresh = fresh-on before e book.fresh (λ _. k.unowned (calm.mutexes refl));
       };
       lawful = unserving script before e q.accepts q.finishes k.unended (λ sends. absurd (cc));
     }
@@ -188,5 +190,6 @@ book-boot script shaped = record {
     later = λ m above. refl;
     sends = refl;
   };
-  slotted = record { sessions = λ s row is. let none = no_session OBJECTS s in absurd (cc); pool = refl };
+  slotted = record { sessions = λ s row is. let none = no_session OBJECTS s in absurd (cc); pool = refl; servers = λ s. refl };
+  fresh = λ v t owns. absurd (cc);
 }

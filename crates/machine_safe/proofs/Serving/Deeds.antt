@@ -16,7 +16,7 @@ use Rattle.machine_laws.proofs.Fitting.Regular.{serving_bit}
 use Rattle.machine_safe.proofs.Serving.Keeps.{changing-none, changing_bit, lost-none, lost_bit, message-none, message_bit, detach-none, detach_bit}
 use Rattle.machine_safe.specs.SafeMessages.{code_by}
 use Rattle.machine_safe.specs.Sent.{accepts_by, status_by}
-use Rattle.machine_safe.specs.Served.{closes_handle}
+use Rattle.machine_safe.specs.Served.{closes_handle, makes_session}
 use Rattle.script_types.specs.declared.instruction.Instr.{Instr}
 use Rattle.state_rows.specs.MessageRows.{message_of, is_async, is_full}
 use Rattle.state_rows.specs.ServerRows.{is_closing, owner_of, server_at, server_of}
@@ -154,6 +154,7 @@ pub record IsJoining (S : State) (t : ObjNo) (at : Option Instr) (d : Decision) 
   pub back : List Move
   pub moves : d.moves ≡ Make kind.Session [] holder ∷ Servers (Join (next_object S) server slots t) ∷ back
   pub quiet : total serving_bit back ≡ 0
+  pub joins : makes_session d.step ≡ true
   pub makes : makes_server d.step ≡ false
   pub step : closes_handle d.step ≡ false
   pub unsent : is_send d.step ≡ false

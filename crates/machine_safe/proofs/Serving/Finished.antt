@@ -28,12 +28,11 @@ use Rattle.machine_safe.proofs.Serving.Quiet.{IsQuiet, Post, post_of, posts, qui
 use Rattle.machine_safe.proofs.Serving.Reading.{reading}
 use Rattle.machine_safe.proofs.Serving.Sending.{behind-quiet}
 use Rattle.machine_safe.proofs.Serving.Served.{served-made}
-use Rattle.machine_safe.proofs.Serving.Turns.{Book, IsTurn, entry_for, served-doing}
+use Rattle.machine_safe.proofs.Serving.Turns.{closing-told-by, Book, IsTurn, entry_for, served-doing}
 use Rattle.machine_safe.specs.CountAfter.{effects_of}
 use Rattle.machine_safe.specs.SafeDeaths.{dooms}
 use Rattle.machine_safe.specs.SafeMessages.{IsFinish, code_by, notice}
 use Rattle.machine_safe.specs.Sent.{accepts, finishes, instruction_in, status_by}
-use Rattle.machine_safe.specs.Served.{server_told}
 use Rattle.move_laws.proofs.Lists.Contents.{contains_behind, contains_cases, contains_first, found_there, none_contained}
 use Rattle.move_laws.proofs.Lists.Totals.{total-append}
 use Rattle.move_laws.proofs.MoveLaws.RowMoves.{silent}
@@ -52,6 +51,7 @@ use Rattle.std.proofs.lemmas.Bool.{eq-eqb, eqb-true, le-ltb, lt-ltb}
 use Rattle.std.specs.Prelude.{Contains, filter, if◌then◌else◌, is_some, nat_lt, not, option_map, ◌==◌}
 use Rattle.sym_base.specs.declared.number.MsgNo.{MsgNo}
 use Rattle.sym_base.specs.declared.number.ObjNo.{ObjNo}
+use Rattle.machine_safe.proofs.Serving.Since.{fresh-on}
 use Rattle.machine_safe.proofs.Serving.Slots.{over, over-less, slotted-keeps}
 use Rattle.machine_laws.proofs.Fitting.Regular.{IsRegular, Kinds, plain}
 use Rattle.machine_laws.proofs.Fitting.Finishing.{tame-refused, tame-reply_to}
@@ -156,6 +156,7 @@ module _ (script : Script) (before : List Entry) (S : State) (place : ℕ) (t : 
           (λ x there apart. subst (λ (l : List Post). Contains l x) (sym left) (other-posts m.number S.messages.outstanding x there apart))
           same_accepted (ap accepts told ∙ (notice-silent _ _ _ _).0) finishes_it keeps.unended (rows.messages.given m found) (ap over left ∙ over-less m.number S.messages.outstanding);
       slotted = slotted-keeps script before e S T book.slotted keeps.unlinked keeps.slots (ap (λ (l : List Move). pool_of (perform t l S)) is.moves ∙ quiet.pool);
+      fresh = fresh-on before e book.fresh (λ makes. keeps.unowned (regular.making makes));
     };
     lawful = record {
       acceptance = λ some. let a = ap accepts told in let b = (notice-silent (status_of_way m.row.way) (nat_lt 0 (dooms (effects_of before) m.row.client)) m.row.client is.code).0 in absurd (omega arith);
@@ -247,12 +248,12 @@ module _ (script : Script) (before : List Entry) (S : State) (place : ℕ) (t : 
             accepted = known.accepted;
             once = known.unfinished;
             server = is.message.row.server;
-            linked = ap (server_told (effects_of before)) known.session ∙ known.linked;
+            linked = known.linked_then;
             owner = t;
             owns = row.owner ∙ ap Some server.2;
             actor = refl;
             code = is.code;
-            cause = ap (λ (b : Bool). code_by d.step b (instruction_in script before t)) (sym row.closing ∙ sym (ap closes server.1)) ∙ is.cause;
+            cause = ap (λ (b : Bool). code_by d.step b (instruction_in script before t)) (closing-told-by script before S is.message.row.server server.0 book server.1 ∙ sym (ap closes server.1)) ∙ is.cause;
             told = told ∙ (ap (λ (x : Option StatusNo). effect.Finish is.message.number is.code ∷ notice x (nat_lt 0 (dooms (effects_of before) is.message.row.client)) is.message.row.client is.code) (sym known.way)
                 ∙ ap (λ (u : ObjNo). effect.Finish is.message.number is.code ∷ notice (status_by known.accepted.at.step (instruction_in script known.accepted.before u)) (nat_lt 0 (dooms (effects_of before) u)) u is.code) (sym known.client));
           }

@@ -17,7 +17,9 @@ use Rattle.machine_laws.proofs.Fitting.Regular.{advance_bit, closed_bit, doomed_
 use Rattle.machine_safe.proofs.Serving.Deeds.{IsMaking}
 use Rattle.machine_safe.proofs.Serving.Doing.{Doing, IsGoing, going, going-then, keeps-going, quiet-doing}
 use Rattle.machine_safe.proofs.Serving.Fated.{doom-among, doom-told}
-use Rattle.machine_safe.proofs.Serving.Keeps.{Keeps, changing-none, message-none, message_bit, steps_of, detach-none, WasSession}
+use Rattle.machine_safe.proofs.Serving.EffectSums.{owner_told-append}
+use Rattle.move_laws.proofs.Lives.LivesMove.{zero_or}
+use Rattle.machine_safe.proofs.Serving.Keeps.{closing-row, Keeps, changing-none, message-none, message_bit, steps_of, detach-none, WasSession}
 use Rattle.machine_safe.proofs.Serving.Kept.{AreMade}
 use Rattle.machine_safe.proofs.Serving.Letters.{letters-quiet}
 use Rattle.machine_safe.proofs.Serving.Making.{served-made_server}
@@ -27,14 +29,16 @@ use Rattle.machine_safe.proofs.Serving.Served.{Served, served-keeps, served-made
 use Rattle.machine_safe.proofs.Serving.Turns.{Book, IsTurn, entry_for, unserving, counts}
 use Rattle.machine_safe.specs.CountAfter.{effects_of}
 use Rattle.machine_safe.specs.SafeDeaths.{dooms}
-use Rattle.machine_safe.specs.Served.{ends, handles_lost, server_told}
+use Rattle.machine_safe.specs.Served.{closings, ends, handles_lost, one_if, or_before, owner_in, owner_told, server_told}
 use Rattle.script_types.specs.declared.script.Script.{Script}
-use Rattle.std.proofs.Common.{Bool, List, None, [], ap, arith, subst, sym, ℕ, ◌++◌, ◌+◌, ◌∙◌, ◌∷◌, ◌≡◌, Option, Some, get_or}
-use Rattle.std.specs.Prelude.{if◌then◌else◌}
+use Rattle.std.proofs.Common.{Bool, true, false, refl, List, None, [], ap, arith, subst, sym, ℕ, ◌++◌, ◌+◌, ◌∙◌, ◌∷◌, ◌≡◌, Option, Some, get_or}
+use Rattle.std.specs.Prelude.{if◌then◌else◌, ◌==◌}
+use Rattle.std.proofs.lemmas.Bool.{eqb-true}
 use Rattle.sym_base.specs.declared.number.ObjNo.{ObjNo}
+use Rattle.machine_safe.proofs.Serving.Since.{fresh-made}
 use Rattle.machine_safe.proofs.Serving.Slots.{slotted-keeps}
 use Rattle.state_rows.proofs.SoundChanges.{set_item}
-use Rattle.state_rows.specs.ServerRows.{session_at}
+use Rattle.state_rows.specs.ServerRows.{server_at, session_at}
 use Rattle.state_rows.specs.declared.servers.SessionRow.{SessionRow}
 use Rattle.machine_laws.proofs.Fitting.Regular.{IsRegular, Kinds}
 
@@ -49,6 +53,7 @@ module _ (script : Script) (before : List Entry) (S : State) (place : ℕ) (t : 
       served = served-same script (further (further (reading before) d.step fs (λ k. 0)) d.step gs (steps_of t rest)) (reading (before ++ e ∷ [])) (perform t d.moves S) same whole;
       letters = letters-quiet script before S (perform t d.moves S) e book.letters (λ p among. unlinked p.session) q (λ p among. unended p.server);
       slotted = slotted-keeps script before e S (perform t d.moves S) book.slotted unlinked slots q.pool;
+      fresh = fresh-made before e book.fresh untold;
     };
     lawful = unserving script before e q.accepts q.finishes unended (λ sends. let unsent = is.unsent in absurd (cc));
   }
@@ -105,6 +110,26 @@ module _ (script : Script) (before : List Entry) (S : State) (place : ℕ) (t : 
       same = same-then _ (further (reading before) d.step e.effects (λ k. 0 + steps_of t rest k)) _
           (subst (λ (l : List Effect). IsSame (further (further (reading before) d.step fs (λ k. 0)) d.step gs (steps_of t rest)) (further (reading before) d.step l (λ k. 0 + steps_of t rest k))) (sym told) (same-both (reading before) d.step fs gs (λ k. 0) (steps_of t rest)))
           (same-entry before e (λ k. 0 + steps_of t rest k) (λ k. let a = counts t rest d k (let a = regular.answers in let b = ap (total advance_bit) is.moves in omega arith) in omega arith))
+
+      owner-told : (v : ObjNo) → owner_told e.effects v ≡ one_if (o.0 == v.0) t
+      owner-told v =
+          ap (λ (l : List Effect). owner_told l v) told ∙ (owner_told-append fs gs v
+          ∙ ap (λ (x : Option ObjNo). or_before x (owner_told fs v)) (keeps.unowned (let a = regular.making is.makes in let b = ap (total mutex_bit) is.moves in omega arith) v))
+
+      owner-new : (v u : ObjNo) (b : Bool) → (o.0 == v.0) ≡ b → one_if b t ≡ Some u → (o.0 ≡ v.0) × (t ≡ u)
+      owner-new v u true same is = (eqb-true o.0 v.0 same, cc)
+      owner-new v u false same is = absurd (cc)
+
+      -- nothing is told of the server before
+      untold : (v u : ObjNo) → owner_in (e ∷ []) v ≡ Some u → (closings before v ≡ 0) × (ends (effects_of before) v ≡ 0) × (dooms (effects_of before) u ≡ 0)
+      untold v u owns =
+          let first_owner = ap (λ (b : Bool). if b then owner_told e.effects v else None) is.makes in
+          let new = owner-new v u (o.0 == v.0) refl (sym (owner-told v) ∙ (sym first_owner ∙ owns)) in
+          let at = new.0 in (
+            book.served.unmade v (omega arith),
+            zero_or (ends (effects_of before) v) (λ some. let row = closing-row (server_at S.servers v) (book.served.ended v some) in let below = made v row.0 row.1 in absurd (omega arith)),
+            subst (λ (x : ObjNo). dooms (effects_of before) x ≡ 0) new.1 (undoomed t start.owner),
+          )
 
       unlinked : (s : ObjNo) → server_told e.effects s ≡ None
       unlinked s = ap (λ (l : List Effect). server_told l s) told ∙ keeps.unlinked s

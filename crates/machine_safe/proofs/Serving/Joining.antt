@@ -36,7 +36,8 @@ use Rattle.state_rows.specs.declared.servers.ServerRow.{ServerRow}
 use Rattle.std.proofs.Common.{Bool, List, None, Option, Some, [], arith, length, refl, sym, true, ℕ, ◌++◌, ◌+◌, ◌∙◌, ◌∷◌, ◌≡◌, ◌≤◌, subst, ap, get_or, get_or-set_other, get_or-set_same, inl, inr, ◌<◌}
 use Rattle.std.specs.Prelude.{Contains, if◌then◌else◌, is_some, ◌==◌}
 use Rattle.sym_base.specs.declared.number.ObjNo.{ObjNo}
-use Rattle.machine_safe.proofs.Serving.Slots.{slots-joined, slots-kept}
+use Rattle.machine_safe.proofs.Serving.Since.{fresh-on}
+use Rattle.machine_safe.proofs.Serving.Slots.{link-made, links-told, slots-joined, slots-kept}
 use Rattle.machine_safe.specs.Sent.{instruction_in}
 use Rattle.machine_safe.specs.Slotted.{slots_in}
 use Rattle.state_rows.specs.ServerChanges.{new_session}
@@ -64,7 +65,8 @@ module _ (script : Script) (before : List Entry) (S : State) (place : ℕ) (t : 
     book = record {
       served = served-same script _ (reading (before ++ e ∷ [])) (perform t d.moves S) same whole;
       letters = letters-quiet script before S (perform t d.moves S) e book.letters unlinked q (λ p among. unended p.server);
-      slotted = record { sessions = slots; pool = q.pool ∙ book.slotted.pool };
+      slotted = record { sessions = slots; pool = q.pool ∙ book.slotted.pool; servers = λ s. links-told before e s (book.slotted.servers s) (link-made e s is.joins) };
+      fresh = fresh-on before e book.fresh (λ makes. let none = is.makes in absurd (cc));
     };
     lawful = unserving script before e q.accepts q.finishes unended (λ sends. let unsent = is.unsent in absurd (cc));
   }
@@ -185,7 +187,7 @@ module _ (script : Script) (before : List Entry) (S : State) (place : ℕ) (t : 
                 let new : session_at mid.servers s ≡ Some (new_session is.server is.slots t) = ap (λ (n : ℕ). get_or mid.servers.sessions n None) (sym at) ∙ get_or-set_same T.servers.sessions (next_object S).0 (Some (new_session is.server is.slots t)) None inside in
                 let both : Some after.old ≡ Some (new_session is.server is.slots t) = sym after.was ∙ new in
                 let own : after.old ≡ new_session is.server is.slots t = cc in
-                slots-joined script before e s is.server is.slots (link-told s at) is.connects ∙ ap Some (sym (ap (λ (z : SessionRow). z.slots) own) ∙ after.slots)
+                slots-joined script before e s is.server is.slots is.joins (link-told s at) is.connects ∙ ap Some (sym (ap (λ (z : SessionRow). z.slots) own) ∙ after.slots)
             | inr other ↦
                 let first = makes.slots s after.old (sym (get_or-set_other T.servers.sessions (next_object S).0 s.0 (Some (new_session is.server is.slots t)) None (λ at. other (sym at))) ∙ after.was) in
                 slots-kept script before e s (link-untold s other) ∙ (book.slotted.sessions s first.old first.was ∙ ap Some (first.slots ∙ after.slots))

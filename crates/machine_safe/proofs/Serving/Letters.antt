@@ -11,7 +11,7 @@ use Rattle.machine_safe.proofs.Serving.Quiet.{IsQuiet, Post, posts}
 use Rattle.machine_safe.proofs.Serving.Reading.{effects-push}
 use Rattle.machine_safe.specs.CountAfter.{effects_of}
 use Rattle.machine_safe.specs.Sent.{Accepts, WasAccepted, finishes, instruction_in, status_by, accepts}
-use Rattle.machine_safe.specs.Served.{ends, or_before, server_told}
+use Rattle.machine_safe.specs.Served.{ends, or_before, server_in, server_told}
 use Rattle.move_laws.proofs.Lists.Contents.{contains_behind, contains_cases, contains_first, none_contained}
 use Rattle.move_laws.proofs.References.Same.{eqb_apart, if_is, if_not}
 use Rattle.script_types.specs.declared.script.Script.{Script}
@@ -31,25 +31,27 @@ pub record Known (script : Script) (before : List Entry) (p : Post) : Type 0 whe
   pub accepted : WasAccepted before p.number
   pub session : accepted.by.session ≡ p.session
   pub client : accepted.by.client ≡ p.client
+  pub linked_then : server_in accepted.before accepted.by.session ≡ Some p.server
   pub linked : server_told (effects_of before) p.session ≡ Some p.server
   pub lasts : ends (effects_of before) p.server ≡ 0
   pub unfinished : finishes (effects_of before) p.number ≡ 0
   pub way : status_by accepted.at.step (instruction_in script accepted.before p.client) ≡ status_of_way p.way
   pub slots : slots_in script before p.session ≡ Some p.slots
 
--- a message that was accepted over a session is outstanding
-pub record IsOut (S : State) (m : MsgNo) (session : ObjNo) : Type 0 where
+-- a message that was accepted over a session, which was at this server then, is outstanding
+pub record IsOut (S : State) (m : MsgNo) (session : ObjNo) (server : Option ObjNo) : Type 0 where
   pub post : Post
   pub among : Contains (posts S) post
   pub number : post.number ≡ m
   pub over : post.session ≡ session
+  pub at : server ≡ Some post.server
 
 -- So many are accepted; what is outstanding is known; each that was accepted is finished once, or outstanding; none that comes later is finished; and
 -- the sends that are outstanding are those among them.
 pub record Letters (script : Script) (before : List Entry) (S : State) : Type 0 where
   pub accepted : accepts (effects_of before) ≡ S.messages.accepted
   pub known : (p : Post) → Contains (posts S) p → Known script before p
-  pub all : (m : MsgNo) (a : WasAccepted before m) → (finishes (effects_of before) m ≡ 1) ⊎ IsOut S m a.by.session
+  pub all : (m : MsgNo) (a : WasAccepted before m) → (finishes (effects_of before) m ≡ 1) ⊎ IsOut S m a.by.session (server_in a.before a.by.session)
   pub later : (m : MsgNo) → S.messages.accepted < m.0 → finishes (effects_of before) m ≡ 0
   pub sends : outstanding_in before ≡ over (posts S)
 
@@ -99,6 +101,7 @@ known-on script before e p h unlinked unended unfinished =
       accepted = accepted-on before e p.number h.accepted;
       session = h.session;
       client = h.client;
+      linked_then = h.linked_then;
       linked = ap (λ (l : List Effect). server_told l p.session) es ∙ (server_told-append (effects_of before) e.effects p.session ∙ (ap (λ (x : Option ObjNo). or_before x (server_told (effects_of before) p.session)) unlinked ∙ h.linked));
       lasts = let a = ap (λ (l : List Effect). ends l p.server) es in let b = ends-append (effects_of before) e.effects p.server in let c = h.lasts in omega arith;
       unfinished = let a = ap (λ (l : List Effect). finishes l p.number) es in let b = finishes-append (effects_of before) e.effects p.number in let c = h.unfinished in omega arith;
@@ -111,8 +114,8 @@ pub accepts-told : (e : Entry) (m : MsgNo) → Accepts e m → 0 < accepts e.eff
 accepts-told e m a = let told = ap accepts a.told in omega arith
 
 -- an entry that accepts none: its acceptances are old ones
-pub old-accepted : (before : List Entry) (e : Entry) (m : MsgNo) (P : ObjNo → Type 0) → accepts e.effects ≡ 0 → (a : WasAccepted (before ++ e ∷ []) m) → ((old : WasAccepted before m) → P old.by.session) → P a.by.session
-old-accepted before e m P none a old = elim (last-split before e a.before a.at a.later a.stands) as (λ _. P a.by.session) [
+pub old-accepted : (before : List Entry) (e : Entry) (m : MsgNo) (P : List Entry → ObjNo → Type 0) → accepts e.effects ≡ 0 → (a : WasAccepted (before ++ e ∷ []) m) → ((old : WasAccepted before m) → P old.before old.by.session) → P a.before a.by.session
+old-accepted before e m P none a old = elim (last-split before e a.before a.at a.later a.stands) as (λ _. P a.before a.by.session) [
   | inl end ↦ let some = accepts-told a.at m a.by in let same = ap (λ (x : Entry). accepts x.effects) end.same in absurd (omega arith)
   | inr behind ↦ old (record { before = a.before; at = a.at; later = behind.rest; stands = behind.within; by = a.by })
 ]
@@ -154,10 +157,10 @@ module _ (script : Script) (before : List Entry) (S T : State) (e : Entry) (h : 
   letters-quiet q unended = record {
     accepted = let a = accepted-then in let b = q.accepts in let c = h.accepted in let d = q.accepted in omega arith;
     known = λ p among. let was = subst (λ (l : List Post). Contains l p) q.posts among in known-on script before e p (h.known p was) (unlinked p was) (unended p was) (q.finishes p.number);
-    all = λ m a. old-accepted before e m (λ (s : ObjNo). (finishes (effects_of (before ++ e ∷ [])) m ≡ 1) ⊎ IsOut T m s) q.accepts a (λ old.
-        elim (h.all m old) as (λ _. (finishes (effects_of (before ++ e ∷ [])) m ≡ 1) ⊎ IsOut T m old.by.session) [
+    all = λ m a. old-accepted before e m (λ (l : List Entry) (s : ObjNo). (finishes (effects_of (before ++ e ∷ [])) m ≡ 1) ⊎ IsOut T m s (server_in l s)) q.accepts a (λ old.
+        elim (h.all m old) as (λ _. (finishes (effects_of (before ++ e ∷ [])) m ≡ 1) ⊎ IsOut T m old.by.session (server_in old.before old.by.session)) [
           | inl done ↦ inl (let a = finished-then m in let b = q.finishes m in omega arith)
-          | inr out ↦ inr (record { post = out.post; among = subst (λ (l : List Post). Contains l out.post) (sym q.posts) out.among; number = out.number; over = out.over })
+          | inr out ↦ inr (record { post = out.post; among = subst (λ (l : List Post). Contains l out.post) (sym q.posts) out.among; number = out.number; over = out.over; at = out.at })
         ]);
     later = λ m above. let a = finished-then m in let b = q.finishes m in let c = q.accepted in let d = h.later m (omega arith) in omega arith;
     sends = sends-quiet before e q.accepts q.finishes ∙ (h.sends ∙ ap over (sym q.posts));
@@ -165,20 +168,20 @@ module _ (script : Script) (before : List Entry) (S T : State) (e : Entry) (h : 
 
   -- a message comes
   pub letters-more : (p : Post) → posts T ≡ posts S ++ p ∷ [] → T.messages.accepted ≡ S.messages.accepted + 1 → (a : Accepts e p.number) → p.number.0 ≡ S.messages.accepted + 1 → accepts a.rest ≡ 0 → ((m : MsgNo) → finishes e.effects m ≡ 0) → a.session ≡ p.session → a.client ≡ p.client
-      → server_told (effects_of before) p.session ≡ Some p.server → server_told e.effects p.session ≡ None → ((v : ObjNo) → ends e.effects v ≡ 0) → ends (effects_of before) p.server ≡ 0 → status_by e.step (instruction_in script before p.client) ≡ status_of_way p.way → slots_in script before p.session ≡ Some p.slots → (if is_send e.step then sent_told e.effects else []) ≡ sent_of p.way p → Letters script (before ++ e ∷ []) T
-  letters-more p posts_then more a number none unfinished session client linked unlinked_new unended lasts way slots sends = record {
+      → server_in before p.session ≡ Some p.server → server_told (effects_of before) p.session ≡ Some p.server → server_told e.effects p.session ≡ None → ((v : ObjNo) → ends e.effects v ≡ 0) → ends (effects_of before) p.server ≡ 0 → status_by e.step (instruction_in script before p.client) ≡ status_of_way p.way → slots_in script before p.session ≡ Some p.slots → (if is_send e.step then sent_told e.effects else []) ≡ sent_of p.way p → Letters script (before ++ e ∷ []) T
+  letters-more p posts_then more a number none unfinished session client linked_then linked unlinked_new unended lasts way slots sends = record {
     accepted = let b = accepted-then in let c = ap accepts a.told in let d = h.accepted in omega arith;
     known = λ x among. elim (Contains-push_cases (posts S) p x (subst (λ (l : List Post). Contains l x) posts_then among)) as (λ _. Known script (before ++ e ∷ []) x) [
       | inl was ↦ known-on script before e x (h.known x was) (unlinked x was) (unended x.server) (unfinished x.number)
       | inr own ↦ subst (Known script (before ++ e ∷ [])) own new
     ];
-    all = λ m w. elim (last-split before e w.before w.at w.later w.stands) as (λ _. (finishes (effects_of (before ++ e ∷ [])) m ≡ 1) ⊎ IsOut T m w.by.session) [
-      | inl end ↦ inr (newly m w.at w.by end.same)
+    all = λ m w. elim (last-split before e w.before w.at w.later w.stands) as (λ _. (finishes (effects_of (before ++ e ∷ [])) m ≡ 1) ⊎ IsOut T m w.by.session (server_in w.before w.by.session)) [
+      | inl end ↦ inr (newly m w.before w.at w.by end.front end.same)
       | inr behind ↦
           let old : WasAccepted before m = record { before = w.before; at = w.at; later = behind.rest; stands = behind.within; by = w.by } in
-          elim (h.all m old) as (λ _. (finishes (effects_of (before ++ e ∷ [])) m ≡ 1) ⊎ IsOut T m w.by.session) [
+          elim (h.all m old) as (λ _. (finishes (effects_of (before ++ e ∷ [])) m ≡ 1) ⊎ IsOut T m w.by.session (server_in w.before w.by.session)) [
             | inl done ↦ inl (let b = finished-then m in let c = unfinished m in omega arith)
-            | inr out ↦ inr (record { post = out.post; among = subst (λ (l : List Post). Contains l out.post) (sym posts_then) (contains_front (posts S) (p ∷ []) out.post out.among); number = out.number; over = out.over })
+            | inr out ↦ inr (record { post = out.post; among = subst (λ (l : List Post). Contains l out.post) (sym posts_then) (contains_front (posts S) (p ∷ []) out.post out.among); number = out.number; over = out.over; at = out.at })
           ]
     ];
     later = λ m above. let b = finished-then m in let c = unfinished m in let d = h.later m (omega arith) in omega arith;
@@ -193,6 +196,7 @@ module _ (script : Script) (before : List Entry) (S T : State) (e : Entry) (h : 
         accepted = record { before = before; at = e; later = []; stands = refl; by = a };
         session = session;
         client = client;
+        linked_then = ap (server_in before) session ∙ linked_then;
         linked = ap (λ (l : List Effect). server_told l p.session) es ∙ (server_told-append (effects_of before) e.effects p.session ∙ (ap (λ (x : Option ObjNo). or_before x (server_told (effects_of before) p.session)) unlinked_new ∙ linked));
         lasts = let b = ap (λ (l : List Effect). ends l p.server) es in let c = ends-append (effects_of before) e.effects p.server in let d = unended p.server in omega arith;
         unfinished = let b = finished-then p.number in let c = unfinished p.number in let d = h.later p.number (omega arith) in omega arith;
@@ -200,8 +204,8 @@ module _ (script : Script) (before : List Entry) (S T : State) (e : Entry) (h : 
         slots = slots-kept script before e p.session unlinked_new ∙ slots;
       }
 
-      newly : (m : MsgNo) (at : Entry) (by : Accepts at m) → at ≡ e → IsOut T m by.session
-      newly m at by same =
+      newly : (m : MsgNo) (front : List Entry) (at : Entry) (by : Accepts at m) → front ≡ before → at ≡ e → IsOut T m by.session (server_in front by.session)
+      newly m front at by first same =
           let told = sym by.told ∙ (ap (λ (x : Entry). x.effects) same ∙ a.told) in
           let parts = same_told m p.number by.session a.session by.client a.client by.rest a.rest told in
           record {
@@ -209,6 +213,7 @@ module _ (script : Script) (before : List Entry) (S T : State) (e : Entry) (h : 
             among = subst (λ (l : List Post). Contains l p) (sym posts_then) (contains_last (posts S) p);
             number = sym parts.0;
             over = sym (parts.1 ∙ session);
+            at = ap (λ (l : List Entry). server_in l by.session) first ∙ (ap (server_in before) (parts.1 ∙ session) ∙ linked_then);
           }
 
   -- a message goes
@@ -217,21 +222,21 @@ module _ (script : Script) (before : List Entry) (S T : State) (e : Entry) (h : 
   letters-less p there fewer others same none goes unended given sends = record {
     accepted = let b = accepted-then in let d = h.accepted in omega arith;
     known = λ x among. let was = fewer x among in known-on script before e x (h.known x was.0) (unlinked x was.0) (unended x.server) (goes x.number ∙ if_not (p.number.0 == x.number.0) 1 (eqb_apart p.number.0 x.number.0 (λ e. was.1 (sym e))));
-    all = λ m a. old-accepted before e m (λ (s : ObjNo). (finishes (effects_of (before ++ e ∷ [])) m ≡ 1) ⊎ IsOut T m s) none a (λ old.
-        elim (h.all m old) as (λ _. (finishes (effects_of (before ++ e ∷ [])) m ≡ 1) ⊎ IsOut T m old.by.session) [
+    all = λ m a. old-accepted before e m (λ (l : List Entry) (s : ObjNo). (finishes (effects_of (before ++ e ∷ [])) m ≡ 1) ⊎ IsOut T m s (server_in l s)) none a (λ old.
+        elim (h.all m old) as (λ _. (finishes (effects_of (before ++ e ∷ [])) m ≡ 1) ⊎ IsOut T m old.by.session (server_in old.before old.by.session)) [
           | inl done ↦ inl (
               let b = finished-then m in
               let apart : p.number.0 ≡ m.0 → ⊥ = λ at. let unfinished = (h.known p there).unfinished in let own = ap (finishes (effects_of before)) (same_number p.number m at) in absurd (omega arith) in
               let c = goes m in
               let d = if_not (p.number.0 == m.0) 1 (eqb_apart p.number.0 m.0 apart) in omega arith)
-          | inr out ↦ elim (cases_eq p.number.0 m.0) as (λ _. (finishes (effects_of (before ++ e ∷ [])) m ≡ 1) ⊎ IsOut T m old.by.session) [
+          | inr out ↦ elim (cases_eq p.number.0 m.0) as (λ _. (finishes (effects_of (before ++ e ∷ [])) m ≡ 1) ⊎ IsOut T m old.by.session (server_in old.before old.by.session)) [
             | inl at ↦ inl (
                 let b = finished-then m in
                 let c = goes m in
                 let d = if_is (p.number.0 == m.0) 1 (eq-eqb p.number.0 m.0 at) in
                 let unfinished = (h.known p there).unfinished in
                 let own = ap (finishes (effects_of before)) (same_number p.number m at) in omega arith)
-            | inr apart ↦ inr (record { post = out.post; among = others out.post out.among (λ e. apart (sym e ∙ ap (λ (z : MsgNo). z.0) out.number)); number = out.number; over = out.over })
+            | inr apart ↦ inr (record { post = out.post; among = others out.post out.among (λ e. apart (sym e ∙ ap (λ (z : MsgNo). z.0) out.number)); number = out.number; over = out.over; at = out.at })
           ]
         ]);
     later = λ m above. let b = finished-then m in let c = goes m in let d = h.later m (omega arith) in let f = if_not (p.number.0 == m.0) 1 (eqb_apart p.number.0 m.0 (λ e. absurd (omega arith))) in omega arith;

@@ -21,7 +21,7 @@ use Rattle.machine_safe.proofs.Serving.Letters.{letters-more}
 use Rattle.machine_safe.proofs.Serving.Quiet.{Post, post_of, quiet-each, posts}
 use Rattle.machine_safe.proofs.Serving.Reading.{reading}
 use Rattle.machine_safe.proofs.Serving.Served.{served-made}
-use Rattle.machine_safe.proofs.Serving.Turns.{Book, IsTurn, entry_for, served-doing, sent-answer}
+use Rattle.machine_safe.proofs.Serving.Turns.{closing-told-by, Book, IsTurn, entry_for, served-doing, sent-answer}
 use Rattle.machine_safe.specs.CountAfter.{effects_of, is_by}
 use Rattle.machine_safe.specs.Sent.{Accepts, accepts, accepts_by, finishes, instruction_in, status_by}
 use Rattle.machine_safe.specs.Served.{ends, is_closing_in, server_told}
@@ -40,6 +40,7 @@ use Rattle.sym_base.specs.declared.number.MsgNo.{MsgNo}
 use Rattle.sym_base.specs.declared.number.ObjNo.{ObjNo}
 use Rattle.std.proofs.lemmas.List.{map-append}
 use Rattle.machine.specs.Messaging.{slots_of_row}
+use Rattle.machine_safe.proofs.Serving.Since.{fresh-on}
 use Rattle.machine_safe.proofs.Serving.Slots.{sent_of, slotted-keeps}
 use Rattle.machine_safe.specs.Slotted.{sent_told, slots_in}
 use Rattle.state_rows.specs.MessageRows.{is_async}
@@ -99,8 +100,9 @@ module _ (script : Script) (before : List Entry) (S : State) (place : ℕ) (t : 
   turn-sends d regular is does = record {
     book = record {
       served = served-doing script before S place t rows book d does changing regular is.closed (λ v some. let none = is.detached v in absurd (omega arith));
-      letters = letters-more script before S T e book.letters (λ p among. keeps.unlinked p.session) post p.posts p.more by p.next p.none p.unfinished refl refl linked (keeps.unlinked is.row.session) keeps.unended lasts way slots sends;
+      letters = letters-more script before S T e book.letters (λ p among. keeps.unlinked p.session) post p.posts p.more by p.next p.none p.unfinished refl refl (book.slotted.servers is.row.session ∙ linked) linked (keeps.unlinked is.row.session) keeps.unended unended way slots sends;
       slotted = slotted-keeps script before e S T book.slotted keeps.unlinked keeps.slots p.pool;
+      fresh = fresh-on before e book.fresh (λ makes. keeps.unowned (regular.making makes));
     };
     lawful = record {
       acceptance = λ some. record {
@@ -111,9 +113,9 @@ module _ (script : Script) (before : List Entry) (S : State) (place : ℕ) (t : 
         client = ap (λ (u : ObjNo). is_by u (Thread t)) is.client ∙ eq-eqb t.0 t.0 refl;
         step = ap (accepts_by d.step) way ∙ is.named;
         server = is.row.server;
-        linked = linked;
+        linked = book.slotted.servers is.row.session ∙ linked;
         accepting = accepting;
-        lasts = lasts;
+        lasts = sym (book.fresh is.row.server row.0.owner (book.served.rows is.row.server row.0 row.1).owner).ends ∙ unended;
       };
       finish = λ m some. let a = p.unfinished m in absurd (omega arith);
       end = λ v some. let a = keeps.unended v in absurd (omega arith);
@@ -162,10 +164,10 @@ module _ (script : Script) (before : List Entry) (S : State) (place : ℕ) (t : 
       row = there-row (server_at S.servers is.row.server) server_is
 
       accepting : is_closing_in before is.row.server ≡ false
-      accepting = sym (book.served.rows is.row.server row.0 row.1).closing ∙ (sym (ap closes row.1) ∙ is.accepting)
+      accepting = closing-told-by script before S is.row.server row.0 book row.1 ∙ (sym (ap closes row.1) ∙ is.accepting)
 
-      lasts : ends (effects_of before) is.row.server ≡ 0
-      lasts = zero_or (ends (effects_of before) is.row.server) (λ some. let so = book.served.ended is.row.server some in let not_so = is.accepting in absurd (cc))
+      unended : ends (effects_of before) is.row.server ≡ 0
+      unended = zero_or (ends (effects_of before) is.row.server) (λ some. let so = book.served.ended is.row.server some in let not_so = is.accepting in absurd (cc))
 
       way : status_by e.step (instruction_in script before is.row.client) ≡ status_of_way is.row.way
       way = ap (λ (u : ObjNo). status_by d.step (instruction_in script before u)) is.client ∙ is.way

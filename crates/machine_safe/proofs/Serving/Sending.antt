@@ -171,6 +171,7 @@ deed-made_session S t at P o slots (Some handle) here each = each.joins _ (recor
   back = Keep t handle.number ∷ PutDown t ∷ GoOn t part.Send ∷ [];
   moves = refl;
   quiet = refl;
+  joins = refl;
   makes = refl;
   step = refl;
   unsent = refl;

@@ -10,7 +10,7 @@ use Rattle.machine_safe.proofs.Serving.Quiet.{Post, post_of}
 use Rattle.machine_safe.proofs.Serving.Reading.{effects-push}
 use Rattle.machine_safe.specs.CountAfter.{effects_of}
 use Rattle.machine_safe.specs.Sent.{accepts, finishes}
-use Rattle.machine_safe.specs.Served.{server_told}
+use Rattle.machine_safe.specs.Served.{link_by, makes_session, or_before, server_in, server_told}
 use Rattle.machine_safe.specs.Slotted.{SentOver, is_open_in, is_pooled, outstanding_in, sends_in, sent_told, slots_before, slots_by, slots_from, slots_in, takes_of}
 use Rattle.move_laws.proofs.Lists.Contents.{contains_behind, contains_first}
 use Rattle.move_laws.proofs.References.Same.{eqb_apart}
@@ -28,7 +28,7 @@ use Rattle.std.specs.Prelude.{Contains, filter, if◌then◌else◌, is_some, no
 use Rattle.sym_base.specs.declared.kind.Slots.{Slots}
 use Rattle.sym_base.specs.declared.number.MsgNo.{MsgNo}
 use Rattle.sym_base.specs.declared.number.ObjNo.{ObjNo}
-use Rattle.machine_safe.proofs.Serving.EffectSums.{finishes-append}
+use Rattle.machine_safe.proofs.Serving.EffectSums.{finishes-append, or-none, or-three, server_told-append}
 use Rattle.std.proofs.lemmas.List.Elements.{filter-append}
 use Rattle.machine.specs.EntryWords.{is_send}
 
@@ -43,7 +43,7 @@ slots-three (Some slots) b c = refl
 
 -- the slots that one entry tells
 abbrev slots_at : Script → List Entry → Entry → ObjNo → Option Slots
-slots_at script before e s = if is_some (server_told e.effects s) then slots_by script before e.actor else None
+slots_at script before e s = if is_some (link_by e s) then slots_by script before e.actor else None
 
 slots-push : (script : Script) (front xs : List Entry) (e : Entry) (s : ObjNo) → slots_from script front (xs ++ e ∷ []) s ≡ slots_before (slots_at script (front ++ xs) e s) (slots_from script front xs s)
 slots-push script front [] e s = ap (λ (l : List Entry). slots_at script l e s) (sym (append-nil front)) ∙ sym (slots-none (slots_at script (front ++ []) e s))
@@ -52,23 +52,46 @@ slots-push script front (x ∷ xs) e s =
     ∙ (slots-three (slots_at script ((front ++ x ∷ []) ++ xs) e s) (slots_from script (front ++ x ∷ []) xs s) (slots_at script front x s)
     ∙ ap (λ (l : List Entry). slots_before (slots_at script l e s) (slots_from script front (x ∷ xs) s)) (append_assoc front (x ∷ []) xs))
 
+-- an entry that tells of no link, and one that makes a session
+link-none : (e : Entry) (s : ObjNo) → server_told e.effects s ≡ None → link_by e s ≡ None
+link-none e s none = by (makes_session e.step)
+  where
+    by : (b : Bool) → (if b then server_told e.effects s else None) ≡ None
+    by true = none
+    by false = refl
+
+pub link-made : (e : Entry) (s : ObjNo) → makes_session e.step ≡ true → link_by e s ≡ server_told e.effects s
+link-made e s makes = ap (λ (b : Bool). if b then server_told e.effects s else None) makes
+
+link-push : (before : List Entry) (e : Entry) (s : ObjNo) → server_in (before ++ e ∷ []) s ≡ or_before (link_by e s) (server_in before s)
+link-push [] e s = sym (or-none (link_by e s))
+link-push (x ∷ xs) e s = ap (λ (o : Option ObjNo). or_before o (link_by x s)) (link-push xs e s) ∙ or-three (link_by e s) (server_in xs s) (link_by x s)
+
+-- So a session's link is told where it is made alone.
+pub links-told : (before : List Entry) (e : Entry) (s : ObjNo) → server_in before s ≡ server_told (effects_of before) s → link_by e s ≡ server_told e.effects s → server_in (before ++ e ∷ []) s ≡ server_told (effects_of (before ++ e ∷ [])) s
+links-told before e s was made =
+    link-push before e s ∙ (ap (λ (o : Option ObjNo). or_before o (server_in before s)) made ∙ (ap (or_before (server_told e.effects s)) was
+    ∙ (sym (server_told-append (effects_of before) e.effects s) ∙ ap (λ (l : List Effect). server_told l s) (sym (effects-push before e)))))
+
 -- an entry that tells of no link leaves the slots
 pub slots-kept : (script : Script) (before : List Entry) (e : Entry) (s : ObjNo) → server_told e.effects s ≡ None → slots_in script (before ++ e ∷ []) s ≡ slots_in script before s
-slots-kept script before e s none = slots-push script [] before e s ∙ ap (λ (x : Option ObjNo). slots_before (if is_some x then slots_by script before e.actor else None) (slots_in script before s)) none
+slots-kept script before e s none = slots-push script [] before e s ∙ ap (λ (x : Option ObjNo). slots_before (if is_some x then slots_by script before e.actor else None) (slots_in script before s)) (link-none e s none)
 
 -- one that tells of one tells them anew
-pub slots-joined : (script : Script) (before : List Entry) (e : Entry) (s v : ObjNo) (slots : Slots) → server_told e.effects s ≡ Some v → slots_by script before e.actor ≡ Some slots → slots_in script (before ++ e ∷ []) s ≡ Some slots
-slots-joined script before e s v slots linked by = slots-push script [] before e s ∙ (ap (λ (x : Option ObjNo). slots_before (if is_some x then slots_by script before e.actor else None) (slots_in script before s)) linked ∙ ap (λ (x : Option Slots). slots_before x (slots_in script before s)) by)
+pub slots-joined : (script : Script) (before : List Entry) (e : Entry) (s v : ObjNo) (slots : Slots) → makes_session e.step ≡ true → server_told e.effects s ≡ Some v → slots_by script before e.actor ≡ Some slots → slots_in script (before ++ e ∷ []) s ≡ Some slots
+slots-joined script before e s v slots makes linked by = slots-push script [] before e s ∙ (ap (λ (x : Option ObjNo). slots_before (if is_some x then slots_by script before e.actor else None) (slots_in script before s)) (link-made e s makes ∙ linked) ∙ ap (λ (x : Option Slots). slots_before x (slots_in script before s)) by)
 
--- sessions have the slots that are told of them
+-- sessions have the slots that are told of them, and their links are told where they are made alone
 pub record Slotted (script : Script) (before : List Entry) (S : State) : Type 0 where
   pub sessions : (s : ObjNo) (row : SessionRow) → session_at S.servers s ≡ Some row → slots_in script before s ≡ Some row.slots
   pub pool : S.messages.pool ≡ script.pool
+  pub servers : (s : ObjNo) → server_in before s ≡ server_told (effects_of before) s
 
 pub slotted-keeps : (script : Script) (before : List Entry) (e : Entry) (S T : State) → Slotted script before S → ((s : ObjNo) → server_told e.effects s ≡ None) → ((s : ObjNo) (row : SessionRow) → session_at T.servers s ≡ Some row → WasSession S.servers s row) → T.messages.pool ≡ S.messages.pool → Slotted script (before ++ e ∷ []) T
 slotted-keeps script before e S T h unlinked slots pool = record {
   sessions = λ s row is. let was = slots s row is in slots-kept script before e s (unlinked s) ∙ (h.sessions s was.old was.was ∙ ap Some was.slots);
   pool = pool ∙ h.pool;
+  servers = λ s. links-told before e s (h.servers s) (link-none e s (unlinked s) ∙ sym (unlinked s));
 }
 
 -- the sends among posts

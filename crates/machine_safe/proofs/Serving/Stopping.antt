@@ -27,7 +27,8 @@ use Rattle.machine_safe.proofs.Serving.Quiet.{IsQuiet, Post, lost-each, post_of,
 use Rattle.machine_safe.proofs.Serving.Reading.{IsSame, Reading, further, reading, same-both, same-entry, same-then}
 use Rattle.machine_safe.proofs.Serving.Served.{Served, served-keeps, served-made, served-same}
 use Rattle.machine_safe.proofs.Serving.Told.{unlinking-close}
-use Rattle.machine_safe.proofs.Serving.Turns.{Book, IsTurn, counts, entry_for, unserving}
+use Rattle.machine_safe.proofs.Serving.Since.{fresh-on}
+use Rattle.machine_safe.proofs.Serving.Turns.{closing-told-by, Book, IsTurn, counts, entry_for, unserving}
 use Rattle.machine_safe.specs.CountAfter.{effects_of}
 use Rattle.machine_safe.specs.SafeMessages.{NothingLeft}
 use Rattle.machine_safe.specs.Sent.{finishes}
@@ -81,6 +82,7 @@ module _ (script : Script) (before : List Entry) (S : State) (place : ℕ) (t : 
       served = served-same script r2 (reading (before ++ e ∷ [])) (perform t d.moves S) same whole;
       letters = letters-quiet script before S (perform t d.moves S) e book.letters (λ p among. unlinked p.session) q (λ p among. unended p.server);
       slotted = slotted-keeps script before e S (perform t d.moves S) book.slotted unlinked slots q.pool;
+      fresh = fresh-on before e book.fresh (λ makes. let none = is.makes in absurd (cc));
     };
     lawful = unserving script before e q.accepts q.finishes unended (λ sends. let unsent = is.unsent in absurd (cc));
   }
@@ -176,6 +178,7 @@ module _ (script : Script) (before : List Entry) (S : State) (place : ℕ) (t : 
           (λ p among. let a = ended p.server in let none : same_bit is.server p.server ≡ 0 = if_not (is.server.0 == p.server.0) 1 (eqb_apart is.server.0 p.server.0 (λ at. left p among (sym at))) in omega arith);
       slotted = slotted-keeps script before e S (perform t d.moves S) book.slotted unlinked
           (λ s row is_row. session-closed (dies (moved t (Servers (End is.server)) S) is.server) is.server S.servers s row (ap (λ (l : List Move). session_at (perform t l S).servers s) (sym is.moves) ∙ is_row)) q.pool;
+      fresh = fresh-on before e book.fresh (λ makes. let none = is.makes in absurd (cc));
     };
     lawful = record {
       acceptance = λ some. let a = q.accepts in absurd (omega arith);
@@ -249,7 +252,7 @@ module _ (script : Script) (before : List Entry) (S : State) (place : ℕ) (t : 
         | inl done ↦ done
         | inr out ↦
             let known = book.letters.known out.post out.among in
-            let both : Some out.post.server ≡ Some is.server = sym known.linked ∙ (ap (server_told (effects_of before)) out.over ∙ linked) in
+            let both : Some out.post.server ≡ Some is.server = sym out.at ∙ linked in
             let own : out.post.server ≡ is.server = cc in
             absurd (left out.post out.among (ap (λ (x : ObjNo). x.0) own))
       ]
@@ -257,8 +260,8 @@ module _ (script : Script) (before : List Entry) (S : State) (place : ℕ) (t : 
       is_end : IsEnd before e is.server
       is_end =
           let row = closing-row (server_at S.servers is.server) may.closing in record {
-            closing = sym (book.served.rows is.server row.0 row.1).closing ∙ row.2;
-            first = zero_or (ends (effects_of before) is.server) (λ some. let none = book.served.over t is.server some in let own = owned in absurd (omega arith));
+            closing = closing-told-by script before S is.server row.0 book row.1 ∙ row.2;
+            first = sym (book.fresh is.server row.0.owner (book.served.rows is.server row.0 row.1).owner).ends ∙ zero_or (ends (effects_of before) is.server) (λ some. let none = book.served.over t is.server some in let own = owned in absurd (omega arith));
             once = let a = ended is.server in let own = same_self is.server in omega arith;
             alone = q.accepts;
             left = nothing;

@@ -19,7 +19,7 @@ use Rattle.machine_safe.proofs.Serving.Reading.{further, reading, same-entry}
 use Rattle.machine_safe.proofs.Serving.Served.{Served, served-keeps, served-made, served-same}
 use Rattle.machine_safe.specs.SafeMessages.{IsAcceptance, IsFinish, IsEnd}
 use Rattle.machine_safe.specs.Sent.{accepts, finishes}
-use Rattle.machine_safe.specs.Served.{closes_handle, ends, handles_lost, is_closing_in, server_told}
+use Rattle.machine_safe.specs.Served.{closes_handle, ends, handles_lost, is_closing_in, server_in, server_told}
 use Rattle.move_laws.proofs.Lives.LivesMove.{zero_or}
 use Rattle.script_types.specs.declared.script.Script.{Script}
 use Rattle.state_rows.specs.ServerRows.{server_at, IsSession, closes, is_closing, link_of, server_of, session_at}
@@ -33,6 +33,7 @@ use Rattle.machine.specs.Rows.{object_of, thread_of}
 use Rattle.machine_laws.proofs.Fitting.Living.{use_is_alive}
 use Rattle.machine_laws.proofs.Fitting.Posting.{linked_server, open_session}
 use Rattle.machine_safe.proofs.Serving.Sending.{open_is}
+use Rattle.machine_safe.proofs.Serving.Since.{AreFresh, closing-since, fresh-on}
 use Rattle.machine_safe.proofs.Serving.Slots.{Slotted, slotted-keeps, used-is}
 use Rattle.machine_safe.specs.CountAfter.{effects_of}
 use Rattle.machine_safe.specs.SafeBusy.{IsSendAnswer, accepted_of, accepts_in, answer_of, is_full_in}
@@ -53,6 +54,7 @@ pub record Book (script : Script) (before : List Entry) (S : State) : Type 0 whe
   pub served : Served script (reading before) S
   pub letters : Letters script before S
   pub slotted : Slotted script before S
+  pub fresh : AreFresh before
 
 -- what an entry promises
 pub record IsLawful (script : Script) (before : List Entry) (e : Entry) : Type 0 where
@@ -87,18 +89,22 @@ counts t ms d k same = by (t.0 == k) d.answer same
     by true (Some code) same = omega arith
     by false x same = refl
 
+-- a server is closing, as told, where its row says so
+pub closing-told-by : (script : Script) (before : List Entry) (S : State) (v : ObjNo) (row : ServerRow) → Book script before S → server_at S.servers v ≡ Some row → is_closing_in before v ≡ row.is_closing
+closing-told-by script before S v row book is = let served = book.served.rows v row is in closing-since before v row.owner book.fresh served.owner ∙ sym served.closing
+
 -- a session that is alive, as it is in the rows and as it is told
-accepting-told : (script : Script) (before : List Entry) (S : State) (s v : ObjNo) → AreRows script S → Book script before S → server_of S.servers s ≡ Some v → is_closing S.servers v ≡ false → accepts_in before (server_told (effects_of before) s) ≡ true
+accepting-told : (script : Script) (before : List Entry) (S : State) (s v : ObjNo) → AreRows script S → Book script before S → server_of S.servers s ≡ Some v → is_closing S.servers v ≡ false → accepts_in before (server_in before s) ≡ true
 accepting-told script before S s v rows book linked open_server_is =
     let row = there-row (server_at S.servers v) (rows.servers.sessions s v linked) in
-    let told : is_closing_in before v ≡ false = sym (book.served.rows v row.0 row.1).closing ∙ (sym (ap closes row.1) ∙ open_server_is) in
-    ap (accepts_in before) (book.served.links s v linked) ∙ ap not told
+    let told : is_closing_in before v ≡ false = closing-told-by script before S v row.0 book row.1 ∙ (sym (ap closes row.1) ∙ open_server_is) in
+    ap (accepts_in before) (book.slotted.servers s ∙ book.served.links s v linked) ∙ ap not told
 
-closing-told : (script : Script) (before : List Entry) (S : State) (s : ObjNo) → Book script before S → IsAlive (object_of S s) → open_server S s ≡ None → accepts_in before (server_told (effects_of before) s) ≡ false
-closing-told script before S s book alive none = by (server_told (effects_of before) s) refl
+closing-told : (script : Script) (before : List Entry) (S : State) (s : ObjNo) → Book script before S → IsAlive (object_of S s) → open_server S s ≡ None → accepts_in before (server_in before s) ≡ false
+closing-told script before S s book alive none = by (server_in before s) (book.slotted.servers s)
   where
     closing : (v : ObjNo) → is_closing S.servers v ≡ true → not (is_closing_in before v) ≡ false
-    closing v is = let row = closing-row (server_at S.servers v) is in ap not (sym (book.served.rows v row.0 row.1).closing ∙ row.2)
+    closing v is = let row = closing-row (server_at S.servers v) is in ap not (closing-told-by script before S v row.0 book row.1 ∙ row.2)
 
     linked : (v : ObjNo) → server_of S.servers s ≡ Some v → is_closing S.servers v ≡ true
     linked v is = where_open (is_closing S.servers v) refl (sym (ap (λ (x : Option ObjNo). if server_rows.accepts S.servers x then x else None) is) ∙ none)
@@ -107,9 +113,9 @@ closing-told script before S s book alive none = by (server_told (effects_of bef
         where_open true e none = e
         where_open false e none = absurd (cc)
 
-    by : (x : Option ObjNo) → server_told (effects_of before) s ≡ x → accepts_in before x ≡ false
+    by : (x : Option ObjNo) → x ≡ server_told (effects_of before) s → accepts_in before x ≡ false
     by None e = refl
-    by (Some v) e = elim (book.served.told_linked s v e alive) as (λ _. not (is_closing_in before v) ≡ false) [
+    by (Some v) e = elim (book.served.told_linked s v (sym e) alive) as (λ _. not (is_closing_in before v) ≡ false) [
       | inl is ↦ closing v (linked v is)
       | inr is ↦ closing v is
     ]
@@ -156,7 +162,7 @@ refused-answer script before S place t d rows book looked none r = record {
 }
   where
     told : Bool
-    told = accepts_in before (server_told (effects_of before) r.session)
+    told = accepts_in before (server_in before r.session)
 
     full : Bool
     full = is_full_in script before r.session (slots_in script before r.session)
@@ -219,6 +225,7 @@ module _ (script : Script) (before : List Entry) (S : State) (place : ℕ) (t : 
           served = served-doing d does is.changing regular is.closed is.detaches;
           letters = letters-quiet script before S (perform t d.moves S) (entry_for place t S d) book.letters (λ p among. k.unlinked p.session) q (λ p among. k.unended p.server);
           slotted = slotted-keeps script before (entry_for place t S d) S (perform t d.moves S) book.slotted k.unlinked k.slots q.pool;
+          fresh = fresh-on before (entry_for place t S d) book.fresh (λ makes. k.unowned (regular.making makes));
         };
         lawful = unserving script before (entry_for place t S d) q.accepts q.finishes k.unended (λ sends. refused-answer script before S place t d rows book looked q.accepts (is.send sends));
       }
