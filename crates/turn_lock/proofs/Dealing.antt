@@ -7,8 +7,8 @@ use Rattle.std.proofs.lemmas.List.Elements.{All-pop}
 use Rattle.turn_lock.specs.Views.{sight, newcomers}
 use Rattle.turn_lock.specs.Passes.{numbers}
 
-pub newcomers_next : {B : Type 0} (base : B) (i n : ℕ) → i < n → newcomers base i (n - i) ≡ sight base i [] ∷ newcomers base (i + 1) (n - (i + 1))
-newcomers_next base i n h = let e : n - i ≡ suc (n - (i + 1)) = omega arith in ap (newcomers base i) e
+pub newcomers_next : {B : Type 0} (base : B) (passes i n : ℕ) → i < n → newcomers base passes i (n - i) ≡ sight base passes i [] ∷ newcomers base passes (i + 1) (n - (i + 1))
+newcomers_next base passes i n h = let e : n - i ≡ suc (n - (i + 1)) = omega arith in ap (newcomers base passes i) e
 
 numbers_after : (from n : ℕ) → numbers from (suc n) ≡ numbers from n ++ (from + n) ∷ []
 numbers_after from zero = let e : from ≡ from + 0 = omega arith in ap (λ (k : ℕ). k ∷ []) e
