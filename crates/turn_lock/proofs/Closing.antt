@@ -1,7 +1,7 @@
 -- Once all passes are put together, the value is in its slot, and what they know fits the whole log.
 use Rattle.std.proofs.Common.{◌≡◌, ℕ, zero, suc, ◌<◌, ◌≤◌, eqb, List, [], ◌∷◌, map, length, get_or, sym, refl, ap, ◌∙◌, subst, arith}
 use Rattle.std.specs.Prelude.{Option, Some, All, Contains}
-use Rattle.std.proofs.lemmas.List.Elements.{All-nil, All-cons}
+use Rattle.std.proofs.lemmas.List.Elements.{All-nil, All-cons, All-weaker}
 use mathlib.Core.Logic.{dite}
 use mathlib.Core.Option.{Option as Home, some, some-injective}
 use native.Mathlib.Decide.{ℕ_discrete}
@@ -23,15 +23,11 @@ use Rattle.turn_lock.proofs.Totals.{one_if-same, total_two, total_none}
 
 module _ {B : Type 0} where
   -- a caller that is among the passes' callers is known for
-  pub among : (base : B) (ps : List (Pass B)) (caller i : ℕ) → i < length (map caller_of ps) → get_or (map caller_of ps) i caller ≡ caller
-      → 1 ≤ total (λ a. one_if (eqb a.caller caller)) (map (sight_of base) ps)
-  among base [] caller i h e = absurd (omega arith)
-  among base (p ∷ ps) caller zero h e = let a = one_if-same (caller_of p) caller e in omega arith
-  among base (p ∷ ps) caller (suc i) h e = let a = among base ps caller i (omega arith) e in omega arith
-
-pub all_of : {A : Type 0} (P : A → Type 0) (Q : A → Type 0) → ((x : A) → P x → Q x) → (xs : List A) → Each P xs → All Q xs
-all_of P Q f [] e = All-nil Q
-all_of P Q f (x ∷ xs) e = All-cons Q x xs (f x e.0) (all_of P Q f xs e.1)
+  pub among : (lock : LockId B) (ps : List (Pass B)) (caller i : ℕ) → i < length (map caller_of ps) → get_or (map caller_of ps) i caller ≡ caller
+      → 1 ≤ total (λ a. one_if (eqb a.caller caller)) (map (sight_of lock) ps)
+  among lock [] caller i h e = absurd (omega arith)
+  among lock (p ∷ ps) caller zero h e = let a = one_if-same (caller_of p) caller e in omega arith
+  among lock (p ∷ ps) caller (suc i) h e = let a = among lock ps caller i (omega arith) e in omega arith
 
 pub all_mapped : {A C : Type 0} (g : A → C) (P : C → Type 0) (Q : A → Type 0) → ((x : A) → P (g x) → Q x) → (xs : List A) → Each P (map g xs) → All Q xs
 all_mapped g P Q f [] e = All-nil Q
@@ -61,12 +57,12 @@ module _ {V B : Type 0} (entries : V → List Entry) (base_in : V → B) (base :
       (λ other. keeps_none s r u (r.each j u e) (λ caller low. (let t = total_two (times_of caller) s.views id j (Free all) u other at e in let o = r.once caller in let c = covers caller low in omega arith)))))
 
   -- what the passes know fits the whole log
-  pub whole_at_last : (s : St) (r : Rule s) (id : ℕ) (ps : List (Pass B)) → get_elem? s.views id ≡ some (Free (map (sight_of base) ps)) → ((caller : ℕ) → caller < count → Contains (map caller_of ps) caller)
+  pub whole_at_last : (lock : LockId B) (s : St) (r : Rule s) (id : ℕ) (ps : List (Pass B)) → get_elem? s.views id ≡ some (Free (map (sight_of lock) ps)) → ((caller : ℕ) → caller < count → Contains (map caller_of ps) caller)
       → IsWhole ps r.log
-  whole_at_last s r id ps at all = let knows = (r.each id (Free (map (sight_of base) ps)) at).knows in record {
-    begins = all_mapped (sight_of base) (Knows entries base_in base count r.log) (λ p. Begins (known_of p) r.log) (λ p k. k.known) ps knows;
-    own = all_mapped (sight_of base) (Knows entries base_in base count r.log) (λ p. made_by (caller_of p) r.log ≡ own_of p) (λ p k. k.own) ps knows;
-    callers = all_of (λ x. x.caller < count) (λ x. Contains (map caller_of ps) x.caller) (λ x low. all x.caller low) r.log r.made;
+  whole_at_last lock s r id ps at all = let knows = (r.each id (Free (map (sight_of lock) ps)) at).knows in record {
+    begins = all_mapped (sight_of lock) (Knows entries base_in base count r.log) (λ p. Begins (known_of p) r.log) (λ p k. k.known) ps knows;
+    own = all_mapped (sight_of lock) (Knows entries base_in base count r.log) (λ p. made_by (caller_of p) r.log ≡ own_of p) (λ p k. k.own) ps knows;
+    callers = All-weaker (λ x. x.caller < count) (λ x. Contains (map caller_of ps) x.caller) (λ x low. all x.caller low) r.log r.made;
   }
 
   -- what is in the slot once the lock is closed
@@ -78,20 +74,20 @@ module _ {V B : Type 0} (entries : V → List Entry) (base_in : V → B) (base :
     pub list : entries value ≡ entries_of log
     pub whole : IsWhole ps log
 
-  pub came : (lock : LockId B) → lock.base ≡ base → lock.passes ≡ count → (ps : List (Pass B)) (id : ℕ) (me : Mine V B) → me ≡ (Free (map (sight_of lock.base) ps), [])
+  pub came : (lock : LockId B) → lock.base ≡ base → lock.passes ≡ count → (ps : List (Pass B)) (id : ℕ) (me : Mine V B) → me ≡ (Free (map (sight_of lock) ps), [])
       → ((caller : ℕ) → caller < lock.passes → Contains (map caller_of ps) caller) → (words : List ℕ) (slots : List (Option V)) → Final (Seen Rule id me.0) words slots
       → (slot : Option V) → get_elem? slots 0 ≡ some slot → Came lock ps slot
   came lock b n ps id me e all words slots final slot found =
       let s : St = final.0 in let r : Rule s = final.1.0 in
-      let view : me.0 ≡ Free (map (sight_of base) ps) = ap (λ (m : Mine V B). m.0) e ∙ ap (λ (c : B). Free (map (sight_of c) ps)) b in
-      let at : get_elem? s.views id ≡ some (Free (map (sight_of base) ps)) = final.1.1 ∙ ap some view in
+      let view : me.0 ≡ Free (map (sight_of lock) ps) = ap (λ (m : Mine V B). m.0) e in
+      let at : get_elem? s.views id ≡ some (Free (map (sight_of lock) ps)) = final.1.1 ∙ ap some view in
       let every = λ (caller : ℕ) (low : caller < count). all caller (subst (λ (k : ℕ). caller < k) (sym n) low) in
-      let there = there_at_last s r id (map (sight_of base) ps) at (λ caller low. (let m = every caller low in among base ps caller m.0 m.1 m.2)) in
+      let there = there_at_last s r id (map (sight_of lock) ps) at (λ caller low. (let m = every caller low in among lock ps caller m.0 m.1 m.2)) in
       let home : get_elem? s.homes 0 ≡ some (some (Some there.value)) = ap (λ (h : List (Home (Option V))). get_elem? h 0) there.slot in record {
         value = there.value;
         slot_is = some-injective slot (Some there.value) (sym found ∙ final.4 0 (Some there.value) home);
         base_is = there.base_is ∙ sym b;
         log = r.log;
         list = there.list;
-        whole = whole_at_last s r id ps at every;
+        whole = whole_at_last lock s r id ps at every;
       }

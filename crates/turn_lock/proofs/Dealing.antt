@@ -4,11 +4,20 @@ use Rattle.std.specs.Prelude.{Option, Some, All, Contains, IfSome}
 use Rattle.std.specs.Option.{option_to_list}
 use Rattle.std.proofs.lemmas.List.{map-append}
 use Rattle.std.proofs.lemmas.List.Elements.{All-pop}
+use Rattle.atomic_table.specs.Table.{Me}
+use Rattle.turn_lock.specs.declared.view.Sight.{Sight}
+use Rattle.turn_lock.specs.declared.view.View.{View}
+use Rattle.turn_lock.specs.declared.view.View.TheVariants.{Free}
 use Rattle.turn_lock.specs.Views.{sight, newcomers}
 use Rattle.turn_lock.specs.Passes.{numbers}
 
-pub newcomers_next : {B : Type 0} (base : B) (i n : ℕ) → i < n → newcomers base i (n - i) ≡ sight base i [] ∷ newcomers base (i + 1) (n - (i + 1))
-newcomers_next base i n h = let e : n - i ≡ suc (n - (i + 1)) = omega arith in ap (newcomers base i) e
+newcomers_next : {B : Type 0} (base : B) (passes i n : ℕ) → i < n → newcomers base passes i (n - i) ≡ sight base passes i [] ∷ newcomers base passes (i + 1) (n - (i + 1))
+newcomers_next base passes i n h = let e : n - i ≡ suc (n - (i + 1)) = omega arith in ap (newcomers base passes i) e
+
+-- a seat that knows for the callers from one on knows for that one and for the others
+pub next_is_first : {S B : Type 0} (base : B) (passes i n : ℕ) (me : Me S (View B)) → me ≡ (Free (newcomers base passes i (n - i)), []) → i < n
+    → me ≡ (Free (sight base passes i [] ∷ newcomers base passes (i + 1) (n - (i + 1))), [])
+next_is_first {B = B} base passes i n me e h = e ∙ ap (λ (l : List (Sight B)). (Free l, [])) (newcomers_next base passes i n h)
 
 numbers_after : (from n : ℕ) → numbers from (suc n) ≡ numbers from n ++ (from + n) ∷ []
 numbers_after from zero = let e : from ≡ from + 0 = omega arith in ap (λ (k : ℕ). k ∷ []) e

@@ -1,5 +1,5 @@
 -- What a step that changes one view has to show, so that the rule holds after it, and what the rule says of the others.
-use Rattle.std.proofs.Common.{◌≡◌, ◌≢◌, ℕ, ◌+◌, ◌%◌, ◌^◌, ◌<◌, ◌≤◌, eqb, List, [], ◌∷◌, ◌++◌, set, sym, refl, ap, ◌∙◌, subst, ⊎_elim, arith}
+use Rattle.std.proofs.Common.{◌≡◌, ◌≢◌, ℕ, ◌+◌, ◌%◌, ◌^◌, ◌≤◌, eqb, List, [], ◌∷◌, ◌++◌, set, sym, refl, ap, ◌∙◌, subst, ⊎_elim, arith}
 use Rattle.std.specs.Prelude.{Option}
 use mathlib.Core.Logic.{dite}
 use mathlib.Core.Option.{Option as Home, some, some-injective}
@@ -12,7 +12,7 @@ use Rattle.turn_lock.specs.declared.view.Logged.{Logged}
 use Rattle.turn_lock.specs.declared.view.Sight.{Sight}
 use Rattle.turn_lock.specs.declared.view.View.{View}
 use Rattle.turn_lock.specs.declared.view.View.TheVariants.{Free, Drawn, Up, Holding, Lent, Left}
-use Rattle.turn_lock.specs.Log.{entries_of, made_by, under}
+use Rattle.turn_lock.specs.Log.{entries_of, made_by, under, MadeBelow}
 use Rattle.turn_lock.specs.Views.{sights}
 use Rattle.turn_lock.specs.Weights.{total, one_if, callers_in, times_of, is_drawn, has_ticket, keeps_slot}
 use Rattle.turn_lock.specs.Rule.{Each, Knows, IsThere, Fits, Kept}
@@ -23,10 +23,6 @@ use Rattle.turn_lock.proofs.Totals.{one_if-other, one_if-same, total_set, total_
 pub each_append : {A : Type 0} (P : A → Type 0) (xs ys : List A) → Each P xs → Each P ys → Each P (xs ++ ys)
 each_append P [] ys a b = b
 each_append P (x ∷ xs) ys a b = (a.0, each_append P xs ys a.1 b)
-
-pub each_under : (count n : ℕ) (es : List Entry) → n < count → Each (λ x. x.caller < count) (under n es)
-each_under count n [] h = tt
-each_under count n (e ∷ es) h = (h, each_under count n es h)
 
 module _ {B : Type 0} where
   -- two views know for the same callers
@@ -57,6 +53,7 @@ module _ {V B : Type 0} where
     knows_longer : (log : List Logged) (n : ℕ) (es : List Entry) (a : Sight B) → a.caller ≢ n → Knows entries base_in base count log a → Knows entries base_in base count (log ++ under n es) a
     knows_longer log n es a other k = record {
       base_is = k.base_is;
+      passes_are = k.passes_are;
       numbered = k.numbered;
       known = begins_on a.known log (log ++ under n es) k.known (begins_longer log (under n es));
       own = made_by-append a.caller log (under n es) ∙ (ap (λ l. made_by a.caller log ++ l) (made_by-under_other a.caller n es other) ∙ (append-nil (made_by a.caller log) ∙ k.own));
@@ -80,7 +77,7 @@ module _ {V B : Type 0} where
         → (total keeps_slot (set s.views id w) ≡ 0 → IsThere entries base_in base count homes (entries_of log))
         → FitsAt homes log next serving w
         → ((j : ℕ) (u : View B) → j ≢ id → get_elem? s.views j ≡ some u → FitsAt homes log next serving u)
-        → Each (λ x. x.caller < count) log
+        → MadeBelow count log
         → Rule record { words = words; homes = homes; views = set s.views id w }
     changed s r id v w at words homes log next serving spell same apart drawn there mine others made = record {
       log = log;

@@ -1,10 +1,11 @@
 -- Logs that begin other logs, and the entries of one caller in them.
-use Rattle.std.proofs.Common.{◌≡◌, ◌≢◌, ℕ, suc, ◌+◌, ◌≤◌, ltb, Bool, true, false, List, [], ◌∷◌, ◌++◌, length, drop, sym, refl, ap, ◌∙◌, append_assoc, length-append, eq-eqb, ne_eqb, eqb, arith}
+use Rattle.std.proofs.Common.{◌≡◌, ◌≢◌, ℕ, suc, ◌+◌, ◌≤◌, ltb, Bool, true, false, List, [], ◌∷◌, ◌++◌, length, drop, ◌<◌, subst, sym, refl, ap, ◌∙◌, append_assoc, length-append, eq-eqb, ne_eqb, eqb, arith}
 use Rattle.std.proofs.lemmas.List.{append-nil, map-append}
+use Rattle.std.proofs.lemmas.List.Elements.{All-nil, All-cons, All-head, All-tail, All-append, All-map}
 use Rattle.std.proofs.lemmas.Bool.Decides.{nat_tests}
 use Rattle.entry_log.specs.declared.entry.Entry.{Entry}
 use Rattle.turn_lock.specs.declared.view.Logged.{Logged}
-use Rattle.turn_lock.specs.Log.{Begins, entries_of, entry_if, made_by, under, gained, longer}
+use Rattle.turn_lock.specs.Log.{Begins, entries_of, entry_if, made_by, logged, under, gained, longer, MadeBelow}
 
 module _ {A : Type 0} where
   pub begins_itself : (xs : List A) → Begins xs xs
@@ -83,3 +84,20 @@ length_entries (x ∷ xs) = ap suc (length_entries xs)
 -- a list that begins with the entries of a log has beyond them what it gained
 pub begins_gained : (known : List Logged) (es : List Entry) → Begins (entries_of known) es → es ≡ entries_of known ++ gained known es
 begins_gained known es b = sym (begins_dropped (entries_of known) es b) ∙ ap (λ n. entries_of known ++ drop n es) (length_entries known)
+
+-- whose entries are in a log
+module _ (count : ℕ) where
+  abbrev Low : Logged → Type 0
+  Low x = x.caller < count
+
+  made_front : (xs ys : List Logged) → MadeBelow count (xs ++ ys) → MadeBelow count xs
+  made_front [] ys m = All-nil Low
+  made_front (x ∷ xs) ys m = All-cons Low x xs (All-head Low x (xs ++ ys) m) (made_front xs ys (All-tail Low x (xs ++ ys) m))
+
+  -- a log that begins another has entries of the same callers at most
+  pub made_before : (xs log : List Logged) → Begins xs log → MadeBelow count log → MadeBelow count xs
+  made_before xs log b m = made_front xs b.rest (subst (MadeBelow count) (sym b.is) m)
+
+  -- and so has a log that a caller adds to
+  pub made_more : (log : List Logged) (n : ℕ) (es : List Entry) → n < count → MadeBelow count log → MadeBelow count (log ++ under n es)
+  made_more log n es low m = All-append Low log (under n es) m (All-map Low (logged n) es (λ k d lt. low))

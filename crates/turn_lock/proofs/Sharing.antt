@@ -1,6 +1,7 @@
 -- The lock at its start, and each kind of step that shares what passes know, keep the rule.
 use Rattle.std.proofs.Common.{◌≡◌, ◌≢◌, ℕ, zero, suc, ◌+◌, ◌<◌, ◌≤◌, eqb, List, [], ◌∷◌, ◌++◌, length, set, sym, refl, ap, ◌∙◌, subst, ⊎_elim, length-append, arith}
 use Rattle.std.specs.Prelude.{Option, Some}
+use Rattle.std.proofs.lemmas.List.Elements.{All-nil}
 use mathlib.Core.Logic.{dite}
 use mathlib.Core.Option.{some, some-ne-none}
 use native.Mathlib.Decide.{ℕ_discrete}
@@ -12,13 +13,13 @@ use Rattle.turn_lock.specs.declared.view.Logged.{Logged}
 use Rattle.turn_lock.specs.declared.view.Sight.{Sight}
 use Rattle.turn_lock.specs.declared.view.View.{View}
 use Rattle.turn_lock.specs.declared.view.View.TheVariants.{Free}
-use Rattle.turn_lock.specs.Log.{longer}
+use Rattle.turn_lock.specs.Log.{longer, MadeBelow}
 use Rattle.turn_lock.specs.Views.{sight, newcomers}
 use Rattle.turn_lock.specs.Weights.{total, one_if, callers_in, times_of, is_drawn, has_ticket, keeps_slot}
 use Rattle.turn_lock.specs.Rule.{Each, Knows, Fits, Kept}
 use Rattle.turn_lock.specs.Shares.{first_of, others_of, both_of, spent}
 use Rattle.turn_lock.specs.Steps.{Mine, Met, met}
-use Rattle.turn_lock.proofs.Logs.{begins_itself, made_between, longer_begins}
+use Rattle.turn_lock.proofs.Logs.{begins_itself, made_between, made_before, longer_begins}
 use Rattle.turn_lock.proofs.Totals.{one_if-other, one_if-same, total_set, total_append}
 use Rattle.turn_lock.proofs.Keeping.{each_append}
 use Rattle.turn_lock.proofs.Turning.{still}
@@ -33,19 +34,19 @@ module _ {B : Type 0} (f : View B → ℕ) (views : List (View B)) where
   total_join id other v w both gone at there e z = let a = total_set f views id v both at in let b = total_set f (set views id both) other w gone there in omega arith
 
 module _ {B : Type 0} where
-  pub length-newcomers : (base : B) (from n : ℕ) → length (newcomers base from n) ≡ n
-  length-newcomers base from zero = refl
-  length-newcomers base from (suc n) = ap suc (length-newcomers base (from + 1) n)
+  pub length-newcomers : (base : B) (passes from n : ℕ) → length (newcomers base passes from n) ≡ n
+  length-newcomers base passes from zero = refl
+  length-newcomers base passes from (suc n) = ap suc (length-newcomers base passes (from + 1) n)
 
-  below_newcomers : (base : B) (caller from n : ℕ) → caller < from → total (λ a. one_if (eqb a.caller caller)) (newcomers base from n) ≡ 0
-  below_newcomers base caller from zero h = refl
-  below_newcomers base caller from (suc n) h = let a = one_if-other from caller (λ e. omega arith) in let b = below_newcomers base caller (from + 1) n (omega arith) in omega arith
+  below_newcomers : (base : B) (passes caller from n : ℕ) → caller < from → total (λ a. one_if (eqb a.caller caller)) (newcomers base passes from n) ≡ 0
+  below_newcomers base passes caller from zero h = refl
+  below_newcomers base passes caller from (suc n) h = let a = one_if-other from caller (λ e. omega arith) in let b = below_newcomers base passes caller (from + 1) n (omega arith) in omega arith
 
-  newcomers_once : (base : B) (caller from n : ℕ) → total (λ a. one_if (eqb a.caller caller)) (newcomers base from n) ≤ 1
-  newcomers_once base caller from zero = omega arith
-  newcomers_once base caller from (suc n) = dite (ℕ_discrete from caller)
-      (λ e. (let a = one_if-same from caller e in let b = below_newcomers base caller (from + 1) n (omega arith) in omega arith))
-      (λ e. (let a = one_if-other from caller e in let b = newcomers_once base caller (from + 1) n in omega arith))
+  newcomers_once : (base : B) (passes caller from n : ℕ) → total (λ a. one_if (eqb a.caller caller)) (newcomers base passes from n) ≤ 1
+  newcomers_once base passes caller from zero = omega arith
+  newcomers_once base passes caller from (suc n) = dite (ℕ_discrete from caller)
+      (λ e. (let a = one_if-same from caller e in let b = below_newcomers base passes caller (from + 1) n (omega arith) in omega arith))
+      (λ e. (let a = one_if-other from caller e in let b = newcomers_once base passes caller (from + 1) n in omega arith))
 
 module _ {V B : Type 0} (entries : V → List Entry) (base_in : V → B) (base : B) (count : ℕ) where
   abbrev St : Type 0
@@ -57,9 +58,9 @@ module _ {V B : Type 0} (entries : V → List Entry) (base_in : V → B) (base :
   abbrev Known : List Logged → List (Sight B) → Type 0
   Known log = Each (Knows entries base_in base count log)
 
-  newcomers_know : (from n : ℕ) → from + n ≤ count → Known [] (newcomers base from n)
+  newcomers_know : (from n : ℕ) → from + n ≤ count → Known [] (newcomers base count from n)
   newcomers_know from zero h = tt
-  newcomers_know from (suc n) h = (record { base_is = refl; numbered = omega arith; known = begins_itself []; own = refl }, newcomers_know (from + 1) n (omega arith))
+  newcomers_know from (suc n) h = (record { base_is = refl; passes_are = refl; numbered = omega arith; known = begins_itself []; own = refl }, newcomers_know (from + 1) n (omega arith))
 
   pub splits : (id : ℕ) (a : Sight B) (all : List (Sight B)) → Splits Rule id (Free (a ∷ all)) (Free (a ∷ [])) (Free all)
   splits id a all s r at = let v : View B = Free (a ∷ all) in let left : View B = Free (a ∷ []) in let right : View B = Free all in
@@ -103,46 +104,46 @@ module _ {V B : Type 0} (entries : V → List Entry) (base_in : V → B) (base :
         made = r.made;
       }
 
-  pub opens : (value : V) → base_in value ≡ base → entries value ≡ [] → count ≤ 16 → Rule (opening (0 ∷ 0 ∷ []) (Some value ∷ []) (Free (newcomers base 0 count)))
-  opens value base_is list few = let v : View B = Free (newcomers base 0 count) in record {
+  pub opens : (value : V) → base_in value ≡ base → entries value ≡ [] → count ≤ 16 → Rule (opening (0 ∷ 0 ∷ []) (Some value ∷ []) (Free (newcomers base count 0 count)))
+  opens value base_is list few = let v : View B = Free (newcomers base count 0 count) in record {
     log = [];
     next = 0;
     serving = 0;
     few = few;
     words = refl;
-    known_for = (let l = length-newcomers base 0 count in omega arith);
-    once = λ caller. (let o = newcomers_once base caller 0 count in omega arith);
+    known_for = (let l = length-newcomers base count 0 count in omega arith);
+    once = λ caller. (let o = newcomers_once base count caller 0 count in omega arith);
     apart = λ ticket. omega arith;
     drawn = refl;
     there = λ _. record { value = value; slot = refl; list = list; base_is = base_is };
     each = λ j u e. ⊎_elim (λ (h : get_elem? [] j ≡ some u). absurd (some-ne-none u (sym h)))
         (λ (h : v ≡ u). subst (Fits entries base_in base count (some (Some value) ∷ []) [] 0 0) h (record { knows = newcomers_know 0 count (omega arith); stands = tt })) (at_snoc [] v u j e);
-    made = tt;
+    made = All-nil (λ x. x.caller < count);
   }
 
-  knows_longer_of : (log : List Logged) (a b : Sight B) → Knows entries base_in base count log a → Knows entries base_in base count log b
-      → Met a b × Knows entries base_in base count log (sight a.base a.caller (longer a.known b.known)) × Knows entries base_in base count log (sight b.base b.caller (longer a.known b.known))
-  knows_longer_of log a b k l = let long = longer_begins a.known b.known log k.known l.known in
+  knows_longer_of : (log : List Logged) (a b : Sight B) → MadeBelow count log → Knows entries base_in base count log a → Knows entries base_in base count log b
+      → Met a b × Knows entries base_in base count log (sight a.base a.passes a.caller (longer a.known b.known)) × Knows entries base_in base count log (sight b.base b.passes b.caller (longer a.known b.known))
+  knows_longer_of log a b made k l = let long = longer_begins a.known b.known log k.known l.known in
       let mine = made_between a.caller a.known (longer a.known b.known) log long.0 long.2 k.own in
       let theirs = made_between b.caller b.known (longer a.known b.known) log long.1 long.2 l.own in (
-        record { one = long.0; other = long.1; one_own = mine; other_own = theirs },
-        record { base_is = k.base_is; numbered = k.numbered; known = long.2; own = k.own ∙ sym mine },
-        record { base_is = l.base_is; numbered = l.numbered; known = long.2; own = l.own ∙ sym theirs },
+        record { one = long.0; other = long.1; one_own = mine; other_own = theirs; made = subst (λ n. MadeBelow n (longer a.known b.known)) (sym k.passes_are) (made_before count (longer a.known b.known) log long.2 made) },
+        record { base_is = k.base_is; passes_are = k.passes_are; numbered = k.numbered; known = long.2; own = k.own ∙ sym mine },
+        record { base_is = l.base_is; passes_are = l.passes_are; numbered = l.numbered; known = long.2; own = l.own ∙ sym theirs },
       )
 
   of_two : (a b c d : Sight B) → Free (a ∷ b ∷ []) ≡ Free (c ∷ d ∷ []) → (a ≡ c) × (b ≡ d)
   of_two a b c d e = (cc, cc)
 
   pub meets : (slots id : ℕ) (a b : Sight B) → Allows Rule slots id (Free (a ∷ b ∷ []), []) 1 (λ n. n) (met (Free (a ∷ b ∷ []), []))
-  meets slots id a b s r _ at _ = let knows = (r.each id (Free (a ∷ b ∷ [])) at).knows in let both = knows_longer_of r.log a b knows.0 knows.1.0 in (
-    Free (sight a.base a.caller (longer a.known b.known) ∷ sight b.base b.caller (longer a.known b.known) ∷ []),
+  meets slots id a b s r _ at _ = let knows = (r.each id (Free (a ∷ b ∷ [])) at).knows in let both = knows_longer_of r.log a b r.made knows.0 knows.1.0 in (
+    Free (sight a.base a.passes a.caller (longer a.known b.known) ∷ sight b.base b.passes b.caller (longer a.known b.known) ∷ []),
     keeps,
     tt,
-    still entries base_in base count s r id (Free (a ∷ b ∷ [])) (Free (sight a.base a.caller (longer a.known b.known) ∷ sight b.base b.caller (longer a.known b.known) ∷ [])) at
+    still entries base_in base count s r id (Free (a ∷ b ∷ [])) (Free (sight a.base a.passes a.caller (longer a.known b.known) ∷ sight b.base b.passes b.caller (longer a.known b.known) ∷ [])) at
         (record { count = refl; times = λ _. refl }) (λ _. refl) refl refl (record { knows = (both.1, (both.2, tt)); stands = tt }),
     λ c d same. let e = of_two a b c d (ap (λ (m : Mine V B). m.0) same) in
-        subst (λ (z : Sight B × Sight B). Met z.0 z.1 × (◌≡◌ {A = Mine V B} (Free (sight a.base a.caller (longer a.known b.known) ∷ sight b.base b.caller (longer a.known b.known) ∷ []), [])
-        (Free (sight z.0.base z.0.caller (longer z.0.known z.1.known) ∷ sight z.1.base z.1.caller (longer z.0.known z.1.known) ∷ []), []))) (λ i. (e.0 i, e.1 i)) (both.0, refl),
+        subst (λ (z : Sight B × Sight B). Met z.0 z.1 × (◌≡◌ {A = Mine V B} (Free (sight a.base a.passes a.caller (longer a.known b.known) ∷ sight b.base b.passes b.caller (longer a.known b.known) ∷ []), [])
+        (Free (sight z.0.base z.0.passes z.0.caller (longer z.0.known z.1.known) ∷ sight z.1.base z.1.passes z.1.caller (longer z.0.known z.1.known) ∷ []), []))) (λ i. (e.0 i, e.1 i)) (both.0, refl),
   )
 
   -- the same, for a pass that is known to be in no turn

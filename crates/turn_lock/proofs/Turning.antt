@@ -1,5 +1,5 @@
 -- Each kind of step on a turn keeps the rule.
-use Rattle.std.proofs.Common.{◌≡◌, ◌≢◌, ℕ, ◌+◌, ◌%◌, ◌^◌, ◌<◌, List, [], ◌∷◌, ◌++◌, get_or, set, sym, refl, ap, ◌∙◌, subst, arith}
+use Rattle.std.proofs.Common.{◌≡◌, ◌≢◌, ℕ, ◌+◌, ◌%◌, ◌^◌, List, [], ◌∷◌, ◌++◌, get_or, set, sym, refl, ap, ◌∙◌, subst, arith}
 use Rattle.std.specs.Prelude.{Option, Some, None}
 use mathlib.Core.Logic.{dite}
 use mathlib.Core.Option.{Option as Home, none, some}
@@ -12,15 +12,15 @@ use Rattle.turn_lock.specs.declared.view.Logged.{Logged}
 use Rattle.turn_lock.specs.declared.view.Sight.{Sight}
 use Rattle.turn_lock.specs.declared.view.View.{View}
 use Rattle.turn_lock.specs.declared.view.View.TheVariants.{Free, Drawn, Up, Holding, Lent, Left}
-use Rattle.turn_lock.specs.Log.{entries_of, made_by, under}
+use Rattle.turn_lock.specs.Log.{entries_of, made_by, under, MadeBelow}
 use Rattle.turn_lock.specs.Views.{sight, sights}
 use Rattle.turn_lock.specs.Weights.{total, times_of, is_drawn, has_ticket, keeps_slot}
 use Rattle.turn_lock.specs.Rule.{Knows, Fits, Kept}
 use Rattle.turn_lock.specs.Steps.{KnowsMore, Mine, drew, looked, took, lent, retook, gave_back, published}
 use Rattle.std.proofs.lemmas.List.{append-nil, append_cancel_left}
-use Rattle.turn_lock.proofs.Logs.{begins_itself, entries_of-append, entries_of-under}
+use Rattle.turn_lock.proofs.Logs.{begins_itself, entries_of-append, entries_of-under, made_more}
 use Rattle.turn_lock.proofs.Totals.{one_if-other, one_if-same, total_set, total_at, total_two}
-use Rattle.turn_lock.proofs.Keeping.{SameCallers, few_out, changed, others_wait, fits_later, fits_aside, next_unused, there_in_turn, each_append, each_under, each_longer}
+use Rattle.turn_lock.proofs.Keeping.{SameCallers, few_out, changed, others_wait, fits_later, fits_aside, next_unused, there_in_turn, each_longer}
 
 module _ {B : Type 0} where
   -- what holds of the number and the caller of one view holds of those of an equal one
@@ -88,13 +88,13 @@ module _ {V B : Type 0} (entries : V → List Entry) (base_in : V → B) (base :
 
   -- what the rule knows of the view of one pass, once the pass has seen the whole log
   abbrev seen : List Logged → Sight B → Sight B
-  seen log a = sight a.base a.caller log
+  seen log a = sight a.base a.passes a.caller log
 
   knows_all : (log : List Logged) (a : Sight B) → Knows entries base_in base count log a → Knows entries base_in base count log (seen log a)
-  knows_all log a k = record { base_is = k.base_is; numbered = k.numbered; known = begins_itself log; own = refl }
+  knows_all log a k = record { base_is = k.base_is; passes_are = k.passes_are; numbered = k.numbered; known = begins_itself log; own = refl }
 
   knows_more : (log : List Logged) (a : Sight B) → Knows entries base_in base count log a → KnowsMore a (seen log a)
-  knows_more log a k = record { base = refl; caller = refl; known = k.known; own = k.own }
+  knows_more log a k = record { base = refl; passes = refl; caller = refl; known = k.known; own = k.own }
 
   -- a step that changes no word and no slot, and no number that is out
   pub still : (s : St) (r : Rule s) (id : ℕ) (v w : View B) → get_elem? s.views id ≡ some v → SameCallers v w → ((ticket : ℕ) → has_ticket ticket w ≡ has_ticket ticket v) → is_drawn w ≡ is_drawn v
@@ -109,6 +109,7 @@ module _ {V B : Type 0} (entries : V → List Entry) (base_in : V → B) (base :
 
   pub looks : (slots id : ℕ) (x : ℕ) (a : Sight B) → Allows Rule slots id (Drawn x a, []) 1 (λ n. n) (looked (Drawn x a, []))
   looks slots id x a s r _ at _ = let fits = r.each id (Drawn x a) at in let b : Sight B = seen r.log a in let knows = knows_all r.log a fits.knows.0 in let more = knows_more r.log a fits.knows.0 in
+      let made : MadeBelow b.passes b.known = subst (λ n. MadeBelow n r.log) (sym fits.knows.0.passes_are) r.made in
       let second : get_or s.words 1 0 ≡ r.serving % 2 ^ 64 = ap (λ ws. get_or ws 1 0) r.words in dite (ℕ_discrete (x % 2 ^ 64) (r.serving % 2 ^ 64))
       (λ here. let few = few_out entries base_in base count s r in let low = fits.stands in let is : x ≡ r.serving = sym (one_turn r.serving x (2 ^ 64) low.0 (omega (arith, low.1)) (sym here)) in (
         Up x b,
@@ -116,16 +117,16 @@ module _ {V B : Type 0} (entries : V → List Entry) (base_in : V → B) (base :
         tt,
         still s r id (Drawn x a) (Up x b) at (record { count = refl; times = λ _. refl }) (λ _. refl) refl refl
             (record { knows = (knows, tt); stands = (record { turn = is; whole = refl }, there_in_turn entries base_in base count s r id (Drawn x a) at (one_if-same x r.serving is) refl) }),
-        λ y c same. both_same (λ y c. (b' : Sight B) × KnowsMore c b' × (y % 2 ^ 64 ≡ get_or s.words 1 0 → Is (Up x b, []) (Up y b', [])) × (y % 2 ^ 64 ≢ get_or s.words 1 0 → Is (Up x b, []) (Drawn y b', []))) x y a c
-            (of_drawn x y a c (ap (λ (m : Mine V B). m.0) same)) (b, more, (λ _. refl), λ n. absurd (n (here ∙ sym second))),
+        λ y c same. both_same (λ y c. (b' : Sight B) × KnowsMore c b' × MadeBelow b'.passes b'.known × (y % 2 ^ 64 ≡ get_or s.words 1 0 → Is (Up x b, []) (Up y b', [])) × (y % 2 ^ 64 ≢ get_or s.words 1 0 → Is (Up x b, []) (Drawn y b', []))) x y a c
+            (of_drawn x y a c (ap (λ (m : Mine V B). m.0) same)) (b, more, made, (λ _. refl), λ n. absurd (n (here ∙ sym second))),
       ))
       (λ apart. (
         Drawn x b,
         keeps,
         tt,
         still s r id (Drawn x a) (Drawn x b) at (record { count = refl; times = λ _. refl }) (λ _. refl) refl refl (record { knows = (knows, tt); stands = fits.stands }),
-        λ y c same. both_same (λ y c. (b' : Sight B) × KnowsMore c b' × (y % 2 ^ 64 ≡ get_or s.words 1 0 → Is (Drawn x b, []) (Up y b', [])) × (y % 2 ^ 64 ≢ get_or s.words 1 0 → Is (Drawn x b, []) (Drawn y b', []))) x y a c
-            (of_drawn x y a c (ap (λ (m : Mine V B). m.0) same)) (b, more, (λ e. absurd (apart (e ∙ second))), λ _. refl),
+        λ y c same. both_same (λ y c. (b' : Sight B) × KnowsMore c b' × MadeBelow b'.passes b'.known × (y % 2 ^ 64 ≡ get_or s.words 1 0 → Is (Drawn x b, []) (Up y b', [])) × (y % 2 ^ 64 ≢ get_or s.words 1 0 → Is (Drawn x b, []) (Drawn y b', []))) x y a c
+            (of_drawn x y a c (ap (λ (m : Mine V B). m.0) same)) (b, more, made, (λ e. absurd (apart (e ∙ second))), λ _. refl),
       ))
 
   -- a step of the pass whose turn it is, which changes the slot
@@ -200,8 +201,9 @@ module _ {V B : Type 0} (entries : V → List Entry) (base_in : V → B) (base :
   pub publishes : (slots id : ℕ) (x : ℕ) (a : Sight B) (gain : List Entry) → Allows Rule slots id (Left x a gain, []) 1 (λ n. (n + 1) % 2 ^ 64) (published (Left x a gain, []))
   publishes slots id x a gain s r _ at _ =
       let fits = r.each id (Left x a gain) at in let up = fits.stands.0 in let there = fits.stands.1 in let knows = fits.knows.0 in
-      let more : List Logged = under a.caller gain in let b : Sight B = sight a.base a.caller (a.known ++ more) in let v : View B = Left x a gain in let w : View B = Free (b ∷ []) in
-      let whole : a.known ++ more ≡ r.log ++ more = ap (λ l. l ++ more) up.whole in let drawn = r.drawn in (
+      let more : List Logged = under a.caller gain in let b : Sight B = sight a.base a.passes a.caller (a.known ++ more) in let v : View B = Left x a gain in let w : View B = Free (b ∷ []) in
+      let whole : a.known ++ more ≡ r.log ++ more = ap (λ l. l ++ more) up.whole in let drawn = r.drawn in
+      let grown = made_more count r.log a.caller gain knows.numbered r.made in let made : MadeBelow a.passes (a.known ++ more) = subst (λ (z : ℕ × List Logged). MadeBelow z.0 z.1) (λ i. (sym knows.passes_are i, sym whole i)) grown in (
         w,
         keeps,
         tt,
@@ -217,16 +219,18 @@ module _ {V B : Type 0} (entries : V → List Entry) (base_in : V → B) (base :
               base_is = there.base_is;
             })
             (record {
-              knows = (record { base_is = knows.base_is; numbered = knows.numbered; known = record { rest = []; is = append-nil (a.known ++ more) ∙ whole }; own = ap (made_by a.caller) (sym whole) }, tt);
+              knows = (record { base_is = knows.base_is; passes_are = knows.passes_are; numbered = knows.numbered; known = record { rest = []; is = append-nil (a.known ++ more) ∙ whole }; own = ap (made_by a.caller) (sym whole) }, tt);
               stands = tt;
             })
             (λ j u n e. fits_aside entries base_in base count s.homes s.homes r.log (r.log ++ more) r.next r.serving (r.serving + 1) u (r.each j u e)
             (others_wait entries base_in base count s r id v at (one_if-same x r.serving up.turn) j u n e) (omega arith)
             (each_longer entries base_in base count r.log a.caller gain (sights u)
             (let t = total_two (times_of a.caller) s.views id j v u n at e in let o = r.once a.caller in let h = one_if-same a.caller a.caller refl in omega arith) (r.each j u e).knows))
-            (each_append (λ x. x.caller < count) r.log more r.made (each_under count a.caller gain knows.numbered)),
-        λ y c gain' same. let e = of_left x y a c gain gain' (ap (λ (m : Mine V B). m.0) same) in
-            λ i. (Free (sight (e.1 i).base (e.1 i).caller ((e.1 i).known ++ under (e.1 i).caller (e.2 i)) ∷ []), []),
+            grown,
+        λ y c gain' same. let e = of_left x y a c gain gain' (ap (λ (m : Mine V B). m.0) same) in (
+          (λ i. (Free (sight (e.1 i).base (e.1 i).passes (e.1 i).caller ((e.1 i).known ++ under (e.1 i).caller (e.2 i)) ∷ []), [])),
+          subst (λ (z : Sight B × List Entry). MadeBelow z.0.passes (z.0.known ++ under z.0.caller z.1)) (λ i. (e.1 i, e.2 i)) made,
+        ),
       )
 
   -- the same, for a pass that is known to be at this point of its turn

@@ -1,5 +1,5 @@
 -- The log: the entries in the order in which they were made, each with the number of the caller that made it.
-use Rattle.std.specs.Prelude.{◌≡◌, ℕ, ◌==◌, Bool, true, false, List, [], ◌∷◌, ◌++◌, map, length, drop, nat_lt, if◌then◌else◌}
+use Rattle.std.specs.Prelude.{◌≡◌, ℕ, ◌==◌, Bool, true, false, List, [], ◌∷◌, ◌++◌, map, length, drop, nat_lt, if◌then◌else◌, ◌<◌, All}
 use Rattle.entry_log.specs.declared.entry.Entry.{Entry}
 use Rattle.turn_lock.specs.declared.view.Logged.{Logged}
 
@@ -37,3 +37,7 @@ gained known entries = drop (length known) entries
 -- the longer of two logs
 abbrev pub longer : List Logged → List Logged → List Logged
 longer one other = if nat_lt (length one) (length other) then other else one
+
+-- the entries of a log were made by callers whose numbers are below this one
+abbrev pub MadeBelow : ℕ → List Logged → Type 0
+MadeBelow count log = All (λ x. x.caller < count) log

@@ -7,7 +7,7 @@ use Rattle.turn_lock.specs.declared.view.View.{View}
 use Rattle.turn_lock.specs.declared.view.View.TheVariants.{Free, Lent}
 use Rattle.turn_lock.specs.declared.pass.Pass.{Pass}
 use Rattle.turn_lock.specs.LockId.{LockId}
-use Rattle.turn_lock.specs.Log.{Begins, made_by}
+use Rattle.turn_lock.specs.Log.{Begins, made_by, MadeBelow}
 use Rattle.turn_lock.specs.Views.{sight, sights}
 
 -- the numbers from one on, so many of them
@@ -40,20 +40,24 @@ module _ {B : Type 0} where
   abbrev pub own_of : Pass B → List Entry
   own_of p = made_by (caller_of p) (known_of p)
 
-  -- all that the pass knows
-  abbrev pub sight_of : B → Pass B → Sight B
-  sight_of base p = sight base (caller_of p) (known_of p)
+  -- all that the pass of a lock knows
+  abbrev pub sight_of : LockId B → Pass B → Sight B
+  sight_of lock p = sight lock.base lock.passes (caller_of p) (known_of p)
+
+  -- Each entry that the pass knows has the number of one of the lock's passes. They are numbered from 0, so it is below how many they are.
+  abbrev pub MadeByPasses : LockId B → Pass B → Type 0
+  MadeByPasses lock p = MadeBelow lock.passes (known_of p)
 
   -- a pass of this lock that is in no turn
   pub record IsFree (lock : LockId B) (p : Pass B) : Type 0 where
     pub table : p.badge.table_id ≡ lock.table
-    pub views : p.badge.views ≡ Free (sight_of lock.base p ∷ []) ∷ []
+    pub views : p.badge.views ≡ Free (sight_of lock p ∷ []) ∷ []
 
   -- a pass of this lock that is in its turn
   pub record IsInTurn (lock : LockId B) (p : Pass B) : Type 0 where
     pub table : p.badge.table_id ≡ lock.table
     pub ticket : ℕ
-    pub views : p.badge.views ≡ Lent ticket (sight_of lock.base p) ∷ []
+    pub views : p.badge.views ≡ Lent ticket (sight_of lock p) ∷ []
 
   -- The whole log: it begins with what each of the passes knows, it has no entries of theirs but those that they know of, and all of
   -- its entries are theirs.

@@ -8,7 +8,7 @@ use Rattle.turn_lock.specs.declared.view.Logged.{Logged}
 use Rattle.turn_lock.specs.declared.view.Sight.{Sight}
 use Rattle.turn_lock.specs.declared.view.View.{View}
 use Rattle.turn_lock.specs.declared.view.View.TheVariants.{Free, Drawn, Up, Holding, Lent, Left}
-use Rattle.turn_lock.specs.Log.{Begins, entries_of, made_by}
+use Rattle.turn_lock.specs.Log.{Begins, entries_of, made_by, MadeBelow}
 use Rattle.turn_lock.specs.Views.{sights}
 use Rattle.turn_lock.specs.Weights.{total, callers_in, times_of, is_drawn, has_ticket, keeps_slot}
 
@@ -17,9 +17,10 @@ Each P [] = Unit {0}
 Each P (x ∷ xs) = P x × Each P xs
 
 module _ {V B : Type 0} (entries : V → List Entry) (base_in : V → B) (base : B) (count : ℕ) where
-  -- a caller knows the lock's base, a prefix of the log, and in it all the entries that it made
+  -- a caller knows the lock's base, the number of its passes, a prefix of the log, and in it all the entries that it made
   pub record Knows (log : List Logged) (a : Sight B) : Type 0 where
     pub base_is : a.base ≡ base
+    pub passes_are : a.passes ≡ count
     pub numbered : a.caller < count
     pub known : Begins a.known log
     pub own : made_by a.caller log ≡ made_by a.caller a.known
@@ -63,4 +64,4 @@ module _ {V B : Type 0} (entries : V → List Entry) (base_in : V → B) (base :
     pub drawn : serving + total is_drawn s.views ≡ next
     pub there : total keeps_slot s.views ≡ 0 → IsThere s.homes (entries_of log)
     pub each : (id : ℕ) (v : View B) → get_elem? s.views id ≡ some v → Fits s.homes log next serving v
-    pub made : Each (λ x. x.caller < count) log
+    pub made : MadeBelow count log

@@ -3,7 +3,7 @@ use Rattle.std.specs.Prelude.{◌≡◌, ℕ, ◌%◌, ◌^◌, List, [], ◌∷
 use Rattle.entry_log.specs.declared.entry.Entry.{Entry}
 use Rattle.turn_lock.specs.declared.view.Sight.{Sight}
 use Rattle.turn_lock.specs.declared.view.View.TheVariants.{Free, Drawn, Up, Lent, Left}
-use Rattle.turn_lock.specs.Log.{entries_of}
+use Rattle.turn_lock.specs.Log.{entries_of, MadeBelow}
 use Rattle.turn_lock.specs.Steps.{Mine, KnowsMore}
 
 module _ {V B : Type 0} where
@@ -15,9 +15,9 @@ module _ {V B : Type 0} where
   abbrev pub Waits : Mine V B → ℕ → Mine V B → Type 0
   Waits old ticket new = (a : Sight B) → old ≡ (Free (a ∷ []), []) → (x : ℕ) × (b : Sight B) × KnowsMore a b × (x % 2 ^ 64 ≡ ticket) × (new ≡ (Drawn x b, []))
 
-  -- it is its turn
+  -- it is its turn, and the lock's callers made all that it knows
   abbrev pub Waited : Mine V B → Mine V B → Type 0
-  Waited old new = (a : Sight B) → old ≡ (Free (a ∷ []), []) → (x : ℕ) × (b : Sight B) × KnowsMore a b × (new ≡ (Up x b, []))
+  Waited old new = (a : Sight B) → old ≡ (Free (a ∷ []), []) → (x : ℕ) × (b : Sight B) × KnowsMore a b × MadeBelow b.passes b.known × (new ≡ (Up x b, []))
 
   abbrev pub IsUp : Mine V B → Type 0
   IsUp old = (x : ℕ) × (a : Sight B) × (old ≡ (Up x a, []))

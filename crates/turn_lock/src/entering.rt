@@ -1,7 +1,7 @@
 //! How a pass enters its turn, and leaves it.
 ghost use Rattle.std.specs.Prelude.{◌≡◌, ◌++◌};
 ghost use Rattle.turn_lock.specs.Log.{Begins, entries_of, under, gained};
-ghost use Rattle.turn_lock.specs.Passes.{caller_of, known_of, own_of, IsFree, IsInTurn};
+ghost use Rattle.turn_lock.specs.Passes.{caller_of, known_of, own_of, IsFree, IsInTurn, MadeByPasses};
 
 use crate::History;
 use crate::pass::Pass;
@@ -19,9 +19,11 @@ impl<V: History> Turns<V> {
         ensures turn { IsInTurn self.now pass.new }
         ensures caller { caller_of pass.new ≡ caller_of pass.old }
 
-        // The pass knows a prefix of the log, which begins with what it knew before. Its own entries are the same.
+        // The pass knows a prefix of the log, which begins with what it knew before. Its own entries are the same, and
+        // each entry has the number of one of the lock's passes.
         ensures known { Begins (known_of pass.old) (known_of pass.new) }
         ensures own { own_of pass.new ≡ own_of pass.old }
+        ensures made { MadeByPasses self.now pass.new }
 
         // The entries of that prefix are the list of the value, which has the lock's base.
         ensures list { V.entries result.value ≡ entries_of (known_of pass.new) }
@@ -43,10 +45,12 @@ impl<V: History> Turns<V> {
         ensures free { IsFree self.now pass.new }
         ensures caller { caller_of pass.new ≡ caller_of pass.old }
 
-        // The pass knows the log: what it knew, and then what the value gained, and nothing else.
+        // The pass knows the log: what it knew, and then what the value gained, and nothing else. Each entry has the
+        // number of one of the lock's passes.
         ensures known { known_of pass.new ≡ known_of pass.old ++ under (caller_of pass.old) (gained (known_of pass.old) (V.entries turn.value)) }
         ensures own { own_of pass.new ≡ own_of pass.old ++ gained (known_of pass.old) (V.entries turn.value) }
         ensures list { entries_of (known_of pass.new) ≡ V.entries turn.value }
+        ensures made { MadeByPasses self.now pass.new }
     {
         let Turn { value } = turn;
         let mut seat = pass.lift::<Option<V>>();

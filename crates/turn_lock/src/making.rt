@@ -58,7 +58,7 @@ impl<V: History> Turns<V> {
         count: u32,
     ) -> Result<Vec<Pass<V::Base>>, NoMemory>
         requires table { seat.table_id ≡ self.now.table }
-        requires all { seat.me ≡ (Free (newcomers self.now.base 0 count), []) }
+        requires all { seat.me ≡ (Free (newcomers self.now.base self.now.passes 0 count), []) }
         ensures free { IfOk result (λ dealt. All (IsFree self.now) dealt.items) }
         ensures callers { IfOk result (λ dealt. map caller_of dealt.items ≡ numbers 0 count) }
         ensures known { IfOk result (λ dealt. All (λ p. known_of p ≡ []) dealt.items) }
@@ -79,7 +79,7 @@ impl<V: History> Turns<V> {
         requires free { All (IsFree self.now) passes.items }
         requires all { (caller : ℕ) → caller < self.now.passes → Contains (map caller_of passes.items) caller }
         ensures table { result.table_id ≡ self.now.table }
-        ensures all { result.me ≡ (Free (map (sight_of self.now.base) passes.items), []) }
+        ensures all { result.me ≡ (Free (map (sight_of self.now) passes.items), []) }
     {
         let shared = &self.table.shared;
         let Some(Pass { badge: last }) = passes.pop() else {

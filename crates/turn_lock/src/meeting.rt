@@ -1,7 +1,7 @@
 //! How two callers tell each other what they know.
 ghost use Rattle.std.specs.Prelude.{◌≡◌};
 ghost use Rattle.turn_lock.specs.Log.{Begins, longer};
-ghost use Rattle.turn_lock.specs.Passes.{caller_of, known_of, own_of, IsFree};
+ghost use Rattle.turn_lock.specs.Passes.{caller_of, known_of, own_of, IsFree, MadeByPasses};
 
 use crate::History;
 use crate::pass::Pass;
@@ -27,6 +27,10 @@ impl<V: History> Turns<V> {
         ensures other_begins { Begins (known_of other) (known_of one.new) }
         ensures own { own_of one.new ≡ own_of one.old }
         ensures other_own { own_of result ≡ own_of other }
+
+        // Each entry of it has the number of one of the lock's passes.
+        ensures made { MadeByPasses self.now one.new }
+        ensures other_made { MadeByPasses self.now result }
     {
         let shared = &self.table.shared;
         let mut seat = one.lift::<Option<V>>();

@@ -23,7 +23,7 @@ impl<V: History> TableRule<Option<V>, View<V::Base>, Start<V>> for InTurns {
 
     ghost holds = { λ start. Kept V.entries V.base (V.base start.value.value) start.passes };
 
-    ghost first = { λ start. Free (newcomers (V.base start.value.value) 0 start.passes) };
+    ghost first = { λ start. Free (newcomers (V.base start.value.value) start.passes 0 start.passes) };
 }
 
 /// A lock that is taken in turns, in the order in which its callers came, and counts its history: its log has

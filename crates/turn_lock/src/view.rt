@@ -8,9 +8,11 @@ pub struct Logged {
     pub entry: Entry,
 }
 
-/// What one caller knows: the base of the lock's value, its own number, and the log up to some entry.
+/// What one caller knows: the base of the lock's value, how many passes the lock has, its own number, and the log up to
+/// some entry.
 pub struct Sight<B> {
     pub base: B,
+    pub passes: u32,
     pub caller: u32,
     pub known: LinkedList<Logged>,
 }

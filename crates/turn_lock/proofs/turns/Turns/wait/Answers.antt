@@ -16,10 +16,10 @@ pub loop-preserved : goal.loop-preserved
 loop-preserved g c = (
   c.load-serving.ensures.0 ∙ c.loop.invariant.0,
   λ a e. let w = c.loop.invariant.1 a e in let l = c.load-serving.ensures.2 w.0 w.1 w.4 in
-      (w.0, l.0, knows_on a w.1 l.0 w.2 l.1, w.3, l.3 (λ h. c.if-serving-ticket.false (sym h ∙ w.3))),
+      (w.0, l.0, knows_on a w.1 l.0 w.2 l.1, w.3, l.4 (λ h. c.if-serving-ticket.false (sym h ∙ w.3))),
 )
 
 pub returns-then-serving-ticket-clause-waited : goal.returns-then-serving-ticket-clause-waited
 returns-then-serving-ticket-clause-waited g c a e =
     let w = c.loop.invariant.1 a e in let l = c.load-serving.ensures.2 w.0 w.1 w.4 in
-    (w.0, l.0, knows_on a w.1 l.0 w.2 l.1, l.2 (w.3 ∙ sym c.if-serving-ticket.true))
+    (w.0, l.0, knows_on a w.1 l.0 w.2 l.1, l.2, l.3 (w.3 ∙ sym c.if-serving-ticket.true))
