@@ -65,7 +65,11 @@ pub slot_goes : (script : Script) (history : List Entry) (core : CoreView) (slot
 slot_goes script history core slot actor declared h is =
     subst (CanAct script (after script history)) (sym is) (slot_can script (after script history) (arrived script history) slot declared (well_formed-after script history h.valid))
 
--- the history that a core stands for is safe
+-- the history that a core stands for is legal
+pub legal_history : (script : Script) (history : List Entry) (core : CoreView) → Stands script history core → IsLegal script history
+legal_history script history core h = h.legal
+
+-- and it is safe
 pub safe_history : (script : Script) (history : List Entry) (core : CoreView) → Stands script history core → IsSafe script history
 safe_history script history core h = legal_safety script history h.valid h.legal
 

@@ -4,7 +4,7 @@ ghost use Rattle.std.specs.List.{slice_index_or};
 ghost use Rattle.sym_base.specs.declared.limits.TheConstants.Limits.{OBJECTS, SHARED_HISTORY};
 ghost use Rattle.ref_words.specs.Words.{NoneCreated};
 ghost use Rattle.script_types.specs.Source.{IsWellFormed};
-ghost use Rattle.machine.specs.Slots.{IsDeclared};
+ghost use Rattle.machine.specs.Slots.{declares_interrupt, IsDeclared};
 ghost use Rattle.machine.specs.FinalRows.{exit_of_row, rows_from, IsNextRow};
 ghost use Rattle.entry_log.specs.declared.entry.Actor.TheVariants as Actor;
 ghost use Rattle.machine.specs.Arrived.{arrived};
@@ -64,6 +64,14 @@ fn slot_actor<W: RefWords + Drop>(core: &Core<W>, slot: Slot) -> Actor
     }
 }
 
+/// Whether a script declares an interrupt of this number.
+fn declares_interrupt(script: &Script, number: u8) -> bool
+    ensures { result ≡ declares_interrupt script.now number }
+{
+    let irqs = script.irqs.as_slice();
+    irqs.iter().any(|irq| irq.number == number)
+}
+
 /// An entry of an actor at a place, which tells nothing yet.
 fn new_entry(place: u32, actor: Actor) -> Entry
     ensures { result ≡ entry_of place actor (record { step = Step.Wait; effects = []; answer = None }) }
@@ -111,7 +119,10 @@ impl<W: RefWords + Drop> Kernel<W> {
         requires places { length (W.meaning words).own ≡ OBJECTS }
         requires fresh { NoneCreated (W.meaning words) }
         requires room { room ≤ SHARED_HISTORY }
-        ensures { IfOk result (λ kernel. kernel ≡ record { script = script; history = []; room = room }) }
+        ensures kernel { IfOk result (λ kernel. kernel ≡ record { script = script; history = []; room = room }) }
+        ensures legal { IfOk result (λ kernel. IsLegal kernel.script kernel.history) }
+        ensures safe { IfOk result (λ kernel. IsSafe kernel.script kernel.history) }
+        ensures holders { IfOk result (λ kernel. AreHoldersReady kernel.script kernel.history) }
     {
         let core = boot::boot(alloc, &script, words)?;
         let history = Vec::with_capacity(alloc, room as usize)?;
@@ -130,6 +141,7 @@ impl<W: RefWords + Drop> Kernel<W> {
         ensures script { self.new.script ≡ self.old.script }
         ensures room { self.new.room ≡ self.old.room }
         ensures entry { self.new.history ≡ self.old.history ++ entry_by self.old.script (after self.old.script self.old.history) (length self.old.history + 1) actor ∷ [] }
+        ensures legal { IsLegal self.new.script self.new.history }
         ensures safe { IsSafe self.new.script self.new.history }
         ensures holders { AreHoldersReady self.new.script self.new.history }
     {
@@ -144,6 +156,13 @@ impl<W: RefWords + Drop> Kernel<W> {
     {
         let core = &self.core;
         is_able(&self.script, &core.tables, t)
+    }
+
+    /// Whether the script declares an interrupt of this number, so that a slot may bring it.
+    pub fn declares(&self, k: u8) -> bool
+        ensures { result ≡ declares_interrupt self.now.script k }
+    {
+        declares_interrupt(&self.script, k)
     }
 
     /// What happened so far, in order. It is a legal history of the script; its references, deaths, messages, servers
@@ -176,6 +195,7 @@ impl Kernel<PlainWords> {
         ensures script { self.new.script ≡ self.old.script }
         ensures room { self.new.room ≡ self.old.room }
         ensures entry { let S = after self.old.script self.old.history in let qs = arrived self.old.script self.old.history in self.new.history ≡ self.old.history ++ entry_by self.old.script S (length self.old.history + 1) (slot_actor S qs slot) ∷ [] }
+        ensures legal { IsLegal self.new.script self.new.history }
         ensures safe { IsSafe self.new.script self.new.history }
         ensures holders { AreHoldersReady self.new.script self.new.history }
     {
@@ -190,6 +210,7 @@ impl Kernel<PlainWords> {
         ensures script { self.new.script ≡ self.old.script }
         ensures room { self.new.room ≡ self.old.room }
         ensures entry { self.new.history ≡ self.old.history ++ entry_by self.old.script (after self.old.script self.old.history) (length self.old.history + 1) (Actor.Thread t) ∷ [] }
+        ensures legal { IsLegal self.new.script self.new.history }
         ensures safe { IsSafe self.new.script self.new.history }
         ensures holders { AreHoldersReady self.new.script self.new.history }
     {

@@ -5,7 +5,7 @@ use Rattle.machine.specs.declared.decision.Outcome.{Outcome}
 use Rattle.machine.specs.History.{entry_of}
 use Rattle.kcore.specs.Told.{IsTold, told_in}
 use Rattle.kcore.proofs.LastEntry.{last_is, last_told}
-use Rattle.kcore.proofs.Goes.{runs_stand, may_stand, kernel_goes_on, entry_told, safe_history}
+use Rattle.kcore.proofs.Goes.{runs_stand, may_stand, kernel_goes_on, entry_told, legal_history, safe_history}
 use Rattle.machine_safe.proofs.ReadyHolders.{holders_ready}
 use Rattle.kcore.proofs.kernel.Kernel.go.Goals as goal
 
@@ -44,6 +44,17 @@ invariant_of-self g c =
       few = c.self.invariant.few;
       stands = kernel_goes_on k.script k.history.items _ k.core c.transition.new.core c.args.actor (told_in e) ((length c.as_slice-at.result.now) + 1) e (rw (← c.self.view_is) at c.requires.can) c.self.invariant.stands c.transition.ensures.does (ap (λ (n : ℕ). n + 1) at) told pushed;
     }
+
+pub returns-clause-legal : goal.returns-clause-legal
+returns-clause-legal g c =
+    let k = c.self.inside in
+    let e = c.transition.new.entry in
+    let items = c.push_reserved.new.self.items in
+    let at : length c.as_slice-at.result.now ≡ length k.history.items = ap length c.as_slice-at.ensures.value in
+    let is = last_is k.history.items items c.new_entry.result (length c.as_slice-at.result.now) c.index_mut.result.now c.push_reserved.ensures.items at c.index_mut.ensures.value in
+    let told = told_as c.index_mut.result.now c.new_entry.result e ((length c.as_slice-at.result.now) + 1) c.args.actor _ is c.new_entry.ensures c.transition.ensures.told in
+    let pushed = last_told k.history.items items c.new_entry.result (length c.as_slice-at.result.now) e c.push_reserved.ensures.items at in
+    legal_history k.script _ c.transition.new.core (kernel_goes_on k.script k.history.items _ k.core c.transition.new.core c.args.actor (told_in e) ((length c.as_slice-at.result.now) + 1) e (rw (← c.self.view_is) at c.requires.can) c.self.invariant.stands c.transition.ensures.does (ap (λ (n : ℕ). n + 1) at) told pushed)
 
 pub returns-clause-safe : goal.returns-clause-safe
 returns-clause-safe g c =
