@@ -28,11 +28,11 @@ pub wrote_tells : (a b : Option (List ℕ)) (xs : List ℕ) → Wrote a b xs →
 wrote_tells None b xs wrote = ap is_some wrote
 wrote_tells (Some zs) b xs wrote = ap is_some wrote
 
--- the whole text is a front of it
+-- the whole text is a prefix of it
 pub wrote_is_prefix : (a b : Option (List ℕ)) (xs : List ℕ) → Wrote a b xs → WrotePrefix a b xs
 wrote_is_prefix a b xs wrote = record { front = xs; rest = []; split = append-nil xs; wrote = wrote }
 
--- a front of a text is a front of a longer one
+-- a prefix of a text is a prefix of a longer one
 pub prefix_of_more : (a b : Option (List ℕ)) (xs ys : List ℕ) → WrotePrefix a b xs → WrotePrefix a b (xs ++ ys)
 prefix_of_more a b xs ys p = record {
   front = p.front;
@@ -41,7 +41,7 @@ prefix_of_more a b xs ys p = record {
   wrote = p.wrote;
 }
 
--- a text, and then a front of another
+-- a text, and then a prefix of another
 pub wrote_then_prefix : (a b c : Option (List ℕ)) (xs ys : List ℕ) → Wrote a b xs → WrotePrefix b c ys → WrotePrefix a c (xs ++ ys)
 wrote_then_prefix a b c xs ys first p = record {
   front = xs ++ p.front;
@@ -87,6 +87,6 @@ pub wrote_more : (a b c : Option (List ℕ)) (n m : ℕ) (text : List ℕ) → W
 wrote_more a b c n m text first second =
     wrote_both a b c (take n text) _ first second ∙ ap (followed a) (ap (λ t. take n text ++ take m t) (take_rest text n) ∙ sym (take-add n m text))
 
--- a front of a text, by its length, that a call which wrote nothing left
+-- a prefix of a text, by its length, that a call which wrote nothing left
 pub prefix_left : (a b c : Option (List ℕ)) (n : ℕ) (text : List ℕ) → Wrote a b (take n text) → c ≡ b → WrotePrefix a c text
 prefix_left a b c n text wrote same = prefix_of_take a c n text (same ∙ wrote)

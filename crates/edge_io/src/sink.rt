@@ -13,7 +13,7 @@ pub trait Sink {
     /// How often a write failed. It never falls, and stands still at 2^64 - 1.
     ghost faults: { Self → ℕ };
 
-    /// Takes bytes from the front of the piece and answers how many: at least one of a piece that
+    /// Takes bytes from the start of the piece and answers how many: at least one of a piece that
     /// has any. `Failed` takes none.
     fn write(&mut self, piece: &[u8]) -> Result<usize, Failed>
         ensures count { IfOk result (λ n. n ≤ length piece.now) }
@@ -26,7 +26,7 @@ pub trait Sink {
 }
 
 /// Writes the whole piece, by as many writes as it takes, and takes no memory. After `Failed` a
-/// part of it, from its front, was written.
+/// prefix of it was written.
 pub fn write_whole<K: Sink>(sink: &mut K, piece: &[u8]) -> Result<(), Failed>
     ensures whole { OnOk result (Wrote (K.written sink.old) (K.written sink.new) piece.now) }
     ensures front { OnErr result (WrotePrefix (K.written sink.old) (K.written sink.new) piece.now) }

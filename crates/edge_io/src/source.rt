@@ -13,7 +13,7 @@ pub trait Source {
     /// How often a read failed. It never falls, and stands still at 2^64 - 1.
     ghost faults: { Self → ℕ };
 
-    /// Moves bytes to the front of the buffer and answers how many. What the rest of the buffer
+    /// Moves bytes to the start of the buffer and answers how many. What the rest of the buffer
     /// holds afterwards is left open. `Failed` moves none.
     fn read(&mut self, buf: &mut [u8]) -> Result<usize, Failed>
         ensures count { IfOk result (λ n. n ≤ length buf.new) }

@@ -28,7 +28,7 @@ fn a_sink_takes_in_steps_and_fails_where_named_and_where_full(rt: HostRuntime) -
 }
 
 #[test]
-fn a_whole_piece_is_written_or_a_front_of_it(rt: HostRuntime) -> Result<(), Fail> {
+fn a_whole_piece_is_written_or_a_prefix_of_it(rt: HostRuntime) -> Result<(), Fail> {
     let mut sink = MemSink::new(rt.alloc(), 20, 2, [5].to_vec(rt.alloc())?)?;
     write_whole(&mut sink, b"abcde")?;
     assert!(rt; write_whole(&mut sink, b"fghi").is_err());

@@ -18,7 +18,7 @@ pub enum Status {
     ReadFault,
     /// The sink failed.
     WriteFault,
-    /// The host gave no memory that was asked for; nothing was written.
+    /// Memory that was asked for wasn't given; nothing was written.
     NoMemory,
     /// The input has more than the 1,048,576 bytes that a script may have.
     TooLarge,

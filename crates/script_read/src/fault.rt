@@ -14,7 +14,7 @@ pub enum RunFault {
     /// The sink failed.
     #[error("the history could not be written")]
     WriteFault,
-    /// The host had no memory left.
+    /// Memory that was asked for wasn't given; nothing was written.
     #[error("out of memory")]
     NoMemory,
     /// The input has more bytes than a script may have.

@@ -19,7 +19,7 @@ pub enum ReadScript {
     /// The bytes spell no script: the first bad line, from 1, and what is wrong with it. A last line that
     /// is missing has the number behind the last.
     Refused { line: u32, reason: Reason },
-    /// The host had no memory left.
+    /// Memory that was asked for wasn't given.
     NoMemory,
 }
 

@@ -2,7 +2,8 @@
 use std::alloc::{AllocError, AllocFailed};
 use thiserror::Error;
 
-/// The host had no memory left. After it the kernel isn't used again.
+/// Memory that was asked for wasn't given. No clause says when this answer comes; a call that has it says what
+/// stands after it. Tests show that it doesn't come with ample memory.
 #[derive(Debug, Drop, Error)]
 #[error("out of memory")]
 pub struct NoMemory;
