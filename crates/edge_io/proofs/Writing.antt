@@ -72,13 +72,13 @@ all_but_next a b c left part rest text before next wrote = record {
 pub all_but_nothing : (a b : Option (List ℕ)) (text : List ℕ) → WroteAllBut a b [] text → Wrote a b text
 all_but_nothing a b text before = before.wrote ∙ ap (followed a) (sym (append-nil before.front) ∙ before.split)
 
--- a front of the next part was written
+-- a prefix of the next part was written
 pub all_but_prefix : (a b c : Option (List ℕ)) (left part rest text : List ℕ) → WroteAllBut a b left text → left ≡ part ++ rest → WrotePrefix b c part → WrotePrefix a c text
 all_but_prefix a b c left part rest text before next p =
     let whole : WrotePrefix a c (before.front ++ (part ++ rest)) = wrote_then_prefix a b c before.front (part ++ rest) before.wrote (prefix_of_more b c part rest p) in
     subst (WrotePrefix a c) (ap (λ t. before.front ++ t) (sym next) ∙ before.split) whole
 
--- the first of a text's bytes are a front of it
+-- the first of a text's bytes are a prefix of it
 pub prefix_of_take : (a b : Option (List ℕ)) (n : ℕ) (text : List ℕ) → Wrote a b (take n text) → WrotePrefix a b text
 prefix_of_take a b n text wrote = record { front = take n text; rest = drop n text; split = take-append-drop n text; wrote = wrote }
 

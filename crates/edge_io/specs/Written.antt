@@ -10,7 +10,7 @@ followed (Some written) text = Some (written ++ text)
 abbrev pub Wrote : Option (List ℕ) → Option (List ℕ) → List ℕ → Type 0
 Wrote old new text = new ≡ followed old text
 
--- some front of this text was written, and nothing else
+-- some prefix of this text was written, and nothing else
 pub record WrotePrefix (old new : Option (List ℕ)) (text : List ℕ) : Type 0 where
   pub front : List ℕ
   pub rest : List ℕ

@@ -113,7 +113,7 @@ fn status_of(kind: ErrorKind) -> Status
 }
 
 /// The words that the program was given, without its own name. Where they can't be had, how the run ends:
-/// NoMemory where the host gave no memory for them, and else Usage, as where one isn't UTF-8.
+/// NoMemory where the error is OutOfMemory or the list can't take a word, and else Usage, as where one isn't UTF-8.
 pub fn given_words(rt: &HostRuntime, alloc: Global) -> Result<Vec<String>, Status> {
     let mut given = match env::args(rt) {
         Ok(given) => given,

@@ -1,7 +1,7 @@
 //! One handle table, and its calls.
-ghost use Rattle.std.specs.Prelude.{◌≡◌, ◌≢◌, ℕ, false, ◌<◌, ◌≤◌, ◌↔◌, IfOk};
+ghost use Rattle.std.specs.Prelude.{◌≡◌, ℕ, ◌≤◌, ◌↔◌, IfOk};
 ghost use Rattle.state_rows.specs.HandleNumbers.{index_of};
-ghost use Rattle.state_rows.specs.HandleSlots.{IsTable, slot_at, free_index, is_full, handle_count, new_handle, look};
+ghost use Rattle.state_rows.specs.HandleSlots.{IsTable, slot_at, free_index, handle_count, look};
 ghost use Rattle.handles.specs.Used.{next_used};
 ghost use Rattle.handles.specs.Table.{no_handles, number_at, add_answer, table_added, table_removed};
 
@@ -70,24 +70,6 @@ impl Handles {
         ensures within { result ≤ Limits.HANDLES }
     {
         self.free.least()
-    }
-
-    /// Whether no place is free.
-    pub fn is_full(&self) -> bool
-        ensures full { result ≡ is_full self.now.slots }
-        ensures table { IsTable self.now.slots }
-    {
-        self.free_index() == self.slots.len()
-    }
-
-    /// The number that the next handle gets.
-    pub fn next_handle(&self) -> u32
-        requires { is_full self.now.slots ≡ false }
-        ensures handle { result ≡ new_handle self.now.local self.now.slots }
-        ensures positive { result < 2147483648 }
-    {
-        let index = self.free_index();
-        handle_number(self.local, index, next_instance(self.slots[index].instance))
     }
 
     /// The number of the handle at an index, which has that of its place's last handle where the place is free.

@@ -8,10 +8,9 @@ use std::alloc::Global;
 use std::marker::Model;
 use sym_base::NoMemory;
 
-/// A fixed number of lists of numbered nodes, each node on one list at most. Each call but `new` takes a
-/// constant time and no memory. The kernel's queues are doubly linked lists (Symbian OS Internals, the
-/// chapter on the nanokernel's priority lists); that a node is a number is this project's own. A contract
-/// sees the lists.
+/// A fixed number of lists of numbered nodes, each node on one list at most. No call but `new` takes memory. The
+/// kernel's queues are doubly linked lists (Symbian OS Internals, the chapter on the nanokernel's priority lists);
+/// that a node is a number is this project's own. A contract sees the lists.
 #[derive(Drop)]
 pub struct Links {
     nodes: u32,

@@ -1,5 +1,5 @@
-//! The laws of whole histories: references are safe, the holder of a fast mutex can act, nobody is chosen where nobody
-//! could act, and a history tells what its state has.
+//! The laws of whole histories: references, deaths, messages, servers and busy answers are safe, the holder of a fast
+//! mutex can act, nobody is chosen where nobody could act, and a history tells what its state has.
 #![tactic(auto)]
 
 mod ready_holders;

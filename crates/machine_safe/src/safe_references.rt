@@ -1,4 +1,4 @@
-//! The laws of references, deaths, messages and servers over whole histories.
+//! The laws of references, deaths, messages, servers and busy answers over whole histories.
 ghost use Rattle.script_types.specs.Source.{IsWellFormed};
 ghost use Rattle.machine.specs.History.{IsLegal};
 ghost use Rattle.machine_safe.specs.SafeBusy.{IsSafeBusy};

@@ -238,13 +238,6 @@ impl NanoSync {
     {
         self.suspensions.get(t.0 as usize).copied().unwrap_or(0)
     }
-
-    /// Whether a thread's suspend count isn't 0. Such a thread is stopped only where it isn't protected.
-    pub fn is_suspended(&self, t: ThreadNo) -> bool
-        ensures { result ≡ not (suspend_count self.now t == 0) }
-    {
-        self.suspend_count(t) != 0
-    }
 }
 
 /// Whether a holder is a thread.

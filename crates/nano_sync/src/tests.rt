@@ -20,7 +20,7 @@ fn threads_synchronize_by_counts_and_mutexes(rt: HostRuntime) -> Result<(), Fail
     assert!(rt; sync.suspend(one));
     assert!(rt; sync.protected(one));
     assert!(rt; sync.leave(one));
-    assert!(rt; sync.is_suspended(one));
+    assert_eq!(rt; sync.suspend_count(one), 1);
     assert!(rt; sync.resume(one));
     assert!(rt; !sync.resume(one));
     sync.signal(one);

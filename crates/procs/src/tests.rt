@@ -1,7 +1,7 @@
 //! A worked example: a process with a thread, whose rows are written and read.
 use crate::Procs;
 use entry_log::Part;
-use state_rows::{Role, Stage, Waiting};
+use state_rows::{Stage, Waiting};
 use std::test::Fail;
 use sym_base::ObjNo;
 
@@ -17,7 +17,6 @@ fn rows_keep_what_was_written(rt: HostRuntime) -> Result<(), Fail> {
     procs.set_part(ObjNo(3), Some(Part::Piece));
     procs.set_uses(ObjNo(3), Some(ObjNo(2)));
     procs.set_link(ObjNo(3), Some(ObjNo(2)));
-    procs.set_role(ObjNo(3), Role::Declared(4));
     procs.set_register(ObjNo(3), 7, 65_536);
     procs.set_byte(ObjNo(2), 1_023, 65);
     assert_eq!(rt; procs.stage(ObjNo(3)), Stage::Doomed);
@@ -25,7 +24,6 @@ fn rows_keep_what_was_written(rt: HostRuntime) -> Result<(), Fail> {
     assert_eq!(rt; procs.uses(ObjNo(3)), Some(ObjNo(2)));
     assert_eq!(rt; procs.link(ObjNo(3)), Some(ObjNo(2)));
     assert!(rt; matches!(procs.part(ObjNo(3)), Some(Part::Piece)));
-    assert!(rt; matches!(procs.role(ObjNo(3)), Role::Declared(4)));
     assert_eq!(rt; procs.register(ObjNo(3), 7), 65_536);
     assert_eq!(rt; procs.message(ObjNo(3), 7), 0);
     assert_eq!(rt; procs.byte(ObjNo(2), 1_023), 65);

@@ -1,7 +1,7 @@
 //! The table of requests and statuses, and its calls.
 ghost use Rattle.std.specs.Prelude.{◌≡◌, false, ◌<◌, not, ◌==◌, None, length, IfOk, IfSome, IsTrue, replicate, pos};
 ghost use Rattle.state_rows.specs.Requests.{request_at, status_of, value_of, pending, is_pending, signal_count, reply_of};
-ghost use Rattle.state_rows.specs.RequestChanges.{new_rows, after_begin, after_finish, without, after_cancel, after_drop, after_set_pending, after_signal, after_take, after_reply};
+ghost use Rattle.state_rows.specs.RequestChanges.{new_rows, after_begin, after_finish, after_cancel, after_drop, after_set_pending, after_signal, after_take, after_reply};
 ghost use Rattle.requests.specs.Calls.{begin_answer, parts_of};
 
 use crate::drops::drop_requests;
@@ -190,13 +190,6 @@ impl Requests {
             return 0;
         };
         statuses.get(s as usize).copied().unwrap_or(0)
-    }
-
-    /// Whether a status waits for its completion.
-    pub fn is_pending(&self, t: ThreadNo, s: u8) -> bool
-        ensures { result ≡ is_pending self.now t s }
-    {
-        self.value(t, s) == PENDING
     }
 
     /// Writes the code of a thread's synchronous message. The thread's semaphore and statuses stay.

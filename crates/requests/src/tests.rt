@@ -12,8 +12,7 @@ fn a_request_is_completed_and_another_cancelled(rt: HostRuntime) -> Result<(), F
     assert_eq!(rt; requests.begin(1, one, 5), Began::Begun);
     assert_eq!(rt; requests.begin(1, other, 0), Began::InUse);
     assert_eq!(rt; requests.value(one, 5), PENDING);
-    assert!(rt; requests.is_pending(one, 5));
-    assert!(rt; !requests.is_pending(ObjNo(4), 5));
+    assert_eq!(rt; requests.value(ObjNo(4), 5), 0);
     assert_eq!(rt; requests.cancel(1, other), None);
     assert_eq!(rt; requests.finish_device(1), Some((one, 5)));
     assert_eq!(rt; requests.finish_device(1), None);

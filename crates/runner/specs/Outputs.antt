@@ -23,8 +23,8 @@ pub record IsRefusalText (input : Option (List ℕ)) (text : List ℕ) : Type 0 
   pub bad : IfSome input (λ bytes. IsBadInput bytes line why)
   pub same : text ≡ refusal_text line why
 
--- the input is accepted as a script, and its whole text was written; the history of its run is legal, and its references
--- and deaths are safe
+-- the input is accepted as a script, and its whole text was written; the history of its run is legal, and its
+-- references, deaths, messages, servers and busy answers are safe
 pub record WroteRun (text_of : Script → List ℕ) (input old new : Option (List ℕ)) : Type 0 where
   pub script : Script
   pub accepted : IfSome input (λ bytes. IsInput bytes script)

@@ -1,7 +1,7 @@
 //! The table of servers and sessions, and its calls.
 ghost use Rattle.std.specs.Prelude.{◌≡◌, ◌<◌, ◌↔◌, false, [], length, slice_get, IsTrue, IsNone, IsSome, IfOk, IfSome, Some};
 ghost use Rattle.sym_base.specs.declared.number.ObjNo.{ObjNo};
-ghost use Rattle.state_rows.specs.ServerRows.{IsServer, IsSession, server_at, session_at, linked_at, owner_of, is_closing, link_of, server_of, is_open, holds};
+ghost use Rattle.state_rows.specs.ServerRows.{IsServer, IsSession, server_at, session_at, linked_at, owner_of, is_closing, link_of, server_of, holds};
 ghost use Rattle.state_rows.specs.ServerChanges.{no_rows, IsAlone, after_add_server, after_add_session, after_closing, after_detach, after_set_open};
 
 use links::Links;
@@ -182,18 +182,6 @@ impl ServerTable {
     {
         let row = self.row(s);
         self.sessions[s.0 as usize] = Some(SessionRow { is_open: to, ..row });
-    }
-
-    /// Whether a session is open: it was opened and not closed since, and is linked to a server that isn't
-    /// closing.
-    pub fn is_open(&self, s: ObjNo) -> bool
-        requires { IsSession self.now s }
-        ensures { result ≡ is_open self.now s }
-    {
-        let Some(server) = self.server_of(s) else {
-            return false;
-        };
-        self.row(s).is_open && !self.is_closing(server)
     }
 
     /// The row of a server.

@@ -15,10 +15,8 @@ fn sessions_go_in_order_of_making(rt: HostRuntime) -> Result<(), Fail> {
     table.set_open(early, true);
     assert_eq!(rt; table.owner(server), owner);
     assert_eq!(rt; table.is_closing(server), false);
-    assert!(rt; table.is_open(early));
     table.begin_closing(server);
     assert!(rt; table.is_closing(server));
-    assert_eq!(rt; table.is_open(early), false);
     assert_eq!(rt; table.next_link(server), Some(early));
     table.detach(early);
     assert_eq!(rt; table.next_link(server), Some(late));

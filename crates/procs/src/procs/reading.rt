@@ -4,18 +4,10 @@ ghost use Rattle.procs.specs.Rows.{is_thread, row_of};
 
 use crate::Procs;
 use entry_log::Part;
-use state_rows::{Role, Stage, Waiting};
+use state_rows::{Stage, Waiting};
 use sym_base::{Exit, ObjNo, ThreadNo};
 
 impl Procs {
-    /// What a thread carries out.
-    pub fn role(&self, t: ThreadNo) -> Role
-        requires { IsTrue (is_thread self.now t) }
-        ensures { result ≡ (row_of self.now t).role }
-    {
-        self.row(t).role
-    }
-
     /// The process of a thread.
     pub fn process_of(&self, t: ThreadNo) -> ObjNo
         requires { IsTrue (is_thread self.now t) }

@@ -4,20 +4,10 @@ ghost use Rattle.procs.specs.Rows.{is_thread, row_of, with_row};
 
 use crate::Procs;
 use entry_log::Part;
-use state_rows::{Role, Stage, Waiting};
+use state_rows::{Stage, Waiting};
 use sym_base::{Exit, ObjNo, ThreadNo};
 
 impl Procs {
-    /// Sets what a thread carries out, and changes nothing else.
-    pub fn set_role(&mut self, t: ThreadNo, to: Role)
-        requires { IsTrue (is_thread self.old t) }
-        ensures { self.new ≡ with_row self.old t (record (row_of self.old t) { role = to }) }
-    {
-        if let Some(row) = &mut self.threads[t.0 as usize] {
-            row.role = to;
-        }
-    }
-
     /// Sets a thread's reference to its process, or that it is given up, and changes nothing else.
     pub fn set_link(&mut self, t: ThreadNo, to: Option<ObjNo>)
         requires { IsTrue (is_thread self.old t) }

@@ -3,7 +3,7 @@ use Rattle.std.specs.Prelude.{is_some}
 use Rattle.edge_io.specs.Written.{Wrote}
 use Rattle.edge_io.proofs.sink.write_whole.Given as goal
 
--- a front of the piece was written
+-- a prefix of the piece was written
 abbrev pub invariant-loop-done : goal.invariant-loop-done
 invariant-loop-done g l = record {
   within : l.done ≤ length l.piece;
