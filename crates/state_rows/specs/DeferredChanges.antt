@@ -10,7 +10,8 @@ use Rattle.state_rows.specs.Deferred.{is_queued, next_of, queue_at, queue_of}
 abbrev pub burial : DfcPlace
 burial = record { queue = 0; priority = 7 }
 
--- the declared calls have the first numbers, and burials those from 64 on
+-- The declared calls have the first numbers, and all others are places of burials. Those of the threads have the
+-- numbers from 64 on; a number below 64 that no declared call has is used by none.
 abbrev pub places_of : List DfcPlace → ℕ → List DfcPlace
 places_of dfcs burials = dfcs ++ replicate (64 + burials - length dfcs) burial
 

@@ -1,5 +1,5 @@
 -- How the rows of messages change.
-use Rattle.std.specs.Prelude.{ℕ, ℤ, ◌+◌, Bool, true, false, not, if◌then◌else◌, List, [], ◌∷◌, ◌++◌, Option, Some, None, filter, map, slice_get, slice_set, slice_index_or, pos}
+use Rattle.std.specs.Prelude.{ℕ, ℤ, ◌+◌, true, false, not, if◌then◌else◌, List, [], ◌∷◌, ◌++◌, Option, Some, None, filter, map, slice_get, slice_set, slice_index_or, pos}
 use Rattle.sym_base.specs.declared.number.ObjNo.{ObjNo}
 use Rattle.sym_base.specs.declared.number.MsgNo.{MsgNo}
 use Rattle.sym_base.specs.declared.kind.Slots.{Slots}

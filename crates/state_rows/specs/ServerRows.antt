@@ -1,5 +1,5 @@
 -- Servers, sessions and their links, as lists.
-use Rattle.std.specs.Prelude.{Bool, false, not, ◌&&◌, ◌==◌, List, [], Option, None, Some, option_map, slice_index_or, IsSome}
+use Rattle.std.specs.Prelude.{Bool, false, not, ◌==◌, List, [], Option, None, Some, option_map, slice_index_or, IsSome}
 use Rattle.std.specs.List.{list_any}
 use Rattle.sym_base.specs.declared.number.ObjNo.{ObjNo}
 use Rattle.state_rows.specs.declared.servers.ServerRow.{ServerRow}
@@ -53,10 +53,6 @@ was_opened (Some row) = row.is_open
 abbrev pub accepts : ServerRows → Option ObjNo → Bool
 accepts rows None = false
 accepts rows (Some server) = not (is_closing rows server)
-
--- whether a session is open: it was opened and not closed since, and is linked to a server that isn't closing
-abbrev pub is_open : ServerRows → ObjNo → Bool
-is_open rows s = was_opened (session_at rows s) && accepts rows (server_of rows s)
 
 -- whether a session is among some
 abbrev pub holds : ObjNo → List ObjNo → Bool
