@@ -298,15 +298,21 @@ FitsDeath t (Doom u exit) S = IsAtStage S u Live × (held_by S.nano u ≡ None) 
 FitsDeath t (Clean u) S = IsAtStage S u Doomed × MayClean S u × (u ≡ t)
 FitsDeath t (Bury u) S = IsAtStage S u Cleaned × MayOweMore S t
 
--- A move in an action of thread t fits the state. What is owed is paid by an action of its own.
+-- what a thread comes to hold, or gives up, by an action is its own, its process's, or no thread's
+abbrev pub IsOwn : ObjNo → Holder → Type 0
+IsOwn t (InThread u i) = u ≡ t
+IsOwn t (Temp u) = u ≡ t
+IsOwn t _ = Unit {0}
+
+-- A move in an action of thread t fits the state: it finds, goes on and keeps a number itself. What is owed is paid by an action of its own.
 abbrev pub FitsMove : Script → ObjNo → Move → State → Type 0
-FitsMove script t (Make kind name h) S = MayMake S kind name × MayMakeWith S h × HasName kind name
-FitsMove script t (Gain h o) S = IsFree S h × IsAlive (object_of S o)
-FitsMove script t (Lose h o) S = (is_returning (part_of (thread_of S t)) ≡ false) × Holds S h o
-FitsMove script t (Find u o) S = o.0 < length S.objects
+FitsMove script t (Make kind name h) S = MayMake S kind name × MayMakeWith S h × HasName kind name × IsOwn t h
+FitsMove script t (Gain h o) S = IsFree S h × IsAlive (object_of S o) × IsOwn t h
+FitsMove script t (Lose h o) S = (is_returning (part_of (thread_of S t)) ≡ false) × Holds S h o × IsOwn t h
+FitsMove script t (Find u o) S = (o.0 < length S.objects) × (u ≡ t)
 FitsMove script t (Miss o) S = Unit {0}
-FitsMove script t (GoOn u part) S = MayGoOn script S u (Some part) × MaySend (Some part) S
-FitsMove script t (Keep u number) S = Unit {0}
+FitsMove script t (GoOn u part) S = MayGoOn script S u (Some part) × MaySend (Some part) S × (u ≡ t)
+FitsMove script t (Keep u number) S = u ≡ t
 FitsMove script t (Write u x value) S = x < 8
 FitsMove script t (WriteMessage u y number) S = y < 8
 FitsMove script t (PutDown u) S = (u ≡ t) × MayOweMore S u

@@ -17,6 +17,7 @@ pub mod KeptUses
 pub mod Letters
 pub mod Looked
 pub mod Making
+pub mod Others
 pub mod Posted
 pub mod Quiet
 pub mod Reading

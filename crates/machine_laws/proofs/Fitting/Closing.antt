@@ -25,7 +25,7 @@ use Rattle.machine.specs.declared.moves.Move.TheVariants.{Lose, Wake, Servers, M
 use Rattle.machine.specs.declared.server_move.ServerMove.TheVariants.{Close, SetOpen}
 use Rattle.machine.specs.declared.state.State.{State}
 use Rattle.machine.specs.Closing.{before_close, close_moves, close_or, connected_to, disconnect}
-use Rattle.machine.specs.Fits.{EachFits, FitsMove, Holds, most_owed}
+use Rattle.machine.specs.Fits.{IsOwn, EachFits, FitsMove, Holds, most_owed}
 use Rattle.machine.specs.FitsServers.{HasNumber, HasSpare}
 use Rattle.machine.specs.Messaging.{disconnects, no_args, open_server, slots_of}
 use Rattle.machine.specs.Moves.{closed_effects, moved, tell, told, with_waiting}
@@ -47,7 +47,8 @@ use Rattle.machine_laws.proofs.Fitting.Regular.{IsTame, serving}
 use Rattle.machine_laws.proofs.Fitting.Tame.{tame-at}
 
 -- the handle of an object stands in a table, and its holder holds it as long as tables and threads are there
-pub record IsHandle (S : State) (h : Holder) (o : ObjNo) : Type 0 where
+pub record IsHandle (S : State) (t : ObjNo) (h : Holder) (o : ObjNo) : Type 0 where
+  pub own : IsOwn t h
   pub owner : ObjNo
   pub index : ℕ
   pub slot : (slot_at (table_of S owner) index).object ≡ Some o
@@ -56,11 +57,11 @@ pub record IsHandle (S : State) (h : Holder) (o : ObjNo) : Type 0 where
 same_slot : (tables other : List (List HandleSlot)) (owner : ObjNo) (i : ℕ) (o : ObjNo) → other ≡ tables → (slot_at (get_or tables owner.0 []) i).object ≡ Some o → (slot_at (get_or other owner.0 []) i).object ≡ Some o
 same_slot tables other owner i o same is = ap (λ (x : List (List HandleSlot)). (slot_at (get_or x owner.0 []) i).object) same ∙ is
 
-pub handle_of_thread : (S : State) (t : ObjNo) (i : ℕ) (o : ObjNo) → is_some (thread_of S t) ≡ true → (slot_at (table_of S t) i).object ≡ Some o → IsHandle S (InThread t i) o
-handle_of_thread S t i o there is = record { owner = t; index = i; slot = is; holds = λ T tables threads. (threads t ∙ there, same_slot S.handles T.handles t i o tables is) }
+pub handle_of_thread : (S : State) (t : ObjNo) (i : ℕ) (o : ObjNo) → is_some (thread_of S t) ≡ true → (slot_at (table_of S t) i).object ≡ Some o → IsHandle S t (InThread t i) o
+handle_of_thread S t i o there is = record { own = refl; owner = t; index = i; slot = is; holds = λ T tables threads. (threads t ∙ there, same_slot S.handles T.handles t i o tables is) }
 
-pub handle_of_process : (S : State) (p : ObjNo) (i : ℕ) (o : ObjNo) → thread_of S p ≡ None → (slot_at (table_of S p) i).object ≡ Some o → IsHandle S (InProcess p i) o
-handle_of_process S p i o none is = record { owner = p; index = i; slot = is; holds = λ T tables threads. (none_of (thread_of T p) (threads p ∙ ap is_some none), same_slot S.handles T.handles p i o tables is) }
+pub handle_of_process : (S : State) {t : ObjNo} (p : ObjNo) (i : ℕ) (o : ObjNo) → thread_of S p ≡ None → (slot_at (table_of S p) i).object ≡ Some o → IsHandle S t (InProcess p i) o
+handle_of_process S p i o none is = record { own = tt; owner = p; index = i; slot = is; holds = λ T tables threads. (none_of (thread_of T p) (threads p ∙ ap is_some none), same_slot S.handles T.handles p i o tables is) }
 
 -- moves that close a handle in an action of thread t
 pub record Closes (script : Script) (S : State) (t : ObjNo) (ms : List Move) : Type 0 where
@@ -125,14 +126,14 @@ number_closed script S t s rows was =
     let new = closed_open (session_at S.servers s) in
     let numbered = rows.messages.numbered in omega arith
 
-module _ (script : Script) (S : State) (t : ObjNo) (h : Holder) (o : ObjNo) (may : MayClose script S t) (handle : IsHandle S h o) where
+module _ (script : Script) (S : State) (t : ObjNo) (h : Holder) (o : ObjNo) (may : MayClose script S t) (handle : IsHandle S t h o) where
   -- of an object that is neither an open session nor a server the handle goes
   loses-only : Closes script S t (Lose h o ∷ [])
-  loses-only = record { each = ((part_going may, handle.holds S refl (λ p. refl)), tt); told = let few = tell_few t (Lose h o ∷ []) S in omega arith; light = omega arith; calm = tame-at serving _ refl refl }
+  loses-only = record { each = ((part_going may, handle.holds S refl (λ p. refl), handle.own), tt); told = let few = tell_few t (Lose h o ∷ []) S in omega arith; light = omega arith; calm = tame-at serving _ refl refl }
 
   closes-server : is_some (server_at S.servers o) ≡ true → Closes script S t (Servers (Close o) ∷ Lose h o ∷ [])
   closes-server is = record {
-    each = (is, ((part_going may, handle.holds (moved t (Servers (Close o)) S) refl (λ p. refl)), tt));
+    each = (is, ((part_going may, handle.holds (moved t (Servers (Close o)) S) refl (λ p. refl), handle.own), tt));
     told = let few = tell_few t (Servers (Close o) ∷ Lose h o ∷ []) S in omega arith;
     light = omega arith;
     calm = tame-at serving _ refl refl;
@@ -180,7 +181,7 @@ module _ (script : Script) (S : State) (t : ObjNo) (h : Holder) (o : ObjNo) (may
   disconnects-session v was accepts =
       of_wake S v (owner_of S.servers v) (λ (wakes : List Move). Closes script S t (Servers (SetOpen o false) ∷ Messages message ∷ wakes ++ Lose h o ∷ []))
       (record {
-        each = (session, (accepted, ((part_going may, handle.holds T refl (λ p. refl)), tt)));
+        each = (session, (accepted, ((part_going may, handle.holds T refl (λ p. refl), handle.own), tt)));
         told = told_then t (Servers (SetOpen o false)) (Messages message ∷ Lose h o ∷ []) S 0 4 (omega arith)
             (told_then t (Messages message) (Lose h o ∷ []) closing 3 1 (omega arith)
             (told_then t (Lose h o) [] T 1 0 (closed_one (dies T o) h o (not_last v T refl refl)) (omega arith)));
@@ -196,7 +197,7 @@ module _ (script : Script) (S : State) (t : ObjNo) (h : Holder) (o : ObjNo) (may
             accepted,
             (
               woken_fits script S closing t o v disconnects no_args Disconnect u row (may_post v was accepts) is receiving,
-              ((ap is_returning (mapped-value part_of (with_waiting waiting.Nothing) S.threads u.0 t.0 (λ r. refl)) ∙ part_going may, handle.holds W refl (λ p. mapped-some (with_waiting waiting.Nothing) S.threads u.0 p.0)), tt),
+              ((ap is_returning (mapped-value part_of (with_waiting waiting.Nothing) S.threads u.0 t.0 (λ r. refl)) ∙ part_going may, handle.holds W refl (λ p. mapped-some (with_waiting waiting.Nothing) S.threads u.0 p.0), handle.own), tt),
             ),
           ),
         );
@@ -230,7 +231,7 @@ module _ (script : Script) (S : State) (t : ObjNo) (h : Holder) (o : ObjNo) (may
   closes-by (Some server) is = closes-server (ap is_some is)
 
 -- the close of a handle
-pub closes : (script : Script) (S : State) (t : ObjNo) (h : Holder) (o : ObjNo) → MayClose script S t → IsHandle S h o → Closes script S t (close_moves S t h o)
+pub closes : (script : Script) (S : State) (t : ObjNo) (h : Holder) (o : ObjNo) → MayClose script S t → IsHandle S t h o → Closes script S t (close_moves S t h o)
 closes script S t h o may handle = closes-by script S t h o may handle (server_at S.servers o) refl
 
 -- and the thread is at its instruction still

@@ -45,7 +45,7 @@ use Rattle.machine_laws.proofs.Fitting.Tame.{may_tell, tame, tame-moves}
 -- a piece, whatever it answers
 fits-piece : {script : Script} {S : State} {t : ObjNo} {row : ThreadRow} {instr : Instr} (told : Step) (named : may_tell plain told ≡ true) (copy : CopyMove) (piece : Piece) → IsStepping script S t row instr → begun row.part ≡ 0 → FitsCopies copy S → FitsDecision looking script t S (copy_piece t told copy piece)
 fits-piece {row = row} told named copy (More done) h early fits = record {
-  each = (fits, ((record { unused = λ r is e. absurd (cc); paid = λ e. absurd (cc); unspent = unspent h; at = λ e. absurd (cc); ends = λ r is. let same_row : row ≡ r = let a = h.is in cc in subst (λ (x : ThreadRow). begun x.part ≤ 0) same_row (omega arith) }, tt), (tt, tt)));
+  each = (fits, ((record { unused = λ r is e. absurd (cc); paid = λ e. absurd (cc); unspent = unspent h; at = λ e. absurd (cc); ends = λ r is. let same_row : row ≡ r = let a = h.is in cc in subst (λ (x : ThreadRow). begun x.part ≤ 0) same_row (omega arith) }, tt, refl), (refl, tt)));
   told = omega arith;
   light = omega arith;
   regular = tame _ named;

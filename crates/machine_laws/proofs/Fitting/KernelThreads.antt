@@ -103,7 +103,7 @@ own_row h = ap is_some h.is
 -- the last step comes next, with a move that fits then
 pub fits-later : {k : Kinds} {script : Script} {S : State} {t : ObjNo} {row : ThreadRow} {instr : Instr} (told : Step) (named : may_tell k told ≡ true) (m : Move) → IsStepping script S t row instr → IsCheap m → FitsMove script t m (moved t (move.GoOn t part.Done) S) → FitsDecision k script t S (go_on t told m part.Done)
 fits-later told named m h cheap fits = record {
-  each = ((record { unused = λ r is e. absurd (cc); paid = λ e. absurd (cc); unspent = unspent h; at = λ e. absurd (cc); ends = λ r is. begun_one r.part }, tt), (fits, tt));
+  each = ((record { unused = λ r is e. absurd (cc); paid = λ e. absurd (cc); unspent = unspent h; at = λ e. absurd (cc); ends = λ r is. begun_one r.part }, tt, refl), (fits, tt));
   told = let a = cheap.told in omega arith;
   light = let a = cheap.light in omega arith;
   regular = regular-moves _ named (tame-both (move.GoOn _ part.Done ∷ []) (m ∷ []) (tame-moves _ refl refl) (tame-in cheap.calm));

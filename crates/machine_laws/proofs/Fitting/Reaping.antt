@@ -27,7 +27,7 @@ use Rattle.machine.specs.declared.moves.Move.TheVariants as move
 use Rattle.machine.specs.declared.request_move.RequestMove.TheVariants.{Signal}
 use Rattle.machine.specs.declared.state.State.{State}
 use Rattle.machine.specs.Choice.{priority_of}
-use Rattle.machine.specs.Fits.{EachFits, FitsLocks, Holds, IsAtStage, MayOweMore, OwnsNothing}
+use Rattle.machine.specs.Fits.{IsOwn, EachFits, FitsLocks, Holds, IsAtStage, MayOweMore, OwnsNothing}
 use Rattle.machine.specs.Holdings.{held_handles, held_logons, held_mutexes, held_servers, held_slot, held_use, left_of, holdings, process_handles}
 use Rattle.machine.specs.LogonCalls.{reason_of}
 use Rattle.machine.specs.LogonMoves.{is_logon, logons_on, without_logon}
@@ -90,13 +90,13 @@ gives-mutex {script = script} {S = S} {t = t} {row = row} o h some = by (best_wa
     by (Some w) e = record { each = (fits (Some w) e, ((struck_nowhere script S o w h.rows (greatest_listed (priority_of S) (waiters_at S.locks o) w e), waiter_uncalled script S o w h.rows (greatest_listed (priority_of S) (waiters_at S.locks o) w e)), tt)); told = omega arith; light = omega arith; regular = regular-moves _ refl (tame-at freeing _ refl refl) }
 
 -- a reference that it has
-loses : {script : Script} {S : State} {t : ObjNo} {row : ThreadRow} (holder : Holder) (o : ObjNo) → IsDying script S t row → Holds S holder o → EachFits script t (move.Lose holder o ∷ []) S
-loses holder o h holds = ((ap (λ (r : Option ThreadRow). is_returning (part_of r)) h.is ∙ h.going, holds), tt)
+loses : {script : Script} {S : State} {t : ObjNo} {row : ThreadRow} (holder : Holder) (o : ObjNo) → IsDying script S t row → Holds S holder o → IsOwn t holder → EachFits script t (move.Lose holder o ∷ []) S
+loses holder o h holds own = ((ap (λ (r : Option ThreadRow). is_returning (part_of r)) h.is ∙ h.going, holds, own), tt)
 
 gives-use : {script : Script} {S : State} {t : ObjNo} {row : ThreadRow} (o : ObjNo) → IsDying script S t row → row.uses ≡ Some o → FitsDecision plain script t S (give_up S t row (Use o))
-gives-use {t = t} {row = row} o h uses = record { each = loses (Temp t) o h (record { row = row; is = h.is; uses = uses }); told = omega arith; light = omega arith; regular = tame _ refl }
+gives-use {t = t} {row = row} o h uses = record { each = loses (Temp t) o h (record { row = row; is = h.is; uses = uses }) refl; told = omega arith; light = omega arith; regular = tame _ refl }
 
-gives-handle : {script : Script} {S : State} {t : ObjNo} {row : ThreadRow} (holder : Holder) (o : ObjNo) → IsDying script S t row → IsHandle S holder o → FitsStep serving script t S (give_up S t row (Handle holder o))
+gives-handle : {script : Script} {S : State} {t : ObjNo} {row : ThreadRow} (holder : Holder) (o : ObjNo) → IsDying script S t row → IsHandle S t holder o → FitsStep serving script t S (give_up S t row (Handle holder o))
 gives-handle {script = script} {S = S} {t = t} {row = row} holder o h handle =
     let done = closes script S t holder o (record { rows = h.rows; row = row; is = h.is; waits = h.waits; held = ap stage_holds h.doomed; going = h.going }) handle in
     record { each = done.each; told = done.told; light = let few = done.light in omega arith; regular = regular-moves _ refl done.calm }

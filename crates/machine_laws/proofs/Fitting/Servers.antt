@@ -68,8 +68,8 @@ fits-server {script = script} {S = S} {t = t} {row = row} name x h going =
         fits-handle (Of word.Server part.Do) refl (move.Servers (Start o t) ∷ move.Make kind.Server name (Own t) ∷ move.Gain (InThread t i) o ∷ []) x number (tame-at serving _ refl refl) h h.registers (
           record { next = refl; room = room; owner = live_thread h going },
           (
-            (record { room = room; new = new }, record { owner = live_thread h going; server = get_or-set_same S.servers.servers o.0 _ None (omega arith) }, λ e. absurd (cc)),
-            (((free.0, record { inside = free.1.inside; least = free.1.least }, free.2), alive), tt),
+            (record { room = room; new = new }, record { owner = live_thread h going; server = get_or-set_same S.servers.servers o.0 _ None (omega arith) }, λ e. absurd (cc), tt),
+            (((free.0, record { inside = free.1.inside; least = free.1.least }, free.2), alive, refl), tt),
           ),
         ) refl (omega arith) (omega arith)
 

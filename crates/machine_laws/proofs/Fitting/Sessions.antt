@@ -131,10 +131,10 @@ module _ (script : Script) (S : State) (t : ObjNo) (row : ThreadRow) (instr : In
   fits-made : (i number : ℕ) → IsFree S (InThread t i) → FitsDecision serving script t S (make_session t o slots (next_object S) (Some (record { holder = InThread t i; number = number })))
   fits-made i number free = record {
     each = (
-      (record { room = room; new = refl }, free, λ e. refl),
+      (record { room = room; new = refl }, free, λ e. refl, refl),
       (
         may_join i,
-        (tt, ((refl, record { thread = ap is_some (kept_there i number); going = ap (λ (r : Option ThreadRow). is_returning (part_of r)) (kept_there i number) ∙ going }), ((goes_on i number, spare_made i number), tt))),
+        (refl, ((refl, record { thread = ap is_some (kept_there i number); going = ap (λ (r : Option ThreadRow). is_returning (part_of r)) (kept_there i number) ∙ going }), ((goes_on i number, spare_made i number, refl), tt))),
       ),
     );
     told = omega arith;
@@ -159,7 +159,7 @@ fits-fail : {script : Script} {S : State} {t : ObjNo} {row : ThreadRow} {instr :
 fits-fail {script = script} {S = S} {t = t} {row = row} p named s code h going is =
     let holder = holder_of t row row.found in
     let handle = handle_named row.found s h is in
-    fits-answers (Of word.Connect p) named (move.Lose holder s ∷ []) code (tame-at serving _ refl refl) (((owes_more h going).going, handle.holds S refl (λ x. refl)), tt) ((stays-lose script t holder s).at S (at_instruction h)) (omega arith) (omega arith)
+    fits-answers (Of word.Connect p) named (move.Lose holder s ∷ []) code (tame-at serving _ refl refl) (((owes_more h going).going, handle.holds S refl (λ x. refl), handle.own), tt) ((stays-lose script t holder s).at S (at_instruction h)) (omega arith) (omega arith)
 
 -- a thread waits for the reply to a message, with any rows of servers
 abbrev awaiting : State → ObjNo → ServerRows → State
@@ -233,7 +233,7 @@ fits-connect_send {script = script} {S = S} {t = t} {row = row} (Some s) h going
         let opens : total open_bit servers.sessions ≤ total open_bit S.servers.sessions + 1 = omega arith in
         let sends = posts script S (awaiting S t servers) t s o connects no_args Sync refl (may_call servers s o h going (ap begun at) opens accepts (handle_is_alive S handle.owner handle.index s h.rows.lives handle.slot) (mapped-some (opened true) S.servers.sessions s.0 s.0 ∙ session)) in
         record {
-          each = ((last_step h, tt), ((session, opens_spare h at, opens_number h at), ((none, stepping_nowhere h, live-changed S (moved t (move.GoOn t part.Done) S) t (with_part part.Done) (λ r. refl) refl (stepping_live h going), λ r is live. stepping_uncalled h going), sends.each)));
+          each = ((last_step h, tt, refl), ((session, opens_spare h at, opens_number h at), ((none, stepping_nowhere h, live-changed S (moved t (move.GoOn t part.Done) S) t (with_part part.Done) (λ r. refl) refl (stepping_live h going), λ r is live. stepping_uncalled h going), sends.each)));
           told = let few = sends.told in omega arith;
           light = let few = sends.light in omega arith;
           regular = regular-moves _ refl (tame-both (move.GoOn t part.Done ∷ move.Servers (SetOpen s true) ∷ move.Wait t waiting.Reply ∷ []) _ (tame-moves _ refl refl) sends.calm);
@@ -281,7 +281,7 @@ fits-send_to {script = script} {S = S} {t = t} {row = row} s function y args (So
       number = let left = fewer-left h first in let numbered = h.rows.messages.numbered in omega arith;
       sends = ((set_awaited (length S.threads) S.requests t y h.rows.requests (has_signals h) small done, not_logged (length S.threads) S.requests S.logons t y h.rows.logons done), not_sent script S t y h.rows done);
     }) in
-    fits-answers (Of word.Send part.Do) refl (move.GoOn t part.Done ∷ move.Requests (SetPending t y) ∷ ms) (pos 0) (tame-both (move.GoOn t part.Done ∷ move.Requests (SetPending t y) ∷ []) ms (tame-moves _ refl refl) sends.calm) ((last_step h, tt), (((has_signals h, small), tt), sends.each))
+    fits-answers (Of word.Send part.Do) refl (move.GoOn t part.Done ∷ move.Requests (SetPending t y) ∷ ms) (pos 0) (tame-both (move.GoOn t part.Done ∷ move.Requests (SetPending t y) ∷ []) ms (tame-moves _ refl refl) sends.calm) ((last_step h, tt, refl), (((has_signals h, small), tt), sends.each))
     (stay-perform script t (move.GoOn t part.Done ∷ move.Requests (SetPending t y) ∷ ms) S (stays-go_on script t _ _, (stays-requests script t _, stay-post script S t s o function args (Async y))) (at_instruction h)) (let few = sends.told in omega arith) (let few = sends.light in omega arith))
 
 pub fits-send : {script : Script} {S : State} {t : ObjNo} {row : ThreadRow} (x n y : ℕ) (args : Args) (p : Option Part) → IsStepping script S t row (instr.Send x n y args) → is_returning row.part ≡ false → row.part ≡ p → FitsDecision (kind_of (instr.Send x n y args) p) script t S (send_step S t row x n y args p)
@@ -302,7 +302,7 @@ fits-call_to s function args None h going first none four alive accepts = fits-r
 fits-call_to {script = script} {S = S} {t = t} s function args (Some o) h going first none four alive accepts =
     let sends = posts script S (awaiting S t S.servers) t s o function args Sync four (may_call S.servers s o h going first (omega arith) accepts alive (open_session S s o accepts)) in
     record {
-      each = ((last_step h, tt), ((none, stepping_nowhere h, live-changed S (moved t (move.GoOn t part.Done) S) t (with_part part.Done) (λ r. refl) refl (stepping_live h going), λ r is live. stepping_uncalled h going), sends.each));
+      each = ((last_step h, tt, refl), ((none, stepping_nowhere h, live-changed S (moved t (move.GoOn t part.Done) S) t (with_part part.Done) (λ r. refl) refl (stepping_live h going), λ r is live. stepping_uncalled h going), sends.each));
       told = let few = sends.told in omega arith;
       light = let few = sends.light in omega arith;
       regular = regular-moves _ refl (tame-both (move.GoOn t part.Done ∷ move.Wait t waiting.Reply ∷ []) _ (tame-moves _ refl refl) sends.calm);

@@ -54,7 +54,7 @@ fits-seek {k = k} {script = script} {S = S} {t = t} word kind name h before = fo
   where
     found : (named : Option ObjNo) → find_object S kind name ≡ named → FitsDecision k script t S (seek_object t word named)
     found None e = fits-refuse (Of word Seek) refl NotFound h
-    found (Some o) e = record { each = (may_go_on Return h before tt, (found_inside S kind name o e, tt)); told = omega arith; light = omega arith; regular = tame _ refl }
+    found (Some o) e = record { each = (may_go_on Return h before tt, ((found_inside S kind name o e, refl), tt)); told = omega arith; light = omega arith; regular = tame _ refl }
 
 -- and its return
 pub fits-return : {k : Kinds} {script : Script} {S : State} {t : ObjNo} {row : ThreadRow} {instr : Instr} (word : Word) (part : Part) → k.uses ≡ true → IsStepping script S t row instr → is_before_use row.part ≡ true → is_before_use (Some part) ≡ false → MaySend (Some part) S → FitsDecision k script t S (return_to S t row word part)
@@ -96,12 +96,12 @@ of_thread_handle {S = S} {t = t} P h none some =
 pub fits-give : {k : Kinds} {script : Script} {S : State} {t : ObjNo} {row : ThreadRow} {instr : Instr} (told : Step) (named : may_tell k told ≡ true) (o : ObjNo) (x : ℕ) → IsStepping script S t row instr → x < 8 → IsAlive (object_of S o) → FitsDecision k script t S (give_handle t told o x (process_handle S row.process))
 fits-give {k = k} {script = script} {S = S} {t = t} {row = row} told named o x h register alive =
     of_process_handle (λ handle. FitsDecision k script t S (give_handle t told o x handle)) h (fits-refuse told named Overflow h)
-    (λ i number free. fits-handle told named (Gain (InProcess row.process i) o ∷ []) x number (tame-moves _ refl refl) h register ((free, alive), tt) refl (omega arith) (omega arith))
+    (λ i number free. fits-handle told named (Gain (InProcess row.process i) o ∷ []) x number (tame-moves _ refl refl) h register ((free, alive, tt), tt) refl (omega arith) (omega arith))
 
 pub fits-give_own : {k : Kinds} {script : Script} {S : State} {t : ObjNo} {row : ThreadRow} {instr : Instr} (told : Step) (named : may_tell k told ≡ true) (o : ObjNo) (x : ℕ) → IsStepping script S t row instr → x < 8 → IsAlive (object_of S o) → FitsDecision k script t S (give_handle t told o x (thread_handle S t))
 fits-give_own {k = k} {script = script} {S = S} {t = t} told named o x h register alive =
     of_thread_handle (λ handle. FitsDecision k script t S (give_handle t told o x handle)) h (fits-refuse told named Overflow h)
-    (λ i number free. fits-handle told named (Gain (InThread t i) o ∷ []) x number (tame-moves _ refl refl) h register ((free, alive), tt) refl (omega arith) (omega arith))
+    (λ i number free. fits-handle told named (Gain (InThread t i) o ∷ []) x number (tame-moves _ refl refl) h register ((free, alive, refl), tt) refl (omega arith) (omega arith))
 
 -- a move that tells one effect at most, owes nothing, and is tame in any kind
 pub record IsCheap (m : Move) : Type 0 where

@@ -144,7 +144,7 @@ before_begins (Some Return) e = refl
 before_begins (Some _) e = absurd (cc)
 
 -- a thread that made no step but a find goes on to a step
-pub may_go_on : {script : Script} {S : State} {t : ObjNo} {row : ThreadRow} {instr : Instr} (part : Part) → IsStepping script S t row instr → is_before_use row.part ≡ true → MaySend (Some part) S → MayGoOn script S t (Some part) × MaySend (Some part) S
+pub may_go_on : {script : Script} {S : State} {t : ObjNo} {row : ThreadRow} {instr : Instr} (part : Part) → IsStepping script S t row instr → is_before_use row.part ≡ true → MaySend (Some part) S → MayGoOn script S t (Some part) × MaySend (Some part) S × (t ≡ t)
 may_go_on {S = S} {t = t} {row = row} part h before sends = (
   record {
     unused = λ r is _. let same_row : row ≡ r = let a = h.is in cc in subst (λ (x : ThreadRow). x.uses ≡ None) same_row ((h.rows.threads.rows t.0 row h.is).unused before);
@@ -154,12 +154,13 @@ may_go_on {S = S} {t = t} {row = row} part h before sends = (
     ends = λ r is. let same_row : row ≡ r = let a = h.is in cc in subst (λ (x : ThreadRow). begun x.part ≤ begun (Some part)) same_row (let none = before_begins row.part before in omega arith);
   },
   sends,
+  refl,
 )
 
 -- and uses an object from then on
 pub fits-use : {k : Kinds} {script : Script} {S : State} {t : ObjNo} {row : ThreadRow} {instr : Instr} (told : Step) (named : may_tell k told ≡ true) (o : ObjNo) (part : Part) → k.uses ≡ true → IsStepping script S t row instr → is_before_use row.part ≡ true → is_before_use (Some part) ≡ false → MaySend (Some part) S → IsAlive (object_of S o) → FitsDecision k script t S (go_on t told (Gain (Temp t) o) part)
 fits-use {script = script} {S = S} {t = t} {row = row} told named o part uses h before later sends alive = record {
-  each = (may_go_on part h before sends, ((free, alive), tt));
+  each = (may_go_on part h before sends, ((free, alive, refl), tt));
   told = omega arith;
   light = omega arith;
   regular = regular-use t told o part named uses;

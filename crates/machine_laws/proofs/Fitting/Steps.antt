@@ -83,7 +83,7 @@ fits-create {script = script} {S = S} {t = t} {row = row} kind name start x name
     made new room i number free =
         let told = start_told start in
         let owed = start_owed start in
-        fits-handle (Of word.Create part.Do) refl (Make kind name (InProcess row.process i) ∷ start_moves start) x number (tame-both (Make kind name (InProcess row.process i) ∷ []) (start_moves start) (tame-moves _ refl refl) (tame-in (begins i).calm)) h register ((record { room = room; new = new }, free, named), (begins i).each) (begins i).threads (omega arith) (omega arith)
+        fits-handle (Of word.Create part.Do) refl (Make kind name (InProcess row.process i) ∷ start_moves start) x number (tame-both (Make kind name (InProcess row.process i) ∷ []) (start_moves start) (tame-moves _ refl refl) (tame-in (begins i).calm)) h register ((record { room = room; new = new }, free, named, tt), (begins i).each) (begins i).threads (omega arith) (omega arith)
 
 pub fits-create_mutex : {script : Script} {S : State} {t : ObjNo} {row : ThreadRow} (name : List ℕ) (x : ℕ) → IsStepping script S t row (instr.CreateMutex name x) → FitsDecision looking script t S (create_mutex_do S t row name x)
 fits-create_mutex name x h = fits-create Mutex name None x (λ e. absurd (cc)) h h.registers (λ i. record { each = tt; threads = refl; calm = tame-moves [] refl refl })
@@ -132,11 +132,11 @@ pub fits-open_return : {script : Script} {S : State} {t : ObjNo} {row : ThreadRo
 fits-open_return h before = fits-return word.Open part.Do refl h before refl tt
 
 -- the handle of an object stands in the table of the thread or of its process
-handle_by : {script : Script} {S : State} {t : ObjNo} {row : ThreadRow} {instr : Instr} (local : Bool) (i : ℕ) (o : ObjNo) → IsStepping script S t row instr → (slot_at (table_of S (if local then t else row.process)) i).object ≡ Some o → IsHandle S (if local then InThread t i else InProcess row.process i) o
+handle_by : {script : Script} {S : State} {t : ObjNo} {row : ThreadRow} {instr : Instr} (local : Bool) (i : ℕ) (o : ObjNo) → IsStepping script S t row instr → (slot_at (table_of S (if local then t else row.process)) i).object ≡ Some o → IsHandle S t (if local then InThread t i else InProcess row.process i) o
 handle_by {S = S} {t = t} true i o h is = handle_of_thread S t i o (ap is_some h.is) is
 handle_by {S = S} {t = t} {row = row} false i o h is = handle_of_process S row.process i o (h.rows.threads.processes t.0 row h.is) is
 
-pub handle_named : {script : Script} {S : State} {t : ObjNo} {row : ThreadRow} {instr : Instr} (handle : ℕ) (o : ObjNo) → IsStepping script S t row instr → object_at S t row handle ≡ Some o → IsHandle S (holder_of t row handle) o
+pub handle_named : {script : Script} {S : State} {t : ObjNo} {row : ThreadRow} {instr : Instr} (handle : ℕ) (o : ObjNo) → IsStepping script S t row instr → object_at S t row handle ≡ Some o → IsHandle S t (holder_of t row handle) o
 handle_named handle o h is = handle_by (is_local handle) (index_of handle) o h (object_of_is _ _ _ o is)
 
 -- `close`

@@ -124,7 +124,7 @@ module _ (script : Script) (S : State) (t : ObjNo) (row : ThreadRow) (h : IsGivi
 
   -- a session is detached
   gives-link : (s o : ObjNo) → server_of S.servers s ≡ Some o → is_closing S.servers o ≡ true → Gives (OfLink s o)
-  gives-link s o linked closing = (record { each = ((going, linked), tt); told = omega arith; light = omega arith; regular = regular-moves _ refl (tame-at serving _ refl refl) }, closing)
+  gives-link s o linked closing = (record { each = ((going, linked, tt), tt); told = omega arith; light = omega arith; regular = regular-moves _ refl (tame-at serving _ refl refl) }, closing)
 
   first-link : (o : ObjNo) (links : List ObjNo) → is_closing S.servers o ≡ true → ((s : ObjNo) → holds s links ≡ true → server_of S.servers s ≡ Some o) → OfFirst Gives (map (λ s. OfLink s o) links)
   first-link o [] closing linked what rest e = absurd (cc)
@@ -134,7 +134,7 @@ module _ (script : Script) (S : State) (t : ObjNo) (row : ThreadRow) (h : IsGivi
 
   -- a server of which nothing is left stops
   gives-server : (o : ObjNo) → is_closing S.servers o ≡ true → messages_at S.messages o ≡ [] → linked_at S.servers o ≡ [] → 0 < times_owned S.owned t o → Gives (OfServer o)
-  gives-server o closing finished detached owned = (record { each = (record { closing = closing; finished = finished; detached = detached }, ((going, owned), tt)); told = omega arith; light = omega arith; regular = regular-moves _ refl (tame-at serving _ refl refl) }, tt)
+  gives-server o closing finished detached owned = (record { each = (record { closing = closing; finished = finished; detached = detached }, ((going, owned, tt), tt)); told = omega arith; light = omega arith; regular = regular-moves _ refl (tame-at serving _ refl refl) }, tt)
 
   -- the first of what is left of a server
   first-server : (o : ObjNo) → is_closing S.servers o ≡ true → 0 < times_owned S.owned t o → OfFirst Gives (server_holdings S o)

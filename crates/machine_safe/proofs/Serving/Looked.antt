@@ -214,7 +214,7 @@ module _ (script : Script) (before : List Entry) (S : State) (place : ℕ) (t : 
   decision-looked : IsShaped script → AreRows script S → LookedThen (decision_of script S t)
   decision-looked shaped rows = each-action script S t LookedThen (record {
     plainly = λ d fits. unused-looked d fits (inl refl);
-    steps = λ row i is at fits. step-looked row i row.part is at fits;
+    steps = λ row i is live at fits. step-looked row i row.part is at fits;
     returns = λ row i is at fits. return-looked row i is at fits;
     gives = λ row what given fits. unused-looked _ fits (inl (given-unused what));
     pays = pay-looked;

@@ -120,7 +120,7 @@ sound-find script S t u o fits rows = sound-row script S u (with_found o) (Seek 
     (record {
       quiet = record { minuses = λ p. refl; deaths = λ p. refl; removals = λ p. refl };
       pluses = λ p. refl;
-      found = λ p h. subst (λ (y : ObjNo). y.0 < length S.objects) (same_is o p (omega arith)) fits;
+      found = λ p h. subst (λ (y : ObjNo). y.0 < length S.objects) (same_is o p (omega arith)) fits.0;
       fits = (tt, tt);
       after = λ g x. refl;
     }) (synchronized-with_row script S.threads u (with_found o) S.nano (λ row h. h) rows.nano) (leaves-with_row S.threads u (with_found o) S.owed S.locks (λ row. refl)) (spent-kept S.objects S.handles S.threads u (with_found o) (record { stage = λ row. refl; unused = λ row e. e; waits = λ row e. e; going = λ row e. e; link = λ row e. e }) rows.spent) (awaited-kept S.threads u (with_found o) S.requests S.logons (λ row. refl) (λ row. refl) rows.awaited) (serving-kept script S u (with_found o) (λ row. refl) rows) (messaging-kept script S u (with_found o) (record { live = λ row live. live; waits = λ row live. refl; sends = λ row. omega arith; left = λ row. omega arith }) rows) rows

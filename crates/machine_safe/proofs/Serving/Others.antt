@@ -1,0 +1,129 @@
+-- An action leaves other threads at their instruction, at its next step, and with what they found and use; and their own tables as they are.
+use Rattle.entry_log.specs.declared.effect.Holder.{Holder}
+use Rattle.entry_log.specs.declared.effect.Holder.TheVariants.{InProcess, InThread, Own, Temp}
+use Rattle.machine.specs.DeathMoves.{death_row, death_thread}
+use Rattle.machine.specs.Fits.{EachFits, FitsMove, Holds, IsFree, IsOwn}
+use Rattle.machine.specs.Moves.{advanced, moved, next_object, perform, tables_gain, tables_lose, threads_closed, threads_gain, threads_lose, unlinked, with_found, with_kept, with_message, with_part, with_priority, with_register, with_use, with_waiting}
+use Rattle.machine.specs.References.{dies}
+use Rattle.machine.specs.Handles.{freed_slot, taken_slot, with_slot}
+use Rattle.machine.specs.Rows.{table_of, thread_of, with_row}
+use Rattle.machine.specs.declared.death_move.DeathMove.{DeathMove}
+use Rattle.machine.specs.declared.death_move.DeathMove.TheVariants.{Bury, Clean, Doom, Note}
+use Rattle.machine.specs.declared.moves.Move.{Move}
+use Rattle.machine.specs.declared.moves.Move.TheVariants.{Advance, Death, Find, Gain, GoOn, Keep, Lose, Make, Pay, PutDown, SetPriority, Wait, Wake, Write, WriteMessage}
+use Rattle.machine.specs.declared.state.State.{State}
+use Rattle.move_laws.proofs.Holders.ThreadRows.{row-other}
+use Rattle.move_laws.proofs.RowLaws.Threads.{was_row}
+use Rattle.script_types.specs.declared.script.Script.{Script}
+use Rattle.state_rows.specs.declared.handle_slot.HandleSlot.{HandleSlot}
+use Rattle.state_rows.specs.declared.thread.ThreadRow.{ThreadRow}
+use Rattle.state_rows.specs.declared.thread.Waiting.TheVariants as waiting
+use Rattle.std.proofs.Common.{Bool, List, None, Option, Some, [], ap, false, get_or, get_or-set_other, refl, sym, true, ℕ, ◌∙◌, ◌∷◌, ◌≡◌}
+use Rattle.std.specs.Prelude.{is_some}
+use Rattle.sym_base.specs.declared.number.ObjNo.{ObjNo}
+
+-- a thread's row that was there before, at the same step of the same instruction, with the same find and the same use
+pub record WasMidway (threads : List (Option ThreadRow)) (k : ℕ) (row : ThreadRow) : Type 0 where
+  pub old : ThreadRow
+  pub was : get_or threads k None ≡ Some old
+  pub role : old.role ≡ row.role
+  pub place : old.next_instruction ≡ row.next_instruction
+  pub part : old.part ≡ row.part
+  pub found : old.found ≡ row.found
+  pub uses : old.uses ≡ row.uses
+
+-- a change of a row that keeps these
+record KeepsMidway (f : ThreadRow → ThreadRow) : Type 0 where
+  pub role : (row : ThreadRow) → (f row).role ≡ row.role
+  pub place : (row : ThreadRow) → (f row).next_instruction ≡ row.next_instruction
+  pub part : (row : ThreadRow) → (f row).part ≡ row.part
+  pub found : (row : ThreadRow) → (f row).found ≡ row.found
+  pub uses : (row : ThreadRow) → (f row).uses ≡ row.uses
+
+midway-same : (threads : List (Option ThreadRow)) (k : ℕ) (row : ThreadRow) → get_or threads k None ≡ Some row → WasMidway threads k row
+midway-same threads k row is = record { old = row; was = is; role = refl; place = refl; part = refl; found = refl; uses = refl }
+
+midway-with : (threads : List (Option ThreadRow)) (u : ObjNo) (f : ThreadRow → ThreadRow) → KeepsMidway f → (k : ℕ) (row : ThreadRow) → get_or (with_row threads u f) k None ≡ Some row → WasMidway threads k row
+midway-with threads u f keeps k row is = was_row threads u f (WasMidway threads) (λ old was. record { old = old; was = was; role = sym (keeps.role old); place = sym (keeps.place old); part = sym (keeps.part old); found = sym (keeps.found old); uses = sym (keeps.uses old) }) (midway-same threads) k row is
+
+-- a change of the acting thread's own row
+midway-own : (threads : List (Option ThreadRow)) (t u : ObjNo) (f : ThreadRow → ThreadRow) (k : ℕ) (row : ThreadRow) → u ≡ t → (t.0 ≡ k → ⊥) → get_or (with_row threads u f) k None ≡ Some row → WasMidway threads k row
+midway-own threads t u f k row own apart is = midway-same threads k row (sym (row-other threads u f k (λ at. apart (sym (ap (λ (x : ObjNo). x.0) own) ∙ at))) ∙ is)
+
+midway-gained : (h : Holder) (o : ObjNo) (threads : List (Option ThreadRow)) (t : ObjNo) (k : ℕ) (row : ThreadRow) → IsOwn t h → (t.0 ≡ k → ⊥) → get_or (threads_gain h o threads) k None ≡ Some row → WasMidway threads k row
+midway-gained (Temp u) o threads t k row own apart is = midway-own threads t u (with_use (Some o)) k row own apart is
+midway-gained _ o threads t k row own apart is = midway-same threads k row is
+
+midway-lost : (h : Holder) (threads : List (Option ThreadRow)) (t : ObjNo) (k : ℕ) (row : ThreadRow) → IsOwn t h → (t.0 ≡ k → ⊥) → get_or (threads_lose h threads) k None ≡ Some row → WasMidway threads k row
+midway-lost (Temp u) threads t k row own apart is = midway-own threads t u (with_use None) k row own apart is
+midway-lost _ threads t k row own apart is = midway-same threads k row is
+
+midway-closed : (last : Bool) (o : ObjNo) (threads : List (Option ThreadRow)) (k : ℕ) (row : ThreadRow) → get_or (threads_closed last o threads) k None ≡ Some row → WasMidway threads k row
+midway-closed true o threads k row is = midway-with threads o unlinked (record { role = λ r. refl; place = λ r. refl; part = λ r. refl; found = λ r. refl; uses = λ r. refl }) k row is
+midway-closed false o threads k row is = midway-same threads k row is
+
+midway-dies : (threads : List (Option ThreadRow)) (m : DeathMove) (k : ℕ) (row : ThreadRow) → get_or (with_row threads (death_thread m) (death_row m)) k None ≡ Some row → WasMidway threads k row
+midway-dies threads (Note u exit) k row is = midway-with threads u _ (record { role = λ r. refl; place = λ r. refl; part = λ r. refl; found = λ r. refl; uses = λ r. refl }) k row is
+midway-dies threads (Doom u exit) k row is = midway-with threads u _ (record { role = λ r. refl; place = λ r. refl; part = λ r. refl; found = λ r. refl; uses = λ r. refl }) k row is
+midway-dies threads (Clean u) k row is = midway-with threads u _ (record { role = λ r. refl; place = λ r. refl; part = λ r. refl; found = λ r. refl; uses = λ r. refl }) k row is
+midway-dies threads (Bury u) k row is = midway-with threads u _ (record { role = λ r. refl; place = λ r. refl; part = λ r. refl; found = λ r. refl; uses = λ r. refl }) k row is
+
+midway-then : (S T : List (Option ThreadRow)) (k : ℕ) (row : ThreadRow) (later : WasMidway T k row) → WasMidway S k later.old → WasMidway S k row
+midway-then S T k row later first = record { old = first.old; was = first.was; role = first.role ∙ later.role; place = first.place ∙ later.place; part = first.part ∙ later.part; found = first.found ∙ later.found; uses = first.uses ∙ later.uses }
+
+pub others-move : (script : Script) (S : State) (t : ObjNo) (m : Move) → FitsMove script t m S → (k : ℕ) (row : ThreadRow) → (t.0 ≡ k → ⊥) → get_or (moved t m S).threads k None ≡ Some row → WasMidway S.threads k row
+others-move script S t (Make kind name h) fits k row apart is = midway-gained h (next_object S) S.threads t k row fits.3 apart is
+others-move script S t (Gain h o) fits k row apart is = midway-gained h o S.threads t k row fits.2 apart is
+others-move script S t (Lose h o) fits k row apart is =
+    let one = midway-closed (dies S o) o (threads_lose h S.threads) k row is in
+    midway-then S.threads (threads_lose h S.threads) k row one (midway-lost h S.threads t k one.old fits.2 apart one.was)
+others-move script S t (Find u o) fits k row apart is = midway-own S.threads t u (with_found o) k row fits.1 apart is
+others-move script S t (GoOn u part) fits k row apart is = midway-own S.threads t u (with_part part) k row fits.2 apart is
+others-move script S t (Keep u number) fits k row apart is = midway-own S.threads t u (with_kept number) k row fits apart is
+others-move script S t (Write u x value) fits k row apart is = midway-with S.threads u (with_register x value) (record { role = λ r. refl; place = λ r. refl; part = λ r. refl; found = λ r. refl; uses = λ r. refl }) k row is
+others-move script S t (WriteMessage u y number) fits k row apart is = midway-with S.threads u (with_message y number) (record { role = λ r. refl; place = λ r. refl; part = λ r. refl; found = λ r. refl; uses = λ r. refl }) k row is
+others-move script S t (PutDown u) fits k row apart is = midway-own S.threads t u (with_use None) k row fits.0 apart is
+others-move script S t (Advance u) fits k row apart is = midway-own S.threads t u advanced k row fits.0 apart is
+others-move script S t (Wait u what) fits k row apart is = midway-with S.threads u (with_waiting what) (record { role = λ r. refl; place = λ r. refl; part = λ r. refl; found = λ r. refl; uses = λ r. refl }) k row is
+others-move script S t (Wake u) fits k row apart is = midway-with S.threads u (with_waiting waiting.Nothing) (record { role = λ r. refl; place = λ r. refl; part = λ r. refl; found = λ r. refl; uses = λ r. refl }) k row is
+others-move script S t (SetPriority u priority) fits k row apart is = midway-with S.threads u (with_priority priority) (record { role = λ r. refl; place = λ r. refl; part = λ r. refl; found = λ r. refl; uses = λ r. refl }) k row is
+others-move script S t (Death m) fits k row apart is = midway-dies S.threads m k row is
+others-move script S t (Pay what) fits k row apart is = absurd fits
+others-move script S t m fits k row apart is = midway-same S.threads k row is
+
+pub others-each : (script : Script) (S : State) (t : ObjNo) (ms : List Move) → EachFits script t ms S → (k : ℕ) (row : ThreadRow) → (t.0 ≡ k → ⊥) → get_or (perform t ms S).threads k None ≡ Some row → WasMidway S.threads k row
+others-each script S t [] fits k row apart is = midway-same S.threads k row is
+others-each script S t (m ∷ ms) fits k row apart is =
+    let later = others-each script (moved t m S) t ms fits.1 k row apart is in
+    midway-then S.threads (moved t m S).threads k row later (others-move script S t m fits.0 k later.old apart later.was)
+
+-- another table is the same
+table-other : (tables : List (List HandleSlot)) (owner : ObjNo) (i : ℕ) (f : HandleSlot → HandleSlot) (k : ObjNo) → (owner.0 ≡ k.0 → ⊥) → get_or (with_slot tables owner i f) k.0 [] ≡ get_or tables k.0 []
+table-other tables owner i f k apart = get_or-set_other tables owner.0 k.0 _ [] (λ at. apart (sym at))
+
+-- a place of a process's table is none of a thread's
+process-apart : (S : State) (p k : ObjNo) → thread_of S p ≡ None → is_some (thread_of S k) ≡ true → p.0 ≡ k.0 → ⊥
+process-apart S p k none there at = let same : thread_of S k ≡ None = ap (λ (n : ℕ). get_or S.threads n None) (sym at) ∙ none in let gone = ap is_some same in absurd (cc)
+
+own-apart : (t u k : ObjNo) → u ≡ t → (t.0 ≡ k.0 → ⊥) → u.0 ≡ k.0 → ⊥
+own-apart t u k own apart at = apart (sym (ap (λ (x : ObjNo). x.0) own) ∙ at)
+
+gained-table : (S : State) (h : Holder) (o t k : ObjNo) → IsFree S h → IsOwn t h → (t.0 ≡ k.0 → ⊥) → is_some (thread_of S k) ≡ true → get_or (tables_gain h o S.handles) k.0 [] ≡ table_of S k
+gained-table S (InProcess p i) o t k free own apart there = table-other S.handles p i (taken_slot o) k (process-apart S p k free.0 there)
+gained-table S (InThread u i) o t k free own apart there = table-other S.handles u i (taken_slot o) k (own-apart t u k own apart)
+gained-table S _ o t k free own apart there = refl
+
+lost-table : (S : State) (h : Holder) (o t k : ObjNo) → Holds S h o → IsOwn t h → (t.0 ≡ k.0 → ⊥) → is_some (thread_of S k) ≡ true → get_or (tables_lose h S.handles) k.0 [] ≡ table_of S k
+lost-table S (InProcess p i) o t k holds own apart there = table-other S.handles p i freed_slot k (process-apart S p k holds.0 there)
+lost-table S (InThread u i) o t k holds own apart there = table-other S.handles u i freed_slot k (own-apart t u k own apart)
+lost-table S _ o t k holds own apart there = refl
+
+pub tables-move : (script : Script) (S : State) (t : ObjNo) (m : Move) → FitsMove script t m S → (k : ObjNo) → (t.0 ≡ k.0 → ⊥) → is_some (thread_of S k) ≡ true → table_of (moved t m S) k ≡ table_of S k
+tables-move script S t (Make kind name (Own u)) fits k apart there = refl
+tables-move script S t (Make kind name (InProcess p i)) fits k apart there = gained-table S (InProcess p i) (next_object S) t k fits.1 fits.3 apart there
+tables-move script S t (Make kind name (InThread u i)) fits k apart there = gained-table S (InThread u i) (next_object S) t k fits.1 fits.3 apart there
+tables-move script S t (Make kind name h) fits k apart there = refl
+tables-move script S t (Gain h o) fits k apart there = gained-table S h o t k fits.0 fits.2 apart there
+tables-move script S t (Lose h o) fits k apart there = lost-table S h o t k fits.1 fits.2 apart there
+tables-move script S t (Pay what) fits k apart there = absurd fits
+tables-move script S t m fits k apart there = refl
