@@ -164,7 +164,7 @@ module _ (S : State) (t : ObjNo) (at : Option Instr) (P : Decision → Type 0) (
   sends v moves opens none =
       let still = behind-still answers t in
       each.sends d (sending d (Servers (SetOpen o false) ∷ []) (Lose h o ∷ behind answers t) o v disconnects no_args Disconnect moves refl refl
-      (let a = still.0 in let b = changing-handle h o handle in omega arith) (let a = still.1 in omega arith) opens told named
+      (let a = still.0 in let b = changing-handle h o handle in omega arith) (let a = still.1 in omega arith) opens told (λ e. absurd (cc)) named
       (others (Servers (SetOpen o false) ∷ post S t o v disconnects no_args Disconnect) moves (λ x. let wakes = lost-none x (wake_receiver S v (owner_of S.servers v)) ((tame-wake {k = plain} S v (owner_of S.servers v)).calm refl) in omega arith) none) (λ x. let b = undetached-behind answers t x in let c = undetached h o x handle in omega arith) unsent (λ sends. absurd (cc)))
 
   unconnected : (server : Option ObjNo) → d.moves ≡ disconnect S t o server ++ Lose h o ∷ behind answers t → connected_to S o ≡ server → server_at S.servers o ≡ None → P d
@@ -186,11 +186,11 @@ deed-close S t at P row handle None each = calm each _ refl refl
 deed-close S t at P row handle (Some o) each = deed-handle S t at P (holder_of t row handle) o true (close_handle S t row handle (Some o)) (holder-handle t row handle) refl refl refl refl refl each refl
 
 -- each step of an instruction
-pub deed-step : (script : Script) (S : State) (t : ObjNo) (at : Option Instr) (P : Decision → Type 0) (row : ThreadRow) (i : Instr) (p : Option Part) → IsRegular (kind_of i p) script S t (step_of script S t row i p) → thread_of S t ≡ Some row → at ≡ Some i → OfEach S t at P → P (step_of script S t row i p)
-deed-step script S t at P row (instr.Close x) p regular is here each = deed-close S t at P row _ _ each
-deed-step script S t at P row (instr.Server name x) p regular is here each = deed-server S t at P name x each
-deed-step script S t at P row (instr.Connect name slots x) (Some p) regular is here each = deed-connect S t at P row name slots x p here each
-deed-step script S t at P row (instr.Send x function y args) (Some p) regular is here each = deed-send S t at P row x function y args p is here each
-deed-step script S t at P row (instr.Call x function args) (Some p) regular is here each = deed-call S t at P row x function args p here each
-deed-step script S t at P row (instr.Complete y code) p regular is here each = deed-complete S t at P y code _ _ here refl each
-deed-step script S t at P row i p regular is here each = calm each _ (regular.calm refl) (regular.sends refl)
+pub deed-step : (script : Script) (S : State) (t : ObjNo) (at : Option Instr) (P : Decision → Type 0) (row : ThreadRow) (i : Instr) (p : Option Part) → IsRegular (kind_of i p) script S t (step_of script S t row i p) → thread_of S t ≡ Some row → row.stage ≡ Live → at ≡ Some i → OfEach S t at P → P (step_of script S t row i p)
+deed-step script S t at P row (instr.Close x) p regular is live here each = deed-close S t at P row _ _ each
+deed-step script S t at P row (instr.Server name x) p regular is live here each = deed-server S t at P name x each
+deed-step script S t at P row (instr.Connect name slots x) (Some p) regular is live here each = deed-connect S t at (record { row = row; is = is; live = live }) P row name slots x p here each
+deed-step script S t at P row (instr.Send x function y args) (Some p) regular is live here each = deed-send S t at (record { row = row; is = is; live = live }) P row x function y args p is here each
+deed-step script S t at P row (instr.Call x function args) (Some p) regular is live here each = deed-call S t at (record { row = row; is = is; live = live }) P row x function args p here each
+deed-step script S t at P row (instr.Complete y code) p regular is live here each = deed-complete S t at P y code _ _ here refl each
+deed-step script S t at P row i p regular is live here each = calm each _ (regular.calm refl) (regular.sends refl)

@@ -109,7 +109,7 @@ module _ (script : Script) (before : List Entry) (S : State) (place : ℕ) (shap
   each-turn : (t : ObjNo) → OfEach S t (instruction_in script before t) (λ (d : Decision). (k : Kinds) → IsRegular k script S t d → Doing script S t d.moves → IsTurn script before (entry_for place t S d) (perform t d.moves S))
   each-turn t = record {
     keeps = λ d is k regular. turn-keeps script before S place t rows book d regular looked is;
-    sends = λ d is k regular. turn-sends script before S place t rows book looked d regular is;
+    sends = λ d is k regular does. turn-sends script before S place t rows book looked d regular is does fate;
     finishes = λ d is k regular does. turn-finishes script before S place t rows book d regular is does fate;
     makes = λ d is k regular does. turn-makes script before S place t rows book d regular is does (λ u live. let a = fate u live.row live.is in let b = ap stage_live live.live in omega arith);
     joins = λ d is k regular. turn-joins script before S place t rows book d regular is;

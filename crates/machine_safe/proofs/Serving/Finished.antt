@@ -228,6 +228,20 @@ module _ (script : Script) (before : List Entry) (S : State) (place : ℕ) (t : 
       told : e.effects ≡ effect.Finish is.message.number is.code ∷ notice (status_of_way is.message.row.way) (nat_lt 0 (dooms (effects_of before) is.message.row.client)) is.message.row.client is.code
       told = ap (λ (l : List Move). tell t l S) is.moves ∙ finish-tells S t is.message is.code is.answers client.0 (dooms (effects_of before) is.message.row.client) client.1 (fate is.message.row.client client.0 client.1)
 
+      -- a client that is told of its message was doomed exactly if it was since the message was accepted
+      since : List Effect
+      since = effects_of (known.accepted.at ∷ known.accepted.later)
+
+      noticed : (x : Option StatusNo) → (is_some x ≡ true → dooms (effects_of known.accepted.before) is.message.row.client ≡ 0) → notice x (nat_lt 0 (dooms (effects_of before) is.message.row.client)) is.message.row.client is.code ≡ notice x (nat_lt 0 (dooms since is.message.row.client)) is.message.row.client is.code
+      noticed None undoomed = refl
+      noticed (Some s) undoomed =
+          let none = undoomed refl in
+          let parts = ap (λ (l : List Entry). dooms (effects_of l) is.message.row.client) known.accepted.stands in
+          let split = ap (λ (l : List Effect). dooms l is.message.row.client) (effects-append known.accepted.before (known.accepted.at ∷ known.accepted.later)) in
+          let sum = dooms-append (effects_of known.accepted.before) since is.message.row.client in
+          let same : dooms (effects_of before) is.message.row.client ≡ dooms since is.message.row.client = omega arith in
+          ap (λ (n : ℕ). notice (Some s) (nat_lt 0 n) is.message.row.client is.code) same
+
       finishes_it : (n : MsgNo) → finishes e.effects n ≡ (if is.message.number.0 == n.0 then 1 else 0)
       finishes_it n = let a = ap (λ (l : List Effect). finishes l n) told in let b = (notice-silent (status_of_way is.message.row.way) (nat_lt 0 (dooms (effects_of before) is.message.row.client)) is.message.row.client is.code).1 n in omega arith
 
@@ -254,6 +268,7 @@ module _ (script : Script) (before : List Entry) (S : State) (place : ℕ) (t : 
             actor = refl;
             code = is.code;
             cause = ap (λ (b : Bool). code_by d.step b (instruction_in script before t)) (closing-told-by script before S is.message.row.server server.0 book server.1 ∙ sym (ap closes server.1)) ∙ is.cause;
-            told = told ∙ (ap (λ (x : Option StatusNo). effect.Finish is.message.number is.code ∷ notice x (nat_lt 0 (dooms (effects_of before) is.message.row.client)) is.message.row.client is.code) (sym known.way)
-                ∙ ap (λ (u : ObjNo). effect.Finish is.message.number is.code ∷ notice (status_by known.accepted.at.step (instruction_in script known.accepted.before u)) (nat_lt 0 (dooms (effects_of before) u)) u is.code) (sym known.client));
+            told = told ∙ (ap (λ (l : List Effect). effect.Finish is.message.number is.code ∷ l) (noticed (status_of_way is.message.row.way) known.undoomed)
+                ∙ (ap (λ (x : Option StatusNo). effect.Finish is.message.number is.code ∷ notice x (nat_lt 0 (dooms since is.message.row.client)) is.message.row.client is.code) (sym known.way)
+                ∙ ap (λ (u : ObjNo). effect.Finish is.message.number is.code ∷ notice (status_by known.accepted.at.step (instruction_in script known.accepted.before u)) (nat_lt 0 (dooms since u)) u is.code) (sym known.client)));
           }

@@ -68,7 +68,7 @@ module _ (script : Script) (S : State) (t : ObjNo) (at : Option Instr) (P : Deci
   pub deed-of : IsShaped script → AreRows script S → ((row : ThreadRow) → thread_of S t ≡ Some row → at ≡ instruction script row) → P (decision_of script S t)
   deed-of shaped rows here = each-action script S t P (record {
     plainly = λ d fits. calm each d (fits.regular.calm refl) (fits.regular.sends refl);
-    steps = λ row i is live e fits. deed-step script S t at P row i row.part fits.regular is (here row is ∙ e) each;
+    steps = λ row i is live e fits. deed-step script S t at P row i row.part fits.regular is live (here row is ∙ e) each;
     returns = λ row i is e fits. calm each _ (fits.regular.calm refl) (fits.regular.sends refl);
     gives = λ row what given fits. deed-give row what given fits.regular;
     pays = λ what rest owes. let regular = regular-pay {script = script} {S = S} {t = t} what in calm each _ (regular.calm refl) (regular.sends refl);

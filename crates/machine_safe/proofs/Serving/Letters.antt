@@ -36,6 +36,7 @@ pub record Known (script : Script) (before : List Entry) (p : Post) : Type 0 whe
   pub lasts : ends (effects_of before) p.server ≡ 0
   pub unfinished : finishes (effects_of before) p.number ≡ 0
   pub way : status_by accepted.at.step (instruction_in script accepted.before p.client) ≡ status_of_way p.way
+  pub undoomed : is_some (status_of_way p.way) ≡ true → dooms (effects_of accepted.before) p.client ≡ 0
   pub slots : slots_in script before p.session ≡ Some p.slots
 
 -- a message that was accepted over a session, which was at this server then, is outstanding
@@ -106,6 +107,7 @@ known-on script before e p h unlinked unended unfinished =
       lasts = let a = ap (λ (l : List Effect). ends l p.server) es in let b = ends-append (effects_of before) e.effects p.server in let c = h.lasts in omega arith;
       unfinished = let a = ap (λ (l : List Effect). finishes l p.number) es in let b = finishes-append (effects_of before) e.effects p.number in let c = h.unfinished in omega arith;
       way = h.way;
+      undoomed = h.undoomed;
       slots = slots-kept script before e p.session unlinked ∙ h.slots;
     }
 
@@ -168,8 +170,8 @@ module _ (script : Script) (before : List Entry) (S T : State) (e : Entry) (h : 
 
   -- a message comes
   pub letters-more : (p : Post) → posts T ≡ posts S ++ p ∷ [] → T.messages.accepted ≡ S.messages.accepted + 1 → (a : Accepts e p.number) → p.number.0 ≡ S.messages.accepted + 1 → accepts a.rest ≡ 0 → ((m : MsgNo) → finishes e.effects m ≡ 0) → a.session ≡ p.session → a.client ≡ p.client
-      → server_in before p.session ≡ Some p.server → server_told (effects_of before) p.session ≡ Some p.server → server_told e.effects p.session ≡ None → ((v : ObjNo) → ends e.effects v ≡ 0) → ends (effects_of before) p.server ≡ 0 → status_by e.step (instruction_in script before p.client) ≡ status_of_way p.way → slots_in script before p.session ≡ Some p.slots → (if is_send e.step then sent_told e.effects else []) ≡ sent_of p.way p → Letters script (before ++ e ∷ []) T
-  letters-more p posts_then more a number none unfinished session client linked_then linked unlinked_new unended lasts way slots sends = record {
+      → server_in before p.session ≡ Some p.server → server_told (effects_of before) p.session ≡ Some p.server → server_told e.effects p.session ≡ None → ((v : ObjNo) → ends e.effects v ≡ 0) → ends (effects_of before) p.server ≡ 0 → status_by e.step (instruction_in script before p.client) ≡ status_of_way p.way → (is_some (status_of_way p.way) ≡ true → dooms (effects_of before) p.client ≡ 0) → slots_in script before p.session ≡ Some p.slots → (if is_send e.step then sent_told e.effects else []) ≡ sent_of p.way p → Letters script (before ++ e ∷ []) T
+  letters-more p posts_then more a number none unfinished session client linked_then linked unlinked_new unended lasts way undoomed slots sends = record {
     accepted = let b = accepted-then in let c = ap accepts a.told in let d = h.accepted in omega arith;
     known = λ x among. elim (Contains-push_cases (posts S) p x (subst (λ (l : List Post). Contains l x) posts_then among)) as (λ _. Known script (before ++ e ∷ []) x) [
       | inl was ↦ known-on script before e x (h.known x was) (unlinked x was) (unended x.server) (unfinished x.number)
@@ -201,6 +203,7 @@ module _ (script : Script) (before : List Entry) (S T : State) (e : Entry) (h : 
         lasts = let b = ap (λ (l : List Effect). ends l p.server) es in let c = ends-append (effects_of before) e.effects p.server in let d = unended p.server in omega arith;
         unfinished = let b = finished-then p.number in let c = unfinished p.number in let d = h.later p.number (omega arith) in omega arith;
         way = way;
+        undoomed = undoomed;
         slots = slots-kept script before e p.session unlinked_new ∙ slots;
       }
 

@@ -96,11 +96,11 @@ session-row None v e = absurd (cc)
 session-row (Some row) v e = (row, refl)
 
 module _ (script : Script) (before : List Entry) (S : State) (place : ℕ) (t : ObjNo) (rows : AreRows script S) (book : Book script before S) (looked : Looked script before S) where
-  pub turn-sends : {k : Kinds} (d : Decision) → IsRegular k script S t d → IsSending S t (instruction_in script before t) d → Doing script S t d.moves → IsTurn script before (entry_for place t S d) (perform t d.moves S)
-  turn-sends d regular is does = record {
+  pub turn-sends : {k : Kinds} (d : Decision) → IsRegular k script S t d → IsSending S t (instruction_in script before t) d → Doing script S t d.moves → ((u : ObjNo) (row : ThreadRow) → thread_of S u ≡ Some row → row_bit stage_live (Some row) + dooms (effects_of before) u ≡ 1) → IsTurn script before (entry_for place t S d) (perform t d.moves S)
+  turn-sends d regular is does fate = record {
     book = record {
       served = served-doing script before S place t rows book d does changing regular is.closed (λ v some. let none = is.detached v in absurd (omega arith));
-      letters = letters-more script before S T e book.letters (λ p among. keeps.unlinked p.session) post p.posts p.more by p.next p.none p.unfinished refl refl (book.slotted.servers is.row.session ∙ linked) linked (keeps.unlinked is.row.session) keeps.unended unended way slots sends;
+      letters = letters-more script before S T e book.letters (λ p among. keeps.unlinked p.session) post p.posts p.more by p.next p.none p.unfinished refl refl (book.slotted.servers is.row.session ∙ linked) linked (keeps.unlinked is.row.session) keeps.unended unended way undoomed slots sends;
       slotted = slotted-keeps script before e S T book.slotted keeps.unlinked keeps.slots p.pool;
       fresh = fresh-on before e book.fresh (λ makes. keeps.unowned (regular.making makes));
     };
@@ -171,6 +171,14 @@ module _ (script : Script) (before : List Entry) (S : State) (place : ℕ) (t : 
 
       way : status_by e.step (instruction_in script before is.row.client) ≡ status_of_way is.row.way
       way = ap (λ (u : ObjNo). status_by d.step (instruction_in script before u)) is.client ∙ is.way
+
+      -- a client that is told lived until then
+      undoomed : is_some (status_of_way is.row.way) ≡ true → dooms (effects_of before) is.row.client ≡ 0
+      undoomed some =
+          let live = is.live some in
+          let bit = ap stage_live live.live in
+          let once = fate t live.row live.is in
+          let same = ap (λ (u : ObjNo). dooms (effects_of before) u) is.client in omega arith
 
       -- its session has the slots that are told
       session : (r : SessionRow) × (session_at S.servers is.row.session ≡ Some r)

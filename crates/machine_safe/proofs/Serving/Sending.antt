@@ -82,8 +82,8 @@ behind-quiet false t = refl
 
 -- a sending whose moves are these: some before, that of the message, and a receiver that wakes
 pub sending : {S : State} {t : ObjNo} {at : Option Instr} (d : Decision) (front rest : List Move) (s o : ObjNo) (function : ℤ) (args : List Arg) (way : Way) → d.moves ≡ front ++ (Messages (Accept (slots_of S s) (new_row s o t function args way)) ∷ (wake_receiver S o (owner_of S.servers o) ++ rest)) → tell t front S ≡ [] → total serving_bit front ≡ 0
-    → total changing_bit rest ≡ 0 → total message_bit rest ≡ 0 → open_server S s ≡ Some o → status_by d.step at ≡ status_of_way way → accepts_by d.step (status_of_way way) ≡ true → ClosesOthers S d → ((v : ObjNo) → total (detach_bit v) rest ≡ 0) → is_send d.step ≡ is_async way → (is_send d.step ≡ true → IsAnswered S t at s (slots_of S s) d) → IsSending S t at d
-sending {S = S} {t = t} d front rest s o function args way moves silent quiet changing still opens told named closed detached asks sends =
+    → total changing_bit rest ≡ 0 → total message_bit rest ≡ 0 → open_server S s ≡ Some o → status_by d.step at ≡ status_of_way way → (is_some (status_of_way way) ≡ true → IsLiveThread S.threads t) → accepts_by d.step (status_of_way way) ≡ true → ClosesOthers S d → ((v : ObjNo) → total (detach_bit v) rest ≡ 0) → is_send d.step ≡ is_async way → (is_send d.step ≡ true → IsAnswered S t at s (slots_of S s) d) → IsSending S t at d
+sending {S = S} {t = t} d front rest s o function args way moves silent quiet changing still opens told live named closed detached asks sends =
     let wakes = wake_receiver S o (owner_of S.servers o) in
     let calm = (tame-wake {k = plain} S o (owner_of S.servers o)).calm refl in
     record {
@@ -97,6 +97,7 @@ sending {S = S} {t = t} d front rest s o function args way moves silent quiet ch
       changing = let a = total-append changing_bit wakes rest in let b = changing-none wakes calm in omega arith;
       still = let a = total-append message_bit wakes rest in let b = message-none wakes calm in omega arith;
       client = refl;
+      live = live;
       linked = linked_server S s o opens;
       accepting = open_is S s o opens;
       way = told;
@@ -115,15 +116,15 @@ sending {S = S} {t = t} d front rest s o function args way moves silent quiet ch
     }
 
 -- `send`
-deed-send_to : (S : State) (t : ObjNo) (at : Option Instr) (P : Decision → Type 0) (s : ObjNo) (x function y : ℕ) (args : Args) (server : Option ObjNo) → IsSendOver S t at s → at ≡ Some (instr.Send x function y args) → open_server S s ≡ server → OfEach S t at P → P (send_to S t s (pos function) y (args_of args) server)
-deed-send_to S t at P s x function y args None over here e each = each.keeps _ (record {
+deed-send_to : (S : State) (t : ObjNo) (at : Option Instr) (live : IsLiveThread S.threads t) (P : Decision → Type 0) (s : ObjNo) (x function y : ℕ) (args : Args) (server : Option ObjNo) → IsSendOver S t at s → at ≡ Some (instr.Send x function y args) → open_server S s ≡ server → OfEach S t at P → P (send_to S t s (pos function) y (args_of args) server)
+deed-send_to S t at live P s x function y args None over here e each = each.keeps _ (record {
   changing = refl;
   still = refl;
   closed = λ closes v some. absurd (omega arith);
   detaches = λ v some. absurd (omega arith);
   send = λ sends. record { session = s; over = over; by = inl (e, refl) };
 })
-deed-send_to S t at P s x function y args (Some o) over here e each = if_cases P (is_full S.messages s (slots_of S s)) _ _
+deed-send_to S t at live P s x function y args (Some o) over here e each = if_cases P (is_full S.messages s (slots_of S s)) _ _
     (λ full. each.keeps _ (record {
       changing = refl;
       still = refl;
@@ -132,33 +133,33 @@ deed-send_to S t at P s x function y args (Some o) over here e each = if_cases P
       send = λ sends. record { session = s; over = over; by = inr (o, e, full, refl) };
     }))
     (λ free. each.sends _ (sending (answer t (Of word.Send part.Do) (GoOn t part.Done ∷ Requests (SetPending t y) ∷ post S t s o (pos function) (args_of args) (Async y)) (pos 0)) (GoOn t part.Done ∷ Requests (SetPending t y) ∷ []) (Advance t ∷ []) s o (pos function) (args_of args) (Async y)
-    refl refl refl refl refl e (ap (λ (i : Option Instr). status_by (Of word.Send part.Do) i) here) refl (λ closes. absurd (cc)) (λ v. refl) refl (λ sends. record { over = over; answer = refl; free = free })))
+    refl refl refl refl refl e (ap (λ (i : Option Instr). status_by (Of word.Send part.Do) i) here) (λ _. live) refl (λ closes. absurd (cc)) (λ v. refl) refl (λ sends. record { over = over; answer = refl; free = free })))
 
-pub deed-send : (S : State) (t : ObjNo) (at : Option Instr) (P : Decision → Type 0) (row : ThreadRow) (x function y : ℕ) (args : Args) (p : Part) → thread_of S t ≡ Some row → at ≡ Some (instr.Send x function y args) → OfEach S t at P → P (send_step S t row x function y args (Some p))
-deed-send S t at P row x function y args part.Done is here each = calm each _ refl refl
-deed-send S t at P row x function y args p is here each = by row.uses refl
+pub deed-send : (S : State) (t : ObjNo) (at : Option Instr) (live : IsLiveThread S.threads t) (P : Decision → Type 0) (row : ThreadRow) (x function y : ℕ) (args : Args) (p : Part) → thread_of S t ≡ Some row → at ≡ Some (instr.Send x function y args) → OfEach S t at P → P (send_step S t row x function y args (Some p))
+deed-send S t at live P row x function y args part.Done is here each = calm each _ refl refl
+deed-send S t at live P row x function y args p is here each = by row.uses refl
   where
     by : (uses : Option ObjNo) → row.uses ≡ uses → P (send_do S t (pos function) y (args_of args) uses)
     by None e = calm each _ refl refl
     by (Some s) e = if_cases P (is_pending S.requests t y) _ _
         (λ _. calm each _ refl refl)
-        (λ _. deed-send_to S t at P s x function y args (open_server S s) (record { here = ap at_send here; row = row; is = is; uses = e }) here refl each)
+        (λ _. deed-send_to S t at live P s x function y args (open_server S s) (record { here = ap at_send here; row = row; is = is; uses = e }) here refl each)
 
 -- `call`
-deed-call_to : (S : State) (t : ObjNo) (at : Option Instr) (P : Decision → Type 0) (s : ObjNo) (function : ℤ) (args : List Arg) (server : Option ObjNo) → status_by (Of word.Call part.Do) at ≡ Some status.Sync → open_server S s ≡ server → OfEach S t at P → P (call_to S t s function args server)
-deed-call_to S t at P s function args None told e each = calm each _ refl refl
-deed-call_to S t at P s function args (Some o) told e each = each.sends _ (sending (call_to S t s function args (Some o)) (GoOn t part.Done ∷ Wait t waiting.Reply ∷ []) [] s o function args Sync
-    (ap (λ (ms : List Move). GoOn t part.Done ∷ Wait t waiting.Reply ∷ Messages (Accept (slots_of S s) (new_row s o t function args Sync)) ∷ ms) (sym (append-nil (wake_receiver S o (owner_of S.servers o))))) refl refl refl refl e told refl (λ closes. absurd (cc)) (λ v. refl) refl (λ sends. absurd (cc)))
+deed-call_to : (S : State) (t : ObjNo) (at : Option Instr) (live : IsLiveThread S.threads t) (P : Decision → Type 0) (s : ObjNo) (function : ℤ) (args : List Arg) (server : Option ObjNo) → status_by (Of word.Call part.Do) at ≡ Some status.Sync → open_server S s ≡ server → OfEach S t at P → P (call_to S t s function args server)
+deed-call_to S t at live P s function args None told e each = calm each _ refl refl
+deed-call_to S t at live P s function args (Some o) told e each = each.sends _ (sending (call_to S t s function args (Some o)) (GoOn t part.Done ∷ Wait t waiting.Reply ∷ []) [] s o function args Sync
+    (ap (λ (ms : List Move). GoOn t part.Done ∷ Wait t waiting.Reply ∷ Messages (Accept (slots_of S s) (new_row s o t function args Sync)) ∷ ms) (sym (append-nil (wake_receiver S o (owner_of S.servers o))))) refl refl refl refl e told (λ _. live) refl (λ closes. absurd (cc)) (λ v. refl) refl (λ sends. absurd (cc)))
 
-deed-call_do : (S : State) (t : ObjNo) (at : Option Instr) (P : Decision → Type 0) (function : ℤ) (args : List Arg) (uses : Option ObjNo) → status_by (Of word.Call part.Do) at ≡ Some status.Sync → OfEach S t at P → P (call_do S t function args uses)
-deed-call_do S t at P function args None told each = calm each _ refl refl
-deed-call_do S t at P function args (Some s) told each = if_cases P (is_some (held_by S.nano t)) _ _
+deed-call_do : (S : State) (t : ObjNo) (at : Option Instr) (live : IsLiveThread S.threads t) (P : Decision → Type 0) (function : ℤ) (args : List Arg) (uses : Option ObjNo) → status_by (Of word.Call part.Do) at ≡ Some status.Sync → OfEach S t at P → P (call_do S t function args uses)
+deed-call_do S t at live P function args None told each = calm each _ refl refl
+deed-call_do S t at live P function args (Some s) told each = if_cases P (is_some (held_by S.nano t)) _ _
     (λ _. calm each _ refl refl)
-    (λ _. deed-call_to S t at P s function args (open_server S s) told refl each)
+    (λ _. deed-call_to S t at live P s function args (open_server S s) told refl each)
 
-pub deed-call : (S : State) (t : ObjNo) (at : Option Instr) (P : Decision → Type 0) (row : ThreadRow) (x function : ℕ) (args : Args) (p : Part) → at ≡ Some (instr.Call x function args) → OfEach S t at P → P (call_step S t row x function args (Some p))
-deed-call S t at P row x function args part.Do here each = deed-call_do S t at P (pos function) (args_of args) row.uses (ap (λ (i : Option Instr). status_by (Of word.Call part.Do) i) here) each
-deed-call S t at P row x function args _ here each = calm each _ refl refl
+pub deed-call : (S : State) (t : ObjNo) (at : Option Instr) (live : IsLiveThread S.threads t) (P : Decision → Type 0) (row : ThreadRow) (x function : ℕ) (args : Args) (p : Part) → at ≡ Some (instr.Call x function args) → OfEach S t at P → P (call_step S t row x function args (Some p))
+deed-call S t at live P row x function args part.Do here each = deed-call_do S t at live P (pos function) (args_of args) row.uses (ap (λ (i : Option Instr). status_by (Of word.Call part.Do) i) here) each
+deed-call S t at live P row x function args _ here each = calm each _ refl refl
 
 -- `connect`
 deed-made_session : (S : State) (t : ObjNo) (at : Option Instr) (P : Decision → Type 0) (o : ObjNo) (slots : Slots) (handle : Option NewHandle) → slots_of_connect at ≡ Some slots → OfEach S t at P → P (make_session t o slots (next_object S) handle)
@@ -205,16 +206,16 @@ deed-failed S t at P row s code p other unsent each = each.keeps _ (record {
   send = λ sends. absurd (cc);
 })
 
-deed-connecting : (S : State) (t : ObjNo) (at : Option Instr) (P : Decision → Type 0) (row : ThreadRow) (s : ObjNo) (server : Option ObjNo) → status_by (Of word.Connect part.Send) at ≡ Some status.Sync → open_server S s ≡ server → OfEach S t at P → P (send_connect S t row s server)
-deed-connecting S t at P row s None told e each = deed-failed S t at P row s _ part.Send refl refl each
-deed-connecting S t at P row s (Some o) told e each = each.sends _ (sending (send_connect S t row s (Some o)) (GoOn t part.Done ∷ Servers (SetOpen s true) ∷ Wait t waiting.Reply ∷ []) [] s o connects no_args Sync
-    (ap (λ (ms : List Move). GoOn t part.Done ∷ Servers (SetOpen s true) ∷ Wait t waiting.Reply ∷ Messages (Accept (slots_of S s) (new_row s o t connects no_args Sync)) ∷ ms) (sym (append-nil (wake_receiver S o (owner_of S.servers o))))) refl refl refl refl e told refl (λ closes. absurd (cc)) (λ v. refl) refl (λ sends. absurd (cc)))
+deed-connecting : (S : State) (t : ObjNo) (at : Option Instr) (live : IsLiveThread S.threads t) (P : Decision → Type 0) (row : ThreadRow) (s : ObjNo) (server : Option ObjNo) → status_by (Of word.Connect part.Send) at ≡ Some status.Sync → open_server S s ≡ server → OfEach S t at P → P (send_connect S t row s server)
+deed-connecting S t at live P row s None told e each = deed-failed S t at P row s _ part.Send refl refl each
+deed-connecting S t at live P row s (Some o) told e each = each.sends _ (sending (send_connect S t row s (Some o)) (GoOn t part.Done ∷ Servers (SetOpen s true) ∷ Wait t waiting.Reply ∷ []) [] s o connects no_args Sync
+    (ap (λ (ms : List Move). GoOn t part.Done ∷ Servers (SetOpen s true) ∷ Wait t waiting.Reply ∷ Messages (Accept (slots_of S s) (new_row s o t connects no_args Sync)) ∷ ms) (sym (append-nil (wake_receiver S o (owner_of S.servers o))))) refl refl refl refl e told (λ _. live) refl (λ closes. absurd (cc)) (λ v. refl) refl (λ sends. absurd (cc)))
 
-deed-connect_send : (S : State) (t : ObjNo) (at : Option Instr) (P : Decision → Type 0) (row : ThreadRow) (session : Option ObjNo) → status_by (Of word.Connect part.Send) at ≡ Some status.Sync → OfEach S t at P → P (connect_send S t row session)
-deed-connect_send S t at P row None told each = calm each _ refl refl
-deed-connect_send S t at P row (Some s) told each = if_cases P (is_some (held_by S.nano t)) _ _
+deed-connect_send : (S : State) (t : ObjNo) (at : Option Instr) (live : IsLiveThread S.threads t) (P : Decision → Type 0) (row : ThreadRow) (session : Option ObjNo) → status_by (Of word.Connect part.Send) at ≡ Some status.Sync → OfEach S t at P → P (connect_send S t row session)
+deed-connect_send S t at live P row None told each = calm each _ refl refl
+deed-connect_send S t at live P row (Some s) told each = if_cases P (is_some (held_by S.nano t)) _ _
     (λ _. calm each _ refl refl)
-    (λ _. deed-connecting S t at P row s (open_server S s) told refl each)
+    (λ _. deed-connecting S t at live P row s (open_server S s) told refl each)
 
 deed-connect_done : (S : State) (t : ObjNo) (at : Option Instr) (P : Decision → Type 0) (row : ThreadRow) (x : ℕ) (session : Option ObjNo) → OfEach S t at P → P (connect_done S t row x session)
 deed-connect_done S t at P row x None each = calm each _ refl refl
@@ -222,7 +223,7 @@ deed-connect_done S t at P row x (Some s) each = if_cases P (int_eq (reply_of S.
     (λ _. calm each _ refl refl)
     (λ _. deed-failed S t at P row s _ part.Done refl refl each)
 
-pub deed-connect : (S : State) (t : ObjNo) (at : Option Instr) (P : Decision → Type 0) (row : ThreadRow) (name : List ℕ) (slots : Slots) (x : ℕ) (p : Part) → at ≡ Some (instr.Connect name slots x) → OfEach S t at P → P (connect_step S t row name slots x (Some p))
-deed-connect S t at P row name slots x part.Make here each = deed-connect_make S t at P slots row.uses (ap slots_of_connect here) each
-deed-connect S t at P row name slots x part.Send here each = deed-connect_send S t at P row (session_made S t row) (ap (λ (i : Option Instr). status_by (Of word.Connect part.Send) i) here) each
-deed-connect S t at P row name slots x _ here each = deed-connect_done S t at P row x (session_made S t row) each
+pub deed-connect : (S : State) (t : ObjNo) (at : Option Instr) (live : IsLiveThread S.threads t) (P : Decision → Type 0) (row : ThreadRow) (name : List ℕ) (slots : Slots) (x : ℕ) (p : Part) → at ≡ Some (instr.Connect name slots x) → OfEach S t at P → P (connect_step S t row name slots x (Some p))
+deed-connect S t at live P row name slots x part.Make here each = deed-connect_make S t at P slots row.uses (ap slots_of_connect here) each
+deed-connect S t at live P row name slots x part.Send here each = deed-connect_send S t at live P row (session_made S t row) (ap (λ (i : Option Instr). status_by (Of word.Connect part.Send) i) here) each
+deed-connect S t at live P row name slots x _ here each = deed-connect_done S t at P row x (session_made S t row) each
