@@ -1,5 +1,5 @@
 -- What holds over a run of actions, from what each does.
-use Rattle.std.proofs.Common.{◌≡◌, ℕ, ◌+◌, List, [], ◌∷◌, ◌++◌, arith, refl, sym, subst, ap}
+use Rattle.std.proofs.Common.{◌≡◌, ℕ, ◌+◌, List, [], ◌∷◌, ◌++◌, arith, refl, sym, subst, ap, append_assoc, ◌∙◌}
 use Rattle.sym_base.specs.declared.number.ObjNo.{ObjNo}
 use Rattle.script_types.specs.declared.script.Script.{Script}
 use Rattle.script_types.specs.Shape.{IsShaped}
@@ -19,6 +19,11 @@ use Rattle.machine_laws.proofs.Reached.Histories.{after_from-push}
 use Rattle.machine_laws.proofs.Reached.NextState.{sound-next}
 use Rattle.move_laws.proofs.References.Effects.{pluses-append, minuses-append, deaths-append, removals-append, fits-append, fits-same}
 use Rattle.machine_safe.specs.CountAfter.{effects_of}
+
+-- what entries tell, and others behind them
+pub effects-append : (xs ys : List Entry) → effects_of (xs ++ ys) ≡ effects_of xs ++ effects_of ys
+effects-append [] ys = refl
+effects-append (x ∷ xs) ys = ap (λ (l : List Effect). x.effects ++ l) (effects-append xs ys) ∙ sym (append_assoc x.effects (effects_of xs) (effects_of ys))
 
 -- each entry of a run tells what its actor did
 abbrev pub IsSoundRun : Script → State → List Entry → Type 0

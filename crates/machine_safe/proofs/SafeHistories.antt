@@ -1,5 +1,5 @@
 -- Every legal history of a well-formed script is safe.
-use Rattle.std.proofs.Common.{◌≡◌, ◌+◌, ◌<◌, List, [], ◌∷◌, ◌++◌, arith, sym, subst, ◌∙◌}
+use Rattle.std.proofs.Common.{inl, inr, ◌≡◌, ◌+◌, ◌<◌, List, [], ◌∷◌, ◌++◌, arith, sym, subst, ◌∙◌, ap, ◌≤◌}
 use Rattle.std.proofs.lemmas.List.{append_assoc}
 use Rattle.sym_base.specs.declared.number.ObjNo.{ObjNo}
 use Rattle.script_types.specs.declared.script.Script.{Script}
@@ -11,17 +11,19 @@ use Rattle.machine.specs.Boot.{boot}
 use Rattle.machine.specs.HeldIn.{held_in}
 use Rattle.machine.specs.History.{after_from, IsLegal}
 use Rattle.machine.specs.Holding.{held_at_boot}
-use Rattle.machine.specs.References.{count_of}
-use Rattle.machine.specs.Told.{deaths}
+use Rattle.machine.specs.References.{count_of, pluses}
+use Rattle.machine.specs.Told.{deaths, removals}
 use Rattle.machine_laws.proofs.AtBoot.BootHolders.{held-boot, not_gone-boot}
 use Rattle.machine_laws.proofs.AtBoot.BootRows.{rows-boot}
-use Rattle.move_laws.proofs.Lives.Bits.{gone, gone_le, swept_le}
+use Rattle.move_laws.proofs.Lives.Bits.{gone, gone_le, swept_le, gone_is}
 use Rattle.move_laws.proofs.MoveLaws.Sound.{Sound}
-use Rattle.move_laws.proofs.References.Effects.{fits-same}
+use Rattle.move_laws.proofs.References.Effects.{fits-same, pluses-append}
 use Rattle.machine_safe.specs.CountAfter.{effects_of, count_after, finds_to_open}
 use Rattle.machine_safe.specs.SafeReferences.{IsSafeReferences, DiesOnceALife, HasOneLife, DiesOnlyAtZero, DiesAtZero}
 use Rattle.machine_safe.proofs.FindsToOpen.{no_find_to_open}
-use Rattle.machine_safe.proofs.Runs.{IsSoundRun, legal_runs, run-front, run-rest, run-last, run-counts, run-gone, run-swept, run-closed, run-fits}
+use Rattle.machine_safe.proofs.Runs.{effects-append, IsSoundRun, legal_runs, run-front, run-rest, run-last, run-counts, run-gone, run-swept, run-closed, run-fits}
+use Rattle.entry_log.specs.declared.effect.Effect.{Effect}
+use Rattle.std.proofs.lemmas.Bool.{cases_lt}
 
 -- a run from boot, split at an entry: the run so far, the entry's step, and the rest
 record IsSplit (script : Script) (before : List Entry) (e : Entry) (later : List Entry) : Type 0 where

@@ -1,5 +1,5 @@
 -- The definition of safe messages, tried on histories, changed by hand, that aren't safe.
-use Rattle.std.proofs.Common.{◌≡◌, ℕ, ℤ, ◌+◌, List, [], ◌∷◌, ◌++◌, ◌∙◌, Option, Some, None, Bool, true, false, refl, sym, ap, subst, arith, length}
+use Rattle.std.proofs.Common.{◌≡◌, ℕ, ℤ, ◌+◌, List, [], ◌∷◌, ◌++◌, ◌∙◌, Option, Some, None, Bool, true, false, refl, sym, ap, subst, arith, length, le-ltb, lt-ltb}
 use Rattle.std.specs.Prelude.{pos, nat_lt}
 use Rattle.sym_base.specs.declared.number.MsgNo.{MsgNo}
 use Rattle.sym_base.specs.declared.number.ObjNo.{ObjNo}
@@ -17,9 +17,11 @@ use Rattle.machine.specs.Boot.{boot_of}
 use Rattle.machine_safe.specs.CountAfter.{effects_of, is_by}
 use Rattle.machine_safe.specs.SafeDeaths.{dooms}
 use Rattle.machine_safe.specs.SafeMessages.{IsSafeMessages, notice, code_of_complete}
-use Rattle.machine_safe.specs.Sent.{Accepts, accepts, accepts_by, instruction_in, status_by}
+use Rattle.machine_safe.specs.Sent.{Accepts, accepts, accepts_by, instruction_in, status_by, WasAccepted}
 use Rattle.machine_safe.specs.Served.{ends_in, owner_in, server_in, is_closing_in}
 use Rattle.machine_safe.proofs.ServedHistory.{served_script, number, message, acts, accepted, serves, joins, connects, completes, first_end, connected, sends, closes, stops, opens, links_elsewhere, AtEach, at-each, other_told, number_told}
+use Rattle.machine_safe.proofs.Runs.{effects-append}
+use Rattle.machine_safe.proofs.Deaths.EffectSums.{dooms-append}
 
 -- No message is finished a second time.
 finished_twice : (script : Script) → IsSafeMessages script (opens ++ first_end ∷ completes 5 1 (effect.Finish (message 1) (pos 0) ∷ []) ∷ []) → ⊥

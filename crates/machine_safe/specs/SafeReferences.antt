@@ -1,5 +1,5 @@
 -- Safe references: an object dies exactly where its last reference goes, and nobody opens it afterwards.
-use Rattle.std.specs.Prelude.{◌≡◌, ◌<◌, ◌≤◌, List, [], ◌∷◌, ◌++◌}
+use Rattle.std.specs.Prelude.{◌≡◌, ◌<◌, ◌≤◌, List, [], ◌∷◌, ◌++◌, ◌+◌}
 use Rattle.sym_base.specs.declared.number.ObjNo.{ObjNo}
 use Rattle.script_types.specs.declared.script.Script.{Script}
 use Rattle.entry_log.specs.declared.entry.Entry.{Entry}
@@ -23,7 +23,7 @@ DiesAtZero script history o = (before : List Entry) (e : Entry) (later : List En
 pub record DiesOnceALife (history : List Entry) (o : ObjNo) : Type 0 where
   pub dies : (before : List Entry) (e : Entry) (later : List Entry) → history ≡ before ++ e ∷ later → deaths (effects_of (before ++ e ∷ [])) o ≤ removals (effects_of before) o + 1
   pub swept : (before : List Entry) (e : Entry) (later : List Entry) → history ≡ before ++ e ∷ later → removals (effects_of (before ++ e ∷ [])) o ≤ deaths (effects_of before) o
-  pub closed : (before : List Entry) (e : Entry) (until later : List Entry) → history ≡ before ++ e ∷ until ++ later → 0 < deaths e.effects o → removals (effects_of until) o ≡ 0 → pluses (effects_of until) o ≡ 0
+  pub closed : (before : List Entry) (e : Entry) (until later : List Entry) → history ≡ before ++ e ∷ (until ++ later) → 0 < deaths e.effects o → removals (effects_of until) o ≡ 0 → pluses (effects_of until) o ≡ 0
 
 -- No number is used again, so it has one life: it dies once at most, and after that no entry adds a reference to it.
 pub record HasOneLife (history : List Entry) (o : ObjNo) : Type 0 where

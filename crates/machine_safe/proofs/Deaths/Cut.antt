@@ -72,10 +72,6 @@ cut script history before e later valid legal is =
       rest = dies-run script (next script S e.actor) (behind.0 + 1) later shaped rows_next behind.1.1;
     }
 
-pub effects-append : (xs ys : List Entry) → effects_of (xs ++ ys) ≡ effects_of xs ++ effects_of ys
-effects-append [] ys = refl
-effects-append (x ∷ xs) ys = ap (λ (l : List Effect). x.effects ++ l) (effects-append xs ys) ∙ sym (append_assoc x.effects (effects_of xs) (effects_of ys))
-
 -- at boot each thread is live, and nobody has a lock
 pub live-boot : (script : Script) (t : ObjNo) → IsWellFormed script → row_bit stage_holds (thread_of (boot script) t) ≡ row_bit stage_live (thread_of (boot script) t)
 unfolding boot_of

@@ -15,7 +15,8 @@ use Rattle.machine.specs.Rows.{thread_of}
 use Rattle.machine.specs.WellFormed.{AreRows}
 use Rattle.machine_safe.specs.CountAfter.{effects_of}
 use Rattle.machine_safe.specs.SafeDeaths.{DoomEnds, dooms, gives, takes}
-use Rattle.machine_safe.proofs.Deaths.Cut.{IsCut, cut, effects-append, unlocked-boot}
+use Rattle.machine_safe.proofs.Deaths.Cut.{IsCut, cut, unlocked-boot}
+use Rattle.machine_safe.proofs.Runs.{effects-append}
 use Rattle.machine_safe.proofs.Deaths.EffectSums.{gives-append, takes-append}
 use Rattle.machine_safe.proofs.Deaths.LockMoves.{only-live}
 use Rattle.machine_safe.proofs.Deaths.Rows.{held-one, left-held, live-left, row_bit, stage_live}

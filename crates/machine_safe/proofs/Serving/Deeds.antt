@@ -41,6 +41,8 @@ use Rattle.machine.specs.Task.{instruction}
 use Rattle.machine_safe.specs.Slotted.{looked_in}
 use Rattle.script_types.specs.declared.instruction.Instr.TheVariants as instr
 use Rattle.script_types.specs.declared.script.Script.{Script}
+use Rattle.std.specs.Prelude.{is_some}
+use Rattle.machine.specs.WellFormed.{IsLiveThread}
 
 -- what stands behind the moves of a call that answers
 abbrev pub behind : Bool → ObjNo → List Move

@@ -55,6 +55,8 @@ use Rattle.machine_safe.proofs.Serving.Since.{fresh-on}
 use Rattle.machine_safe.proofs.Serving.Slots.{over, over-less, slotted-keeps}
 use Rattle.machine_laws.proofs.Fitting.Regular.{IsRegular, Kinds, plain}
 use Rattle.machine_laws.proofs.Fitting.Finishing.{tame-refused, tame-reply_to}
+use Rattle.machine_safe.proofs.Runs.{effects-append}
+use Rattle.machine_safe.proofs.Deaths.EffectSums.{dooms-append}
 
 -- a message's number tells it among posts
 fewer-posts : (m : MsgNo) (xs : List Message) (x : Post) → Contains (map post_of (filter (λ z. not (has_number m z)) xs)) x → Contains (map post_of xs) x × (x.number.0 ≢ m.0)

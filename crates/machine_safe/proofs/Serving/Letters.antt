@@ -3,7 +3,7 @@ use Rattle.entry_log.specs.declared.effect.Effect.TheVariants as effect
 use Rattle.entry_log.specs.declared.effect.Holder.TheVariants as holder
 use Rattle.entry_log.specs.declared.effect.Effect.{Effect}
 use Rattle.entry_log.specs.declared.entry.Entry.{Entry}
-use Rattle.machine.specs.Dooms.{end}
+use Rattle.machine.specs.Dooms.{end, doom}
 use Rattle.machine.specs.declared.state.State.{State}
 use Rattle.machine_safe.proofs.Serving.Deeds.{status_of_way}
 use Rattle.machine_safe.proofs.Serving.EffectSums.{accepts-append, ends-append, finishes-append, server_told-append}
@@ -15,16 +15,17 @@ use Rattle.machine_safe.specs.Served.{ends, or_before, server_in, server_told}
 use Rattle.move_laws.proofs.Lists.Contents.{contains_behind, contains_cases, contains_first, none_contained}
 use Rattle.move_laws.proofs.References.Same.{eqb_apart, if_is, if_not}
 use Rattle.script_types.specs.declared.script.Script.{Script}
-use Rattle.std.proofs.Common.{List, None, Option, Some, [], ap, append_assoc, arith, inl, inr, refl, subst, sym, ℕ, ◌++◌, ◌+◌, ◌<◌, ◌∙◌, ◌∷◌, ◌≡◌, ◌≢◌, ◌≤◌, ◌⊎◌}
+use Rattle.std.proofs.Common.{List, None, Option, Some, [], ap, append_assoc, arith, inl, inr, refl, subst, sym, ℕ, ◌++◌, ◌+◌, ◌<◌, ◌∙◌, ◌∷◌, ◌≡◌, ◌≢◌, ◌≤◌, ◌⊎◌, true}
 use Rattle.std.proofs.lemmas.Bool.{cases_eq, eq-eqb}
 use Rattle.std.proofs.lemmas.List.Elements.{Contains-push_cases}
-use Rattle.std.specs.Prelude.{Contains, if◌then◌else◌, ◌==◌, filter, not}
+use Rattle.std.specs.Prelude.{Contains, if◌then◌else◌, ◌==◌, filter, not, is_some}
 use Rattle.sym_base.specs.declared.number.MsgNo.{MsgNo}
 use Rattle.sym_base.specs.declared.number.ObjNo.{ObjNo}
 use Rattle.machine_safe.proofs.Serving.Slots.{over-append, sends-less, sends-more, sends-quiet, sent_of, slots-kept, over}
 use Rattle.machine_safe.specs.Slotted.{SentOver, outstanding_in, sent_told, slots_in}
 use Rattle.std.proofs.lemmas.List.{append-nil}
 use Rattle.machine.specs.EntryWords.{is_send}
+use Rattle.machine_safe.specs.SafeDeaths.{dooms}
 
 -- what is known of an outstanding message
 pub record Known (script : Script) (before : List Entry) (p : Post) : Type 0 where

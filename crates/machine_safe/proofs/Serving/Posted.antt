@@ -33,7 +33,7 @@ use Rattle.state_rows.specs.MessageChanges.{next_number}
 use Rattle.state_rows.specs.ServerRows.{IsServer, closes, server_at, link_of, session_at}
 use Rattle.state_rows.specs.declared.messages.MsgRow.{MsgRow}
 use Rattle.state_rows.specs.declared.servers.ServerRow.{ServerRow}
-use Rattle.std.proofs.Common.{List, Some, [], ap, arith, false, refl, subst, sym, ℕ, ◌++◌, ◌+◌, ◌<◌, ◌∙◌, ◌∷◌, ◌≡◌, Bool, None, Option}
+use Rattle.std.proofs.Common.{List, Some, [], ap, arith, false, refl, subst, sym, ℕ, ◌++◌, ◌+◌, ◌<◌, ◌∙◌, ◌∷◌, ◌≡◌, Bool, None, Option, true}
 use Rattle.std.proofs.lemmas.Bool.{eq-eqb}
 use Rattle.sym_base.specs.declared.kind.Slots.{Slots}
 use Rattle.sym_base.specs.declared.number.MsgNo.{MsgNo}
@@ -47,9 +47,14 @@ use Rattle.state_rows.specs.MessageRows.{is_async}
 use Rattle.state_rows.specs.declared.messages.Way.{Way}
 use Rattle.state_rows.specs.declared.messages.Way.TheVariants.{Async, Disconnect, Sync}
 use Rattle.state_rows.specs.declared.servers.SessionRow.{SessionRow}
-use Rattle.std.specs.Prelude.{if◌then◌else◌}
+use Rattle.std.specs.Prelude.{if◌then◌else◌, is_some}
 use Rattle.machine.specs.EntryWords.{is_send}
 use Rattle.machine_laws.proofs.Fitting.Regular.{IsRegular, Kinds}
+use Rattle.state_rows.specs.declared.thread.ThreadRow.{ThreadRow}
+use Rattle.machine.specs.Rows.{thread_of}
+use Rattle.machine_safe.proofs.Deaths.Rows.{row_bit, stage_live}
+use Rattle.entry_log.specs.declared.effect.Effect.TheVariants.{Doom}
+use Rattle.machine_safe.specs.SafeDeaths.{dooms}
 
 -- what moves do in which one message is accepted
 record IsPosted (S T : State) (t : ObjNo) (slots : Slots) (row : MsgRow) (effects : List Effect) : Type 0 where

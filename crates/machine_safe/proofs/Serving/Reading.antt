@@ -2,7 +2,7 @@
 use Rattle.entry_log.specs.declared.effect.Effect.{Effect}
 use Rattle.entry_log.specs.declared.entry.Entry.{Entry}
 use Rattle.entry_log.specs.declared.step.Step.{Step}
-use Rattle.machine_safe.proofs.Deaths.Cut.{effects-append}
+use Rattle.machine_safe.proofs.Runs.{effects-append}
 use Rattle.machine_safe.proofs.Serving.EffectSums.{handles_lost-append, or-none, or-three, owner_told-append}
 use Rattle.machine_safe.specs.CountAfter.{effects_of}
 use Rattle.machine_safe.specs.Served.{closes_handle, handles_lost, is_doomed, or_before, owner_in, owner_told, closings}

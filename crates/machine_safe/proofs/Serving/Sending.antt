@@ -57,6 +57,7 @@ use Rattle.state_rows.specs.ServerChanges.{detached}
 use Rattle.machine_safe.proofs.Serving.Slots.{over}
 use Rattle.machine.specs.EntryWords.{is_send}
 use Rattle.entry_log.specs.declared.effect.StatusNo.TheVariants as status
+use Rattle.machine.specs.WellFormed.{IsLiveThread}
 
 -- the server that accepts is the session's, and isn't closing
 pub open_is : (S : State) (s o : ObjNo) → open_server S s ≡ Some o → is_closing S.servers o ≡ false
