@@ -40,7 +40,7 @@ use Rattle.machine_laws.proofs.Fitting.Servers.{taken_is}
 use Rattle.machine_laws.proofs.Fitting.Stepping.{FitsDecision, IsStepping, fits-answers, fits-nothing, fits-refuse, unspent}
 use Rattle.move_laws.proofs.Numbers.Registers.{read_small, write_small}
 use Rattle.machine_laws.proofs.Fitting.Regular.{looking, plain}
-use Rattle.machine_laws.proofs.Fitting.Tame.{may_tell, tame, tame-moves}
+use Rattle.machine_laws.proofs.Fitting.Tame.{may_tell, tame, tame-moves, regular-moves, tame-going}
 
 -- a piece, whatever it answers
 fits-piece : {script : Script} {S : State} {t : ObjNo} {row : ThreadRow} {instr : Instr} (told : Step) (named : may_tell plain told ≡ true) (copy : CopyMove) (piece : Piece) → IsStepping script S t row instr → begun row.part ≡ 0 → FitsCopies copy S → FitsDecision looking script t S (copy_piece t told copy piece)
@@ -48,7 +48,7 @@ fits-piece {row = row} told named copy (More done) h early fits = record {
   each = (fits, ((record { unused = λ r is e. absurd (cc); paid = λ e. absurd (cc); unspent = unspent h; at = λ e. absurd (cc); ends = λ r is. let same_row : row ≡ r = let a = h.is in cc in subst (λ (x : ThreadRow). begun x.part ≤ 0) same_row (omega arith) }, tt, refl), (refl, tt)));
   told = omega arith;
   light = omega arith;
-  regular = tame _ named;
+  regular = regular-moves _ named (tame-going _ refl refl refl);
 }
 fits-piece {row = row} told named copy (Whole size) h early fits = fits-answers told named (Copies copy ∷ []) (whole_answer copy size) (tame-moves _ refl refl) (fits, tt) (record { row = row; is = h.is; next = h.next }) (omega arith) (omega arith)
 fits-piece told named copy BadDescriptor h early fits = fits-refuse told named error.BadDescriptor h

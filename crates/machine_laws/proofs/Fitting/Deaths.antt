@@ -79,7 +79,7 @@ after-doom_or_note script S t u row exit rows is live =
 
 -- `kill`, `terminate` and `panic`
 pub fits-exit_step : {script : Script} {S : State} {t : ObjNo} {row : ThreadRow} {instr : Instr} (word : Word) (named : may_tell plain (step.Of word part.Do) ≡ true) (x : ℕ) (exit : Exit) (p : Option Part) → IsStepping script S t row instr → row.part ≡ p → FitsDecision looking script t S (exit_step S t row word x exit p)
-fits-exit_step word named x exit None h at = fits-look_kind kind.Thread word x refl h (ap is_before_use at)
+fits-exit_step word named x exit None h at = fits-look_kind kind.Thread word x refl refl h (ap is_before_use at)
 fits-exit_step {script = script} {S = S} {t = t} {row = row} word named x exit (Some p) h at = on row.uses
   where
     dies : (u : ObjNo) (r : ThreadRow) (was : Option Exit) → thread_of S u ≡ Some r → r.stage ≡ Live → FitsDecision looking script t S (exit_unless_noted S t u word exit was)
@@ -96,7 +96,7 @@ fits-exit_step {script = script} {S = S} {t = t} {row = row} word named x exit (
 
 -- `exittype`
 pub fits-exittype : {script : Script} {S : State} {t : ObjNo} {row : ThreadRow} {instr : Instr} (x : ℕ) (p : Option Part) → IsStepping script S t row instr → row.part ≡ p → FitsDecision looking script t S (exittype_step S t row x p)
-fits-exittype x None h at = fits-look_kind kind.Thread word.Exittype x refl h (ap is_before_use at)
+fits-exittype x None h at = fits-look_kind kind.Thread word.Exittype x refl refl h (ap is_before_use at)
 fits-exittype {script = script} {S = S} {t = t} {row = row} x (Some p) h at = on row.uses
   where
     on : (uses : Option ObjNo) → FitsDecision looking script t S (exittype_on S t uses)
@@ -159,7 +159,7 @@ fits-logon_do {script = script} {S = S} {t = t} {row = row} s u r h going small 
 
 pub fits-logon : {script : Script} {S : State} {t : ObjNo} {row : ThreadRow} (x s : ℕ) (p : Option Part) → IsStepping script S t row (instr.Logon x s) → is_returning row.part ≡ false → row.part ≡ p → FitsDecision looking script t S (logon_step S t row x s p)
 fits-logon {script = script} {S = S} {t = t} {row = row} x s None h going at =
-    if_cases (FitsDecision looking script t S) (is_pending S.requests t s) _ _ (λ _. fits-refuse (step.Of word.Logon part.Look) refl error.InUse h) (λ _. fits-look_kind kind.Thread word.Logon x refl h (ap is_before_use at))
+    if_cases (FitsDecision looking script t S) (is_pending S.requests t s) _ _ (λ _. fits-refuse (step.Of word.Logon part.Look) refl error.InUse h) (λ _. fits-look_kind kind.Thread word.Logon x refl refl h (ap is_before_use at))
 fits-logon {script = script} {S = S} {t = t} {row = row} x s (Some p) h going at = on row.uses
   where
     there : (u : ObjNo) (r : Option ThreadRow) → thread_of S u ≡ r → is_pending S.requests t s ≡ false → FitsDecision looking script t S (logon_row t u s r)

@@ -55,7 +55,7 @@ use Rattle.machine_laws.proofs.Fitting.Stepping.{FitsDecision, IsStepping, fits-
 use Rattle.machine_laws.proofs.Fitting.Uncalled.{is_uncalled, stepping_uncalled}
 use Rattle.machine_laws.proofs.Fitting.Waiters.{waits_nowhere, stepping_nowhere}
 use Rattle.machine_laws.proofs.Fitting.Regular.{Kinds, looking, plain}
-use Rattle.machine_laws.proofs.Fitting.Tame.{may_tell, regular-answer, regular-moves, tame, tame-both, tame-in, tame-moves}
+use Rattle.machine_laws.proofs.Fitting.Tame.{may_tell, regular-answer, regular-moves, tame, tame-both, tame-in, tame-moves, tame-going}
 
 pub none_of : {A : Type 0} (x : Option A) → is_some x ≡ false → x ≡ None
 none_of None e = refl
@@ -101,12 +101,12 @@ own_row : {script : Script} {S : State} {t : ObjNo} {row : ThreadRow} {instr : I
 own_row h = ap is_some h.is
 
 -- the last step comes next, with a move that fits then
-pub fits-later : {k : Kinds} {script : Script} {S : State} {t : ObjNo} {row : ThreadRow} {instr : Instr} (told : Step) (named : may_tell k told ≡ true) (m : Move) → IsStepping script S t row instr → IsCheap m → FitsMove script t m (moved t (move.GoOn t part.Done) S) → FitsDecision k script t S (go_on t told m part.Done)
-fits-later told named m h cheap fits = record {
+pub fits-later : {k : Kinds} {script : Script} {S : State} {t : ObjNo} {row : ThreadRow} {instr : Instr} (told : Step) (named : may_tell k told ≡ true) (m : Move) → k.goes ≡ true → IsStepping script S t row instr → IsCheap m → FitsMove script t m (moved t (move.GoOn t part.Done) S) → FitsDecision k script t S (go_on t told m part.Done)
+fits-later told named m goes h cheap fits = record {
   each = ((record { unused = λ r is e. absurd (cc); paid = λ e. absurd (cc); unspent = unspent h; at = λ e. absurd (cc); ends = λ r is. begun_one r.part }, tt, refl), (fits, tt));
   told = let a = cheap.told in omega arith;
   light = let a = cheap.light in omega arith;
-  regular = regular-moves _ named (tame-both (move.GoOn _ part.Done ∷ []) (m ∷ []) (tame-moves _ refl refl) (tame-in cheap.calm));
+  regular = regular-moves _ named (tame-both (move.GoOn _ part.Done ∷ []) (m ∷ []) (tame-going _ goes refl refl) (tame-in cheap.calm));
 }
 
 -- what is refused to a thread that holds a fast mutex
@@ -127,7 +127,7 @@ fits-flock {script = script} {S = S} {t = t} {row = row} f None h going =
     fits-unless (step.Of word.Flock part.Do) refl _ h (λ none.
     if_cases (FitsDecision looking script t S) (is_free S.nano f) _ _
     (λ free. fits-nano (step.Of word.Flock part.Do) refl (nano.Take t f) (pos 0) h (own_row h) (inside, none_is (holder_of S.nano f) free, may_take h going none))
-    (λ _. fits-later (step.Of word.Flock part.Do) refl (move.Nano (nano.Want t (Some f))) h (cheap_nano _) (there, (inside, none))))
+    (λ _. fits-later (step.Of word.Flock part.Do) refl (move.Nano (nano.Want t (Some f))) refl h (cheap_nano _) (there, (inside, none))))
   where
     inside : f < length S.nano.holders
     inside = mutex_inside script S f h.rows h.names
@@ -145,7 +145,7 @@ pub fits-fswait : {script : Script} {S : State} {t : ObjNo} {row : ThreadRow} {i
 fits-fswait {script = script} {S = S} {t = t} None h going =
     fits-unless (step.Of word.Fswait part.Do) refl _ h (λ none.
     if_cases (FitsDecision looking script t S) (signal_count S.nano t == 0) _ _
-    (λ _. fits-later (step.Of word.Fswait part.Do) refl (move.Wait t waiting.Fast) h (record { told = omega arith; light = refl; calm = tame-moves _ refl refl }) (none, stepping_nowhere h, live-changed S (moved t (move.GoOn t part.Done) S) t (with_part part.Done) (λ r. refl) refl (stepping_live h going), λ r at live. stepping_uncalled h going))
+    (λ _. fits-later (step.Of word.Fswait part.Do) refl (move.Wait t waiting.Fast) refl h (record { told = omega arith; light = refl; calm = tame-moves _ refl refl }) (none, stepping_nowhere h, live-changed S (moved t (move.GoOn t part.Done) S) t (with_part part.Done) (λ r. refl) refl (stepping_live h going), λ r at live. stepping_uncalled h going))
     (λ _. fits-nano (step.Of word.Fswait part.Do) refl (nano.Lower t) (pos 0) h (own_row h) tt))
 fits-fswait (Some p) h going = fits-answer (step.Of word.Fswait part.Done) refl (pos 0) h
 
@@ -181,12 +181,12 @@ of_kind_is S kind (Some x) o e = chosen (is_of_kind kind (object_of S x)) e
     chosen true e = e
     chosen false e = absurd (cc)
 
-pub fits-look_kind : {k : Kinds} {script : Script} {S : State} {t : ObjNo} {row : ThreadRow} {instr : Instr} (kind : Kind) (word : Word) (x : ℕ) → k.uses ≡ true → IsStepping script S t row instr → is_before_use row.part ≡ true → FitsDecision k script t S (look_kind S t row kind word x)
-fits-look_kind {k = k} {script = script} {S = S} {t = t} {row = row} kind word x uses h before = found (of_kind S kind (object_at S t row (slice_index row.registers x))) refl
+pub fits-look_kind : {k : Kinds} {script : Script} {S : State} {t : ObjNo} {row : ThreadRow} {instr : Instr} (kind : Kind) (word : Word) (x : ℕ) → k.uses ≡ true → k.goes ≡ true → IsStepping script S t row instr → is_before_use row.part ≡ true → FitsDecision k script t S (look_kind S t row kind word x)
+fits-look_kind {k = k} {script = script} {S = S} {t = t} {row = row} kind word x uses goes h before = found (of_kind S kind (object_at S t row (slice_index row.registers x))) refl
   where
     found : (named : Option ObjNo) → of_kind S kind (object_at S t row (slice_index row.registers x)) ≡ named → FitsDecision k script t S (look_at t word named)
     found None e = fits-refuse (step.Of word part.Look) refl error.BadHandle h
-    found (Some o) e = fits-use (step.Of word part.Look) refl o part.Do uses h before refl tt (handle_is_alive S _ _ o h.rows.lives (object_of_is _ _ _ o (of_kind_is S kind _ o e)))
+    found (Some o) e = fits-use (step.Of word part.Look) refl o part.Do uses goes h before refl tt (handle_is_alive S _ _ o h.rows.lives (object_of_is _ _ _ o (of_kind_is S kind _ o e)))
 
 -- a move of a call on a thread that is there
 pub record FitsCall (script : Script) (S : State) (t : ObjNo) (m : Move) : Type 0 where
@@ -223,7 +223,7 @@ chosen_some false x y e = (refl, cc)
 
 -- `suspend`, `resume` and `priority`
 pub fits-suspend : {script : Script} {S : State} {t : ObjNo} {row : ThreadRow} {instr : Instr} (x : ℕ) (p : Option Part) → IsStepping script S t row instr → row.part ≡ p → FitsDecision looking script t S (suspend_step S t row x p)
-fits-suspend x None h at = fits-look_kind kind.Thread word.Suspend x refl h (ap is_before_use at)
+fits-suspend x None h at = fits-look_kind kind.Thread word.Suspend x refl refl h (ap is_before_use at)
 fits-suspend {script = script} {S = S} {t = t} {row = row} x (Some p) h at =
     fits-call word.Suspend refl error.Overflow (suspend_move S) row.uses h (λ u r m is e.
     let made = chosen_some (suspend_count S.nano u == 127) (move.Nano (nano.Suspend u)) m e in
@@ -233,14 +233,14 @@ fits-suspend {script = script} {S = S} {t = t} {row = row} x (Some p) h at =
     subst (FitsCall script S t) made.1 (call_nano (nano.Suspend u) h (ap is_some is) (omega arith)))
 
 pub fits-resume : {script : Script} {S : State} {t : ObjNo} {row : ThreadRow} {instr : Instr} (x : ℕ) (p : Option Part) → IsStepping script S t row instr → row.part ≡ p → FitsDecision looking script t S (resume_step S t row x p)
-fits-resume x None h at = fits-look_kind kind.Thread word.Resume x refl h (ap is_before_use at)
+fits-resume x None h at = fits-look_kind kind.Thread word.Resume x refl refl h (ap is_before_use at)
 fits-resume {script = script} {S = S} {t = t} {row = row} x (Some p) h at =
     fits-call word.Resume refl error.General (resume_move S) row.uses h (λ u r m is e.
     let made = chosen_some (suspend_count S.nano u == 0) (move.Nano (nano.Resume u)) m e in
     subst (FitsCall script S t) made.1 (call_nano (nano.Resume u) h (ap is_some is) tt))
 
 pub fits-priority : {script : Script} {S : State} {t : ObjNo} {row : ThreadRow} (x priority : ℕ) (p : Option Part) → IsStepping script S t row (instr.Priority x priority) → row.part ≡ p → FitsDecision looking script t S (priority_step S t row x priority p)
-fits-priority x priority None h at = fits-look_kind kind.Thread word.Priority x refl h (ap is_before_use at)
+fits-priority x priority None h at = fits-look_kind kind.Thread word.Priority x refl refl h (ap is_before_use at)
 fits-priority {script = script} {S = S} {t = t} {row = row} x priority (Some p) h at =
     fits-call word.Priority refl error.General (λ u. Some (move.SetPriority u priority)) row.uses h (λ u r m is e.
     let same : move.SetPriority u priority ≡ m = cc in

@@ -258,7 +258,7 @@ fits-clean {script = script} {S = S} {t = t} {row = row} h nothing paid = record
   each = ((record { row = row; is = h.is; at = h.doomed }, (dying_unheld h, λ r is. let same_row : row ≡ r = (let one = h.is in cc) in subst (IsSpent S.handles t.0) same_row spent, λ r is. let same_row : row ≡ r = (let one = h.is in cc) in subst (λ (x : ThreadRow). process_handles S t x.process ≡ []) same_row has.process, owns), refl), ((burial_inside script S.deferred row.role h.rows.deferred (h.rows.threads.rows t.0 row h.is).declared, refl), tt));
   told = omega arith;
   light = omega arith;
-  regular = record { answers = refl; dooms = λ v. refl; calm = λ _. refl; making = λ e. absurd (cc); sends = λ _. refl; cleans = λ e. absurd (cc); uses = λ u _. refl; known = λ _. record { row = row; is = h.is; doomed = h.doomed; paid = paid; nothing = nothing; moves = refl } };
+  regular = record { answers = refl; dooms = λ v. refl; calm = λ _. refl; making = λ e. absurd (cc); sends = λ _. refl; goes = λ _. refl; cleans = λ e. absurd (cc); uses = λ u _. refl; known = λ _. record { row = row; is = h.is; doomed = h.doomed; paid = paid; nothing = nothing; moves = refl } };
 }
   where
     has : HasNothing S t row

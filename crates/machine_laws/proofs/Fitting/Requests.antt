@@ -97,7 +97,7 @@ fits-cancel {script = script} {S = S} {t = t} d h = found (status_of t (request_
 fits-waits : {script : Script} {S : State} {t : ObjNo} {row : ThreadRow} {instr : Instr} (told : Step) (named : may_tell plain told ≡ true) (waits : Bool) (what : Waiting) (code : ℤ) → IsStepping script S t row instr → is_returning row.part ≡ false → FitsDecision looking script t S (unless_holding S t told (if waits then wait_for t told what else answer t told (move.Requests (TakeSignal t) ∷ []) code))
 fits-waits {script = script} {S = S} {t = t} told named waits what code h going =
     fits-unless told named _ h (λ none. if_cases (FitsDecision looking script t S) waits _ _
-    (λ _. fits-later told named (move.Wait t what) h (record { told = omega arith; light = refl; calm = tame-moves _ refl refl }) (none, stepping_nowhere h, live-changed S (moved t (move.GoOn t part.Done) S) t (with_part part.Done) (λ r. refl) refl (stepping_live h going), λ r at live. stepping_uncalled h going))
+    (λ _. fits-later told named (move.Wait t what) refl h (record { told = omega arith; light = refl; calm = tame-moves _ refl refl }) (none, stepping_nowhere h, live-changed S (moved t (move.GoOn t part.Done) S) t (with_part part.Done) (λ r. refl) refl (stepping_live h going), λ r at live. stepping_uncalled h going))
     (λ _. fits-changed told named (TakeSignal t) code h (has_signals h) tt))
 
 -- `waitany` and `waitfor`

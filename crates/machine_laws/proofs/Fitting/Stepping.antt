@@ -158,12 +158,12 @@ may_go_on {S = S} {t = t} {row = row} part h before sends = (
 )
 
 -- and uses an object from then on
-pub fits-use : {k : Kinds} {script : Script} {S : State} {t : ObjNo} {row : ThreadRow} {instr : Instr} (told : Step) (named : may_tell k told ≡ true) (o : ObjNo) (part : Part) → k.uses ≡ true → IsStepping script S t row instr → is_before_use row.part ≡ true → is_before_use (Some part) ≡ false → MaySend (Some part) S → IsAlive (object_of S o) → FitsDecision k script t S (go_on t told (Gain (Temp t) o) part)
-fits-use {script = script} {S = S} {t = t} {row = row} told named o part uses h before later sends alive = record {
+pub fits-use : {k : Kinds} {script : Script} {S : State} {t : ObjNo} {row : ThreadRow} {instr : Instr} (told : Step) (named : may_tell k told ≡ true) (o : ObjNo) (part : Part) → k.uses ≡ true → k.goes ≡ true → IsStepping script S t row instr → is_before_use row.part ≡ true → is_before_use (Some part) ≡ false → MaySend (Some part) S → IsAlive (object_of S o) → FitsDecision k script t S (go_on t told (Gain (Temp t) o) part)
+fits-use {script = script} {S = S} {t = t} {row = row} told named o part uses goes h before later sends alive = record {
   each = (may_go_on part h before sends, ((free, alive, refl), tt));
   told = omega arith;
   light = omega arith;
-  regular = regular-use t told o part named uses;
+  regular = regular-use t told o part named uses goes;
 }
   where
     free : IsFree (moved t (GoOn t part) S) (Temp t)

@@ -51,7 +51,7 @@ use Rattle.machine_laws.proofs.Fitting.Stepping.{FitsDecision, FitsStep, IsStepp
 use Rattle.machine_laws.proofs.Fitting.Staying.{stay-perform}
 use Rattle.machine_laws.proofs.Fitting.Shared.{fits-look, fits-seek, fits-return, fits-give, fits-give_own, of_process_handle}
 use Rattle.machine_laws.proofs.Fitting.Regular.{IsTame, looking, plain, serving}
-use Rattle.machine_laws.proofs.Fitting.Tame.{may_tell, tame-both, tame-in, tame-moves}
+use Rattle.machine_laws.proofs.Fitting.Tame.{may_tell, tame-both, tame-in, tame-moves, tame-going}
 
 -- what follows the making of an object fits then, leaves the threads, and is tame
 record Begins (script : Script) (t : ObjNo) (start : Option LockMove) (T : State) : Type 0 where
@@ -83,7 +83,7 @@ fits-create {script = script} {S = S} {t = t} {row = row} kind name start x name
     made new room i number free =
         let told = start_told start in
         let owed = start_owed start in
-        fits-handle (Of word.Create part.Do) refl (Make kind name (InProcess row.process i) ∷ start_moves start) x number (tame-both (Make kind name (InProcess row.process i) ∷ []) (start_moves start) (tame-moves _ refl refl) (tame-in (begins i).calm)) h register ((record { room = room; new = new }, free, named, tt), (begins i).each) (begins i).threads (omega arith) (omega arith)
+        fits-handle (Of word.Create part.Do) refl (Make kind name (InProcess row.process i) ∷ start_moves start) x number (tame-both (Make kind name (InProcess row.process i) ∷ []) (start_moves start) (tame-going _ refl refl refl) (tame-in (begins i).calm)) h register ((record { room = room; new = new }, free, named, tt), (begins i).each) (begins i).threads (omega arith) (omega arith)
 
 pub fits-create_mutex : {script : Script} {S : State} {t : ObjNo} {row : ThreadRow} (name : List ℕ) (x : ℕ) → IsStepping script S t row (instr.CreateMutex name x) → FitsDecision looking script t S (create_mutex_do S t row name x)
 fits-create_mutex name x h = fits-create Mutex name None x (λ e. absurd (cc)) h h.registers (λ i. record { each = tt; threads = refl; calm = tame-moves [] refl refl })
@@ -112,24 +112,24 @@ fits-dup_do {script = script} {S = S} {t = t} {row = row} word named y handle (S
     (λ _. given o (use_is_alive S t row o h.rows.lives h.is e))
 
 pub fits-dup : {script : Script} {S : State} {t : ObjNo} {row : ThreadRow} {instr : Instr} (x y : ℕ) (p : Option Part) → IsStepping script S t row instr → y < 8 → row.part ≡ p → FitsDecision looking script t S (dup_step S t row x y p)
-fits-dup x y None h register at = fits-look word.Dup x refl h (ap is_before_use at)
-fits-dup {row = row} x y (Some p) h register at = fits-dup_do word.Dup refl y _ row.uses h refl (λ o alive. fits-give (Of word.Dup part.Do) refl o y h register alive)
+fits-dup x y None h register at = fits-look word.Dup x refl refl h (ap is_before_use at)
+fits-dup {row = row} x y (Some p) h register at = fits-dup_do word.Dup refl y _ row.uses h refl (λ o alive. fits-give (Of word.Dup part.Do) refl o y refl h register alive)
 
 pub fits-duplocal : {script : Script} {S : State} {t : ObjNo} {row : ThreadRow} {instr : Instr} (x y : ℕ) (p : Option Part) → IsStepping script S t row instr → y < 8 → row.part ≡ p → FitsDecision looking script t S (duplocal_step S t row x y p)
-fits-duplocal x y None h register at = fits-look word.Duplocal x refl h (ap is_before_use at)
-fits-duplocal {row = row} x y (Some p) h register at = fits-dup_do word.Duplocal refl y _ row.uses h refl (λ o alive. fits-give_own (Of word.Duplocal part.Do) refl o y h register alive)
+fits-duplocal x y None h register at = fits-look word.Duplocal x refl refl h (ap is_before_use at)
+fits-duplocal {row = row} x y (Some p) h register at = fits-dup_do word.Duplocal refl y _ row.uses h refl (λ o alive. fits-give_own (Of word.Duplocal part.Do) refl o y refl h register alive)
 
 -- `open`
 fits-open_do : {script : Script} {S : State} {t : ObjNo} {row : ThreadRow} {instr : Instr} (x : ℕ) (uses : Option ObjNo) → IsStepping script S t row instr → x < 8 → row.uses ≡ uses → FitsDecision looking script t S (open_do S t row x uses)
 fits-open_do {script = script} {S = S} {t = t} x None h register e = fits-nothing script S t
-fits-open_do {S = S} {t = t} {row = row} x (Some o) h register e = fits-give (Of word.Open part.Do) refl o x h register (use_is_alive S t row o h.rows.lives h.is e)
+fits-open_do {S = S} {t = t} {row = row} x (Some o) h register e = fits-give (Of word.Open part.Do) refl o x refl h register (use_is_alive S t row o h.rows.lives h.is e)
 
 pub fits-open : {script : Script} {S : State} {t : ObjNo} {row : ThreadRow} {instr : Instr} (kind : Kind) (name : List ℕ) (x : ℕ) (p : Option Part) → IsStepping script S t row instr → x < 8 → row.part ≡ p → FitsDecision looking script t S (open_step S t row kind name x p)
-fits-open kind name x None h register at = fits-unless (Of word.Open part.Seek) refl _ h (λ _. fits-seek word.Open kind name h (ap is_before_use at))
+fits-open kind name x None h register at = fits-unless (Of word.Open part.Seek) refl _ h (λ _. fits-seek word.Open kind name refl h (ap is_before_use at))
 fits-open {row = row} kind name x (Some p) h register at = fits-open_do x row.uses h register refl
 
 pub fits-open_return : {script : Script} {S : State} {t : ObjNo} {row : ThreadRow} {instr : Instr} → IsStepping script S t row instr → is_before_use row.part ≡ true → FitsDecision looking script t S (open_return S t row)
-fits-open_return h before = fits-return word.Open part.Do refl h before refl tt
+fits-open_return h before = fits-return word.Open part.Do refl refl h before refl tt
 
 -- the handle of an object stands in the table of the thread or of its process
 handle_by : {script : Script} {S : State} {t : ObjNo} {row : ThreadRow} {instr : Instr} (local : Bool) (i : ℕ) (o : ObjNo) → IsStepping script S t row instr → (slot_at (table_of S (if local then t else row.process)) i).object ≡ Some o → IsHandle S t (if local then InThread t i else InProcess row.process i) o
