@@ -43,7 +43,7 @@ use Rattle.move_laws.proofs.RowLaws.Tables.{slot_inside, table_inside}
 use Rattle.machine_laws.proofs.Fitting.Living.{handle_is_alive}
 use Rattle.machine_laws.proofs.Fitting.Posting.{MayPost, accepted_fits, of_wake, open_session, posted, stay-post, woken_fits}
 use Rattle.machine_laws.proofs.Fitting.Staying.{AllStay, Stays, stays-lose, stays-servers}
-use Rattle.machine_laws.proofs.Fitting.Regular.{IsTame, serving}
+use Rattle.machine_laws.proofs.Fitting.Regular.{IsTame, calling}
 use Rattle.machine_laws.proofs.Fitting.Tame.{tame-at}
 
 -- the handle of an object stands in a table, and its holder holds it as long as tables and threads are there
@@ -68,7 +68,7 @@ pub record Closes (script : Script) (S : State) (t : ObjNo) (ms : List Move) : T
   pub each : EachFits script t ms S
   pub told : length (tell t ms S) ≤ 4
   pub light : total most_owed ms ≤ 3
-  pub calm : IsTame serving 0 ms
+  pub calm : IsTame calling 0 ms
 
 -- a thread that may close it: it waits for nothing, isn't between a find and its return, and isn't buried
 pub record MayClose (script : Script) (S : State) (t : ObjNo) : Type 0 where
@@ -129,14 +129,14 @@ number_closed script S t s rows was =
 module _ (script : Script) (S : State) (t : ObjNo) (h : Holder) (o : ObjNo) (may : MayClose script S t) (handle : IsHandle S t h o) where
   -- of an object that is neither an open session nor a server the handle goes
   loses-only : Closes script S t (Lose h o ∷ [])
-  loses-only = record { each = ((part_going may, handle.holds S refl (λ p. refl), handle.own), tt); told = let few = tell_few t (Lose h o ∷ []) S in omega arith; light = omega arith; calm = tame-at serving _ refl refl }
+  loses-only = record { each = ((part_going may, handle.holds S refl (λ p. refl), handle.own), tt); told = let few = tell_few t (Lose h o ∷ []) S in omega arith; light = omega arith; calm = tame-at calling _ refl refl }
 
   closes-server : is_some (server_at S.servers o) ≡ true → Closes script S t (Servers (Close o) ∷ Lose h o ∷ [])
   closes-server is = record {
     each = (is, ((part_going may, handle.holds (moved t (Servers (Close o)) S) refl (λ p. refl), handle.own), tt));
     told = let few = tell_few t (Servers (Close o) ∷ Lose h o ∷ []) S in omega arith;
     light = omega arith;
-    calm = tame-at serving _ refl refl;
+    calm = tame-at calling _ refl refl;
   }
 
   -- an open session is disconnected
@@ -186,7 +186,7 @@ module _ (script : Script) (S : State) (t : ObjNo) (h : Holder) (o : ObjNo) (may
             (told_then t (Messages message) (Lose h o ∷ []) closing 3 1 (omega arith)
             (told_then t (Lose h o) [] T 1 0 (closed_one (dies T o) h o (not_last v T refl refl)) (omega arith)));
         light = omega arith;
-        calm = tame-at serving _ refl refl;
+        calm = tame-at calling _ refl refl;
       })
       (λ u row is receiving.
       let W = moved t (Wake u) T in
@@ -206,7 +206,7 @@ module _ (script : Script) (S : State) (t : ObjNo) (h : Holder) (o : ObjNo) (may
             (told_then t (Wake u) (Lose h o ∷ []) T 0 1 (omega arith)
             (told_then t (Lose h o) [] W 1 0 (closed_one (dies W o) h o (not_last v W refl refl)) (omega arith))));
         light = omega arith;
-        calm = tame-at serving _ refl refl;
+        calm = tame-at calling _ refl refl;
       })
     where
       message : MessageMove

@@ -51,7 +51,7 @@ use Rattle.machine_laws.proofs.Fitting.Stepping.{FitsDecision, FitsStep, by_kind
 use Rattle.machine_laws.proofs.Fitting.Uncalled.{logged_unsent, waiter_uncalled}
 use Rattle.machine_laws.proofs.Fitting.Waiters.{struck_nowhere, waits_nowhere}
 use Rattle.machine_laws.proofs.Fitting.Working.{IsGiven, OfFirst, empty_left, empty_right, first-all, first-both, fits-work, no-items, none-owned}
-use Rattle.machine_laws.proofs.Fitting.Regular.{freeing, kind_given, plain, serving}
+use Rattle.machine_laws.proofs.Fitting.Regular.{freeing, kind_given, plain, serving, calling}
 use Rattle.machine_laws.proofs.Fitting.Tame.{regular-moves, tame, tame-at, tame-both, tame-moves}
 
 -- a doomed thread that acts: it waits for nothing, and isn't between a find and its return
@@ -96,7 +96,7 @@ loses holder o h holds own = ((ap (λ (r : Option ThreadRow). is_returning (part
 gives-use : {script : Script} {S : State} {t : ObjNo} {row : ThreadRow} (o : ObjNo) → IsDying script S t row → row.uses ≡ Some o → FitsDecision plain script t S (give_up S t row (Use o))
 gives-use {t = t} {row = row} o h uses = record { each = loses (Temp t) o h (record { row = row; is = h.is; uses = uses }) refl; told = omega arith; light = omega arith; regular = tame _ refl }
 
-gives-handle : {script : Script} {S : State} {t : ObjNo} {row : ThreadRow} (holder : Holder) (o : ObjNo) → IsDying script S t row → IsHandle S t holder o → FitsStep serving script t S (give_up S t row (Handle holder o))
+gives-handle : {script : Script} {S : State} {t : ObjNo} {row : ThreadRow} (holder : Holder) (o : ObjNo) → IsDying script S t row → IsHandle S t holder o → FitsStep calling script t S (give_up S t row (Handle holder o))
 gives-handle {script = script} {S = S} {t = t} {row = row} holder o h handle =
     let done = closes script S t holder o (record { rows = h.rows; row = row; is = h.is; waits = h.waits; held = ap stage_holds h.doomed; going = h.going }) handle in
     record { each = done.each; told = done.told; light = let few = done.light in omega arith; regular = regular-moves _ refl done.calm }
@@ -172,11 +172,11 @@ module _ (script : Script) (S : State) (t : ObjNo) (row : ThreadRow) (h : IsDyin
       logon_self u s = rw (eq-eqb u.0 u.0 refl, eq-eqb s s refl) refl
 
   all-own : AllByRecursion Gives (held_handles (InThread t) 0 (table_of S t))
-  all-own = all-handles (InThread t) 0 (table_of S t) (λ j o is. numbered (InThread t) j o (gives-handle (InThread t j) o h (handle_of_thread S t j o (ap is_some h.is) is), refl))
+  all-own = all-handles (InThread t) 0 (table_of S t) (λ j o is. numbered (InThread t) j o (gives-handle (InThread t j) o h (handle_of_thread S t j o (ap is_some h.is) is), (refl, record { row = row; is = h.is; at = h.doomed })))
 
   all-process : AllByRecursion Gives (process_handles S t row.process)
   all-process = if_cases (AllByRecursion Gives) (total (left_of row.process) S.threads == left_of row.process (thread_of S t)) _ _
-      (λ _. all-handles (InProcess row.process) 0 (table_of S row.process) (λ j o is. numbered (InProcess row.process) j o (gives-handle (InProcess row.process j) o h (handle_of_process S row.process j o (h.rows.threads.processes t.0 row h.is) is), refl))) (λ _. tt)
+      (λ _. all-handles (InProcess row.process) 0 (table_of S row.process) (λ j o is. numbered (InProcess row.process) j o (gives-handle (InProcess row.process j) o h (handle_of_process S row.process j o (h.rows.threads.processes t.0 row h.is) is), (refl, record { row = row; is = h.is; at = h.doomed })))) (λ _. tt)
 
   -- so is the first of it; the work of closing servers goes in its order
   first-given : OfFirst Gives (holdings S t row)

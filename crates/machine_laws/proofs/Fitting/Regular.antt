@@ -6,7 +6,7 @@ use Rattle.script_types.specs.declared.instruction.Instr.{Instr}
 use Rattle.script_types.specs.declared.instruction.Instr.TheVariants as instr
 use Rattle.script_types.specs.declared.script.Script.{Script}
 use Rattle.entry_log.specs.declared.effect.Holder.{Holder}
-use Rattle.entry_log.specs.declared.effect.Holder.TheVariants.{Temp}
+use Rattle.entry_log.specs.declared.effect.Holder.TheVariants.{Temp, InProcess, InThread}
 use Rattle.entry_log.specs.declared.step.Part.{Part}
 use Rattle.state_rows.specs.declared.thread.Stage.TheVariants.{Doomed}
 use Rattle.state_rows.specs.declared.thread.ThreadRow.{ThreadRow}
@@ -26,7 +26,7 @@ use Rattle.machine.specs.References.{same, total}
 use Rattle.machine.specs.Rows.{owed_of, thread_of}
 use Rattle.machine.specs.EntryWords.{is_clean, is_send, makes_server}
 
--- what a kind of decision may do: serve, change who has a mutex, come to use an object, and go on with its instruction
+-- what a kind of decision may do: serve, change who has a mutex, come to use an object, and go on with its instruction or give a handle up
 pub record Kinds : Type 0 where
   pub serves : Bool
   pub locks : Bool
@@ -54,7 +54,7 @@ locking = record { serves = false; locks = true; uses = true; goes = true }
 
 -- the kind of an instruction's step, by the part that is next, and of what is given up
 abbrev pub kind_of : Instr → Option Part → Kinds
-kind_of (instr.Close x) p = serving
+kind_of (instr.Close x) p = calling
 kind_of (instr.Server name x) p = calling
 kind_of (instr.Connect name slots x) (Some p) = calling
 kind_of (instr.Send x function y args) (Some p) = calling
@@ -67,6 +67,7 @@ kind_of _ p = looking
 abbrev pub kind_given : Holding → Kinds
 kind_given (holding.Mutex o) = freeing
 kind_given (holding.Use o) = plain
+kind_given (holding.Handle h o) = calling
 kind_given (holding.Logon u s) = plain
 kind_given _ = serving
 
@@ -117,13 +118,15 @@ use_bit u (Make kind name h) = gained_bit u h
 use_bit u (Gain h o) = gained_bit u h
 use_bit u _ = 0
 
--- 1 for one by which a thread finds an object, goes on, keeps a number, or comes to hold an object
+-- 1 for one by which a thread finds an object, goes on, keeps a number, or comes to hold an object, and where a handle goes
 abbrev pub going_bit : Move → ℕ
 going_bit (Make kind name h) = 1
 going_bit (Gain h o) = 1
 going_bit (Find u o) = 1
 going_bit (GoOn u part) = 1
 going_bit (Keep u number) = 1
+going_bit (Lose (InProcess p i) o) = 1
+going_bit (Lose (InThread u i) o) = 1
 going_bit _ = 0
 
 -- 1 where something is answered

@@ -50,7 +50,7 @@ use Rattle.machine_laws.proofs.Fitting.KernelThreads.{fits-unless}
 use Rattle.machine_laws.proofs.Fitting.Stepping.{FitsDecision, FitsStep, IsStepping, answers_step, at_instruction, by_kinds, fits-handle, fits-nothing, fits-refuse}
 use Rattle.machine_laws.proofs.Fitting.Staying.{stay-perform}
 use Rattle.machine_laws.proofs.Fitting.Shared.{fits-look, fits-seek, fits-return, fits-give, fits-give_own, of_process_handle}
-use Rattle.machine_laws.proofs.Fitting.Regular.{IsTame, looking, plain, serving}
+use Rattle.machine_laws.proofs.Fitting.Regular.{IsTame, looking, plain, calling}
 use Rattle.machine_laws.proofs.Fitting.Tame.{may_tell, tame-both, tame-in, tame-moves, tame-going}
 
 -- what follows the making of an object fits then, leaves the threads, and is tame
@@ -140,13 +140,13 @@ pub handle_named : {script : Script} {S : State} {t : ObjNo} {row : ThreadRow} {
 handle_named handle o h is = handle_by (is_local handle) (index_of handle) o h (object_of_is _ _ _ o is)
 
 -- `close`
-pub fits-close : {script : Script} {S : State} {t : ObjNo} {row : ThreadRow} {instr : Instr} (x : ℕ) → IsStepping script S t row instr → is_returning row.part ≡ false → FitsStep serving script t S (close_do S t row x)
+pub fits-close : {script : Script} {S : State} {t : ObjNo} {row : ThreadRow} {instr : Instr} (x : ℕ) → IsStepping script S t row instr → is_returning row.part ≡ false → FitsStep calling script t S (close_do S t row x)
 fits-close {script = script} {S = S} {t = t} {row = row} x h going = closed (slice_index row.registers x) (object_at S t row (slice_index row.registers x)) refl
   where
     may_close : MayClose script S t
     may_close = record { rows = h.rows; row = row; is = h.is; waits = h.waits; held = ap stage_holds (h.live going); going = going }
 
-    closed : (handle : ℕ) (named : Option ObjNo) → object_at S t row handle ≡ named → FitsStep serving script t S (close_handle S t row handle named)
+    closed : (handle : ℕ) (named : Option ObjNo) → object_at S t row handle ≡ named → FitsStep calling script t S (close_handle S t row handle named)
     closed handle None e = by_kinds script S t _ (fits-refuse (Of word.Close part.Do) refl BadHandle h)
     closed handle (Some o) e =
         let holder = holder_of t row handle in

@@ -33,6 +33,8 @@ use Rattle.machine_laws.proofs.Fitting.Tame.{regular-moves, tame-at}
 use Rattle.machine.specs.EntryWords.{is_handle}
 use Rattle.move_laws.proofs.Lists.Contents.{contains_behind, contains_cases, contains_filter, contains_first, none_contained}
 use Rattle.move_laws.proofs.RowLaws.Rising.{found_one}
+use Rattle.machine.specs.Fits.{IsAtStage}
+use Rattle.state_rows.specs.declared.thread.Stage.TheVariants.{Doomed}
 
 -- of nothing both parts are nothing
 pub empty_left : {A : Type 0} (xs ys : List A) → xs ++ ys ≡ [] → xs ≡ []
@@ -68,11 +70,11 @@ pub record IsGiving (script : Script) (S : State) (t : ObjNo) (row : ThreadRow) 
   pub is : thread_of S t ≡ Some row
   pub going : is_returning row.part ≡ false
 
--- what is given up of closing servers: a message to one of the thread's own, a session of one; and a handle is one
+-- what is given up of closing servers: a message to one of the thread's own, a session of one; and a handle is one, which a doomed thread gives up
 abbrev pub IsGiven : State → ObjNo → Holding → Type 0
 IsGiven S t (OfMessage m) = (message : Message) → message_of S.messages m ≡ Some message → (owner_of S.servers message.row.server ≡ Some t) × (is_closing S.servers message.row.server ≡ true)
 IsGiven S t (OfLink s o) = is_closing S.servers o ≡ true
-IsGiven S t (Handle h o) = is_handle h ≡ true
+IsGiven S t (Handle h o) = (is_handle h ≡ true) × IsAtStage S t Doomed
 IsGiven S t _ = Unit {0}
 
 -- a message among those of a server is one to it

@@ -54,7 +54,7 @@ module _ (script : Script) (S : State) (t : ObjNo) (at : Option Instr) (P : Deci
   deed-give : (row : ThreadRow) (what : Holding) → IsGiven S t what → IsRegular (kind_given what) script S t (give_up S t row what) → P (give_up S t row what)
   deed-give row (OfMessage m) given regular = deed-finish m (message_of S.messages m) given refl
   deed-give row (OfServer o) given regular = each.stops _ (record { server = o; moves = refl; makes = refl; step = refl; unsent = refl })
-  deed-give row (Handle h o) given regular = deed-handle S t at P h o false (give_up S t row (Handle h o)) given refl refl refl refl refl each (sym (append-nil (close_moves S t h o)))
+  deed-give row (Handle h o) given regular = deed-handle S t at P h o false (give_up S t row (Handle h o)) given.0 refl refl refl refl refl each (sym (append-nil (close_moves S t h o)))
   deed-give row (OfLink s o) given regular = each.keeps _ (record {
     changing = refl;
     still = refl;
