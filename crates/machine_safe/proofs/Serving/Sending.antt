@@ -59,33 +59,33 @@ use Rattle.machine.specs.EntryWords.{is_send}
 use Rattle.entry_log.specs.declared.effect.StatusNo.TheVariants as status
 
 -- the server that accepts is the session's, and isn't closing
-pub open_is : (S : State) (s o : ObjNo) → open_server S s ≡ Some o → is_closing S.servers o ≡ false
-open_is S s o e = by (server_of S.servers s) e
+pub open_is : (S : State) (s o : ObjNo) → open_server S s ≡ Some o → is_closing S.serving.servers o ≡ false
+open_is S s o e = by (server_of S.serving.servers s) e
   where
-    by : (v : Option ObjNo) → (if accepts S.servers v then v else None) ≡ Some o → is_closing S.servers o ≡ false
+    by : (v : Option ObjNo) → (if accepts S.serving.servers v then v else None) ≡ Some o → is_closing S.serving.servers o ≡ false
     by None e = absurd (cc)
-    by (Some v) e = where_open (is_closing S.servers v) refl e
+    by (Some v) e = where_open (is_closing S.serving.servers v) refl e
       where
-        where_open : (b : Bool) → is_closing S.servers v ≡ b → (if not b then Some v else None) ≡ Some o → is_closing S.servers o ≡ false
+        where_open : (b : Bool) → is_closing S.serving.servers v ≡ b → (if not b then Some v else None) ≡ Some o → is_closing S.serving.servers o ≡ false
         where_open true is e = absurd (cc)
-        where_open false is e = let own : v ≡ o = cc in subst (λ (x : ObjNo). is_closing S.servers x ≡ false) own is
+        where_open false is e = let own : v ≡ o = cc in subst (λ (x : ObjNo). is_closing S.serving.servers x ≡ false) own is
 
 -- a receiver that wakes
-pub woken-quiet : (S : State) (o : ObjNo) (rest : List Move) → total serving_bit rest ≡ 0 → total serving_bit (wake_receiver S o (owner_of S.servers o) ++ rest) ≡ 0
+pub woken-quiet : (S : State) (o : ObjNo) (rest : List Move) → total serving_bit rest ≡ 0 → total serving_bit (wake_receiver S o (owner_of S.serving.servers o) ++ rest) ≡ 0
 woken-quiet S o rest none =
-    let wakes = (tame-wake {k = plain} S o (owner_of S.servers o)).calm refl in
-    let both = total-append serving_bit (wake_receiver S o (owner_of S.servers o)) rest in omega arith
+    let wakes = (tame-wake {k = plain} S o (owner_of S.serving.servers o)).calm refl in
+    let both = total-append serving_bit (wake_receiver S o (owner_of S.serving.servers o)) rest in omega arith
 
 pub behind-quiet : (answers : Bool) (t : ObjNo) → total serving_bit (behind answers t) ≡ 0
 behind-quiet true t = refl
 behind-quiet false t = refl
 
 -- a sending whose moves are these: some before, that of the message, and a receiver that wakes
-pub sending : {S : State} {t : ObjNo} {at : Option Instr} (d : Decision) (front rest : List Move) (s o : ObjNo) (function : ℤ) (args : List Arg) (way : Way) → d.moves ≡ front ++ (Messages (Accept (slots_of S s) (new_row s o t function args way)) ∷ (wake_receiver S o (owner_of S.servers o) ++ rest)) → tell t front S ≡ [] → total serving_bit front ≡ 0
+pub sending : {S : State} {t : ObjNo} {at : Option Instr} (d : Decision) (front rest : List Move) (s o : ObjNo) (function : ℤ) (args : List Arg) (way : Way) → d.moves ≡ front ++ (Messages (Accept (slots_of S s) (new_row s o t function args way)) ∷ (wake_receiver S o (owner_of S.serving.servers o) ++ rest)) → tell t front S ≡ [] → total serving_bit front ≡ 0
     → total changing_bit rest ≡ 0 → total message_bit rest ≡ 0 → open_server S s ≡ Some o → status_by d.step at ≡ status_of_way way → accepts_by d.step (status_of_way way) ≡ true → ClosesOthers S d → ((v : ObjNo) → total (detach_bit v) rest ≡ 0) → is_send d.step ≡ is_async way → (is_send d.step ≡ true → IsAnswered S t at s (slots_of S s) d) → IsSending S t at d
 sending {S = S} {t = t} d front rest s o function args way moves silent quiet changing still opens told named closed detached asks sends =
-    let wakes = wake_receiver S o (owner_of S.servers o) in
-    let calm = (tame-wake {k = plain} S o (owner_of S.servers o)).calm refl in
+    let wakes = wake_receiver S o (owner_of S.serving.servers o) in
+    let calm = (tame-wake {k = plain} S o (owner_of S.serving.servers o)).calm refl in
     record {
       front = front;
       back = wakes ++ rest;
@@ -123,7 +123,7 @@ deed-send_to S t at P s x function y args None over here e each = each.keeps _ (
   detaches = λ v some. absurd (omega arith);
   send = λ sends. record { session = s; over = over; by = inl (e, refl) };
 })
-deed-send_to S t at P s x function y args (Some o) over here e each = if_cases P (is_full S.messages s (slots_of S s)) _ _
+deed-send_to S t at P s x function y args (Some o) over here e each = if_cases P (is_full S.serving.messages s (slots_of S s)) _ _
     (λ full. each.keeps _ (record {
       changing = refl;
       still = refl;
@@ -140,7 +140,7 @@ deed-send S t at P row x function y args p is here each = by row.uses refl
   where
     by : (uses : Option ObjNo) → row.uses ≡ uses → P (send_do S t (pos function) y (args_of args) uses)
     by None e = calm each _ refl refl
-    by (Some s) e = if_cases P (is_pending S.requests t y) _ _
+    by (Some s) e = if_cases P (is_pending S.synchronization.requests t y) _ _
         (λ _. calm each _ refl refl)
         (λ _. deed-send_to S t at P s x function y args (open_server S s) (record { here = ap at_send here; row = row; is = is; uses = e }) here refl each)
 
@@ -148,11 +148,11 @@ deed-send S t at P row x function y args p is here each = by row.uses refl
 deed-call_to : (S : State) (t : ObjNo) (at : Option Instr) (P : Decision → Type 0) (s : ObjNo) (function : ℤ) (args : List Arg) (server : Option ObjNo) → status_by (Of word.Call part.Do) at ≡ Some status.Sync → open_server S s ≡ server → OfEach S t at P → P (call_to S t s function args server)
 deed-call_to S t at P s function args None told e each = calm each _ refl refl
 deed-call_to S t at P s function args (Some o) told e each = each.sends _ (sending (call_to S t s function args (Some o)) (GoOn t part.Done ∷ Wait t waiting.Reply ∷ []) [] s o function args Sync
-    (ap (λ (ms : List Move). GoOn t part.Done ∷ Wait t waiting.Reply ∷ Messages (Accept (slots_of S s) (new_row s o t function args Sync)) ∷ ms) (sym (append-nil (wake_receiver S o (owner_of S.servers o))))) refl refl refl refl e told refl (λ closes. absurd (cc)) (λ v. refl) refl (λ sends. absurd (cc)))
+    (ap (λ (ms : List Move). GoOn t part.Done ∷ Wait t waiting.Reply ∷ Messages (Accept (slots_of S s) (new_row s o t function args Sync)) ∷ ms) (sym (append-nil (wake_receiver S o (owner_of S.serving.servers o))))) refl refl refl refl e told refl (λ closes. absurd (cc)) (λ v. refl) refl (λ sends. absurd (cc)))
 
 deed-call_do : (S : State) (t : ObjNo) (at : Option Instr) (P : Decision → Type 0) (function : ℤ) (args : List Arg) (uses : Option ObjNo) → status_by (Of word.Call part.Do) at ≡ Some status.Sync → OfEach S t at P → P (call_do S t function args uses)
 deed-call_do S t at P function args None told each = calm each _ refl refl
-deed-call_do S t at P function args (Some s) told each = if_cases P (is_some (held_by S.nano t)) _ _
+deed-call_do S t at P function args (Some s) told each = if_cases P (is_some (held_by S.synchronization.nano t)) _ _
     (λ _. calm each _ refl refl)
     (λ _. deed-call_to S t at P s function args (open_server S s) told refl each)
 
@@ -181,13 +181,13 @@ deed-connect_to : (S : State) (t : ObjNo) (at : Option Instr) (P : Decision → 
 deed-connect_to S t at P slots o None here each = calm each _ refl refl
 deed-connect_to S t at P slots o (Some server) here each = if_cases P server.is_closing _ _
     (λ _. calm each _ refl refl)
-    (λ _. if_cases P (length S.objects == OBJECTS) _ _
+    (λ _. if_cases P (length S.references.objects == OBJECTS) _ _
     (λ _. calm each _ refl refl)
     (λ _. deed-made_session S t at P o slots (thread_handle S t) here each))
 
 deed-connect_make : (S : State) (t : ObjNo) (at : Option Instr) (P : Decision → Type 0) (slots : Slots) (uses : Option ObjNo) → slots_of_connect at ≡ Some slots → OfEach S t at P → P (connect_make S t slots uses)
 deed-connect_make S t at P slots None here each = calm each _ refl refl
-deed-connect_make S t at P slots (Some o) here each = deed-connect_to S t at P slots o (server_at S.servers o) here each
+deed-connect_make S t at P slots (Some o) here each = deed-connect_to S t at P slots o (server_at S.serving.servers o) here each
 
 -- one that fails loses a handle, which is no close
 unchanged-handle : (t : ObjNo) (row : ThreadRow) (handle : ℕ) (s : ObjNo) → changing_bit (Lose (holder_of t row handle) s) ≡ 0
@@ -208,17 +208,17 @@ deed-failed S t at P row s code p other unsent each = each.keeps _ (record {
 deed-connecting : (S : State) (t : ObjNo) (at : Option Instr) (P : Decision → Type 0) (row : ThreadRow) (s : ObjNo) (server : Option ObjNo) → status_by (Of word.Connect part.Send) at ≡ Some status.Sync → open_server S s ≡ server → OfEach S t at P → P (send_connect S t row s server)
 deed-connecting S t at P row s None told e each = deed-failed S t at P row s _ part.Send refl refl each
 deed-connecting S t at P row s (Some o) told e each = each.sends _ (sending (send_connect S t row s (Some o)) (GoOn t part.Done ∷ Servers (SetOpen s true) ∷ Wait t waiting.Reply ∷ []) [] s o connects no_args Sync
-    (ap (λ (ms : List Move). GoOn t part.Done ∷ Servers (SetOpen s true) ∷ Wait t waiting.Reply ∷ Messages (Accept (slots_of S s) (new_row s o t connects no_args Sync)) ∷ ms) (sym (append-nil (wake_receiver S o (owner_of S.servers o))))) refl refl refl refl e told refl (λ closes. absurd (cc)) (λ v. refl) refl (λ sends. absurd (cc)))
+    (ap (λ (ms : List Move). GoOn t part.Done ∷ Servers (SetOpen s true) ∷ Wait t waiting.Reply ∷ Messages (Accept (slots_of S s) (new_row s o t connects no_args Sync)) ∷ ms) (sym (append-nil (wake_receiver S o (owner_of S.serving.servers o))))) refl refl refl refl e told refl (λ closes. absurd (cc)) (λ v. refl) refl (λ sends. absurd (cc)))
 
 deed-connect_send : (S : State) (t : ObjNo) (at : Option Instr) (P : Decision → Type 0) (row : ThreadRow) (session : Option ObjNo) → status_by (Of word.Connect part.Send) at ≡ Some status.Sync → OfEach S t at P → P (connect_send S t row session)
 deed-connect_send S t at P row None told each = calm each _ refl refl
-deed-connect_send S t at P row (Some s) told each = if_cases P (is_some (held_by S.nano t)) _ _
+deed-connect_send S t at P row (Some s) told each = if_cases P (is_some (held_by S.synchronization.nano t)) _ _
     (λ _. calm each _ refl refl)
     (λ _. deed-connecting S t at P row s (open_server S s) told refl each)
 
 deed-connect_done : (S : State) (t : ObjNo) (at : Option Instr) (P : Decision → Type 0) (row : ThreadRow) (x : ℕ) (session : Option ObjNo) → OfEach S t at P → P (connect_done S t row x session)
 deed-connect_done S t at P row x None each = calm each _ refl refl
-deed-connect_done S t at P row x (Some s) each = if_cases P (int_eq (reply_of S.requests t) (pos 0)) _ _
+deed-connect_done S t at P row x (Some s) each = if_cases P (int_eq (reply_of S.synchronization.requests t) (pos 0)) _ _
     (λ _. calm each _ refl refl)
     (λ _. deed-failed S t at P row s _ part.Done refl refl each)
 
