@@ -25,31 +25,31 @@ use Rattle.kcore.specs.BootTable.{no_locks, no_servers}
 use Rattle.machine.specs.Boot.{boot, boot_of, born, memory_of, memory_of_row, nano_of}
 use Rattle.state_rows.specs.HandleSlots.{fresh_slot}
 
-objects_at_boot : (script : Script) → (boot script).objects ≡ map (λ (b : Born). Some b.object) (born script)
+objects_at_boot : (script : Script) → (boot script).references.objects ≡ map (λ (b : Born). Some b.object) (born script)
 unfolding boot_of
 objects_at_boot script = refl
 
-handles_at_boot : (script : Script) → (boot script).handles ≡ map (λ (_ : Born). replicate HANDLES fresh_slot) (born script)
+handles_at_boot : (script : Script) → (boot script).references.handles ≡ map (λ (_ : Born). replicate HANDLES fresh_slot) (born script)
 unfolding boot_of
 handles_at_boot script = refl
 
-pub threads_at_boot : (script : Script) → (boot script).threads ≡ map (λ (b : Born). b.thread) (born script)
+pub threads_at_boot : (script : Script) → (boot script).references.threads ≡ map (λ (b : Born). b.thread) (born script)
 unfolding boot_of
 threads_at_boot script = refl
 
-owed_at_boot : (script : Script) → (boot script).owed ≡ map (λ (_ : Born). []) (born script)
+owed_at_boot : (script : Script) → (boot script).references.owed ≡ map (λ (_ : Born). []) (born script)
 unfolding boot_of
 owed_at_boot script = refl
 
-nano_at_boot : (script : Script) → (boot script).nano ≡ nano_of script.fast (born script)
+nano_at_boot : (script : Script) → (boot script).synchronization.nano ≡ nano_of script.fast (born script)
 unfolding boot_of
 nano_at_boot script = refl
 
-deferred_at_boot : (script : Script) → (boot script).deferred ≡ calls_of script
+deferred_at_boot : (script : Script) → (boot script).synchronization.deferred ≡ calls_of script
 unfolding boot_of
 deferred_at_boot script = refl
 
-requests_at_boot : (script : Script) → (boot script).requests ≡ new_rows (length (born script)) DEVICES
+requests_at_boot : (script : Script) → (boot script).synchronization.requests ≡ new_rows (length (born script)) DEVICES
 unfolding boot_of
 requests_at_boot script = refl
 
@@ -57,15 +57,15 @@ pub no_locks_are : (r : LockRows) → r ≡ no_locks → r ≡ lock_rows OBJECTS
 unfolding no_locks
 no_locks_are r e = e
 
-locks_at_boot : (script : Script) → (boot script).locks ≡ lock_rows OBJECTS
+locks_at_boot : (script : Script) → (boot script).synchronization.locks ≡ lock_rows OBJECTS
 unfolding boot_of
 locks_at_boot script = refl
 
-mutexes_at_boot : (script : Script) → (boot script).mutexes ≡ map (λ (_ : Born). []) (born script)
+mutexes_at_boot : (script : Script) → (boot script).synchronization.mutexes ≡ map (λ (_ : Born). []) (born script)
 unfolding boot_of
 mutexes_at_boot script = refl
 
-logons_at_boot : (script : Script) → (boot script).logons ≡ map (λ (_ : Born). []) (born script)
+logons_at_boot : (script : Script) → (boot script).synchronization.logons ≡ map (λ (_ : Born). []) (born script)
 unfolding boot_of
 logons_at_boot script = refl
 
@@ -73,15 +73,15 @@ pub no_servers_are : (r : ServerRows) → r ≡ no_servers → r ≡ no_rows OBJ
 unfolding no_servers
 no_servers_are r e = e
 
-servers_at_boot : (script : Script) → (boot script).servers ≡ no_rows OBJECTS
+servers_at_boot : (script : Script) → (boot script).serving.servers ≡ no_rows OBJECTS
 unfolding boot_of
 servers_at_boot script = refl
 
-owned_at_boot : (script : Script) → (boot script).owned ≡ map (λ (_ : Born). []) (born script)
+owned_at_boot : (script : Script) → (boot script).serving.owned ≡ map (λ (_ : Born). []) (born script)
 unfolding boot_of
 owned_at_boot script = refl
 
-messages_at_boot : (script : Script) → (boot script).messages ≡ no_messages OBJECTS script.pool
+messages_at_boot : (script : Script) → (boot script).serving.messages ≡ no_messages OBJECTS script.pool
 unfolding boot_of
 messages_at_boot script = refl
 
@@ -89,22 +89,22 @@ memories_each : (bs : List Born) → map memory_of bs ≡ map memory_of_row (map
 memories_each [] = refl
 memories_each (b ∷ bs) = ap (λ (l : List (Option (List ℕ))). memory_of b ∷ l) (memories_each bs)
 
-memories_at_boot : (script : Script) → (boot script).memories ≡ map memory_of_row (boot script).threads
+memories_at_boot : (script : Script) → (boot script).services.memories ≡ map memory_of_row (boot script).references.threads
 unfolding boot_of
 memories_at_boot script = memories_each (born script)
 
 -- a state is its fields
-all_fields : (S : State) (objects : List (Option ObjectRow)) (handles : List (List HandleSlot)) (threads : List (Option ThreadRow)) (owed : List (List Owed)) (nano : NanoRows) (deferred : DeferredRows) (requests : RequestRows) (locks : LockRows) (mutexes : List (List ObjNo)) (logons : List (List (ObjNo × ℕ))) (servers : ServerRows) (owned : List (List ObjNo)) (messages : MessageRows) (memories : List (Option (List ℕ))) → objects ≡ S.objects → handles ≡ S.handles → threads ≡ S.threads → owed ≡ S.owed → nano ≡ S.nano → deferred ≡ S.deferred → requests ≡ S.requests → locks ≡ S.locks → mutexes ≡ S.mutexes → logons ≡ S.logons → servers ≡ S.servers → owned ≡ S.owned → messages ≡ S.messages → memories ≡ S.memories → record { objects = objects; handles = handles; threads = threads; owed = owed; nano = nano; deferred = deferred; requests = requests; locks = locks; mutexes = mutexes; logons = logons; servers = servers; owned = owned; messages = messages; memories = memories } ≡ S
+all_fields : (S : State) (objects : List (Option ObjectRow)) (handles : List (List HandleSlot)) (threads : List (Option ThreadRow)) (owed : List (List Owed)) (nano : NanoRows) (deferred : DeferredRows) (requests : RequestRows) (locks : LockRows) (mutexes : List (List ObjNo)) (logons : List (List (ObjNo × ℕ))) (servers : ServerRows) (owned : List (List ObjNo)) (messages : MessageRows) (memories : List (Option (List ℕ))) → objects ≡ S.references.objects → handles ≡ S.references.handles → threads ≡ S.references.threads → owed ≡ S.references.owed → nano ≡ S.synchronization.nano → deferred ≡ S.synchronization.deferred → requests ≡ S.synchronization.requests → locks ≡ S.synchronization.locks → mutexes ≡ S.synchronization.mutexes → logons ≡ S.synchronization.logons → servers ≡ S.serving.servers → owned ≡ S.serving.owned → messages ≡ S.serving.messages → memories ≡ S.services.memories → record { references = record { objects = objects; handles = handles; threads = threads; owed = owed }; synchronization = record { nano = nano; deferred = deferred; requests = requests; locks = locks; mutexes = mutexes; logons = logons }; serving = record { servers = servers; owned = owned; messages = messages }; services = record { memories = memories } } ≡ S
 all_fields S objects handles threads owed nano deferred requests locks mutexes logons servers owned messages memories o h t w n d r l m g v q x b = rw (o, h, t, w, n, d, r, l, m, g, v, q, x, b) refl
 
 -- the tables that are made for what stands at boot
-pub fields_at_boot : (script : Script) (all : List Born) (state : State) (objects : List (Option ObjectRow)) (handles : List (List HandleSlot)) (threads : List (Option ThreadRow)) (owed : List (List Owed)) (nano : NanoRows) (deferred : DeferredRows) (requests : RequestRows) (locks : LockRows) (mutexes : List (List ObjNo)) (logons : List (List (ObjNo × ℕ))) (servers : ServerRows) (owned : List (List ObjNo)) (messages : MessageRows) (memories : List (Option (List ℕ))) → all ≡ born script → state ≡ boot script → objects ≡ take (length all) (map (λ (b : Born). Some b.object) all) → handles ≡ map (λ (_ : Born). replicate HANDLES fresh_slot) all → threads ≡ state.threads → owed ≡ map (λ (_ : Born). []) all → nano ≡ nano_of script.fast all → deferred ≡ calls_of script → requests ≡ new_rows (length all) DEVICES → locks ≡ lock_rows OBJECTS → mutexes ≡ map (λ (_ : Born). []) all → logons ≡ map (λ (_ : Born). []) all → servers ≡ no_rows OBJECTS → owned ≡ map (λ (_ : Born). []) all → messages ≡ no_messages OBJECTS script.pool → memories ≡ map memory_of_row state.threads → record { objects = objects; handles = handles; threads = threads; owed = owed; nano = nano; deferred = deferred; requests = requests; locks = locks; mutexes = mutexes; logons = logons; servers = servers; owned = owned; messages = messages; memories = memories } ≡ boot script
+pub fields_at_boot : (script : Script) (all : List Born) (state : State) (objects : List (Option ObjectRow)) (handles : List (List HandleSlot)) (threads : List (Option ThreadRow)) (owed : List (List Owed)) (nano : NanoRows) (deferred : DeferredRows) (requests : RequestRows) (locks : LockRows) (mutexes : List (List ObjNo)) (logons : List (List (ObjNo × ℕ))) (servers : ServerRows) (owned : List (List ObjNo)) (messages : MessageRows) (memories : List (Option (List ℕ))) → all ≡ born script → state ≡ boot script → objects ≡ take (length all) (map (λ (b : Born). Some b.object) all) → handles ≡ map (λ (_ : Born). replicate HANDLES fresh_slot) all → threads ≡ state.references.threads → owed ≡ map (λ (_ : Born). []) all → nano ≡ nano_of script.fast all → deferred ≡ calls_of script → requests ≡ new_rows (length all) DEVICES → locks ≡ lock_rows OBJECTS → mutexes ≡ map (λ (_ : Born). []) all → logons ≡ map (λ (_ : Born). []) all → servers ≡ no_rows OBJECTS → owned ≡ map (λ (_ : Born). []) all → messages ≡ no_messages OBJECTS script.pool → memories ≡ map memory_of_row state.references.threads → record { references = record { objects = objects; handles = handles; threads = threads; owed = owed }; synchronization = record { nano = nano; deferred = deferred; requests = requests; locks = locks; mutexes = mutexes; logons = logons }; serving = record { servers = servers; owned = owned; messages = messages }; services = record { memories = memories } } ≡ boot script
 fields_at_boot script all state objects handles threads owed nano deferred requests locks mutexes logons servers owned messages memories born_are state_is o h t w n d r l m g v q x b =
     let long : length (map (λ (b : Born). Some b.object) all) ≤ length all = let e = length-map all (λ (b : Born). Some b.object) in omega arith in
-    let rows : objects ≡ (boot script).objects = o ∙ (take_all (length all) (map (λ (b : Born). Some b.object) all) long ∙ (ap (map (λ (b : Born). Some b.object)) born_are ∙ sym (objects_at_boot script))) in
+    let rows : objects ≡ (boot script).references.objects = o ∙ (take_all (length all) (map (λ (b : Born). Some b.object) all) long ∙ (ap (map (λ (b : Born). Some b.object)) born_are ∙ sym (objects_at_boot script))) in
     all_fields (boot script) objects handles threads owed nano deferred requests locks mutexes logons servers owned messages memories rows
     (h ∙ (ap (map (λ (_ : Born). replicate HANDLES fresh_slot)) born_are ∙ sym (handles_at_boot script)))
-    (t ∙ ap (λ (S : State). S.threads) state_is)
+    (t ∙ ap (λ (S : State). S.references.threads) state_is)
     (w ∙ (ap (map (λ (_ : Born). [])) born_are ∙ sym (owed_at_boot script)))
     (n ∙ (ap (nano_of script.fast) born_are ∙ sym (nano_at_boot script)))
     (d ∙ sym (deferred_at_boot script))
@@ -115,4 +115,4 @@ fields_at_boot script all state objects handles threads owed nano deferred reque
     (v ∙ sym (servers_at_boot script))
     (q ∙ (ap (map (λ (_ : Born). [])) born_are ∙ sym (owned_at_boot script)))
     (x ∙ sym (messages_at_boot script))
-    (b ∙ (ap (λ (S : State). map memory_of_row S.threads) state_is ∙ sym (memories_at_boot script)))
+    (b ∙ (ap (λ (S : State). map memory_of_row S.references.threads) state_is ∙ sym (memories_at_boot script)))

@@ -77,11 +77,11 @@ agrees_at_boot script valid all rows counts e h o = elim (cases_lt o.0 (length a
   | inr le ↦ h.none o.0 le ∙ sym (boot_count_inside script (formed_is_shaped script valid) o (subst (λ (bs : List Born). length bs ≤ o.0) e le))
 ]
 
-boot_row : (script : Script) (k : ℕ) (b : Born) → slice_get (born script) k ≡ Some b → slice_get (boot script).objects k ≡ Some (Some b.object)
+boot_row : (script : Script) (k : ℕ) (b : Born) → slice_get (born script) k ≡ Some b → slice_get (boot script).references.objects k ≡ Some (Some b.object)
 unfolding boot_of
 boot_row script k b at = slice_get-map (λ (x : Born). Some x.object) (born script) k ∙ ap (option_map (λ (x : Born). Some x.object)) at
 
-boot_rows_are : (script : Script) → (boot script).objects ≡ map (λ (b : Born). Some b.object) (born script)
+boot_rows_are : (script : Script) → (boot script).references.objects ≡ map (λ (b : Born). Some b.object) (born script)
 unfolding boot_of
 boot_rows_are script = refl
 
@@ -92,14 +92,14 @@ alive_of (x ∷ xs) (suc k) row at dead = alive_of xs k row at dead
 
 alive_at_boot : (script : Script) (k : ℕ) → k < length (born script) → IsAlive (object_of (boot script) (record { 0 = k }))
 alive_at_boot script k lt =
-    let long : length (boot script).objects ≡ length (born script) = ap length (boot_rows_are script) ∙ length-map (born script) (λ b. Some b.object) in
+    let long : length (boot script).references.objects ≡ length (born script) = ap length (boot_rows_are script) ∙ length-map (born script) (λ b. Some b.object) in
     let r = boot_rows script k (omega arith) in
-    alive_of (boot script).objects k r.0 r.1 r.2
+    alive_of (boot script).references.objects k r.0 r.1 r.2
 
 pub new_at_boot : (script : Script) → IsWellFormed script → AreNew (born script) (boot script)
 new_at_boot script valid = record {
   named = λ k b at. boot_no_session script k b.object (boot_row script k b at);
   alive = λ k b at. (boot_kinds script k b.object (boot_row script k b at)).0;
-  names = λ k b at. subst (λ (l : List (Option ObjectRow)). is_taken b.object.kind b.object.name (take k l) ≡ false) (boot_rows_are script) (and_right (not (is_session b.object.kind)) (list_any (has_name b.object.kind b.object.name) (take k (boot script).objects)) (boot_names_new script valid k b.object (boot_row script k b at)));
+  names = λ k b at. subst (λ (l : List (Option ObjectRow)). is_taken b.object.kind b.object.name (take k l) ≡ false) (boot_rows_are script) (and_right (not (is_session b.object.kind)) (list_any (has_name b.object.kind b.object.name) (take k (boot script).references.objects)) (boot_names_new script valid k b.object (boot_row script k b at)));
   counted = λ k lt. counted-boot script valid (record { 0 = k }) (alive_at_boot script k lt);
 }

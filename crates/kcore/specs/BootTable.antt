@@ -65,10 +65,10 @@ pub record AreOver {W N : Type 0} (script : Script) (all : List Born) (o : Objec
 -- the tables of what stands at boot, over its objects: nothing is owed, held, queued or waited for
 pub record AreTables {W N : Type 0} (script : Script) (all : List Born) (S : State) (made : ObjectsView) (tables : Tables W N) : Type 0 where
   pub objects : tables.objects ≡ made
-  pub procs : tables.procs ≡ record { threads = S.threads; processes = map memory_of_row S.threads }
+  pub procs : tables.procs ≡ record { threads = S.references.threads; processes = map memory_of_row S.references.threads }
   pub handles : slots_of tables.handles ≡ map (λ _. replicate HANDLES fresh_slot) all
   pub locks : tables.locks.rows ≡ no_locks
-  pub ranks : AreRanked tables.locks.priorities S.threads
+  pub ranks : AreRanked tables.locks.priorities S.references.threads
   pub ranked : length tables.locks.priorities ≡ BOOT_OBJECTS
   pub owed : tables.cleanup.duties ≡ map (λ _. []) all
   pub uses : tables.cleanup.temporary ≡ replicate (length all) None

@@ -173,13 +173,13 @@ fn empty_tables(alloc: Global, all: &[Born]) -> Result<(Items<Handles>, Cleanup)
 
 /// The threads' rows with the processes' memories, and the locks, which nobody owns or waits for.
 fn thread_tables(alloc: Global, state: &State) -> Result<(Procs, KernSync), NoMemory>
-    requires { length state.now.threads ≤ BOOT_OBJECTS }
-    ensures procs { IfOk result (λ made. made.0 ≡ record { threads = state.now.threads; processes = map memory_of_row state.now.threads }) }
+    requires { length state.now.references.threads ≤ BOOT_OBJECTS }
+    ensures procs { IfOk result (λ made. made.0 ≡ record { threads = state.now.references.threads; processes = map memory_of_row state.now.references.threads }) }
     ensures rows { IfOk result (λ made. made.1.rows ≡ no_locks) }
-    ensures ranks { IfOk result (λ made. AreRanked made.1.priorities state.now.threads) }
+    ensures ranks { IfOk result (λ made. AreRanked made.1.priorities state.now.references.threads) }
     ensures sized { IfOk result (λ made. length made.1.priorities ≡ BOOT_OBJECTS) }
 {
-    let procs = procs_of(alloc, state.threads.as_slice())?;
+    let procs = procs_of(alloc, state.references.threads.as_slice())?;
     let locks = locks_of(alloc, state)?;
     Ok((procs, locks))
 }
@@ -242,7 +242,7 @@ fn tables_of<W: RefWords + Drop>(
 ) -> Result<Tables<W>, NoMemory>
     requires shaped { IsShaped script.now }
     requires few { length all.now < 65536 }
-    requires known { length state.now.threads ≤ BOOT_OBJECTS }
+    requires known { length state.now.references.threads ≤ BOOT_OBJECTS }
     ensures { IfOk result (λ tables. AreTables script.now all.now state.now objects tables) }
 {
     let threads = thread_tables(alloc, state)?;

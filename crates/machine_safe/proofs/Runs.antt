@@ -62,7 +62,7 @@ run-counts script S (e ∷ es) o h =
     let m = minuses-append e.effects (effects_of es) o in omega arith
 
 -- an object is gone where it was or died
-pub run-gone : (script : Script) (S : State) (es : List Entry) (o : ObjNo) → IsSoundRun script S es → gone (after_from script S es).objects o ≡ gone S.objects o + deaths (effects_of es) o
+pub run-gone : (script : Script) (S : State) (es : List Entry) (o : ObjNo) → IsSoundRun script S es → gone (after_from script S es).references.objects o ≡ gone S.references.objects o + deaths (effects_of es) o
 run-gone script S [] o h = omega arith
 run-gone script S (e ∷ es) o h =
     let a = h.0.lives.deads o in
@@ -70,7 +70,7 @@ run-gone script S (e ∷ es) o h =
     let d = deaths-append e.effects (effects_of es) o in omega arith
 
 -- and swept where it was or its row went
-pub run-swept : (script : Script) (S : State) (es : List Entry) (o : ObjNo) → IsSoundRun script S es → swept (after_from script S es).objects o ≡ swept S.objects o + removals (effects_of es) o
+pub run-swept : (script : Script) (S : State) (es : List Entry) (o : ObjNo) → IsSoundRun script S es → swept (after_from script S es).references.objects o ≡ swept S.references.objects o + removals (effects_of es) o
 run-swept script S [] o h = omega arith
 run-swept script S (e ∷ es) o h =
     let a = h.0.lives.sweeps o in
@@ -78,12 +78,12 @@ run-swept script S (e ∷ es) o h =
     let d = removals-append e.effects (effects_of es) o in omega arith
 
 -- nobody opens an object that is gone
-pub run-closed : (script : Script) (S : State) (es : List Entry) (o : ObjNo) → IsSoundRun script S es → gone S.objects o ≡ 1 → pluses (effects_of es) o ≡ 0
+pub run-closed : (script : Script) (S : State) (es : List Entry) (o : ObjNo) → IsSoundRun script S es → gone S.references.objects o ≡ 1 → pluses (effects_of es) o ≡ 0
 run-closed script S [] o h dead = refl
 run-closed script S (e ∷ es) o h dead =
     let T = next script S e.actor in
     let moved = h.0.lives.deads o in
-    let le = gone_le T.objects o in
+    let le = gone_le T.references.objects o in
     let first : pluses e.effects o ≡ 0 = zero_or (pluses e.effects o) (λ some. let a = h.0.lives.opens o some in absurd (omega arith)) in
     let r = run-closed script T es o h.1 (omega arith) in
     let p = pluses-append e.effects (effects_of es) o in omega arith

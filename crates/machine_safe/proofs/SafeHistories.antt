@@ -48,10 +48,10 @@ pub count_after-is : (script : Script) (first later : List Entry) (o : ObjNo) �
 count_after-is script first later o run = let a = run-counts script (boot script) first o run in omega arith
 
 -- an object that died in an entry is gone after it
-dead_is_gone : (script : Script) (before : List Entry) (e : Entry) (later : List Entry) (o : ObjNo) → IsSplit script before e later → 0 < deaths e.effects o → gone (after_from script (boot script) (before ++ e ∷ [])).objects o ≡ 1
+dead_is_gone : (script : Script) (before : List Entry) (e : Entry) (later : List Entry) (o : ObjNo) → IsSplit script before e later → 0 < deaths e.effects o → gone (after_from script (boot script) (before ++ e ∷ [])).references.objects o ≡ 1
 dead_is_gone script before e later o s dead =
     let moved = s.step.lives.deads o in
-    let le = gone_le (after_from script (boot script) (before ++ e ∷ [])).objects o in omega arith
+    let le = gone_le (after_from script (boot script) (before ++ e ∷ [])).references.objects o in omega arith
 
 dies_only_at_zero : (script : Script) (history : List Entry) → IsSoundRun script (boot script) history → (o : ObjNo) → DiesOnlyAtZero script history o
 dies_only_at_zero script history run o before e later is dead =
@@ -73,7 +73,7 @@ has_one_life : (script : Script) (history : List Entry) → IsSoundRun script (b
 has_one_life script history run o = record {
   dies =
       let a = run-gone script (boot script) history o run in
-      let b = gone_le (after_from script (boot script) history).objects o in omega arith;
+      let b = gone_le (after_from script (boot script) history).references.objects o in omega arith;
   closed = λ before e later is dead.
       let s = split script history before e later run is in
       run-closed script (after_from script (boot script) (before ++ e ∷ [])) later o s.rest (dead_is_gone script before e later o s dead);

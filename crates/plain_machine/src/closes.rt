@@ -14,11 +14,11 @@ use sym_base::{NoMemory, ObjNo, ThreadNo};
 
 /// An object that dies as a reference is given up is dead from then on.
 fn close_object(state: &mut State, dying: bool, object: ObjNo)
-    ensures { state.new ≡ record state.old { objects = objects_closed dying object state.old.objects } }
+    ensures { state.new ≡ record state.old { references = record state.old.references { objects = objects_closed dying object state.old.references.objects } } }
 {
     if dying {
         let dead = dead_row(object_of(state, object));
-        set_row(&mut state.objects, object, dead);
+        set_row(&mut state.references.objects, object, dead);
     }
 }
 
@@ -26,7 +26,7 @@ fn close_object(state: &mut State, dying: bool, object: ObjNo)
 fn process_link(state: &State, object: ObjNo) -> Option<ObjNo>
     ensures { result ≡ link_of_row (thread_of state.now object) }
 {
-    thread_in(&state.threads, object)?.link
+    thread_in(&state.references.threads, object)?.link
 }
 
 /// An object's own reference: a thread's link to its process, or a session's to its server.
@@ -35,7 +35,7 @@ fn link_of(state: &State, object: ObjNo) -> Option<ObjNo>
 {
     match process_link(state, object) {
         Some(process) => Some(process),
-        None => server_of(&state.servers, object),
+        None => server_of(&state.serving.servers, object),
     }
 }
 
@@ -52,13 +52,13 @@ pub fn lose(
     let dying = dies(state, object);
     let link = link_of(state, object);
     lose_slot(state, holder);
-    threads_lose(&mut state.threads, holder);
-    servers_lose(alloc, &mut state.servers, holder)?;
-    owned_lose(alloc, &mut state.owned, holder, object)?;
+    threads_lose(&mut state.references.threads, holder);
+    servers_lose(alloc, &mut state.serving.servers, holder)?;
+    owned_lose(alloc, &mut state.serving.owned, holder, object)?;
     close_object(state, dying, object);
-    threads_closed(&mut state.threads, dying, object);
-    servers_closed(alloc, &mut state.servers, dying, object)?;
-    owe_close(&mut state.owed, thread, dying, object, link)
+    threads_closed(&mut state.references.threads, dying, object);
+    servers_closed(alloc, &mut state.serving.servers, dying, object)?;
+    owe_close(&mut state.references.owed, thread, dying, object, link)
 }
 
 /// The thread pays a close that it owes.
@@ -74,19 +74,19 @@ fn pay_close(
     let dying = dies(state, object);
     let link = link_of(state, object);
     close_object(state, dying, object);
-    threads_closed(&mut state.threads, dying, object);
-    servers_closed(alloc, &mut state.servers, dying, object)?;
-    drop_first_owed(&mut state.owed, thread);
-    owe_close(&mut state.owed, thread, dying, object, link)
+    threads_closed(&mut state.references.threads, dying, object);
+    servers_closed(alloc, &mut state.serving.servers, dying, object)?;
+    drop_first_owed(&mut state.references.owed, thread);
+    owe_close(&mut state.references.owed, thread, dying, object, link)
 }
 
 /// The thread removes the row of a dead object.
 fn pay_sweep(state: &mut State, thread: ThreadNo, object: ObjNo)
     ensures { state.new ≡ moved thread (Move.Pay (Owed.Sweep object)) state.old }
 {
-    set_row(&mut state.objects, object, None);
-    set_row(&mut state.threads, object, None);
-    drop_first_owed(&mut state.owed, thread);
+    set_row(&mut state.references.objects, object, None);
+    set_row(&mut state.references.threads, object, None);
+    drop_first_owed(&mut state.references.owed, thread);
 }
 
 /// The thread pays the oldest of what it owes.

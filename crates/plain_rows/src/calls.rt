@@ -12,20 +12,28 @@ use sym_base::{Items, NoMemory};
 
 /// The immediate deferred function call joins the immediate queue, unless it is queued.
 fn add_immediate(state: &mut State, item: u8) -> Result<(), NoMemory>
-    ensures { OnOk result (state.new ≡ record state.old { deferred = after_add_idfc state.old.deferred item }) }
+    ensures { OnOk result (state.new ≡ record state.old { synchronization = record state.old.synchronization { deferred = after_add_idfc state.old.synchronization.deferred item } }) }
 {
-    if !is_queued(&state.deferred, Item::Idfc(item)) {
-        state.deferred.immediate.push(Item::Idfc(item))?;
+    if !is_queued(&state.synchronization.deferred, Item::Idfc(item)) {
+        state
+            .synchronization
+            .deferred
+            .immediate
+            .push(Item::Idfc(item))?;
     }
     Ok(())
 }
 
 /// The deferred function call joins the immediate queue, to be moved, unless it is queued.
 fn add_to_move(state: &mut State, dfc: u8) -> Result<(), NoMemory>
-    ensures { OnOk result (state.new ≡ record state.old { deferred = after_add_from_irq state.old.deferred dfc }) }
+    ensures { OnOk result (state.new ≡ record state.old { synchronization = record state.old.synchronization { deferred = after_add_from_irq state.old.synchronization.deferred dfc } }) }
 {
-    if !is_queued(&state.deferred, Item::Move(dfc)) {
-        state.deferred.immediate.push(Item::Move(dfc))?;
+    if !is_queued(&state.synchronization.deferred, Item::Move(dfc)) {
+        state
+            .synchronization
+            .deferred
+            .immediate
+            .push(Item::Move(dfc))?;
     }
     Ok(())
 }
@@ -44,20 +52,20 @@ fn push_call(queues: &mut Items<Items<u8>>, queue: u8, dfc: u8) -> Result<(), No
 
 /// The deferred function call joins its own queue, unless it is queued.
 fn add(state: &mut State, dfc: u8) -> Result<(), NoMemory>
-    ensures { OnOk result (state.new ≡ record state.old { deferred = after_add state.old.deferred dfc }) }
+    ensures { OnOk result (state.new ≡ record state.old { synchronization = record state.old.synchronization { deferred = after_add state.old.synchronization.deferred dfc } }) }
 {
-    if !is_queued(&state.deferred, Item::Move(dfc)) {
+    if !is_queued(&state.synchronization.deferred, Item::Move(dfc)) {
         let queue = state.queue_of(dfc);
-        push_call(&mut state.deferred.queues, queue, dfc)?;
+        push_call(&mut state.synchronization.deferred.queues, queue, dfc)?;
     }
     Ok(())
 }
 
 /// The oldest item leaves the immediate queue.
 fn take_immediate(state: &mut State)
-    ensures { state.new ≡ record state.old { deferred = after_next_idfc state.old.deferred } }
+    ensures { state.new ≡ record state.old { synchronization = record state.old.synchronization { deferred = after_next_idfc state.old.synchronization.deferred } } }
 {
-    let _ = state.deferred.immediate.take_first();
+    let _ = state.synchronization.deferred.immediate.take_first();
 }
 
 /// The calls without one.
@@ -103,10 +111,15 @@ fn leave_queue(
 
 /// The call that comes next leaves its queue.
 fn take(alloc: Global, state: &mut State, queue: u8) -> Result<(), NoMemory>
-    ensures { OnOk result (state.new ≡ record state.old { deferred = after_next_dfc state.old.deferred queue }) }
+    ensures { OnOk result (state.new ≡ record state.old { synchronization = record state.old.synchronization { deferred = after_next_dfc state.old.synchronization.deferred queue } }) }
 {
     let dfc = state.next_call(queue);
-    leave_queue(alloc, &mut state.deferred.queues, queue, dfc)
+    leave_queue(
+        alloc,
+        &mut state.synchronization.deferred.queues,
+        queue,
+        dfc,
+    )
 }
 
 /// One move in the rows of deferred function calls.
@@ -115,7 +128,7 @@ pub fn make_deferred_move(
     state: &mut State,
     change: DeferredMove,
 ) -> Result<(), NoMemory>
-    ensures { OnOk result (state.new ≡ record state.old { deferred = deferred_moved change state.old.deferred }) }
+    ensures { OnOk result (state.new ≡ record state.old { synchronization = record state.old.synchronization { deferred = deferred_moved change state.old.synchronization.deferred } }) }
 {
     match change {
         DeferredMove::AddImmediate(item) => add_immediate(state, item),

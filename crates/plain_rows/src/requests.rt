@@ -35,37 +35,55 @@ fn set_status(statuses: &mut Items<[i32; STATUSES]>, thread: ThreadNo, status: u
 
 /// The status is pending, and the device has the request, where it had none.
 fn begin(state: &mut State, device: u8, thread: ThreadNo, status: u8)
-    ensures { state.new ≡ record state.old { requests = after_begin (after_set_pending state.old.requests thread status) device thread status } }
+    ensures { state.new ≡ record state.old { synchronization = record state.old.synchronization { requests = after_begin (after_set_pending state.old.synchronization.requests thread status) device thread status } } }
 {
-    set_status(&mut state.requests.statuses, thread, status, PENDING);
+    set_status(
+        &mut state.synchronization.requests.statuses,
+        thread,
+        status,
+        PENDING,
+    );
     if state.request_at(device).is_none() {
         let request = Some(Request { thread, status });
-        set_row(&mut state.requests.devices, ObjNo(device as u16), request);
+        set_row(
+            &mut state.synchronization.requests.devices,
+            ObjNo(device as u16),
+            request,
+        );
     }
 }
 
 /// The status has the code, and its thread one signal more.
 fn signal(state: &mut State, thread: ThreadNo, status: u8, code: i32)
-    ensures { state.new ≡ record state.old { requests = after_signal state.old.requests thread status code } }
+    ensures { state.new ≡ record state.old { synchronization = record state.old.synchronization { requests = after_signal state.old.synchronization.requests thread status code } } }
 {
     let count = one_more(state.request_signals(thread));
-    set_status(&mut state.requests.statuses, thread, status, code);
-    set_count(&mut state.requests.signals, thread, count);
+    set_status(
+        &mut state.synchronization.requests.statuses,
+        thread,
+        status,
+        code,
+    );
+    set_count(&mut state.synchronization.requests.signals, thread, count);
 }
 
 /// The device has no request.
 fn finish(state: &mut State, device: u8)
-    ensures { state.new ≡ record state.old { requests = after_finish state.old.requests device } }
+    ensures { state.new ≡ record state.old { synchronization = record state.old.synchronization { requests = after_finish state.old.synchronization.requests device } } }
 {
-    set_row(&mut state.requests.devices, ObjNo(device as u16), None);
+    set_row(
+        &mut state.synchronization.requests.devices,
+        ObjNo(device as u16),
+        None,
+    );
 }
 
 /// The thread has one signal less.
 fn take_signal(state: &mut State, thread: ThreadNo)
-    ensures { state.new ≡ record state.old { requests = after_take state.old.requests thread } }
+    ensures { state.new ≡ record state.old { synchronization = record state.old.synchronization { requests = after_take state.old.synchronization.requests thread } } }
 {
     let count = state.request_signals(thread).saturating_sub(1);
-    set_count(&mut state.requests.signals, thread, count);
+    set_count(&mut state.synchronization.requests.signals, thread, count);
 }
 
 /// A request, unless it is the thread's.
@@ -95,9 +113,13 @@ fn dropped(
 
 /// No device has a request of the thread any more.
 fn drop_all(alloc: Global, state: &mut State, thread: ThreadNo) -> Result<(), NoMemory>
-    ensures { OnOk result (state.new ≡ record state.old { requests = after_drop state.old.requests thread }) }
+    ensures { OnOk result (state.new ≡ record state.old { synchronization = record state.old.synchronization { requests = after_drop state.old.synchronization.requests thread } }) }
 {
-    state.requests.devices = dropped(alloc, state.requests.devices.as_slice(), thread)?;
+    state.synchronization.requests.devices = dropped(
+        alloc,
+        state.synchronization.requests.devices.as_slice(),
+        thread,
+    )?;
     Ok(())
 }
 
@@ -107,7 +129,7 @@ pub fn make_request_move(
     state: &mut State,
     change: RequestMove,
 ) -> Result<(), NoMemory>
-    ensures { OnOk result (state.new ≡ record state.old { requests = request_moved change state.old.requests }) }
+    ensures { OnOk result (state.new ≡ record state.old { synchronization = record state.old.synchronization { requests = request_moved change state.old.synchronization.requests } }) }
 {
     match change {
         RequestMove::Begin(device, thread, status) => begin(state, device, thread, status),
@@ -116,12 +138,21 @@ pub fn make_request_move(
             signal(state, thread, status, code);
         }
         RequestMove::SetPending(thread, status) => {
-            set_status(&mut state.requests.statuses, thread, status, PENDING);
+            set_status(
+                &mut state.synchronization.requests.statuses,
+                thread,
+                status,
+                PENDING,
+            );
         }
         RequestMove::Signal(thread, status, code) => signal(state, thread, status, code),
         RequestMove::DropAll(thread) => return drop_all(alloc, state, thread),
         RequestMove::TakeSignal(thread) => take_signal(state, thread),
-        RequestMove::Reply(thread, code) => set_count(&mut state.requests.replies, thread, code),
+        RequestMove::Reply(thread, code) => set_count(
+            &mut state.synchronization.requests.replies,
+            thread,
+            code,
+        ),
     }
     Ok(())
 }

@@ -66,8 +66,8 @@ waiting_at S t o = moved t (move.Wait t (waiting.Lock o)) (moved t (move.GoOn t 
 
 waits_there : {script : Script} {S : State} {t : ObjNo} {row : ThreadRow} {instr : Instr} (o : ObjNo) → IsStepping script S t row instr → thread_of (waiting_at S t o) t ≡ Some (with_waiting (waiting.Lock o) (with_part part.Done row))
 waits_there {S = S} {t = t} o h =
-    let goes_on = row-here S.threads t (with_part part.Done) t.0 refl ∙ ap (option_map (with_part part.Done)) h.is in
-    row-here (moved t (move.GoOn t part.Done) S).threads t (with_waiting (waiting.Lock o)) t.0 refl ∙ ap (option_map (with_waiting (waiting.Lock o))) goes_on
+    let goes_on = row-here S.references.threads t (with_part part.Done) t.0 refl ∙ ap (option_map (with_part part.Done)) h.is in
+    row-here (moved t (move.GoOn t part.Done) S).references.threads t (with_waiting (waiting.Lock o)) t.0 refl ∙ ap (option_map (with_waiting (waiting.Lock o))) goes_on
 
 -- and is live then
 waiting_live : {script : Script} {S : State} {t : ObjNo} {row : ThreadRow} {instr : Instr} (o : ObjNo) → IsStepping script S t row instr → is_returning row.part ≡ false → IsLive (waiting_at S t o) t
@@ -94,9 +94,9 @@ fits-lock_by o Again h going none alive other e = fits-locked (Of word.Lock part
 
 fits-lock_do : {script : Script} {S : State} {t : ObjNo} {row : ThreadRow} {instr : Instr} (uses : Option ObjNo) → IsStepping script S t row instr → is_returning row.part ≡ false → row.uses ≡ uses → FitsDecision locking script t S (lock_do S t uses)
 fits-lock_do {script = script} {S = S} {t = t} None h going e = fits-nothing script S t
-fits-lock_do {script = script} {S = S} {t = t} {row = row} (Some o) h going e = fits-unless (Of word.Lock part.Do) refl _ h (λ none. unserved none (server_at S.servers o) refl)
+fits-lock_do {script = script} {S = S} {t = t} {row = row} (Some o) h going e = fits-unless (Of word.Lock part.Do) refl _ h (λ none. unserved none (server_at S.serving.servers o) refl)
   where
-    unserved : held_by S.nano t ≡ None → (server : Option ServerRow) → server_at S.servers o ≡ server → FitsDecision locking script t S (unless_server server (lock_by t o (lock_answer (owner_at S.locks o) t)))
+    unserved : held_by S.synchronization.nano t ≡ None → (server : Option ServerRow) → server_at S.serving.servers o ≡ server → FitsDecision locking script t S (unless_server server (lock_by t o (lock_answer (owner_at S.synchronization.locks o) t)))
     unserved none None other = fits-lock_by o _ h going none (use_is_alive S t row o h.rows.lives h.is e) other refl
     unserved none (Some server) other = fits-nothing script S t
 
@@ -107,11 +107,11 @@ fits-lock x (Some _) h going at = fits-answer (Of word.Lock part.Done) refl (pos
 
 -- `unlock`
 fits-unlock_by : {script : Script} {S : State} {t : ObjNo} {row : ThreadRow} {instr : Instr} (o : ObjNo) (unlocked : Unlocked) → IsStepping script S t row instr → is_returning row.part ≡ false → IsAlive (object_of S o)
-    → unlocked ≡ unlock_answer (owner_at S.locks o) t (best_waiter (priority_of S) S.locks o) → FitsDecision locking script t S (unlock_by t o unlocked)
+    → unlocked ≡ unlock_answer (owner_at S.synchronization.locks o) t (best_waiter (priority_of S) S.synchronization.locks o) → FitsDecision locking script t S (unlock_by t o unlocked)
 fits-unlock_by {script = script} {S = S} {t = t} {row = row} o unlocked h going alive e = by unlocked (
   refl,
   record {
-    object = alive_inside S.objects o.0 alive;
+    object = alive_inside S.references.objects o.0 alive;
     thread = ap is_some h.is;
     nowhere = stepping_nowhere h;
     going = ap (λ (r : Option ThreadRow). is_returning (part_of r)) h.is ∙ going;
@@ -124,8 +124,8 @@ fits-unlock_by {script = script} {S = S} {t = t} {row = row} o unlocked h going 
     by Level fits = fits-locked (Of word.Unlock part.Do) refl (Unlock o t Level) (tame-at locking _ refl refl) h fits
     by Freed fits = fits-locked (Of word.Unlock part.Do) refl (Unlock o t Freed) (tame-at locking _ refl refl) h fits
     by (Passed w) fits =
-        let best = passed_is (owner_at S.locks o) t (best_waiter (priority_of S) S.locks o) w (sym fits.1.answer) in
-        fits-woken (Of word.Unlock part.Do) refl (Unlock o t (Passed w)) w (tame-at locking _ refl refl) h fits (struck_nowhere script S o w h.rows (greatest_listed (priority_of S) (waiters_at S.locks o) w best)) (waiter_uncalled script S o w h.rows (greatest_listed (priority_of S) (waiters_at S.locks o) w best))
+        let best = passed_is (owner_at S.synchronization.locks o) t (best_waiter (priority_of S) S.synchronization.locks o) w (sym fits.1.answer) in
+        fits-woken (Of word.Unlock part.Do) refl (Unlock o t (Passed w)) w (tame-at locking _ refl refl) h fits (struck_nowhere script S o w h.rows (greatest_listed (priority_of S) (waiters_at S.synchronization.locks o) w best)) (waiter_uncalled script S o w h.rows (greatest_listed (priority_of S) (waiters_at S.synchronization.locks o) w best))
 
 fits-unlock_do : {script : Script} {S : State} {t : ObjNo} {row : ThreadRow} {instr : Instr} (uses : Option ObjNo) → IsStepping script S t row instr → is_returning row.part ≡ false → row.uses ≡ uses → FitsDecision locking script t S (unlock_do S t uses)
 fits-unlock_do {script = script} {S = S} {t = t} None h going e = fits-nothing script S t
@@ -136,7 +136,7 @@ fits-unlock x None h going at = fits-look_kind Mutex word.Unlock x refl refl h (
 fits-unlock {row = row} x (Some p) h going at = fits-unlock_do row.uses h going refl
 
 -- `wait`
-fits-wait_on : {script : Script} {S : State} {t : ObjNo} {row : ThreadRow} {instr : Instr} (o : ObjNo) → IsStepping script S t row instr → is_returning row.part ≡ false → held_by S.nano t ≡ None → IsAlive (object_of S o) → FitsDecision looking script t S (wait_on t o (count_at S.locks o))
+fits-wait_on : {script : Script} {S : State} {t : ObjNo} {row : ThreadRow} {instr : Instr} (o : ObjNo) → IsStepping script S t row instr → is_returning row.part ≡ false → held_by S.synchronization.nano t ≡ None → IsAlive (object_of S o) → FitsDecision looking script t S (wait_on t o (count_at S.synchronization.locks o))
 fits-wait_on {script = script} {S = S} {t = t} o h going none alive =
     if_cases (FitsDecision looking script t S) (count_at S.locks o == 0) _ _
     (λ _. fits-wait_at (Of word.Wait part.Do) refl o (WaitOn o t) refl (tame-moves _ refl refl) h going none (λ joins. record { alive = alive; joins = λ _. joins }))
@@ -152,15 +152,15 @@ fits-wait {row = row} x (Some part.Do) h going at = fits-wait_do row.uses h goin
 fits-wait x (Some _) h going at = fits-answer (Of word.Wait part.Done) refl (pos 0) h
 
 -- `signal`
-fits-signal_by : {script : Script} {S : State} {t : ObjNo} {row : ThreadRow} {instr : Instr} (o : ObjNo) (answer : Signalled) → IsStepping script S t row instr → IsAlive (object_of S o) → answer ≡ signal_answer (best_waiter (priority_of S) S.locks o) (count_at S.locks o) → FitsDecision looking script t S (signal_by t o answer)
-fits-signal_by {script = script} {S = S} {t = t} o answer h alive e = by answer (record { object = alive_inside S.objects o.0 alive; answer = e })
+fits-signal_by : {script : Script} {S : State} {t : ObjNo} {row : ThreadRow} {instr : Instr} (o : ObjNo) (answer : Signalled) → IsStepping script S t row instr → IsAlive (object_of S o) → answer ≡ signal_answer (best_waiter (priority_of S) S.synchronization.locks o) (count_at S.synchronization.locks o) → FitsDecision looking script t S (signal_by t o answer)
+fits-signal_by {script = script} {S = S} {t = t} o answer h alive e = by answer (record { object = alive_inside S.references.objects o.0 alive; answer = e })
   where
     by : (s : Signalled) → FitsLocks t (Signal o s) S → FitsDecision looking script t S (signal_by t o s)
     by signalled.Overflow fits = fits-refuse (Of word.Signal part.Do) refl error.Overflow h
     by signalled.Counted fits = fits-locked (Of word.Signal part.Do) refl (Signal o signalled.Counted) (tame-moves _ refl refl) h fits
     by (signalled.Woke w) fits =
-        let best = woke_is (best_waiter (priority_of S) S.locks o) (count_at S.locks o) w (sym fits.answer) in
-        fits-woken (Of word.Signal part.Do) refl (Signal o (signalled.Woke w)) w (tame-moves _ refl refl) h fits (struck_nowhere script S o w h.rows (greatest_listed (priority_of S) (waiters_at S.locks o) w best)) (waiter_uncalled script S o w h.rows (greatest_listed (priority_of S) (waiters_at S.locks o) w best))
+        let best = woke_is (best_waiter (priority_of S) S.synchronization.locks o) (count_at S.synchronization.locks o) w (sym fits.answer) in
+        fits-woken (Of word.Signal part.Do) refl (Signal o (signalled.Woke w)) w (tame-moves _ refl refl) h fits (struck_nowhere script S o w h.rows (greatest_listed (priority_of S) (waiters_at S.synchronization.locks o) w best)) (waiter_uncalled script S o w h.rows (greatest_listed (priority_of S) (waiters_at S.synchronization.locks o) w best))
 
 fits-signal_do : {script : Script} {S : State} {t : ObjNo} {row : ThreadRow} {instr : Instr} (uses : Option ObjNo) → IsStepping script S t row instr → row.uses ≡ uses → FitsDecision looking script t S (signal_do S t uses)
 fits-signal_do {script = script} {S = S} {t = t} None h e = fits-nothing script S t

@@ -30,7 +30,7 @@ use Rattle.machine.specs.declared.server_move.ServerMove.TheVariants.{Start}
 use Rattle.machine.specs.declared.state.State.{State}
 use Rattle.machine.specs.Fits.{IsFree, MayOweMore}
 use Rattle.machine.specs.Messaging.{finish}
-use Rattle.machine.specs.Moves.{moved, new_object, next_object, with_message, with_part}
+use Rattle.machine.specs.Moves.{moved, new_object, next_object, no_number_left, with_message, with_part}
 use Rattle.machine.specs.Rows.{object_of}
 use Rattle.machine.specs.ServerCalls.{complete_do, complete_message, function_do, function_of, is_owner, make_server, message_at, receive_came, receive_do, receive_done, receive_next, receive_step, server_do, take_message, taken_by}
 use Rattle.machine.specs.Task.{is_returning}
@@ -76,15 +76,15 @@ fits-server {script = script} {S = S} {t = t} {row = row} name x h going =
 -- a message is taken
 fits-take : {script : Script} {S : State} {t : ObjNo} {row : ThreadRow} {instr : Instr} (told : Step) (named : may_tell plain told ≡ true) (o : ObjNo) (y : ℕ) (m : MsgNo) → IsStepping script S t row instr → is_returning row.part ≡ false → y < 8 → IsAlive (object_of S o) → FitsDecision looking script t S (take_message t told o y m)
 fits-take {script = script} {S = S} {t = t} {row = row} told named o y m h going register alive =
-    let made = alive_inside S.objects o.0 alive in
-    let few = h.rows.sized.objects_few in
+    let made = alive_inside S.references.objects o.0 alive in
+    let few = h.rows.references.sized.objects_few in
     fits-answers told named (move.Messages (Take o) ∷ move.WriteMessage t y m.0 ∷ []) (pos m.0) (tame-moves _ refl refl) ((omega arith, owes_more h going, tt), (register, tt))
     (at-with_row script S (moved t (move.WriteMessage t y m.0) (moved t (move.Messages (Take o)) S)) t t (with_message y m.0) (record { role = λ r. refl; next = λ r. refl }) refl (at_instruction h)) (omega arith) (omega arith)
 
 -- `receive`
 fits-receive_do : {script : Script} {S : State} {t : ObjNo} {row : ThreadRow} {instr : Instr} (y : ℕ) (uses : Option ObjNo) → IsStepping script S t row instr → is_returning row.part ≡ false → y < 8 → row.uses ≡ uses → FitsDecision looking script t S (receive_do S t y uses)
 fits-receive_do {script = script} {S = S} {t = t} y None h going register e = fits-nothing script S t
-fits-receive_do {script = script} {S = S} {t = t} {row = row} y (Some o) h going register e = fits-unless (Of word.Receive part.Do) refl _ h (λ none. by none (next_of S.messages o))
+fits-receive_do {script = script} {S = S} {t = t} {row = row} y (Some o) h going register e = fits-unless (Of word.Receive part.Do) refl _ h (λ none. by none (next_of S.serving.messages o))
   where
     by : held_by S.nano t ≡ None → (next : Option MsgNo) → FitsDecision looking script t S (receive_next t o y next)
     by none None = fits-later (Of word.Receive part.Do) refl (move.Wait t (waiting.Receive o)) refl h (record { told = omega arith; light = refl; calm = tame-moves _ refl refl })
@@ -93,7 +93,7 @@ fits-receive_do {script = script} {S = S} {t = t} {row = row} y (Some o) h going
 
 fits-receive_done : {script : Script} {S : State} {t : ObjNo} {row : ThreadRow} {instr : Instr} (y : ℕ) (uses : Option ObjNo) → IsStepping script S t row instr → is_returning row.part ≡ false → y < 8 → row.uses ≡ uses → FitsDecision looking script t S (receive_done S t y uses)
 fits-receive_done {script = script} {S = S} {t = t} y None h going register e = fits-nothing script S t
-fits-receive_done {script = script} {S = S} {t = t} {row = row} y (Some o) h going register e = by (next_of S.messages o)
+fits-receive_done {script = script} {S = S} {t = t} {row = row} y (Some o) h going register e = by (next_of S.serving.messages o)
   where
     by : (next : Option MsgNo) → FitsDecision looking script t S (receive_came t o y next)
     by None = fits-nothing script S t
@@ -107,7 +107,7 @@ fits-receive {row = row} x y (Some _) h going at = fits-receive_done y row.uses 
 -- a message that a server of a thread took is outstanding
 pub taken_is : (S : State) (t : ObjNo) (found : Option Message) (message : Message) → taken_by S t found ≡ Some message → found ≡ Some message
 taken_is S t None message e = absurd (cc)
-taken_is S t (Some x) message e = by (x.row.taken && is_owner t (owner_of S.servers x.row.server)) e
+taken_is S t (Some x) message e = by (x.row.taken && is_owner t (owner_of S.serving.servers x.row.server)) e
   where
     by : (b : Bool) → (if b then Some x else None) ≡ Some message → Some x ≡ Some message
     by true e = e
@@ -120,7 +120,7 @@ fits-complete {script = script} {S = S} {t = t} {row = row} y code h going = by 
     by : (found : Option Message) → message_at S t row y ≡ found → FitsDecision serving script t S (complete_message S t code found)
     by None e = fits-refuse (Of word.Complete part.Do) refl error.BadHandle h
     by (Some message) e =
-        let done = finishes script S t _ message code h.rows (owes_more h going) (taken_is S t (message_of S.messages (record { 0 = slice_index row.messages y })) message e) in
+        let done = finishes script S t _ message code h.rows (owes_more h going) (taken_is S t (message_of S.serving.messages (record { 0 = slice_index row.messages y })) message e) in
         fits-answers (Of word.Complete part.Do) refl (finish S message code) (pos 0) done.calm done.each (stay-perform script t (finish S message code) S (stay-finish script S t message code) (at_instruction h)) (let few = done.told in omega arith) (let few = done.light in omega arith)
 
 -- `function`

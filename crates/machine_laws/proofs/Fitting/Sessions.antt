@@ -38,7 +38,7 @@ use Rattle.machine.specs.Fits.{IsFree, MayGoOn}
 use Rattle.machine.specs.FitsServers.{HasSpare, MayJoinServer, HasNumber}
 use Rattle.machine.specs.Handles.{holder_of}
 use Rattle.machine.specs.Messaging.{connects, no_args, open_server, post, slots_of}
-use Rattle.machine.specs.Moves.{moved, new_object, next_object, with_kept, with_part, with_use, with_waiting}
+use Rattle.machine.specs.Moves.{moved, new_object, next_object, no_number_left, with_kept, with_part, with_use, with_waiting}
 use Rattle.machine.specs.Rows.{object_of, thread_of}
 use Rattle.machine.specs.Serving.{is_sending, open_bit, sending_bit, session_bit, begun, numbers_left}
 use Rattle.machine.specs.SessionCalls.{args_of, call_do, call_step, call_to, connect_done, connect_make, connect_return, connect_send, connect_step, connect_to, fail_connect, make_session, send_connect, send_do, send_step, send_to, session_made}
@@ -67,7 +67,7 @@ use Rattle.machine_laws.proofs.Fitting.Regular.{kind_of, looking, serving, calli
 use Rattle.machine_laws.proofs.Fitting.Tame.{may_tell, regular-moves, tame-at, tame-both, tame-moves, tame-going, tame-calling}
 
 -- a session is made, where the server is one and isn't closing
-module _ (script : Script) (S : State) (t : ObjNo) (row : ThreadRow) (instr : Instr) (o : ObjNo) (slots : Slots) (h : IsStepping script S t row instr) (going : is_returning row.part ≡ false) (server : ServerRow) (is : server_at S.servers o ≡ Some server) (accepts : server.is_closing ≡ false) (room : length S.objects < OBJECTS) (alive : IsAlive (object_of S o)) (first : begun row.part ≡ 0) where
+module _ (script : Script) (S : State) (t : ObjNo) (row : ThreadRow) (instr : Instr) (o : ObjNo) (slots : Slots) (h : IsStepping script S t row instr) (going : is_returning row.part ≡ false) (server : ServerRow) (is : server_at S.serving.servers o ≡ Some server) (accepts : server.is_closing ≡ false) (room : (next_object S).0 < OBJECTS) (alive : IsAlive (object_of S o)) (first : begun row.part ≡ 0) where
   abbrev made : ℕ → State
   made i = moved t (move.Make kind.Session [] (InThread t i)) S
 
@@ -80,13 +80,13 @@ module _ (script : Script) (S : State) (t : ObjNo) (row : ThreadRow) (instr : In
   may_join : (i : ℕ) → MayJoinServer (made i) (next_object S) o
   may_join i =
       let s = next_object S in
-      let within = alive_inside S.objects o.0 alive in
-      let longer = length_push S.objects (Some (new_object kind.Session [])) in
+      let within = alive_inside S.references.objects o.0 alive in
+      let longer = length_push S.references.objects (Some (new_object kind.Session [])) in
       let fresh = next_fresh script S h.rows in
       let none = fresh.count in
       record {
         made = omega arith;
-        later = h.rows.sized.first;
+        later = h.rows.references.sized.first;
         other = λ same. absurd (omega arith);
         fresh = fresh.session;
         alone = record { no_session = fresh.linked; no_server = ap link_of fresh.session };
@@ -94,30 +94,30 @@ module _ (script : Script) (S : State) (t : ObjNo) (row : ThreadRow) (instr : In
         unowed = omega arith;
         server = ap is_some is;
         accepts = ap closes is ∙ accepts;
-        alive = subst IsAlive (sym (get_or_append_left S.objects (Some (new_object kind.Session []) ∷ []) None o.0 within)) alive;
+        alive = subst IsAlive (sym (get_or_append_left S.references.objects (Some (new_object kind.Session []) ∷ []) None o.0 within)) alive;
       }
 
   -- the thread is there then, and its step is the same
   kept_there : (i number : ℕ) → thread_of (moved t (move.Keep t number) (joined i)) t ≡ Some (with_kept number row)
-  kept_there i number = row-here S.threads t (with_kept number) t.0 refl ∙ ap (option_map (with_kept number)) h.is
+  kept_there i number = row-here S.references.threads t (with_kept number) t.0 refl ∙ ap (option_map (with_kept number)) h.is
 
   down_there : (i number : ℕ) → thread_of (put_down i number) t ≡ Some (with_use None (with_kept number row))
-  down_there i number = row-here (moved t (move.Keep t number) (joined i)).threads t (with_use None) t.0 refl ∙ ap (option_map (with_use None)) (kept_there i number)
+  down_there i number = row-here (moved t (move.Keep t number) (joined i)).references.threads t (with_use None) t.0 refl ∙ ap (option_map (with_use None)) (kept_there i number)
 
   -- one session more is there, and none more is used
   spare_made : (i number : ℕ) → HasSpare (put_down i number)
   spare_made i number =
       let s = next_object S in
-      let sized = h.rows.servers.sessions_sized in
+      let sized = h.rows.serving.servers.sessions_sized in
       let fresh = (next_fresh script S h.rows).session in
       let new = new_session o slots t in
-      let first = fewer-with_row sending_bit S.threads t (with_kept number) (λ r at. omega arith) in
-      let second = fewer-with_row sending_bit (moved t (move.Keep t number) (joined i)).threads t (with_use None) (λ r at. omega arith) in
-      let opens = total-set open_bit S.servers.sessions s.0 (Some new) None (omega arith) in
-      let there = total-set session_bit S.servers.sessions s.0 (Some new) None (omega arith) in
-      let none : open_bit (session_at S.servers s) ≡ 0 = ap open_bit fresh in
-      let no_row : session_bit (session_at S.servers s) ≡ 0 = ap session_bit fresh in
-      let few = h.rows.messages.few in omega arith
+      let first = fewer-with_row sending_bit S.references.threads t (with_kept number) (λ r at. omega arith) in
+      let second = fewer-with_row sending_bit (moved t (move.Keep t number) (joined i)).references.threads t (with_use None) (λ r at. omega arith) in
+      let opens = total-set open_bit S.serving.servers.sessions s.0 (Some new) None (omega arith) in
+      let there = total-set session_bit S.serving.servers.sessions s.0 (Some new) None (omega arith) in
+      let none : open_bit (session_at S.serving.servers s) ≡ 0 = ap open_bit fresh in
+      let no_row : session_bit (session_at S.serving.servers s) ≡ 0 = ap session_bit fresh in
+      let few = h.rows.serving.messages.few in omega arith
 
   goes_on : (i number : ℕ) → MayGoOn script (put_down i number) t (Some part.Send)
   goes_on i number = record {
@@ -144,7 +144,7 @@ module _ (script : Script) (S : State) (t : ObjNo) (row : ThreadRow) (instr : In
 
 fits-connect_make : {script : Script} {S : State} {t : ObjNo} {row : ThreadRow} {instr : Instr} (slots : Slots) (uses : Option ObjNo) → IsStepping script S t row instr → row.part ≡ Some part.Make → row.uses ≡ uses → FitsDecision calling script t S (connect_make S t slots uses)
 fits-connect_make {script = script} {S = S} {t = t} slots None h at e = fits-nothing script S t
-fits-connect_make {script = script} {S = S} {t = t} {row = row} {instr = instr} slots (Some o) h at e = by (server_at S.servers o) refl
+fits-connect_make {script = script} {S = S} {t = t} {row = row} {instr = instr} slots (Some o) h at e = by (server_at S.serving.servers o) refl
   where
     by : (server : Option ServerRow) → server_at S.servers o ≡ server → FitsDecision calling script t S (connect_to S t slots o server)
     by None is = fits-nothing script S t
@@ -163,15 +163,15 @@ fits-fail {script = script} {S = S} {t = t} {row = row} p named s code h going i
 
 -- a thread waits for the reply to a message, with any rows of servers
 abbrev awaiting : State → ObjNo → ServerRows → State
-awaiting S t servers = record (moved t (move.Wait t waiting.Reply) (moved t (move.GoOn t part.Done) S)) { servers = servers }
+awaiting S t servers = record (moved t (move.Wait t waiting.Reply) (moved t (move.GoOn t part.Done) S)) { serving = record S.serving { servers = servers } }
 
 awaits_there : {script : Script} {S : State} {t : ObjNo} {row : ThreadRow} {instr : Instr} (servers : ServerRows) → IsStepping script S t row instr → thread_of (awaiting S t servers) t ≡ Some (with_waiting waiting.Reply (with_part part.Done row))
 awaits_there {S = S} {t = t} servers h =
-    let first = row-here S.threads t (with_part part.Done) t.0 refl ∙ ap (option_map (with_part part.Done)) h.is in
-    row-here (moved t (move.GoOn t part.Done) S).threads t (with_waiting waiting.Reply) t.0 refl ∙ ap (option_map (with_waiting waiting.Reply)) first
+    let first = row-here S.references.threads t (with_part part.Done) t.0 refl ∙ ap (option_map (with_part part.Done)) h.is in
+    row-here (moved t (move.GoOn t part.Done) S).references.threads t (with_waiting waiting.Reply) t.0 refl ∙ ap (option_map (with_waiting waiting.Reply)) first
 
 -- and sends it
-may_call : {script : Script} {S : State} {t : ObjNo} {row : ThreadRow} {instr : Instr} (servers : ServerRows) (s o : ObjNo) → IsStepping script S t row instr → is_returning row.part ≡ false → begun row.part ≡ 0 → total open_bit servers.sessions ≤ total open_bit S.servers.sessions + 1 → open_server S s ≡ Some o → IsAlive (object_of S s) → is_some (get_or servers.sessions s.0 None) ≡ true → MayPost script S (awaiting S t servers) t s o Sync
+may_call : {script : Script} {S : State} {t : ObjNo} {row : ThreadRow} {instr : Instr} (servers : ServerRows) (s o : ObjNo) → IsStepping script S t row instr → is_returning row.part ≡ false → begun row.part ≡ 0 → total open_bit servers.sessions ≤ total open_bit S.serving.servers.sessions + 1 → open_server S s ≡ Some o → IsAlive (object_of S s) → is_some (get_or servers.sessions s.0 None) ≡ true → MayPost script S (awaiting S t servers) t s o Sync
 may_call {script = script} {S = S} {t = t} {row = row} servers s o h going first opens accepts alive session =
     let there = awaits_there servers h in
     record {
@@ -187,11 +187,11 @@ may_call {script = script} {S = S} {t = t} {row = row} servers s o h going first
       messages = refl;
       session = session;
       owes = record { thread = ap is_some there; going = ap (λ (r : Option ThreadRow). is_returning (part_of r)) there };
-      others = λ u apart. row-other (moved t (move.GoOn t part.Done) S).threads t (with_waiting waiting.Reply) u.0 apart ∙ row-other S.threads t (with_part part.Done) u.0 apart;
+      others = λ u apart. row-other (moved t (move.GoOn t part.Done) S).references.threads t (with_waiting waiting.Reply) u.0 apart ∙ row-other S.references.threads t (with_part part.Done) u.0 apart;
       slot = refl;
       number =
-          let waits = fewer-with_row numbers_left (moved t (move.GoOn t part.Done) S).threads t (with_waiting waiting.Reply) (λ r at. omega arith) in
-          let left = fewer-left h first in let numbered = h.rows.messages.numbered in omega arith;
+          let waits = fewer-with_row numbers_left (moved t (move.GoOn t part.Done) S).references.threads t (with_waiting waiting.Reply) (λ r at. omega arith) in
+          let left = fewer-left h first in let numbered = h.rows.serving.messages.numbered in omega arith;
       sends = (stepping_uncalled h going, λ r is. let same_row : with_waiting waiting.Reply (with_part part.Done row) ≡ r = cc in ap (λ (x : ThreadRow). x.waiting) (sym same_row));
     }
 
@@ -202,14 +202,14 @@ last_step h = record { unused = λ r is e. absurd (cc); paid = λ e. absurd (cc)
 -- `connect` opens its session
 opens_spare : {script : Script} {S : State} {t : ObjNo} {row : ThreadRow} {instr : Instr} → IsStepping script S t row instr → row.part ≡ Some part.Send → HasSpare (moved t (move.GoOn t part.Done) S)
 opens_spare {S = S} {t = t} {row = row} h at =
-    let all = total-with sending_bit (option_map (with_part part.Done)) None S.threads t.0 refl in
+    let all = total-with sending_bit (option_map (with_part part.Done)) None S.references.threads t.0 refl in
     let old : sending_bit (thread_of S t) ≡ 1 = ap sending_bit h.is ∙ ap is_sending at in
     let new : sending_bit (option_map (with_part part.Done) (thread_of S t)) ≡ 0 = ap (λ (r : Option ThreadRow). sending_bit (option_map (with_part part.Done) r)) h.is in
-    let few = h.rows.messages.few in omega arith
+    let few = h.rows.serving.messages.few in omega arith
 
 -- and has a number
 opens_number : {script : Script} {S : State} {t : ObjNo} {row : ThreadRow} {instr : Instr} → IsStepping script S t row instr → row.part ≡ Some part.Send → HasNumber (moved t (move.GoOn t part.Done) S)
-opens_number h at = let left = fewer-left h (ap begun at) in let numbered = h.rows.messages.numbered in omega arith
+opens_number h at = let left = fewer-left h (ap begun at) in let numbered = h.rows.serving.messages.numbered in omega arith
 
 open_one : (x : Option SessionRow) → open_bit x ≤ 1
 open_one x = by (was_opened x)
@@ -226,12 +226,12 @@ fits-connect_send {script = script} {S = S} {t = t} {row = row} (Some s) h going
     by none None accepts = fits-fail part.Send refl s (error_code error.ServerTerminated) h going is
     by none (Some o) accepts =
         let handle = handle_named row.found s h is in
-        let servers = (moved t (move.Servers (SetOpen s true)) S).servers in
+        let servers = (moved t (move.Servers (SetOpen s true)) S).serving.servers in
         let session = open_session S s o accepts in
-        let bits = total-with open_bit (option_map (opened true)) None S.servers.sessions s.0 refl in
-        let bit = open_one (option_map (opened true) (session_at S.servers s)) in
-        let opens : total open_bit servers.sessions ≤ total open_bit S.servers.sessions + 1 = omega arith in
-        let sends = posts script S (awaiting S t servers) t s o connects no_args Sync refl (may_call servers s o h going (ap begun at) opens accepts (handle_is_alive S handle.owner handle.index s h.rows.lives handle.slot) (mapped-some (opened true) S.servers.sessions s.0 s.0 ∙ session)) in
+        let bits = total-with open_bit (option_map (opened true)) None S.serving.servers.sessions s.0 refl in
+        let bit = open_one (option_map (opened true) (session_at S.serving.servers s)) in
+        let opens : total open_bit servers.sessions ≤ total open_bit S.serving.servers.sessions + 1 = omega arith in
+        let sends = posts script S (awaiting S t servers) t s o connects no_args Sync refl (may_call servers s o h going (ap begun at) opens accepts (handle_is_alive S handle.owner handle.index s h.rows.lives handle.slot) (mapped-some (opened true) S.serving.servers.sessions s.0 s.0 ∙ session)) in
         record {
           each = ((last_step h, tt, refl), ((session, opens_spare h at, opens_number h at), ((none, stepping_nowhere h, live-changed S (moved t (move.GoOn t part.Done) S) t (with_part part.Done) (λ r. refl) refl (stepping_live h going), λ r is live. stepping_uncalled h going), sends.each)));
           told = let few = sends.told in omega arith;
@@ -261,7 +261,7 @@ fits-send_to {script = script} {S = S} {t = t} {row = row} s function y args (So
     if_cases (FitsDecision calling script t S) (is_full S.messages s (slots_of S s)) _ _ (λ _. fits-refuse (Of word.Send part.Do) refl error.ServerBusy h)
     (λ left.
     let pending = moved t (move.Requests (SetPending t y)) (moved t (move.GoOn t part.Done) S) in
-    let there = row-here S.threads t (with_part part.Done) t.0 refl ∙ ap (option_map (with_part part.Done)) h.is in
+    let there = row-here S.references.threads t (with_part part.Done) t.0 refl ∙ ap (option_map (with_part part.Done)) h.is in
     let ms = post S t s o function args (Async y) in
     let sends = posts script S pending t s o function args (Async y) four (record {
       rows = h.rows;
@@ -276,10 +276,10 @@ fits-send_to {script = script} {S = S} {t = t} {row = row} s function y args (So
       messages = refl;
       session = open_session S s o accepts;
       owes = record { thread = ap is_some there; going = ap (λ (r : Option ThreadRow). is_returning (part_of r)) there };
-      others = λ u apart. row-other S.threads t (with_part part.Done) u.0 apart;
+      others = λ u apart. row-other S.references.threads t (with_part part.Done) u.0 apart;
       slot = left;
-      number = let left = fewer-left h first in let numbered = h.rows.messages.numbered in omega arith;
-      sends = ((set_awaited (length S.threads) S.requests t y h.rows.requests (has_signals h) small done, not_logged (length S.threads) S.requests S.logons t y h.rows.logons done), not_sent script S t y h.rows done);
+      number = let left = fewer-left h first in let numbered = h.rows.serving.messages.numbered in omega arith;
+      sends = ((set_awaited (length S.references.threads) S.synchronization.requests t y h.rows.synchronization.requests (has_signals h) small done, not_logged (length S.references.threads) S.synchronization.requests S.synchronization.logons t y h.rows.synchronization.logons done), not_sent script S t y h.rows done);
     }) in
     fits-answers (Of word.Send part.Do) refl (move.GoOn t part.Done ∷ move.Requests (SetPending t y) ∷ ms) (pos 0) (tame-both (move.GoOn t part.Done ∷ move.Requests (SetPending t y) ∷ []) ms (tame-going _ refl refl refl) (tame-calling sends.calm)) ((last_step h, tt, refl), (((has_signals h, small), tt), sends.each))
     (stay-perform script t (move.GoOn t part.Done ∷ move.Requests (SetPending t y) ∷ ms) S (stays-go_on script t _ _, (stays-requests script t _, stay-post script S t s o function args (Async y))) (at_instruction h)) (let few = sends.told in omega arith) (let few = sends.light in omega arith))
@@ -300,7 +300,7 @@ fits-send {script = script} {S = S} {t = t} {row = row} x n y args (Some p) h go
 fits-call_to : {script : Script} {S : State} {t : ObjNo} {row : ThreadRow} {instr : Instr} (s : ObjNo) (function : ℤ) (args : List Arg) (server : Option ObjNo) → IsStepping script S t row instr → is_returning row.part ≡ false → begun row.part ≡ 0 → held_by S.nano t ≡ None → length args ≡ 4 → IsAlive (object_of S s) → open_server S s ≡ server → FitsDecision calling script t S (call_to S t s function args server)
 fits-call_to s function args None h going first none four alive accepts = fits-refuse (Of word.Call part.Do) refl error.ServerTerminated h
 fits-call_to {script = script} {S = S} {t = t} s function args (Some o) h going first none four alive accepts =
-    let sends = posts script S (awaiting S t S.servers) t s o function args Sync four (may_call S.servers s o h going first (omega arith) accepts alive (open_session S s o accepts)) in
+    let sends = posts script S (awaiting S t S.serving.servers) t s o function args Sync four (may_call S.serving.servers s o h going first (omega arith) accepts alive (open_session S s o accepts)) in
     record {
       each = ((last_step h, tt, refl), ((none, stepping_nowhere h, live-changed S (moved t (move.GoOn t part.Done) S) t (with_part part.Done) (λ r. refl) refl (stepping_live h going), λ r is live. stepping_uncalled h going), sends.each));
       told = let few = sends.told in omega arith;
@@ -315,4 +315,4 @@ fits-call {script = script} {S = S} {t = t} {row = row} x n args (Some part.Do) 
     over : (uses : Option ObjNo) → row.uses ≡ uses → FitsDecision calling script t S (call_do S t (pos n) (args_of args) uses)
     over None e = fits-nothing script S t
     over (Some s) e = fits-unless (Of word.Call part.Do) refl _ h (λ none. fits-call_to s (pos n) (args_of args) (open_server S s) h going (ap begun at) none refl (use_is_alive S t row s h.rows.lives h.is e) refl)
-fits-call {S = S} {t = t} x n args (Some _) h going at = fits-answer (Of word.Call part.Done) refl (reply_of S.requests t) h
+fits-call {S = S} {t = t} x n args (Some _) h going at = fits-answer (Of word.Call part.Done) refl (reply_of S.synchronization.requests t) h

@@ -73,9 +73,9 @@ not_cleaned Live e = refl
 not_cleaned Doomed e = refl
 not_cleaned _ e = absurd (cc)
 
-some-left : {script : Script} {S : State} {t : ObjNo} {row : ThreadRow} {instr : Instr} → IsStepping script S t row instr → 0 < total (left_of row.process) S.threads
+some-left : {script : Script} {S : State} {t : ObjNo} {row : ThreadRow} {instr : Instr} → IsStepping script S t row instr → 0 < total (left_of row.process) S.references.threads
 some-left {S = S} {t = t} {row = row} h =
-    let here = total_at_least (left_of row.process) S.threads t.0 None (inside S.threads t.0 row h.is) in
+    let here = total_at_least (left_of row.process) S.references.threads t.0 None (inside S.references.threads t.0 row h.is) in
     let one : left_of row.process (Some row) ≡ 1 = ap (λ (b : Bool). if b then stage_left row.stage else 0) (eq-eqb row.process.0 row.process.0 refl) ∙ not_cleaned row.stage (unspent h row h.is) in
     let own : left_of row.process (thread_of S t) ≡ 1 = ap (left_of row.process) h.is ∙ one in omega arith
 
@@ -84,7 +84,7 @@ pub of_process_handle : {script : Script} {S : State} {t : ObjNo} {row : ThreadR
     → ((i number : ℕ) → IsFree S (InProcess row.process i) → P (Some (record { holder = InProcess row.process i; number = number }))) → P (process_handle S row.process)
 of_process_handle {S = S} {t = t} {row = row} P h none some =
     let table = table_of S row.process in
-    if_cases P (is_full table) _ _ (λ _. none) (λ room. some (free_index table) (new_handle false table) (h.rows.threads.processes t.0 row h.is, record { inside = free_index_inside table room; least = refl }, some-left h))
+    if_cases P (is_full table) _ _ (λ _. none) (λ room. some (free_index table) (new_handle false table) (h.rows.references.threads.processes t.0 row h.is, record { inside = free_index_inside table room; least = refl }, some-left h))
 
 pub of_thread_handle : {script : Script} {S : State} {t : ObjNo} {row : ThreadRow} {instr : Instr} (P : Option NewHandle → Type 0) → IsStepping script S t row instr → P None
     → ((i number : ℕ) → IsFree S (InThread t i) → P (Some (record { holder = InThread t i; number = number }))) → P (thread_handle S t)

@@ -29,7 +29,7 @@ use Rattle.machine.specs.Handles.{object_at, holder_of}
 use Rattle.state_rows.specs.HandleSlots.{slot_at}
 use Rattle.state_rows.specs.HandleNumbers.{index_of, is_local}
 use Rattle.machine.specs.Closing.{close_moves}
-use Rattle.machine.specs.Moves.{moved, perform, next_object, new_object}
+use Rattle.machine.specs.Moves.{moved, perform, next_object, new_object, no_number_left}
 use Rattle.move_laws.proofs.Lives.Fresh.{next_fresh}
 use Rattle.machine.specs.References.{stage_holds, total}
 use Rattle.machine.specs.Close.{close_do, close_handle}
@@ -56,7 +56,7 @@ use Rattle.machine_laws.proofs.Fitting.Tame.{may_tell, tame-both, tame-in, tame-
 -- what follows the making of an object fits then, leaves the threads, and is tame
 record Begins (script : Script) (t : ObjNo) (start : Option LockMove) (T : State) : Type 0 where
   pub each : EachFits script t (start_moves start) T
-  pub threads : (perform t (start_moves start) T).threads ≡ T.threads
+  pub threads : (perform t (start_moves start) T).references.threads ≡ T.references.threads
   pub calm : IsTame plain 0 (start_moves start)
 
 start_told : (start : Option LockMove) → total most_told (start_moves start) ≤ 3
@@ -68,18 +68,18 @@ start_owed None = omega arith
 start_owed (Some m) = let few = lock-owes m in omega arith
 
 -- there is room for an object where objects aren't full
-pub room_left : {script : Script} {S : State} {t : ObjNo} {row : ThreadRow} {instr : Instr} → IsStepping script S t row instr → (length S.objects == OBJECTS) ≡ false → length S.objects < OBJECTS
-room_left {S = S} h room = let few = h.rows.sized.objects_few in let apart : length S.objects ≢ OBJECTS = λ e. cc (eq-eqb (length S.objects) OBJECTS e) in omega arith
+pub room_left : {script : Script} {S : State} {t : ObjNo} {row : ThreadRow} {instr : Instr} → IsStepping script S t row instr → no_number_left S ≡ false → (next_object S).0 < OBJECTS
+room_left {S = S} h room = let few = h.rows.references.sized.objects_few in let apart : (next_object S).0 ≢ OBJECTS = λ e. cc (eq-eqb (next_object S).0 OBJECTS e) in omega arith
 
 -- `create`
 fits-create : {script : Script} {S : State} {t : ObjNo} {row : ThreadRow} {instr : Instr} (kind : Kind) (name : List ℕ) (start : Option LockMove) (x : ℕ) → HasName kind name → IsStepping script S t row instr → x < 8
     → ((i : ℕ) → Begins script t start (moved t (Make kind name (InProcess row.process i)) S)) → FitsDecision looking script t S (create_do S t row kind name start x)
 fits-create {script = script} {S = S} {t = t} {row = row} kind name start x named h register begins =
-    if_cases (FitsDecision looking script t S) (is_taken kind name S.objects) _ _ (λ _. fits-refuse (Of word.Create part.Do) refl AlreadyExists h)
-    (λ new. if_cases (FitsDecision looking script t S) (length S.objects == OBJECTS) _ _ (λ _. fits-refuse (Of word.Create part.Do) refl Overflow h)
+    if_cases (FitsDecision looking script t S) (is_taken kind name S.references.objects) _ _ (λ _. fits-refuse (Of word.Create part.Do) refl AlreadyExists h)
+    (λ new. if_cases (FitsDecision looking script t S) (no_number_left S) _ _ (λ _. fits-refuse (Of word.Create part.Do) refl Overflow h)
     (λ room. of_process_handle (λ handle. FitsDecision looking script t S (make_with_handle t kind name start x handle)) h (fits-refuse (Of word.Create part.Do) refl Overflow h) (made new (room_left h room))))
   where
-    made : is_taken kind name S.objects ≡ false → length S.objects < OBJECTS → (i number : ℕ) → IsFree S (InProcess row.process i) → FitsDecision looking script t S (make_with_handle t kind name start x (Some (record { holder = InProcess row.process i; number = number })))
+    made : is_taken kind name S.references.objects ≡ false → (next_object S).0 < OBJECTS → (i number : ℕ) → IsFree S (InProcess row.process i) → FitsDecision looking script t S (make_with_handle t kind name start x (Some (record { holder = InProcess row.process i; number = number })))
     made new room i number free =
         let told = start_told start in
         let owed = start_owed start in
@@ -92,7 +92,7 @@ pub fits-create_semaphore : {script : Script} {S : State} {t : ObjNo} {row : Thr
 fits-create_semaphore {script = script} {S = S} name count x h = fits-create Semaphore name (Some (Start (next_object S) count)) x (λ e. absurd (cc)) h h.registers (λ i. record {
   each = (
     record {
-      object = let longer = length_push S.objects (Some (new_object Semaphore name)) in omega arith;
+      object = let longer = length_push S.references.objects (Some (new_object Semaphore name)) in omega arith;
       few = count_few name count x h.ranges;
       free = (next_fresh script S h.rows).owner;
       alone = (next_fresh script S h.rows).waiters;
@@ -134,7 +134,7 @@ fits-open_return h before = fits-return word.Open part.Do refl refl h before ref
 -- the handle of an object stands in the table of the thread or of its process
 handle_by : {script : Script} {S : State} {t : ObjNo} {row : ThreadRow} {instr : Instr} (local : Bool) (i : ℕ) (o : ObjNo) → IsStepping script S t row instr → (slot_at (table_of S (if local then t else row.process)) i).object ≡ Some o → IsHandle S t (if local then InThread t i else InProcess row.process i) o
 handle_by {S = S} {t = t} true i o h is = handle_of_thread S t i o (ap is_some h.is) is
-handle_by {S = S} {t = t} {row = row} false i o h is = handle_of_process S row.process i o (h.rows.threads.processes t.0 row h.is) is
+handle_by {S = S} {t = t} {row = row} false i o h is = handle_of_process S row.process i o (h.rows.references.threads.processes t.0 row h.is) is
 
 pub handle_named : {script : Script} {S : State} {t : ObjNo} {row : ThreadRow} {instr : Instr} (handle : ℕ) (o : ObjNo) → IsStepping script S t row instr → object_at S t row handle ≡ Some o → IsHandle S t (holder_of t row handle) o
 handle_named handle o h is = handle_by (is_local handle) (index_of handle) o h (object_of_is _ _ _ o is)

@@ -81,7 +81,7 @@ live-boot script t valid = by (thread_of (boot script) t) refl
     by None is = refl
     by (Some row) is = let new = born_row script _ (born script) t.0 row (each_born script (formed_is_shaped script valid)) is in ap stage_holds new.live ∙ sym (ap stage_live new.live)
 
-pub unlocked-boot : (script : Script) (t : ObjNo) (lock : LockNo) → lock_bit (boot script).nano.holders (boot script).mutexes t lock ≡ 0
+pub unlocked-boot : (script : Script) (t : ObjNo) (lock : LockNo) → lock_bit (boot script).synchronization.nano.holders (boot script).synchronization.mutexes t lock ≡ 0
 unfolding boot_of
 unlocked-boot script t (Object o) = nothing_at (born script) (λ (l : List ObjNo). total (mutex_names o) l ≡ 0) t.0 refl
 unlocked-boot script t (Fast f) = ap (option_names t) (copy_at {A = Option ObjNo} None script.fast f)

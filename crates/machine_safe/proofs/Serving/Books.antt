@@ -149,7 +149,7 @@ module _ (script : Script) (before : List Entry) (S : State) (place : ℕ) (shap
   turn-immediate : IsTurn script before (entry_of place Idfc (immediate script S).outcome) (immediate script S).state
   unfolding immediate
   turn-immediate =
-      let found = next_immediate S.deferred in turn-done Idfc (immediate_plan script S found) (λ u. refl) (silent-plan found) (unsent-plan found) (light-immediate script S found shaped rows refl).calm (goes-immediate script S found shaped rows refl)
+      let found = next_immediate S.synchronization.deferred in turn-done Idfc (immediate_plan script S found) (λ u. refl) (silent-plan found) (unsent-plan found) (light-immediate script S found shaped rows refl).calm (goes-immediate script S found shaped rows refl)
 
   turn-tick : IsTurn script before (entry_of place Tick (tick S).outcome) (tick S).state
   turn-tick = turn-without script before S place supervisor Tick (record { step = step.Turn; moves = []; answer = None }) rows book (λ u. refl) refl refl (tame-moves [] refl refl) (inr (inr refl))

@@ -57,11 +57,11 @@ status_of_way Disconnect = None
 
 -- a handle goes with a close only of what is no server
 abbrev pub ClosesOthers : State → Decision → Type 0
-ClosesOthers S d = closes_handle d.step ≡ true → (v : ObjNo) → 0 < total (lost_bit v) d.moves → server_at S.servers v ≡ None
+ClosesOthers S d = closes_handle d.step ≡ true → (v : ObjNo) → 0 < total (lost_bit v) d.moves → server_at S.serving.servers v ≡ None
 
 -- a session is detached only from a server that is closing
 abbrev pub Detaches : State → Decision → Type 0
-Detaches S d = (v : ObjNo) → 0 < total (detach_bit v) d.moves → is_closing S.servers v ≡ true
+Detaches S d = (v : ObjNo) → 0 < total (detach_bit v) d.moves → is_closing S.serving.servers v ≡ true
 
 -- whether an instruction is a `send`
 abbrev pub at_send : Option Instr → Bool
@@ -81,7 +81,7 @@ pub record IsSendOver (S : State) (t : ObjNo) (at : Option Instr) (s : ObjNo) : 
 
 -- why a `send` is refused: its server is closing, or it isn't and all slots are used
 abbrev pub RefusedBy : State → ObjNo → Option ℤ → Type 0
-RefusedBy S s answer = ((open_server S s ≡ None) × (answer ≡ Some (error_code ServerTerminated))) ⊎ ((o : ObjNo) × (open_server S s ≡ Some o) × (is_full S.messages s (slots_of S s) ≡ true) × (answer ≡ Some (error_code ServerBusy)))
+RefusedBy S s answer = ((open_server S s ≡ None) × (answer ≡ Some (error_code ServerTerminated))) ⊎ ((o : ObjNo) × (open_server S s ≡ Some o) × (is_full S.serving.messages s (slots_of S s) ≡ true) × (answer ≡ Some (error_code ServerBusy)))
 
 pub record IsRefusal (S : State) (t : ObjNo) (at : Option Instr) (d : Decision) : Type 0 where
   pub session : ObjNo
@@ -100,7 +100,7 @@ pub record IsKeeping (S : State) (t : ObjNo) (at : Option Instr) (d : Decision) 
 pub record IsAnswered (S : State) (t : ObjNo) (at : Option Instr) (s : ObjNo) (slots : Slots) (d : Decision) : Type 0 where
   pub over : IsSendOver S t at s
   pub answer : d.answer ≡ Some (pos 0)
-  pub free : is_full S.messages s slots ≡ false
+  pub free : is_full S.serving.messages s slots ≡ false
 
 -- thread t, at an instruction, sends a message
 pub record IsSending (S : State) (t : ObjNo) (at : Option Instr) (d : Decision) : Type 0 where
@@ -130,10 +130,10 @@ pub record IsFinishing (S : State) (t : ObjNo) (at : Option Instr) (d : Decision
   pub message : Message
   pub code : ℤ
   pub answers : Bool
-  pub there : message_of S.messages message.number ≡ Some message
+  pub there : message_of S.serving.messages message.number ≡ Some message
   pub moves : d.moves ≡ finish S message code ++ behind answers t
-  pub owner : owner_of S.servers message.row.server ≡ Some t
-  pub cause : code_by d.step (is_closing S.servers message.row.server) at ≡ Some code
+  pub owner : owner_of S.serving.servers message.row.server ≡ Some t
+  pub cause : code_by d.step (is_closing S.serving.servers message.row.server) at ≡ Some code
   pub step : closes_handle d.step ≡ false
   pub unsent : is_send d.step ≡ false
 
@@ -166,7 +166,7 @@ pub record IsJoining (S : State) (t : ObjNo) (at : Option Instr) (d : Decision) 
 pub record IsClosing (S : State) (t : ObjNo) (d : Decision) : Type 0 where
   pub server : ObjNo
   pub row : ServerRow
-  pub is : server_at S.servers server ≡ Some row
+  pub is : server_at S.serving.servers server ≡ Some row
   pub holder : Holder
   pub handle : is_handle holder ≡ true
   pub answers : Bool

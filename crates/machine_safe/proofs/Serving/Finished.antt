@@ -135,10 +135,10 @@ abbrev posts_of : State → List Post
 posts_of X = posts X
 
 abbrev pool_of : State → ℕ
-pool_of X = X.messages.pool
+pool_of X = X.serving.messages.pool
 
 abbrev accepted_of : State → ℕ
-accepted_of X = X.messages.accepted
+accepted_of X = X.serving.messages.accepted
 
 there-thread : (x : Option ThreadRow) → is_some x ≡ true → (row : ThreadRow) × (x ≡ Some row)
 there-thread None is = absurd (cc)
@@ -154,9 +154,9 @@ module _ (script : Script) (before : List Entry) (S : State) (place : ℕ) (t : 
     book = record {
       served = served-doing script before S place t rows book d does changing regular (λ closes v some. let not_so = is.step in absurd (cc)) (λ v some. let a = ap (total (detach_bit v)) is.moves in let b = detach-none v rest calm_rest in absurd (omega arith));
       letters = letters-less script before S T e book.letters (λ p among. keeps.unlinked p.session) post among
-          (λ x there. fewer-posts m.number S.messages.outstanding x (subst (λ (l : List Post). Contains l x) left there))
-          (λ x there apart. subst (λ (l : List Post). Contains l x) (sym left) (other-posts m.number S.messages.outstanding x there apart))
-          same_accepted (ap accepts told ∙ (notice-silent _ _ _ _).0) finishes_it keeps.unended (rows.messages.given m found) (ap over left ∙ over-less m.number S.messages.outstanding);
+          (λ x there. fewer-posts m.number S.serving.messages.outstanding x (subst (λ (l : List Post). Contains l x) left there))
+          (λ x there apart. subst (λ (l : List Post). Contains l x) (sym left) (other-posts m.number S.serving.messages.outstanding x there apart))
+          same_accepted (ap accepts told ∙ (notice-silent _ _ _ _).0) finishes_it keeps.unended (rows.serving.messages.given m found) (ap over left ∙ over-less m.number S.serving.messages.outstanding);
       slotted = slotted-keeps script before e S T book.slotted keeps.unlinked keeps.slots (ap (λ (l : List Move). pool_of (perform t l S)) is.moves ∙ quiet.pool);
       fresh = fresh-on before e book.fresh (λ makes. keeps.unowned (regular.making makes));
     };
@@ -186,11 +186,11 @@ module _ (script : Script) (before : List Entry) (S : State) (place : ℕ) (t : 
       ms : List Move
       ms = finish S is.message is.code ++ behind is.answers t
 
-      found : Contains S.messages.outstanding is.message
-      found = (found_there (has_number is.message.number) S.messages.outstanding is.message is.there).0
+      found : Contains S.serving.messages.outstanding is.message
+      found = (found_there (has_number is.message.number) S.serving.messages.outstanding is.message is.there).0
 
       among : Contains (posts S) (post_of is.message)
-      among = map_there post_of S.messages.outstanding is.message found
+      among = map_there post_of S.serving.messages.outstanding is.message found
 
       known : Known script before (post_of is.message)
       known = book.letters.known (post_of is.message) among
@@ -218,14 +218,14 @@ module _ (script : Script) (before : List Entry) (S : State) (place : ℕ) (t : 
       quiet : IsQuiet (moved t (Messages (Finish is.message.number is.code)) S) (perform t rest (moved t (Messages (Finish is.message.number is.code)) S)) (tell t rest (moved t (Messages (Finish is.message.number is.code)) S))
       quiet = quiet-each script (moved t (Messages (Finish is.message.number is.code)) S) t rest goes.each.1 (message-none rest calm_rest)
 
-      left : posts T ≡ map post_of (filter (λ z. not (has_number is.message.number z)) S.messages.outstanding)
+      left : posts T ≡ map post_of (filter (λ z. not (has_number is.message.number z)) S.serving.messages.outstanding)
       left = ap (λ (l : List Move). posts_of (perform t l S)) is.moves ∙ quiet.posts
 
-      same_accepted : T.messages.accepted ≡ S.messages.accepted
+      same_accepted : T.serving.messages.accepted ≡ S.serving.messages.accepted
       same_accepted = ap (λ (l : List Move). accepted_of (perform t l S)) is.moves ∙ quiet.accepted
 
       client : (row : ThreadRow) × (thread_of S is.message.row.client ≡ Some row)
-      client = there-thread (thread_of S is.message.row.client) (rows.messages.clients is.message found)
+      client = there-thread (thread_of S is.message.row.client) (rows.serving.messages.clients is.message found)
 
       told : e.effects ≡ effect.Finish is.message.number is.code ∷ notice (status_of_way is.message.row.way) (nat_lt 0 (dooms (effects_of before) is.message.row.client)) is.message.row.client is.code
       told = ap (λ (l : List Move). tell t l S) is.moves ∙ finish-tells S t is.message is.code is.answers client.0 (dooms (effects_of before) is.message.row.client) client.1 (fate is.message.row.client client.0 client.1)
@@ -254,8 +254,8 @@ module _ (script : Script) (before : List Entry) (S : State) (place : ℕ) (t : 
           by true at some = same_number is.message.number n (eqb-true is.message.number.0 n.0 at)
           by false at some = absurd (omega arith)
 
-      server : (row : ServerRow) × (server_at S.servers is.message.row.server ≡ Some row) × (row.owner ≡ t)
-      server = owner-row (server_at S.servers is.message.row.server) is.owner
+      server : (row : ServerRow) × (server_at S.serving.servers is.message.row.server ≡ Some row) × (row.owner ≡ t)
+      server = owner-row (server_at S.serving.servers is.message.row.server) is.owner
 
       lawful_finish : IsFinish script before e is.message.number
       lawful_finish =

@@ -47,7 +47,7 @@ module _ (script : Script) (before : List Entry) (S : State) (place : ℕ) (t : 
   made = served-made script (reading before) S book.served
 
   -- a server is made
-  pub turn-makes : {k : Kinds} (d : Decision) → IsRegular k script S t d → IsMaking S t d → Doing script S t d.moves → ((u : ObjNo) → IsLiveThread S.threads u → dooms (effects_of before) u ≡ 0) → IsTurn script before (entry_for place t S d) (perform t d.moves S)
+  pub turn-makes : {k : Kinds} (d : Decision) → IsRegular k script S t d → IsMaking S t d → Doing script S t d.moves → ((u : ObjNo) → IsLiveThread S.references.threads u → dooms (effects_of before) u ≡ 0) → IsTurn script before (entry_for place t S d) (perform t d.moves S)
   turn-makes d regular is does undoomed = record {
     book = record {
       served = served-same script (further (further (reading before) d.step fs (λ k. 0)) d.step gs (steps_of t rest)) (reading (before ++ e ∷ [])) (perform t d.moves S) same whole;
@@ -89,7 +89,7 @@ module _ (script : Script) (before : List Entry) (S : State) (place : ℕ) (t : 
       middle = going-then script (moved t (Servers (Start (next_object S) t)) S) t (Make kind.Server is.name (Own t)) rest (going-then script S t (Servers (Start (next_object S) t)) (Make kind.Server is.name (Own t) ∷ rest) goes)
 
       first : Served script (further (reading before) d.step fs (λ k. 0)) mid
-      first = served-made_server script (reading before) S t d.step book.served rows is.name start (let a = goes.sane.inside in let b = rows.servers.owned_sized in omega arith) is.makes is.step (undoomed t start.owner)
+      first = served-made_server script (reading before) S t d.step book.served rows is.name start (let a = goes.sane.inside in let b = rows.serving.servers.owned_sized in omega arith) is.makes is.step (undoomed t start.owner)
 
       keeps : Keeps mid (perform t rest mid) t rest gs
       keeps = keeps-going script mid t rest middle (served-made script (further (reading before) d.step fs (λ k. 0)) mid first) (changing-none rest (let a = is.quiet in omega arith))
@@ -127,7 +127,7 @@ module _ (script : Script) (before : List Entry) (S : State) (place : ℕ) (t : 
           let new = owner-new v u (o.0 == v.0) refl (sym (owner-told v) ∙ (sym first_owner ∙ owns)) in
           let at = new.0 in (
             book.served.unmade v (omega arith),
-            zero_or (ends (effects_of before) v) (λ some. let row = closing-row (server_at S.servers v) (book.served.ended v some) in let below = made v row.0 row.1 in absurd (omega arith)),
+            zero_or (ends (effects_of before) v) (λ some. let row = closing-row (server_at S.serving.servers v) (book.served.ended v some) in let below = made v row.0 row.1 in absurd (omega arith)),
             subst (λ (x : ObjNo). dooms (effects_of before) x ≡ 0) new.1 (undoomed t start.owner),
           )
 
@@ -140,7 +140,7 @@ module _ (script : Script) (before : List Entry) (S : State) (place : ℕ) (t : 
       q : IsQuiet S (perform t d.moves S) e.effects
       q = quiet-doing script S t d.moves does (let a = ap (total message_bit) is.moves in let b = message-none rest (let c = is.quiet in omega arith) in omega arith)
 
-      slots : (s : ObjNo) (row : SessionRow) → session_at (perform t d.moves S).servers s ≡ Some row → WasSession S.servers s row
+      slots : (s : ObjNo) (row : SessionRow) → session_at (perform t d.moves S).serving.servers s ≡ Some row → WasSession S.serving.servers s row
       slots s row is_row =
-          let later = keeps.slots s row (ap (λ (l : List Move). session_at (perform t l S).servers s) (sym is.moves) ∙ is_row) in
-          record { old = later.old; was = set_item (λ (x : Option SessionRow). x ≡ Some later.old → get_or S.servers.sessions s.0 None ≡ Some later.old) S.servers.sessions (next_object S).0 s.0 None None (λ at none. absurd (cc)) (λ same_row. same_row) later.was; slots = later.slots }
+          let later = keeps.slots s row (ap (λ (l : List Move). session_at (perform t l S).serving.servers s) (sym is.moves) ∙ is_row) in
+          record { old = later.old; was = set_item (λ (x : Option SessionRow). x ≡ Some later.old → get_or S.serving.servers.sessions s.0 None ≡ Some later.old) S.serving.servers.sessions (next_object S).0 s.0 None None (λ at none. absurd (cc)) (λ same_row. same_row) later.was; slots = later.slots }

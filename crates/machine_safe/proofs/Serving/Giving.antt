@@ -35,7 +35,7 @@ use Rattle.machine_laws.proofs.Fitting.Working.{IsGiven}
 use Rattle.script_types.specs.Shape.{IsShaped}
 
 module _ (script : Script) (S : State) (t : ObjNo) (at : Option Instr) (P : Decision → Type 0) (each : OfEach S t at P) where
-  deed-finish : (m : MsgNo) (message : Option Message) → IsGiven S t (OfMessage m) → message_of S.messages m ≡ message → P (finish_message S message)
+  deed-finish : (m : MsgNo) (message : Option Message) → IsGiven S t (OfMessage m) → message_of S.serving.messages m ≡ message → P (finish_message S message)
   deed-finish m None given e = calm each _ refl refl
   deed-finish m (Some message) given e =
       let is = given message e in
@@ -52,14 +52,14 @@ module _ (script : Script) (S : State) (t : ObjNo) (at : Option Instr) (P : Deci
       })
 
   deed-give : (row : ThreadRow) (what : Holding) → IsGiven S t what → IsRegular (kind_given what) script S t (give_up S t row what) → P (give_up S t row what)
-  deed-give row (OfMessage m) given regular = deed-finish m (message_of S.messages m) given refl
+  deed-give row (OfMessage m) given regular = deed-finish m (message_of S.serving.messages m) given refl
   deed-give row (OfServer o) given regular = each.stops _ (record { server = o; moves = refl; makes = refl; step = refl; unsent = refl })
   deed-give row (Handle h o) given regular = deed-handle S t at P h o false (give_up S t row (Handle h o)) given.0 refl refl refl refl refl each (sym (append-nil (close_moves S t h o)))
   deed-give row (OfLink s o) given regular = each.keeps _ (record {
     changing = refl;
     still = refl;
     closed = λ closes v some. absurd (omega arith);
-    detaches = λ v some. let same : o ≡ v = same_is o v (omega arith) in subst (λ (z : ObjNo). is_closing S.servers z ≡ true) same given;
+    detaches = λ v some. let same : o ≡ v = same_is o v (omega arith) in subst (λ (z : ObjNo). is_closing S.serving.servers z ≡ true) same given;
     send = λ sends. absurd (cc);
   })
   deed-give row what given regular = calm each _ (regular.calm refl) (regular.sends refl)

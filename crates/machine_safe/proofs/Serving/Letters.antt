@@ -51,10 +51,10 @@ pub record IsOut (S : State) (m : MsgNo) (session : ObjNo) (server : Option ObjN
 -- So many are accepted; what is outstanding is known; each that was accepted is finished once, or outstanding; none that comes later is finished; and
 -- the sends that are outstanding are those among them.
 pub record Letters (script : Script) (before : List Entry) (S : State) : Type 0 where
-  pub accepted : accepts (effects_of before) ≡ S.messages.accepted
+  pub accepted : accepts (effects_of before) ≡ S.serving.messages.accepted
   pub known : (p : Post) → Contains (posts S) p → Known script before p
   pub all : (m : MsgNo) (a : WasAccepted before m) → (finishes (effects_of before) m ≡ 1) ⊎ IsOut S m a.by.session (server_in a.before a.by.session)
-  pub later : (m : MsgNo) → S.messages.accepted < m.0 → finishes (effects_of before) m ≡ 0
+  pub later : (m : MsgNo) → S.serving.messages.accepted < m.0 → finishes (effects_of before) m ≡ 0
   pub sends : outstanding_in before ≡ over (posts S)
 
 -- what stands in a list with one more behind it is that one, or stands in the list
@@ -221,8 +221,8 @@ module _ (script : Script) (before : List Entry) (S T : State) (e : Entry) (h : 
           }
 
   -- a message goes
-  pub letters-less : (p : Post) → Contains (posts S) p → ((x : Post) → Contains (posts T) x → Contains (posts S) x × (x.number.0 ≢ p.number.0)) → ((x : Post) → Contains (posts S) x → (x.number.0 ≢ p.number.0) → Contains (posts T) x) → T.messages.accepted ≡ S.messages.accepted
-      → accepts e.effects ≡ 0 → ((m : MsgNo) → finishes e.effects m ≡ (if p.number.0 == m.0 then 1 else 0)) → ((v : ObjNo) → ends e.effects v ≡ 0) → p.number.0 ≤ S.messages.accepted → over (posts T) ≡ filter (λ (x : SentOver). not (p.number.0 == x.number.0)) (over (posts S)) → Letters script (before ++ e ∷ []) T
+  pub letters-less : (p : Post) → Contains (posts S) p → ((x : Post) → Contains (posts T) x → Contains (posts S) x × (x.number.0 ≢ p.number.0)) → ((x : Post) → Contains (posts S) x → (x.number.0 ≢ p.number.0) → Contains (posts T) x) → T.serving.messages.accepted ≡ S.serving.messages.accepted
+      → accepts e.effects ≡ 0 → ((m : MsgNo) → finishes e.effects m ≡ (if p.number.0 == m.0 then 1 else 0)) → ((v : ObjNo) → ends e.effects v ≡ 0) → p.number.0 ≤ S.serving.messages.accepted → over (posts T) ≡ filter (λ (x : SentOver). not (p.number.0 == x.number.0)) (over (posts S)) → Letters script (before ++ e ∷ []) T
   letters-less p there fewer others same none goes unended given sends = record {
     accepted = let b = accepted-then in let d = h.accepted in omega arith;
     known = λ x among. let was = fewer x among in known-on script before e x (h.known x was.0) (unlinked x was.0) (unended x.server) (goes x.number ∙ if_not (p.number.0 == x.number.0) 1 (eqb_apart p.number.0 x.number.0 (λ e. was.1 (sym e))));

@@ -4,7 +4,7 @@ use Rattle.entry_log.specs.declared.step.Step.TheVariants.{Of}
 use Rattle.machine.specs.Decide.{answer}
 use Rattle.machine.specs.Handles.{holder_of, thread_handle}
 use Rattle.machine.specs.Messaging.{connects, no_args, open_server, post, slots_of, wake_receiver}
-use Rattle.machine.specs.Moves.{next_object, tell}
+use Rattle.machine.specs.Moves.{next_object, no_number_left, tell}
 use Rattle.machine.specs.References.{total}
 use Rattle.machine.specs.SessionCalls.{args_of, call_do, call_step, call_to, connect_done, connect_make, connect_send, connect_step, connect_to, fail_connect, make_session, send_connect, send_do, send_step, send_to, session_made}
 use Rattle.machine.specs.declared.decision.Decision.{Decision}
@@ -42,7 +42,6 @@ use Rattle.std.specs.Ordering.{int_eq}
 use Rattle.std.specs.Prelude.{if◌then◌else◌, is_some, not, ◌==◌}
 use Rattle.sym_base.specs.declared.kind.Arg.{Arg}
 use Rattle.sym_base.specs.declared.kind.Slots.{Slots}
-use Rattle.sym_base.specs.declared.limits.TheConstants.Limits.{OBJECTS}
 use Rattle.sym_base.specs.declared.word.Word.TheVariants as word
 use Rattle.entry_log.specs.declared.step.Part.TheVariants as part
 use Rattle.script_types.specs.declared.instruction.Instr.TheVariants as instr
@@ -60,22 +59,22 @@ use Rattle.entry_log.specs.declared.effect.StatusNo.TheVariants as status
 use Rattle.machine.specs.WellFormed.{IsLiveThread}
 
 -- the server that accepts is the session's, and isn't closing
-pub open_is : (S : State) (s o : ObjNo) → open_server S s ≡ Some o → is_closing S.servers o ≡ false
-open_is S s o e = by (server_of S.servers s) e
+pub open_is : (S : State) (s o : ObjNo) → open_server S s ≡ Some o → is_closing S.serving.servers o ≡ false
+open_is S s o e = by (server_of S.serving.servers s) e
   where
-    by : (v : Option ObjNo) → (if accepts S.servers v then v else None) ≡ Some o → is_closing S.servers o ≡ false
+    by : (v : Option ObjNo) → (if accepts S.serving.servers v then v else None) ≡ Some o → is_closing S.serving.servers o ≡ false
     by None e = absurd (cc)
-    by (Some v) e = where_open (is_closing S.servers v) refl e
+    by (Some v) e = where_open (is_closing S.serving.servers v) refl e
       where
-        where_open : (b : Bool) → is_closing S.servers v ≡ b → (if not b then Some v else None) ≡ Some o → is_closing S.servers o ≡ false
+        where_open : (b : Bool) → is_closing S.serving.servers v ≡ b → (if not b then Some v else None) ≡ Some o → is_closing S.serving.servers o ≡ false
         where_open true is e = absurd (cc)
-        where_open false is e = let own : v ≡ o = cc in subst (λ (x : ObjNo). is_closing S.servers x ≡ false) own is
+        where_open false is e = let own : v ≡ o = cc in subst (λ (x : ObjNo). is_closing S.serving.servers x ≡ false) own is
 
 -- a receiver that wakes
-pub woken-quiet : (S : State) (o : ObjNo) (rest : List Move) → total serving_bit rest ≡ 0 → total serving_bit (wake_receiver S o (owner_of S.servers o) ++ rest) ≡ 0
+pub woken-quiet : (S : State) (o : ObjNo) (rest : List Move) → total serving_bit rest ≡ 0 → total serving_bit (wake_receiver S o (owner_of S.serving.servers o) ++ rest) ≡ 0
 woken-quiet S o rest none =
-    let wakes = (tame-wake {k = plain} S o (owner_of S.servers o)).calm refl in
-    let both = total-append serving_bit (wake_receiver S o (owner_of S.servers o)) rest in omega arith
+    let wakes = (tame-wake {k = plain} S o (owner_of S.serving.servers o)).calm refl in
+    let both = total-append serving_bit (wake_receiver S o (owner_of S.serving.servers o)) rest in omega arith
 
 pub behind-quiet : (answers : Bool) (t : ObjNo) → total serving_bit (behind answers t) ≡ 0
 behind-quiet true t = refl
@@ -142,7 +141,7 @@ deed-send S t at live P row x function y args p is here each = by row.uses refl
   where
     by : (uses : Option ObjNo) → row.uses ≡ uses → P (send_do S t (pos function) y (args_of args) uses)
     by None e = calm each _ refl refl
-    by (Some s) e = if_cases P (is_pending S.requests t y) _ _
+    by (Some s) e = if_cases P (is_pending S.synchronization.requests t y) _ _
         (λ _. calm each _ refl refl)
         (λ _. deed-send_to S t at live P s x function y args (open_server S s) (record { here = ap at_send here; row = row; is = is; uses = e }) here refl each)
 
@@ -183,13 +182,13 @@ deed-connect_to : (S : State) (t : ObjNo) (at : Option Instr) (P : Decision → 
 deed-connect_to S t at P slots o None here each = calm each _ refl refl
 deed-connect_to S t at P slots o (Some server) here each = if_cases P server.is_closing _ _
     (λ _. calm each _ refl refl)
-    (λ _. if_cases P (length S.objects == OBJECTS) _ _
+    (λ _. if_cases P (no_number_left S) _ _
     (λ _. calm each _ refl refl)
     (λ _. deed-made_session S t at P o slots (thread_handle S t) here each))
 
 deed-connect_make : (S : State) (t : ObjNo) (at : Option Instr) (P : Decision → Type 0) (slots : Slots) (uses : Option ObjNo) → slots_of_connect at ≡ Some slots → OfEach S t at P → P (connect_make S t slots uses)
 deed-connect_make S t at P slots None here each = calm each _ refl refl
-deed-connect_make S t at P slots (Some o) here each = deed-connect_to S t at P slots o (server_at S.servers o) here each
+deed-connect_make S t at P slots (Some o) here each = deed-connect_to S t at P slots o (server_at S.serving.servers o) here each
 
 -- one that fails loses a handle, which is no close
 unchanged-handle : (t : ObjNo) (row : ThreadRow) (handle : ℕ) (s : ObjNo) → changing_bit (Lose (holder_of t row handle) s) ≡ 0
@@ -220,7 +219,7 @@ deed-connect_send S t at live P row (Some s) told each = if_cases P (is_some (he
 
 deed-connect_done : (S : State) (t : ObjNo) (at : Option Instr) (P : Decision → Type 0) (row : ThreadRow) (x : ℕ) (session : Option ObjNo) → OfEach S t at P → P (connect_done S t row x session)
 deed-connect_done S t at P row x None each = calm each _ refl refl
-deed-connect_done S t at P row x (Some s) each = if_cases P (int_eq (reply_of S.requests t) (pos 0)) _ _
+deed-connect_done S t at P row x (Some s) each = if_cases P (int_eq (reply_of S.synchronization.requests t) (pos 0)) _ _
     (λ _. calm each _ refl refl)
     (λ _. deed-failed S t at P row s _ part.Done refl refl each)
 

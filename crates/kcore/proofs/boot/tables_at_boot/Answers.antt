@@ -54,7 +54,7 @@ tables_of-requires-clause-few g c =
 pub tables_of-requires-clause-known : goal.tables_of-requires-clause-known
 tables_of-requires-clause-known g c =
     let script = c.args.script.now in
-    subst (λ (S : State). length S.threads ≤ BOOT_OBJECTS) (sym c.requires.boot) (rows-boot script c.requires.valid).sized.threads_few
+    subst (λ (S : State). length S.references.threads ≤ BOOT_OBJECTS) (sym c.requires.boot) (rows-boot script c.requires.valid).references.sized.threads_few
 
 pub returns-clause-state : goal.returns-clause-state
 returns-clause-state g c =
@@ -75,7 +75,7 @@ returns-clause-kept g c =
     let all : c.as_slice.result.now ≡ born script = c.as_slice.ensures ∙ c.in_ok-all.ensures in
     let long : length c.as_slice-2.result.now ≡ length (born script) = ap length (c.as_slice-2.ensures ∙ c.in_ok-all.ensures) in
     let agree : Agrees objects.counts (boot script) = agrees_at_boot script c.requires.valid c.as_slice.result.now objects.rows objects.counts all (subst (λ (S : State). FirstStand c.as_slice.result.now S objects.rows objects.counts (length c.as_slice.result.now)) c.requires.boot c.in_ok-objects.ensures) in
-    let threads : tables.procs.threads ≡ map (λ (b : Born). b.thread) (born script) = ap (λ p. p.threads) made.procs ∙ (ap (λ (S : State). S.threads) c.requires.boot ∙ threads_at_boot script) in
+    let threads : tables.procs.threads ≡ map (λ (b : Born). b.thread) (born script) = ap (λ p. p.threads) made.procs ∙ (ap (λ (S : State). S.references.threads) c.requires.boot ∙ threads_at_boot script) in
     let state = returns-clause-state g c in
     record {
       counts = λ o. ap (λ (counts : List ℕ). slice_index counts o.0) (ap (λ t. t.counts) made.objects) ∙ (agree o ∙ sym (ap (λ (S : State). count_of S o) state));
