@@ -309,7 +309,7 @@ abbrev pub FitsMove : Script → ObjNo → Move → State → Type 0
 FitsMove script t (Make kind name h) S = MayMake S kind name × MayMakeWith S h × HasName kind name × IsOwn t h
 FitsMove script t (Gain h o) S = IsFree S h × IsAlive (object_of S o) × IsOwn t h
 FitsMove script t (Lose h o) S = (is_returning (part_of (thread_of S t)) ≡ false) × Holds S h o × IsOwn t h
-FitsMove script t (Find u o) S = (o.0 < length S.objects) × (u ≡ t)
+FitsMove script t (Find u o) S = (o.0 < length S.references.objects) × (u ≡ t)
 FitsMove script t (Miss o) S = Unit {0}
 FitsMove script t (GoOn u part) S = MayGoOn script S u (Some part) × MaySend (Some part) S × (u ≡ t)
 FitsMove script t (Keep u number) S = u ≡ t

@@ -88,9 +88,9 @@ swept_died script before e later o shaped s =
     let none = not_gone-boot script shaped o in
     let swept_now = run-swept script (boot script) (before ++ e ∷ []) o s.run in
     let more = s.step.lives.sweeps o in
-    let here = gone_is S.objects o in
+    let here = gone_is S.references.objects o in
     elim (cases_lt 0 (removals e.effects o)) as (λ _. removals (effects_of (before ++ e ∷ [])) o ≤ deaths (effects_of before) o) [
-      | inl some ↦ let was = s.step.lives.removes o some in let few = swept_le T.objects o in omega arith
+      | inl some ↦ let was = s.step.lives.removes o some in let few = swept_le T.references.objects o in omega arith
       | inr quiet ↦ omega arith
     ]
 
@@ -99,7 +99,7 @@ dies_once script history shaped run o = record {
   dies = λ before e later is.
       let s = split script history before e later run is in
       let a = run-gone script (boot script) (before ++ e ∷ []) o s.run in
-      let b = gone_le (after_from script (boot script) (before ++ e ∷ [])).objects o in omega arith;
+      let b = gone_le (after_from script (boot script) (before ++ e ∷ [])).references.objects o in omega arith;
   swept = λ before e later is. swept_died script before e later o shaped (split script history before e later run is);
   closed = λ before e until later is dead unswept.
       let none = (has_one_life script history run o).closed before e (until ++ later) is dead in

@@ -58,10 +58,10 @@ same_slot : (tables other : List (List HandleSlot)) (owner : ObjNo) (i : ℕ) (o
 same_slot tables other owner i o same is = ap (λ (x : List (List HandleSlot)). (slot_at (get_or x owner.0 []) i).object) same ∙ is
 
 pub handle_of_thread : (S : State) (t : ObjNo) (i : ℕ) (o : ObjNo) → is_some (thread_of S t) ≡ true → (slot_at (table_of S t) i).object ≡ Some o → IsHandle S t (InThread t i) o
-handle_of_thread S t i o there is = record { own = refl; owner = t; index = i; slot = is; holds = λ T tables threads. (threads t ∙ there, same_slot S.handles T.handles t i o tables is) }
+handle_of_thread S t i o there is = record { own = refl; owner = t; index = i; slot = is; holds = λ T tables threads. (threads t ∙ there, same_slot S.references.handles T.references.handles t i o tables is) }
 
 pub handle_of_process : (S : State) {t : ObjNo} (p : ObjNo) (i : ℕ) (o : ObjNo) → thread_of S p ≡ None → (slot_at (table_of S p) i).object ≡ Some o → IsHandle S t (InProcess p i) o
-handle_of_process S p i o none is = record { own = tt; owner = p; index = i; slot = is; holds = λ T tables threads. (none_of (thread_of T p) (threads p ∙ ap is_some none), same_slot S.handles T.handles p i o tables is) }
+handle_of_process S p i o none is = record { own = tt; owner = p; index = i; slot = is; holds = λ T tables threads. (none_of (thread_of T p) (threads p ∙ ap is_some none), same_slot S.references.handles T.references.handles p i o tables is) }
 
 -- moves that close a handle in an action of thread t
 pub record Closes (script : Script) (S : State) (t : ObjNo) (ms : List Move) : Type 0 where
@@ -197,7 +197,7 @@ module _ (script : Script) (S : State) (t : ObjNo) (h : Holder) (o : ObjNo) (may
             accepted,
             (
               woken_fits script S closing t o v disconnects no_args Disconnect u row (may_post v was accepts) is receiving,
-              ((ap is_returning (mapped-value part_of (with_waiting waiting.Nothing) S.threads u.0 t.0 (λ r. refl)) ∙ part_going may, handle.holds W refl (λ p. mapped-some (with_waiting waiting.Nothing) S.threads u.0 p.0), handle.own), tt),
+              ((ap is_returning (mapped-value part_of (with_waiting waiting.Nothing) S.references.threads u.0 t.0 (λ r. refl)) ∙ part_going may, handle.holds W refl (λ p. mapped-some (with_waiting waiting.Nothing) S.references.threads u.0 p.0), handle.own), tt),
             ),
           ),
         );
@@ -232,7 +232,7 @@ module _ (script : Script) (S : State) (t : ObjNo) (h : Holder) (o : ObjNo) (may
 
 -- the close of a handle
 pub closes : (script : Script) (S : State) (t : ObjNo) (h : Holder) (o : ObjNo) → MayClose script S t → IsHandle S t h o → Closes script S t (close_moves S t h o)
-closes script S t h o may handle = closes-by script S t h o may handle (server_at S.servers o) refl
+closes script S t h o may handle = closes-by script S t h o may handle (server_at S.serving.servers o) refl
 
 -- and the thread is at its instruction still
 stay-disconnect : (script : Script) (S : State) (t s : ObjNo) (o : Option ObjNo) → AllStay script t (disconnect S t s o)

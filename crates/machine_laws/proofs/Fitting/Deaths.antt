@@ -159,7 +159,7 @@ fits-logon_do {script = script} {S = S} {t = t} {row = row} s u r h going small 
 
 pub fits-logon : {script : Script} {S : State} {t : ObjNo} {row : ThreadRow} (x s : ℕ) (p : Option Part) → IsStepping script S t row (instr.Logon x s) → is_returning row.part ≡ false → row.part ≡ p → FitsDecision looking script t S (logon_step S t row x s p)
 fits-logon {script = script} {S = S} {t = t} {row = row} x s None h going at =
-    if_cases (FitsDecision looking script t S) (is_pending S.requests t s) _ _ (λ _. fits-refuse (step.Of word.Logon part.Look) refl error.InUse h) (λ _. fits-look_kind kind.Thread word.Logon x refl refl h (ap is_before_use at))
+    if_cases (FitsDecision looking script t S) (is_pending S.synchronization.requests t s) _ _ (λ _. fits-refuse (step.Of word.Logon part.Look) refl error.InUse h) (λ _. fits-look_kind kind.Thread word.Logon x refl refl h (ap is_before_use at))
 fits-logon {script = script} {S = S} {t = t} {row = row} x s (Some p) h going at = on row.uses
   where
     there : (u : ObjNo) (r : Option ThreadRow) → thread_of S u ≡ r → is_pending S.synchronization.requests t s ≡ false → FitsDecision looking script t S (logon_row t u s r)

@@ -125,8 +125,8 @@ mutex_inside script S f rows known = let below = ltb-true f script.fast known in
 pub fits-flock : {script : Script} {S : State} {t : ObjNo} {row : ThreadRow} (f : ℕ) (p : Option Part) → IsStepping script S t row (instr.Flock f) → is_returning row.part ≡ false → FitsDecision looking script t S (flock_step S t f p)
 fits-flock {script = script} {S = S} {t = t} {row = row} f None h going =
     fits-unless (step.Of word.Flock part.Do) refl _ h (λ none.
-    if_cases (FitsDecision looking script t S) (is_free S.nano f) _ _
-    (λ free. fits-nano (step.Of word.Flock part.Do) refl (nano.Take t f) (pos 0) h (own_row h) (inside, none_is (holder_of S.nano f) free, may_take h going none))
+    if_cases (FitsDecision looking script t S) (is_free S.synchronization.nano f) _ _
+    (λ free. fits-nano (step.Of word.Flock part.Do) refl (nano.Take t f) (pos 0) h (own_row h) (inside, none_is (holder_of S.synchronization.nano f) free, may_take h going none))
     (λ _. fits-later (step.Of word.Flock part.Do) refl (move.Nano (nano.Want t (Some f))) refl h (cheap_nano _) (there, (inside, none))))
   where
     inside : f < length S.synchronization.nano.holders
@@ -144,7 +144,7 @@ fits-flock {script = script} {S = S} {t = t} f (Some p) h going = taken (want_of
 pub fits-fswait : {script : Script} {S : State} {t : ObjNo} {row : ThreadRow} {instr : Instr} (p : Option Part) → IsStepping script S t row instr → is_returning row.part ≡ false → FitsDecision looking script t S (fswait_step S t p)
 fits-fswait {script = script} {S = S} {t = t} None h going =
     fits-unless (step.Of word.Fswait part.Do) refl _ h (λ none.
-    if_cases (FitsDecision looking script t S) (signal_count S.nano t == 0) _ _
+    if_cases (FitsDecision looking script t S) (signal_count S.synchronization.nano t == 0) _ _
     (λ _. fits-later (step.Of word.Fswait part.Do) refl (move.Wait t waiting.Fast) refl h (record { told = omega arith; light = refl; calm = tame-moves _ refl refl }) (none, stepping_nowhere h, live-changed S (moved t (move.GoOn t part.Done) S) t (with_part part.Done) (λ r. refl) refl (stepping_live h going), λ r at live. stepping_uncalled h going))
     (λ _. fits-nano (step.Of word.Fswait part.Do) refl (nano.Lower t) (pos 0) h (own_row h) tt))
 fits-fswait (Some p) h going = fits-answer (step.Of word.Fswait part.Done) refl (pos 0) h

@@ -75,7 +75,7 @@ waiting_live {S = S} {t = t} o h going =
     live-changed (moved t (move.GoOn t part.Done) S) (waiting_at S t o) t (with_waiting (waiting.Lock o)) (λ r. refl) refl
     (live-changed S (moved t (move.GoOn t part.Done) S) t (with_part part.Done) (λ r. refl) refl (stepping_live h going))
 
-fits-wait_at : {k : Kinds} {script : Script} {S : State} {t : ObjNo} {row : ThreadRow} {instr : Instr} (told : Step) (named : may_tell k told ≡ true) (o : ObjNo) (m : LockMove) → k.goes ≡ true → IsTame k 0 (move.Locks m ∷ []) → IsStepping script S t row instr → is_returning row.part ≡ false → held_by S.nano t ≡ None → (MayJoin (waiting_at S t o) o t → FitsLocks t m (waiting_at S t o)) → FitsDecision k script t S (wait_at t told o m)
+fits-wait_at : {k : Kinds} {script : Script} {S : State} {t : ObjNo} {row : ThreadRow} {instr : Instr} (told : Step) (named : may_tell k told ≡ true) (o : ObjNo) (m : LockMove) → k.goes ≡ true → IsTame k 0 (move.Locks m ∷ []) → IsStepping script S t row instr → is_returning row.part ≡ false → held_by S.synchronization.nano t ≡ None → (MayJoin (waiting_at S t o) o t → FitsLocks t m (waiting_at S t o)) → FitsDecision k script t S (wait_at t told o m)
 fits-wait_at {S = S} {t = t} {row = row} told named o m goes calm h going none fits = record {
   each = (
     (record { unused = λ r is e. absurd (cc); paid = λ e. absurd (cc); unspent = unspent h; at = λ e. absurd (cc); ends = λ r is. begun_one r.part }, tt, refl),
@@ -87,7 +87,7 @@ fits-wait_at {S = S} {t = t} {row = row} told named o m goes calm h going none f
 }
 
 -- `lock`
-fits-lock_by : {script : Script} {S : State} {t : ObjNo} {row : ThreadRow} {instr : Instr} (o : ObjNo) (locked : Locked) → IsStepping script S t row instr → is_returning row.part ≡ false → held_by S.nano t ≡ None → IsAlive (object_of S o) → server_at S.servers o ≡ None → locked ≡ lock_answer (owner_at S.locks o) t → FitsDecision locking script t S (lock_by t o locked)
+fits-lock_by : {script : Script} {S : State} {t : ObjNo} {row : ThreadRow} {instr : Instr} (o : ObjNo) (locked : Locked) → IsStepping script S t row instr → is_returning row.part ≡ false → held_by S.synchronization.nano t ≡ None → IsAlive (object_of S o) → server_at S.serving.servers o ≡ None → locked ≡ lock_answer (owner_at S.synchronization.locks o) t → FitsDecision locking script t S (lock_by t o locked)
 fits-lock_by o Waits h going none alive other e = fits-wait_at (Of word.Lock part.Do) refl o (Lock o _ Waits) refl (tame-at locking _ refl refl) h going none (λ joins. record { alive = alive; thread = ap is_some joins.waits.is; live = waiting_live o h going; paid = h.paid; other = other; answer = e; joins = λ _. joins })
 fits-lock_by o Taken h going none alive other e = fits-locked (Of word.Lock part.Do) refl (Lock o _ Taken) (tame-at locking _ refl refl) h (record { alive = alive; thread = ap is_some h.is; live = stepping_live h going; paid = h.paid; other = other; answer = e; joins = λ e. absurd (cc) })
 fits-lock_by o Again h going none alive other e = fits-locked (Of word.Lock part.Do) refl (Lock o _ Again) (tame-at locking _ refl refl) h (record { alive = alive; thread = ap is_some h.is; live = stepping_live h going; paid = h.paid; other = other; answer = e; joins = λ e. absurd (cc) })
@@ -138,9 +138,9 @@ fits-unlock {row = row} x (Some p) h going at = fits-unlock_do row.uses h going 
 -- `wait`
 fits-wait_on : {script : Script} {S : State} {t : ObjNo} {row : ThreadRow} {instr : Instr} (o : ObjNo) → IsStepping script S t row instr → is_returning row.part ≡ false → held_by S.synchronization.nano t ≡ None → IsAlive (object_of S o) → FitsDecision looking script t S (wait_on t o (count_at S.synchronization.locks o))
 fits-wait_on {script = script} {S = S} {t = t} o h going none alive =
-    if_cases (FitsDecision looking script t S) (count_at S.locks o == 0) _ _
+    if_cases (FitsDecision looking script t S) (count_at S.synchronization.locks o == 0) _ _
     (λ _. fits-wait_at (Of word.Wait part.Do) refl o (WaitOn o t) refl (tame-moves _ refl refl) h going none (λ joins. record { alive = alive; joins = λ _. joins }))
-    (λ some. fits-locked (Of word.Wait part.Do) refl (WaitOn o t) (tame-moves _ refl refl) h (record { alive = alive; joins = λ empty. absurd (cc (eq-eqb (count_at S.locks o) 0 empty)) }))
+    (λ some. fits-locked (Of word.Wait part.Do) refl (WaitOn o t) (tame-moves _ refl refl) h (record { alive = alive; joins = λ empty. absurd (cc (eq-eqb (count_at S.synchronization.locks o) 0 empty)) }))
 
 fits-wait_do : {script : Script} {S : State} {t : ObjNo} {row : ThreadRow} {instr : Instr} (uses : Option ObjNo) → IsStepping script S t row instr → is_returning row.part ≡ false → row.uses ≡ uses → FitsDecision looking script t S (wait_do S t uses)
 fits-wait_do {script = script} {S = S} {t = t} None h going e = fits-nothing script S t

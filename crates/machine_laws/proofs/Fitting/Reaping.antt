@@ -175,8 +175,8 @@ module _ (script : Script) (S : State) (t : ObjNo) (row : ThreadRow) (h : IsDyin
   all-own = all-handles (InThread t) 0 (table_of S t) (λ j o is. numbered (InThread t) j o (gives-handle (InThread t j) o h (handle_of_thread S t j o (ap is_some h.is) is), (refl, record { row = row; is = h.is; at = h.doomed })))
 
   all-process : AllByRecursion Gives (process_handles S t row.process)
-  all-process = if_cases (AllByRecursion Gives) (total (left_of row.process) S.threads == left_of row.process (thread_of S t)) _ _
-      (λ _. all-handles (InProcess row.process) 0 (table_of S row.process) (λ j o is. numbered (InProcess row.process) j o (gives-handle (InProcess row.process j) o h (handle_of_process S row.process j o (h.rows.threads.processes t.0 row h.is) is), (refl, record { row = row; is = h.is; at = h.doomed })))) (λ _. tt)
+  all-process = if_cases (AllByRecursion Gives) (total (left_of row.process) S.references.threads == left_of row.process (thread_of S t)) _ _
+      (λ _. all-handles (InProcess row.process) 0 (table_of S row.process) (λ j o is. numbered (InProcess row.process) j o (gives-handle (InProcess row.process j) o h (handle_of_process S row.process j o (h.rows.references.threads.processes t.0 row h.is) is), (refl, record { row = row; is = h.is; at = h.doomed })))) (λ _. tt)
 
   -- so is the first of it; the work of closing servers goes in its order
   first-given : OfFirst Gives (holdings S t row)

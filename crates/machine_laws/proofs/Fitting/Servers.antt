@@ -55,20 +55,20 @@ owes_more h going = record { thread = ap is_some h.is; going = ap (λ (r : Optio
 -- `server`
 pub fits-server : {script : Script} {S : State} {t : ObjNo} {row : ThreadRow} (name : List ℕ) (x : ℕ) → IsStepping script S t row (instr.Server name x) → is_returning row.part ≡ false → FitsDecision calling script t S (server_do S t name x)
 fits-server {script = script} {S = S} {t = t} {row = row} name x h going =
-    if_cases (FitsDecision calling script t S) (is_taken kind.Server name S.objects) _ _ (λ _. fits-refuse (Of word.Server part.Do) refl error.AlreadyExists h)
-    (λ new. if_cases (FitsDecision calling script t S) (length S.objects == OBJECTS) _ _ (λ _. fits-refuse (Of word.Server part.Do) refl error.Overflow h)
+    if_cases (FitsDecision calling script t S) (is_taken kind.Server name S.references.objects) _ _ (λ _. fits-refuse (Of word.Server part.Do) refl error.AlreadyExists h)
+    (λ new. if_cases (FitsDecision calling script t S) (length S.references.objects == OBJECTS) _ _ (λ _. fits-refuse (Of word.Server part.Do) refl error.Overflow h)
     (λ room. of_thread_handle (λ handle. FitsDecision calling script t S (make_server t (next_object S) name x handle)) h (fits-refuse (Of word.Server part.Do) refl error.Overflow h) (made new (room_left h room))))
   where
-    made : is_taken kind.Server name S.objects ≡ false → length S.objects < OBJECTS → (i number : ℕ) → IsFree S (InThread t i) → FitsDecision calling script t S (make_server t (next_object S) name x (Some (record { holder = InThread t i; number = number })))
+    made : is_taken kind.Server name S.references.objects ≡ false → length S.references.objects < OBJECTS → (i number : ℕ) → IsFree S (InThread t i) → FitsDecision calling script t S (make_server t (next_object S) name x (Some (record { holder = InThread t i; number = number })))
     made new room i number free =
         let o = next_object S in
         let started = moved t (move.Servers (Start o t)) S in
-        let sized = h.rows.servers.servers_sized in
-        let alive : IsAlive (object_of (moved t (move.Make kind.Server name (Own t)) started) o) = subst IsAlive (sym (get_or_push S.objects (Some (new_object kind.Server name)) None o.0 refl)) refl in
+        let sized = h.rows.serving.servers.servers_sized in
+        let alive : IsAlive (object_of (moved t (move.Make kind.Server name (Own t)) started) o) = subst IsAlive (sym (get_or_push S.references.objects (Some (new_object kind.Server name)) None o.0 refl)) refl in
         fits-handle (Of word.Server part.Do) refl (move.Servers (Start o t) ∷ move.Make kind.Server name (Own t) ∷ move.Gain (InThread t i) o ∷ []) x number (tame-at calling _ refl refl) h h.registers (
           record { next = refl; room = room; owner = live_thread h going },
           (
-            (record { room = room; new = new }, record { owner = live_thread h going; server = get_or-set_same S.servers.servers o.0 _ None (omega arith) }, λ e. absurd (cc), tt),
+            (record { room = room; new = new }, record { owner = live_thread h going; server = get_or-set_same S.serving.servers.servers o.0 _ None (omega arith) }, λ e. absurd (cc), tt),
             (((free.0, record { inside = free.1.inside; least = free.1.least }, free.2), alive, refl), tt),
           ),
         ) refl (omega arith) (omega arith)
@@ -86,7 +86,7 @@ fits-receive_do : {script : Script} {S : State} {t : ObjNo} {row : ThreadRow} {i
 fits-receive_do {script = script} {S = S} {t = t} y None h going register e = fits-nothing script S t
 fits-receive_do {script = script} {S = S} {t = t} {row = row} y (Some o) h going register e = fits-unless (Of word.Receive part.Do) refl _ h (λ none. by none (next_of S.serving.messages o))
   where
-    by : held_by S.nano t ≡ None → (next : Option MsgNo) → FitsDecision looking script t S (receive_next t o y next)
+    by : held_by S.synchronization.nano t ≡ None → (next : Option MsgNo) → FitsDecision looking script t S (receive_next t o y next)
     by none None = fits-later (Of word.Receive part.Do) refl (move.Wait t (waiting.Receive o)) refl h (record { told = omega arith; light = refl; calm = tame-moves _ refl refl })
         (none, stepping_nowhere h, live-changed S (moved t (move.GoOn t part.Done) S) t (with_part part.Done) (λ r. refl) refl (stepping_live h going), λ r at live. stepping_uncalled h going)
     by none (Some m) = fits-take (Of word.Receive part.Do) refl o y m h going register (use_is_alive S t row o h.rows.lives h.is e)

@@ -146,11 +146,11 @@ fits-connect_make : {script : Script} {S : State} {t : ObjNo} {row : ThreadRow} 
 fits-connect_make {script = script} {S = S} {t = t} slots None h at e = fits-nothing script S t
 fits-connect_make {script = script} {S = S} {t = t} {row = row} {instr = instr} slots (Some o) h at e = by (server_at S.serving.servers o) refl
   where
-    by : (server : Option ServerRow) → server_at S.servers o ≡ server → FitsDecision calling script t S (connect_to S t slots o server)
+    by : (server : Option ServerRow) → server_at S.serving.servers o ≡ server → FitsDecision calling script t S (connect_to S t slots o server)
     by None is = fits-nothing script S t
     by (Some server) is =
         if_cases (FitsDecision calling script t S) server.is_closing _ _ (λ _. fits-refuse (Of word.Connect part.Make) refl error.ServerTerminated h)
-        (λ accepts. if_cases (FitsDecision calling script t S) (length S.objects == OBJECTS) _ _ (λ _. fits-refuse (Of word.Connect part.Make) refl error.Overflow h)
+        (λ accepts. if_cases (FitsDecision calling script t S) (length S.references.objects == OBJECTS) _ _ (λ _. fits-refuse (Of word.Connect part.Make) refl error.Overflow h)
         (λ room. of_thread_handle (λ handle. FitsDecision calling script t S (make_session t o slots (next_object S) handle)) h (fits-refuse (Of word.Connect part.Make) refl error.Overflow h)
         (fits-made script S t row instr o slots h (ap is_returning at) server is accepts (room_left h room) (use_is_alive S t row o h.rows.lives h.is e) (ap begun at))))
 
@@ -222,7 +222,7 @@ fits-connect_send : {script : Script} {S : State} {t : ObjNo} {row : ThreadRow} 
 fits-connect_send {script = script} {S = S} {t = t} None h going at is = fits-nothing script S t
 fits-connect_send {script = script} {S = S} {t = t} {row = row} (Some s) h going at is = fits-unless (Of word.Connect part.Send) refl _ h (λ none. by none (open_server S s) refl)
   where
-    by : held_by S.nano t ≡ None → (server : Option ObjNo) → open_server S s ≡ server → FitsDecision calling script t S (send_connect S t row s server)
+    by : held_by S.synchronization.nano t ≡ None → (server : Option ObjNo) → open_server S s ≡ server → FitsDecision calling script t S (send_connect S t row s server)
     by none None accepts = fits-fail part.Send refl s (error_code error.ServerTerminated) h going is
     by none (Some o) accepts =
         let handle = handle_named row.found s h is in
@@ -242,8 +242,8 @@ fits-connect_send {script = script} {S = S} {t = t} {row = row} (Some s) h going
 fits-connect_done : {script : Script} {S : State} {t : ObjNo} {row : ThreadRow} {instr : Instr} (x : ℕ) (made : Option ObjNo) → IsStepping script S t row instr → is_returning row.part ≡ false → x < 8 → session_made S t row ≡ made → FitsDecision calling script t S (connect_done S t row x made)
 fits-connect_done {script = script} {S = S} {t = t} x None h going register is = fits-nothing script S t
 fits-connect_done {script = script} {S = S} {t = t} {row = row} x (Some s) h going register is =
-    if_cases (FitsDecision calling script t S) (int_eq (reply_of S.requests t) (pos 0)) _ _
-    (λ _. fits-handle (Of word.Connect part.Done) refl [] x row.found (tame-moves _ refl refl) h register tt refl (omega arith) (omega arith)) (λ _. fits-fail part.Done refl s (reply_of S.requests t) h going is)
+    if_cases (FitsDecision calling script t S) (int_eq (reply_of S.synchronization.requests t) (pos 0)) _ _
+    (λ _. fits-handle (Of word.Connect part.Done) refl [] x row.found (tame-moves _ refl refl) h register tt refl (omega arith) (omega arith)) (λ _. fits-fail part.Done refl s (reply_of S.synchronization.requests t) h going is)
 
 pub fits-connect : {script : Script} {S : State} {t : ObjNo} {row : ThreadRow} (name : List ℕ) (slots : Slots) (x : ℕ) (p : Option Part) → IsStepping script S t row (instr.Connect name slots x) → is_returning row.part ≡ false → row.part ≡ p → FitsDecision (kind_of (instr.Connect name slots x) p) script t S (connect_step S t row name slots x p)
 fits-connect name slots x None h going at = fits-unless (Of word.Connect part.Seek) refl _ h (λ _. fits-seek word.Connect kind.Server name refl h (ap is_before_use at))
@@ -255,10 +255,10 @@ pub fits-connect_return : {script : Script} {S : State} {t : ObjNo} {row : Threa
 fits-connect_return h before = fits-return word.Connect part.Make refl refl h before refl tt
 
 -- `send`
-fits-send_to : {script : Script} {S : State} {t : ObjNo} {row : ThreadRow} {instr : Instr} (s : ObjNo) (function : ℤ) (y : ℕ) (args : List Arg) (server : Option ObjNo) → IsStepping script S t row instr → is_returning row.part ≡ false → begun row.part ≡ 0 → y < 16 → is_pending S.requests t y ≡ false → length args ≡ 4 → IsAlive (object_of S s) → open_server S s ≡ server → FitsDecision calling script t S (send_to S t s function y args server)
+fits-send_to : {script : Script} {S : State} {t : ObjNo} {row : ThreadRow} {instr : Instr} (s : ObjNo) (function : ℤ) (y : ℕ) (args : List Arg) (server : Option ObjNo) → IsStepping script S t row instr → is_returning row.part ≡ false → begun row.part ≡ 0 → y < 16 → is_pending S.synchronization.requests t y ≡ false → length args ≡ 4 → IsAlive (object_of S s) → open_server S s ≡ server → FitsDecision calling script t S (send_to S t s function y args server)
 fits-send_to s function y args None h going first small done four alive accepts = fits-refuse (Of word.Send part.Do) refl error.ServerTerminated h
 fits-send_to {script = script} {S = S} {t = t} {row = row} s function y args (Some o) h going first small done four alive accepts =
-    if_cases (FitsDecision calling script t S) (is_full S.messages s (slots_of S s)) _ _ (λ _. fits-refuse (Of word.Send part.Do) refl error.ServerBusy h)
+    if_cases (FitsDecision calling script t S) (is_full S.serving.messages s (slots_of S s)) _ _ (λ _. fits-refuse (Of word.Send part.Do) refl error.ServerBusy h)
     (λ left.
     let pending = moved t (move.Requests (SetPending t y)) (moved t (move.GoOn t part.Done) S) in
     let there = row-here S.references.threads t (with_part part.Done) t.0 refl ∙ ap (option_map (with_part part.Done)) h.is in
@@ -286,18 +286,18 @@ fits-send_to {script = script} {S = S} {t = t} {row = row} s function y args (So
 
 pub fits-send : {script : Script} {S : State} {t : ObjNo} {row : ThreadRow} (x n y : ℕ) (args : Args) (p : Option Part) → IsStepping script S t row (instr.Send x n y args) → is_returning row.part ≡ false → row.part ≡ p → FitsDecision (kind_of (instr.Send x n y args) p) script t S (send_step S t row x n y args p)
 fits-send {script = script} {S = S} {t = t} x n y args None h going at =
-    if_cases (FitsDecision looking script t S) (is_pending S.requests t y) _ _ (λ _. fits-refuse (Of word.Send part.Look) refl error.InUse h) (λ _. fits-look_kind kind.Session word.Send x refl refl h (ap is_before_use at))
+    if_cases (FitsDecision looking script t S) (is_pending S.synchronization.requests t y) _ _ (λ _. fits-refuse (Of word.Send part.Look) refl error.InUse h) (λ _. fits-look_kind kind.Session word.Send x refl refl h (ap is_before_use at))
 fits-send {script = script} {S = S} {t = t} x n y args (Some part.Done) h going at = fits-nothing script S t
 fits-send {script = script} {S = S} {t = t} {row = row} x n y args (Some p) h going at = over row.uses refl
   where
     over : (uses : Option ObjNo) → row.uses ≡ uses → FitsDecision calling script t S (send_do S t (pos n) y (args_of args) uses)
     over None e = fits-nothing script S t
     over (Some s) e =
-        if_cases (FitsDecision calling script t S) (is_pending S.requests t y) _ _ (λ _. fits-nothing script S t)
+        if_cases (FitsDecision calling script t S) (is_pending S.synchronization.requests t y) _ _ (λ _. fits-nothing script S t)
         (λ done. fits-send_to s (pos n) y (args_of args) (open_server S s) h going (ap begun at) (let few = send_small x n y args h.ranges in omega arith) done refl (use_is_alive S t row s h.rows.lives h.is e) refl)
 
 -- `call`
-fits-call_to : {script : Script} {S : State} {t : ObjNo} {row : ThreadRow} {instr : Instr} (s : ObjNo) (function : ℤ) (args : List Arg) (server : Option ObjNo) → IsStepping script S t row instr → is_returning row.part ≡ false → begun row.part ≡ 0 → held_by S.nano t ≡ None → length args ≡ 4 → IsAlive (object_of S s) → open_server S s ≡ server → FitsDecision calling script t S (call_to S t s function args server)
+fits-call_to : {script : Script} {S : State} {t : ObjNo} {row : ThreadRow} {instr : Instr} (s : ObjNo) (function : ℤ) (args : List Arg) (server : Option ObjNo) → IsStepping script S t row instr → is_returning row.part ≡ false → begun row.part ≡ 0 → held_by S.synchronization.nano t ≡ None → length args ≡ 4 → IsAlive (object_of S s) → open_server S s ≡ server → FitsDecision calling script t S (call_to S t s function args server)
 fits-call_to s function args None h going first none four alive accepts = fits-refuse (Of word.Call part.Do) refl error.ServerTerminated h
 fits-call_to {script = script} {S = S} {t = t} s function args (Some o) h going first none four alive accepts =
     let sends = posts script S (awaiting S t S.serving.servers) t s o function args Sync four (may_call S.serving.servers s o h going first (omega arith) accepts alive (open_session S s o accepts)) in

@@ -72,8 +72,8 @@ pub record IsGiving (script : Script) (S : State) (t : ObjNo) (row : ThreadRow) 
 
 -- what is given up of closing servers: a message to one of the thread's own, a session of one; and a handle is one, which a doomed thread gives up
 abbrev pub IsGiven : State → ObjNo → Holding → Type 0
-IsGiven S t (OfMessage m) = (message : Message) → message_of S.messages m ≡ Some message → (owner_of S.servers message.row.server ≡ Some t) × (is_closing S.servers message.row.server ≡ true)
-IsGiven S t (OfLink s o) = is_closing S.servers o ≡ true
+IsGiven S t (OfMessage m) = (message : Message) → message_of S.serving.messages m ≡ Some message → (owner_of S.serving.servers message.row.server ≡ Some t) × (is_closing S.serving.servers message.row.server ≡ true)
+IsGiven S t (OfLink s o) = is_closing S.serving.servers o ≡ true
 IsGiven S t (Handle h o) = (is_handle h ≡ true) × IsAtStage S t Doomed
 IsGiven S t _ = Unit {0}
 
@@ -125,7 +125,7 @@ module _ (script : Script) (S : State) (t : ObjNo) (row : ThreadRow) (h : IsGivi
   all-messages o closing owned (m ∷ ms) among = (gives-message o closing owned m (among m (contains_first ms m)), all-messages o closing owned ms (λ x there. among x (contains_behind m ms x there)))
 
   -- a session is detached
-  gives-link : (s o : ObjNo) → server_of S.servers s ≡ Some o → is_closing S.servers o ≡ true → Gives (OfLink s o)
+  gives-link : (s o : ObjNo) → server_of S.serving.servers s ≡ Some o → is_closing S.serving.servers o ≡ true → Gives (OfLink s o)
   gives-link s o linked closing = (record { each = ((going, linked, tt), tt); told = omega arith; light = omega arith; regular = regular-moves _ refl (tame-at serving _ refl refl) }, closing)
 
   first-link : (o : ObjNo) (links : List ObjNo) → is_closing S.serving.servers o ≡ true → ((s : ObjNo) → holds s links ≡ true → server_of S.serving.servers s ≡ Some o) → OfFirst Gives (map (λ s. OfLink s o) links)
@@ -135,7 +135,7 @@ module _ (script : Script) (S : State) (t : ObjNo) (row : ThreadRow) (h : IsGivi
       subst Gives one (gives-link s o (linked s (ap (λ (b : Bool). b || holds s links) (eq-eqb s.0 s.0 refl))) closing)
 
   -- a server of which nothing is left stops
-  gives-server : (o : ObjNo) → is_closing S.servers o ≡ true → messages_at S.messages o ≡ [] → linked_at S.servers o ≡ [] → 0 < times_owned S.owned t o → Gives (OfServer o)
+  gives-server : (o : ObjNo) → is_closing S.serving.servers o ≡ true → messages_at S.serving.messages o ≡ [] → linked_at S.serving.servers o ≡ [] → 0 < times_owned S.serving.owned t o → Gives (OfServer o)
   gives-server o closing finished detached owned = (record { each = (record { closing = closing; finished = finished; detached = detached }, ((going, owned, tt), tt)); told = omega arith; light = omega arith; regular = regular-moves _ refl (tame-at serving _ refl refl) }, tt)
 
   -- the first of what is left of a server

@@ -165,7 +165,7 @@ module _ (S : State) (t : ObjNo) (at : Option Instr) (P : Decision → Type 0) (
       let still = behind-still answers t in
       each.sends d (sending d (Servers (SetOpen o false) ∷ []) (Lose h o ∷ behind answers t) o v disconnects no_args Disconnect moves refl refl
       (let a = still.0 in let b = changing-handle h o handle in omega arith) (let a = still.1 in omega arith) opens told (λ e. absurd (cc)) named
-      (others (Servers (SetOpen o false) ∷ post S t o v disconnects no_args Disconnect) moves (λ x. let wakes = lost-none x (wake_receiver S v (owner_of S.servers v)) ((tame-wake {k = plain} S v (owner_of S.servers v)).calm refl) in omega arith) none) (λ x. let b = undetached-behind answers t x in let c = undetached h o x handle in omega arith) unsent (λ sends. absurd (cc)))
+      (others (Servers (SetOpen o false) ∷ post S t o v disconnects no_args Disconnect) moves (λ x. let wakes = lost-none x (wake_receiver S v (owner_of S.serving.servers v)) ((tame-wake {k = plain} S v (owner_of S.serving.servers v)).calm refl) in omega arith) none) (λ x. let b = undetached-behind answers t x in let c = undetached h o x handle in omega arith) unsent (λ sends. absurd (cc)))
 
   unconnected : (server : Option ObjNo) → d.moves ≡ disconnect S t o server ++ Lose h o ∷ behind answers t → connected_to S o ≡ server → server_at S.serving.servers o ≡ None → P d
   unconnected None moves e none = loses moves none

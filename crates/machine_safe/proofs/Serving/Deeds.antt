@@ -114,9 +114,9 @@ pub record IsSending (S : State) (t : ObjNo) (at : Option Instr) (d : Decision) 
   pub changing : total changing_bit back ≡ 0
   pub still : total message_bit back ≡ 0
   pub client : row.client ≡ t
-  pub live : is_some (status_of_way row.way) ≡ true → IsLiveThread S.threads t
-  pub linked : server_of S.servers row.session ≡ Some row.server
-  pub accepting : is_closing S.servers row.server ≡ false
+  pub live : is_some (status_of_way row.way) ≡ true → IsLiveThread S.references.threads t
+  pub linked : server_of S.serving.servers row.session ≡ Some row.server
+  pub accepting : is_closing S.serving.servers row.server ≡ false
   pub way : status_by d.step at ≡ status_of_way row.way
   pub named : accepts_by d.step (status_of_way row.way) ≡ true
   pub closed : ClosesOthers S d

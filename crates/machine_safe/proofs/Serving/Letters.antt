@@ -170,7 +170,7 @@ module _ (script : Script) (before : List Entry) (S T : State) (e : Entry) (h : 
   }
 
   -- a message comes
-  pub letters-more : (p : Post) → posts T ≡ posts S ++ p ∷ [] → T.messages.accepted ≡ S.messages.accepted + 1 → (a : Accepts e p.number) → p.number.0 ≡ S.messages.accepted + 1 → accepts a.rest ≡ 0 → ((m : MsgNo) → finishes e.effects m ≡ 0) → a.session ≡ p.session → a.client ≡ p.client
+  pub letters-more : (p : Post) → posts T ≡ posts S ++ p ∷ [] → T.serving.messages.accepted ≡ S.serving.messages.accepted + 1 → (a : Accepts e p.number) → p.number.0 ≡ S.serving.messages.accepted + 1 → accepts a.rest ≡ 0 → ((m : MsgNo) → finishes e.effects m ≡ 0) → a.session ≡ p.session → a.client ≡ p.client
       → server_in before p.session ≡ Some p.server → server_told (effects_of before) p.session ≡ Some p.server → server_told e.effects p.session ≡ None → ((v : ObjNo) → ends e.effects v ≡ 0) → ends (effects_of before) p.server ≡ 0 → status_by e.step (instruction_in script before p.client) ≡ status_of_way p.way → (is_some (status_of_way p.way) ≡ true → dooms (effects_of before) p.client ≡ 0) → slots_in script before p.session ≡ Some p.slots → (if is_send e.step then sent_told e.effects else []) ≡ sent_of p.way p → Letters script (before ++ e ∷ []) T
   letters-more p posts_then more a number none unfinished session client linked_then linked unlinked_new unended lasts way undoomed slots sends = record {
     accepted = let b = accepted-then in let c = ap accepts a.told in let d = h.accepted in omega arith;

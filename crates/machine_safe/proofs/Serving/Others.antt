@@ -71,31 +71,31 @@ midway-dies threads (Bury u) k row is = midway-with threads u _ (record { role =
 midway-then : (S T : List (Option ThreadRow)) (k : ℕ) (row : ThreadRow) (later : WasMidway T k row) → WasMidway S k later.old → WasMidway S k row
 midway-then S T k row later first = record { old = first.old; was = first.was; role = first.role ∙ later.role; place = first.place ∙ later.place; part = first.part ∙ later.part; found = first.found ∙ later.found; uses = first.uses ∙ later.uses }
 
-pub others-move : (script : Script) (S : State) (t : ObjNo) (m : Move) → FitsMove script t m S → (k : ℕ) (row : ThreadRow) → (t.0 ≡ k → ⊥) → get_or (moved t m S).threads k None ≡ Some row → WasMidway S.threads k row
-others-move script S t (Make kind name h) fits k row apart is = midway-gained h (next_object S) S.threads t k row fits.3 apart is
-others-move script S t (Gain h o) fits k row apart is = midway-gained h o S.threads t k row fits.2 apart is
+pub others-move : (script : Script) (S : State) (t : ObjNo) (m : Move) → FitsMove script t m S → (k : ℕ) (row : ThreadRow) → (t.0 ≡ k → ⊥) → get_or (moved t m S).references.threads k None ≡ Some row → WasMidway S.references.threads k row
+others-move script S t (Make kind name h) fits k row apart is = midway-gained h (next_object S) S.references.threads t k row fits.3 apart is
+others-move script S t (Gain h o) fits k row apart is = midway-gained h o S.references.threads t k row fits.2 apart is
 others-move script S t (Lose h o) fits k row apart is =
-    let one = midway-closed (dies S o) o (threads_lose h S.threads) k row is in
-    midway-then S.threads (threads_lose h S.threads) k row one (midway-lost h S.threads t k one.old fits.2 apart one.was)
-others-move script S t (Find u o) fits k row apart is = midway-own S.threads t u (with_found o) k row fits.1 apart is
-others-move script S t (GoOn u part) fits k row apart is = midway-own S.threads t u (with_part part) k row fits.2 apart is
-others-move script S t (Keep u number) fits k row apart is = midway-own S.threads t u (with_kept number) k row fits apart is
-others-move script S t (Write u x value) fits k row apart is = midway-with S.threads u (with_register x value) (record { role = λ r. refl; place = λ r. refl; part = λ r. refl; found = λ r. refl; uses = λ r. refl }) k row is
-others-move script S t (WriteMessage u y number) fits k row apart is = midway-with S.threads u (with_message y number) (record { role = λ r. refl; place = λ r. refl; part = λ r. refl; found = λ r. refl; uses = λ r. refl }) k row is
-others-move script S t (PutDown u) fits k row apart is = midway-own S.threads t u (with_use None) k row fits.0 apart is
-others-move script S t (Advance u) fits k row apart is = midway-own S.threads t u advanced k row fits.0 apart is
-others-move script S t (Wait u what) fits k row apart is = midway-with S.threads u (with_waiting what) (record { role = λ r. refl; place = λ r. refl; part = λ r. refl; found = λ r. refl; uses = λ r. refl }) k row is
-others-move script S t (Wake u) fits k row apart is = midway-with S.threads u (with_waiting waiting.Nothing) (record { role = λ r. refl; place = λ r. refl; part = λ r. refl; found = λ r. refl; uses = λ r. refl }) k row is
-others-move script S t (SetPriority u priority) fits k row apart is = midway-with S.threads u (with_priority priority) (record { role = λ r. refl; place = λ r. refl; part = λ r. refl; found = λ r. refl; uses = λ r. refl }) k row is
-others-move script S t (Death m) fits k row apart is = midway-dies S.threads m k row is
+    let one = midway-closed (dies S o) o (threads_lose h S.references.threads) k row is in
+    midway-then S.references.threads (threads_lose h S.references.threads) k row one (midway-lost h S.references.threads t k one.old fits.2 apart one.was)
+others-move script S t (Find u o) fits k row apart is = midway-own S.references.threads t u (with_found o) k row fits.1 apart is
+others-move script S t (GoOn u part) fits k row apart is = midway-own S.references.threads t u (with_part part) k row fits.2 apart is
+others-move script S t (Keep u number) fits k row apart is = midway-own S.references.threads t u (with_kept number) k row fits apart is
+others-move script S t (Write u x value) fits k row apart is = midway-with S.references.threads u (with_register x value) (record { role = λ r. refl; place = λ r. refl; part = λ r. refl; found = λ r. refl; uses = λ r. refl }) k row is
+others-move script S t (WriteMessage u y number) fits k row apart is = midway-with S.references.threads u (with_message y number) (record { role = λ r. refl; place = λ r. refl; part = λ r. refl; found = λ r. refl; uses = λ r. refl }) k row is
+others-move script S t (PutDown u) fits k row apart is = midway-own S.references.threads t u (with_use None) k row fits.0 apart is
+others-move script S t (Advance u) fits k row apart is = midway-own S.references.threads t u advanced k row fits.0 apart is
+others-move script S t (Wait u what) fits k row apart is = midway-with S.references.threads u (with_waiting what) (record { role = λ r. refl; place = λ r. refl; part = λ r. refl; found = λ r. refl; uses = λ r. refl }) k row is
+others-move script S t (Wake u) fits k row apart is = midway-with S.references.threads u (with_waiting waiting.Nothing) (record { role = λ r. refl; place = λ r. refl; part = λ r. refl; found = λ r. refl; uses = λ r. refl }) k row is
+others-move script S t (SetPriority u priority) fits k row apart is = midway-with S.references.threads u (with_priority priority) (record { role = λ r. refl; place = λ r. refl; part = λ r. refl; found = λ r. refl; uses = λ r. refl }) k row is
+others-move script S t (Death m) fits k row apart is = midway-dies S.references.threads m k row is
 others-move script S t (Pay what) fits k row apart is = absurd fits
-others-move script S t m fits k row apart is = midway-same S.threads k row is
+others-move script S t m fits k row apart is = midway-same S.references.threads k row is
 
-pub others-each : (script : Script) (S : State) (t : ObjNo) (ms : List Move) → EachFits script t ms S → (k : ℕ) (row : ThreadRow) → (t.0 ≡ k → ⊥) → get_or (perform t ms S).threads k None ≡ Some row → WasMidway S.threads k row
-others-each script S t [] fits k row apart is = midway-same S.threads k row is
+pub others-each : (script : Script) (S : State) (t : ObjNo) (ms : List Move) → EachFits script t ms S → (k : ℕ) (row : ThreadRow) → (t.0 ≡ k → ⊥) → get_or (perform t ms S).references.threads k None ≡ Some row → WasMidway S.references.threads k row
+others-each script S t [] fits k row apart is = midway-same S.references.threads k row is
 others-each script S t (m ∷ ms) fits k row apart is =
     let later = others-each script (moved t m S) t ms fits.1 k row apart is in
-    midway-then S.threads (moved t m S).threads k row later (others-move script S t m fits.0 k later.old apart later.was)
+    midway-then S.references.threads (moved t m S).references.threads k row later (others-move script S t m fits.0 k later.old apart later.was)
 
 -- another table is the same
 table-other : (tables : List (List HandleSlot)) (owner : ObjNo) (i : ℕ) (f : HandleSlot → HandleSlot) (k : ObjNo) → (owner.0 ≡ k.0 → ⊥) → get_or (with_slot tables owner i f) k.0 [] ≡ get_or tables k.0 []
@@ -103,19 +103,19 @@ table-other tables owner i f k apart = get_or-set_other tables owner.0 k.0 _ [] 
 
 -- a place of a process's table is none of a thread's
 process-apart : (S : State) (p k : ObjNo) → thread_of S p ≡ None → is_some (thread_of S k) ≡ true → p.0 ≡ k.0 → ⊥
-process-apart S p k none there at = let same : thread_of S k ≡ None = ap (λ (n : ℕ). get_or S.threads n None) (sym at) ∙ none in let gone = ap is_some same in absurd (cc)
+process-apart S p k none there at = let same : thread_of S k ≡ None = ap (λ (n : ℕ). get_or S.references.threads n None) (sym at) ∙ none in let gone = ap is_some same in absurd (cc)
 
 own-apart : (t u k : ObjNo) → u ≡ t → (t.0 ≡ k.0 → ⊥) → u.0 ≡ k.0 → ⊥
 own-apart t u k own apart at = apart (sym (ap (λ (x : ObjNo). x.0) own) ∙ at)
 
-gained-table : (S : State) (h : Holder) (o t k : ObjNo) → IsFree S h → IsOwn t h → (t.0 ≡ k.0 → ⊥) → is_some (thread_of S k) ≡ true → get_or (tables_gain h o S.handles) k.0 [] ≡ table_of S k
-gained-table S (InProcess p i) o t k free own apart there = table-other S.handles p i (taken_slot o) k (process-apart S p k free.0 there)
-gained-table S (InThread u i) o t k free own apart there = table-other S.handles u i (taken_slot o) k (own-apart t u k own apart)
+gained-table : (S : State) (h : Holder) (o t k : ObjNo) → IsFree S h → IsOwn t h → (t.0 ≡ k.0 → ⊥) → is_some (thread_of S k) ≡ true → get_or (tables_gain h o S.references.handles) k.0 [] ≡ table_of S k
+gained-table S (InProcess p i) o t k free own apart there = table-other S.references.handles p i (taken_slot o) k (process-apart S p k free.0 there)
+gained-table S (InThread u i) o t k free own apart there = table-other S.references.handles u i (taken_slot o) k (own-apart t u k own apart)
 gained-table S _ o t k free own apart there = refl
 
-lost-table : (S : State) (h : Holder) (o t k : ObjNo) → Holds S h o → IsOwn t h → (t.0 ≡ k.0 → ⊥) → is_some (thread_of S k) ≡ true → get_or (tables_lose h S.handles) k.0 [] ≡ table_of S k
-lost-table S (InProcess p i) o t k holds own apart there = table-other S.handles p i freed_slot k (process-apart S p k holds.0 there)
-lost-table S (InThread u i) o t k holds own apart there = table-other S.handles u i freed_slot k (own-apart t u k own apart)
+lost-table : (S : State) (h : Holder) (o t k : ObjNo) → Holds S h o → IsOwn t h → (t.0 ≡ k.0 → ⊥) → is_some (thread_of S k) ≡ true → get_or (tables_lose h S.references.handles) k.0 [] ≡ table_of S k
+lost-table S (InProcess p i) o t k holds own apart there = table-other S.references.handles p i freed_slot k (process-apart S p k holds.0 there)
+lost-table S (InThread u i) o t k holds own apart there = table-other S.references.handles u i freed_slot k (own-apart t u k own apart)
 lost-table S _ o t k holds own apart there = refl
 
 pub tables-move : (script : Script) (S : State) (t : ObjNo) (m : Move) → FitsMove script t m S → (k : ObjNo) → (t.0 ≡ k.0 → ⊥) → is_some (thread_of S k) ≡ true → table_of (moved t m S) k ≡ table_of S k

@@ -119,7 +119,7 @@ sound-find script S t u o fits rows = sound-row script S u (with_found o) (Seek 
     (record {
       quiet = record { minuses = λ p. refl; deaths = λ p. refl; removals = λ p. refl };
       pluses = λ p. refl;
-      found = λ p h. subst (λ (y : ObjNo). y.0 < length S.objects) (same_is o p (omega arith)) fits.0;
+      found = λ p h. subst (λ (y : ObjNo). y.0 < length S.references.objects) (same_is o p (omega arith)) fits.0;
       fits = (tt, tt);
       after = λ g x. refl;
     }) (synchronization-kept script S u (with_found o) (λ row h. h) (λ row. refl) (λ row. refl) rows) (spent-kept S.references.objects S.references.handles S.references.threads u (with_found o) (record { stage = λ row. refl; unused = λ row e. e; waits = λ row e. e; going = λ row e. e; link = λ row e. e }) rows.references.spent) (serving-kept script S u (with_found o) (λ row. refl) (record { live = λ row live. live; waits = λ row live. refl; sends = λ row. omega arith; left = λ row. omega arith }) rows) rows
