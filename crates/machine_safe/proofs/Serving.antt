@@ -2,6 +2,7 @@
 pub mod Acting
 pub mod Books
 pub mod Closing
+pub mod Connecting
 pub mod Deeds
 pub mod Doing
 pub mod EffectSums

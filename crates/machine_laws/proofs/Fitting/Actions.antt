@@ -171,7 +171,7 @@ module _ (script : Script) (S : State) (t : ObjNo) (P : Decision → Type 0) (ea
       by : (declared : Bool) → P (decision_of_row script S t (Some row) (Some (if declared then RunDfc dfc else Bury dfc)))
       by true =
           let light = light-body script S t (Deferred dfc) h.shaped (sane-of script S t row h.rows h.is) in
-          each.plainly _ (record { goes = goes-light script S t _ h.rows light; regular = regular-moves (run_body script t S (Deferred dfc)) (run-named (slice_get script.dfcs dfc)) light.calm })
+          each.plainly _ (record { goes = goes-light script S t _ h.rows light; regular = regular-moves (run_body script t S (Deferred dfc)) (run-named (slice_get script.dfcs dfc)) refl light.calm })
       by false = plain-by (bury script S dfc) h.paid (fits-bury script S t dfc h.rows (record { thread = ap is_some h.is; going = ap (λ (r : Option ThreadRow). is_returning (part_of r)) h.is ∙ h.going }))
 
   -- what a live thread does of its own

@@ -48,7 +48,7 @@ fits-piece {row = row} told named copy (More done) h early fits = record {
   each = (fits, ((record { unused = λ r is e. absurd (cc); paid = λ e. absurd (cc); unspent = unspent h; at = λ e. absurd (cc); ends = λ r is. let same_row : row ≡ r = let a = h.is in cc in subst (λ (x : ThreadRow). begun x.part ≤ 0) same_row (omega arith) }, tt, refl), (refl, tt)));
   told = omega arith;
   light = omega arith;
-  regular = regular-moves _ named (tame-going _ refl refl refl);
+  regular = regular-moves _ named refl (tame-going _ refl refl refl);
 }
 fits-piece {row = row} told named copy (Whole size) h early fits = fits-answers told named (Copies copy ∷ []) (whole_answer copy size) (tame-moves _ refl refl) (fits, tt) (record { row = row; is = h.is; next = h.next }) (omega arith) (omega arith)
 fits-piece told named copy BadDescriptor h early fits = fits-refuse told named error.BadDescriptor h

@@ -109,7 +109,7 @@ fits-exit {script = script} {S = S} {t = t} {row = row} reason h going =
     if_cases (FitsDecision looking script t S) (is_protected S.synchronization.nano t) _ _ (λ _. fits-refuse (step.Of word.Exit part.Do) refl error.InUse h)
     (λ free.
     let after = after-doom script S t t (killed reason) (may_die script S t row h.rows h.is (h.live going) (unprotected_unheld S.synchronization.nano t free)) in
-    record { each = after.each; told = let few = after.told in omega arith; light = let none = after.light in omega arith; regular = regular-moves _ refl (tame-in after.calm) })
+    record { each = after.each; told = let few = after.told in omega arith; light = let none = after.light in omega arith; regular = regular-moves _ refl refl (tame-in after.calm) })
 
 -- a status that comes to be pending is awaited, and no logon has it
 pub set_awaited : (count : ℕ) (r : RequestRows) (t : ObjNo) (s : ℕ) → AreRequests count r → t.0 < length r.signals → s < 16 → is_pending r t s ≡ false → IsAwaited (after_set_pending r t s) t s

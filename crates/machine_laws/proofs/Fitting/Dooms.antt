@@ -161,8 +161,8 @@ fits-flush script S t row rows is live = given (held_by S.synchronization.nano t
     within = let lt = inside S.references.threads t.0 row is in let long = rows.synchronization.requests.sized in omega arith
 
     flushed : (held : Option ℕ) → IsTame plain 0 (doom_noted t (noted_of S t)) → IsRegular plain script S t (record { step = step.Flush; moves = give_held t held ++ move.Nano (nano.LeaveAll t) ∷ doom_noted t (noted_of S t); answer = None })
-    flushed None calm = regular-moves _ refl (tame-both (move.Nano (nano.LeaveAll t) ∷ []) (doom_noted t (noted_of S t)) (tame-moves _ refl refl) calm)
-    flushed (Some f) calm = regular-moves _ refl (tame-both (move.Nano (nano.Give t f) ∷ move.Nano (nano.LeaveAll t) ∷ []) (doom_noted t (noted_of S t)) (tame-moves _ refl refl) calm)
+    flushed None calm = regular-moves _ refl refl (tame-both (move.Nano (nano.LeaveAll t) ∷ []) (doom_noted t (noted_of S t)) (tame-moves _ refl refl) calm)
+    flushed (Some f) calm = regular-moves _ refl refl (tame-both (move.Nano (nano.Give t f) ∷ move.Nano (nano.LeaveAll t) ∷ []) (doom_noted t (noted_of S t)) (tame-moves _ refl refl) calm)
 
     given : (held : Option ℕ) → held_by S.synchronization.nano t ≡ held → FitsDecision plain script t S (record { step = step.Flush; moves = give_held t held ++ move.Nano (nano.LeaveAll t) ∷ doom_noted t (noted_of S t); answer = None })
     given None e =
@@ -178,4 +178,4 @@ fits-flush script S t row rows is live = given (held_by S.synchronization.nano t
 pub fits-end : (script : Script) (S : State) (t : ObjNo) (row : ThreadRow) → AreRows script S → thread_of S t ≡ Some row → row.stage ≡ Live → is_protected S.synchronization.nano t ≡ false → FitsDecision plain script t S (end t)
 fits-end script S t row rows is live free =
     let after = after-doom script S t t (killed (pos 0)) (may_die script S t row rows is live (unprotected_unheld S.synchronization.nano t free)) in
-    record { each = after.each; told = let few = after.told in omega arith; light = let none = after.light in omega arith; regular = regular-moves (end t) refl after.calm }
+    record { each = after.each; told = let few = after.told in omega arith; light = let none = after.light in omega arith; regular = regular-moves (end t) refl refl after.calm }

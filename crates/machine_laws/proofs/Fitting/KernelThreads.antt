@@ -106,7 +106,7 @@ fits-later told named m goes h cheap fits = record {
   each = ((record { unused = λ r is e. absurd (cc); paid = λ e. absurd (cc); unspent = unspent h; at = λ e. absurd (cc); ends = λ r is. begun_one r.part }, tt, refl), (fits, tt));
   told = let a = cheap.told in omega arith;
   light = let a = cheap.light in omega arith;
-  regular = regular-moves _ named (tame-both (move.GoOn _ part.Done ∷ []) (m ∷ []) (tame-going _ goes refl refl) (tame-in cheap.calm));
+  regular = regular-moves _ named refl (tame-both (move.GoOn _ part.Done ∷ []) (m ∷ []) (tame-going _ goes refl refl) (tame-in cheap.calm));
 }
 
 -- what is refused to a thread that holds a fast mutex

@@ -83,7 +83,7 @@ fits-wait_at {S = S} {t = t} {row = row} told named o m goes calm h going none f
   );
   told = let few = lock-tells m in omega arith;
   light = let few = lock-owes m in omega arith;
-  regular = regular-moves _ named (tame-both (move.GoOn t part.Done ∷ move.Wait t (waiting.Lock o) ∷ []) (move.Locks m ∷ []) (tame-going _ goes refl refl) calm);
+  regular = regular-moves _ named refl (tame-both (move.GoOn t part.Done ∷ move.Wait t (waiting.Lock o) ∷ []) (move.Locks m ∷ []) (tame-going _ goes refl refl) calm);
 }
 
 -- `lock`

@@ -51,8 +51,8 @@ use Rattle.machine_laws.proofs.Fitting.Stepping.{FitsDecision, FitsStep, by_kind
 use Rattle.machine_laws.proofs.Fitting.Uncalled.{logged_unsent, waiter_uncalled}
 use Rattle.machine_laws.proofs.Fitting.Waiters.{struck_nowhere, waits_nowhere}
 use Rattle.machine_laws.proofs.Fitting.Working.{IsGiven, OfFirst, empty_left, empty_right, first-all, first-both, fits-work, no-items, none-owned}
-use Rattle.machine_laws.proofs.Fitting.Regular.{freeing, kind_given, plain, serving, calling}
-use Rattle.machine_laws.proofs.Fitting.Tame.{regular-moves, tame, tame-at, tame-both, tame-moves}
+use Rattle.machine_laws.proofs.Fitting.Regular.{freeing, kind_given, plain, serving, calling, going}
+use Rattle.machine_laws.proofs.Fitting.Tame.{regular-moves, tame, tame-at, tame-both, tame-moves, tame-going}
 
 -- a doomed thread that acts: it waits for nothing, and isn't between a find and its return
 pub record IsDying (script : Script) (S : State) (t : ObjNo) (row : ThreadRow) : Type 0 where
@@ -86,20 +86,20 @@ gives-mutex {script = script} {S = S} {t = t} {row = row} o h some = by (best_wa
     )
 
     by : (best : Option ObjNo) → best_waiter (priority_of S) S.synchronization.locks o ≡ best → FitsDecision freeing script t S (free_mutex t o best)
-    by None e = record { each = (fits None e, tt); told = omega arith; light = omega arith; regular = regular-moves _ refl (tame-at freeing _ refl refl) }
-    by (Some w) e = record { each = (fits (Some w) e, ((struck_nowhere script S o w h.rows (greatest_listed (priority_of S) (waiters_at S.synchronization.locks o) w e), waiter_uncalled script S o w h.rows (greatest_listed (priority_of S) (waiters_at S.synchronization.locks o) w e)), tt)); told = omega arith; light = omega arith; regular = regular-moves _ refl (tame-at freeing _ refl refl) }
+    by None e = record { each = (fits None e, tt); told = omega arith; light = omega arith; regular = regular-moves _ refl refl (tame-at freeing _ refl refl) }
+    by (Some w) e = record { each = (fits (Some w) e, ((struck_nowhere script S o w h.rows (greatest_listed (priority_of S) (waiters_at S.synchronization.locks o) w e), waiter_uncalled script S o w h.rows (greatest_listed (priority_of S) (waiters_at S.synchronization.locks o) w e)), tt)); told = omega arith; light = omega arith; regular = regular-moves _ refl refl (tame-at freeing _ refl refl) }
 
 -- a reference that it has
 loses : {script : Script} {S : State} {t : ObjNo} {row : ThreadRow} (holder : Holder) (o : ObjNo) → IsDying script S t row → Holds S holder o → IsOwn t holder → EachFits script t (move.Lose holder o ∷ []) S
 loses holder o h holds own = ((ap (λ (r : Option ThreadRow). is_returning (part_of r)) h.is ∙ h.going, holds, own), tt)
 
-gives-use : {script : Script} {S : State} {t : ObjNo} {row : ThreadRow} (o : ObjNo) → IsDying script S t row → row.uses ≡ Some o → FitsDecision plain script t S (give_up S t row (Use o))
-gives-use {t = t} {row = row} o h uses = record { each = loses (Temp t) o h (record { row = row; is = h.is; uses = uses }) refl; told = omega arith; light = omega arith; regular = tame _ refl }
+gives-use : {script : Script} {S : State} {t : ObjNo} {row : ThreadRow} (o : ObjNo) → IsDying script S t row → row.uses ≡ Some o → FitsDecision going script t S (give_up S t row (Use o))
+gives-use {t = t} {row = row} o h uses = record { each = loses (Temp t) o h (record { row = row; is = h.is; uses = uses }) refl; told = omega arith; light = omega arith; regular = regular-moves _ refl refl (tame-going _ refl refl refl) }
 
 gives-handle : {script : Script} {S : State} {t : ObjNo} {row : ThreadRow} (holder : Holder) (o : ObjNo) → IsDying script S t row → IsHandle S t holder o → FitsStep calling script t S (give_up S t row (Handle holder o))
 gives-handle {script = script} {S = S} {t = t} {row = row} holder o h handle =
     let done = closes script S t holder o (record { rows = h.rows; row = row; is = h.is; waits = h.waits; held = ap stage_holds h.doomed; going = h.going }) handle in
-    record { each = done.each; told = done.told; light = let few = done.light in omega arith; regular = regular-moves _ refl done.calm }
+    record { each = done.each; told = done.told; light = let few = done.light in omega arith; regular = regular-moves _ refl refl done.calm }
 
 -- a logon goes, and no other has its status
 names-none : (u : ObjNo) (s : ℕ) (logons : List (ObjNo × ℕ)) → total (logon_names u s) (without_logon u s logons) ≡ 0
@@ -131,7 +131,7 @@ gives-logon {script = script} {S = S} {t = t} {row = row} u s h some =
       each = ((within, omega arith, awaited.status), (((awaited, unlogged script S t u s h.rows within some), (h.rows.synchronization.awaited.logons u s (omega arith), logged_unsent script S u s h.rows (omega arith))), wakes.each));
       told = let few = wakes.told in omega arith;
       light = let none = wakes.light in omega arith;
-      regular = regular-moves _ refl (tame-both (move.Logons (Remove t u s) ∷ move.Requests (Signal u s (reason_of row.exit)) ∷ []) _ (tame-moves _ refl refl) wakes.calm);
+      regular = regular-moves _ refl refl (tame-both (move.Logons (Remove t u s) ∷ move.Requests (Signal u s (reason_of row.exit)) ∷ []) _ (tame-moves _ refl refl) wakes.calm);
     }
 
 -- each of what it has is given up
@@ -187,7 +187,7 @@ module _ (script : Script) (S : State) (t : ObjNo) (row : ThreadRow) (h : IsDyin
       (first-both Gives (held_mutexes S t ++ held_servers S t) (held_use row.uses)
       (first-both Gives (held_mutexes S t) (held_servers S t) (first-all Gives (held_mutexes S t) (all-mutexes (get_or S.synchronization.mutexes t.0 []) (λ o some. (kinds (Mutex o) (gives-mutex o h some), tt))))
       (λ _ what rest e. let work = fits-work what rest (record { rows = h.rows; is = h.is; going = h.going }) e in (kinds what work.0, work.1)))
-      (λ _. first-all Gives (held_use row.uses) (all-use row.uses (λ o uses. (kinds (Use o) (gives-use o h uses), tt)))))
+      (λ _. first-all Gives (held_use row.uses) (all-use row.uses (λ o uses. (kinds (Use o) (gives-use o h uses), record { row = row; is = h.is; at = h.doomed })))))
       (λ _. first-all Gives (held_handles (InThread t) 0 (table_of S t)) all-own)) (λ _. first-all Gives (process_handles S t row.process) all-process))
       (λ _. first-all Gives (held_logons S t) (all-logons (logons_on S.synchronization.logons t) (λ u s some. (kinds (Logon u s) (gives-logon u s h some), tt))))
 
@@ -258,7 +258,7 @@ fits-clean {script = script} {S = S} {t = t} {row = row} h nothing paid = record
   each = ((record { row = row; is = h.is; at = h.doomed }, (dying_unheld h, λ r is. let same_row : row ≡ r = (let one = h.is in cc) in subst (IsSpent S.references.handles t.0) same_row spent, λ r is. let same_row : row ≡ r = (let one = h.is in cc) in subst (λ (x : ThreadRow). process_handles S t x.process ≡ []) same_row has.process, owns), refl), ((burial_inside script S.synchronization.deferred row.role h.rows.synchronization.deferred (h.rows.references.threads.rows t.0 row h.is).declared, refl), tt));
   told = omega arith;
   light = omega arith;
-  regular = record { answers = refl; dooms = λ v. refl; calm = λ _. refl; making = λ e. absurd (cc); sends = λ _. refl; goes = λ _. refl; cleans = λ e. absurd (cc); uses = λ u _. refl; known = λ _. record { row = row; is = h.is; doomed = h.doomed; paid = paid; nothing = nothing; moves = refl } };
+  regular = record { answers = refl; dooms = λ v. refl; calm = λ _. refl; making = λ e. absurd (cc); sends = λ _. refl; goes = λ _. refl; last = refl; cleans = λ e. absurd (cc); uses = λ u _. refl; known = λ _. record { row = row; is = h.is; doomed = h.doomed; paid = paid; nothing = nothing; moves = refl } };
 }
   where
     has : HasNothing S t row

@@ -1,6 +1,6 @@
 -- What the laws of whole histories need of a decision: whether it answers as it ends its instruction, whom it cleans, which servers begin to
 -- close, and what it leaves alone.
-use Rattle.std.proofs.Common.{◌≡◌, ℕ, ℤ, List, [], Option, Some, None, Bool, true, false, ◌<◌, ◌⊎◌}
+use Rattle.std.proofs.Common.{◌≡◌, ℕ, ℤ, List, [], Option, Some, None, Bool, true, false, ◌<◌, ◌⊎◌, ◌∷◌}
 use Rattle.sym_base.specs.declared.number.ObjNo.{ObjNo}
 use Rattle.script_types.specs.declared.instruction.Instr.{Instr}
 use Rattle.script_types.specs.declared.instruction.Instr.TheVariants as instr
@@ -17,7 +17,7 @@ use Rattle.machine.specs.declared.holding.Holding.TheVariants as holding
 use Rattle.machine.specs.declared.lock_move.LockMove.TheVariants.{Lock, Unlock, Free}
 use Rattle.machine.specs.declared.message_move.MessageMove.TheVariants.{Take}
 use Rattle.machine.specs.declared.moves.Move.{Move}
-use Rattle.machine.specs.declared.moves.Move.TheVariants.{Advance, Death, Gain, Lose, Make, Servers, Messages, Locks, Find, GoOn, Keep}
+use Rattle.machine.specs.declared.moves.Move.TheVariants.{Advance, Death, Gain, Lose, Make, Servers, Messages, Locks, Find, GoOn, Keep, PutDown}
 use Rattle.machine.specs.declared.server_move.ServerMove.TheVariants.{CloseAll, SetOpen}
 use Rattle.machine.specs.declared.state.State.{State}
 use Rattle.machine.specs.Holdings.{holdings}
@@ -39,7 +39,10 @@ plain = record { serves = false; locks = false; uses = false; goes = false }
 abbrev pub serving : Kinds
 serving = record { serves = true; locks = false; uses = false; goes = false }
 
--- a step that serves, and may go on
+-- what only goes on, and a step that serves and may go on
+abbrev pub going : Kinds
+going = record { serves = false; locks = false; uses = false; goes = true }
+
 abbrev pub calling : Kinds
 calling = record { serves = true; locks = false; uses = false; goes = true }
 
@@ -66,7 +69,7 @@ kind_of _ p = looking
 
 abbrev pub kind_given : Holding → Kinds
 kind_given (holding.Mutex o) = freeing
-kind_given (holding.Use o) = plain
+kind_given (holding.Use o) = going
 kind_given (holding.Handle h o) = calling
 kind_given (holding.Logon u s) = plain
 kind_given _ = serving
@@ -118,7 +121,7 @@ use_bit u (Make kind name h) = gained_bit u h
 use_bit u (Gain h o) = gained_bit u h
 use_bit u _ = 0
 
--- 1 for one by which a thread finds an object, goes on, keeps a number, or comes to hold an object, and where a handle goes
+-- 1 for one by which a thread finds an object, goes on, keeps a number, or comes to hold an object, and where its handle or its use goes
 abbrev pub going_bit : Move → ℕ
 going_bit (Make kind name h) = 1
 going_bit (Gain h o) = 1
@@ -127,7 +130,15 @@ going_bit (GoOn u part) = 1
 going_bit (Keep u number) = 1
 going_bit (Lose (InProcess p i) o) = 1
 going_bit (Lose (InThread u i) o) = 1
+going_bit (Lose (Temp u) o) = 1
+going_bit (PutDown u) = 1
 going_bit _ = 0
+
+-- how much of that comes behind the end of an instruction
+abbrev pub going_late : List Move → ℕ
+going_late [] = 0
+going_late (Advance u ∷ ms) = total going_bit ms
+going_late (m ∷ ms) = going_late ms
 
 -- 1 where something is answered
 abbrev pub answer_bit : Option ℤ → ℕ
@@ -143,7 +154,7 @@ pub record IsCleaning (script : Script) (S : State) (t : ObjNo) (d : Decision) :
   pub nothing : holdings S t row ≡ []
   pub moves : d.moves ≡ (clean script S t row).moves
 
--- a decision answers where it ends an instruction, servers begin to close exactly of threads that it dooms, no server is made with a mutex,
+-- a decision answers where it ends an instruction, and goes on with nothing then, servers begin to close exactly of threads that it dooms, no server is made with a mutex,
 -- it serves, sends and goes on only where its kind does, cleans only in that step, and its thread alone comes to use something, where its kind does and
 -- nothing is answered
 pub record IsRegular (k : Kinds) (script : Script) (S : State) (t : ObjNo) (d : Decision) : Type 0 where
@@ -153,6 +164,7 @@ pub record IsRegular (k : Kinds) (script : Script) (S : State) (t : ObjNo) (d : 
   pub making : makes_server d.step ≡ true → total mutex_bit d.moves ≡ 0
   pub sends : k.serves ≡ false → is_send d.step ≡ false
   pub goes : k.goes ≡ false → total going_bit d.moves ≡ 0
+  pub last : going_late d.moves ≡ 0
   pub cleans : is_clean d.step ≡ false → total cleaning_bit d.moves ≡ 0
   pub known : is_clean d.step ≡ true → IsCleaning script S t d
   pub uses : (u : ObjNo) → (u.0 ≡ t.0 → ⊥) ⊎ ((k.uses ≡ false) ⊎ (0 < answer_bit d.answer)) → total (use_bit u) d.moves ≡ 0

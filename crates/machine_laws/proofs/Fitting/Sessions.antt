@@ -139,7 +139,7 @@ module _ (script : Script) (S : State) (t : ObjNo) (row : ThreadRow) (instr : In
     );
     told = omega arith;
     light = omega arith;
-    regular = regular-moves _ refl (tame-at calling _ refl refl);
+    regular = regular-moves _ refl refl (tame-at calling _ refl refl);
   }
 
 fits-connect_make : {script : Script} {S : State} {t : ObjNo} {row : ThreadRow} {instr : Instr} (slots : Slots) (uses : Option ObjNo) → IsStepping script S t row instr → row.part ≡ Some part.Make → row.uses ≡ uses → FitsDecision calling script t S (connect_make S t slots uses)
@@ -236,7 +236,7 @@ fits-connect_send {script = script} {S = S} {t = t} {row = row} (Some s) h going
           each = ((last_step h, tt, refl), ((session, opens_spare h at, opens_number h at), ((none, stepping_nowhere h, live-changed S (moved t (move.GoOn t part.Done) S) t (with_part part.Done) (λ r. refl) refl (stepping_live h going), λ r is live. stepping_uncalled h going), sends.each)));
           told = let few = sends.told in omega arith;
           light = let few = sends.light in omega arith;
-          regular = regular-moves _ refl (tame-both (move.GoOn t part.Done ∷ move.Servers (SetOpen s true) ∷ move.Wait t waiting.Reply ∷ []) _ (tame-going _ refl refl refl) (tame-calling sends.calm));
+          regular = regular-moves _ refl refl (tame-both (move.GoOn t part.Done ∷ move.Servers (SetOpen s true) ∷ move.Wait t waiting.Reply ∷ []) _ (tame-going _ refl refl refl) (tame-calling sends.calm));
         }
 
 fits-connect_done : {script : Script} {S : State} {t : ObjNo} {row : ThreadRow} {instr : Instr} (x : ℕ) (made : Option ObjNo) → IsStepping script S t row instr → is_returning row.part ≡ false → x < 8 → session_made S t row ≡ made → FitsDecision calling script t S (connect_done S t row x made)
@@ -305,7 +305,7 @@ fits-call_to {script = script} {S = S} {t = t} s function args (Some o) h going 
       each = ((last_step h, tt, refl), ((none, stepping_nowhere h, live-changed S (moved t (move.GoOn t part.Done) S) t (with_part part.Done) (λ r. refl) refl (stepping_live h going), λ r is live. stepping_uncalled h going), sends.each));
       told = let few = sends.told in omega arith;
       light = let few = sends.light in omega arith;
-      regular = regular-moves _ refl (tame-both (move.GoOn t part.Done ∷ move.Wait t waiting.Reply ∷ []) _ (tame-going _ refl refl refl) (tame-calling sends.calm));
+      regular = regular-moves _ refl refl (tame-both (move.GoOn t part.Done ∷ move.Wait t waiting.Reply ∷ []) _ (tame-going _ refl refl refl) (tame-calling sends.calm));
     }
 
 pub fits-call : {script : Script} {S : State} {t : ObjNo} {row : ThreadRow} {i : Instr} (x n : ℕ) (args : Args) (p : Option Part) → IsStepping script S t row i → is_returning row.part ≡ false → row.part ≡ p → FitsDecision (kind_of (instr.Call x n args) p) script t S (call_step S t row x n args p)

@@ -54,7 +54,7 @@ fits-seek {k = k} {script = script} {S = S} {t = t} word kind name goes h before
   where
     found : (named : Option ObjNo) → find_object S kind name ≡ named → FitsDecision k script t S (seek_object t word named)
     found None e = fits-refuse (Of word Seek) refl NotFound h
-    found (Some o) e = record { each = (may_go_on Return h before tt, ((found_inside S kind name o e, refl), tt)); told = omega arith; light = omega arith; regular = regular-moves _ refl (tame-going _ goes refl refl) }
+    found (Some o) e = record { each = (may_go_on Return h before tt, ((found_inside S kind name o e, refl), tt)); told = omega arith; light = omega arith; regular = regular-moves _ refl refl (tame-going _ goes refl refl) }
 
 -- and its return
 pub fits-return : {k : Kinds} {script : Script} {S : State} {t : ObjNo} {row : ThreadRow} {instr : Instr} (word : Word) (part : Part) → k.uses ≡ true → k.goes ≡ true → IsStepping script S t row instr → is_before_use row.part ≡ true → is_before_use (Some part) ≡ false → MaySend (Some part) S → FitsDecision k script t S (return_to S t row word part)
@@ -65,7 +65,7 @@ fits-return {k = k} {script = script} {S = S} {t = t} {row = row} word part uses
   where
     missed : (live : Bool) → FitsDecision k script t S (miss t word part (found_object row) live)
     missed true = record { each = (tt, ((refl, at_instruction h), tt)); told = omega arith; light = omega arith; regular = tame _ refl }
-    missed false = record { each = (may_go_on part h before sends, (tt, tt)); told = omega arith; light = omega arith; regular = regular-moves _ refl (tame-going _ goes refl refl) }
+    missed false = record { each = (may_go_on part h before sends, (tt, tt)); told = omega arith; light = omega arith; regular = regular-moves _ refl refl (tame-going _ goes refl refl) }
 
 -- a thread of its process isn't cleaned: itself
 not_cleaned : (stage : Stage) → is_spent stage ≡ false → stage_left stage ≡ 1

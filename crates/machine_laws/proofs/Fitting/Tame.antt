@@ -1,5 +1,5 @@
 -- Moves and decisions of which it can be seen that they are regular for their kind.
-use Rattle.std.proofs.Common.{◌≡◌, ℕ, ℤ, ◌+◌, List, [], ◌∷◌, ◌++◌, arith, refl, sym, ap, ◌∙◌, Bool, true, false, ◌<◌, ◌⊎◌, inl, inr}
+use Rattle.std.proofs.Common.{◌≡◌, ℕ, ℤ, ◌+◌, List, [], ◌∷◌, ◌++◌, arith, refl, sym, ap, ◌∙◌, Bool, true, false, ◌<◌, ◌⊎◌, inl, inr, None}
 use Rattle.std.specs.Prelude.{◌==◌, ◌&&◌, ◌||◌, not}
 use Rattle.std.proofs.lemmas.Bool.{and_parts, eqb-true}
 use Rattle.sym_base.specs.declared.kind.Exit.{Exit}
@@ -24,7 +24,7 @@ use Rattle.machine.specs.EntryWords.{is_clean, is_send, makes_server}
 use Rattle.machine.specs.Steps.{pay}
 use Rattle.move_laws.proofs.Lists.Totals.{total-append}
 use Rattle.move_laws.proofs.References.Same.{eqb_apart, if_not}
-use Rattle.machine_laws.proofs.Fitting.Regular.{Kinds, plain, cleaning_bit, advance_bit, closed_bit, doomed_bit, mutex_bit, serving_bit, gained_bit, use_bit, answer_bit, IsRegular, IsTame, going_bit, serving, calling}
+use Rattle.machine_laws.proofs.Fitting.Regular.{Kinds, plain, cleaning_bit, advance_bit, closed_bit, doomed_bit, mutex_bit, serving_bit, gained_bit, use_bit, answer_bit, IsRegular, IsTame, going_bit, serving, calling, going, going_late}
 
 -- whether a kind may tell this step: it is no cleaning, no `send` where the kind doesn't serve, and makes no server where it changes mutexes
 abbrev pub may_tell : Kinds → Step → Bool
@@ -53,7 +53,7 @@ are_tame k [] = true
 are_tame k (m ∷ ms) = is_tame_move k m && are_tame k ms
 
 abbrev pub is_tame : Kinds → Decision → Bool
-is_tame k d = (total advance_bit d.moves == answer_bit d.answer) && (are_tame plain d.moves && may_tell k d.step)
+is_tame k d = (going_late d.moves == 0) && ((total advance_bit d.moves == answer_bit d.answer) && (are_tame plain d.moves && may_tell k d.step))
 
 second : (x y : Bool) → (x || y) ≡ true → x ≡ false → y ≡ true
 second true y e none = absurd (cc)
@@ -142,9 +142,6 @@ pub tame-moves : {k : Kinds} {n : ℕ} (ms : List Move) → are_tame plain ms �
 tame-moves ms e ends = tame-in (tame-at plain ms e ends)
 
 -- moves by which the thread goes on, in a kind that does
-abbrev going : Kinds
-going = record { serves = false; locks = false; uses = false; goes = true }
-
 contrary : (b : Bool) (n : ℕ) → b ≡ true → b ≡ false → n ≡ 0
 contrary b n is not_so = absurd (cc)
 
@@ -189,27 +186,42 @@ module _ (k : Kinds) (step : Step) (e : may_tell k step ≡ true) where
   told-cleans = negated (is_clean step) (and_parts (not (is_send step) || k.serves) (not (is_clean step)) told-parts.1).1
 
 -- a decision of such moves, an answer after them, and a decision whose moves show all
-pub regular-moves : {k : Kinds} {script : Script} {S : State} {t : ObjNo} (d : Decision) → may_tell k d.step ≡ true → IsTame k (answer_bit d.answer) d.moves → IsRegular k script S t d
-regular-moves {k = k} d named h = record {
+late-none : (ms : List Move) → total advance_bit ms ≡ 0 → going_late ms ≡ 0
+late-none [] none = refl
+late-none (Advance u ∷ ms) none = absurd (omega arith)
+late-none (m ∷ ms) none = late-none ms (omega arith)
+
+late-answer : (ms : List Move) (t : ObjNo) → total advance_bit ms ≡ 0 → going_late (ms ++ Advance t ∷ []) ≡ 0
+late-answer [] t none = refl
+late-answer (Advance u ∷ ms) t none = absurd (omega arith)
+late-answer (m ∷ ms) t none = late-answer ms t (omega arith)
+
+regular-by : {k : Kinds} {script : Script} {S : State} {t : ObjNo} (d : Decision) → may_tell k d.step ≡ true → going_late d.moves ≡ 0 → IsTame k (answer_bit d.answer) d.moves → IsRegular k script S t d
+regular-by {k = k} d named last h = record {
   answers = h.advances;
   dooms = h.dooms;
   calm = h.calm;
   making = λ is. h.mutexes (told-makes k d.step named is);
   sends = told-sends k d.step named;
   goes = h.goes;
+  last = last;
   cleans = λ _. h.cleans;
   known = λ is. let no = told-cleans k d.step named in absurd (cc);
   uses = λ u _. h.uses u;
 }
 
+pub regular-moves : {k : Kinds} {script : Script} {S : State} {t : ObjNo} (d : Decision) → may_tell k d.step ≡ true → d.answer ≡ None → IsTame k (answer_bit d.answer) d.moves → IsRegular k script S t d
+regular-moves d named silent h = regular-by d named (late-none d.moves (h.advances ∙ ap answer_bit silent)) h
+
 pub regular-answer : {k : Kinds} {script : Script} {S : State} {t : ObjNo} (told : Step) (ms : List Move) (code : ℤ) → may_tell k told ≡ true → IsTame k 0 ms → IsRegular k script S t (answer t told ms code)
-regular-answer {t = t} told ms code named h = regular-moves (answer t told ms code) named (tame-both ms (Advance t ∷ []) h (tame-moves (Advance t ∷ []) refl refl))
+regular-answer {t = t} told ms code named h = regular-by (answer t told ms code) named (late-answer ms t h.advances) (tame-both ms (Advance t ∷ []) h (tame-moves (Advance t ∷ []) refl refl))
 
 pub tame : {k : Kinds} {script : Script} {S : State} {t : ObjNo} (d : Decision) → is_tame k d ≡ true → IsRegular k script S t d
 tame {k = k} d e =
-    let parts = and_parts (total advance_bit d.moves == answer_bit d.answer) (are_tame plain d.moves && may_tell k d.step) e in
+    let late = and_parts (going_late d.moves == 0) ((total advance_bit d.moves == answer_bit d.answer) && (are_tame plain d.moves && may_tell k d.step)) e in
+    let parts = and_parts (total advance_bit d.moves == answer_bit d.answer) (are_tame plain d.moves && may_tell k d.step) late.1 in
     let more = and_parts (are_tame plain d.moves) (may_tell k d.step) parts.1 in
-    regular-moves d more.1 (tame-moves d.moves more.0 (eqb-true (total advance_bit d.moves) (answer_bit d.answer) parts.0))
+    regular-by d more.1 (eqb-true (going_late d.moves) 0 late.0) (tame-moves d.moves more.0 (eqb-true (total advance_bit d.moves) (answer_bit d.answer) parts.0))
 
 -- what is owed is paid
 pub regular-pay : {script : Script} {S : State} {t : ObjNo} (what : Owed) → IsRegular plain script S t (pay what)
@@ -225,6 +237,7 @@ regular-use {k = k} t told o part named uses goes = record {
   making = λ _. refl;
   sends = told-sends k told named;
   goes = λ stays. absurd (cc);
+  last = refl;
   cleans = λ _. refl;
   known = λ is. let unclean = told-cleans k told named in absurd (cc);
   uses = own;

@@ -14,7 +14,7 @@ use Rattle.state_rows.specs.declared.servers.ServerRow.{ServerRow}
 use Rattle.state_rows.specs.declared.messages.Message.{Message}
 use Rattle.state_rows.specs.declared.thread.ThreadRow.{ThreadRow}
 use Rattle.machine.specs.declared.holding.Holding.{Holding}
-use Rattle.machine.specs.declared.holding.Holding.TheVariants.{Message as OfMessage, Link as OfLink, Server as OfServer, Handle}
+use Rattle.machine.specs.declared.holding.Holding.TheVariants.{Message as OfMessage, Link as OfLink, Server as OfServer, Handle, Use}
 use Rattle.machine.specs.declared.state.State.{State}
 use Rattle.machine.specs.Holdings.{closing_holdings, held_servers, server_holdings}
 use Rattle.machine.specs.Reaping.{finish_message, give_up}
@@ -70,10 +70,11 @@ pub record IsGiving (script : Script) (S : State) (t : ObjNo) (row : ThreadRow) 
   pub is : thread_of S t ≡ Some row
   pub going : is_returning row.part ≡ false
 
--- what is given up of closing servers: a message to one of the thread's own, a session of one; and a handle is one, which a doomed thread gives up
+-- what is given up of closing servers: a message to one of the thread's own, a session of one; and a handle is one, which a doomed thread gives up, as it does a use
 abbrev pub IsGiven : State → ObjNo → Holding → Type 0
 IsGiven S t (OfMessage m) = (message : Message) → message_of S.serving.messages m ≡ Some message → (owner_of S.serving.servers message.row.server ≡ Some t) × (is_closing S.serving.servers message.row.server ≡ true)
 IsGiven S t (OfLink s o) = is_closing S.serving.servers o ≡ true
+IsGiven S t (Use o) = IsAtStage S t Doomed
 IsGiven S t (Handle h o) = (is_handle h ≡ true) × IsAtStage S t Doomed
 IsGiven S t _ = Unit {0}
 
@@ -101,7 +102,7 @@ module _ (script : Script) (S : State) (t : ObjNo) (row : ThreadRow) (h : IsGivi
       by None is = fits-nothing script S t
       by (Some message) is =
           let done = finishes script S t m message (error_code ServerTerminated) h.rows (record { thread = ap is_some h.is; going = going }) is in
-          record { each = done.each; told = let few = done.told in omega arith; light = let few = done.light in omega arith; regular = regular-moves _ refl done.calm }
+          record { each = done.each; told = let few = done.told in omega arith; light = let few = done.light in omega arith; regular = regular-moves _ refl refl done.calm }
 
   owner-of : (o : ObjNo) → 0 < times_owned S.serving.owned t o → owner_of S.serving.servers o ≡ Some t
   owner-of o some =
@@ -126,7 +127,7 @@ module _ (script : Script) (S : State) (t : ObjNo) (row : ThreadRow) (h : IsGivi
 
   -- a session is detached
   gives-link : (s o : ObjNo) → server_of S.serving.servers s ≡ Some o → is_closing S.serving.servers o ≡ true → Gives (OfLink s o)
-  gives-link s o linked closing = (record { each = ((going, linked, tt), tt); told = omega arith; light = omega arith; regular = regular-moves _ refl (tame-at serving _ refl refl) }, closing)
+  gives-link s o linked closing = (record { each = ((going, linked, tt), tt); told = omega arith; light = omega arith; regular = regular-moves _ refl refl (tame-at serving _ refl refl) }, closing)
 
   first-link : (o : ObjNo) (links : List ObjNo) → is_closing S.serving.servers o ≡ true → ((s : ObjNo) → holds s links ≡ true → server_of S.serving.servers s ≡ Some o) → OfFirst Gives (map (λ s. OfLink s o) links)
   first-link o [] closing linked what rest e = absurd (cc)
@@ -136,7 +137,7 @@ module _ (script : Script) (S : State) (t : ObjNo) (row : ThreadRow) (h : IsGivi
 
   -- a server of which nothing is left stops
   gives-server : (o : ObjNo) → is_closing S.serving.servers o ≡ true → messages_at S.serving.messages o ≡ [] → linked_at S.serving.servers o ≡ [] → 0 < times_owned S.serving.owned t o → Gives (OfServer o)
-  gives-server o closing finished detached owned = (record { each = (record { closing = closing; finished = finished; detached = detached }, ((going, owned, tt), tt)); told = omega arith; light = omega arith; regular = regular-moves _ refl (tame-at serving _ refl refl) }, tt)
+  gives-server o closing finished detached owned = (record { each = (record { closing = closing; finished = finished; detached = detached }, ((going, owned, tt), tt)); told = omega arith; light = omega arith; regular = regular-moves _ refl refl (tame-at serving _ refl refl) }, tt)
 
   -- the first of what is left of a server
   first-server : (o : ObjNo) → is_closing S.serving.servers o ≡ true → 0 < times_owned S.serving.owned t o → OfFirst Gives (server_holdings S o)

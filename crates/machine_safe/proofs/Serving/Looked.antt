@@ -122,14 +122,14 @@ there-each script S t (m ∷ ms) fits u o row is uses none =
     there-then script S (moved t m S) u o row later (there-move script S t m fits.0 u o later.old later.was later.uses (omega arith))
 
 -- and a thread that isn't answered is at its instruction still
-at-each : (script : Script) (S : State) (t : ObjNo) (ms : List Move) → EachFits script t ms S → (k : ℕ) (row : ThreadRow) → get_or (perform t ms S).references.threads k None ≡ Some row → WasAt S.references.threads k (steps_of t ms k) row
+pub at-each : (script : Script) (S : State) (t : ObjNo) (ms : List Move) → EachFits script t ms S → (k : ℕ) (row : ThreadRow) → get_or (perform t ms S).references.threads k None ≡ Some row → WasAt S.references.threads k (steps_of t ms k) row
 at-each script S t [] fits k row is = let same = at-same S.references.threads k row is in let none = if_zero (t.0 == k) (total advance_bit []) refl in record { old = same.old; was = same.was; role = same.role; place = let p = same.place in omega arith }
 at-each script S t (m ∷ ms) fits k row is =
     let later = at-each script (moved t m S) t ms fits.1 k row is in
     let first = at-move script S t m fits.0 k later.old later.was in
     record { old = first.old; was = first.was; role = first.role ∙ later.role; place = let a = later.place in let b = first.place in let c = steps-then t m ms k in omega arith }
 
-same-instruction : (script : Script) (old row : ThreadRow) → old.role ≡ row.role → row.next_instruction ≡ old.next_instruction → instruction script row ≡ instruction script old
+pub same-instruction : (script : Script) (old row : ThreadRow) → old.role ≡ row.role → row.next_instruction ≡ old.next_instruction → instruction script row ≡ instruction script old
 same-instruction script old row role place = ap (λ (r : Role). slice_get (instructions_of script r) row.next_instruction) (sym role) ∙ ap (λ (n : ℕ). slice_get (instructions_of script old.role) n) place
 
 -- so it looked for that still, after an entry that tells what the moves do
