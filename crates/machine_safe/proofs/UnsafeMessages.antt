@@ -7,6 +7,7 @@ use Rattle.sym_base.specs.declared.word.Word.TheVariants as word
 use Rattle.script_types.specs.declared.script.Script.{Script}
 use Rattle.entry_log.specs.declared.effect.Effect.{Effect}
 use Rattle.entry_log.specs.declared.effect.Effect.TheVariants as effect
+use Rattle.entry_log.specs.declared.effect.Holder.TheVariants as holder
 use Rattle.entry_log.specs.declared.effect.StatusNo.{StatusNo}
 use Rattle.entry_log.specs.declared.effect.StatusNo.TheVariants as status
 use Rattle.entry_log.specs.declared.entry.Actor.TheVariants.{Thread}
@@ -104,6 +105,19 @@ accepted_late script safe =
     let server : Some (number 6) ≡ Some a.server = subst (λ (s : ObjNo). server_in (opens ++ first_end ∷ connected ∷ closes 6 ∷ []) s ≡ Some a.server) (sym session) a.linked in
     let own : number 6 ≡ a.server = cc in
     let accepting : true ≡ false = subst (λ (v : ObjNo). is_closing_in (opens ++ first_end ∷ connected ∷ closes 6 ∷ []) v ≡ false) (sym own) a.accepting in cc
+
+-- Nor once that handle goes in any other step.
+abbrev loses : ℕ → Entry
+loses place = acts place 3 (step.Of word.Connect part.Done) (effect.Minus (holder.InThread (number 3) 0) (number 6) ∷ []) (Some (pos 0))
+
+accepted_unhandled : (script : Script) → IsSafeMessages script (opens ++ first_end ∷ connected ∷ loses 6 ∷ sends 7 2 ∷ []) → ⊥
+unfolding second_object
+accepted_unhandled script safe =
+    let a = safe.acceptances (opens ++ first_end ∷ connected ∷ loses 6 ∷ []) (sends 7 2) [] refl (omega arith) in
+    let session : number 7 ≡ a.by.session = ap second_object a.by.told in
+    let server : Some (number 6) ≡ Some a.server = subst (λ (s : ObjNo). server_in (opens ++ first_end ∷ connected ∷ loses 6 ∷ []) s ≡ Some a.server) (sym session) a.linked in
+    let own : number 6 ≡ a.server = cc in
+    let accepting : true ≡ false = subst (λ (v : ObjNo). is_closing_in (opens ++ first_end ∷ connected ∷ loses 6 ∷ []) v ≡ false) (sym own) a.accepting in cc
 
 -- None is accepted in a step that isn't one that accepts: a call under the name of a time slice's end, whose client would wait for ever.
 abbrev calls_turning : Entry

@@ -70,7 +70,7 @@ pub record FitsAction (k : Kinds) (script : Script) (S : State) (t : ObjNo) (d :
 -- whatever holds of each action of a thread: the step of an instruction, its return, what is given up, what is paid, and what is plain
 pub record OfAction (script : Script) (S : State) (t : ObjNo) (P : Decision → Type 0) : Type 0 where
   pub plainly : (d : Decision) → FitsAction plain script S t d → P d
-  pub steps : (row : ThreadRow) (instr : Instr) → thread_of S t ≡ Some row → row.stage ≡ Live → instruction script row ≡ Some instr → FitsAction (kind_of instr row.part) script S t (step_of script S t row instr row.part) → P (step_of script S t row instr row.part)
+  pub steps : (row : ThreadRow) (instr : Instr) → thread_of S t ≡ Some row → row.stage ≡ Live → is_returning row.part ≡ false → instruction script row ≡ Some instr → FitsAction (kind_of instr row.part) script S t (step_of script S t row instr row.part) → P (step_of script S t row instr row.part)
   pub returns : (row : ThreadRow) (instr : Instr) → thread_of S t ≡ Some row → instruction script row ≡ Some instr → FitsAction looking script S t (return_of S t row instr) → P (return_of S t row instr)
   pub gives : (row : ThreadRow) (what : Holding) → IsGiven S t what → FitsAction (kind_given what) script S t (give_up S t row what) → P (give_up S t row what)
   pub pays : (what : Owed) (rest : List Owed) → owed_of S t ≡ what ∷ rest → P (pay what)
@@ -178,7 +178,7 @@ module _ (script : Script) (S : State) (t : ObjNo) (P : Decision → Type 0) (ea
   own-acts : (row : ThreadRow) (at : Option Instr) → row.stage ≡ Live → instruction script row ≡ at → IsActing script S t row → P (decision_of_task script S t row (step_or_end (is_protected S.synchronization.nano t) at))
   own-acts row None live e h = end-acts row (is_protected S.synchronization.nano t) h live refl
   own-acts row (Some instr) live e h =
-      each.steps row instr h.is live e (goes_by script S t (step_of script S t row instr row.part) h.paid (fits-step script S t row instr row.part (stepping script S t row instr h.shaped h.rows h.is (λ _. live) h.able e h.paid) h.going refl))
+      each.steps row instr h.is live h.going e (goes_by script S t (step_of script S t row instr row.part) h.paid (fits-step script S t row instr row.part (stepping script S t row instr h.shaped h.rows h.is (λ _. live) h.able e h.paid) h.going refl))
 
   -- the work of its closing servers comes first
   work-acts : (row : ThreadRow) (work : List Holding) → row.stage ≡ Live → held_servers S t ≡ work → IsActing script S t row → P (decision_of_task script S t row (work_or work (step_or_end (is_protected S.synchronization.nano t) (instruction script row))))
@@ -237,7 +237,7 @@ module _ (script : Script) (S : State) (t : ObjNo) (P : Decision → Type 0) (ea
 pub regular-action : (script : Script) (S : State) (t : ObjNo) → IsShaped script → AreRows script S → (k : Kinds) × IsRegular k script S t (decision_of script S t)
 regular-action script S t shaped rows = each-action script S t (λ (d : Decision). (k : Kinds) × IsRegular k script S t d) (record {
   plainly = λ d fits. (plain, fits.regular);
-  steps = λ row instr is live at fits. (kind_of instr row.part, fits.regular);
+  steps = λ row instr is live going at fits. (kind_of instr row.part, fits.regular);
   returns = λ row instr is at fits. (looking, fits.regular);
   gives = λ row what given fits. (kind_given what, fits.regular);
   pays = λ what rest owes. (plain, regular-pay what);
@@ -251,7 +251,7 @@ of_action script S t P shaped rows goes pays none = elim (cases_lt t.0 (length S
       let sane : Sane script t S = record { rows = rows; inside = within } in
       each-action script S t (λ (d : Decision). P d.moves) (record {
         plainly = λ d fits. goes d.moves sane fits.goes;
-        steps = λ row instr is live at fits. goes (step_of script S t row instr row.part).moves sane fits.goes;
+        steps = λ row instr is live going at fits. goes (step_of script S t row instr row.part).moves sane fits.goes;
         returns = λ row instr is at fits. goes (return_of S t row instr).moves sane fits.goes;
         gives = λ row what given fits. goes (give_up S t row what).moves sane fits.goes;
         pays = λ what rest owes. pays what rest sane owes;
@@ -271,7 +271,7 @@ fits_goes script S t ms goes = record { each = goes.each; few = goes.few; told =
 pub fits-action : (script : Script) (S : State) (t : ObjNo) → IsShaped script → AreRows script S → Fits script t (decision_of script S t).moves S ⊎ Pays S t (decision_of script S t).moves
 fits-action script S t shaped rows = each-action script S t (λ (d : Decision). Fits script t d.moves S ⊎ Pays S t d.moves) (record {
   plainly = λ d fits. inl (fits_goes script S t d.moves fits.goes);
-  steps = λ row instr is live at fits. inl (fits_goes script S t (step_of script S t row instr row.part).moves fits.goes);
+  steps = λ row instr is live going at fits. inl (fits_goes script S t (step_of script S t row instr row.part).moves fits.goes);
   returns = λ row instr is at fits. inl (fits_goes script S t (return_of S t row instr).moves fits.goes);
   gives = λ row what given fits. inl (fits_goes script S t (give_up S t row what).moves fits.goes);
   pays = λ what rest owes. inr (record { what = what; rest = rest; moves = refl; owes = owes });

@@ -22,7 +22,6 @@ use Rattle.machine_safe.proofs.Serving.Sending.{deed-call, deed-connect, deed-se
 use Rattle.machine_safe.specs.CountAfter.{opens}
 use Rattle.machine_safe.specs.SafeMessages.{code_of_complete}
 use Rattle.machine_safe.specs.Sent.{accepts_by, status_by}
-use Rattle.machine_safe.specs.Served.{closes_handle}
 use Rattle.move_laws.proofs.Lists.Cases.{if_cases}
 use Rattle.move_laws.proofs.Lists.Totals.{total-append}
 use Rattle.move_laws.proofs.MoveLaws.RowMoves.{silent}
@@ -50,6 +49,8 @@ use Rattle.machine.specs.EntryWords.{is_handle, is_send, makes_server}
 use Rattle.machine_laws.proofs.Fitting.Regular.{IsRegular, kind_of, plain}
 use Rattle.machine_laws.proofs.Fitting.Posting.{tame-wake}
 use Rattle.state_rows.specs.declared.thread.Stage.TheVariants.{Live}
+use Rattle.machine_safe.proofs.Serving.Connecting.{keeps_handle, KeepsHandle, session-other}
+use Rattle.machine.specs.Task.{is_returning}
 
 -- a server is made
 deed-made_server : (S : State) (t : ObjNo) (at : Option Instr) (P : Decision → Type 0) (name : List ℕ) (x : ℕ) (handle : Option NewHandle) → OfEach S t at P → P (make_server t (next_object S) name x handle)
@@ -61,7 +62,6 @@ deed-made_server S t at P name x (Some handle) each = each.makes _ (record {
   moves = refl;
   quiet = refl;
   makes = refl;
-  step = refl;
   unsent = refl;
 })
 
@@ -100,7 +100,6 @@ deed-complete S t at P y code m (Some message) here e each =
       moves = refl;
       owner = is.1;
       cause = ap code_of_complete here;
-      step = refl;
       unsent = refl;
     })
 
@@ -137,10 +136,10 @@ connected-is S s o e = by (was_opened (session_at S.serving.servers s)) e
     by true e = e
     by false e = absurd (cc)
 
-module _ (S : State) (t : ObjNo) (at : Option Instr) (P : Decision → Type 0) (h : Holder) (o : ObjNo) (answers : Bool) (d : Decision) (handle : is_handle h ≡ true) (step : closes_handle d.step ≡ true) (makes : makes_server d.step ≡ false) (unsent : is_send d.step ≡ false) (told : status_by d.step at ≡ None) (named : accepts_by d.step None ≡ true) (each : OfEach S t at P) where
+module _ (S : State) (t : ObjNo) (at : Option Instr) (P : Decision → Type 0) (h : Holder) (o : ObjNo) (answers : Bool) (d : Decision) (handle : is_handle h ≡ true) (makes : makes_server d.step ≡ false) (unsent : is_send d.step ≡ false) (told : status_by d.step at ≡ None) (named : accepts_by d.step None ≡ true) (each : OfEach S t at P) where
   -- the handle of what is no server
   others : (ms : List Move) → d.moves ≡ ms ++ Lose h o ∷ behind answers t → ((v : ObjNo) → total (lost_bit v) ms ≡ 0) → server_at S.serving.servers o ≡ None → ClosesOthers S d
-  others ms moves silent none closes v some =
+  others ms moves silent none v some =
       let all = ap (total (lost_bit v)) moves in
       let parts = total-append (lost_bit v) ms (Lose h o ∷ behind answers t) in
       let first = silent v in
@@ -173,7 +172,7 @@ module _ (S : State) (t : ObjNo) (at : Option Instr) (P : Decision → Type 0) (
 
   closing : (server : Option ServerRow) → d.moves ≡ close_or o server (disconnect S t o (connected_to S o)) ++ Lose h o ∷ behind answers t → server_at S.serving.servers o ≡ server → P d
   closing None moves e = unconnected (connected_to S o) moves refl e
-  closing (Some row) moves e = each.closes d (record { server = o; row = row; is = e; holder = h; handle = handle; answers = answers; moves = moves; makes = makes; step = step; unsent = unsent })
+  closing (Some row) moves e = each.closes d (record { server = o; row = row; is = e; holder = h; handle = handle; answers = answers; moves = moves; makes = makes; unsent = unsent })
 
   pub deed-handle : d.moves ≡ close_moves S t h o ++ behind answers t → P d
   deed-handle moves = closing (server_at S.serving.servers o) (moves ∙ append_assoc (before_close S t o) (Lose h o ∷ []) (behind answers t)) refl
@@ -183,14 +182,14 @@ holder-handle t row handle = if_cases (λ (h : Holder). is_handle h ≡ true) (i
 
 deed-close : (S : State) (t : ObjNo) (at : Option Instr) (P : Decision → Type 0) (row : ThreadRow) (handle : ℕ) (found : Option ObjNo) → OfEach S t at P → P (close_handle S t row handle found)
 deed-close S t at P row handle None each = calm each _ refl refl
-deed-close S t at P row handle (Some o) each = deed-handle S t at P (holder_of t row handle) o true (close_handle S t row handle (Some o)) (holder-handle t row handle) refl refl refl refl refl each refl
+deed-close S t at P row handle (Some o) each = deed-handle S t at P (holder_of t row handle) o true (close_handle S t row handle (Some o)) (holder-handle t row handle) refl refl refl refl each refl
 
 -- each step of an instruction
-pub deed-step : (script : Script) (S : State) (t : ObjNo) (at : Option Instr) (P : Decision → Type 0) (row : ThreadRow) (i : Instr) (p : Option Part) → IsRegular (kind_of i p) script S t (step_of script S t row i p) → thread_of S t ≡ Some row → row.stage ≡ Live → at ≡ Some i → OfEach S t at P → P (step_of script S t row i p)
-deed-step script S t at P row (instr.Close x) p regular is live here each = deed-close S t at P row _ _ each
-deed-step script S t at P row (instr.Server name x) p regular is live here each = deed-server S t at P name x each
-deed-step script S t at P row (instr.Connect name slots x) (Some p) regular is live here each = deed-connect S t at (record { row = row; is = is; live = live }) P row name slots x p here each
-deed-step script S t at P row (instr.Send x function y args) (Some p) regular is live here each = deed-send S t at (record { row = row; is = is; live = live }) P row x function y args p is here each
-deed-step script S t at P row (instr.Call x function args) (Some p) regular is live here each = deed-call S t at (record { row = row; is = is; live = live }) P row x function args p here each
-deed-step script S t at P row (instr.Complete y code) p regular is live here each = deed-complete S t at P y code _ _ here refl each
-deed-step script S t at P row i p regular is live here each = calm each _ (regular.calm refl) (regular.sends refl)
+pub deed-step : (script : Script) (S : State) (t : ObjNo) (at : Option Instr) (P : Decision → Type 0) (row : ThreadRow) (i : Instr) (p : Option Part) → IsRegular (kind_of i p) script S t (step_of script S t row i p) → thread_of S t ≡ Some row → row.stage ≡ Live → is_returning p ≡ false → (keeps_handle (Some i) p ≡ true → KeepsHandle S t row) → at ≡ Some i → OfEach S t at P → P (step_of script S t row i p)
+deed-step script S t at P row (instr.Close x) p regular is live going kept here each = deed-close S t at P row _ _ each
+deed-step script S t at P row (instr.Server name x) p regular is live going kept here each = deed-server S t at P name x each
+deed-step script S t at P row (instr.Connect name slots x) (Some p) regular is live going kept here each = deed-connect S t at (record { row = row; is = is; live = live }) P row name slots x p going (λ keeps s made. session-other S t row s (kept keeps) made) here each
+deed-step script S t at P row (instr.Send x function y args) (Some p) regular is live going kept here each = deed-send S t at (record { row = row; is = is; live = live }) P row x function y args p is here each
+deed-step script S t at P row (instr.Call x function args) (Some p) regular is live going kept here each = deed-call S t at (record { row = row; is = is; live = live }) P row x function args p here each
+deed-step script S t at P row (instr.Complete y code) p regular is live going kept here each = deed-complete S t at P y code _ _ here refl each
+deed-step script S t at P row i p regular is live going kept here each = calm each _ (regular.calm refl) (regular.sends refl)

@@ -17,9 +17,9 @@ use Rattle.machine_safe.proofs.Serving.Keeps.{Keeps, closing-row, keeps-closing,
 use Rattle.machine_safe.proofs.Serving.KeptRows.{at-closed, closed-long, closing-was, link-closed}
 use Rattle.machine_safe.proofs.Serving.Reading.{Reading, closing_by, further}
 use Rattle.machine_safe.proofs.Serving.Served.{IsServed, Served, bit-is, bit-none, bit-some, closing-count}
-use Rattle.machine_safe.proofs.Serving.Told.{unlinking-close}
+use Rattle.machine_safe.proofs.Serving.Told.{unlinking-close, close-lost}
 use Rattle.machine_safe.specs.SafeDeaths.{dooms}
-use Rattle.machine_safe.specs.Served.{closes_handle, ends, handles_lost, or_before, owner_told, server_told}
+use Rattle.machine_safe.specs.Served.{ends, handles_lost, or_before, owner_told, server_told}
 use Rattle.move_laws.proofs.Lists.Mapped.{mapped-some}
 use Rattle.move_laws.proofs.References.Mutexes.{held-not_holding}
 use Rattle.move_laws.proofs.References.Same.{eqb_apart, if_is, if_not, if_zero, same_object, same_self}
@@ -64,7 +64,7 @@ module _ (script : Script) (r : Reading) (S : State) (t : ObjNo) (done : Step) (
   abbrev begun : ObjNo → State
   begun v = moved t (Servers (Close v)) S
 
-  module _ (v : ObjNo) (holder : Holder) (handle : is_handle holder ≡ true) (makes : makes_server done ≡ false) (closing_step : closes_handle done ≡ true)
+  module _ (v : ObjNo) (holder : Holder) (handle : is_handle holder ≡ true) (makes : makes_server done ≡ false)
       (k : Keeps (begun v) (moved t (Lose holder v) (begun v)) t (Lose holder v ∷ []) (told (Lose holder v) (begun v))) where
     abbrev gone : State
     gone = moved t (Lose holder v) (begun v)
@@ -79,7 +79,7 @@ module _ (script : Script) (r : Reading) (S : State) (t : ObjNo) (done : Step) (
     owner_same o = ap (λ (b : Bool). or_before (if b then owner_told fs o else None) (r.owner o)) makes
 
     closings_more : (o : ObjNo) → now_told.closings o ≡ r.closings o + same v o
-    closings_more o = let a = ap (λ (b : Bool). if b then handles_lost fs o else 0) closing_step in let b = closed-lost (dies (begun v) v) holder v o handle in omega arith
+    closings_more o = let b = closed-lost (dies (begun v) v) holder v o handle in omega arith
 
     closing_now : (o w : ObjNo) → now_told.owner o ≡ Some w → closing_by now_told o ≡ nat_lt 0 (r.closings o + same v o + dooms r.effects w)
     closing_now o w is =
@@ -131,7 +131,7 @@ module _ (script : Script) (r : Reading) (S : State) (t : ObjNo) (done : Step) (
       unmade = λ o past.
           let more = k.objects in
           let old = h.unmade o (omega arith) in
-          let none = if_zero (closes_handle done) (handles_lost fs o) (k.lost o past) in omega arith;
+          let none = k.lost o past in omega arith;
       places = λ n row is.
           let w = k.threads n row is in
           let old = h.places n w.old w.was in
@@ -153,7 +153,7 @@ module _ (script : Script) (r : Reading) (S : State) (t : ObjNo) (done : Step) (
     }
 
   -- a server stops
-  module _ (v : ObjNo) (makes : makes_server done ≡ false) (closing_step : closes_handle done ≡ false) (may : MayEnd S v) (inside : t.0 < length S.serving.owned) (once : times_owned S.serving.owned t v ≡ 1) (alone : (u : ObjNo) → 0 < times_owned S.serving.owned u v → u.0 ≡ t.0) where
+  module _ (v : ObjNo) (makes : makes_server done ≡ false) (may : MayEnd S v) (inside : t.0 < length S.serving.owned) (once : times_owned S.serving.owned t v ≡ 1) (alone : (u : ObjNo) → 0 < times_owned S.serving.owned u v → u.0 ≡ t.0) where
     abbrev stopped : State
     stopped = moved t (Lose (Own t) v) (moved t (Servers (End v)) S)
 
@@ -170,7 +170,7 @@ module _ (script : Script) (r : Reading) (S : State) (t : ObjNo) (done : Step) (
     owner_kept o = ap (λ (b : Bool). or_before (if b then owner_told told_then o else None) (r.owner o)) makes
 
     closings_kept : (o : ObjNo) → after.closings o ≡ r.closings o
-    closings_kept o = let a = ap (λ (b : Bool). if b then handles_lost told_then o else 0) closing_step in omega arith
+    closings_kept o = let a = close-lost last (Own t) v o refl in omega arith
 
     closing_kept : (o w : ObjNo) → after.owner o ≡ Some w → closing_by after o ≡ nat_lt 0 (r.closings o + dooms r.effects w)
     closing_kept o w is =

@@ -40,11 +40,10 @@ use Rattle.move_laws.proofs.Lists.Mapped.{mapped-some}
 use Rattle.script_types.specs.declared.instruction.Instr.TheVariants as instr
 use Rattle.entry_log.specs.declared.step.Part.TheVariants as part
 use Rattle.machine.specs.declared.moves.Move.TheVariants.{Advance, Lose, Servers, Pay, GoOn, Wait, Messages, Gain}
-use Rattle.machine_safe.proofs.Serving.Others.{Carries, carries-each, midway-pay}
+use Rattle.machine_safe.proofs.Serving.Others.{Carries, carries-each, midway-pay, at-each, same-instruction}
 use Rattle.entry_log.specs.declared.effect.Holder.TheVariants.{Link, InThread, Temp}
 use Rattle.state_rows.specs.declared.handle_slot.HandleSlot.{HandleSlot}
 use Rattle.move_laws.proofs.References.Same.{if_zero, same_object}
-use Rattle.machine_safe.proofs.Serving.Looked.{same-instruction, at-each}
 use Rattle.machine.specs.declared.server_move.ServerMove.TheVariants.{Start, Join, Close, CloseAll, SetOpen}
 use Rattle.sym_base.specs.declared.kind.Slots.{Slots}
 use Rattle.machine.specs.SessionCalls.{make_session, connect_done, connect_send, connect_step, connect_to, send_connect, connect_make, session_made}
@@ -361,7 +360,7 @@ module _ (script : Script) (S : State) (t : ObjNo) (shaped : IsShaped script) (r
   decision-kept : LivedBefore (decision_of script S t) → KeptThen (decision_of script S t)
   decision-kept = each-action script S t (λ (d : Decision). LivedBefore d → KeptThen d) (record {
     plainly = λ d fits lived. carried-kept d refl fits;
-    steps = λ old i is live at fits lived. step-kept old i old.part is at (λ keeps. kept t old is live (ap (λ (x : Option Instr). keeps_handle x old.part) at ∙ keeps)) fits;
+    steps = λ old i is live going at fits lived. step-kept old i old.part is at (λ keeps. kept t old is live (ap (λ (x : Option Instr). keeps_handle x old.part) at ∙ keeps)) fits;
     returns = λ old i is at fits lived. return-kept old i is at fits;
     gives = λ old what given fits lived. give-kept old what given fits lived;
     pays = λ what rest owes lived row is live keeps. paid-kept script S t what kept t row is live keeps;

@@ -16,7 +16,7 @@ use Rattle.machine_laws.proofs.Fitting.Regular.{serving_bit}
 use Rattle.machine_safe.proofs.Serving.Keeps.{changing-none, changing_bit, lost-none, lost_bit, message-none, message_bit, detach-none, detach_bit}
 use Rattle.machine_safe.specs.SafeMessages.{code_by}
 use Rattle.machine_safe.specs.Sent.{accepts_by, status_by}
-use Rattle.machine_safe.specs.Served.{closes_handle, makes_session}
+use Rattle.machine_safe.specs.Served.{makes_session}
 use Rattle.script_types.specs.declared.instruction.Instr.{Instr}
 use Rattle.state_rows.specs.MessageRows.{message_of, is_async, is_full}
 use Rattle.state_rows.specs.ServerRows.{is_closing, owner_of, server_at, server_of}
@@ -55,9 +55,9 @@ status_of_way (Async s) = Some (status.Async s)
 status_of_way Sync = Some status.Sync
 status_of_way Disconnect = None
 
--- a handle goes with a close only of what is no server
+-- a handle goes only of what is no server
 abbrev pub ClosesOthers : State → Decision → Type 0
-ClosesOthers S d = closes_handle d.step ≡ true → (v : ObjNo) → 0 < total (lost_bit v) d.moves → server_at S.serving.servers v ≡ None
+ClosesOthers S d = (v : ObjNo) → 0 < total (lost_bit v) d.moves → server_at S.serving.servers v ≡ None
 
 -- a session is detached only from a server that is closing
 abbrev pub Detaches : State → Decision → Type 0
@@ -134,7 +134,6 @@ pub record IsFinishing (S : State) (t : ObjNo) (at : Option Instr) (d : Decision
   pub moves : d.moves ≡ finish S message code ++ behind answers t
   pub owner : owner_of S.serving.servers message.row.server ≡ Some t
   pub cause : code_by d.step (is_closing S.serving.servers message.row.server) at ≡ Some code
-  pub step : closes_handle d.step ≡ false
   pub unsent : is_send d.step ≡ false
 
 -- it makes a server
@@ -145,7 +144,6 @@ pub record IsMaking (S : State) (t : ObjNo) (d : Decision) : Type 0 where
   pub moves : d.moves ≡ Servers (Start (next_object S) t) ∷ Make kind.Server name (Own t) ∷ Gain holder (next_object S) ∷ back
   pub quiet : total serving_bit back ≡ 0
   pub makes : makes_server d.step ≡ true
-  pub step : closes_handle d.step ≡ false
   pub unsent : is_send d.step ≡ false
 
 -- it joins a session at a server
@@ -159,7 +157,6 @@ pub record IsJoining (S : State) (t : ObjNo) (at : Option Instr) (d : Decision) 
   pub quiet : total serving_bit back ≡ 0
   pub joins : makes_session d.step ≡ true
   pub makes : makes_server d.step ≡ false
-  pub step : closes_handle d.step ≡ false
   pub unsent : is_send d.step ≡ false
 
 -- it closes the handle of a server
@@ -172,7 +169,6 @@ pub record IsClosing (S : State) (t : ObjNo) (d : Decision) : Type 0 where
   pub answers : Bool
   pub moves : d.moves ≡ Servers (Close server) ∷ Lose holder server ∷ behind answers t
   pub makes : makes_server d.step ≡ false
-  pub step : closes_handle d.step ≡ true
   pub unsent : is_send d.step ≡ false
 
 -- it stops one
@@ -180,7 +176,6 @@ pub record IsStopping (S : State) (t : ObjNo) (d : Decision) : Type 0 where
   pub server : ObjNo
   pub moves : d.moves ≡ Servers (End server) ∷ Lose (Own t) server ∷ []
   pub makes : makes_server d.step ≡ false
-  pub step : closes_handle d.step ≡ false
   pub unsent : is_send d.step ≡ false
 
 -- whatever holds of each kind of action
@@ -198,7 +193,7 @@ pub calm : {S : State} {t : ObjNo} {at : Option Instr} {P : Decision → Type 0}
 calm each d quiet unsent = each.keeps d (record {
   changing = changing-none d.moves quiet;
   still = message-none d.moves quiet;
-  closed = λ closes v some. let none = lost-none v d.moves quiet in absurd (omega arith);
+  closed = λ v some. let none = lost-none v d.moves quiet in absurd (omega arith);
   detaches = λ v some. let none = detach-none v d.moves quiet in absurd (omega arith);
   send = λ sends. absurd (cc);
 })

@@ -22,7 +22,7 @@ use Rattle.machine_laws.proofs.Fitting.Regular.{serving_bit}
 use Rattle.machine_safe.proofs.Deaths.Rows.{row_bit, stage_live}
 use Rattle.machine_safe.proofs.Serving.Deeds.{IsFinishing, status_of_way, behind}
 use Rattle.machine_safe.proofs.Serving.Doing.{Doing, IsGoing, going, keeps-doing}
-use Rattle.machine_safe.proofs.Serving.Keeps.{Keeps, changing-none, changing_bit, message-none, detach-none, detach_bit}
+use Rattle.machine_safe.proofs.Serving.Keeps.{Keeps, changing-none, changing_bit, message-none, detach-none, detach_bit, lost_bit, lost-none}
 use Rattle.machine_safe.proofs.Serving.Letters.{Known, letters-less, same_number}
 use Rattle.machine_safe.proofs.Serving.Quiet.{IsQuiet, Post, post_of, posts, quiet-each}
 use Rattle.machine_safe.proofs.Serving.Reading.{reading}
@@ -152,7 +152,7 @@ module _ (script : Script) (before : List Entry) (S : State) (place : ℕ) (t : 
   pub turn-finishes : {k : Kinds} (d : Decision) → IsRegular k script S t d → IsFinishing S t (instruction_in script before t) d → Doing script S t d.moves → ((u : ObjNo) (row : ThreadRow) → thread_of S u ≡ Some row → row_bit stage_live (Some row) + dooms (effects_of before) u ≡ 1) → IsTurn script before (entry_for place t S d) (perform t d.moves S)
   turn-finishes d regular is does fate = record {
     book = record {
-      served = served-doing script before S place t rows book d does changing regular (λ closes v some. let not_so = is.step in absurd (cc)) (λ v some. let a = ap (total (detach_bit v)) is.moves in let b = detach-none v rest calm_rest in absurd (omega arith));
+      served = served-doing script before S place t rows book d does changing regular (λ v some. let none = lost-none v rest calm_rest in let all = ap (total (lost_bit v)) is.moves in absurd (omega arith)) (λ v some. let a = ap (total (detach_bit v)) is.moves in let b = detach-none v rest calm_rest in absurd (omega arith));
       letters = letters-less script before S T e book.letters (λ p among. keeps.unlinked p.session) post among
           (λ x there. fewer-posts m.number S.serving.messages.outstanding x (subst (λ (l : List Post). Contains l x) left there))
           (λ x there apart. subst (λ (l : List Post). Contains l x) (sym left) (other-posts m.number S.serving.messages.outstanding x there apart))

@@ -19,17 +19,17 @@ use Rattle.machine_safe.proofs.Serving.Doing.{Doing, IsGoing, going, going-then,
 use Rattle.machine_safe.proofs.Serving.Fated.{doom-among, doom-told}
 use Rattle.machine_safe.proofs.Serving.EffectSums.{owner_told-append}
 use Rattle.move_laws.proofs.Lives.LivesMove.{zero_or}
-use Rattle.machine_safe.proofs.Serving.Keeps.{closing-row, Keeps, changing-none, message-none, message_bit, steps_of, detach-none, WasSession}
+use Rattle.machine_safe.proofs.Serving.Keeps.{closing-row, Keeps, changing-none, message-none, message_bit, steps_of, detach-none, WasSession, lost-none}
 use Rattle.machine_safe.proofs.Serving.Kept.{AreMade}
 use Rattle.machine_safe.proofs.Serving.Letters.{letters-quiet}
 use Rattle.machine_safe.proofs.Serving.Making.{served-made_server}
-use Rattle.machine_safe.proofs.Serving.Quiet.{IsQuiet}
-use Rattle.machine_safe.proofs.Serving.Reading.{IsSame, further, reading, same-both, same-entry, same-then}
+use Rattle.machine_safe.proofs.Serving.Quiet.{IsQuiet, lost-each}
+use Rattle.machine_safe.proofs.Serving.Reading.{IsSame, further, reading, same-both, same-entry, same-then, closings}
 use Rattle.machine_safe.proofs.Serving.Served.{Served, served-keeps, served-made, served-same}
 use Rattle.machine_safe.proofs.Serving.Turns.{Book, IsTurn, entry_for, unserving, counts}
 use Rattle.machine_safe.specs.CountAfter.{effects_of}
 use Rattle.machine_safe.specs.SafeDeaths.{dooms}
-use Rattle.machine_safe.specs.Served.{closings, ends, handles_lost, one_if, or_before, owner_in, owner_told, server_told}
+use Rattle.machine_safe.specs.Served.{ends, handles_lost, one_if, or_before, owner_in, owner_told, server_told}
 use Rattle.script_types.specs.declared.script.Script.{Script}
 use Rattle.std.proofs.Common.{Bool, true, false, refl, List, None, [], ap, arith, subst, sym, ℕ, ◌++◌, ◌+◌, ◌∙◌, ◌∷◌, ◌≡◌, Option, Some, get_or}
 use Rattle.std.specs.Prelude.{if◌then◌else◌, ◌==◌}
@@ -89,7 +89,7 @@ module _ (script : Script) (before : List Entry) (S : State) (place : ℕ) (t : 
       middle = going-then script (moved t (Servers (Start (next_object S) t)) S) t (Make kind.Server is.name (Own t)) rest (going-then script S t (Servers (Start (next_object S) t)) (Make kind.Server is.name (Own t) ∷ rest) goes)
 
       first : Served script (further (reading before) d.step fs (λ k. 0)) mid
-      first = served-made_server script (reading before) S t d.step book.served rows is.name start (let a = goes.sane.inside in let b = rows.serving.servers.owned_sized in omega arith) is.makes is.step (undoomed t start.owner)
+      first = served-made_server script (reading before) S t d.step book.served rows is.name start (let a = goes.sane.inside in let b = rows.serving.servers.owned_sized in omega arith) is.makes (undoomed t start.owner)
 
       keeps : Keeps mid (perform t rest mid) t rest gs
       keeps = keeps-going script mid t rest middle (served-made script (further (reading before) d.step fs (λ k. 0)) mid first) (changing-none rest (let a = is.quiet in omega arith))
@@ -99,7 +99,7 @@ module _ (script : Script) (before : List Entry) (S : State) (place : ℕ) (t : 
           (served-keeps script (further (reading before) d.step fs (λ k. 0)) mid (perform t rest mid) t rest d.step gs first keeps
           (λ v. let a = regular.dooms v in let b = ap (total (closed_bit v)) is.moves in let c = ap (total (doomed_bit v)) is.moves in let f = doom-told t rest mid v in omega arith)
           (λ v. doom-among t rest mid v)
-          (λ v row there. ap (λ (b : Bool). if b then handles_lost gs v else 0) is.step)
+          (λ v row there. let a = lost-each script mid t rest v middle.each in let b = lost-none v rest (let q = is.quiet in omega arith) in omega arith)
           (λ makes. let a = regular.making makes in let b = ap (total mutex_bit) is.moves in omega arith)
           (λ v some. let none = detach-none v rest (let a = is.quiet in omega arith) in absurd (omega arith)))
 

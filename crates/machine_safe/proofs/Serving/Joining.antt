@@ -17,11 +17,11 @@ use Rattle.machine_safe.proofs.Serving.Deeds.{IsJoining}
 use Rattle.machine_safe.proofs.Serving.Doing.{Doing, IsGoing, going, going-then, keeps-going, quiet-doing}
 use Rattle.machine_safe.proofs.Serving.EffectSums.{ends-append, server_told-append}
 use Rattle.machine_safe.proofs.Serving.Fated.{doom-among, doom-told}
-use Rattle.machine_safe.proofs.Serving.Keeps.{Keeps, changing-none, message-none, message_bit, steps_of, detach-none}
+use Rattle.machine_safe.proofs.Serving.Keeps.{Keeps, changing-none, message-none, message_bit, steps_of, detach-none, lost-none}
 use Rattle.machine_safe.proofs.Serving.Kept.{AreMade, keeps-move}
 use Rattle.machine_safe.proofs.Serving.Letters.{letters-quiet}
 use Rattle.machine_safe.proofs.Serving.Making.{served-joined}
-use Rattle.machine_safe.proofs.Serving.Quiet.{IsQuiet, Post, post_of, posts}
+use Rattle.machine_safe.proofs.Serving.Quiet.{IsQuiet, Post, post_of, posts, lost-each}
 use Rattle.machine_safe.proofs.Serving.Reading.{IsSame, Reading, further, reading, same-both, same-entry, same-then}
 use Rattle.machine_safe.proofs.Serving.Served.{Served, served-keeps, served-made, served-same}
 use Rattle.machine_safe.proofs.Serving.Turns.{Book, IsTurn, counts, entry_for, unserving}
@@ -115,13 +115,13 @@ module _ (script : Script) (before : List Entry) (S : State) (place : ℕ) (t : 
 
       served1 : Served script r1 T
       served1 = served-keeps script (reading before) S T t (one ∷ []) d.step fs book.served makes (λ v. omega arith) (λ v. omega arith)
-          (λ v row there. ap (λ (b : Bool). if b then handles_lost fs v else 0) is.step) (λ making. refl) (λ v some. absurd (omega arith))
+          (λ v row there. refl) (λ making. refl) (λ v some. absurd (omega arith))
 
       r2 : Reading
       r2 = further r1 d.step hs (λ k. 0)
 
       served2 : Served script r2 mid
-      served2 = served-joined script r1 T t d.step served1 later.sane.rows (next_object S) is.server is.slots later.each.0 (no-server S (next_object S) made (omega arith)) is.makes is.step
+      served2 = served-joined script r1 T t d.step served1 later.sane.rows (next_object S) is.server is.slots later.each.0 (no-server S (next_object S) made (omega arith)) is.makes
 
       keeps : Keeps mid (perform t is.back mid) t is.back gs
       keeps = keeps-going script mid t is.back last (served-made script r2 mid served2) (changing-none is.back is.quiet)
@@ -134,7 +134,7 @@ module _ (script : Script) (before : List Entry) (S : State) (place : ℕ) (t : 
           (served-keeps script r2 mid (perform t is.back mid) t is.back d.step gs served2 keeps
           (λ v. let a = regular.dooms v in let b = ap (total (closed_bit v)) is.moves in let c = ap (total (doomed_bit v)) is.moves in let f = doom-told t is.back mid v in omega arith)
           (λ v. doom-among t is.back mid v)
-          (λ v row there. ap (λ (b : Bool). if b then handles_lost gs v else 0) is.step)
+          (λ v row there. let a = lost-each script mid t is.back v last.each in let b = lost-none v is.back is.quiet in omega arith)
           (λ making. absurd (cc)) (λ v some. let none = detach-none v is.back is.quiet in absurd (omega arith)))
 
       told_all : e.effects ≡ fs ++ (hs ++ gs)

@@ -57,6 +57,7 @@ use Rattle.machine_safe.proofs.Serving.Turns.{entry_for}
 use Rattle.machine_safe.specs.CountAfter.{is_by}
 use Rattle.machine_safe.specs.Served.{or_before, one_if}
 use Rattle.machine_safe.specs.Slotted.{looked_in, looks_to_send, used_told}
+use Rattle.machine_safe.proofs.Serving.Others.{at-each, same-instruction}
 
 -- what one entry more tells
 abbrev looks : Entry → ObjNo → Option ObjNo
@@ -120,17 +121,6 @@ there-each script S t [] fits u o row is uses none = record { old = row; was = i
 there-each script S t (m ∷ ms) fits u o row is uses none =
     let later = there-each script (moved t m S) t ms fits.1 u o row is uses (omega arith) in
     there-then script S (moved t m S) u o row later (there-move script S t m fits.0 u o later.old later.was later.uses (omega arith))
-
--- and a thread that isn't answered is at its instruction still
-pub at-each : (script : Script) (S : State) (t : ObjNo) (ms : List Move) → EachFits script t ms S → (k : ℕ) (row : ThreadRow) → get_or (perform t ms S).references.threads k None ≡ Some row → WasAt S.references.threads k (steps_of t ms k) row
-at-each script S t [] fits k row is = let same = at-same S.references.threads k row is in let none = if_zero (t.0 == k) (total advance_bit []) refl in record { old = same.old; was = same.was; role = same.role; place = let p = same.place in omega arith }
-at-each script S t (m ∷ ms) fits k row is =
-    let later = at-each script (moved t m S) t ms fits.1 k row is in
-    let first = at-move script S t m fits.0 k later.old later.was in
-    record { old = first.old; was = first.was; role = first.role ∙ later.role; place = let a = later.place in let b = first.place in let c = steps-then t m ms k in omega arith }
-
-pub same-instruction : (script : Script) (old row : ThreadRow) → old.role ≡ row.role → row.next_instruction ≡ old.next_instruction → instruction script row ≡ instruction script old
-same-instruction script old row role place = ap (λ (r : Role). slice_get (instructions_of script r) row.next_instruction) (sym role) ∙ ap (λ (n : ℕ). slice_get (instructions_of script old.role) n) place
 
 -- so it looked for that still, after an entry that tells what the moves do
 looked-from : (script : Script) (before : List Entry) (S : State) (t : ObjNo) (ms : List Move) (e : Entry) → e.effects ≡ tell t ms S → Looked script before S → EachFits script t ms S → (u o : ObjNo) (row : ThreadRow) → total (use_bit u) ms ≡ 0 → thread_of (perform t ms S) u ≡ Some row → at_send (instruction script row) ≡ true → row.uses ≡ Some o → looked_in (before ++ e ∷ []) u ≡ Some o
@@ -214,7 +204,7 @@ module _ (script : Script) (before : List Entry) (S : State) (place : ℕ) (t : 
   decision-looked : IsShaped script → AreRows script S → LookedThen (decision_of script S t)
   decision-looked shaped rows = each-action script S t LookedThen (record {
     plainly = λ d fits. unused-looked d fits (inl refl);
-    steps = λ row i is live at fits. step-looked row i row.part is at fits;
+    steps = λ row i is live going at fits. step-looked row i row.part is at fits;
     returns = λ row i is at fits. return-looked row i is at fits;
     gives = λ row what given fits. unused-looked _ fits (inl (given-unused what));
     pays = pay-looked;

@@ -17,7 +17,7 @@ use Rattle.machine_safe.proofs.Serving.Keeps.{closing-row}
 use Rattle.machine_safe.proofs.Serving.Reading.{Reading, closing_by, further}
 use Rattle.machine_safe.proofs.Serving.Served.{IsServed, Served, closing-count}
 use Rattle.machine_safe.specs.SafeDeaths.{dooms}
-use Rattle.machine_safe.specs.Served.{closes_handle, ends, handles_lost, one_if, or_before, owner_told, server_told}
+use Rattle.machine_safe.specs.Served.{ends, handles_lost, one_if, or_before, owner_told, server_told}
 use Rattle.move_laws.proofs.References.Mutexes.{held-holding}
 use Rattle.move_laws.proofs.References.Same.{eqb_apart, if_is, if_not, if_zero}
 use Rattle.script_types.specs.declared.script.Script.{Script}
@@ -55,8 +55,8 @@ module _ (script : Script) (r : Reading) (S : State) (t : ObjNo) (done : Step) (
   abbrev new_server : ServerRow
   new_server = record { owner = t; is_closing = false }
 
-  pub served-made_server : (name : List ℕ) → MayStartServer S (next_object S) t → t.0 < length S.serving.owned → makes_server done ≡ true → closes_handle done ≡ false → Undoomed r t → Served script (further r done (Plus (Own t) (next_object S) ∷ []) (λ k. 0)) (made name)
-  served-made_server name may inside makes other undoomed = record {
+  pub served-made_server : (name : List ℕ) → MayStartServer S (next_object S) t → t.0 < length S.serving.owned → makes_server done ≡ true → Undoomed r t → Served script (further r done (Plus (Own t) (next_object S) ∷ []) (λ k. 0)) (made name)
+  served-made_server name may inside makes undoomed = record {
     rows = λ o row is. elim (cases_eq o.0 (next_object S).0) as (λ _. IsServed told (made name) o row) [
       | inl at ↦ own_row o row at is
       | inr apart ↦ old_row o row apart (sym (get_or-set_other S.serving.servers.servers (next_object S).0 o.0 (Some new_server) None apart) ∙ is)
@@ -111,7 +111,7 @@ module _ (script : Script) (r : Reading) (S : State) (t : ObjNo) (done : Step) (
       owner_other v apart = owner_there v (makes_server done) makes ∙ ap (λ (b : Bool). or_before (one_if b t) (r.owner v)) (eqb_apart (next_object S).0 v.0 apart)
 
       closings_same : (v : ObjNo) → told.closings v ≡ r.closings v
-      closings_same v = let a = ap (λ (b : Bool). r.closings v + (if b then handles_lost fs v else 0)) other in omega arith
+      closings_same v = omega arith
 
       closing_same : (v w : ObjNo) → told.owner v ≡ Some w → closing_by told v ≡ nat_lt 0 (r.closings v + dooms r.effects w)
       closing_same v w is =
@@ -163,8 +163,8 @@ module _ (script : Script) (r : Reading) (S : State) (t : ObjNo) (done : Step) (
   abbrev joined : ObjNo → ObjNo → Slots → State
   joined s v slots = moved t (Servers (Join s v slots t)) S
 
-  pub served-joined : (s v : ObjNo) (slots : Slots) → MayJoinServer S s v → server_at S.serving.servers s ≡ None → makes_server done ≡ false → closes_handle done ≡ false → Served script (further r done (Plus (Link s) v ∷ []) (λ k. 0)) (joined s v slots)
-  served-joined s v slots may fresh makes other = record {
+  pub served-joined : (s v : ObjNo) (slots : Slots) → MayJoinServer S s v → server_at S.serving.servers s ≡ None → makes_server done ≡ false → Served script (further r done (Plus (Link s) v ∷ []) (λ k. 0)) (joined s v slots)
+  served-joined s v slots may fresh makes = record {
     rows = λ o row is.
         let was = server_was o row is in
         let old = h.rows o row was in
@@ -222,7 +222,7 @@ module _ (script : Script) (r : Reading) (S : State) (t : ObjNo) (done : Step) (
       owner_same o = ap (λ (b : Bool). or_before (if b then owner_told fs o else None) (r.owner o)) makes
 
       closings_same : (o : ObjNo) → told.closings o ≡ r.closings o
-      closings_same o = let a = ap (λ (b : Bool). r.closings o + (if b then handles_lost fs o else 0)) other in omega arith
+      closings_same o = omega arith
 
       closing_same : (o w : ObjNo) → told.owner o ≡ Some w → closing_by told o ≡ nat_lt 0 (r.closings o + dooms r.effects w)
       closing_same o w is =

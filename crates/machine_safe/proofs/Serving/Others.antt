@@ -20,14 +20,19 @@ use Rattle.state_rows.specs.declared.handle_slot.HandleSlot.{HandleSlot}
 use Rattle.state_rows.specs.declared.thread.ThreadRow.{ThreadRow}
 use Rattle.state_rows.specs.declared.thread.Waiting.TheVariants as waiting
 use Rattle.std.proofs.Common.{Bool, List, None, Option, Some, [], ap, false, get_or, get_or-set_other, refl, sym, true, ℕ, ◌∙◌, ◌∷◌, ◌≡◌, arith, lives, inl, inr}
-use Rattle.std.specs.Prelude.{is_some}
+use Rattle.std.specs.Prelude.{is_some, slice_get, ◌==◌}
 use Rattle.sym_base.specs.declared.number.ObjNo.{ObjNo}
 use Rattle.std.proofs.lemmas.Bool.{cases_eq}
-use Rattle.machine_laws.proofs.Fitting.Regular.{going_bit}
+use Rattle.machine_laws.proofs.Fitting.Regular.{going_bit, advance_bit}
 use Rattle.state_rows.specs.declared.thread.Stage.TheVariants.{Live}
 use Rattle.state_rows.specs.declared.duty.Owed.{Owed}
 use Rattle.state_rows.specs.declared.duty.Owed.TheVariants.{Close, Sweep}
 use Rattle.state_rows.proofs.SoundChanges.{set_item}
+use Rattle.machine_safe.proofs.Serving.KeptRows.{at-same, at-move}
+use Rattle.machine_safe.proofs.Serving.Keeps.{WasAt, steps_of, steps-then}
+use Rattle.machine.specs.Task.{instruction, instructions_of}
+use Rattle.state_rows.specs.declared.thread.Role.{Role}
+use Rattle.move_laws.proofs.References.Same.{if_zero}
 
 -- a thread's row that was there before, at the same step of the same instruction, with the same find and the same use
 pub record WasMidway (threads : List (Option ThreadRow)) (k : ℕ) (row : ThreadRow) : Type 0 where
@@ -163,3 +168,14 @@ carries-each script S t (m ∷ ms) fits k row stays later is =
       mid = midway-then S.references.threads (moved t m S).references.threads k.0 row second.mid first;
       table = second.table ∙ tables-move script S t m fits.0 k (λ at. let none = stays at in omega arith) (ap is_some first.was);
     }
+
+-- a thread that isn't answered is at its instruction still
+pub at-each : (script : Script) (S : State) (t : ObjNo) (ms : List Move) → EachFits script t ms S → (k : ℕ) (row : ThreadRow) → get_or (perform t ms S).references.threads k None ≡ Some row → WasAt S.references.threads k (steps_of t ms k) row
+at-each script S t [] fits k row is = let same = at-same S.references.threads k row is in let none = if_zero (t.0 == k) (total advance_bit []) refl in record { old = same.old; was = same.was; role = same.role; place = let p = same.place in omega arith }
+at-each script S t (m ∷ ms) fits k row is =
+    let later = at-each script (moved t m S) t ms fits.1 k row is in
+    let first = at-move script S t m fits.0 k later.old later.was in
+    record { old = first.old; was = first.was; role = first.role ∙ later.role; place = let a = later.place in let b = first.place in let c = steps-then t m ms k in omega arith }
+
+pub same-instruction : (script : Script) (old row : ThreadRow) → old.role ≡ row.role → row.next_instruction ≡ old.next_instruction → instruction script row ≡ instruction script old
+same-instruction script old row role place = ap (λ (r : Role). slice_get (instructions_of script r) row.next_instruction) (sym role) ∙ ap (λ (n : ℕ). slice_get (instructions_of script old.role) n) place

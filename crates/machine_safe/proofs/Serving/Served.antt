@@ -13,7 +13,7 @@ use Rattle.machine_safe.proofs.Serving.Keeps.{Keeps, keeps-closing, steps_of, de
 use Rattle.machine_safe.proofs.Serving.Kept.{AreMade}
 use Rattle.machine_safe.proofs.Serving.Reading.{IsSame, Reading, closing_by, further}
 use Rattle.machine_safe.specs.SafeDeaths.{dooms}
-use Rattle.machine_safe.specs.Served.{closes_handle, ends, handles_lost, is_doomed, or_before, owner_told, server_told}
+use Rattle.machine_safe.specs.Served.{ends, handles_lost, is_doomed, or_before, owner_told, server_told}
 use Rattle.move_laws.proofs.Lives.LivesMove.{zero_or}
 use Rattle.move_laws.proofs.References.Same.{if_zero}
 use Rattle.script_types.specs.declared.script.Script.{Script}
@@ -115,7 +115,7 @@ module _ (script : Script) (r : Reading) (S T : State) (t : ObjNo) (ms : List Mo
     (h : Served script r S) (k : Keeps S T t ms fs)
     (closes : (v : ObjNo) → total (closed_bit v) ms ≤ dooms fs v)
     (dooms_of : (v : ObjNo) → dooms fs v ≤ total (doomed_bit v) ms)
-    (closed : (v : ObjNo) (row : ServerRow) → server_at S.serving.servers v ≡ Some row → (if closes_handle done then handles_lost fs v else 0) ≡ 0)
+    (closed : (v : ObjNo) (row : ServerRow) → server_at S.serving.servers v ≡ Some row → handles_lost fs v ≡ 0)
     (making : makes_server done ≡ true → total mutex_bit ms ≡ 0)
     (detaches : (v : ObjNo) → 0 < total (detach_bit v) ms → is_closing S.serving.servers v ≡ true) where
   abbrev told_then : Reading
@@ -176,7 +176,7 @@ module _ (script : Script) (r : Reading) (S T : State) (t : ObjNo) (ms : List Mo
     unmade = λ o past.
         let more = k.objects in
         let old = h.unmade o (omega arith) in
-        let none = if_zero (closes_handle done) (handles_lost fs o) (k.lost o past) in omega arith;
+        let none = k.lost o past in omega arith;
     places = λ n row is.
         let w = k.threads n row is in
         let old = h.places n w.old w.was in

@@ -32,7 +32,7 @@ use Rattle.machine_safe.proofs.Serving.Turns.{closing-told-by, Book, IsTurn, cou
 use Rattle.machine_safe.specs.CountAfter.{effects_of}
 use Rattle.machine_safe.specs.SafeMessages.{NothingLeft}
 use Rattle.machine_safe.specs.Sent.{finishes}
-use Rattle.machine_safe.specs.Served.{closes_handle, ends, handles_lost, or_before, server_told}
+use Rattle.machine_safe.specs.Served.{ends, handles_lost, or_before, server_told}
 use Rattle.move_laws.proofs.Lists.Contents.{contains_behind, contains_cases, contains_first, contains_map, none_contained}
 use Rattle.move_laws.proofs.References.Same.{eqb_apart, if_not, if_zero, same_is, same_self}
 use Rattle.move_laws.proofs.Lives.LivesMove.{zero_or}
@@ -130,7 +130,7 @@ module _ (script : Script) (before : List Entry) (S : State) (place : ℕ) (t : 
       r1 = further (reading before) d.step fs (steps_of t (Lose is.holder is.server ∷ []))
 
       served1 : Served script r1 mid
-      served1 = served-closing script (reading before) S t d.step book.served is.server is.holder is.handle is.makes is.step loses
+      served1 = served-closing script (reading before) S t d.step book.served is.server is.holder is.handle is.makes loses
 
       keeps : Keeps mid (perform t back mid) t back gs
       keeps = keeps-going script mid t back last (served-made script r1 mid served1) (behind-still is.answers t).0
@@ -143,7 +143,7 @@ module _ (script : Script) (before : List Entry) (S : State) (place : ℕ) (t : 
           (served-keeps script r1 mid (perform t back mid) t back d.step gs served1 keeps
           (λ x. let a = regular.dooms x in let b = ap (total (closed_bit x)) is.moves in let c = ap (total (doomed_bit x)) is.moves in let f = doom-told t back mid x in omega arith)
           (λ x. doom-among t back mid x)
-          (λ x row there. if_zero (closes_handle d.step) (handles_lost gs x) (let a = lost-each script mid t back x last.each in let b = lost-behind is.answers t x in omega arith))
+          (λ x row there. let a = lost-each script mid t back x last.each in let b = lost-behind is.answers t x in omega arith)
           (λ making. absurd (cc)) (λ x some. let none = undetached-behind is.answers t x in absurd (omega arith)))
 
       told_all : e.effects ≡ fs ++ gs
@@ -222,7 +222,7 @@ module _ (script : Script) (before : List Entry) (S : State) (place : ℕ) (t : 
       r1 = further (reading before) d.step gs (λ k. 0)
 
       whole : Served script r1 (perform t d.moves S)
-      whole = subst (λ (l : List Move). Served script r1 (perform t l S)) (sym is.moves) (served-stopped script (reading before) S t d.step book.served is.server is.makes is.step may (owned_inside S.serving.owned t is.server owned) (let a = rows.serving.servers.once t is.server in let b = owned in omega arith) alone)
+      whole = subst (λ (l : List Move). Served script r1 (perform t l S)) (sym is.moves) (served-stopped script (reading before) S t d.step book.served is.server is.makes may (owned_inside S.serving.owned t is.server owned) (let a = rows.serving.servers.once t is.server in let b = owned in omega arith) alone)
 
       told_all : e.effects ≡ gs
       told_all = ap (λ (l : List Move). tell t l S) is.moves ∙ ap (λ (l : List Effect). Terminated is.server ∷ l) (append-nil (closed_effects (dies (moved t (Servers (End is.server)) S) is.server) (Own t) is.server))

@@ -19,7 +19,7 @@ use Rattle.machine_safe.proofs.Serving.Reading.{further, reading, same-entry}
 use Rattle.machine_safe.proofs.Serving.Served.{Served, served-keeps, served-made, served-same}
 use Rattle.machine_safe.specs.SafeMessages.{IsAcceptance, IsFinish, IsEnd}
 use Rattle.machine_safe.specs.Sent.{accepts, finishes}
-use Rattle.machine_safe.specs.Served.{closes_handle, ends, handles_lost, is_closing_in, server_in, server_told}
+use Rattle.machine_safe.specs.Served.{ends, handles_lost, is_closing_in, server_in, server_told}
 use Rattle.move_laws.proofs.Lives.LivesMove.{zero_or}
 use Rattle.script_types.specs.declared.script.Script.{Script}
 use Rattle.state_rows.specs.ServerRows.{server_at, IsSession, closes, is_closing, link_of, server_of, session_at}
@@ -208,12 +208,10 @@ module _ (script : Script) (before : List Entry) (S : State) (place : ℕ) (t : 
       served-same script (further (reading before) d.step fs (steps_of t d.moves)) (reading (before ++ entry_for place t S d ∷ [])) (perform t d.moves S)
       (same-entry before (entry_for place t S d) (steps_of t d.moves) (λ n. counts t d.moves d n is.answers))
       (served-keeps script (reading before) S (perform t d.moves S) t d.moves d.step fs book.served k
-      (λ v. let a = is.dooms v in let b = doom-told t d.moves S v in omega arith) (λ v. doom-among t d.moves S v)
-      (λ v row there. lost_none (closes_handle d.step) refl v row there) is.making detaches)
+      (λ v. let a = is.dooms v in let b = doom-told t d.moves S v in omega arith) (λ v. doom-among t d.moves S v) lost_none is.making detaches)
     where
-      lost_none : (b : Bool) → closes_handle d.step ≡ b → (v : ObjNo) (row : ServerRow) → server_at S.serving.servers v ≡ Some row → (if b then handles_lost (tell t d.moves S) v else 0) ≡ 0
-      lost_none false e v row there = refl
-      lost_none true e v row there = zero_or (handles_lost (tell t d.moves S) v) (λ some. let most = lost-doing script S t d.moves v does rows in let gone = closed e v (omega arith) in absurd (cc))
+      lost_none : (v : ObjNo) (row : ServerRow) → server_at S.serving.servers v ≡ Some row → handles_lost (tell t d.moves S) v ≡ 0
+      lost_none v row there = zero_or (handles_lost (tell t d.moves S) v) (λ some. let most = lost-doing script S t d.moves v does rows in let gone = closed v (omega arith) in absurd (cc))
 
   -- nothing of servers and messages changes
   pub turn-keeps : {k : Kinds} (d : Decision) → IsRegular k script S t d → Looked script before S → IsKeeping S t (instruction_in script before t) d → Doing script S t d.moves → IsTurn script before (entry_for place t S d) (perform t d.moves S)
