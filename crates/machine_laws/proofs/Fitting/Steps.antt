@@ -1,8 +1,8 @@
 -- The steps of each instruction.
-use Rattle.std.proofs.Common.{◌≡◌, ◌≢◌, ℕ, ◌<◌, ◌≤◌, List, ◌∷◌, length, arith, refl, ap, Option, Some, None, Bool, true, false, []}
+use Rattle.std.proofs.Common.{◌≡◌, ◌≢◌, ℕ, ◌<◌, ◌≤◌, List, ◌∷◌, arith, refl, ap, Option, Some, None, Bool, true, false, []}
 use Rattle.std.proofs.lemmas.Bool.{eq-eqb}
 use Rattle.std.proofs.lemmas.List.{length_push}
-use Rattle.std.specs.Prelude.{pos, ◌==◌, if◌then◌else◌, is_some, slice_index}
+use Rattle.std.specs.Prelude.{pos, if◌then◌else◌, is_some, slice_index}
 use Rattle.sym_base.specs.declared.error.Error.TheVariants.{AlreadyExists, Overflow, PermissionDenied, BadHandle}
 use Rattle.sym_base.specs.declared.kind.Kind.{Kind}
 use Rattle.sym_base.specs.declared.kind.Kind.TheVariants.{Mutex, Semaphore}
