@@ -30,7 +30,7 @@ use Rattle.machine.specs.declared.server_move.ServerMove.TheVariants.{Start}
 use Rattle.machine.specs.declared.state.State.{State}
 use Rattle.machine.specs.Fits.{IsFree, MayOweMore}
 use Rattle.machine.specs.Messaging.{finish}
-use Rattle.machine.specs.Moves.{moved, new_object, next_object, with_message, with_part}
+use Rattle.machine.specs.Moves.{moved, new_object, next_object, no_number_left, with_message, with_part}
 use Rattle.machine.specs.Rows.{object_of}
 use Rattle.machine.specs.ServerCalls.{complete_do, complete_message, function_do, function_of, is_owner, make_server, message_at, receive_came, receive_do, receive_done, receive_next, receive_step, server_do, take_message, taken_by}
 use Rattle.machine.specs.Task.{is_returning}
@@ -56,10 +56,10 @@ owes_more h going = record { thread = ap is_some h.is; going = ap (λ (r : Optio
 pub fits-server : {script : Script} {S : State} {t : ObjNo} {row : ThreadRow} (name : List ℕ) (x : ℕ) → IsStepping script S t row (instr.Server name x) → is_returning row.part ≡ false → FitsDecision serving script t S (server_do S t name x)
 fits-server {script = script} {S = S} {t = t} {row = row} name x h going =
     if_cases (FitsDecision serving script t S) (is_taken kind.Server name S.references.objects) _ _ (λ _. fits-refuse (Of word.Server part.Do) refl error.AlreadyExists h)
-    (λ new. if_cases (FitsDecision serving script t S) (length S.references.objects == OBJECTS) _ _ (λ _. fits-refuse (Of word.Server part.Do) refl error.Overflow h)
+    (λ new. if_cases (FitsDecision serving script t S) (no_number_left S) _ _ (λ _. fits-refuse (Of word.Server part.Do) refl error.Overflow h)
     (λ room. of_thread_handle (λ handle. FitsDecision serving script t S (make_server t (next_object S) name x handle)) h (fits-refuse (Of word.Server part.Do) refl error.Overflow h) (made new (room_left h room))))
   where
-    made : is_taken kind.Server name S.references.objects ≡ false → length S.references.objects < OBJECTS → (i number : ℕ) → IsFree S (InThread t i) → FitsDecision serving script t S (make_server t (next_object S) name x (Some (record { holder = InThread t i; number = number })))
+    made : is_taken kind.Server name S.references.objects ≡ false → (next_object S).0 < OBJECTS → (i number : ℕ) → IsFree S (InThread t i) → FitsDecision serving script t S (make_server t (next_object S) name x (Some (record { holder = InThread t i; number = number })))
     made new room i number free =
         let o = next_object S in
         let started = moved t (move.Servers (Start o t)) S in

@@ -38,7 +38,7 @@ use Rattle.machine.specs.Fits.{IsFree, MayGoOn}
 use Rattle.machine.specs.FitsServers.{HasSpare, MayJoinServer, HasNumber}
 use Rattle.machine.specs.Handles.{holder_of}
 use Rattle.machine.specs.Messaging.{connects, no_args, open_server, post, slots_of}
-use Rattle.machine.specs.Moves.{moved, new_object, next_object, with_kept, with_part, with_use, with_waiting}
+use Rattle.machine.specs.Moves.{moved, new_object, next_object, no_number_left, with_kept, with_part, with_use, with_waiting}
 use Rattle.machine.specs.Rows.{object_of, thread_of}
 use Rattle.machine.specs.Serving.{is_sending, open_bit, sending_bit, session_bit, begun, numbers_left}
 use Rattle.machine.specs.SessionCalls.{args_of, call_do, call_step, call_to, connect_done, connect_make, connect_return, connect_send, connect_step, connect_to, fail_connect, make_session, send_connect, send_do, send_step, send_to, session_made}
@@ -67,7 +67,7 @@ use Rattle.machine_laws.proofs.Fitting.Regular.{kind_of, looking, serving}
 use Rattle.machine_laws.proofs.Fitting.Tame.{may_tell, regular-moves, tame-at, tame-both, tame-moves}
 
 -- a session is made, where the server is one and isn't closing
-module _ (script : Script) (S : State) (t : ObjNo) (row : ThreadRow) (instr : Instr) (o : ObjNo) (slots : Slots) (h : IsStepping script S t row instr) (going : is_returning row.part ≡ false) (server : ServerRow) (is : server_at S.serving.servers o ≡ Some server) (accepts : server.is_closing ≡ false) (room : length S.references.objects < OBJECTS) (alive : IsAlive (object_of S o)) (first : begun row.part ≡ 0) where
+module _ (script : Script) (S : State) (t : ObjNo) (row : ThreadRow) (instr : Instr) (o : ObjNo) (slots : Slots) (h : IsStepping script S t row instr) (going : is_returning row.part ≡ false) (server : ServerRow) (is : server_at S.serving.servers o ≡ Some server) (accepts : server.is_closing ≡ false) (room : (next_object S).0 < OBJECTS) (alive : IsAlive (object_of S o)) (first : begun row.part ≡ 0) where
   abbrev made : ℕ → State
   made i = moved t (move.Make kind.Session [] (InThread t i)) S
 
@@ -150,7 +150,7 @@ fits-connect_make {script = script} {S = S} {t = t} {row = row} {instr = instr} 
     by None is = fits-nothing script S t
     by (Some server) is =
         if_cases (FitsDecision serving script t S) server.is_closing _ _ (λ _. fits-refuse (Of word.Connect part.Make) refl error.ServerTerminated h)
-        (λ accepts. if_cases (FitsDecision serving script t S) (length S.references.objects == OBJECTS) _ _ (λ _. fits-refuse (Of word.Connect part.Make) refl error.Overflow h)
+        (λ accepts. if_cases (FitsDecision serving script t S) (no_number_left S) _ _ (λ _. fits-refuse (Of word.Connect part.Make) refl error.Overflow h)
         (λ room. of_thread_handle (λ handle. FitsDecision serving script t S (make_session t o slots (next_object S) handle)) h (fits-refuse (Of word.Connect part.Make) refl error.Overflow h)
         (fits-made script S t row instr o slots h (ap is_returning at) server is accepts (room_left h room) (use_is_alive S t row o h.rows.lives h.is e) (ap begun at))))
 

@@ -29,7 +29,7 @@ use Rattle.machine.specs.Handles.{object_at, holder_of}
 use Rattle.state_rows.specs.HandleSlots.{slot_at}
 use Rattle.state_rows.specs.HandleNumbers.{index_of, is_local}
 use Rattle.machine.specs.Closing.{close_moves}
-use Rattle.machine.specs.Moves.{moved, perform, next_object, new_object}
+use Rattle.machine.specs.Moves.{moved, perform, next_object, new_object, no_number_left}
 use Rattle.move_laws.proofs.Lives.Fresh.{next_fresh}
 use Rattle.machine.specs.References.{stage_holds, total}
 use Rattle.machine.specs.Close.{close_do, close_handle}
@@ -68,22 +68,22 @@ start_owed None = omega arith
 start_owed (Some m) = let few = lock-owes m in omega arith
 
 -- there is room for an object where objects aren't full
-pub room_left : {script : Script} {S : State} {t : ObjNo} {row : ThreadRow} {instr : Instr} → IsStepping script S t row instr → (length S.references.objects == OBJECTS) ≡ false → length S.references.objects < OBJECTS
-room_left {S = S} h room = let few = h.rows.references.sized.objects_few in let apart : length S.references.objects ≢ OBJECTS = λ e. cc (eq-eqb (length S.references.objects) OBJECTS e) in omega arith
+pub room_left : {script : Script} {S : State} {t : ObjNo} {row : ThreadRow} {instr : Instr} → IsStepping script S t row instr → no_number_left S ≡ false → (next_object S).0 < OBJECTS
+room_left {S = S} h room = let few = h.rows.references.sized.objects_few in let apart : (next_object S).0 ≢ OBJECTS = λ e. cc (eq-eqb (next_object S).0 OBJECTS e) in omega arith
 
 -- `create`
 fits-create : {script : Script} {S : State} {t : ObjNo} {row : ThreadRow} {instr : Instr} (kind : Kind) (name : List ℕ) (start : Option LockMove) (x : ℕ) → HasName kind name → IsStepping script S t row instr → x < 8
     → ((i : ℕ) → Begins script t start (moved t (Make kind name (InProcess row.process i)) S)) → FitsDecision looking script t S (create_do S t row kind name start x)
 fits-create {script = script} {S = S} {t = t} {row = row} kind name start x named h register begins =
     if_cases (FitsDecision looking script t S) (is_taken kind name S.references.objects) _ _ (λ _. fits-refuse (Of word.Create part.Do) refl AlreadyExists h)
-    (λ new. if_cases (FitsDecision looking script t S) (length S.references.objects == OBJECTS) _ _ (λ _. fits-refuse (Of word.Create part.Do) refl Overflow h)
+    (λ new. if_cases (FitsDecision looking script t S) (no_number_left S) _ _ (λ _. fits-refuse (Of word.Create part.Do) refl Overflow h)
     (λ room. of_process_handle (λ handle. FitsDecision looking script t S (make_with_handle t kind name start x handle)) h (fits-refuse (Of word.Create part.Do) refl Overflow h) (made new (room_left h room))))
   where
-    made : is_taken kind name S.references.objects ≡ false → length S.references.objects < OBJECTS → (i number : ℕ) → IsFree S (InProcess row.process i) → FitsDecision looking script t S (make_with_handle t kind name start x (Some (record { holder = InProcess row.process i; number = number })))
+    made : is_taken kind name S.references.objects ≡ false → (next_object S).0 < OBJECTS → (i number : ℕ) → IsFree S (InProcess row.process i) → FitsDecision looking script t S (make_with_handle t kind name start x (Some (record { holder = InProcess row.process i; number = number })))
     made new room i number free =
         let told = start_told start in
         let owed = start_owed start in
-        fits-handle (Of word.Create part.Do) refl (Make kind name (InProcess row.process i) ∷ start_moves start) x number (tame-both (Make kind name (InProcess row.process i) ∷ []) (start_moves start) (tame-moves _ refl refl) (tame-in (begins i).calm)) h register ((record { room = room; new = new }, free, named), (begins i).each) (begins i).references.threads (omega arith) (omega arith)
+        fits-handle (Of word.Create part.Do) refl (Make kind name (InProcess row.process i) ∷ start_moves start) x number (tame-both (Make kind name (InProcess row.process i) ∷ []) (start_moves start) (tame-moves _ refl refl) (tame-in (begins i).calm)) h register ((record { room = room; new = new }, free, named), (begins i).each) (begins i).threads (omega arith) (omega arith)
 
 pub fits-create_mutex : {script : Script} {S : State} {t : ObjNo} {row : ThreadRow} (name : List ℕ) (x : ℕ) → IsStepping script S t row (instr.CreateMutex name x) → FitsDecision looking script t S (create_mutex_do S t row name x)
 fits-create_mutex name x h = fits-create Mutex name None x (λ e. absurd (cc)) h h.registers (λ i. record { each = tt; threads = refl; calm = tame-moves [] refl refl })

@@ -5,7 +5,7 @@ use Rattle.machine.specs.Close.{close_handle}
 use Rattle.machine.specs.Closing.{before_close, close_moves, close_or, connected_to, disconnect}
 use Rattle.machine.specs.Handles.{holder_of, thread_handle}
 use Rattle.machine.specs.Messaging.{disconnects, no_args, open_server, post, wake_receiver}
-use Rattle.machine.specs.Moves.{next_object}
+use Rattle.machine.specs.Moves.{next_object, no_number_left}
 use Rattle.machine.specs.References.{same, total}
 use Rattle.machine.specs.ServerCalls.{complete_message, is_owner, make_server, server_do, taken_by}
 use Rattle.machine.specs.Steps.{step_of}
@@ -39,7 +39,6 @@ use Rattle.state_rows.specs.declared.thread.ThreadRow.{ThreadRow}
 use Rattle.std.proofs.Common.{Bool, List, None, Option, Some, [], ap, append_assoc, arith, false, length, refl, true, ℤ, ◌++◌, ◌∙◌, ◌∷◌, ◌≡◌, ◌≤◌, ℕ, subst}
 use Rattle.std.proofs.lemmas.Bool.{and_parts, eqb-true}
 use Rattle.std.specs.Prelude.{if◌then◌else◌, ◌&&◌, ◌==◌}
-use Rattle.sym_base.specs.declared.limits.TheConstants.Limits.{OBJECTS}
 use Rattle.sym_base.specs.declared.number.MsgNo.{MsgNo}
 use Rattle.sym_base.specs.declared.kind.Kind.TheVariants as kind
 use Rattle.script_types.specs.declared.instruction.Instr.TheVariants as instr
@@ -68,7 +67,7 @@ deed-made_server S t at P name x (Some handle) each = each.makes _ (record {
 deed-server : (S : State) (t : ObjNo) (at : Option Instr) (P : Decision → Type 0) (name : List ℕ) (x : ℕ) → OfEach S t at P → P (server_do S t name x)
 deed-server S t at P name x each = if_cases P (is_taken kind.Server name S.references.objects) _ _
     (λ _. calm each _ refl refl)
-    (λ _. if_cases P (length S.references.objects == OBJECTS) _ _
+    (λ _. if_cases P (no_number_left S) _ _
     (λ _. calm each _ refl refl)
     (λ _. deed-made_server S t at P name x (thread_handle S t) each))
 

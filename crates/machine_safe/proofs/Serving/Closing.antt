@@ -88,7 +88,7 @@ module _ (script : Script) (r : Reading) (S : State) (t : ObjNo) (done : Step) (
         let c = closed-dooms (dies (begun v) v) holder v w in
         closing-count now_told o w is ∙ ap (nat_lt 0) (let equal : now_told.closings o + dooms now_told.effects w ≡ r.closings o + same v o + dooms r.effects w = omega arith in equal)
 
-    row_now : (o : ObjNo) (row : ServerRow) → server_at gone.servers o ≡ Some row → IsServed now_told gone o row
+    row_now : (o : ObjNo) (row : ServerRow) → server_at gone.serving.servers o ≡ Some row → IsServed now_told gone o row
     row_now o row is =
         let one = k.servers o row is in
         let was = closing-was v S.serving.servers o one.old one.was in
@@ -107,7 +107,7 @@ module _ (script : Script) (r : Reading) (S : State) (t : ObjNo) (done : Step) (
               (λ not. let zero = bit-none was.0.is_closing (r.closings o + dooms r.effects was.0.owner) count (old_not not) in
               let apart : same v o ≡ 0 = if_not (v.0 == o.0) 1 (eqb_apart v.0 o.0 (λ at. let so = was.5 at in let no_so = first_not not in absurd (cc))) in omega arith)
               ∙ sym (closing_now o row.owner owner);
-          owned = λ not. subst (λ (u : ObjNo). 0 < times_owned gone.owned u o) own (subst (λ (l : List (List ObjNo)). 0 < times_owned l was.0.owner o) (sym k.owned) (old.owned (old_not not)));
+          owned = λ not. subst (λ (u : ObjNo). 0 < times_owned gone.serving.owned u o) own (subst (λ (l : List (List ObjNo)). 0 < times_owned l was.0.owner o) (sym k.owned) (old.owned (old_not not)));
         }
       where
         some_now : (o : ObjNo) (b c d : Bool) (n m l : ℕ) → b ≡ true → (b ≡ true → c ≡ false → ⊥) → (c ≡ true → d ≡ false → v.0 ≡ o.0) → d ≡ nat_lt 0 (n + m) → l ≡ m → 0 < n + same v o + l
@@ -124,7 +124,7 @@ module _ (script : Script) (r : Reading) (S : State) (t : ObjNo) (done : Step) (
       links = λ s o is. server_told-append r.effects fs s ∙ (ap (λ (x : Option ObjNo). or_before x (server_told r.effects s)) (k.unlinked s) ∙ h.links s o (k.links s o is));
       ended = λ o some. let a = ends-append r.effects fs o in let b = k.unended o in keeps-closing (begun v) gone t (Lose holder v ∷ []) fs o k (closing-stays v S.serving.servers o (h.ended o (omega arith)));
       over = λ u o some. ap (λ (l : List (List ObjNo)). times_owned l u o) k.owned ∙ h.over u o (let a = ends-append r.effects fs o in let b = k.unended o in omega arith);
-      made = λ u o is. elim (h.made u o (sym (owner_same o) ∙ is)) as (λ _. (0 < times_owned gone.owned u o) ⊎ (0 < ends (r.effects ++ fs) o)) [
+      made = λ u o is. elim (h.made u o (sym (owner_same o) ∙ is)) as (λ _. (0 < times_owned gone.serving.owned u o) ⊎ (0 < ends (r.effects ++ fs) o)) [
         | inl owned ↦ inl (subst (λ (l : List (List ObjNo)). 0 < times_owned l u o) (sym k.owned) owned)
         | inr over ↦ inr (let a = ends-append r.effects fs o in omega arith)
       ];
@@ -140,11 +140,11 @@ module _ (script : Script) (r : Reading) (S : State) (t : ObjNo) (done : Step) (
       told_linked = λ s o is alive.
           let was = told_first s o is in
           let inside = h.told_made s o was in
-          elim (h.told_linked s o was (k.alive s inside alive)) as (λ _. (server_of gone.servers s ≡ Some o) ⊎ (is_closing gone.servers o ≡ true)) [
+          elim (h.told_linked s o was (k.alive s inside alive)) as (λ _. (server_of gone.serving.servers s ≡ Some o) ⊎ (is_closing gone.serving.servers o ≡ true)) [
             | inr closing ↦ inr (keeps-closing (begun v) gone t (Lose holder v ∷ []) fs o k (closing-stays v S.serving.servers o closing))
-            | inl linked ↦ elim (k.linked s o inside linked) as (λ _. (server_of gone.servers s ≡ Some o) ⊎ (is_closing gone.servers o ≡ true)) [
+            | inl linked ↦ elim (k.linked s o inside linked) as (λ _. (server_of gone.serving.servers s ≡ Some o) ⊎ (is_closing gone.serving.servers o ≡ true)) [
               | inl still ↦ inl still
-              | inr other ↦ elim other as (λ _. (server_of gone.servers s ≡ Some o) ⊎ (is_closing gone.servers o ≡ true)) [
+              | inr other ↦ elim other as (λ _. (server_of gone.serving.servers s ≡ Some o) ⊎ (is_closing gone.serving.servers o ≡ true)) [
                 | inl dead ↦ absurd (dead alive)
                 | inr detached ↦ let none = undetached holder v o handle in absurd (omega arith)
               ]
@@ -179,18 +179,18 @@ module _ (script : Script) (r : Reading) (S : State) (t : ObjNo) (done : Step) (
         let c = closed-dooms last (Own t) v w in
         closing-count after o w is ∙ ap (nat_lt 0) (let equal : after.closings o + dooms after.effects w ≡ r.closings o + dooms r.effects w = omega arith in equal)
 
-    fewer : (u o : ObjNo) → times_owned stopped.owned u o + (if t.0 == u.0 then same v o else 0) ≡ times_owned S.serving.owned u o
+    fewer : (u o : ObjNo) → times_owned stopped.serving.owned u o + (if t.0 == u.0 then same v o else 0) ≡ times_owned S.serving.owned u o
     fewer u o = held-not_holding S.serving.owned t v u o inside once
 
-    owned_other : (u o : ObjNo) → (v.0 ≡ o.0 → ⊥) → times_owned stopped.owned u o ≡ times_owned S.serving.owned u o
+    owned_other : (u o : ObjNo) → (v.0 ≡ o.0 → ⊥) → times_owned stopped.serving.owned u o ≡ times_owned S.serving.owned u o
     owned_other u o apart =
         let a = fewer u o in
         let none : same v o ≡ 0 = if_not (v.0 == o.0) 1 (eqb_apart v.0 o.0 apart) in
         let zero = if_zero (t.0 == u.0) (same v o) none in omega arith
 
     -- and nobody owns it then
-    nobodys : (u : ObjNo) → times_owned stopped.owned u v ≡ 0
-    nobodys u = zero_or (times_owned stopped.owned u v) (λ some.
+    nobodys : (u : ObjNo) → times_owned stopped.serving.owned u v ≡ 0
+    nobodys u = zero_or (times_owned stopped.serving.owned u v) (λ some.
         let a = fewer u v in
         let at = alone u (omega arith) in
         let owner : times_owned S.serving.owned u v ≡ 1 = ap (λ (x : ObjNo). times_owned S.serving.owned x v) (same_object u t at) ∙ once in
@@ -221,13 +221,13 @@ module _ (script : Script) (r : Reading) (S : State) (t : ObjNo) (done : Step) (
         | inl at ↦ ap (λ (n : ℕ). closes (get_or S.serving.servers.servers n None)) (sym at) ∙ may.closing
         | inr apart ↦ h.ended o (let a = ends_more o in let none : same v o ≡ 0 = if_not (v.0 == o.0) 1 (eqb_apart v.0 o.0 apart) in omega arith)
       ];
-      over = λ u o some. elim (cases_eq v.0 o.0) as (λ _. times_owned stopped.owned u o ≡ 0) [
-        | inl at ↦ ap (times_owned stopped.owned u) (sym (same_object v o at)) ∙ nobodys u
+      over = λ u o some. elim (cases_eq v.0 o.0) as (λ _. times_owned stopped.serving.owned u o ≡ 0) [
+        | inl at ↦ ap (times_owned stopped.serving.owned u) (sym (same_object v o at)) ∙ nobodys u
         | inr apart ↦ owned_other u o apart ∙ h.over u o (let a = ends_more o in let none : same v o ≡ 0 = if_not (v.0 == o.0) 1 (eqb_apart v.0 o.0 apart) in omega arith)
       ];
-      made = λ u o is. elim (cases_eq v.0 o.0) as (λ _. (0 < times_owned stopped.owned u o) ⊎ (0 < ends after.effects o)) [
+      made = λ u o is. elim (cases_eq v.0 o.0) as (λ _. (0 < times_owned stopped.serving.owned u o) ⊎ (0 < ends after.effects o)) [
         | inl at ↦ inr (let a = ends_more o in let one = if_is (v.0 == o.0) 1 (eq-eqb v.0 o.0 at) in omega arith)
-        | inr apart ↦ elim (h.made u o (sym (owner_kept o) ∙ is)) as (λ _. (0 < times_owned stopped.owned u o) ⊎ (0 < ends after.effects o)) [
+        | inr apart ↦ elim (h.made u o (sym (owner_kept o) ∙ is)) as (λ _. (0 < times_owned stopped.serving.owned u o) ⊎ (0 < ends after.effects o)) [
           | inl owned ↦ inl (let a = owned_other u o apart in omega arith)
           | inr over ↦ inr (let a = ends_more o in omega arith)
         ]
@@ -238,8 +238,8 @@ module _ (script : Script) (r : Reading) (S : State) (t : ObjNo) (done : Step) (
           let old = h.places n w.old w.was in
           record { first = old.first; is = old.is; role = old.role ∙ w.role; place = let a = w.place in let b = old.place in omega arith };
       told_made = λ s o is. let a = closed-long last v S.references.objects in let inside = h.told_made s o (told_earlier s o is) in omega arith;
-      told_linked = λ s o is alive. elim (h.told_linked s o (told_earlier s o is) (alive-closed last v S.references.objects s alive)) as (λ _. (server_of stopped.servers s ≡ Some o) ⊎ (is_closing stopped.servers o ≡ true)) [
-        | inl linked ↦ elim (linked-closed last v S.references.objects S.serving.servers s o linked) as (λ _. (server_of stopped.servers s ≡ Some o) ⊎ (is_closing stopped.servers o ≡ true)) [
+      told_linked = λ s o is alive. elim (h.told_linked s o (told_earlier s o is) (alive-closed last v S.references.objects s alive)) as (λ _. (server_of stopped.serving.servers s ≡ Some o) ⊎ (is_closing stopped.serving.servers o ≡ true)) [
+        | inl linked ↦ elim (linked-closed last v S.references.objects S.serving.servers s o linked) as (λ _. (server_of stopped.serving.servers s ≡ Some o) ⊎ (is_closing stopped.serving.servers o ≡ true)) [
           | inl still ↦ inl still
           | inr dead ↦ absurd (dead alive)
         ]

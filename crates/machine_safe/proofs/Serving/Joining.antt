@@ -184,7 +184,7 @@ module _ (script : Script) (before : List Entry) (S : State) (place : ℕ) (t : 
           elim (cases_eq (next_object S).0 s.0) as (λ _. slots_in script (before ++ e ∷ []) s ≡ Some row.slots) [
             | inl at ↦
                 let inside : (next_object S).0 < length T.serving.servers.sessions = session_room in
-                let new : session_at mid.servers s ≡ Some (new_session is.server is.slots t) = ap (λ (n : ℕ). get_or mid.servers.sessions n None) (sym at) ∙ get_or-set_same T.serving.servers.sessions (next_object S).0 (Some (new_session is.server is.slots t)) None inside in
+                let new : session_at mid.serving.servers s ≡ Some (new_session is.server is.slots t) = ap (λ (n : ℕ). get_or mid.serving.servers.sessions n None) (sym at) ∙ get_or-set_same T.serving.servers.sessions (next_object S).0 (Some (new_session is.server is.slots t)) None inside in
                 let both : Some after.old ≡ Some (new_session is.server is.slots t) = sym after.was ∙ new in
                 let own : after.old ≡ new_session is.server is.slots t = cc in
                 slots-joined script before e s is.server is.slots is.joins (link-told s at) is.connects ∙ ap Some (sym (ap (λ (z : SessionRow). z.slots) own) ∙ after.slots)

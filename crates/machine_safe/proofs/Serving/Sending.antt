@@ -4,7 +4,7 @@ use Rattle.entry_log.specs.declared.step.Step.TheVariants.{Of}
 use Rattle.machine.specs.Decide.{answer}
 use Rattle.machine.specs.Handles.{holder_of, thread_handle}
 use Rattle.machine.specs.Messaging.{connects, no_args, open_server, post, slots_of, wake_receiver}
-use Rattle.machine.specs.Moves.{next_object, tell}
+use Rattle.machine.specs.Moves.{next_object, no_number_left, tell}
 use Rattle.machine.specs.References.{total}
 use Rattle.machine.specs.SessionCalls.{args_of, call_do, call_step, call_to, connect_done, connect_make, connect_send, connect_step, connect_to, fail_connect, make_session, send_connect, send_do, send_step, send_to, session_made}
 use Rattle.machine.specs.declared.decision.Decision.{Decision}
@@ -42,7 +42,6 @@ use Rattle.std.specs.Ordering.{int_eq}
 use Rattle.std.specs.Prelude.{if◌then◌else◌, is_some, not, ◌==◌}
 use Rattle.sym_base.specs.declared.kind.Arg.{Arg}
 use Rattle.sym_base.specs.declared.kind.Slots.{Slots}
-use Rattle.sym_base.specs.declared.limits.TheConstants.Limits.{OBJECTS}
 use Rattle.sym_base.specs.declared.word.Word.TheVariants as word
 use Rattle.entry_log.specs.declared.step.Part.TheVariants as part
 use Rattle.script_types.specs.declared.instruction.Instr.TheVariants as instr
@@ -181,7 +180,7 @@ deed-connect_to : (S : State) (t : ObjNo) (at : Option Instr) (P : Decision → 
 deed-connect_to S t at P slots o None here each = calm each _ refl refl
 deed-connect_to S t at P slots o (Some server) here each = if_cases P server.is_closing _ _
     (λ _. calm each _ refl refl)
-    (λ _. if_cases P (length S.references.objects == OBJECTS) _ _
+    (λ _. if_cases P (no_number_left S) _ _
     (λ _. calm each _ refl refl)
     (λ _. deed-made_session S t at P o slots (thread_handle S t) here each))
 
