@@ -44,7 +44,7 @@ fn make(
         dead: false,
     };
     state.references.objects.push(Some(row))?;
-    gain_slot(state, holder, object);
+    gain_slot(&mut state.references.handles, holder, object);
     threads_gain(&mut state.references.threads, holder, object);
     owned_gain(&mut state.serving.owned, holder, object)
 }
@@ -73,7 +73,7 @@ fn gain(state: &mut State, thread: ThreadNo, holder: Holder, object: ObjNo)
     requires { AreSmallTables state.old.references.handles }
     ensures { state.new ≡ moved thread (Move.Gain holder object) state.old }
 {
-    gain_slot(state, holder, object);
+    gain_slot(&mut state.references.handles, holder, object);
     threads_gain(&mut state.references.threads, holder, object);
 }
 
@@ -119,8 +119,16 @@ pub fn make_move(
             priority,
         ),
         Move::Nano(change) => make_nano_move(&mut state.synchronization.nano, change),
-        Move::Deferred(change) => return make_deferred_move(alloc, state, change),
-        Move::Requests(change) => return make_request_move(alloc, state, change),
+        Move::Deferred(change) => return make_deferred_move(
+            alloc,
+            &mut state.synchronization.deferred,
+            change,
+        ),
+        Move::Requests(change) => return make_request_move(
+            alloc,
+            &mut state.synchronization.requests,
+            change,
+        ),
         Move::Locks(change) => return make_lock_move(alloc, state, thread, change),
         Move::Logons(change) => return make_logon_move(
             alloc,
