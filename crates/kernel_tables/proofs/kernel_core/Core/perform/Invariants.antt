@@ -3,7 +3,7 @@ use Rattle.sym_base.specs.declared.limits.TheConstants.Limits.{BOOT_OBJECTS}
 use Rattle.kernel_tables.specs.Noted.{AreKept}
 use Rattle.kernel_tables.specs.StateOf.{state_of}
 use Rattle.kernel_tables.proofs.Performing.{OnTheWay}
-use Rattle.kernel_tables.proofs.actions.perform.Given as goal
+use Rattle.kernel_tables.proofs.kernel_core.Core.perform.Given as goal
 
 abbrev pub invariant-loop-change : goal.invariant-loop-change
 invariant-loop-change g l = record {

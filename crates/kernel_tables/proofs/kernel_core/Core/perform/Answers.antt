@@ -5,7 +5,7 @@ use Rattle.machine.specs.Moves.{told}
 use Rattle.kernel_tables.specs.Moved.{AreKnown, MovesGo}
 use Rattle.kernel_tables.specs.StateOf.{state_of}
 use Rattle.kernel_tables.proofs.Performing.{performed_one, still_kept, way_goes_on, way_few, next_item}
-use Rattle.kernel_tables.proofs.actions.perform.Goals as goal
+use Rattle.kernel_tables.proofs.kernel_core.Core.perform.Goals as goal
 
 pub tell-requires-clause-few : goal.tell-requires-clause-few
 tell-requires-clause-few g c =
