@@ -3,7 +3,7 @@ use Rattle.std.proofs.Common.{◌≡◌, inl, inr, ℕ, zero, suc, ◌+◌, ◌<
 use Rattle.std.specs.Prelude.{slice_get, slice_index, slice_set, option_map, not}
 use Rattle.std.specs.List.{list_any}
 use Rattle.std.proofs.lemmas.Bool.{cases_eq, cases_lt, and_right}
-use Rattle.std.proofs.lemmas.List.{get_or-set_same, get_or-set_other, set-set, length-map, length-take-le}
+use Rattle.std.proofs.lemmas.List.{get_or-set_same, get_or-set_other, set-set, length-map, length-take-le, take_all}
 use Rattle.std.proofs.lemmas.Option.{slice_get-map}
 use Rattle.state_rows.specs.declared.object.ObjectRow.{ObjectRow}
 use Rattle.state_rows.specs.ObjectRows.{has_name, is_session, is_taken}
@@ -69,6 +69,12 @@ one_more all S rows counts new n count b h long at is made last = record {
   ];
   none = λ k le. ap (λ (l : List ℕ). slice_index l k) made ∙ (get_or-set_other counts n k count 0 (omega arith) ∙ h.none k (omega arith));
 }
+
+-- once all stand, the rows are theirs
+pub all_stand : (all : List Born) (S : State) (rows : List (Option ObjectRow)) (counts : List ℕ) → FirstStand all S rows counts (length all) → rows ≡ map (λ (b : Born). Some b.object) all
+all_stand all S rows counts h =
+    let long : length (map (λ (b : Born). Some b.object) all) ≤ length all = let e = length-map all (λ (b : Born). Some b.object) in omega arith in
+    h.rows_are ∙ take_all (length all) (map (λ (b : Born). Some b.object) all) long
 
 -- the counts of the whole table are those of the state
 pub agrees_at_boot : (script : Script) → IsWellFormed script → (all : List Born) (rows : List (Option ObjectRow)) (counts : List ℕ) → all ≡ born script → FirstStand all (boot script) rows counts (length all) → Agrees counts (boot script)

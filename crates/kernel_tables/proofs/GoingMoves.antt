@@ -1,6 +1,6 @@
 -- The moves of each action go through: they can be made in the tables, and keep priorities and the readiness of those that
 -- they don't touch.
-use Rattle.std.proofs.Common.{◌≡◌, inl, inr, ℕ, ◌+◌, ◌*◌, ◌<◌, ◌≤◌, List, [], ◌∷◌, ◌++◌, length, length-append, get_or, arith, refl, sym, ap, subst, ◌∙◌, Bool, true, false}
+use Rattle.std.proofs.Common.{◌≡◌, inl, inr, ℕ, ◌+◌, ◌<◌, ◌≤◌, List, [], ◌∷◌, length, get_or, arith, refl, sym, ap, subst, ◌∙◌, Bool, true, false}
 use Rattle.std.specs.Prelude.{◌==◌, IsTrue, is_some, Option, Some, None}
 use Rattle.std.proofs.lemmas.Bool.{cases_Bool, cases_lt, eq-eqb}
 use Rattle.std.proofs.lemmas.List.{get_or_past}
@@ -23,16 +23,12 @@ use Rattle.machine.specs.declared.request_move.RequestMove.TheVariants as reques
 use Rattle.state_rows.specs.declared.requests.RequestRows.{RequestRows}
 use Rattle.machine.specs.declared.state.State.{State}
 use Rattle.state_rows.specs.declared.thread.Waiting.TheVariants as waiting
-use Rattle.state_rows.specs.declared.thread.Role.{Role}
-use Rattle.state_rows.specs.declared.thread.Role.TheVariants.{Supervisor, Queue, Declared}
-use Rattle.script_types.specs.declared.declaration.ThreadDecl.{ThreadDecl}
-use Rattle.machine.specs.Task.{declared_of, instructions_in}
 use Rattle.state_rows.specs.declared.thread.ThreadRow.{ThreadRow}
 use Rattle.machine.specs.Choice.{priority_of, priority_of_row}
 use Rattle.machine.specs.DeathMoves.{death_row, death_thread}
 use Rattle.machine.specs.NanoMoves.{nano_thread}
 use Rattle.machine.specs.Fits.{FitsNano, FitsRequests, HasName, FitsMove, EachFits, Sane, most_owed}
-use Rattle.machine.specs.Moves.{moved, told, tell, closed_effects, threads_lose, with_found, with_kept, with_message, with_use, with_part, with_register, with_waiting, with_priority, advanced, next_object, use_of_row}
+use Rattle.machine.specs.Moves.{moved, told, closed_effects, threads_lose, with_found, with_kept, with_message, with_use, with_part, with_register, with_waiting, with_priority, advanced, next_object, use_of_row}
 use Rattle.machine.specs.References.{total, same, count_of, pluses, minuses, RefsMove}
 use Rattle.machine.specs.Rows.{object_of, thread_of, owed_of}
 use Rattle.machine.specs.WellFormed.{IsAlive, AreRows, AreRequests, is_dead, dead_bit, owed_sweeps, weight}

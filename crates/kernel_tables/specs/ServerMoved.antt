@@ -1,6 +1,5 @@
 -- When a move in the tables of servers, sessions and messages can be made.
 use Rattle.std.specs.Prelude.{◌≡◌, ◌<◌, false, length, All}
-use Rattle.sym_base.specs.declared.limits.TheConstants.Limits.{OBJECTS}
 use Rattle.sym_base.specs.declared.kind.Slots.{Slots}
 use Rattle.sym_base.specs.declared.number.ObjNo.{ObjNo}
 use Rattle.state_rows.specs.declared.messages.MsgRow.{MsgRow}

@@ -1,5 +1,5 @@
 -- `create`: a new object and a handle of it.
-use Rattle.std.specs.Prelude.{ℕ, ◌==◌, if◌then◌else◌, List, [], ◌∷◌, length, Option, Some, None}
+use Rattle.std.specs.Prelude.{ℕ, if◌then◌else◌, List, [], ◌∷◌, Option, Some, None}
 use Rattle.state_rows.specs.ObjectRows.{is_taken}
 use Rattle.sym_base.specs.declared.error.Error.TheVariants.{AlreadyExists, Overflow}
 use Rattle.sym_base.specs.declared.kind.Kind.{Kind}

@@ -1,5 +1,5 @@
 -- `connect`, `send` and `call`: sessions with a server, and messages over them.
-use Rattle.std.specs.Prelude.{ℕ, ℤ, pos, ◌==◌, true, if◌then◌else◌, length, List, [], ◌∷◌, Option, Some, None}
+use Rattle.std.specs.Prelude.{ℕ, ℤ, pos, true, if◌then◌else◌, List, [], ◌∷◌, Option, Some, None}
 use Rattle.std.specs.Ordering.{int_eq}
 use Rattle.sym_base.specs.ErrorCode.{error_code}
 use Rattle.sym_base.specs.declared.error.Error.TheVariants.{InUse, Overflow, ServerTerminated, ServerBusy}

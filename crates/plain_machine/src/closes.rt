@@ -5,20 +5,20 @@ ghost use Rattle.machine.specs.Rows.{thread_of};
 
 use crate::slots::lose_slot;
 use entry_log::Holder;
-use machine::{Move, Owed, State, dies, object_of, set_row, thread_in};
+use machine::{Move, Owed, State, dies, row_of, set_row, thread_in};
 use plain_rows::{drop_first_owed, owe_close, threads_closed, threads_lose};
 use plain_servers::{owned_lose, server_of, servers_closed, servers_lose};
-use state_rows::dead_row;
+use state_rows::{ObjectRow, dead_row};
 use std::alloc::Global;
-use sym_base::{NoMemory, ObjNo, ThreadNo};
+use sym_base::{Items, NoMemory, ObjNo, ThreadNo};
 
 /// An object that dies as a reference is given up is dead from then on.
-fn close_object(state: &mut State, dying: bool, object: ObjNo)
-    ensures { state.new ≡ record state.old { references = record state.old.references { objects = objects_closed dying object state.old.references.objects } } }
+fn close_object(objects: &mut Items<Option<ObjectRow>>, dying: bool, object: ObjNo)
+    ensures { objects.new ≡ objects_closed dying object objects.old }
 {
     if dying {
-        let dead = dead_row(object_of(state, object));
-        set_row(&mut state.references.objects, object, dead);
+        let dead = dead_row(row_of(objects, object));
+        set_row(objects, object, dead);
     }
 }
 
@@ -51,11 +51,11 @@ pub fn lose(
 {
     let dying = dies(state, object);
     let link = link_of(state, object);
-    lose_slot(state, holder);
+    lose_slot(&mut state.references.handles, holder);
     threads_lose(&mut state.references.threads, holder);
     servers_lose(alloc, &mut state.serving.servers, holder)?;
     owned_lose(alloc, &mut state.serving.owned, holder, object)?;
-    close_object(state, dying, object);
+    close_object(&mut state.references.objects, dying, object);
     threads_closed(&mut state.references.threads, dying, object);
     servers_closed(alloc, &mut state.serving.servers, dying, object)?;
     owe_close(&mut state.references.owed, thread, dying, object, link)
@@ -73,7 +73,7 @@ fn pay_close(
 {
     let dying = dies(state, object);
     let link = link_of(state, object);
-    close_object(state, dying, object);
+    close_object(&mut state.references.objects, dying, object);
     threads_closed(&mut state.references.threads, dying, object);
     servers_closed(alloc, &mut state.serving.servers, dying, object)?;
     drop_first_owed(&mut state.references.owed, thread);

@@ -179,7 +179,7 @@ pub fn tell<R: Reads>(effects: &mut Effects, reads: &R, change: &Move)
 {
     match *change {
         Move::Make(_, _, holder) => {
-            let object = ObjNo(reads.objects_made() as u16);
+            let object = reads.next_object();
             effects.push(Effect::Plus(holder, object));
         }
         Move::Gain(holder, object) => effects.push(Effect::Plus(holder, object)),

@@ -14,7 +14,7 @@ use script_types::Script;
 use state_rows::{
     Item, Message, ObjectRow, Owner, Request, ServerRow, SessionRow, free_index, is_local, look,
 };
-use sym_base::{Kind, MsgNo, Name, ObjNo, Slots, ThreadNo};
+use sym_base::{Kind, Limits, MsgNo, Name, ObjNo, Slots, ThreadNo};
 
 impl Reads for State {
     ghost use Rattle.readings.specs.Readable.{IsReadable};
@@ -62,8 +62,12 @@ impl Reads for State {
         dies(self, object)
     }
 
-    fn objects_made(&self) -> usize {
-        self.references.objects.len()
+    fn next_object(&self) -> ObjNo {
+        ObjNo(self.references.objects.len() as u16)
+    }
+
+    fn no_number_left(&self) -> bool {
+        self.references.objects.len() == Limits::OBJECTS
     }
 
     fn signal_count(&self, thread: ThreadNo) -> u64 {

@@ -1,6 +1,6 @@
 //! What decisions read of a state. The plain machine keeps it as lists and the kernel as tables of its own,
 //! and both decide by the same functions.
-ghost use Rattle.std.specs.Prelude.{◌≡◌, ◌<◌, ◌≤◌, [], length, IfSome, is_some, option_copied, slice_get, slice_index_or};
+ghost use Rattle.std.specs.Prelude.{◌≡◌, ◌<◌, [], IfSome, is_some, option_copied, slice_get, slice_index_or};
 ghost use Rattle.machine.specs.Find.{find_object};
 ghost use Rattle.machine.specs.Holdings.{first_used, has_one_left, held_servers};
 ghost use Rattle.machine.specs.LogonMoves.{logons_on};
@@ -9,6 +9,7 @@ ghost use Rattle.state_rows.specs.HandleSlots.{look};
 ghost use Rattle.machine.specs.Choice.{priority_of};
 ghost use Rattle.machine.specs.Handles.{process_handle, thread_handle};
 ghost use Rattle.machine.specs.Memory.{byte_of};
+ghost use Rattle.machine.specs.Moves.{next_object, no_number_left};
 ghost use Rattle.state_rows.specs.HandleNumbers.{index_of, is_local};
 ghost use Rattle.state_rows.specs.Locks.{owner_at, count_at, best_waiter};
 ghost use Rattle.machine.specs.References.{dies};
@@ -83,11 +84,14 @@ pub trait Reads {
         requires { is_readable self.now }
         ensures { result ≡ dies (state self.now) object };
 
-    /// The number of objects that were made.
-    fn objects_made(&self) -> usize
+    /// The number that a new object gets.
+    fn next_object(&self) -> ObjNo
         requires { is_readable self.now }
-        ensures number { result ≡ length (state self.now).references.objects }
-        ensures few { result ≤ 65535 };
+        ensures { result ≡ next_object (state self.now) };
+
+    /// Whether no number is left for a new object.
+    fn no_number_left(&self) -> bool
+        ensures { result ≡ no_number_left (state self.now) };
 
     /// How many signals are at a thread's fast semaphore.
     fn signal_count(&self, thread: ThreadNo) -> u64

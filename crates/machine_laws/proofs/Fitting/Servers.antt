@@ -1,6 +1,6 @@
 -- The steps of `server`, `receive`, `complete` and `function`.
-use Rattle.std.proofs.Common.{◌≡◌, ℕ, ℤ, ◌<◌, List, [], ◌∷◌, length, arith, refl, sym, subst, ap, ◌∙◌, Option, Some, None, Bool, true, false}
-use Rattle.std.specs.Prelude.{pos, ◌==◌, ◌&&◌, is_some, if◌then◌else◌, slice_index}
+use Rattle.std.proofs.Common.{◌≡◌, ℕ, ℤ, ◌<◌, List, [], ◌∷◌, arith, refl, sym, subst, ap, ◌∙◌, Option, Some, None, Bool, true, false}
+use Rattle.std.specs.Prelude.{pos, ◌&&◌, is_some, if◌then◌else◌, slice_index}
 use Rattle.std.proofs.lemmas.List.{get_or-set_same, get_or_push}
 use Rattle.sym_base.specs.declared.error.Error.TheVariants as error
 use Rattle.sym_base.specs.declared.kind.Kind.TheVariants as kind

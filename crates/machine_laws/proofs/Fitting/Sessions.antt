@@ -1,7 +1,7 @@
 -- The steps of `connect`, `send` and `call`.
 use Rattle.std.proofs.Common.{◌≡◌, ℕ, ℤ, ◌<◌, List, [], ◌∷◌, length, get_or, arith, refl, sym, ap, subst, ◌∙◌, Option, Some, None, true, false, ◌+◌, ◌≤◌, Bool}
 use Rattle.std.specs.Ordering.{int_eq}
-use Rattle.std.specs.Prelude.{pos, ◌==◌, is_some, option_map, if◌then◌else◌}
+use Rattle.std.specs.Prelude.{pos, is_some, option_map, if◌then◌else◌}
 use Rattle.std.proofs.lemmas.List.{get_or_append_left, length_push}
 use Rattle.sym_base.specs.ErrorCode.{error_code}
 use Rattle.sym_base.specs.declared.error.Error.TheVariants as error

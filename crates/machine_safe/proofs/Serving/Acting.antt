@@ -35,9 +35,9 @@ use Rattle.state_rows.specs.ServerRows.{closes, owner_of, server_at, session_at,
 use Rattle.state_rows.specs.declared.messages.Way.TheVariants.{Disconnect}
 use Rattle.state_rows.specs.declared.servers.ServerRow.{ServerRow}
 use Rattle.state_rows.specs.declared.thread.ThreadRow.{ThreadRow}
-use Rattle.std.proofs.Common.{Bool, List, None, Option, Some, [], ap, append_assoc, arith, false, length, refl, true, ℤ, ◌++◌, ◌∙◌, ◌∷◌, ◌≡◌, ◌≤◌, ℕ, subst}
+use Rattle.std.proofs.Common.{Bool, List, None, Option, Some, [], ap, append_assoc, arith, false, refl, true, ℤ, ◌++◌, ◌∙◌, ◌∷◌, ◌≡◌, ◌≤◌, ℕ, subst}
 use Rattle.std.proofs.lemmas.Bool.{and_parts, eqb-true}
-use Rattle.std.specs.Prelude.{if◌then◌else◌, ◌&&◌, ◌==◌}
+use Rattle.std.specs.Prelude.{if◌then◌else◌, ◌&&◌}
 use Rattle.sym_base.specs.declared.number.MsgNo.{MsgNo}
 use Rattle.sym_base.specs.declared.kind.Kind.TheVariants as kind
 use Rattle.script_types.specs.declared.instruction.Instr.TheVariants as instr

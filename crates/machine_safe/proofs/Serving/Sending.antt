@@ -38,7 +38,7 @@ use Rattle.state_rows.specs.declared.thread.ThreadRow.{ThreadRow}
 use Rattle.std.proofs.Common.{Bool, None, Some, [], ap, arith, false, length, pos, refl, subst, sym, true, ℕ, ℤ, ◌++◌, ◌∷◌, ◌≡◌, List, Option, inl, inr, ◌<◌, ◌≤◌}
 use Rattle.std.proofs.lemmas.List.{append-nil}
 use Rattle.std.specs.Ordering.{int_eq}
-use Rattle.std.specs.Prelude.{if◌then◌else◌, is_some, not, ◌==◌}
+use Rattle.std.specs.Prelude.{if◌then◌else◌, is_some, not}
 use Rattle.sym_base.specs.declared.kind.Arg.{Arg}
 use Rattle.sym_base.specs.declared.kind.Slots.{Slots}
 use Rattle.sym_base.specs.declared.word.Word.TheVariants as word

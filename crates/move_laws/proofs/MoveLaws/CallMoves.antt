@@ -28,7 +28,16 @@ use Rattle.move_laws.proofs.MoveLaws.Sound.{Sound}
 use Rattle.move_laws.proofs.RowLaws.Awaited.{awaited-requests, awaited-logons}
 
 pub sound-deferred : (script : Script) (S : State) (t : ObjNo) (m : DeferredMove) → FitsMove script t (Deferred m) S → AreRows script S → Sound script S (moved t (Deferred m) S) (told (Deferred m) S)
-sound-deferred script S t m fits rows = sound-rest script S S.synchronization.nano (deferred_moved m S.synchronization.deferred) S.synchronization.requests S.synchronization.logons S.services.memories [] (silent S) rows.synchronization.nano (calls-moved script m S.synchronization.deferred fits rows.synchronization.deferred) rows.synchronization.requests rows.synchronization.logons rows.services.memories rows.synchronization.awaited rows.serving.messages rows
+sound-deferred script S t m fits rows =
+    let here = rows.synchronization in
+    sound-rest script S (record S.synchronization { deferred = deferred_moved m S.synchronization.deferred }) S.services [] (silent S) (record {
+      nano = here.nano;
+      deferred = calls-moved script m S.synchronization.deferred fits here.deferred;
+      requests = here.requests;
+      locks = here.locks;
+      logons = here.logons;
+      awaited = here.awaited;
+    }) rows.services rows.serving.messages rows
 
 -- a signal tells of no reference and no death
 pub request_silent : (S : State) (m : RequestMove) → IsSilent S (request_told m)
@@ -43,9 +52,18 @@ spares_sent S (Signal t w code) u s fits some = λ thread status. let none : tim
 spares_sent S _ u s fits some = tt
 
 pub sound-requests : (script : Script) (S : State) (t : ObjNo) (m : RequestMove) → FitsMove script t (Requests m) S → AreRows script S → Sound script S (moved t (Requests m) S) (told (Requests m) S)
-sound-requests script S t m fits rows = sound-rest script S S.synchronization.nano S.synchronization.deferred (request_moved m S.synchronization.requests) S.synchronization.logons S.services.memories (request_told m) (request_silent S m) rows.synchronization.nano rows.synchronization.deferred (requests-moved _ m S.synchronization.requests S.synchronization.logons fits.0 rows.synchronization.requests) (logons-requests (length S.references.threads) S.synchronization.requests m S.synchronization.logons rows.synchronization.requests fits.0 rows.synchronization.logons) rows.services.memories (awaited-requests S m fits.0 fits.1 rows.synchronization.awaited)
+sound-requests script S t m fits rows =
+    let here = rows.synchronization in
+    sound-rest script S (record S.synchronization { requests = request_moved m S.synchronization.requests }) S.services (request_told m) (request_silent S m) (record {
+      nano = here.nano;
+      deferred = here.deferred;
+      requests = requests-moved _ m S.synchronization.requests S.synchronization.logons fits.0 here.requests;
+      locks = here.locks;
+      logons = logons-requests (length S.references.threads) S.synchronization.requests m S.synchronization.logons here.requests fits.0 here.logons;
+      awaited = awaited-requests S m fits.0 fits.1 here.awaited;
+    }) rows.services
     (messages-awaited (IsUntold S.synchronization.requests S.synchronization.logons) (IsUntold (request_moved m S.synchronization.requests) S.synchronization.logons) S.references.threads S.serving.servers S.serving.messages
-    (λ u s some untold. (still_awaited (length S.references.threads) S.synchronization.requests m S.synchronization.logons u s rows.synchronization.requests fits.0 (spares_sent S m u s fits.1 some) untold.0, untold.1)) rows.serving.messages) rows
+    (λ u s some untold. (still_awaited (length S.references.threads) S.synchronization.requests m S.synchronization.logons u s here.requests fits.0 (spares_sent S m u s fits.1 some) untold.0, untold.1)) rows.serving.messages) rows
 
 -- a status of a message stays untold where logons change
 still_untold : (S : State) (m : LogonMove) → FitsLogons m S → AreLogons (length S.references.threads) S.synchronization.requests S.synchronization.logons → (u : ObjNo) (s : ℕ) → 0 < times_sent S.serving.messages.outstanding u s → IsUntold S.synchronization.requests S.synchronization.logons u s → IsUntold S.synchronization.requests (logons_moved m S.synchronization.logons) u s
@@ -63,4 +81,14 @@ still_untold S (logon.Drop v) fits rows u s some untold =
     let none = untold.1 in (untold.0, omega arith)
 
 pub sound-logons : (script : Script) (S : State) (t : ObjNo) (m : LogonMove) → FitsMove script t (Logons m) S → AreRows script S → Sound script S (moved t (Logons m) S) (told (Logons m) S)
-sound-logons script S t m fits rows = sound-rest script S S.synchronization.nano S.synchronization.deferred S.synchronization.requests (logons_moved m S.synchronization.logons) S.services.memories [] (silent S) rows.synchronization.nano rows.synchronization.deferred rows.synchronization.requests (logons-moved S m fits rows.synchronization.logons) rows.services.memories (awaited-logons S m fits rows.synchronization.logons rows.synchronization.awaited) (messages-awaited (IsUntold S.synchronization.requests S.synchronization.logons) (IsUntold S.synchronization.requests (logons_moved m S.synchronization.logons)) S.references.threads S.serving.servers S.serving.messages (still_untold S m fits rows.synchronization.logons) rows.serving.messages) rows
+sound-logons script S t m fits rows =
+    let here = rows.synchronization in
+    sound-rest script S (record S.synchronization { logons = logons_moved m S.synchronization.logons }) S.services [] (silent S) (record {
+      nano = here.nano;
+      deferred = here.deferred;
+      requests = here.requests;
+      locks = here.locks;
+      logons = logons-moved S m fits here.logons;
+      awaited = awaited-logons S m fits here.logons here.awaited;
+    }) rows.services
+    (messages-awaited (IsUntold S.synchronization.requests S.synchronization.logons) (IsUntold S.synchronization.requests (logons_moved m S.synchronization.logons)) S.references.threads S.serving.servers S.serving.messages (still_untold S m fits here.logons) rows.serving.messages) rows

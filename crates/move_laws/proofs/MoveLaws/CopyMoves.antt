@@ -34,7 +34,7 @@ use Rattle.machine.specs.declared.state.State.{State}
 use Rattle.move_laws.proofs.Holders.HoldersMove.{holders-none}
 use Rattle.move_laws.proofs.Holders.Serving.{holds-same}
 use Rattle.move_laws.proofs.Lives.Kinds.{lives-none}
-use Rattle.move_laws.proofs.MoveLaws.RowMoves.{silent, sound-rest}
+use Rattle.move_laws.proofs.MoveLaws.RowMoves.{sound-services}
 use Rattle.move_laws.proofs.MoveLaws.Sound.{Sound, sound-none, sound-of}
 use Rattle.move_laws.proofs.RowLaws.Memories.{memories-changed}
 use Rattle.move_laws.proofs.RowLaws.Messages.{edited-total, messages-edited}
@@ -76,10 +76,6 @@ sound-resized script S memories m arg size kept rows =
     (lives-none S T refl (λ o. let a = stays (message_names o) (λ x. refl) in omega arith) (λ o. refl))
     (holders-none S T (λ g x. let a = holds-same S.serving.owned S.serving.servers.sessions S.serving.messages.outstanding T.serving.messages.outstanding g x (λ n. stays (message_holds n x) (λ y. refl)) in omega arith))
 
--- the memories change alone
-sound-memories : (script : Script) (S : State) (memories : List (Option (List ℕ))) → AreMemories S.references.threads memories → AreRows script S → Sound script S (record S { services = record S.services { memories = memories } }) []
-sound-memories script S memories kept rows = sound-rest script S S.synchronization.nano S.synchronization.deferred S.synchronization.requests S.synchronization.logons memories [] (silent S) rows.synchronization.nano rows.synchronization.deferred rows.synchronization.requests rows.synchronization.logons kept rows.synchronization.awaited rows.serving.messages rows
-
 pub sound-copies : (script : Script) (S : State) (t : ObjNo) (m : CopyMove) → FitsMove script t (Copies m) S → AreRows script S → Sound script S (moved t (Copies m) S) (told (Copies m) S)
 sound-copies script S t (Read job) fits rows = by (read_refusal ends job) refl
   where
@@ -91,7 +87,7 @@ sound-copies script S t (Read job) fits rows = by (read_refusal ends job) refl
 
     by : (refusal : Option Piece) → read_refusal ends job ≡ refusal → Sound script S (record S { services = record S.services { memories = unless_refused refusal S.services.memories after } }) []
     by (Some refusal) is = sound-none script S rows
-    by None is = sound-memories script S after (memories-copied S.references.threads S.services.memories (client_place ends job) (caller_place ends job) (piece_size (read_size ends job) job.done) (read_within ends job is fits.done) rows.services.memories) rows
+    by None is = sound-services script S (record S.services { memories = after }) (record { memories = memories-copied S.references.threads S.services.memories (client_place ends job) (caller_place ends job) (piece_size (read_size ends job) job.done) (read_within ends job is fits.done) rows.services.memories }) rows
 sound-copies script S t (Write job) fits rows = by (write_refusal ends job) refl
   where
     ends : Ends
@@ -101,7 +97,7 @@ sound-copies script S t (Write job) fits rows = by (write_refusal ends job) refl
     after = copied S.services.memories (caller_place ends job) (client_place ends job) (piece_size (write_size job) job.done)
 
     last : (goes_on : Bool) → AreMemories S.references.threads after → Sound script S (record S { services = record S.services { memories = after }; serving = record S.serving { messages = if goes_on then S.serving.messages else after_set_length S.serving.messages job.m job.arg (job.offset + job.len) } }) []
-    last true kept = sound-memories script S after kept rows
+    last true kept = sound-services script S (record S.services { memories = after }) (record { memories = kept }) rows
     last false kept = sound-resized script S after job.m job.arg (job.offset + job.len) kept rows
 
     by : (refusal : Option Piece) → write_refusal ends job ≡ refusal → Sound script S (record S { services = record S.services { memories = unless_refused refusal S.services.memories after }; serving = record S.serving { messages = unless_refused refusal S.serving.messages (with_length_set S.serving.messages job) } }) []

@@ -41,7 +41,7 @@ use Rattle.move_laws.proofs.Lists.Totals.{inside, total_at_least}
 use Rattle.move_laws.proofs.Lives.Bits.{alive_not_gone}
 use Rattle.move_laws.proofs.Lives.Kinds.{lives-none, lives-plus}
 use Rattle.move_laws.proofs.Lives.LivesMove.{LivesMove}
-use Rattle.move_laws.proofs.MoveLaws.RowMoves.{IsSilent, sound-rest}
+use Rattle.move_laws.proofs.MoveLaws.RowMoves.{IsSilent, sound-silent}
 use Rattle.move_laws.proofs.MoveLaws.Sound.{Sound, sound-of, sound-then}
 use Rattle.move_laws.proofs.Readiness.FirstReady.{greatest_listed}
 use Rattle.move_laws.proofs.References.Counts.{total-owing}
@@ -57,13 +57,6 @@ use Rattle.move_laws.proofs.RowLaws.ServersKept.{servers-locks, unlocked-set, un
 abbrev parts : State → LockParts
 parts S = record { rows = S.synchronization.locks; mutexes = S.synchronization.mutexes; owed = S.references.owed }
 
--- the rows of mutexes and semaphores change alone
-sound-alone : (script : Script) (S : State) (new : LockRows) → AreLocks (length S.references.objects) S.references.threads S.synchronization.mutexes S.references.owed new → ((o : ObjNo) → IsServer S.serving.servers o → owner_at new o ≡ None) → AreRows script S → Sound script S (record S { synchronization = record S.synchronization { locks = new } }) []
-sound-alone script S new locks unlocked rows =
-    let T : State = record S { synchronization = record S.synchronization { locks = new } } in
-    sound-of script S T [] rows (record { handles_long = refl; threads_long = refl; owed_long = refl; objects_few = rows.references.sized.objects_few; tables = rows.references.tables; threads = rows.references.threads; duties = rows.references.duties; synchronization = record { nano = rows.synchronization.nano; deferred = rows.synchronization.deferred; requests = rows.synchronization.requests; locks = locks; logons = rows.synchronization.logons; awaited = rows.synchronization.awaited }; services = rows.services; spent = rows.references.spent; serving = record { servers = servers-locks (λ row. is_spent row.stage) (length S.references.objects) S.references.threads S.synchronization.locks new S.serving.owned S.serving.servers unlocked rows.serving.servers; messages = rows.serving.messages } })
-    (lives-none S T refl (λ o. refl) (λ o. refl)) (holders-none S T (λ g x. refl))
-
 -- that a thread takes or gives a mutex tells of no reference and no death
 silent-take : (S : State) (t o : ObjNo) → IsSilent S (Take t (Object o) ∷ [])
 silent-take S t o = record { quiet = record { minuses = λ p. refl; deaths = λ p. refl; removals = λ p. refl }; pluses = λ p. refl; found = λ p h. absurd (omega arith); fits = (tt, tt); after = λ g x. refl }
@@ -76,7 +69,7 @@ silent-pass S t w o = record { quiet = record { minuses = λ p. refl; deaths = �
 
 -- it is told before a change
 sound-told : (script : Script) (S T : State) (es fs : List Effect) → IsSilent S es → ((p : ObjNo) → removals fs p ≡ 0) → AreRows script S → Sound script S T fs → Sound script S T (es ++ fs)
-sound-told script S T es fs quiet none rows sound = sound-then script S S T es fs (sound-rest script S S.synchronization.nano S.synchronization.deferred S.synchronization.requests S.synchronization.logons S.services.memories es quiet rows.synchronization.nano rows.synchronization.deferred rows.synchronization.requests rows.synchronization.logons rows.services.memories rows.synchronization.awaited rows.serving.messages rows) sound none
+sound-told script S T es fs quiet none rows sound = sound-then script S S T es fs (sound-silent script S es quiet rows) sound none
 
 -- mutexes, duties and the rows of mutexes and semaphores change
 record ArePassed (script : Script) (S : State) (mutexes : List (List ObjNo)) (owed : List (List Owed)) (new : LockRows) : Type 0 where
@@ -110,6 +103,12 @@ sound-passed script S mutexes owed new effects h lives holders rows = sound-of s
   spent = rows.references.spent;
   serving = record { servers = servers-locks (λ row. is_spent row.stage) (length S.references.objects) S.references.threads S.synchronization.locks new S.serving.owned S.serving.servers h.unlocked rows.serving.servers; messages = rows.serving.messages };
 }) lives holders
+
+-- the rows of mutexes and semaphores change alone
+sound-alone : (script : Script) (S : State) (new : LockRows) → AreLocks (length S.references.objects) S.references.threads S.synchronization.mutexes S.references.owed new → ((o : ObjNo) → IsServer S.serving.servers o → owner_at new o ≡ None) → AreRows script S → Sound script S (record S { synchronization = record S.synchronization { locks = new } }) []
+sound-alone script S new locks unlocked rows =
+    let T = passing S S.synchronization.mutexes S.references.owed new in
+    sound-passed script S S.synchronization.mutexes S.references.owed new [] (record { long = refl; duties = rows.references.duties; locks = locks; unlocked = unlocked; sweeps = λ p. refl }) (lives-none S T refl (λ o. refl) (λ o. refl)) (holders-none S T (λ g x. refl)) rows
 
 -- a mutex is taken exactly where it is free
 pub taken_free : (owner : Option Owner) (t : ObjNo) → Taken ≡ lock_answer owner t → owner ≡ None

@@ -51,4 +51,13 @@ nano_silent S (Give t f) = record { quiet = record { minuses = λ p. refl; death
 nano_silent S _ = silent S
 
 pub sound-nano : (script : Script) (S : State) (t : ObjNo) (m : NanoMove) → FitsMove script t (Nano m) S → AreRows script S → Sound script S (moved t (Nano m) S) (told (Nano m) S)
-sound-nano script S t m fits rows = sound-rest script S (nano_moved m S.synchronization.nano) S.synchronization.deferred S.synchronization.requests S.synchronization.logons S.services.memories (nano_told m) (nano_silent S m) (synchronized-nano script S m fits.1 rows.synchronization.nano) rows.synchronization.deferred rows.synchronization.requests rows.synchronization.logons rows.services.memories rows.synchronization.awaited rows.serving.messages rows
+sound-nano script S t m fits rows =
+    let here = rows.synchronization in
+    sound-rest script S (record S.synchronization { nano = nano_moved m S.synchronization.nano }) S.services (nano_told m) (nano_silent S m) (record {
+      nano = synchronized-nano script S m fits.1 here.nano;
+      deferred = here.deferred;
+      requests = here.requests;
+      locks = here.locks;
+      logons = here.logons;
+      awaited = here.awaited;
+    }) rows.services rows.serving.messages rows

@@ -12,14 +12,13 @@ use Rattle.entry_log.specs.declared.effect.Effect.{Effect}
 use Rattle.entry_log.specs.declared.effect.Effect.TheVariants.{Seek, Missed}
 use Rattle.entry_log.specs.declared.step.Part.{Part}
 use Rattle.entry_log.specs.declared.step.Part.TheVariants.{Send}
-use Rattle.state_rows.specs.declared.deferred.DeferredRows.{DeferredRows}
-use Rattle.state_rows.specs.declared.nano.NanoRows.{NanoRows}
-use Rattle.state_rows.specs.declared.requests.RequestRows.{RequestRows}
 use Rattle.machine.specs.declared.moves.Move.TheVariants.{Find, Miss, GoOn, Keep, Write, WriteMessage, Wait, Wake, SetPriority, Fill}
 use Rattle.state_rows.specs.declared.thread.Waiting.{Waiting}
 use Rattle.state_rows.specs.declared.thread.Waiting.TheVariants as waiting
 use Rattle.state_rows.specs.declared.thread.ThreadRow.{ThreadRow}
+use Rattle.machine.specs.declared.services.Services.{Services}
 use Rattle.machine.specs.declared.state.State.{State}
+use Rattle.machine.specs.declared.synchronization.Synchronization.{Synchronization}
 use Rattle.machine.specs.Rows.{thread_of, with_row}
 use Rattle.machine.specs.Memory.{filled, with_memory}
 use Rattle.machine.specs.Moves.{moved, told, with_found, with_kept, with_message, with_part, with_register, with_waiting, with_priority}
@@ -31,7 +30,7 @@ use Rattle.machine.specs.Task.{instructions_of, is_returning}
 use Rattle.machine.specs.Fits.{FitsMove, IsAtInstruction, WaitsNowhere}
 use Rattle.machine.specs.FitsServers.{IsUncalled, MaySend}
 use Rattle.machine.specs.Serving.{AreMessages, AreServers, numbers_left, sending_bit, sessions_there, sessions_used}
-use Rattle.machine.specs.WellFormed.{IsThread, AreSynchronized, AreCalls, AreLogons, AreMemories, AreRequests, AreRows, AreServingRows, part_of, AreSpent, AreAwaited, IsUntold, is_spent}
+use Rattle.machine.specs.WellFormed.{IsThread, AreSynchronized, AreSynchronizationRows, AreServiceRows, AreRows, AreServingRows, part_of, AreSpent, IsUntold, is_spent}
 use Rattle.move_laws.proofs.Lives.Kinds.{IsQuiet, lives-quiet}
 use Rattle.move_laws.proofs.Holders.ThreadRows.{row_holds, rows-with_row, row-other}
 use Rattle.move_laws.proofs.Lists.Totals.{total-with}
@@ -201,16 +200,28 @@ sound-priority script S t u priority fits rows = sound-row script S u (with_prio
     (λ row is h. record { thread = record { process = h.process; link = h.link; priority = fits; next_instruction = h.next_instruction; unused = h.unused; registers = h.registers; declared = h.declared; returns = h.returns }; process = refl; role = refl })
     (λ k. inr (paid-with_row S.references.threads u (with_priority priority) (λ row h. h) k)) (silent S) (synchronization-kept script S u (with_priority priority) (λ row h. h) (λ row. refl) (λ row. refl) rows) (spent-kept S.references.objects S.references.handles S.references.threads u (with_priority priority) (record { stage = λ row. refl; unused = λ row e. e; waits = λ row e. e; going = λ row e. e; link = λ row e. e }) rows.references.spent) (serving-kept script S u (with_priority priority) (λ row. refl) (record { live = λ row live. live; waits = λ row live. refl; sends = λ row. omega arith; left = λ row. omega arith }) rows) rows
 
--- a change of the rows of threads that synchronize, of deferred function calls, of requests and of memories leaves all else
-pub sound-rest : (script : Script) (S : State) (nano : NanoRows) (calls : DeferredRows) (requests : RequestRows) (logons : List (List (ObjNo × ℕ))) (memories : List (Option (List ℕ))) (effects : List Effect) → IsSilent S effects → AreSynchronized script S.references.threads nano → AreCalls script calls → AreRequests (length S.references.threads) requests → AreLogons (length S.references.threads) requests logons → AreMemories S.references.threads memories → AreAwaited S.references.threads requests logons → AreMessages (IsUntold requests logons) S.references.threads S.serving.servers S.serving.messages → AreRows script S → Sound script S (record S { synchronization = record S.synchronization { nano = nano; deferred = calls; requests = requests; logons = logons }; services = record S.services { memories = memories } }) effects
-sound-rest script S nano calls requests logons memories effects quiet sound called requested logged kept awaited messages rows =
-    let T : State = record S { synchronization = record S.synchronization { nano = nano; deferred = calls; requests = requests; logons = logons }; services = record S.services { memories = memories } } in
-    sound-of script S T effects rows (record { handles_long = refl; threads_long = refl; owed_long = refl; objects_few = rows.references.sized.objects_few; tables = rows.references.tables; threads = rows.references.threads; duties = rows.references.duties; synchronization = record { nano = sound; deferred = called; requests = requested; locks = rows.synchronization.locks; logons = logged; awaited = awaited }; services = record { memories = kept }; spent = rows.references.spent; serving = record { servers = rows.serving.servers; messages = messages } })
+-- a state with other rows by which threads synchronize, but for locks and mutexes, and with other services
+abbrev pub with_rest : State → Synchronization → Services → State
+with_rest S new services = record S { synchronization = record new { locks = S.synchronization.locks; mutexes = S.synchronization.mutexes }; services = services }
+
+-- such a change leaves all else
+pub sound-rest : (script : Script) (S : State) (new : Synchronization) (services : Services) (effects : List Effect) → IsSilent S effects → AreSynchronizationRows script (length S.references.threads) (length S.references.objects) S.references.threads S.references.owed (with_rest S new services).synchronization → AreServiceRows S.references.threads services → AreMessages (IsUntold new.requests new.logons) S.references.threads S.serving.servers S.serving.messages → AreRows script S → Sound script S (with_rest S new services) effects
+sound-rest script S new services effects quiet synchronization kept messages rows =
+    let T : State = with_rest S new services in
+    sound-of script S T effects rows (record { handles_long = refl; threads_long = refl; owed_long = refl; objects_few = rows.references.sized.objects_few; tables = rows.references.tables; threads = rows.references.threads; duties = rows.references.duties; synchronization = synchronization; services = kept; spent = rows.references.spent; serving = record { servers = rows.serving.servers; messages = messages } })
     (lives-quiet S T effects refl quiet.quiet (λ o. let b = quiet.pluses o in let c = quiet.quiet.minuses o in omega arith) (λ o. refl) (λ o h. let b = quiet.pluses o in absurd (omega arith)) quiet.found)
     (record { fits = quiet.fits; moves = quiet.after })
 
+-- what is told while the rows stay
+pub sound-silent : (script : Script) (S : State) (effects : List Effect) → IsSilent S effects → AreRows script S → Sound script S S effects
+sound-silent script S effects quiet rows = sound-rest script S S.synchronization S.services effects quiet rows.synchronization rows.services rows.serving.messages rows
+
+-- services change alone
+pub sound-services : (script : Script) (S : State) (services : Services) → AreServiceRows S.references.threads services → AreRows script S → Sound script S (record S { services = services }) []
+sound-services script S services kept rows = sound-rest script S S.synchronization services [] (silent S) rows.synchronization kept rows.serving.messages rows
+
 pub sound-miss : (script : Script) (S : State) (t o : ObjNo) → AreRows script S → Sound script S (moved t (Miss o) S) (told (Miss o) S)
-sound-miss script S t o rows = sound-rest script S S.synchronization.nano S.synchronization.deferred S.synchronization.requests S.synchronization.logons S.services.memories (Missed o ∷ []) (record { quiet = record { minuses = λ p. refl; deaths = λ p. refl; removals = λ p. refl }; pluses = λ p. refl; found = λ p h. absurd (omega arith); fits = (tt, tt); after = λ g x. refl }) rows.synchronization.nano rows.synchronization.deferred rows.synchronization.requests rows.synchronization.logons rows.services.memories rows.synchronization.awaited rows.serving.messages rows
+sound-miss script S t o rows = sound-silent script S (Missed o ∷ []) (record { quiet = record { minuses = λ p. refl; deaths = λ p. refl; removals = λ p. refl }; pluses = λ p. refl; found = λ p h. absurd (omega arith); fits = (tt, tt); after = λ g x. refl }) rows
 
 pub sound-fill : (script : Script) (S : State) (t p : ObjNo) (at long byte : ℕ) → FitsMove script t (Fill p at long byte) S → AreRows script S → Sound script S (moved t (Fill p at long byte) S) (told (Fill p at long byte) S)
-sound-fill script S t p at long byte fits rows = sound-rest script S S.synchronization.nano S.synchronization.deferred S.synchronization.requests S.synchronization.logons (with_memory S.services.memories p (filled at long byte)) [] (silent S) rows.synchronization.nano rows.synchronization.deferred rows.synchronization.requests rows.synchronization.logons (memories-filled S.references.threads S.services.memories p at long byte fits rows.services.memories) rows.synchronization.awaited rows.serving.messages rows
+sound-fill script S t p at long byte fits rows = sound-services script S (record S.services { memories = with_memory S.services.memories p (filled at long byte) }) (record { memories = memories-filled S.references.threads S.services.memories p at long byte fits rows.services.memories }) rows
