@@ -45,7 +45,7 @@ apart_other true (Some instr) other apart = absurd (cc)
 reap_task : (script : Script) (S : State) (t : ObjNo) → IsReapable script S t → task_of script S t ≡ pay_or (first_owed S t) (dying_at S t (thread_of S t))
 reap_task script S t h =
     let row = h.row in
-    let own = live_task row.role (next_call S.deferred row.role) (work_or (held_servers S t) (step_or_end (is_protected S.nano t) (instruction script row))) in
+    let own = live_task row.role (next_call S.synchronization.deferred row.role) (work_or (held_servers S t) (step_or_end (is_protected S.synchronization.nano t) (instruction script row))) in
     ap (task_of_row script S t) h.is
     ∙ (apart_other (is_returning row.part) (instruction script row) _ h.apart
     ∙ (ap (λ (stage : Stage). pay_or (first_owed S t) (by_stage stage (holdings S t row) own)) h.doomed
@@ -81,10 +81,10 @@ buries script S t dfc h = sym (task_decides script S t (Some (Bury dfc)) h.able 
 -- the moves of a doom go through
 pub doom_goes : (script : Script) (S : State) (t : ObjNo) (exit : Exit) → IsShaped script → AreRows script S → MayEnd S t → ActionGoes script t (doom t exit) S
 doom_goes script S t exit shaped rows h =
-    let after = after-doom script S t t exit (may_die script S t h.row rows h.is h.live (unprotected_unheld S.nano t h.free)) in
+    let after = after-doom script S t t exit (may_die script S t h.row rows h.is h.live (unprotected_unheld S.synchronization.nano t h.free)) in
     let goes : Goes script t S (doom t exit) = record {
       each = after.each;
-      few = let a = rows.duties.few t.0 in let none = after.light in omega arith;
+      few = let a = rows.references.duties.few t.0 in let none = after.light in omega arith;
       told = let few = after.told in let most = tell_few t (doom t exit) S in omega arith;
     } in
-    fitting_goes script S t (doom t exit) shaped (record { rows = rows; inside = inside S.threads t.0 h.row h.is }) goes
+    fitting_goes script S t (doom t exit) shaped (record { rows = rows; inside = inside S.references.threads t.0 h.row h.is }) goes

@@ -24,7 +24,7 @@ pub record MayEnd (S : State) (t : ObjNo) : Type 0 where
   pub row : ThreadRow
   pub is : thread_of S t ≡ Some row
   pub live : row.stage ≡ Live
-  pub free : is_protected S.nano t ≡ false
+  pub free : is_protected S.synchronization.nano t ≡ false
 
 -- a thread that may be reaped: it is able, doomed, and not between a find and its return
 pub record IsReapable (script : Script) (S : State) (t : ObjNo) : Type 0 where

@@ -5,7 +5,7 @@ ghost use Rattle.machine.specs.Create.{start_moves, make_with_handle, create_do,
 use entry_log::{Part, Step, Word};
 use machine::{Decision, LockMove, Move, NewHandle, ThreadRow};
 use readings::Reads;
-use sym_base::{Error, Kind, Limits, Name, ObjNo, ThreadNo};
+use sym_base::{Error, Kind, Name, ThreadNo};
 use thread_decisions::{answer_handle, refuse};
 
 const STEP: Step = Step::Of(Word::Create, Part::Do);
@@ -59,7 +59,7 @@ fn create_do<R: Reads>(
     if reads.is_taken(kind, name) {
         return refuse(decision, thread, STEP, Error::AlreadyExists);
     }
-    if reads.objects_made() == Limits::OBJECTS {
+    if reads.no_number_left() {
         return refuse(decision, thread, STEP, Error::Overflow);
     }
     let handle = reads.process_handle(row.process);
@@ -103,8 +103,7 @@ pub fn create_semaphore_do<R: Reads>(
     requires { R.is_readable reads.now }
     ensures { decision.new ≡ create_semaphore_do (R.state reads.now) thread row.now name.now count register }
 {
-    let object = ObjNo(reads.objects_made() as u16);
-    let start = Some(LockMove::Start(object, count));
+    let start = Some(LockMove::Start(reads.next_object(), count));
     create_do(
         decision,
         reads,

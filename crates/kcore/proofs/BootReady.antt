@@ -28,14 +28,14 @@ listed_row script S qs t h listed = ready_row script S t (sym (h.ready.exact t) 
 pub listed_known : (script : Script) (S : State) (qs : List ObjNo) → IsWellFormed script S qs → (t : ObjNo) → is_listed qs t ≡ true → t.0 < BOOT_OBJECTS
 listed_known script S qs h t listed =
     let r = listed_row script S qs t h listed in
-    let within = inside S.threads t.0 r.0 r.1 in
-    let few = h.rows.sized.threads_few in omega arith
+    let within = inside S.references.threads t.0 r.0 r.1 in
+    let few = h.rows.references.sized.threads_few in omega arith
 
 pub listed_ranged : (script : Script) (S : State) (qs : List ObjNo) → IsWellFormed script S qs → (t : ObjNo) → is_listed qs t ≡ true → priority_of S t < 64
 listed_ranged script S qs h t listed =
     let r = listed_row script S qs t h listed in
     let is : priority_of S t ≡ r.0.priority = ap priority_of_row r.1 in
-    let low = (h.rows.threads.rows t.0 r.0 r.1).priority in omega arith
+    let low = (h.rows.references.threads.rows t.0 r.0 r.1).priority in omega arith
 
 -- a thread of a list is listed
 pub got_listed : (qs : List ObjNo) (k : ℕ) (q : ObjNo) → slice_get qs k ≡ Some q → is_listed qs q ≡ true

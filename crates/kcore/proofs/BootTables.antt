@@ -3,7 +3,7 @@ use Rattle.std.proofs.Common.{◌≡◌, inl, inr, ℕ, zero, suc, ◌+◌, ◌<
 use Rattle.std.specs.Prelude.{slice_get, slice_index, slice_set, option_map, not}
 use Rattle.std.specs.List.{list_any}
 use Rattle.std.proofs.lemmas.Bool.{cases_eq, cases_lt, and_right}
-use Rattle.std.proofs.lemmas.List.{get_or-set_same, get_or-set_other, set-set, length-map, length-take-le}
+use Rattle.std.proofs.lemmas.List.{get_or-set_same, get_or-set_other, set-set, length-map, length-take-le, take_all}
 use Rattle.std.proofs.lemmas.Option.{slice_get-map}
 use Rattle.state_rows.specs.declared.object.ObjectRow.{ObjectRow}
 use Rattle.state_rows.specs.ObjectRows.{has_name, is_session, is_taken}
@@ -70,6 +70,12 @@ one_more all S rows counts new n count b h long at is made last = record {
   none = λ k le. ap (λ (l : List ℕ). slice_index l k) made ∙ (get_or-set_other counts n k count 0 (omega arith) ∙ h.none k (omega arith));
 }
 
+-- once all stand, the rows are theirs
+pub all_stand : (all : List Born) (S : State) (rows : List (Option ObjectRow)) (counts : List ℕ) → FirstStand all S rows counts (length all) → rows ≡ map (λ (b : Born). Some b.object) all
+all_stand all S rows counts h =
+    let long : length (map (λ (b : Born). Some b.object) all) ≤ length all = let e = length-map all (λ (b : Born). Some b.object) in omega arith in
+    h.rows_are ∙ take_all (length all) (map (λ (b : Born). Some b.object) all) long
+
 -- the counts of the whole table are those of the state
 pub agrees_at_boot : (script : Script) → IsWellFormed script → (all : List Born) (rows : List (Option ObjectRow)) (counts : List ℕ) → all ≡ born script → FirstStand all (boot script) rows counts (length all) → Agrees counts (boot script)
 agrees_at_boot script valid all rows counts e h o = elim (cases_lt o.0 (length all)) [
@@ -77,11 +83,11 @@ agrees_at_boot script valid all rows counts e h o = elim (cases_lt o.0 (length a
   | inr le ↦ h.none o.0 le ∙ sym (boot_count_inside script (formed_is_shaped script valid) o (subst (λ (bs : List Born). length bs ≤ o.0) e le))
 ]
 
-boot_row : (script : Script) (k : ℕ) (b : Born) → slice_get (born script) k ≡ Some b → slice_get (boot script).objects k ≡ Some (Some b.object)
+boot_row : (script : Script) (k : ℕ) (b : Born) → slice_get (born script) k ≡ Some b → slice_get (boot script).references.objects k ≡ Some (Some b.object)
 unfolding boot_of
 boot_row script k b at = slice_get-map (λ (x : Born). Some x.object) (born script) k ∙ ap (option_map (λ (x : Born). Some x.object)) at
 
-boot_rows_are : (script : Script) → (boot script).objects ≡ map (λ (b : Born). Some b.object) (born script)
+boot_rows_are : (script : Script) → (boot script).references.objects ≡ map (λ (b : Born). Some b.object) (born script)
 unfolding boot_of
 boot_rows_are script = refl
 
@@ -92,14 +98,14 @@ alive_of (x ∷ xs) (suc k) row at dead = alive_of xs k row at dead
 
 alive_at_boot : (script : Script) (k : ℕ) → k < length (born script) → IsAlive (object_of (boot script) (record { 0 = k }))
 alive_at_boot script k lt =
-    let long : length (boot script).objects ≡ length (born script) = ap length (boot_rows_are script) ∙ length-map (born script) (λ b. Some b.object) in
+    let long : length (boot script).references.objects ≡ length (born script) = ap length (boot_rows_are script) ∙ length-map (born script) (λ b. Some b.object) in
     let r = boot_rows script k (omega arith) in
-    alive_of (boot script).objects k r.0 r.1 r.2
+    alive_of (boot script).references.objects k r.0 r.1 r.2
 
 pub new_at_boot : (script : Script) → IsWellFormed script → AreNew (born script) (boot script)
 new_at_boot script valid = record {
   named = λ k b at. boot_no_session script k b.object (boot_row script k b at);
   alive = λ k b at. (boot_kinds script k b.object (boot_row script k b at)).0;
-  names = λ k b at. subst (λ (l : List (Option ObjectRow)). is_taken b.object.kind b.object.name (take k l) ≡ false) (boot_rows_are script) (and_right (not (is_session b.object.kind)) (list_any (has_name b.object.kind b.object.name) (take k (boot script).objects)) (boot_names_new script valid k b.object (boot_row script k b at)));
+  names = λ k b at. subst (λ (l : List (Option ObjectRow)). is_taken b.object.kind b.object.name (take k l) ≡ false) (boot_rows_are script) (and_right (not (is_session b.object.kind)) (list_any (has_name b.object.kind b.object.name) (take k (boot script).references.objects)) (boot_names_new script valid k b.object (boot_row script k b at)));
   counted = λ k lt. counted-boot script valid (record { 0 = k }) (alive_at_boot script k lt);
 }

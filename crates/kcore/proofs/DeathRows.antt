@@ -16,7 +16,7 @@ use Rattle.death.specs.Dying.{IsReapable, MayEnd}
 -- whoever is able has a task
 able_task : (script : Script) (S : State) (t : ObjNo) → IsTrue (is_able script S t) → is_some (task_of script S t) ≡ true
 able_task script S t able =
-    let ready = (and_parts (is_ready script S t) (is_none (wanted_holder S.nano t)) able).0 in
+    let ready = (and_parts (is_ready script S t) (is_none (wanted_holder S.synchronization.nano t)) able).0 in
     (and_parts (not (is_waiting S t) && not (is_stopped S t)) (is_some (task_of script S t)) ready).1
 
 -- and so has a row

@@ -1,5 +1,5 @@
 mod ActionsDone
-mod BootFields
+mod BootGroups
 mod BootNano
 mod BootProcs
 mod BootReady

@@ -1,5 +1,5 @@
 -- The tables at boot.
-use Rattle.std.specs.Prelude.{◌≡◌, ℕ, ◌<◌, ◌≤◌, false, List, [], length, map, replicate, take, Option, Some, None, slice_get, slice_index}
+use Rattle.std.specs.Prelude.{◌≡◌, ℕ, ◌<◌, ◌≤◌, false, List, length, map, replicate, take, Option, Some, slice_get, slice_index}
 use Rattle.sym_base.specs.declared.limits.TheConstants.Limits.{BOOT_OBJECTS, DEVICES, HANDLES, OBJECTS}
 use Rattle.script_types.specs.declared.script.Script.{Script}
 use Rattle.state_rows.specs.DeclaredCalls.{calls_of}
@@ -11,6 +11,8 @@ use Rattle.state_rows.specs.RequestChanges.{new_rows as request_rows}
 use Rattle.state_rows.specs.ServerChanges.{no_rows}
 use Rattle.state_rows.specs.declared.servers.ServerRows.{ServerRows}
 use Rattle.machine.specs.Boot.{memory_of_row, nano_of}
+use Rattle.state_rows.specs.declared.thread.ThreadRow.{ThreadRow}
+use Rattle.cleanup.specs.Lists.{empty_lists}
 use Rattle.procs.specs.ProcsRows.{ProcsRows}
 use Rattle.kern_sync.specs.KernelLocks.{KernelLocks}
 use Rattle.kernel_tables.specs.declared.tables.Tables.{Tables}
@@ -44,40 +46,25 @@ no_locks = lock_rows OBJECTS
 unfoldable pub no_servers : ServerRows
 no_servers = no_rows OBJECTS
 
--- the tables over those of objects, of threads and of locks: nothing is owed, held, owned, queued or asked for, and no message is outstanding
-pub record AreOver {W N : Type 0} (script : Script) (all : List Born) (o : ObjectsView) (p : ProcsRows) (l : KernelLocks) (tables : Tables W N) : Type 0 where
-  pub objects : tables.objects ≡ o
-  pub procs : tables.procs ≡ p
-  pub locks : tables.locks ≡ l
+-- the threads' rows with the memories of processes, and the locks: nobody owns or waits for anything, and each thread has its priority among waiters
+pub record AreThreadTables (threads : List (Option ThreadRow)) (p : ProcsRows) (l : KernelLocks) : Type 0 where
+  pub procs : p ≡ record { threads = threads; processes = map memory_of_row threads }
+  pub locks : l.rows ≡ no_locks
+  pub ranks : AreRanked l.priorities threads
+  pub ranked : length l.priorities ≡ BOOT_OBJECTS
+
+-- the other tables beside that of objects: nothing is owed, held, owned, queued or asked for, and no message is outstanding
+pub record AreEmpty {W N : Type 0} (script : Script) (all : List Born) (tables : Tables W N) : Type 0 where
   pub handles : slots_of tables.handles ≡ map (λ _. replicate HANDLES fresh_slot) all
-  pub owed : tables.cleanup.duties ≡ map (λ _. []) all
-  pub uses : tables.cleanup.temporary ≡ replicate (length all) None
-  pub mutexes : tables.cleanup.mutexes ≡ map (λ _. []) all
-  pub logons : tables.cleanup.logons ≡ map (λ _. []) all
-  pub owned : tables.cleanup.servers ≡ map (λ _. []) all
-  pub listed : tables.cleanup.objects ≡ OBJECTS
+  pub cleanup : tables.cleanup ≡ empty_lists (length all) OBJECTS
   pub nano : tables.nano ≡ nano_of script.fast all
   pub deferred : tables.deferred ≡ calls_of script
   pub requests : tables.requests ≡ request_rows (length all) DEVICES
   pub servers : tables.servers ≡ no_servers
   pub messages : tables.messages ≡ no_messages OBJECTS script.pool
 
--- the tables of what stands at boot, over its objects: nothing is owed, held, queued or waited for
+-- the tables of what stands at boot, over its objects
 pub record AreTables {W N : Type 0} (script : Script) (all : List Born) (S : State) (made : ObjectsView) (tables : Tables W N) : Type 0 where
   pub objects : tables.objects ≡ made
-  pub procs : tables.procs ≡ record { threads = S.threads; processes = map memory_of_row S.threads }
-  pub handles : slots_of tables.handles ≡ map (λ _. replicate HANDLES fresh_slot) all
-  pub locks : tables.locks.rows ≡ no_locks
-  pub ranks : AreRanked tables.locks.priorities S.threads
-  pub ranked : length tables.locks.priorities ≡ BOOT_OBJECTS
-  pub owed : tables.cleanup.duties ≡ map (λ _. []) all
-  pub uses : tables.cleanup.temporary ≡ replicate (length all) None
-  pub mutexes : tables.cleanup.mutexes ≡ map (λ _. []) all
-  pub logons : tables.cleanup.logons ≡ map (λ _. []) all
-  pub owned : tables.cleanup.servers ≡ map (λ _. []) all
-  pub listed : tables.cleanup.objects ≡ OBJECTS
-  pub nano : tables.nano ≡ nano_of script.fast all
-  pub deferred : tables.deferred ≡ calls_of script
-  pub requests : tables.requests ≡ request_rows (length all) DEVICES
-  pub servers : tables.servers ≡ no_servers
-  pub messages : tables.messages ≡ no_messages OBJECTS script.pool
+  pub threads : AreThreadTables S.references.threads tables.procs tables.locks
+  pub empty : AreEmpty script all tables

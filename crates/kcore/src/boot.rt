@@ -8,15 +8,16 @@ ghost use Rattle.state_rows.specs.DeclaredCalls.{calls_of};
 ghost use Rattle.ref_words.specs.Words.{NoneCreated};
 ghost use Rattle.state_rows.specs.ObjectRows.{is_session, is_taken};
 ghost use Rattle.machine.specs.Arrivals.{is_listed};
-ghost use Rattle.machine.specs.Boot.{boot, memory_of_row, nano_of, ready_at_boot};
+ghost use Rattle.machine.specs.Boot.{boot, nano_of, ready_at_boot};
 ghost use Rattle.machine.specs.Choice.{priority_of};
 ghost use Rattle.state_rows.specs.HandleSlots.{fresh_slot};
 ghost use Rattle.machine.specs.References.{count_of};
 ghost use Rattle.machine.specs.WellFormed.{AreApart};
 ghost use Rattle.state_rows.specs.Nano.{suspend_count};
 ghost use Rattle.state_rows.specs.RequestChanges.{new_rows as request_rows};
-ghost use Rattle.kcore.specs.BootTable.{AreNew, AreOver, AreTables, FirstStand, no_locks};
-ghost use Rattle.kernel_tables.specs.Noted.{AreKept, AreRanked};
+ghost use Rattle.cleanup.specs.Lists.{empty_lists};
+ghost use Rattle.kcore.specs.BootTable.{AreEmpty, AreNew, AreTables, AreThreadTables, FirstStand};
+ghost use Rattle.kernel_tables.specs.Noted.{AreKept};
 ghost use Rattle.kernel_tables.specs.ReadyQueues.{AreReady};
 ghost use Rattle.kernel_tables.specs.StateOf.{slots_of, state_of};
 
@@ -87,19 +88,6 @@ fn fresh_handles(alloc: Global, all: &[Born]) -> Result<Items<Handles>, NoMemory
     Ok(Items::new(tables))
 }
 
-/// Lists of what each owes and has, which have nothing.
-fn empty_lists(alloc: Global, all: &[Born]) -> Result<Cleanup, NoMemory>
-    requires { length all.now < 65536 }
-    ensures owed { IfOk result (λ lists. lists.duties ≡ map (λ _. []) all.now) }
-    ensures uses { IfOk result (λ lists. lists.temporary ≡ replicate (length all.now) None) }
-    ensures mutexes { IfOk result (λ lists. lists.mutexes ≡ map (λ _. []) all.now) }
-    ensures logons { IfOk result (λ lists. lists.logons ≡ map (λ _. []) all.now) }
-    ensures owned { IfOk result (λ lists. lists.servers ≡ map (λ _. []) all.now) }
-    ensures objects { IfOk result (λ lists. lists.objects ≡ OBJECTS) }
-{
-    Cleanup::new(alloc, all.len() as u16, Limits::OBJECTS as u16)
-}
-
 /// Suspends a thread once, where it is declared as held.
 fn hold(nano: &mut NanoSync, thread: ThreadNo, held: bool)
     requires thread { thread.0 < length nano.old.signals }
@@ -159,27 +147,19 @@ fn queues_at_boot(alloc: Global, script: &Script, state: &State) -> Result<Ready
 fn empty_tables(alloc: Global, all: &[Born]) -> Result<(Items<Handles>, Cleanup), NoMemory>
     requires { length all.now < 65536 }
     ensures handles { IfOk result (λ made. slots_of made.0 ≡ map (λ _. replicate HANDLES fresh_slot) all.now) }
-    ensures owed { IfOk result (λ made. made.1.duties ≡ map (λ _. []) all.now) }
-    ensures uses { IfOk result (λ made. made.1.temporary ≡ replicate (length all.now) None) }
-    ensures mutexes { IfOk result (λ made. made.1.mutexes ≡ map (λ _. []) all.now) }
-    ensures logons { IfOk result (λ made. made.1.logons ≡ map (λ _. []) all.now) }
-    ensures owned { IfOk result (λ made. made.1.servers ≡ map (λ _. []) all.now) }
-    ensures objects { IfOk result (λ made. made.1.objects ≡ OBJECTS) }
+    ensures cleanup { IfOk result (λ made. made.1 ≡ empty_lists (length all.now) OBJECTS) }
 {
     let handles = fresh_handles(alloc, all)?;
-    let cleanup = empty_lists(alloc, all)?;
+    let cleanup = Cleanup::new(alloc, all.len() as u16, Limits::OBJECTS as u16)?;
     Ok((handles, cleanup))
 }
 
 /// The threads' rows with the processes' memories, and the locks, which nobody owns or waits for.
 fn thread_tables(alloc: Global, state: &State) -> Result<(Procs, KernSync), NoMemory>
-    requires { length state.now.threads ≤ BOOT_OBJECTS }
-    ensures procs { IfOk result (λ made. made.0 ≡ record { threads = state.now.threads; processes = map memory_of_row state.now.threads }) }
-    ensures rows { IfOk result (λ made. made.1.rows ≡ no_locks) }
-    ensures ranks { IfOk result (λ made. AreRanked made.1.priorities state.now.threads) }
-    ensures sized { IfOk result (λ made. length made.1.priorities ≡ BOOT_OBJECTS) }
+    requires { length state.now.references.threads ≤ BOOT_OBJECTS }
+    ensures { IfOk result (λ made. AreThreadTables state.now.references.threads made.0 made.1) }
 {
-    let procs = procs_of(alloc, state.threads.as_slice())?;
+    let procs = procs_of(alloc, state.references.threads.as_slice())?;
     let locks = locks_of(alloc, state)?;
     Ok((procs, locks))
 }
@@ -213,7 +193,10 @@ fn tables_over<W: RefWords + Drop>(
 ) -> Result<Tables<W>, NoMemory>
     requires shaped { IsShaped script.now }
     requires few { length all.now < 65536 }
-    ensures { IfOk result (λ tables. AreOver script.now all.now objects procs locks tables) }
+    ensures objects { IfOk result (λ tables. tables.objects ≡ objects) }
+    ensures procs { IfOk result (λ tables. tables.procs ≡ procs) }
+    ensures locks { IfOk result (λ tables. tables.locks ≡ locks) }
+    ensures empty { IfOk result (λ tables. AreEmpty script.now all.now tables) }
 {
     let empty = empty_tables(alloc, all)?;
     let calls = call_tables(alloc, script, all)?;
@@ -242,7 +225,7 @@ fn tables_of<W: RefWords + Drop>(
 ) -> Result<Tables<W>, NoMemory>
     requires shaped { IsShaped script.now }
     requires few { length all.now < 65536 }
-    requires known { length state.now.threads ≤ BOOT_OBJECTS }
+    requires known { length state.now.references.threads ≤ BOOT_OBJECTS }
     ensures { IfOk result (λ tables. AreTables script.now all.now state.now objects tables) }
 {
     let threads = thread_tables(alloc, state)?;

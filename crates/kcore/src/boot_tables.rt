@@ -44,7 +44,7 @@ pub fn procs_of(alloc: Global, threads: &[Option<ThreadRow>]) -> Result<Procs, N
 pub fn priority_of(state: &State, thread: ThreadNo) -> u8
     ensures { result ≡ priority_of state.now thread }
 {
-    match row_of(&state.threads, thread) {
+    match row_of(&state.references.threads, thread) {
         Some(row) => row.priority,
         None => 0,
     }
@@ -52,13 +52,13 @@ pub fn priority_of(state: &State, thread: ThreadNo) -> u8
 
 /// Nobody owns or waits for anything, and each thread has its priority.
 pub fn locks_of(alloc: Global, state: &State) -> Result<KernSync, NoMemory>
-    requires { length state.now.threads ≤ BOOT_OBJECTS }
+    requires { length state.now.references.threads ≤ BOOT_OBJECTS }
     ensures rows { IfOk result (λ locks. locks.rows ≡ no_locks) }
-    ensures ranks { IfOk result (λ locks. AreRanked locks.priorities state.now.threads) }
+    ensures ranks { IfOk result (λ locks. AreRanked locks.priorities state.now.references.threads) }
     ensures sized { IfOk result (λ locks. length locks.priorities ≡ BOOT_OBJECTS) }
 {
     let mut locks = KernSync::new(alloc, Limits::OBJECTS as u16, Limits::BOOT_OBJECTS as u16)?;
-    for number in 0..state.threads.len() as u16 {
+    for number in 0..state.references.threads.len() as u16 {
         locks.set_priority(ObjNo(number), priority_of(state, ObjNo(number)));
     }
     Ok(locks)

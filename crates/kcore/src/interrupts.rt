@@ -43,7 +43,7 @@ pub fn immediate<W: RefWords + Drop>(script: &Script, core: &mut Core<W>, entry:
     requires runs { RunsScript script.now core.old }
     requires empty { entry.old.effects ≡ [] }
     ensures told { IsTold entry.old entry.new }
-    ensures does { let S = core.old.state in CarriesOut script.now supervisor core.old core.new (told_in entry.new) (decision_by script.now supervisor S (immediate_plan script.now S (next_immediate S.deferred))) }
+    ensures does { let S = core.old.state in CarriesOut script.now supervisor core.old core.new (told_in entry.new) (decision_by script.now supervisor S (immediate_plan script.now S (next_immediate S.synchronization.deferred))) }
 {
     let body = immediate_action(&mut core.decision, script, &core.tables);
     follow(script, core, SUPERVISOR, body, entry);

@@ -29,7 +29,7 @@ counted_test n false false false e f = absurd (not_none n e f)
 counted_or_dead : (n : ℕ) (dead : Bool) → (not (n == 0) || dead) ≡ (dead || nat_lt 0 n)
 counted_or_dead n dead = counted_test n dead (n == 0) (nat_lt 0 n) refl refl
 
-found_seen : (S : State) (counts : List ℕ) (p : Option ℕ) → Agrees counts S → found_at S.objects counts p ≡ findable S (numbered p)
+found_seen : (S : State) (counts : List ℕ) (p : Option ℕ) → Agrees counts S → found_at S.references.objects counts p ≡ findable S (numbered p)
 found_seen S counts None agree = refl
 found_seen S counts (Some n) agree =
     let o : ObjNo = record { 0 = n } in
@@ -39,5 +39,5 @@ found_seen S counts (Some n) agree =
 found_step : (b : Bool) (x y : Option ObjNo) → x ≡ y → (if b then None else x) ≡ (if b then None else y)
 found_step b x y e = ap (λ (z : Option ObjNo). if b then None else z) e
 
-pub found_is : (S : State) (counts : List ℕ) (kind : Kind) (name : List ℕ) → Agrees counts S → found kind name S.objects counts ≡ find_object S kind name
-found_is S counts kind name agree = found_step (is_session kind) _ _ (found_seen S counts (position (has_name kind name) S.objects) agree)
+pub found_is : (S : State) (counts : List ℕ) (kind : Kind) (name : List ℕ) → Agrees counts S → found kind name S.references.objects counts ≡ find_object S kind name
+found_is S counts kind name agree = found_step (is_session kind) _ _ (found_seen S counts (position (has_name kind name) S.references.objects) agree)

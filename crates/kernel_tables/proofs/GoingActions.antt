@@ -39,5 +39,5 @@ pub interrupt_goes : (script : Script) (S : State) (k : ℕ) → IsShaped script
 interrupt_goes script S k shaped rows = fitting_goes script S supervisor _ shaped (sane-supervisor script S rows) (goes-interrupt script S k shaped rows)
 
 -- and of the oldest item of the immediate queue
-pub immediate_goes : (script : Script) (S : State) → IsShaped script → AreRows script S → ActionGoes script supervisor (decision_by script supervisor S (immediate_plan script S (next_immediate S.deferred))).moves S
-immediate_goes script S shaped rows = fitting_goes script S supervisor _ shaped (sane-supervisor script S rows) (goes-immediate script S (next_immediate S.deferred) shaped rows refl)
+pub immediate_goes : (script : Script) (S : State) → IsShaped script → AreRows script S → ActionGoes script supervisor (decision_by script supervisor S (immediate_plan script S (next_immediate S.synchronization.deferred))).moves S
+immediate_goes script S shaped rows = fitting_goes script S supervisor _ shaped (sane-supervisor script S rows) (goes-immediate script S (next_immediate S.synchronization.deferred) shaped rows refl)

@@ -33,7 +33,7 @@ few_duties [] = omega arith
 few_duties (what ∷ rest) = omega (arith, weighs what, few_duties rest)
 
 pub few_places : (script : Script) (S : State) (t : ObjNo) → AreRows script S → HasPlaces 2 S t
-few_places script S t rows = omega (arith, few_duties (owed_of S t), rows.duties.few t.0)
+few_places script S t rows = omega (arith, few_duties (owed_of S t), rows.references.duties.few t.0)
 
 pub one_place : (script : Script) (S : State) (t : ObjNo) → AreRows script S → HasPlaces 1 S t
 one_place script S t rows = let two = few_places script S t rows in omega arith
@@ -49,7 +49,7 @@ may_gain S (Message m) free = tt
 may_gain S Kernel free = tt
 
 -- a handle that comes gets the least free place
-pub takes_least : (S : State) (h : Holder) → IsFree S h → TakesLeast S.handles h
+pub takes_least : (S : State) (h : Holder) → IsFree S h → TakesLeast S.references.handles h
 takes_least S (InProcess p i) free = (free.1.inside, free.1.least)
 takes_least S (InThread t i) free = (free.1.inside, free.1.least)
 takes_least S (Temp t) free = tt
@@ -68,7 +68,7 @@ may_make S (Link x) free = tt
 may_make S (Message m) free = tt
 may_make S Kernel free = tt
 
-pub makes_least : (S : State) (h : Holder) → MayMakeWith S h → TakesLeast S.handles h
+pub makes_least : (S : State) (h : Holder) → MayMakeWith S h → TakesLeast S.references.handles h
 makes_least S (Own t) free = tt
 makes_least S (InProcess p i) free = takes_least S (InProcess p i) free
 makes_least S (InThread t i) free = takes_least S (InThread t i) free
@@ -78,11 +78,11 @@ makes_least S (Message m) free = tt
 makes_least S Kernel free = tt
 
 -- what an owner gives up is a server, whose number is that of an object
-small_server : (script : Script) (S : State) (o : ObjNo) (server : ServerRow) → AreRows script S → server_at S.servers o ≡ Some server → o.0 < 4096
-small_server script S o server rows is = let sized = rows.servers.servers_sized in let low = inside S.servers.servers o.0 server is in omega arith
+small_server : (script : Script) (S : State) (o : ObjNo) (server : ServerRow) → AreRows script S → server_at S.serving.servers o ≡ Some server → o.0 < 4096
+small_server script S o server rows is = let sized = rows.serving.servers.servers_sized in let low = inside S.serving.servers.servers o.0 server is in omega arith
 
 pub may_lose : (script : Script) (S : State) (h : Holder) (o : ObjNo) → AreRows script S → Holds S h o → MayLose h o
-may_lose script S (Own t) o rows holds = let owns = rows.servers.owners t o holds in small_server script S o owns.row rows owns.is
+may_lose script S (Own t) o rows holds = let owns = rows.serving.servers.owners t o holds in small_server script S o owns.row rows owns.is
 may_lose script S (InProcess p i) o rows holds = tt
 may_lose script S (InThread t i) o rows holds = tt
 may_lose script S (Temp t) o rows holds = tt

@@ -34,15 +34,15 @@ use Rattle.kernel_tables.specs.Referred.{HasPlaces, IsReferred}
 
 -- the parts of a state that such a move changes
 abbrev parts : State → LockParts
-parts S = record { rows = S.locks; mutexes = S.mutexes; owed = S.owed }
+parts S = record { rows = S.synchronization.locks; mutexes = S.synchronization.mutexes; owed = S.references.owed }
 
 -- a thread that stands in no list waits nowhere
 none_waits : (waiters : List (List ObjNo)) (t : ObjNo) → ((k : ℕ) → is_among t (get_or waiters k []) ≡ false) → list_any (is_among t) waiters ≡ false
 none_waits [] t none = refl
 none_waits (queue ∷ rest) t none = ap (λ (b : Bool). b || list_any (is_among t) rest) (none 0) ∙ none_waits rest t (λ k. none (suc k))
 
-waits_nowhere : (S : State) (t : ObjNo) → WaitsNowhere S t → is_waiting S.locks t ≡ false
-waits_nowhere S t nowhere = none_waits S.locks.waiters t (λ k. nowhere (record { 0 = k }))
+waits_nowhere : (S : State) (t : ObjNo) → WaitsNowhere S t → is_waiting S.synchronization.locks t ≡ false
+waits_nowhere S t nowhere = none_waits S.synchronization.locks.waiters t (λ k. nowhere (record { 0 = k }))
 
 -- what is in some list of threads is held by a thread
 held_one : (o : ObjNo) (held : List ObjNo) → list_any (is_object o) held ≡ true → 0 < total (mutex_names o) held
@@ -101,23 +101,23 @@ is_owned (Some v) w is = refl
 
 module _ (script : Script) (S : State) (rows : AreRows script S) (known : AreKnown S) (referred : (o : ObjNo) → 0 < count_of S o → IsReferred S o) (places : (u : ObjNo) → HasPlaces 2 S u) where
   -- numbers are in range
-  placed : (o : ObjNo) → o.0 < length S.objects → IsPlaced S o
-  placed o made = let long = rows.locks.owners_sized in let few = rows.sized.objects_few in omega arith
+  placed : (o : ObjNo) → o.0 < length S.references.objects → IsPlaced S o
+  placed o made = let long = rows.synchronization.locks.owners_sized in let few = rows.references.sized.objects_few in omega arith
 
-  small : (o : ObjNo) → o.0 < length S.objects → o.0 < 4096
-  small o made = let few = rows.sized.objects_few in omega arith
+  small : (o : ObjNo) → o.0 < length S.references.objects → o.0 < 4096
+  small o made = let few = rows.references.sized.objects_few in omega arith
 
-  alive_made : (o : ObjNo) → IsAlive (object_of S o) → o.0 < length S.objects
-  alive_made o alive = (alive_not_gone S.objects o alive).1
+  alive_made : (o : ObjNo) → IsAlive (object_of S o) → o.0 < length S.references.objects
+  alive_made o alive = (alive_not_gone S.references.objects o alive).1
 
-  owes_in : (u : ObjNo) → is_some (thread_of S u) ≡ true → u.0 < length S.owed
-  owes_in u there = let a = thread_inside S.threads u.0 there in let b = rows.sized.duties in omega arith
+  owes_in : (u : ObjNo) → is_some (thread_of S u) ≡ true → u.0 < length S.references.owed
+  owes_in u there = let a = thread_inside S.references.threads u.0 there in let b = rows.references.sized.duties in omega arith
 
-  in_mutexes : (u : ObjNo) → is_some (thread_of S u) ≡ true → u.0 < length S.mutexes
-  in_mutexes u there = let a = thread_inside S.threads u.0 there in let b = rows.locks.mutexes_sized in omega arith
+  in_mutexes : (u : ObjNo) → is_some (thread_of S u) ≡ true → u.0 < length S.synchronization.mutexes
+  in_mutexes u there = let a = thread_inside S.references.threads u.0 there in let b = rows.synchronization.locks.mutexes_sized in omega arith
 
   -- a thread that may join waits nowhere yet
-  joins : (o u : ObjNo) (waits : Type 0) → o.0 < length S.objects → (waits → MayJoin S o u) → CanJoin S o u waits
+  joins : (o u : ObjNo) (waits : Type 0) → o.0 < length S.references.objects → (waits → MayJoin S o u) → CanJoin S o u waits
   joins o u waits made may = record {
     object = placed o made;
     thread = λ w. let j = may w in (known u j.waits.row j.waits.is).0;
@@ -130,11 +130,11 @@ module _ (script : Script) (S : State) (rows : AreRows script S) (known : AreKno
   locks_may o u Waits may = tt
   locks_may o u Taken may =
       let made = alive_made o may.alive in
-      let free = taken_free (owner_at S.locks o) u may.answer in
+      let free = taken_free (owner_at S.synchronization.locks o) u may.answer in
       record {
         thread = owes_in u may.thread;
         object = small o made;
-        free = none_has o S.mutexes (none_held (length S.objects) S.threads (parts S) rows.locks rows.sized.objects_few o made free);
+        free = none_has o S.synchronization.mutexes (none_held (length S.references.objects) S.references.threads (parts S) rows.synchronization.locks rows.references.sized.objects_few o made free);
         referred = referred o (rows.lives.counted o may.alive);
       }
 
@@ -143,18 +143,18 @@ module _ (script : Script) (S : State) (rows : AreRows script S) (known : AreKno
   gives o u unlocked may = record { thread = owes_in u may.thread; object = small o may.object; places = let two = places u in omega arith }
 
   -- the waiter to whom a mutex is passed may take it
-  takes_passed : (o u w : ObjNo) → o.0 < length S.objects → is_some (thread_of S u) ≡ true → WaitsNowhere S u → IsOwn (owner_at S.locks o) u → best_waiter (priority_of S) S.locks o ≡ Some w → CanTake S (not_holding S.mutexes u o) w o
+  takes_passed : (o u w : ObjNo) → o.0 < length S.references.objects → is_some (thread_of S u) ≡ true → WaitsNowhere S u → IsOwn (owner_at S.synchronization.locks o) u → best_waiter (priority_of S) S.synchronization.locks o ≡ Some w → CanTake S (not_holding S.synchronization.mutexes u o) w o
   takes_passed o u w object thread nowhere own best =
-      let among : is_among w (waiters_at S.locks o) ≡ true = greatest_listed (priority_of S) (waiters_at S.locks o) w best in
-      let awaits = rows.locks.waiters w o among in
+      let among : is_among w (waiters_at S.synchronization.locks o) ≡ true = greatest_listed (priority_of S) (waiters_at S.synchronization.locks o) w best in
+      let awaits = rows.synchronization.locks.waiters w o among in
       let there = in_mutexes u thread in
-      let once = held_once (length S.objects) S.threads (parts S) rows.locks rows.sized.objects_few o object u own.own own.is own.thread there (nowhere o) in
-      let none = given_none (length S.objects) S.threads (parts S) rows.locks rows.sized.objects_few o object u own.own own.is own.thread there (nowhere o) in
-      let counted : 0 < count_of S o = let at = total_at_least (total (mutex_names o)) S.mutexes u.0 [] there in omega arith in
+      let once = held_once (length S.references.objects) S.references.threads (parts S) rows.synchronization.locks rows.references.sized.objects_few o object u own.own own.is own.thread there (nowhere o) in
+      let none = given_none (length S.references.objects) S.references.threads (parts S) rows.synchronization.locks rows.references.sized.objects_few o object u own.own own.is own.thread there (nowhere o) in
+      let counted : 0 < count_of S o = let at = total_at_least (total (mutex_names o)) S.synchronization.mutexes u.0 [] there in omega arith in
       record {
-        thread = let a = inside S.threads w.0 awaits.row awaits.is in let b = rows.sized.duties in omega arith;
+        thread = let a = inside S.references.threads w.0 awaits.row awaits.is in let b = rows.references.sized.duties in omega arith;
         object = small o object;
-        free = none_has o (not_holding S.mutexes u o) none;
+        free = none_has o (not_holding S.synchronization.mutexes u o) none;
         referred = referred o counted;
       }
 
@@ -163,7 +163,7 @@ module _ (script : Script) (S : State) (rows : AreRows script S) (known : AreKno
   unlocks_may o u NotOwner may = tt
   unlocks_may o u Freed may = gives o u Freed may
   unlocks_may o u (Passed w) may =
-      let by = passed_by (owner_at S.locks o) u w (best_waiter (priority_of S) S.locks o) may.answer in
+      let by = passed_by (owner_at S.synchronization.locks o) u w (best_waiter (priority_of S) S.synchronization.locks o) may.answer in
       (gives o u (Passed w) may, takes_passed o u w may.object may.thread may.nowhere by.0 by.1)
 
   -- and one that gives up all levels
@@ -178,7 +178,7 @@ module _ (script : Script) (S : State) (rows : AreRows script S) (known : AreKno
   can_lock t (Start o count) fits = (placed o fits.object, fits.few, fits.free, fits.alone)
   can_lock t (Lock o u locked) fits = (joins o u _ (alive_made o fits.alive) fits.joins, fits.answer, locks_may o u locked fits)
   can_lock t (Unlock o u unlocked) fits = (placed o fits.1.object, fits.1.answer, unlocks_may o u unlocked fits.1)
-  can_lock t (Free o u best) fits = (placed o fits.1.object, is_owned (owner_at S.locks o) fits.1.owns.owner fits.1.owns.is, fits.1.chosen, frees_may o u best fits.1)
-  can_lock t (Leave u) fits = let a = thread_inside S.threads u.0 fits in let b = rows.sized.threads_few in omega arith
+  can_lock t (Free o u best) fits = (placed o fits.1.object, is_owned (owner_at S.synchronization.locks o) fits.1.owns.owner fits.1.owns.is, fits.1.chosen, frees_may o u best fits.1)
+  can_lock t (Leave u) fits = let a = thread_inside S.references.threads u.0 fits in let b = rows.references.sized.threads_few in omega arith
   can_lock t (WaitOn o u) fits = joins o u _ (alive_made o fits.alive) fits.joins
   can_lock t (Signal o signalled) fits = (placed o fits.object, fits.answer)

@@ -30,15 +30,15 @@ some_logged u s (logons ∷ rest) some = by (list_any (is_logon u s) logons) ref
     by true here some later = let one = one_names u s logons here in omega arith
     by false here some later = let more = later some in omega arith
 
-pub can_logon : (script : Script) (S : State) (m : LogonMove) → AreRows script S → FitsLogons m S → CanLogon m (length S.owed) S.logons
+pub can_logon : (script : Script) (S : State) (m : LogonMove) → AreRows script S → FitsLogons m S → CanLogon m (length S.references.owed) S.synchronization.logons
 can_logon script S (Add t u s) rows fits =
-    let duties = rows.sized.duties in
-    let signals = rows.requests.sized in
+    let duties = rows.references.sized.duties in
+    let signals = rows.synchronization.requests.sized in
     let known = fits.1.thread in
-    let on = fits.0 in (omega arith, omega arith, fits.1.status, λ some. let one = some_logged u s S.logons some in let none = fits.2 in omega arith)
-can_logon script S (Remove t u s) rows fits = let duties = rows.sized.duties in let on = fits.0 in let by = fits.1 in (omega arith, omega arith, fits.2)
+    let on = fits.0 in (omega arith, omega arith, fits.1.status, λ some. let one = some_logged u s S.synchronization.logons some in let none = fits.2 in omega arith)
+can_logon script S (Remove t u s) rows fits = let duties = rows.references.sized.duties in let on = fits.0 in let by = fits.1 in (omega arith, omega arith, fits.2)
 can_logon script S (Drop u) rows fits =
-    let duties = rows.sized.duties in
-    let few = rows.sized.threads_few in
-    let long = rows.logons.sized in
-    (omega arith, omega arith, omega arith, λ s some. (rows.logons.waits u s some).status)
+    let duties = rows.references.sized.duties in
+    let few = rows.references.sized.threads_few in
+    let long = rows.synchronization.logons.sized in
+    (omega arith, omega arith, omega arith, λ s some. (rows.synchronization.logons.waits u s some).status)

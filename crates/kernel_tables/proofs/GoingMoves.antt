@@ -1,6 +1,6 @@
 -- The moves of each action go through: they can be made in the tables, and keep priorities and the readiness of those that
 -- they don't touch.
-use Rattle.std.proofs.Common.{◌≡◌, inl, inr, ℕ, ◌+◌, ◌*◌, ◌<◌, ◌≤◌, List, [], ◌∷◌, ◌++◌, length, length-append, get_or, arith, refl, sym, ap, subst, ◌∙◌, Bool, true, false}
+use Rattle.std.proofs.Common.{◌≡◌, inl, inr, ℕ, ◌+◌, ◌<◌, ◌≤◌, List, [], ◌∷◌, length, get_or, arith, refl, sym, ap, subst, ◌∙◌, Bool, true, false}
 use Rattle.std.specs.Prelude.{◌==◌, IsTrue, is_some, Option, Some, None}
 use Rattle.std.proofs.lemmas.Bool.{cases_Bool, cases_lt, eq-eqb}
 use Rattle.std.proofs.lemmas.List.{get_or_past}
@@ -23,16 +23,12 @@ use Rattle.machine.specs.declared.request_move.RequestMove.TheVariants as reques
 use Rattle.state_rows.specs.declared.requests.RequestRows.{RequestRows}
 use Rattle.machine.specs.declared.state.State.{State}
 use Rattle.state_rows.specs.declared.thread.Waiting.TheVariants as waiting
-use Rattle.state_rows.specs.declared.thread.Role.{Role}
-use Rattle.state_rows.specs.declared.thread.Role.TheVariants.{Supervisor, Queue, Declared}
-use Rattle.script_types.specs.declared.declaration.ThreadDecl.{ThreadDecl}
-use Rattle.machine.specs.Task.{declared_of, instructions_in}
 use Rattle.state_rows.specs.declared.thread.ThreadRow.{ThreadRow}
 use Rattle.machine.specs.Choice.{priority_of, priority_of_row}
 use Rattle.machine.specs.DeathMoves.{death_row, death_thread}
 use Rattle.machine.specs.NanoMoves.{nano_thread}
 use Rattle.machine.specs.Fits.{FitsNano, FitsRequests, HasName, FitsMove, EachFits, Sane, most_owed}
-use Rattle.machine.specs.Moves.{moved, told, tell, closed_effects, threads_lose, with_found, with_kept, with_message, with_use, with_part, with_register, with_waiting, with_priority, advanced, next_object, use_of_row}
+use Rattle.machine.specs.Moves.{moved, told, closed_effects, threads_lose, with_found, with_kept, with_message, with_use, with_part, with_register, with_waiting, with_priority, advanced, next_object, use_of_row}
 use Rattle.machine.specs.References.{total, same, count_of, pluses, minuses, RefsMove}
 use Rattle.machine.specs.Rows.{object_of, thread_of, owed_of}
 use Rattle.machine.specs.WellFormed.{IsAlive, AreRows, AreRequests, is_dead, dead_bit, owed_sweeps, weight}
@@ -83,7 +79,7 @@ next_fresh : (script : Script) (S : State) → AreRows script S → count_of S (
 next_fresh script S rows = elim (cases_lt 0 (count_of S (next_object S))) [
   | inl some ↦
       let alive = rows.lives.alive (next_object S) some in
-      let none = get_or_past S.objects (length S.objects) None (omega arith) in
+      let none = get_or_past S.references.objects (length S.references.objects) None (omega arith) in
       absurd (subst IsAlive none alive)
   | inr none_is_left ↦ omega arith
 ]
@@ -97,9 +93,9 @@ counted_dead : (row : Option ObjectRow) → 0 < is_dead row → IsTrue (is_dead_
 counted_dead None h = absurd (omega arith)
 counted_dead (Some row) h = bit_true row.dead h
 
-swept_dead : (script : Script) (S : State) (t o : ObjNo) (rest : List Owed) → AreRows script S → t.0 < length S.owed → owed_of S t ≡ Sweep o ∷ rest → IsTrue (is_dead_row (object_of S o))
+swept_dead : (script : Script) (S : State) (t o : ObjNo) (rest : List Owed) → AreRows script S → t.0 < length S.references.owed → owed_of S t ≡ Sweep o ∷ rest → IsTrue (is_dead_row (object_of S o))
 swept_dead script S t o rest rows lt is =
-    let at = total_at_least (total (owed_sweeps o)) S.owed t.0 [] lt in
+    let at = total_at_least (total (owed_sweeps o)) S.references.owed t.0 [] lt in
     let was : total (owed_sweeps o) (owed_of S t) ≡ same o o + total (owed_sweeps o) rest = ap (total (owed_sweeps o)) is in
     let self = same_self o in
     let dead = rows.lives.sweeps o in
@@ -117,17 +113,17 @@ sized_at : (threads : List (Option ThreadRow)) (t : ObjNo) (row : Option ThreadR
 sized_at threads t (Some row) is some = inside threads t.0 row is
 sized_at threads t None is some = let clash : false ≡ true = ap (λ (x : Option ThreadRow). is_some x) (sym is) ∙ some in absurd (cc)
 
-can_nano : (script : Script) (S : State) (m : NanoMove) → AreRows script S → is_some (thread_of S (nano_thread m)) ≡ true → FitsNano m S → CanNano m S.nano
+can_nano : (script : Script) (S : State) (m : NanoMove) → AreRows script S → is_some (thread_of S (nano_thread m)) ≡ true → FitsNano m S → CanNano m S.synchronization.nano
 can_nano script S m rows there fits =
-    let long = rows.nano.sized in
-    let at = sized_at S.threads (nano_thread m) (thread_of S (nano_thread m)) refl there in
+    let long = rows.synchronization.nano.sized in
+    let at = sized_at S.references.threads (nano_thread m) (thread_of S (nano_thread m)) refl there in
     by_kind m (omega arith) fits
   where
-    by_kind : (m : NanoMove) → (nano_thread m).0 < length S.nano.signals → FitsNano m S → CanNano m S.nano
+    by_kind : (m : NanoMove) → (nano_thread m).0 < length S.synchronization.nano.signals → FitsNano m S → CanNano m S.synchronization.nano
     by_kind (nano.Take t f) at fits = (at, fits.0, fits.2.holds)
     by_kind (nano.Give t f) at fits = (at, fits.0)
     by_kind (nano.Want t None) at fits = (at, λ wanted is. absurd (cc))
-    by_kind (nano.Want t (Some f)) at fits = (at, λ wanted is. let same : f ≡ wanted = cc in subst (λ (n : ℕ). n < length S.nano.holders) same fits.0)
+    by_kind (nano.Want t (Some f)) at fits = (at, λ wanted is. let same : f ≡ wanted = cc in subst (λ (n : ℕ). n < length S.synchronization.nano.holders) same fits.0)
     by_kind (nano.Enter t) at fits = at
     by_kind (nano.Leave t) at fits = at
     by_kind (nano.LeaveAll t) at fits = at
@@ -152,9 +148,9 @@ can_request count r (request.Reply t code) logons rows fits = fits
 -- threads have the least numbers, and priorities in their range
 known : (script : Script) (S : State) → AreRows script S → AreKnown S
 known script S rows u row is =
-    let there = inside S.threads u.0 row is in
-    let few = rows.sized.threads_few in
-    let low = (rows.threads.rows u.0 row is).priority in
+    let there = inside S.references.threads u.0 row is in
+    let few = rows.references.sized.threads_few in
+    let low = (rows.references.threads.rows u.0 row is).priority in
     (omega arith, omega arith)
 
 -- a name is kept where it is a session's, which is empty
@@ -165,7 +161,7 @@ named kind name none = elim (cases_Bool (is_session kind)) [
 ]
 
 -- when a move that fits can be made
-can_move : (script : Script) (S : State) (t : ObjNo) (m : Move) → IsShaped script → FitsMove script t m S → S.messages.accepted < 4294967295 → RefsMove S (moved t m S) (told m S) → Sane script t S → CanMove t m S
+can_move : (script : Script) (S : State) (t : ObjNo) (m : Move) → IsShaped script → FitsMove script t m S → S.serving.messages.accepted < 4294967295 → RefsMove S (moved t m S) (told m S) → Sane script t S → CanMove t m S
 can_move script S t (Make kind name h) shaped fits numbers refs s = (named kind name fits.2, fits.0.new, record { room = fits.0.room; fresh = next_fresh script S s.rows }, may_make S h fits.1, makes_least S h fits.1)
 can_move script S t (Gain h o) shaped fits numbers refs s = (referred script S o s.rows (s.rows.lives.counted o fits.1), may_gain S h fits.0, takes_least S h fits.0)
 can_move script S t (Lose h o) shaped fits numbers refs s = (referred script S o s.rows (was_held S (moved t (Lose h o) S) _ h o refs), few_places script S t s.rows, may_lose script S h o s.rows fits.1)
@@ -177,7 +173,7 @@ can_move script S t (Write u x value) shaped fits numbers refs s = fits
 can_move script S t (WriteMessage u y number) shaped fits numbers refs s = fits
 can_move script S t (PutDown u) shaped fits numbers refs s = one_place script S u s.rows
 can_move script S t (Advance u) shaped fits numbers refs s = (
-  λ k row is. let next = (s.rows.threads.rows k row is).next_instruction in let few = few_instructions script row.role shaped in omega arith,
+  λ k row is. let next = (s.rows.references.threads.rows k row is).next_instruction in let few = few_instructions script row.role shaped in omega arith,
   one_place script S u s.rows,
 )
 can_move script S t (Wait u what) shaped fits numbers refs s = tt
@@ -185,7 +181,7 @@ can_move script S t (Wake u) shaped fits numbers refs s = tt
 can_move script S t (SetPriority u priority) shaped fits numbers refs s = known script S s.rows
 can_move script S t (Nano m) shaped fits numbers refs s = can_nano script S m s.rows fits.0 fits.1
 can_move script S t (Deferred m) shaped fits numbers refs s = fits
-can_move script S t (Requests m) shaped fits numbers refs s = can_request (length S.threads) S.requests m S.logons s.rows.requests fits.0
+can_move script S t (Requests m) shaped fits numbers refs s = can_request (length S.references.threads) S.synchronization.requests m S.synchronization.logons s.rows.synchronization.requests fits.0
 can_move script S t (Locks m) shaped fits numbers refs s = can_lock script S s.rows (known script S s.rows) (λ o. referred script S o s.rows) (λ u. few_places script S u s.rows) t m fits
 can_move script S t (Logons m) shaped fits numbers refs s = can_logon script S m s.rows fits
 can_move script S t (Death m) shaped fits numbers refs s = one_place script S t s.rows
@@ -200,30 +196,30 @@ set_other : (u v : ObjNo) → (u.0 == v.0) ≡ false → v.0 ≡ u.0 → ⊥
 set_other u v other same = let is : (u.0 == v.0) ≡ true = eq-eqb u.0 v.0 (sym same) in cc
 
 ranks_move : (script : Script) (S : State) (t : ObjNo) (m : Move) (u : ObjNo) → FitsMove script t m S → is_set m u ≡ false → priority_of (moved t m S) u ≡ priority_of S u
-ranks_move script S t (Wait v what) u fits unset = rank-with_row S.threads v (with_waiting what) u (λ r. refl)
-ranks_move script S t (Wake v) u fits unset = rank-with_row S.threads v (with_waiting waiting.Nothing) u (λ r. refl)
-ranks_move script S t (SetPriority v priority) u fits unset = ap priority_of_row (row-other S.threads v (with_priority priority) u.0 (set_other u v unset))
+ranks_move script S t (Wait v what) u fits unset = rank-with_row S.references.threads v (with_waiting what) u (λ r. refl)
+ranks_move script S t (Wake v) u fits unset = rank-with_row S.references.threads v (with_waiting waiting.Nothing) u (λ r. refl)
+ranks_move script S t (SetPriority v priority) u fits unset = ap priority_of_row (row-other S.references.threads v (with_priority priority) u.0 (set_other u v unset))
 ranks_move script S t (Nano m) u fits unset = refl
 ranks_move script S t (Deferred m) u fits unset = refl
 ranks_move script S t (Requests m) u fits unset = refl
 ranks_move script S t (Locks m) u fits unset = refl
 ranks_move script S t (Logons m) u fits unset = refl
-ranks_move script S t (Death m) u fits unset = rank-with_row S.threads (death_thread m) (death_row m) u (death_priority m)
+ranks_move script S t (Death m) u fits unset = rank-with_row S.references.threads (death_thread m) (death_row m) u (death_priority m)
 ranks_move script S t (Fill p at size byte) u fits unset = refl
 ranks_move script S t (Copies m) u fits unset = refl
-ranks_move script S t (Make kind name h) u fits unset = rank-gain S.threads h (next_object S) u
-ranks_move script S t (Gain h o) u fits unset = rank-gain S.threads h o u
-ranks_move script S t (Lose h o) u fits unset = rank-closed (threads_lose h S.threads) _ o u ∙ rank-lose S.threads h u
-ranks_move script S t (Find v o) u fits unset = rank-with_row S.threads v (with_found o) u (λ r. refl)
+ranks_move script S t (Make kind name h) u fits unset = rank-gain S.references.threads h (next_object S) u
+ranks_move script S t (Gain h o) u fits unset = rank-gain S.references.threads h o u
+ranks_move script S t (Lose h o) u fits unset = rank-closed (threads_lose h S.references.threads) _ o u ∙ rank-lose S.references.threads h u
+ranks_move script S t (Find v o) u fits unset = rank-with_row S.references.threads v (with_found o) u (λ r. refl)
 ranks_move script S t (Miss o) u fits unset = refl
-ranks_move script S t (GoOn v part) u fits unset = rank-with_row S.threads v (with_part part) u (λ r. refl)
-ranks_move script S t (Keep v number) u fits unset = rank-with_row S.threads v (with_kept number) u (λ r. refl)
-ranks_move script S t (WriteMessage v y number) u fits unset = rank-with_row S.threads v (with_message y number) u (λ r. refl)
-ranks_move script S t (PutDown v) u fits unset = rank-with_row S.threads v (with_use None) u (λ r. refl)
+ranks_move script S t (GoOn v part) u fits unset = rank-with_row S.references.threads v (with_part part) u (λ r. refl)
+ranks_move script S t (Keep v number) u fits unset = rank-with_row S.references.threads v (with_kept number) u (λ r. refl)
+ranks_move script S t (WriteMessage v y number) u fits unset = rank-with_row S.references.threads v (with_message y number) u (λ r. refl)
+ranks_move script S t (PutDown v) u fits unset = rank-with_row S.references.threads v (with_use None) u (λ r. refl)
 ranks_move script S t (Servers m) u fits unset = refl
 ranks_move script S t (Messages m) u fits unset = refl
-ranks_move script S t (Write v x value) u fits unset = rank-with_row S.threads v (with_register x value) u (λ r. refl)
-ranks_move script S t (Advance v) u fits unset = rank-with_row S.threads v advanced u (λ r. refl)
+ranks_move script S t (Write v x value) u fits unset = rank-with_row S.references.threads v (with_register x value) u (λ r. refl)
+ranks_move script S t (Advance v) u fits unset = rank-with_row S.references.threads v advanced u (λ r. refl)
 ranks_move script S t (Pay what) u fits unset = absurd fits
 
 -- each of the moves that fit goes through
@@ -234,15 +230,15 @@ each_goes script S t (m ∷ ms) shaped fits few s =
     let sound = sound-move script S t m fits.0 (omega arith) s in
     let refs = refs-of script S T (told m S) sound in
     let w = weight-move script S t m fits.0 in
-    let before = s.rows.messages.numbered in
-    let after = sound.rows.messages.numbered in
+    let before = s.rows.serving.messages.numbered in
+    let after = sound.rows.serving.messages.numbered in
     let goes : MoveGoes script t m S = record {
       can = can_move script S t m shaped fits.0 (omega arith) refs s;
       refs = refs;
       known = known script T sound.rows;
       numbered = omega arith;
       ranks = λ u unset. ranks_move script S t m u fits.0 unset;
-      apart = λ u none. untouched script S t m u s.rows.threads (joins_own script S t m fits.0) none;
+      apart = λ u none. untouched script S t m u s.rows.references.threads (joins_own script S t m fits.0) none;
     } in
     (goes, each_goes script T t ms shaped fits.1 (omega arith) (sane-after script S T t (told m S) s sound))
 
@@ -250,12 +246,12 @@ each_goes script S t (m ∷ ms) shaped fits few s =
 can_pay : (script : Script) (S : State) (t : ObjNo) (what : Owed) (rest : List Owed) → owed_of S t ≡ what ∷ rest → RefsMove S (moved t (Pay what) S) (told (Pay what) S) → Sane script t S → CanMove t (Pay what) S
 can_pay script S t (Close h o) rest owes refs s = (referred script S o s.rows (was_held S (moved t (Pay (Close h o)) S) _ h o refs), few_places script S t s.rows)
 can_pay script S t (Sweep o) rest owes refs s =
-    let dead = swept_dead script S t o rest s.rows (let long = s.rows.sized.duties in let there = s.inside in omega arith) owes in
+    let dead = swept_dead script S t o rest s.rows (let long = s.rows.references.sized.duties in let there = s.inside in omega arith) owes in
     (dead, swept_unused script S t o rest (thread_of S o) s owes refl)
 
 ranks_pay : (script : Script) (S : State) (t : ObjNo) (what : Owed) (u : ObjNo) → is_set (Pay what) u ≡ false → priority_of (moved t (Pay what) S) u ≡ priority_of S u
-ranks_pay script S t (Close h o) u unset = rank-closed S.threads _ o u
-ranks_pay script S t (Sweep o) u unset = rank-other S.threads o u (λ at. set_other u o unset (sym at))
+ranks_pay script S t (Close h o) u unset = rank-closed S.references.threads _ o u
+ranks_pay script S t (Sweep o) u unset = rank-other S.references.threads o u (λ at. set_other u o unset (sym at))
 
 pub pay_goes : (script : Script) (S : State) (t : ObjNo) (what : Owed) (rest : List Owed) → owed_of S t ≡ what ∷ rest → Sane script t S → MoveGoes script t (Pay what) S
 pay_goes script S t what rest owes s =
@@ -267,7 +263,7 @@ pay_goes script S t what rest owes s =
       can = can;
       refs = refs;
       known = known script T sound.rows;
-      numbered = let few = sound.rows.messages.numbered in omega arith;
+      numbered = let few = sound.rows.serving.messages.numbered in omega arith;
       ranks = λ u unset. ranks_pay script S t what u unset;
-      apart = λ u none. untouched script S t (Pay what) u s.rows.threads tt none;
+      apart = λ u none. untouched script S t (Pay what) u s.rows.references.threads tt none;
     }

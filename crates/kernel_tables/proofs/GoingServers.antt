@@ -1,5 +1,5 @@
 -- When a move in the rows of servers, sessions and messages that fits can be made in the tables.
-use Rattle.std.proofs.Common.{◌≡◌, ◌∙◌, ℕ, zero, suc, ◌+◌, ◌<◌, ◌≤◌, Bool, true, false, List, [], ◌∷◌, length, get_or, set, arith, refl, sym, ap, inl, inr}
+use Rattle.std.proofs.Common.{◌≡◌, ◌∙◌, ℕ, zero, suc, ◌+◌, ◌<◌, ◌≤◌, Bool, true, false, List, [], ◌∷◌, get_or, set, arith, refl, sym, ap, inl, inr}
 use Rattle.std.specs.Prelude.{Option, Some, None, IfSome, IsSome, slice_index, slice_set}
 use Rattle.std.specs.List.{find}
 use Rattle.std.proofs.lemmas.Bool.{cases_Bool, eqb-true}
@@ -79,30 +79,30 @@ some_server (Some row) server is = refl
 module _ (script : Script) (S : State) (rows : AreRows script S) (referred : (o : ObjNo) → 0 < count_of S o → IsReferred S o) where
   pub can_serve : (m : ServerMove) → FitsServers m S → CanServe m S
   can_serve (Start o u) fits =
-      let sized = rows.servers.servers_sized in
+      let sized = rows.serving.servers.servers_sized in
       let next = ap (λ (x : ObjNo). x.0) fits.next in
       let room = fits.room in
-      (omega arith, record { no_session = rows.servers.linked_made o (omega arith); no_server = ap link_of (rows.servers.sessions_made o (omega arith)) })
+      (omega arith, record { no_session = rows.serving.servers.linked_made o (omega arith); no_server = ap link_of (rows.serving.servers.sessions_made o (omega arith)) })
   can_serve (Join s o slots u) fits =
-      let sized = rows.servers.servers_sized in
-      let few = rows.sized.objects_few in
+      let sized = rows.serving.servers.servers_sized in
+      let few = rows.references.sized.objects_few in
       let made = fits.made in
       (omega arith, fits.alone, fits.server, fits.accepts, referred o (rows.lives.counted o fits.alive))
   can_serve (Closing o) fits = fits
   can_serve (CloseAll u) fits = λ k d inside.
-      let o = get_or (owned_by S.owned u) k d in
-      let at = total_at_least (mutex_names o) (owned_by S.owned u) k d inside in
+      let o = get_or (owned_by S.serving.owned u) k d in
+      let at = total_at_least (mutex_names o) (owned_by S.serving.owned u) k d inside in
       let one = same_self o in
-      let owns = rows.servers.owners u o (omega arith) in
-      some_server (server_at S.servers o) owns.row owns.is
+      let owns = rows.serving.servers.owners u o (omega arith) in
+      some_server (server_at S.serving.servers o) owns.row owns.is
   can_serve (SetOpen s true) fits = fits.0
   can_serve (SetOpen s false) fits = fits
   can_serve (End o) fits = tt
 
-  accepts : (slots : Slots) (row : MsgRow) → MayAccept S row → is_busy S.messages slots row ≡ false → S.messages.accepted < 4294967295 → CanAccept S slots row
+  accepts : (slots : Slots) (row : MsgRow) → MayAccept S row → is_busy S.serving.messages slots row ≡ false → S.serving.messages.accepted < 4294967295 → CanAccept S slots row
   unfolding most_messages
   accepts slots row fits left numbers = record {
-    server = let sized = rows.messages.objects in let small = fits.server in omega arith;
+    server = let sized = rows.serving.messages.objects in let small = fits.server in omega arith;
     untaken = fits.untaken;
     session = referred row.session (rows.lives.counted row.session fits.session);
     client = referred row.client (rows.lives.counted row.client fits.client);
@@ -111,7 +111,7 @@ module _ (script : Script) (S : State) (rows : AreRows script S) (referred : (o 
     number = numbers;
   }
 
-  pub can_message : (t : ObjNo) (m : MessageMove) → HasPlaces 2 S t → FitsMessages m S → HasSlot m S → S.messages.accepted < 4294967295 → CanMessage t m S
+  pub can_message : (t : ObjNo) (m : MessageMove) → HasPlaces 2 S t → FitsMessages m S → HasSlot m S → S.serving.messages.accepted < 4294967295 → CanMessage t m S
   can_message t (Accept slots row) places fits left numbers = accepts slots row fits left numbers
-  can_message t (Take o) places fits left numbers = let sized = rows.messages.objects in omega arith
+  can_message t (Take o) places fits left numbers = let sized = rows.serving.messages.objects in omega arith
   can_message t (Finish m code) places fits left numbers = (fits, places)

@@ -22,7 +22,7 @@ greatest_same f g [] same = refl
 greatest_same f g (x ∷ rest) same = ap (unless_greater f x) (greatest_same f g rest same) ∙ unless_same f g x (first_of_greatest g rest) same
 
 -- the best waiter by the priorities of the table is the one of the state
-pub best_same : {W N : Type 0} (tables : Tables W N) (o : ObjNo) → TiedTables tables → best_of tables.locks o ≡ best_waiter (priority_of (state_of tables)) (state_of tables).locks o
+pub best_same : {W N : Type 0} (tables : Tables W N) (o : ObjNo) → TiedTables tables → best_of tables.locks o ≡ best_waiter (priority_of (state_of tables)) (state_of tables).synchronization.locks o
 best_same tables o tied = greatest_same (rank_of tables.locks) (priority_of (state_of tables)) (waiters_at tables.locks.rows o) tied.ranks
 
 -- an object that is referred to is held

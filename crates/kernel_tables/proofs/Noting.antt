@@ -39,8 +39,8 @@ noted_set s threads t row uses is noted =
     ap (λ (l : List (Option ObjNo)). set l t.0 uses) noted ∙ (ap (set (map use_of_row threads) t.0) (sym is) ∙ sym (map-set use_of_row threads t.0 row))
 
 -- a holder that may get a reference may be noted
-pub may_use : (s : Lists) (S : State) (h : Holder) → AreNoted s S.threads → MayGain S h → MayUse s h
-may_use s S (Temp t) noted may = noted_at s S.threads t noted ∙ (ap use_of_row may.is ∙ may.unused)
+pub may_use : (s : Lists) (S : State) (h : Holder) → AreNoted s S.references.threads → MayGain S h → MayUse s h
+may_use s S (Temp t) noted may = noted_at s S.references.threads t noted ∙ (ap use_of_row may.is ∙ may.unused)
 may_use s S (InProcess p i) noted may = tt
 may_use s S (InThread t i) noted may = tt
 may_use s S (Own t) noted may = tt
@@ -57,9 +57,9 @@ ended_row None = refl
 ended_row (Some row) = refl
 
 -- a holder gets a reference, and gives it up
-pub noted_gained : (s : Lists) (S : State) (h : Holder) (o : ObjNo) → MayGain S h → AreNoted s S.threads → AreNoted (use_gained h o s) (threads_gain h o S.threads)
+pub noted_gained : (s : Lists) (S : State) (h : Holder) (o : ObjNo) → MayGain S h → AreNoted s S.references.threads → AreNoted (use_gained h o s) (threads_gain h o S.references.threads)
 noted_gained s S (Temp t) o may noted =
-    noted_set s S.threads t (option_map (row_with_use (Some o)) (get_or S.threads t.0 None)) (Some o) (ap (λ (x : Option ThreadRow). use_of_row (option_map (row_with_use (Some o)) x)) may.is) noted
+    noted_set s S.references.threads t (option_map (row_with_use (Some o)) (get_or S.references.threads t.0 None)) (Some o) (ap (λ (x : Option ThreadRow). use_of_row (option_map (row_with_use (Some o)) x)) may.is) noted
 noted_gained s S (InProcess p i) o may noted = noted
 noted_gained s S (InThread t i) o may noted = noted
 noted_gained s S (Own t) o may noted = noted

@@ -14,10 +14,10 @@ use Rattle.table_moves.specs.Noted.{use_gained, use_lost}
 use Rattle.table_moves.specs.Owning.{MayOwn, MayDisown}
 
 -- what nothing refers to nobody owns
-pub unowned : (S : State) (o : ObjNo) → count_of S o ≡ 0 → HasSome (is_object o) S.owned → ⊥
+pub unowned : (S : State) (o : ObjNo) → count_of S o ≡ 0 → HasSome (is_object o) S.serving.owned → ⊥
 unowned S o none some =
-    let v = held_some o S.owned some in
-    let at = total_any (total (mutex_names o)) S.owned v.thread.0 [] refl in
+    let v = held_some o S.serving.owned some in
+    let at = total_any (total (mutex_names o)) S.serving.owned v.thread.0 [] refl in
     let yes = v.held in omega arith
 
 pub may_own : (s : Lists) (h : Holder) (o : ObjNo) → o.0 < s.objects → (HasSome (is_object o) s.servers → ⊥) → MayOwn s h o

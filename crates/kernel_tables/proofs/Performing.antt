@@ -104,7 +104,7 @@ pub still_kept : {W N : Type 0} (script : Script) (t : ObjNo) (m : Move) (old ne
 still_kept script t m old new goes kept is = record {
   counts = still_agree t m old new kept.counts goes.refs is;
   tied = is.tied;
-  numbered = subst (λ (U : State). U.messages.accepted < 2147483648) (sym is.state) goes.numbered;
+  numbered = subst (λ (U : State). U.serving.messages.accepted < 2147483648) (sym is.state) goes.numbered;
 }
 
 -- on the way: some of the moves were made, and the rest go through

@@ -77,10 +77,10 @@ module _ (s : Lists) (priorities : List ℕ) where
   }
 
   -- a holder gets a reference, and gives it up
-  pub tied_gained : (S : State) (h : Holder) (o : ObjNo) → MayGain S h → AreTied s.temporary s.objects priorities S.threads → let u = use_gained h o s in AreTied u.temporary u.objects priorities (threads_gain h o S.threads)
+  pub tied_gained : (S : State) (h : Holder) (o : ObjNo) → MayGain S h → AreTied s.temporary s.objects priorities S.references.threads → let u = use_gained h o s in AreTied u.temporary u.objects priorities (threads_gain h o S.references.threads)
   tied_gained S h o may tied = record {
     uses = noted_gained s S h o may tied.uses;
-    ranks = λ u. tied.ranks u ∙ sym (rank-gain S.threads h o u);
+    ranks = λ u. tied.ranks u ∙ sym (rank-gain S.references.threads h o u);
     listed = objects_gained s h o ∙ tied.listed;
     ranked = tied.ranked;
   }

@@ -70,13 +70,13 @@ MayLose _ o = Unit {0}
 
 -- an object can be made, whose name is empty where it is a session, a reference be added to an object that has some, and a thread go on
 abbrev pub CanMake : Kind → List ℕ → Holder → State → Type 0
-CanMake kind name h S = (kept_name kind name ≡ name) × (is_taken kind name S.objects ≡ false) × IsNew S × MayGain S h × TakesLeast S.handles h
+CanMake kind name h S = (kept_name kind name ≡ name) × (is_taken kind name S.references.objects ≡ false) × IsNew S × MayGain S h × TakesLeast S.references.handles h
 
 abbrev pub CanGain : Holder → ObjNo → State → Type 0
-CanGain h o S = IsReferred S o × MayGain S h × TakesLeast S.handles h
+CanGain h o S = IsReferred S o × MayGain S h × TakesLeast S.references.handles h
 
 abbrev pub CanAdvance : ObjNo → State → Type 0
-CanAdvance u S = MayAdvance 1 S.threads × HasPlaces 1 S u
+CanAdvance u S = MayAdvance 1 S.references.threads × HasPlaces 1 S u
 
 -- threads have the least numbers, and priorities below 64
 abbrev pub AreKnown : State → Type 0
@@ -99,11 +99,11 @@ CanMove t (Advance u) S = CanAdvance u S
 CanMove t (Wait u what) S = Unit {0}
 CanMove t (Wake u) S = Unit {0}
 CanMove t (SetPriority u priority) S = AreKnown S
-CanMove t (Nano m) S = CanNano m S.nano
-CanMove t (Deferred m) S = FitsDeferred m S.deferred
-CanMove t (Requests m) S = CanRequest m S.requests
+CanMove t (Nano m) S = CanNano m S.synchronization.nano
+CanMove t (Deferred m) S = FitsDeferred m S.synchronization.deferred
+CanMove t (Requests m) S = CanRequest m S.synchronization.requests
 CanMove t (Locks m) S = CanLock m S
-CanMove t (Logons m) S = CanLogon m (length S.owed) S.logons
+CanMove t (Logons m) S = CanLogon m (length S.references.owed) S.synchronization.logons
 CanMove t (Death m) S = HasPlaces 1 S t
 CanMove t (Servers m) S = CanServe m S
 CanMove t (Messages m) S = CanMessage t m S
@@ -123,10 +123,12 @@ pub record IsMoved {W N : Type 0} (t : ObjNo) (m : Move) (old new : Tables W N) 
 -- its link is off its row, and thread t owes the close of the link, and then the sweep
 abbrev pub closed : Bool → ObjNo → ObjNo → Option ObjNo → State → State
 closed last t o link S = record S {
-  objects = objects_closed last o S.objects;
-  threads = threads_closed last o S.threads;
-  owed = owing S.owed t (owed_by_close last o link);
-  servers = servers_closed last o S.servers;
+  references = record S.references {
+    objects = objects_closed last o S.references.objects;
+    threads = threads_closed last o S.references.threads;
+    owed = owing S.references.owed t (owed_by_close last o link);
+  };
+  serving = record S.serving { servers = servers_closed last o S.serving.servers };
 }
 
 -- it was the last where it was the only one
@@ -147,7 +149,7 @@ pub record MoveGoes (script : Script) (t : ObjNo) (m : Move) (S : State) : Type 
   pub can : CanMove t m S
   pub refs : RefsMove S (moved t m S) (told m S)
   pub known : AreKnown (moved t m S)
-  pub numbered : (moved t m S).messages.accepted < 2147483648
+  pub numbered : (moved t m S).serving.messages.accepted < 2147483648
   pub ranks : (u : ObjNo) → is_set m u ≡ false → priority_of (moved t m S) u ≡ priority_of S u
   pub apart : (u : ObjNo) → is_listed (touched t m) u ≡ false → is_ready script (moved t m S) u ≡ is_ready script S u
 

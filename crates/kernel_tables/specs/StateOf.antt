@@ -12,18 +12,26 @@ slots_of tables = map (λ (t : HandleTable). t.slots) tables
 -- each field of the state is the value of one table
 abbrev pub state_of : {W N : Type 0} → Tables W N → State
 state_of tables = record {
-  objects = tables.objects.rows;
-  handles = slots_of tables.handles;
-  threads = tables.procs.threads;
-  owed = tables.cleanup.duties;
-  nano = tables.nano;
-  deferred = tables.deferred;
-  requests = tables.requests;
-  locks = tables.locks.rows;
-  mutexes = tables.cleanup.mutexes;
-  logons = tables.cleanup.logons;
-  servers = tables.servers;
-  owned = tables.cleanup.servers;
-  messages = tables.messages;
-  memories = tables.procs.processes;
+  references = record {
+    objects = tables.objects.rows;
+    handles = slots_of tables.handles;
+    threads = tables.procs.threads;
+    owed = tables.cleanup.duties;
+  };
+  synchronization = record {
+    nano = tables.nano;
+    deferred = tables.deferred;
+    requests = tables.requests;
+    locks = tables.locks.rows;
+    mutexes = tables.cleanup.mutexes;
+    logons = tables.cleanup.logons;
+  };
+  serving = record {
+    servers = tables.servers;
+    owned = tables.cleanup.servers;
+    messages = tables.messages;
+  };
+  services = record {
+    memories = tables.procs.processes;
+  };
 }

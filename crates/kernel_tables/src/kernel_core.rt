@@ -12,11 +12,12 @@ ghost use Rattle.kernel_tables.specs.Performed.{ActionGoes, IsMade, IsPerformed}
 ghost use Rattle.kernel_tables.specs.ReadyQueues.{Follow, leave_along, pairs};
 ghost use Rattle.kernel_tables.specs.StateOf.{state_of};
 
-use crate::actions::perform;
-use crate::ready::{chosen, leave_along, turn};
+use crate::moves::make_move;
+use crate::ready::{arrive_touched, chosen, leave_along, take_out, turn};
 use crate::tables::Tables;
 use entry_log::{Actor, Effects};
-use machine::{Decision, Move};
+use machine::{Decision, Move, touched};
+use readings::tell;
 use ready_list::ReadyList;
 use ref_words::RefWords;
 use script_types::Script;
@@ -67,14 +68,14 @@ impl<W: RefWords + Drop> Core<W> {
         ensures decision { self.new.decision ≡ self.old.decision }
         ensures performed { IsPerformed script.now thread self.old.decision.moves self.old.state self.new.state self.old.ready self.new.ready effects.old effects.new }
     {
-        perform(
-            script,
-            &mut self.tables,
-            &mut self.ready,
-            thread,
-            self.decision.moves.as_slice(),
-            effects,
-        );
+        let tables = &mut self.tables;
+        let ready = &mut self.ready;
+        for change in self.decision.moves.as_slice() {
+            tell(effects, tables, change);
+            make_move(tables, thread, change);
+            take_out(ready, change);
+            arrive_touched(script, tables, ready, touched(thread, change));
+        }
     }
 
     /// The action of a thread that was decided is made. Its effects come into an empty list.

@@ -1,7 +1,6 @@
 //! The kernel's tables: what the moves of actions do to them, and to the queues of ready threads.
 #![tactic(auto)]
 
-mod actions;
 mod copy_moves;
 mod death_moves;
 mod kernel_core;

@@ -15,7 +15,7 @@ use script_types::Script;
 use state_rows::{
     HandleSlot, Item, Message, ObjectRow, Owner, Request, ServerRow, SessionRow, is_local, look,
 };
-use sym_base::{Items, Kind, MsgNo, Name, ObjNo, Slots, ThreadNo};
+use sym_base::{Items, Kind, Limits, MsgNo, Name, ObjNo, Slots, ThreadNo};
 use table_moves::first_owed;
 
 /// The places of the handle table of a process or a thread, none where there is no such table.
@@ -83,8 +83,12 @@ impl<W: RefWords + Drop> Reads for Tables<W> {
         self.objects.count(object) == 1
     }
 
-    fn objects_made(&self) -> usize {
-        self.objects.len()
+    fn next_object(&self) -> ObjNo {
+        ObjNo(self.objects.len() as u16)
+    }
+
+    fn no_number_left(&self) -> bool {
+        self.objects.len() == Limits::OBJECTS
     }
 
     fn signal_count(&self, thread: ThreadNo) -> u64 {

@@ -100,10 +100,10 @@ pub of_task : (script : Script) (P : Instr → Type 0) → Each script P → (S 
 of_task script P each S t None instr next = absurd (cc)
 of_task script P each S t (Some row) instr next =
     let at = instruction script row in
-    let own = live_task row.role (next_call S.deferred row.role) (work_or (held_servers S t) (step_or_end (is_protected S.nano t) at)) in
+    let own = live_task row.role (next_call S.synchronization.deferred row.role) (work_or (held_servers S t) (step_or_end (is_protected S.synchronization.nano t) at)) in
     of_row P (is_returning row.part) at (first_owed S t) (by_stage row.stage (holdings S t row) own) instr
     (of_stage script P each row.stage (holdings S t row) own instr
-    (of_own script P each (is_protected S.nano t) (held_servers S t) row.role (next_call S.deferred row.role) row instr at refl))
+    (of_own script P each (is_protected S.synchronization.nano t) (held_servers S t) row.role (next_call S.synchronization.deferred row.role) row instr at refl))
     next
 
 -- the registers that it names are there, and its numbers are in their ranges

@@ -27,7 +27,7 @@ arrived_by script S plan qs = ready_after script supervisor (decision_by script 
 abbrev pub arrived_next : Script → State → Actor → List ObjNo → List ObjNo
 arrived_next script S (Thread t) qs = ready_after script t (decision_of script S t).moves S qs
 arrived_next script S (Irq k) qs = arrived_by script S (Runs (Interrupt k)) qs
-arrived_next script S Idfc qs = arrived_by script S (immediate_plan script S (next_immediate S.deferred)) qs
+arrived_next script S Idfc qs = arrived_by script S (immediate_plan script S (next_immediate S.synchronization.deferred)) qs
 arrived_next script S Tick qs = after_tick S qs
 arrived_next script S Idle qs = qs
 

@@ -36,7 +36,7 @@ use Rattle.machine.specs.Moves.{perform}
 
 -- a deferred function call joins its own queue
 abbrev pub add_call : State → ℕ → Move
-add_call S dfc = move.Deferred (Add dfc (queue_of S.deferred dfc))
+add_call S dfc = move.Deferred (Add dfc (queue_of S.synchronization.deferred dfc))
 
 -- an immediate call joins the immediate queue, a deferred one joins it to be moved, and a deferred one joins its own queue
 abbrev pub queue_immediate : Option ℕ → List Move
@@ -64,7 +64,7 @@ signal_object S (Some u) = signal_row u (thread_of S u)
 -- completed before
 abbrev pub ends_wait : State → ObjNo → ℕ → Waiting → Bool
 ends_wait S t s Any = true
-ends_wait S t s (Status w) = w == s || not (is_pending S.requests t w)
+ends_wait S t s (Status w) = w == s || not (is_pending S.synchronization.requests t w)
 ends_wait S t s _ = false
 
 abbrev pub end_wait : State → ObjNo → ℕ → Option ThreadRow → List Move
@@ -82,7 +82,7 @@ abbrev pub op_moves : Script → State → Op → List Move
 op_moves script S (op.Idfc name) = queue_immediate (idfc_named script name)
 op_moves script S (op.Dfc name) = queue_to_move (dfc_named script name)
 op_moves script S (op.Fssignal name) = signal_object S (find_object S Thread name)
-op_moves script S (op.Device d code) = complete S d code (request_at S.requests d)
+op_moves script S (op.Device d code) = complete S d code (request_at S.synchronization.requests d)
 op_moves script S (op.Queue name) = queue_call S (dfc_named script name)
 
 -- what operations do, one after the other
@@ -131,7 +131,7 @@ step_of_body script (Deferred dfc) = run_dfc (slice_get script.dfcs dfc)
 abbrev pub leave_queue : State → Body → List Move
 leave_queue S (Interrupt k) = []
 leave_queue S (Immediate item) = move.Deferred TakeImmediate ∷ []
-leave_queue S (Deferred dfc) = move.Deferred (Take (queue_of S.deferred dfc)) ∷ []
+leave_queue S (Deferred dfc) = move.Deferred (Take (queue_of S.synchronization.deferred dfc)) ∷ []
 
 -- what a body does in an action of thread t
 abbrev pub run_body : Script → ObjNo → State → Body → Decision

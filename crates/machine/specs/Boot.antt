@@ -108,20 +108,28 @@ memory_of b = memory_of_row b.thread
 -- message
 unfoldable pub boot_of : ℕ → ℕ → DeferredRows → List Born → State
 boot_of pool fast calls bs = record {
-  objects = map (λ b. Some b.object) bs;
-  handles = map (λ _. replicate HANDLES fresh_slot) bs;
-  threads = map (λ b. b.thread) bs;
-  owed = map (λ _. []) bs;
-  nano = nano_of fast bs;
-  deferred = calls;
-  requests = request_rows (length bs) DEVICES;
-  locks = lock_rows OBJECTS;
-  mutexes = map (λ _. []) bs;
-  logons = map (λ _. []) bs;
-  servers = no_rows OBJECTS;
-  owned = map (λ _. []) bs;
-  messages = no_messages OBJECTS pool;
-  memories = map memory_of bs;
+  references = record {
+    objects = map (λ b. Some b.object) bs;
+    handles = map (λ _. replicate HANDLES fresh_slot) bs;
+    threads = map (λ b. b.thread) bs;
+    owed = map (λ _. []) bs;
+  };
+  synchronization = record {
+    nano = nano_of fast bs;
+    deferred = calls;
+    requests = request_rows (length bs) DEVICES;
+    locks = lock_rows OBJECTS;
+    mutexes = map (λ _. []) bs;
+    logons = map (λ _. []) bs;
+  };
+  serving = record {
+    servers = no_rows OBJECTS;
+    owned = map (λ _. []) bs;
+    messages = no_messages OBJECTS pool;
+  };
+  services = record {
+    memories = map memory_of bs;
+  };
 }
 
 abbrev pub boot : Script → State

@@ -25,8 +25,8 @@ first_ready S qs = first_of_greatest (priority_of S) qs
 
 -- the thread that acts next: that one, or who acts in its place; or nobody
 abbrev pub chosen_thread : State → List ObjNo → Actor
-chosen_thread S qs = actor_of (option_map (in_place_of S.nano) (first_ready S qs))
+chosen_thread S qs = actor_of (option_map (in_place_of S.synchronization.nano) (first_ready S qs))
 
 -- who acts next
 abbrev pub chosen : State → List ObjNo → Actor
-chosen S qs = item_or (next_immediate S.deferred) (chosen_thread S qs)
+chosen S qs = item_or (next_immediate S.synchronization.deferred) (chosen_thread S qs)

@@ -13,7 +13,7 @@ use Rattle.machine.specs.Messaging.{disconnects, no_args, open_server, post}
 
 -- the server of a session, where the session is open
 abbrev pub connected_to : State → ObjNo → Option ObjNo
-connected_to S s = if was_opened (session_at S.servers s) then open_server S s else None
+connected_to S s = if was_opened (session_at S.serving.servers s) then open_server S s else None
 
 -- an open session isn't open any more, and a message tells its server so
 abbrev pub disconnect : State → ObjNo → ObjNo → Option ObjNo → List Move
@@ -26,7 +26,7 @@ close_or o None other = other
 close_or o (Some server) other = Servers (Close o) ∷ []
 
 abbrev pub before_close : State → ObjNo → ObjNo → List Move
-before_close S t o = close_or o (server_at S.servers o) (disconnect S t o (connected_to S o))
+before_close S t o = close_or o (server_at S.serving.servers o) (disconnect S t o (connected_to S o))
 
 -- then the handle goes, and its reference with it
 abbrev pub close_moves : State → ObjNo → Holder → ObjNo → List Move

@@ -1,5 +1,5 @@
 -- `create`: a new object and a handle of it.
-use Rattle.std.specs.Prelude.{ℕ, ◌==◌, if◌then◌else◌, List, [], ◌∷◌, length, Option, Some, None}
+use Rattle.std.specs.Prelude.{ℕ, if◌then◌else◌, List, [], ◌∷◌, Option, Some, None}
 use Rattle.state_rows.specs.ObjectRows.{is_taken}
 use Rattle.sym_base.specs.declared.error.Error.TheVariants.{AlreadyExists, Overflow}
 use Rattle.sym_base.specs.declared.kind.Kind.{Kind}
@@ -34,7 +34,7 @@ make_with_handle t kind name start x (Some handle) =
 -- the name is taken: it exists already; objects full: an overflow
 abbrev pub create_do : State → ObjNo → ThreadRow → Kind → List ℕ → Option LockMove → ℕ → Decision
 create_do S t row kind name start x =
-    if is_taken kind name S.objects then refuse t (Of Create Do) AlreadyExists
+    if is_taken kind name S.references.objects then refuse t (Of Create Do) AlreadyExists
     else if no_number_left S then refuse t (Of Create Do) Overflow
     else make_with_handle t kind name start x (process_handle S row.process)
 

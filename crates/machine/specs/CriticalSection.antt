@@ -21,11 +21,11 @@ enter_do t = answer t (step.Of word.Enter Do) (Nano (Enter t) ∷ []) (pos 0)
 
 -- in none: a general error; else one less, and the thread is doomed where an exit is noted and nothing protects it any more
 abbrev pub is_unprotected : State → ObjNo → Bool
-is_unprotected S t = critical_count S.nano t == 1 && is_none (held_by S.nano t)
+is_unprotected S t = critical_count S.synchronization.nano t == 1 && is_none (held_by S.synchronization.nano t)
 
 abbrev pub leave_do : State → ObjNo → Decision
 leave_do S t =
-    if critical_count S.nano t == 0 then refuse t (step.Of word.Leave Do) General
+    if critical_count S.synchronization.nano t == 0 then refuse t (step.Of word.Leave Do) General
     else answer t (step.Of word.Leave Do) (Nano (Leave t) ∷ doom_where (is_unprotected S t) t (noted_of S t)) (pos 0)
 
 -- the fast mutex goes that the thread holds, if there is one
@@ -35,4 +35,4 @@ give_held t (Some f) = Nano (Give t f) ∷ []
 
 -- at its list's end a thread gives up what protects it, and is doomed where an exit is noted
 abbrev pub flush : State → ObjNo → Decision
-flush S t = record { step = step.Flush; moves = give_held t (held_by S.nano t) ++ Nano (LeaveAll t) ∷ doom_noted t (noted_of S t); answer = None }
+flush S t = record { step = step.Flush; moves = give_held t (held_by S.synchronization.nano t) ++ Nano (LeaveAll t) ∷ doom_noted t (noted_of S t); answer = None }

@@ -41,7 +41,7 @@ wait_for t step what = go_on t step (move.Wait t what) Done
 
 -- what may block is refused to a thread that holds a fast mutex: it is in use
 abbrev pub unless_holding : State → ObjNo → Step → Decision → Decision
-unless_holding S t step d = if is_some (held_by S.nano t) then refuse t step InUse else d
+unless_holding S t step d = if is_some (held_by S.synchronization.nano t) then refuse t step InUse else d
 
 -- the thread waits for an object, as this move says
 abbrev pub wait_at : ObjNo → Step → ObjNo → LockMove → Decision

@@ -49,7 +49,7 @@ noted_of S u = noted_of_row (thread_of S u)
 
 -- a protected thread's exit is noted; else it is doomed
 abbrev pub doom_or_note : State → ObjNo → Exit → List Move
-doom_or_note S u exit = if is_protected S.nano u then Death (Note u exit) ∷ [] else doom u exit
+doom_or_note S u exit = if is_protected S.synchronization.nano u then Death (Note u exit) ∷ [] else doom u exit
 
 -- the doom of a thread that nothing protects any more, where an exit is noted
 abbrev pub doom_noted : ObjNo → Option Exit → List Move

@@ -66,5 +66,5 @@ exittype_step S t row x (Some part) = exittype_on S t row.uses
 -- what protects the thread is in use; else it is doomed, and nothing is answered
 abbrev pub exit_do : State → ObjNo → ℤ → Decision
 exit_do S t reason =
-    if is_protected S.nano t then refuse t (Of word.Exit Do) InUse
+    if is_protected S.synchronization.nano t then refuse t (Of word.Exit Do) InUse
     else record { step = Of word.Exit Do; moves = doom t (killed reason); answer = None }

@@ -24,7 +24,7 @@ use Rattle.machine.specs.Decide.{answer, refuse, wait_for, unless_holding}
 -- a signal is there: the thread takes it; else it waits for one
 abbrev pub fswait_do : State → ObjNo → Decision
 fswait_do S t =
-    if signal_count S.nano t == 0 then wait_for t (Of Fswait Do) Fast
+    if signal_count S.synchronization.nano t == 0 then wait_for t (Of Fswait Do) Fast
     else answer t (Of Fswait Do) (Nano (Lower t) ∷ []) (pos 0)
 
 abbrev pub fswait_step : State → ObjNo → Option Part → Decision

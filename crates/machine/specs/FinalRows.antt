@@ -24,10 +24,10 @@ rows_of S n (None ∷ rest) = rows_of S (n + 1) rest
 rows_of S n (Some row ∷ rest) = final_row S n row ∷ rows_of S (n + 1) rest
 
 abbrev pub rows_from : State → ℕ → List FinalRow
-rows_from S n = rows_of S n (drop n S.objects)
+rows_from S n = rows_of S n (drop n S.references.objects)
 
 abbrev pub final_rows : State → List FinalRow
-final_rows S = rows_of S 0 S.objects
+final_rows S = rows_of S 0 S.references.objects
 
 -- the first of the rows from a number on, None where there is none
 abbrev pub IsNextRow : (ℕ → List FinalRow) → ℕ → Option FinalRow → Type 0

@@ -28,7 +28,7 @@ findable S (Some o) = if is_dead_row (object_of S o) || nat_lt 0 (count_of S o) 
 
 -- the object that a find by kind and name finds; nobody finds a session
 abbrev pub find_object : State → Kind → List ℕ → Option ObjNo
-find_object S kind name = if is_session kind then None else findable S (named kind name S.objects)
+find_object S kind name = if is_session kind then None else findable S (named kind name S.references.objects)
 
 -- no such object: it isn't found; else the return comes next
 abbrev pub seek_object : ObjNo → Word → Option ObjNo → Decision

@@ -83,12 +83,12 @@ pub record UsesNothing (S : State) (t : ObjNo) : Type 0 where
 
 -- this holder may hold the first reference to an object that is made: a thread's ownership is of a server that was set up for it, and isn't closing
 pub record MayOwnNext (S : State) (t : ObjNo) : Type 0 where
-  pub owner : IsLiveThread S.threads t
-  pub server : server_at S.servers (next_object S) ≡ Some (record { owner = t; is_closing = false })
+  pub owner : IsLiveThread S.references.threads t
+  pub server : server_at S.serving.servers (next_object S) ≡ Some (record { owner = t; is_closing = false })
 
 -- this holder holds nothing, and may: a process only while a thread of it isn't cleaned
 abbrev pub IsFree : State → Holder → Type 0
-IsFree S (InProcess p i) = (thread_of S p ≡ None) × IsFreeSlot S p i × (0 < total (left_of p) S.threads)
+IsFree S (InProcess p i) = (thread_of S p ≡ None) × IsFreeSlot S p i × (0 < total (left_of p) S.references.threads)
 IsFree S (InThread t i) = (is_some (thread_of S t) ≡ true) × IsFreeSlot S t i × IsUnspent S t
 IsFree S (Temp t) = UsesNothing S t
 IsFree S _ = ⊥
@@ -108,8 +108,8 @@ abbrev pub Holds : State → Holder → ObjNo → Type 0
 Holds S (InProcess p i) o = (thread_of S p ≡ None) × ((slot_at (table_of S p) i).object ≡ Some o)
 Holds S (InThread t i) o = (is_some (thread_of S t) ≡ true) × ((slot_at (table_of S t) i).object ≡ Some o)
 Holds S (Temp t) o = Uses S t o
-Holds S (Link s) o = server_of S.servers s ≡ Some o
-Holds S (Own t) o = 0 < times_owned S.owned t o
+Holds S (Link s) o = server_of S.serving.servers s ≡ Some o
+Holds S (Own t) o = 0 < times_owned S.serving.owned t o
 Holds S _ o = ⊥
 
 -- a thread that isn't at its list's end
@@ -130,7 +130,7 @@ pub record MayGoOn (script : Script) (S : State) (t : ObjNo) (part : Option Part
 -- an object may be made of this kind and name: there is room, and its name isn't taken
 pub record MayMake (S : State) (kind : Kind) (name : List ℕ) : Type 0 where
   pub room : (next_object S).0 < OBJECTS
-  pub new : is_taken kind name S.objects ≡ false
+  pub new : is_taken kind name S.references.objects ≡ false
 
 -- a session has no name
 abbrev pub HasName : Kind → List ℕ → Type 0
@@ -143,16 +143,16 @@ pub record MayTake (S : State) (t : ObjNo) : Type 0 where
   pub live : row.stage ≡ Live
   pub serves : served_queue row.role ≡ None
   pub waits : row.waiting ≡ waiting.Nothing
-  pub holds : held_by S.nano t ≡ None
+  pub holds : held_by S.synchronization.nano t ≡ None
 
 -- A move in the rows of threads that synchronize fits them: a fast mutex is taken that is free, and given up by its
 -- holder; one who holds a fast mutex wants none; and a thread is suspended 127 times at most.
 abbrev pub FitsNano : NanoMove → State → Type 0
-FitsNano (Take t f) S = (f < length S.nano.holders) × (holder_of S.nano f ≡ None) × MayTake S t
-FitsNano (Give t f) S = (f < length S.nano.holders) × (holder_of S.nano f ≡ Some t)
+FitsNano (Take t f) S = (f < length S.synchronization.nano.holders) × (holder_of S.synchronization.nano f ≡ None) × MayTake S t
+FitsNano (Give t f) S = (f < length S.synchronization.nano.holders) × (holder_of S.synchronization.nano f ≡ Some t)
 FitsNano (Want t None) S = Unit {0}
-FitsNano (Want t (Some f)) S = (f < length S.nano.holders) × (held_by S.nano t ≡ None)
-FitsNano (Suspend t) S = suspend_count S.nano t < 127
+FitsNano (Want t (Some f)) S = (f < length S.synchronization.nano.holders) × (held_by S.synchronization.nano t ≡ None)
+FitsNano (Suspend t) S = suspend_count S.synchronization.nano t < 127
 FitsNano _ S = Unit {0}
 
 -- A move in the rows of deferred function calls fits them: what it names is there, and a call joins its own queue.
@@ -184,32 +184,32 @@ FitsRequests (TakeSignal t) r logons = t.0 < length r.signals
 
 -- a request begins, a status is completed that no device and no message has, and a message is replied to, only of a live thread
 abbrev pub IsOfLive : RequestMove → State → Type 0
-IsOfLive (Begin d t s) S = IsLiveThread S.threads t
-IsOfLive (SignalStatus t s code) S = IsLiveThread S.threads t × (times_sent S.messages.outstanding t s ≡ 0)
-IsOfLive (Reply t code) S = IsLiveThread S.threads t
+IsOfLive (Begin d t s) S = IsLiveThread S.references.threads t
+IsOfLive (SignalStatus t s code) S = IsLiveThread S.references.threads t × (times_sent S.serving.messages.outstanding t s ≡ 0)
+IsOfLive (Reply t code) S = IsLiveThread S.references.threads t
 IsOfLive _ S = Unit {0}
 
 -- A move in the rows of logons fits the state: what it names is there, and a logon is made by a live thread, on one that is there and isn't
 -- cleaned, with a status that is awaited and that no other has.
 abbrev pub FitsLogons : LogonMove → State → Type 0
-FitsLogons (AddLogon t u s) S = (t.0 < length S.threads) × IsAwaited S.requests u s × (times_logged S.logons u s ≡ 0) × (times_sent S.messages.outstanding u s ≡ 0) × IsLiveThread S.threads u × IsUnspent S t × (is_some (thread_of S t) ≡ true)
-FitsLogons (RemoveLogon t u s) S = (t.0 < length S.threads) × (u.0 < length S.threads) × (s < 16)
-FitsLogons (DropLogons u) S = u.0 < length S.threads
+FitsLogons (AddLogon t u s) S = (t.0 < length S.references.threads) × IsAwaited S.synchronization.requests u s × (times_logged S.synchronization.logons u s ≡ 0) × (times_sent S.serving.messages.outstanding u s ≡ 0) × IsLiveThread S.references.threads u × IsUnspent S t × (is_some (thread_of S t) ≡ true)
+FitsLogons (RemoveLogon t u s) S = (t.0 < length S.references.threads) × (u.0 < length S.references.threads) × (s < 16)
+FitsLogons (DropLogons u) S = u.0 < length S.references.threads
 
 -- whether a thread stands among no waiters
 abbrev pub WaitsNowhere : State → ObjNo → Type 0
-WaitsNowhere S u = (o : ObjNo) → is_among u (waiters_at S.locks o) ≡ false
+WaitsNowhere S u = (o : ObjNo) → is_among u (waiters_at S.synchronization.locks o) ≡ false
 
 -- an object that may become a semaphore with this count: nobody owns it or waits for it
 pub record MayStart (S : State) (o : ObjNo) (count : ℕ) : Type 0 where
-  pub object : o.0 < length S.objects
+  pub object : o.0 < length S.references.objects
   pub few : count ≤ 2147483647
-  pub free : owner_at S.locks o ≡ None
-  pub alone : waiters_at S.locks o ≡ []
+  pub free : owner_at S.synchronization.locks o ≡ None
+  pub alone : waiters_at S.synchronization.locks o ≡ []
 
 -- a thread that may come to stand among an object's waiters: it waits for that object, stands nowhere yet, and owes nothing
 pub record MayJoin (S : State) (o t : ObjNo) : Type 0 where
-  pub waits : Awaits S.threads t o
+  pub waits : Awaits S.references.threads t o
   pub nowhere : WaitsNowhere S t
   pub paid : owed_of S t ≡ []
 
@@ -219,38 +219,38 @@ pub record MayLock (S : State) (o t : ObjNo) (locked : Locked) : Type 0 where
   pub thread : is_some (thread_of S t) ≡ true
   pub live : IsLive S t
   pub paid : owed_of S t ≡ []
-  pub other : server_at S.servers o ≡ None
-  pub answer : locked ≡ lock_answer (owner_at S.locks o) t
+  pub other : server_at S.serving.servers o ≡ None
+  pub answer : locked ≡ lock_answer (owner_at S.synchronization.locks o) t
   pub joins : locked ≡ Waits → MayJoin S o t
 
 -- a thread that may unlock an object, with the answer that owner and waiters give: it stands among no waiters, and isn't
 -- between a find and its return
 pub record MayUnlock (S : State) (o t : ObjNo) (unlocked : Unlocked) : Type 0 where
-  pub object : o.0 < length S.objects
+  pub object : o.0 < length S.references.objects
   pub thread : is_some (thread_of S t) ≡ true
   pub nowhere : WaitsNowhere S t
   pub going : is_returning (part_of (thread_of S t)) ≡ false
-  pub answer : unlocked ≡ unlock_answer (owner_at S.locks o) t (best_waiter (priority_of S) S.locks o)
+  pub answer : unlocked ≡ unlock_answer (owner_at S.synchronization.locks o) t (best_waiter (priority_of S) S.synchronization.locks o)
 
 -- a thread that may give a mutex up with all its levels, to this waiter where there is one: it owns it, stands among no waiters, and isn't
 -- between a find and its return
 pub record MayFree (S : State) (o t : ObjNo) (best : Option ObjNo) : Type 0 where
-  pub object : o.0 < length S.objects
+  pub object : o.0 < length S.references.objects
   pub thread : is_some (thread_of S t) ≡ true
   pub nowhere : WaitsNowhere S t
   pub going : is_returning (part_of (thread_of S t)) ≡ false
-  pub owns : IsOwnerOf S.locks t o
-  pub chosen : best ≡ best_waiter (priority_of S) S.locks o
+  pub owns : IsOwnerOf S.synchronization.locks t o
+  pub chosen : best ≡ best_waiter (priority_of S) S.synchronization.locks o
 
 -- a thread that may wait on an object: it joins the waiters at count 0
 pub record MayWaitOn (S : State) (o t : ObjNo) : Type 0 where
   pub alive : IsAlive (object_of S o)
-  pub joins : count_at S.locks o ≡ 0 → MayJoin S o t
+  pub joins : count_at S.synchronization.locks o ≡ 0 → MayJoin S o t
 
 -- an object that may be signalled, with the answer that waiters and count give
 pub record MaySignal (S : State) (o : ObjNo) (signalled : Signalled) : Type 0 where
-  pub object : o.0 < length S.objects
-  pub answer : signalled ≡ signal_answer (best_waiter (priority_of S) S.locks o) (count_at S.locks o)
+  pub object : o.0 < length S.references.objects
+  pub answer : signalled ≡ signal_answer (best_waiter (priority_of S) S.synchronization.locks o) (count_at S.synchronization.locks o)
 
 -- A move in the rows of mutexes and semaphores, in an action of thread t, fits the state: its answer is the one that they
 -- give, and only the acting thread gives a mutex up.
@@ -265,19 +265,19 @@ FitsLocks t (Signal o signalled) S = MaySignal S o signalled
 
 -- a thread that owns no server, and one whose servers are all closing
 abbrev pub OwnsNothing : State → ObjNo → Type 0
-OwnsNothing S u = owned_by S.owned u ≡ []
+OwnsNothing S u = owned_by S.serving.owned u ≡ []
 
 abbrev pub OwnsClosing : State → ObjNo → Type 0
-OwnsClosing S u = (o : ObjNo) → 0 < times_owned S.owned u o → is_closing S.servers o ≡ true
+OwnsClosing S u = (o : ObjNo) → 0 < times_owned S.serving.owned u o → is_closing S.serving.servers o ≡ true
 
 -- a thread that may be cleaned: it has given up all, also what its process has where nobody else of that is left, and holds no fast mutex
 abbrev pub MayClean : State → ObjNo → Type 0
-MayClean S u = (held_by S.nano u ≡ None) × ((row : ThreadRow) → thread_of S u ≡ Some row → IsSpent S.handles u.0 row) × ((row : ThreadRow) → thread_of S u ≡ Some row → process_handles S u row.process ≡ []) × OwnsNothing S u
+MayClean S u = (held_by S.synchronization.nano u ≡ None) × ((row : ThreadRow) → thread_of S u ≡ Some row → IsSpent S.references.handles u.0 row) × ((row : ThreadRow) → thread_of S u ≡ Some row → process_handles S u row.process ≡ []) × OwnsNothing S u
 
 -- a thread that awaits nothing: no device has a request of it, and it made no logon
 pub record AwaitsNothing (S : State) (u : ObjNo) : Type 0 where
-  pub requests : (d : ℕ) (request : Request) → request_at S.requests d ≡ Some request → request.thread.0 ≡ u.0 → ⊥
-  pub logons : (s : ℕ) → times_logged S.logons u s ≡ 0
+  pub requests : (d : ℕ) (request : Request) → request_at S.synchronization.requests d ≡ Some request → request.thread.0 ≡ u.0 → ⊥
+  pub logons : (s : ℕ) → times_logged S.synchronization.logons u s ≡ 0
 
 -- a thread whose death is at this stage
 pub record IsAtStage (S : State) (u : ObjNo) (stage : Stage) : Type 0 where
@@ -294,29 +294,35 @@ pub record MayOweMore (S : State) (t : ObjNo) : Type 0 where
 -- fast mutex, and awaits nothing; who is cleaned is the doomed thread itself, and has given up all; who is buried is cleaned.
 abbrev pub FitsDeath : ObjNo → DeathMove → State → Type 0
 FitsDeath t (Note u exit) S = Unit {0}
-FitsDeath t (Doom u exit) S = IsAtStage S u Live × (held_by S.nano u ≡ None) × WaitsNowhere S u × AwaitsNothing S u × OwnsClosing S u
+FitsDeath t (Doom u exit) S = IsAtStage S u Live × (held_by S.synchronization.nano u ≡ None) × WaitsNowhere S u × AwaitsNothing S u × OwnsClosing S u
 FitsDeath t (Clean u) S = IsAtStage S u Doomed × MayClean S u × (u ≡ t)
 FitsDeath t (Bury u) S = IsAtStage S u Cleaned × MayOweMore S t
 
--- A move in an action of thread t fits the state. What is owed is paid by an action of its own.
+-- what a thread comes to hold, or gives up, by an action is its own, its process's, or no thread's
+abbrev pub IsOwn : ObjNo → Holder → Type 0
+IsOwn t (InThread u i) = u ≡ t
+IsOwn t (Temp u) = u ≡ t
+IsOwn t _ = Unit {0}
+
+-- A move in an action of thread t fits the state: it finds, goes on and keeps a number itself. What is owed is paid by an action of its own.
 abbrev pub FitsMove : Script → ObjNo → Move → State → Type 0
-FitsMove script t (Make kind name h) S = MayMake S kind name × MayMakeWith S h × HasName kind name
-FitsMove script t (Gain h o) S = IsFree S h × IsAlive (object_of S o)
-FitsMove script t (Lose h o) S = (is_returning (part_of (thread_of S t)) ≡ false) × Holds S h o
-FitsMove script t (Find u o) S = o.0 < length S.objects
+FitsMove script t (Make kind name h) S = MayMake S kind name × MayMakeWith S h × HasName kind name × IsOwn t h
+FitsMove script t (Gain h o) S = IsFree S h × IsAlive (object_of S o) × IsOwn t h
+FitsMove script t (Lose h o) S = (is_returning (part_of (thread_of S t)) ≡ false) × Holds S h o × IsOwn t h
+FitsMove script t (Find u o) S = (o.0 < length S.references.objects) × (u ≡ t)
 FitsMove script t (Miss o) S = Unit {0}
-FitsMove script t (GoOn u part) S = MayGoOn script S u (Some part) × MaySend (Some part) S
-FitsMove script t (Keep u number) S = Unit {0}
+FitsMove script t (GoOn u part) S = MayGoOn script S u (Some part) × MaySend (Some part) S × (u ≡ t)
+FitsMove script t (Keep u number) S = u ≡ t
 FitsMove script t (Write u x value) S = x < 8
 FitsMove script t (WriteMessage u y number) S = y < 8
 FitsMove script t (PutDown u) S = (u ≡ t) × MayOweMore S u
 FitsMove script t (Advance u) S = (u ≡ t) × IsAtInstruction script S u
-FitsMove script t (Wait u what) S = (held_by S.nano u ≡ None) × WaitsNowhere S u × IsLive S u × IsUncalled S u
+FitsMove script t (Wait u what) S = (held_by S.synchronization.nano u ≡ None) × WaitsNowhere S u × IsLive S u × IsUncalled S u
 FitsMove script t (Wake u) S = WaitsNowhere S u × IsUncalled S u
 FitsMove script t (SetPriority u priority) S = priority ≤ 63
 FitsMove script t (Nano m) S = (is_some (thread_of S (nano_thread m)) ≡ true) × FitsNano m S
-FitsMove script t (Deferred m) S = FitsDeferred m S.deferred
-FitsMove script t (Requests m) S = FitsRequests m S.requests S.logons × IsOfLive m S
+FitsMove script t (Deferred m) S = FitsDeferred m S.synchronization.deferred
+FitsMove script t (Requests m) S = FitsRequests m S.synchronization.requests S.synchronization.logons × IsOfLive m S
 FitsMove script t (Locks m) S = FitsLocks t m S
 FitsMove script t (Logons m) S = FitsLogons m S
 FitsMove script t (Death m) S = FitsDeath t m S
@@ -423,4 +429,4 @@ pub record Fits (script : Script) (t : ObjNo) (ms : List Move) (S : State) : Typ
 -- the state in the middle of an action of a thread
 pub record Sane (script : Script) (t : ObjNo) (S : State) : Type 0 where
   pub rows : AreRows script S
-  pub inside : t.0 < length S.threads
+  pub inside : t.0 < length S.references.threads

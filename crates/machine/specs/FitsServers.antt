@@ -26,11 +26,11 @@ use Rattle.machine.specs.WellFormed.{IsAlive, IsLiveThread, IsUntold}
 
 -- a further session may be disconnected, open or about to be
 abbrev pub HasSpare : State → Type 0
-HasSpare S = sessions_used S.threads S.servers S.messages.outstanding < sessions_there S.servers
+HasSpare S = sessions_used S.references.threads S.serving.servers S.serving.messages.outstanding < sessions_there S.serving.servers
 
 -- a further message may be accepted, or a further session opened that a message disconnects
 abbrev pub HasNumber : State → Type 0
-HasNumber S = numbers_used S.threads S.servers S.messages < 2 * THREAD_INSTRUCTIONS * THREADS
+HasNumber S = numbers_used S.references.threads S.serving.servers S.serving.messages < 2 * THREAD_INSTRUCTIONS * THREADS
 
 abbrev pub MaySend : Option Part → State → Type 0
 MaySend (Some part.Send) S = HasSpare S
@@ -38,56 +38,56 @@ MaySend _ S = Unit {0}
 
 -- a thread awaits no end of a message, unless it is dead
 abbrev pub IsUncalled : State → ObjNo → Type 0
-IsUncalled S u = (row : ThreadRow) → thread_of S u ≡ Some row → row.stage ≡ Live → times_called S.messages.outstanding u ≡ 0
+IsUncalled S u = (row : ThreadRow) → thread_of S u ≡ Some row → row.stage ≡ Live → times_called S.serving.messages.outstanding u ≡ 0
 
 -- an object that may become a server of a thread: the one that is made next, and the thread is live
 pub record MayStartServer (S : State) (o u : ObjNo) : Type 0 where
   pub next : o ≡ next_object S
   pub room : (next_object S).0 < OBJECTS
-  pub owner : IsLiveThread S.threads u
+  pub owner : IsLiveThread S.references.threads u
 
 -- an object that may become a session at a server: it was made, after all threads, is no session yet, and no server, session, message or duty
 -- refers to it; and the server is another object, is alive and isn't closing
 pub record MayJoinServer (S : State) (s o : ObjNo) : Type 0 where
-  pub made : s.0 < length S.objects
-  pub later : length S.threads ≤ s.0
+  pub made : s.0 < length S.references.objects
+  pub later : length S.references.threads ≤ s.0
   pub other : s.0 ≢ o.0
-  pub fresh : session_at S.servers s ≡ None
-  pub alone : IsAlone S.servers s
+  pub fresh : session_at S.serving.servers s ≡ None
+  pub alone : IsAlone S.serving.servers s
   pub unnamed : server_names S s ≡ 0
-  pub unowed : total (total (owed_names s)) S.owed ≡ 0
-  pub server : IsServer S.servers o
-  pub accepts : is_closing S.servers o ≡ false
+  pub unowed : total (total (owed_names s)) S.references.owed ≡ 0
+  pub server : IsServer S.serving.servers o
+  pub accepts : is_closing S.serving.servers o ≡ false
   pub alive : IsAlive (object_of S o)
 
 -- a server that may end: it is closing, and no message and no session of it is left
 pub record MayEnd (S : State) (o : ObjNo) : Type 0 where
-  pub closing : is_closing S.servers o ≡ true
-  pub finished : messages_at S.messages o ≡ []
-  pub detached : linked_at S.servers o ≡ []
+  pub closing : is_closing S.serving.servers o ≡ true
+  pub finished : messages_at S.serving.messages o ≡ []
+  pub detached : linked_at S.serving.servers o ≡ []
 
 -- a move in the rows of servers and sessions fits the state
 abbrev pub FitsServers : ServerMove → State → Type 0
 FitsServers (Start o u) S = MayStartServer S o u
 FitsServers (Join s o slots u) S = MayJoinServer S s o
-FitsServers (Close o) S = IsServer S.servers o
+FitsServers (Close o) S = IsServer S.serving.servers o
 FitsServers (CloseAll u) S = Unit {0}
-FitsServers (SetOpen s true) S = IsSession S.servers s × HasSpare S × HasNumber S
-FitsServers (SetOpen s false) S = IsSession S.servers s
+FitsServers (SetOpen s true) S = IsSession S.serving.servers s × HasSpare S × HasNumber S
+FitsServers (SetOpen s false) S = IsSession S.serving.servers s
 FitsServers (End o) S = MayEnd S o
 
 -- how a message may be sent: with a status that is awaited and that nothing else has; with a wait for its end, and for no other's; or while a
 -- session may be disconnected
 abbrev pub FitsWay : ObjNo → Way → State → Type 0
-FitsWay u (Async s) S = IsUntold S.requests S.logons u s × (times_sent S.messages.outstanding u s ≡ 0)
-FitsWay u Sync S = (times_called S.messages.outstanding u ≡ 0) × ((row : ThreadRow) → thread_of S u ≡ Some row → row.waiting ≡ waiting.Reply)
+FitsWay u (Async s) S = IsUntold S.synchronization.requests S.synchronization.logons u s × (times_sent S.serving.messages.outstanding u s ≡ 0)
+FitsWay u Sync S = (times_called S.serving.messages.outstanding u ≡ 0) × ((row : ThreadRow) → thread_of S u ≡ Some row → row.waiting ≡ waiting.Reply)
 FitsWay u Disconnect S = HasSpare S
 
 -- a message that may be accepted: its session and its client are alive, they are a session and a thread, its server is an object, and a number
 -- is left for it
 pub record MayAccept (S : State) (row : MsgRow) : Type 0 where
   pub session : IsAlive (object_of S row.session)
-  pub known : IsSession S.servers row.session
+  pub known : IsSession S.serving.servers row.session
   pub client : IsAlive (object_of S row.client)
   pub thread : is_some (thread_of S row.client) ≡ true
   pub server : row.server.0 < OBJECTS
@@ -100,9 +100,9 @@ pub record MayAccept (S : State) (row : MsgRow) : Type 0 where
 abbrev pub FitsMessages : MessageMove → State → Type 0
 FitsMessages (Accept slots row) S = MayAccept S row
 FitsMessages (Take o) S = o.0 < OBJECTS
-FitsMessages (Finish m code) S = IsSome (message_of S.messages m)
+FitsMessages (Finish m code) S = IsSome (message_of S.serving.messages m)
 
 -- where a message takes a slot one is left of those that its session may use
 abbrev pub HasSlot : MessageMove → State → Type 0
-HasSlot (Accept slots row) S = (is_async row.way && is_full S.messages row.session slots) ≡ false
+HasSlot (Accept slots row) S = (is_async row.way && is_full S.serving.messages row.session slots) ≡ false
 HasSlot m S = Unit {0}

@@ -12,7 +12,7 @@ pub record IsFresh (S : State) (o : ObjNo) : Type 0 where
   pub object : object_of S o ≡ None
   pub thread : thread_of S o ≡ None
   pub count : count_of S o ≡ 0
-  pub owner : owner_at S.locks o ≡ None
-  pub waiters : waiters_at S.locks o ≡ []
-  pub session : session_at S.servers o ≡ None
-  pub linked : linked_at S.servers o ≡ []
+  pub owner : owner_at S.synchronization.locks o ≡ None
+  pub waiters : waiters_at S.synchronization.locks o ≡ []
+  pub session : session_at S.serving.servers o ≡ None
+  pub linked : linked_at S.serving.servers o ≡ []

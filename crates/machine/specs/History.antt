@@ -46,7 +46,7 @@ after script history = after_from script (boot script) history
 -- nobody could act: no item waits in the immediate queue, and no thread is able. This is where the choice of the next actor,
 -- which needs the ready list, is nobody
 pub record IsIdle (script : Script) (S : State) : Type 0 where
-  pub none : next_immediate S.deferred ≡ None
+  pub none : next_immediate S.synchronization.deferred ≡ None
   pub nobody : (t : ObjNo) → is_able script S t ≡ false
 
 -- an able thread may act, and the oldest item of the immediate queue; a declared interrupt may come and a time slice
@@ -55,7 +55,7 @@ abbrev pub CanAct : Script → State → Actor → Type 0
 CanAct script S (Thread t) = IsTrue (is_able script S t)
 CanAct script S Idle = IsIdle script S
 CanAct script S (Irq k) = IsTrue (declares_interrupt script k)
-CanAct script S Idfc = IsTrue (is_some (next_immediate S.deferred))
+CanAct script S Idfc = IsTrue (is_some (next_immediate S.synchronization.deferred))
 CanAct script S Tick = Unit {0}
 
 -- an entry that may stand at a place: its actor may act, and it tells what the actor does

@@ -24,20 +24,20 @@ use Rattle.machine.specs.Moves.{use_of}
 
 -- the mutexes that a thread holds, in order of taking
 abbrev pub held_mutexes : State → ObjNo → List Holding
-held_mutexes S t = map (λ o. Mutex o) (slice_index_or S.mutexes t.0 [])
+held_mutexes S t = map (λ o. Mutex o) (slice_index_or S.synchronization.mutexes t.0 [])
 
 -- what an owner has of its closing servers, one server after the other in order of making: the messages in order of acceptance, the
 -- linked sessions in order of making, and then the server itself
 abbrev pub server_holdings : State → ObjNo → List Holding
 server_holdings S o =
-    map (λ (m : Message). OfMessage m.number) (messages_at S.messages o) ++ map (λ s. OfLink s o) (linked_at S.servers o) ++ OfServer o ∷ []
+    map (λ (m : Message). OfMessage m.number) (messages_at S.serving.messages o) ++ map (λ s. OfLink s o) (linked_at S.serving.servers o) ++ OfServer o ∷ []
 
 abbrev pub closing_holdings : State → List ObjNo → List Holding
 closing_holdings S [] = []
-closing_holdings S (o ∷ os) = (if is_closing S.servers o then server_holdings S o else []) ++ closing_holdings S os
+closing_holdings S (o ∷ os) = (if is_closing S.serving.servers o then server_holdings S o else []) ++ closing_holdings S os
 
 abbrev pub held_servers : State → ObjNo → List Holding
-held_servers S t = closing_holdings S (owned_by S.owned t)
+held_servers S t = closing_holdings S (owned_by S.serving.owned t)
 
 -- what its present call uses, if it uses anything
 abbrev pub held_use : Option ObjNo → List Holding
@@ -74,15 +74,15 @@ left_of p None = 0
 left_of p (Some row) = if row.process.0 == p.0 then stage_left row.stage else 0
 
 abbrev pub has_one_left : State → ObjNo → Bool
-has_one_left S p = total (left_of p) S.threads == 1
+has_one_left S p = total (left_of p) S.references.threads == 1
 
 -- the handles of its process are given up by a thread where no other thread of it is left
 abbrev pub process_handles : State → ObjNo → ObjNo → List Holding
-process_handles S t p = if total (left_of p) S.threads == left_of p (thread_of S t) then held_handles (InProcess p) 0 (table_of S p) else []
+process_handles S t p = if total (left_of p) S.references.threads == left_of p (thread_of S t) then held_handles (InProcess p) 0 (table_of S p) else []
 
 -- the logons on it, in order of making
 abbrev pub held_logons : State → ObjNo → List Holding
-held_logons S t = map (λ (logon : ObjNo × ℕ). Logon logon.0 logon.1) (logons_on S.logons t)
+held_logons S t = map (λ (logon : ObjNo × ℕ). Logon logon.0 logon.1) (logons_on S.synchronization.logons t)
 
 -- what of it isn't a handle
 abbrev pub use_held : Option ObjNo → List Held
@@ -91,10 +91,10 @@ use_held (Some o) = held.Temp o ∷ []
 
 abbrev pub held_of : State → ObjNo → List Held
 held_of S t =
-    map (λ o. held.Mutex o) (slice_index_or S.mutexes t.0 [])
-    ++ map (λ o. held.Server o) (owned_by S.owned t)
+    map (λ o. held.Mutex o) (slice_index_or S.synchronization.mutexes t.0 [])
+    ++ map (λ o. held.Server o) (owned_by S.serving.owned t)
     ++ use_held (use_of S t)
-    ++ map (λ (logon : ObjNo × ℕ). held.Logon logon.0 logon.1) (logons_on S.logons t)
+    ++ map (λ (logon : ObjNo × ℕ). held.Logon logon.0 logon.1) (logons_on S.synchronization.logons t)
 
 -- what the thread of a row still has
 abbrev pub holdings : State → ObjNo → ThreadRow → List Holding

@@ -46,7 +46,7 @@ done_by script S plan = carried_out script supervisor S (decision_by script supe
 
 -- the oldest item of the immediate queue
 unfoldable pub immediate : Script → State → Transition
-immediate script S = done_by script S (immediate_plan script S (next_immediate S.deferred))
+immediate script S = done_by script S (immediate_plan script S (next_immediate S.synchronization.deferred))
 
 -- an interrupt
 unfoldable pub interrupt : Script → State → ℕ → Transition

@@ -40,9 +40,9 @@ logon_row t u s (Some row) = answer t (Of word.Logon Do) (Requests (SetPending t
 -- The second step. No status comes to be pending between the look and this.
 abbrev pub logon_do : State → ObjNo → ℕ → Option ObjNo → Decision
 logon_do S t s None = nothing
-logon_do S t s (Some u) = if is_pending S.requests t s then nothing else logon_row t u s (thread_of S u)
+logon_do S t s (Some u) = if is_pending S.synchronization.requests t s then nothing else logon_row t u s (thread_of S u)
 
 -- first the look, for which a status that is pending is in use, and then the logon
 abbrev pub logon_step : State → ObjNo → ThreadRow → ℕ → ℕ → Option Part → Decision
-logon_step S t row x s None = if is_pending S.requests t s then refuse t (Of word.Logon Look) InUse else look_kind S t row Thread word.Logon x
+logon_step S t row x s None = if is_pending S.synchronization.requests t s then refuse t (Of word.Logon Look) InUse else look_kind S t row Thread word.Logon x
 logon_step S t row x s (Some part) = logon_do S t s row.uses

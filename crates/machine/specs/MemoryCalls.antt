@@ -20,4 +20,4 @@ fill_do t row at length byte =
 
 -- the byte is answered
 abbrev pub peek_do : State → ObjNo → ThreadRow → ℕ → Decision
-peek_do S t row at = answer t (Of word.Peek Do) [] (pos (byte_of S.memories row.process at))
+peek_do S t row at = answer t (Of word.Peek Do) [] (pos (byte_of S.services.memories row.process at))

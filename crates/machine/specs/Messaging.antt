@@ -41,11 +41,11 @@ slots_of_row None = Pool
 slots_of_row (Some row) = row.slots
 
 abbrev pub slots_of : State → ObjNo → Slots
-slots_of S s = slots_of_row (session_at S.servers s)
+slots_of S s = slots_of_row (session_at S.serving.servers s)
 
 -- the server that accepts messages of a session: the one that the session is linked to, unless it is closing
 abbrev pub open_server : State → ObjNo → Option ObjNo
-open_server S s = if accepts S.servers (server_of S.servers s) then server_of S.servers s else None
+open_server S s = if accepts S.serving.servers (server_of S.serving.servers s) then server_of S.serving.servers s else None
 
 -- a thread that waits for a message of this server waits no longer
 abbrev pub is_receiving : ObjNo → Waiting → Bool
@@ -62,7 +62,7 @@ wake_receiver S o (Some u) = wake_row o u (thread_of S u)
 
 -- a message of a client is sent over a session to a server, whose owner may wait for it
 abbrev pub post : State → ObjNo → ObjNo → ObjNo → ℤ → List Arg → Way → List Move
-post S t s o function args way = Messages (Accept (slots_of S s) (new_row s o t function args way)) ∷ wake_receiver S o (owner_of S.servers o)
+post S t s o function args way = Messages (Accept (slots_of S s) (new_row s o t function args way)) ∷ wake_receiver S o (owner_of S.serving.servers o)
 
 -- where a message that connects is finished with a failure its session is open no more
 abbrev pub is_refused : Message → ℤ → Bool

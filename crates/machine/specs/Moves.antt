@@ -38,7 +38,7 @@ use Rattle.state_rows.specs.ServerRows.{server_of}
 
 -- the number that a new object gets, which is fresh (`Fresh`)
 abbrev pub next_object : State → ObjNo
-next_object S = record { 0 = length S.objects }
+next_object S = record { 0 = length S.references.objects }
 
 -- whether no number is left for a new object
 abbrev pub no_number_left : State → Bool
@@ -110,7 +110,7 @@ link_or None other = other
 link_or (Some p) other = Some p
 
 abbrev pub link_of : State → ObjNo → Option ObjNo
-link_of S o = link_or (link_of_row (thread_of S o)) (server_of S.servers o)
+link_of S o = link_or (link_of_row (thread_of S o)) (server_of S.serving.servers o)
 
 -- where an object dies as a reference is given up, its own link is taken off its row
 abbrev pub objects_closed : Bool → ObjNo → List (Option ObjectRow) → List (Option ObjectRow)
@@ -147,64 +147,82 @@ use_of S t = use_of_row (thread_of S t)
 -- the state after one move in an action of thread t
 abbrev pub moved : ObjNo → Move → State → State
 moved t (Make kind name h) S = record S {
-  objects = S.objects ++ Some (new_object kind name) ∷ [];
-  handles = tables_gain h (next_object S) S.handles;
-  threads = threads_gain h (next_object S) S.threads;
-  owned = owned_gain h (next_object S) S.owned;
+  references = record S.references {
+    objects = S.references.objects ++ Some (new_object kind name) ∷ [];
+    handles = tables_gain h (next_object S) S.references.handles;
+    threads = threads_gain h (next_object S) S.references.threads;
+  };
+  serving = record S.serving { owned = owned_gain h (next_object S) S.serving.owned };
 }
 moved t (Gain h o) S = record S {
-  handles = tables_gain h o S.handles;
-  threads = threads_gain h o S.threads;
+  references = record S.references {
+    handles = tables_gain h o S.references.handles;
+    threads = threads_gain h o S.references.threads;
+  };
 }
 moved t (Lose h o) S = record S {
-  objects = objects_closed (dies S o) o S.objects;
-  handles = tables_lose h S.handles;
-  threads = threads_closed (dies S o) o (threads_lose h S.threads);
-  owed = owing S.owed t (owed_by_close (dies S o) o (link_of S o));
-  servers = servers_closed (dies S o) o (servers_lose h S.servers);
-  owned = owned_lose h o S.owned;
+  references = record S.references {
+    objects = objects_closed (dies S o) o S.references.objects;
+    handles = tables_lose h S.references.handles;
+    threads = threads_closed (dies S o) o (threads_lose h S.references.threads);
+    owed = owing S.references.owed t (owed_by_close (dies S o) o (link_of S o));
+  };
+  serving = record S.serving {
+    servers = servers_closed (dies S o) o (servers_lose h S.serving.servers);
+    owned = owned_lose h o S.serving.owned;
+  };
 }
-moved t (Find u o) S = record S { threads = with_row S.threads u (with_found o) }
+moved t (Find u o) S = record S { references = record S.references { threads = with_row S.references.threads u (with_found o) } }
 moved t (Miss o) S = S
-moved t (GoOn u part) S = record S { threads = with_row S.threads u (with_part part) }
-moved t (Keep u number) S = record S { threads = with_row S.threads u (with_kept number) }
-moved t (Write u x value) S = record S { threads = with_row S.threads u (with_register x value) }
-moved t (WriteMessage u y number) S = record S { threads = with_row S.threads u (with_message y number) }
+moved t (GoOn u part) S = record S { references = record S.references { threads = with_row S.references.threads u (with_part part) } }
+moved t (Keep u number) S = record S { references = record S.references { threads = with_row S.references.threads u (with_kept number) } }
+moved t (Write u x value) S = record S { references = record S.references { threads = with_row S.references.threads u (with_register x value) } }
+moved t (WriteMessage u y number) S = record S { references = record S.references { threads = with_row S.references.threads u (with_message y number) } }
 moved t (PutDown u) S = record S {
-  threads = with_row S.threads u (with_use None);
-  owed = owing S.owed u (owed_use u (use_of S u));
+  references = record S.references {
+    threads = with_row S.references.threads u (with_use None);
+    owed = owing S.references.owed u (owed_use u (use_of S u));
+  };
 }
 moved t (Advance u) S = record S {
-  threads = with_row S.threads u advanced;
-  owed = owing S.owed u (owed_use u (use_of S u));
+  references = record S.references {
+    threads = with_row S.references.threads u advanced;
+    owed = owing S.references.owed u (owed_use u (use_of S u));
+  };
 }
-moved t (Wait u what) S = record S { threads = with_row S.threads u (with_waiting what) }
-moved t (Wake u) S = record S { threads = with_row S.threads u (with_waiting waiting.Nothing) }
-moved t (SetPriority u priority) S = record S { threads = with_row S.threads u (with_priority priority) }
-moved t (Nano m) S = record S { nano = nano_moved m S.nano }
-moved t (Deferred m) S = record S { deferred = deferred_moved m S.deferred }
-moved t (Requests m) S = record S { requests = request_moved m S.requests }
+moved t (Wait u what) S = record S { references = record S.references { threads = with_row S.references.threads u (with_waiting what) } }
+moved t (Wake u) S = record S { references = record S.references { threads = with_row S.references.threads u (with_waiting waiting.Nothing) } }
+moved t (SetPriority u priority) S = record S { references = record S.references { threads = with_row S.references.threads u (with_priority priority) } }
+moved t (Nano m) S = record S { synchronization = record S.synchronization { nano = nano_moved m S.synchronization.nano } }
+moved t (Deferred m) S = record S { synchronization = record S.synchronization { deferred = deferred_moved m S.synchronization.deferred } }
+moved t (Requests m) S = record S { synchronization = record S.synchronization { requests = request_moved m S.synchronization.requests } }
 moved t (Locks m) S = record S {
-  locks = lock_moved m S.locks;
-  mutexes = mutexes_moved m S.mutexes;
-  owed = owed_moved m S.owed;
+  synchronization = record S.synchronization {
+    locks = lock_moved m S.synchronization.locks;
+    mutexes = mutexes_moved m S.synchronization.mutexes;
+  };
+  references = record S.references { owed = owed_moved m S.references.owed };
 }
-moved t (Logons m) S = record S { logons = logons_moved m S.logons }
-moved t (Death m) S = record S { threads = with_row S.threads (death_thread m) (death_row m); owed = death_owed t m S.owed }
-moved t (Servers m) S = record S { servers = servers_moved m S.owned S.servers }
-moved t (Messages m) S = record S { messages = messages_moved m S.messages; owed = message_owed t m S.messages S.owed }
-moved t (Fill p at length byte) S = record S { memories = with_memory S.memories p (filled at length byte) }
-moved t (Copies m) S = record S { memories = memories_copied m S.threads S.messages S.memories; messages = messages_copied m S.threads S.messages }
+moved t (Logons m) S = record S { synchronization = record S.synchronization { logons = logons_moved m S.synchronization.logons } }
+moved t (Death m) S = record S { references = record S.references { threads = with_row S.references.threads (death_thread m) (death_row m); owed = death_owed t m S.references.owed } }
+moved t (Servers m) S = record S { serving = record S.serving { servers = servers_moved m S.serving.owned S.serving.servers } }
+moved t (Messages m) S = record S { serving = record S.serving { messages = messages_moved m S.serving.messages }; references = record S.references { owed = message_owed t m S.serving.messages S.references.owed } }
+moved t (Fill p at length byte) S = record S { services = record S.services { memories = with_memory S.services.memories p (filled at length byte) } }
+moved t (Copies m) S = record S { services = record S.services { memories = memories_copied m S.references.threads S.serving.messages S.services.memories }; serving = record S.serving { messages = messages_copied m S.references.threads S.serving.messages } }
 moved t (Pay (Close h o)) S = record S {
-  objects = objects_closed (dies S o) o S.objects;
-  threads = threads_closed (dies S o) o S.threads;
-  owed = owing (without_first S.owed t) t (owed_by_close (dies S o) o (link_of S o));
-  servers = servers_closed (dies S o) o S.servers;
+  references = record S.references {
+    objects = objects_closed (dies S o) o S.references.objects;
+    threads = threads_closed (dies S o) o S.references.threads;
+    owed = owing (without_first S.references.owed t) t (owed_by_close (dies S o) o (link_of S o));
+  };
+  serving = record S.serving { servers = servers_closed (dies S o) o S.serving.servers };
 }
 moved t (Pay (Sweep o)) S = record S {
-  objects = slice_set S.objects o.0 None;
-  threads = slice_set S.threads o.0 None;
-  owed = without_first S.owed t;
+  references = record S.references {
+    objects = slice_set S.references.objects o.0 None;
+    threads = slice_set S.references.threads o.0 None;
+    owed = without_first S.references.owed t;
+  };
 }
 
 -- what a move tells, from the state before it
@@ -230,7 +248,7 @@ told (Locks m) S = lock_told m
 told (Logons m) S = []
 told (Death m) S = death_told m
 told (Servers m) S = server_told m
-told (Messages m) S = message_told m S.messages
+told (Messages m) S = message_told m S.serving.messages
 told (Fill p at length byte) S = []
 told (Copies m) S = []
 told (Pay (Close h o)) S = closed_effects (dies S o) h o

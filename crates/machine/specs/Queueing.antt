@@ -17,7 +17,7 @@ use Rattle.machine.specs.Bodies.{add_call}
 abbrev pub queue_named : State → ObjNo → Option ℕ → Decision
 queue_named S t None = nothing
 queue_named S t (Some dfc) =
-    if is_queued S.deferred (Move dfc) then answer t (Of Queue Do) [] (pos 0)
+    if is_queued S.synchronization.deferred (Move dfc) then answer t (Of Queue Do) [] (pos 0)
     else answer t (Of Queue Do) (add_call S dfc ∷ []) (pos 1)
 
 abbrev pub queue_do : Script → State → ObjNo → List ℕ → Decision

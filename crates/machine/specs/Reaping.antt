@@ -66,8 +66,8 @@ stop t o = record { step = step.Stop; moves = Servers (End o) ∷ Lose (Own t) o
 
 -- one thing goes
 abbrev pub give_up : State → ObjNo → ThreadRow → Holding → Decision
-give_up S t row (Mutex o) = free_mutex t o (best_waiter (priority_of S) S.locks o)
-give_up S t row (OfMessage m) = finish_message S (message_of S.messages m)
+give_up S t row (Mutex o) = free_mutex t o (best_waiter (priority_of S) S.synchronization.locks o)
+give_up S t row (OfMessage m) = finish_message S (message_of S.serving.messages m)
 give_up S t row (OfLink s o) = detach s o
 give_up S t row (OfServer o) = stop t o
 give_up S t row (Use o) = record { step = step.Drop; moves = Lose (Temp t) o ∷ []; answer = None }
@@ -95,7 +95,7 @@ is_buried_by script dfc None = false
 is_buried_by script dfc (Some row) = burial_of script row.role == dfc && is_cleaned row.stage
 
 abbrev pub buried_by : Script → State → ℕ → Option ObjNo
-buried_by script S dfc = option_map (λ n. record { 0 = n }) (position (is_buried_by script dfc) S.threads)
+buried_by script S dfc = option_map (λ n. record { 0 = n }) (position (is_buried_by script dfc) S.references.threads)
 
 abbrev pub bury_found : Option ObjNo → List Move
 bury_found None = []
@@ -105,6 +105,6 @@ bury_found (Some u) = Death (death.Bury u) ∷ []
 abbrev pub bury : Script → State → ℕ → Decision
 bury script S dfc = record {
   step = step.Bury;
-  moves = Deferred (Take (queue_of S.deferred dfc)) ∷ bury_found (buried_by script S dfc);
+  moves = Deferred (Take (queue_of S.synchronization.deferred dfc)) ∷ bury_found (buried_by script S dfc);
   answer = None;
 }

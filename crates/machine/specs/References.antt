@@ -70,10 +70,10 @@ kernel_names S o = kernel_holds (thread_of S o)
 -- the count of an object: the number of handles, links, temporary references, ownerships, messages' references, owed closes and of
 -- the kernel's own references that name it
 abbrev pub server_names : State → ObjNo → ℕ
-server_names S o = total (total (mutex_names o)) S.owned + total (session_names o) S.servers.sessions + total (message_names o) S.messages.outstanding
+server_names S o = total (total (mutex_names o)) S.serving.owned + total (session_names o) S.serving.servers.sessions + total (message_names o) S.serving.messages.outstanding
 
 abbrev pub count_of : State → ObjNo → ℕ
-count_of S o = total (total (slot_names o)) S.handles + total (thread_names o) S.threads + kernel_names S o + total (total (owed_names o)) S.owed + total (total (mutex_names o)) S.mutexes + server_names S o
+count_of S o = total (total (slot_names o)) S.references.handles + total (thread_names o) S.references.threads + kernel_names S o + total (total (owed_names o)) S.references.owed + total (total (mutex_names o)) S.synchronization.mutexes + server_names S o
 
 -- whether an object dies as one of its references is given up: it has no other. Each move and each effect of a close asks
 -- this alone

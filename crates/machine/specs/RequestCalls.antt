@@ -18,7 +18,7 @@ use Rattle.machine.specs.Decide.{answer, refuse, wait_for, unless_holding}
 -- the status is pending, or the device has a request already: in use; else the device has this one
 abbrev pub request_do : State → ObjNo → ℕ → ℕ → Decision
 request_do S t d s =
-    if is_pending S.requests t s || is_some (request_at S.requests d) then refuse t (Of Request Do) error.InUse
+    if is_pending S.synchronization.requests t s || is_some (request_at S.synchronization.requests d) then refuse t (Of Request Do) error.InUse
     else answer t (Of Request Do) (Requests (Begin d t s) ∷ []) (pos 0)
 
 -- the device has no request of the thread: not found; else that is completed as cancelled
@@ -27,12 +27,12 @@ cancel_status t d None = refuse t (Of Cancel Do) error.NotFound
 cancel_status t d (Some s) = answer t (Of Cancel Do) (Requests (Complete d t s (error_code error.Cancel)) ∷ []) (pos 0)
 
 abbrev pub cancel_do : State → ObjNo → ℕ → Decision
-cancel_do S t d = cancel_status t d (status_of t (request_at S.requests d))
+cancel_do S t d = cancel_status t d (status_of t (request_at S.synchronization.requests d))
 
 -- a signal is there: the thread takes it; else it waits for one
 abbrev pub waitany_do : State → ObjNo → Decision
 waitany_do S t =
-    if signal_count S.requests t == 0 then wait_for t (Of Waitany Do) waiting.Any
+    if signal_count S.synchronization.requests t == 0 then wait_for t (Of Waitany Do) waiting.Any
     else answer t (Of Waitany Do) (Requests (TakeSignal t) ∷ []) (pos 0)
 
 abbrev pub waitany_step : State → ObjNo → Option Part → Decision
@@ -42,13 +42,13 @@ waitany_step S t (Some part) = answer t (Of Waitany Done) (Requests (TakeSignal 
 -- the status is completed and a signal is there: the thread takes that, and the status is answered; else it waits for both
 abbrev pub waitfor_do : State → ObjNo → ℕ → Decision
 waitfor_do S t s =
-    if is_pending S.requests t s || signal_count S.requests t == 0 then wait_for t (Of Waitfor Do) (waiting.Status s)
-    else answer t (Of Waitfor Do) (Requests (TakeSignal t) ∷ []) (value_of S.requests t s)
+    if is_pending S.synchronization.requests t s || signal_count S.synchronization.requests t == 0 then wait_for t (Of Waitfor Do) (waiting.Status s)
+    else answer t (Of Waitfor Do) (Requests (TakeSignal t) ∷ []) (value_of S.synchronization.requests t s)
 
 abbrev pub waitfor_step : State → ObjNo → ℕ → Option Part → Decision
 waitfor_step S t s None = unless_holding S t (Of Waitfor Do) (waitfor_do S t s)
-waitfor_step S t s (Some part) = answer t (Of Waitfor Done) (Requests (TakeSignal t) ∷ []) (value_of S.requests t s)
+waitfor_step S t s (Some part) = answer t (Of Waitfor Done) (Requests (TakeSignal t) ∷ []) (value_of S.synchronization.requests t s)
 
 -- the value of a status
 abbrev pub status_do : State → ObjNo → ℕ → Decision
-status_do S t s = answer t (Of Status Do) [] (value_of S.requests t s)
+status_do S t s = answer t (Of Status Do) [] (value_of S.synchronization.requests t s)

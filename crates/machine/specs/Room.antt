@@ -21,8 +21,8 @@ MayAdvance n threads = (k : ℕ) (row : ThreadRow) → slice_index_or threads k 
 
 -- so many further moves have room, and the number of each thread has 16 bits
 pub record HasRoom (n : ℕ) (S : State) : Type 0 where
-  pub objects : length S.objects + n ≤ 65535
-  pub threads : length S.threads ≤ 65535
-  pub instructions : MayAdvance n S.threads
-  pub tables : AreSmallTables S.handles
-  pub messages : S.messages.accepted + n ≤ 2147483647
+  pub objects : length S.references.objects + n ≤ 65535
+  pub threads : length S.references.threads ≤ 65535
+  pub instructions : MayAdvance n S.references.threads
+  pub tables : AreSmallTables S.references.handles
+  pub messages : S.serving.messages.accepted + n ≤ 2147483647

@@ -11,19 +11,19 @@ use Rattle.machine.specs.declared.state.State.{State}
 
 -- the object of this number, where it was made and isn't swept
 abbrev pub object_of : State → ObjNo → Option ObjectRow
-object_of S o = slice_index_or S.objects o.0 None
+object_of S o = slice_index_or S.references.objects o.0 None
 
 -- the handle table of a process or a thread
 abbrev pub table_of : State → ObjNo → List HandleSlot
-table_of S owner = slice_index_or S.handles owner.0 []
+table_of S owner = slice_index_or S.references.handles owner.0 []
 
 -- the thread of this number
 abbrev pub thread_of : State → ObjNo → Option ThreadRow
-thread_of S t = slice_index_or S.threads t.0 None
+thread_of S t = slice_index_or S.references.threads t.0 None
 
 -- what a thread owes, the oldest first
 abbrev pub owed_of : State → ObjNo → List Owed
-owed_of S t = slice_index_or S.owed t.0 []
+owed_of S t = slice_index_or S.references.owed t.0 []
 
 -- the oldest of what it owes
 abbrev pub first_of : List Owed → Option Owed

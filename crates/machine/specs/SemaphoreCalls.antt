@@ -29,7 +29,7 @@ wait_on t o count =
 -- the second step. The look refuses a thread that holds a fast mutex, and so does this: nobody waits with one
 abbrev pub wait_do : State → ObjNo → Option ObjNo → Decision
 wait_do S t None = nothing
-wait_do S t (Some o) = unless_holding S t (Of word.Wait Do) (wait_on t o (count_at S.locks o))
+wait_do S t (Some o) = unless_holding S t (Of word.Wait Do) (wait_on t o (count_at S.synchronization.locks o))
 
 -- first the look, then the wait, and once a signal came the answer
 abbrev pub wait_step : State → ObjNo → ThreadRow → ℕ → Option Part → Decision
@@ -45,7 +45,7 @@ signal_by t o Counted = answer t (Of word.Signal Do) (Locks (Signal o Counted) �
 
 abbrev pub signal_do : State → ObjNo → Option ObjNo → Decision
 signal_do S t None = nothing
-signal_do S t (Some o) = signal_by t o (signal_answer (best_waiter (priority_of S) S.locks o) (count_at S.locks o))
+signal_do S t (Some o) = signal_by t o (signal_answer (best_waiter (priority_of S) S.synchronization.locks o) (count_at S.synchronization.locks o))
 
 abbrev pub signal_step : State → ObjNo → ThreadRow → ℕ → Option Part → Decision
 signal_step S t row x None = look_kind S t row Semaphore word.Signal x

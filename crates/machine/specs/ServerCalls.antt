@@ -1,5 +1,5 @@
 -- `server`, `receive`, `complete` and `function`: a server and its messages.
-use Rattle.std.specs.Prelude.{ℕ, ℤ, pos, ◌==◌, ◌&&◌, Bool, false, if◌then◌else◌, length, slice_index, List, [], ◌∷◌, Option, Some, None}
+use Rattle.std.specs.Prelude.{ℕ, ℤ, pos, ◌==◌, ◌&&◌, Bool, false, if◌then◌else◌, slice_index, List, [], ◌∷◌, Option, Some, None}
 use Rattle.sym_base.specs.declared.error.Error.TheVariants.{AlreadyExists, BadHandle, Overflow}
 use Rattle.sym_base.specs.declared.kind.Kind.TheVariants as kind
 use Rattle.sym_base.specs.declared.number.ObjNo.{ObjNo}
@@ -38,7 +38,7 @@ make_server t o name x (Some handle) =
 -- the name is taken: it exists already; objects full: an overflow
 abbrev pub server_do : State → ObjNo → List ℕ → ℕ → Decision
 server_do S t name x =
-    if is_taken kind.Server name S.objects then refuse t (Of word.Server Do) AlreadyExists
+    if is_taken kind.Server name S.references.objects then refuse t (Of word.Server Do) AlreadyExists
     else if no_number_left S then refuse t (Of word.Server Do) Overflow
     else make_server t (next_object S) name x (thread_handle S t)
 
@@ -53,7 +53,7 @@ receive_next t o y (Some m) = take_message t (Of word.Receive Do) o y m
 
 abbrev pub receive_do : State → ObjNo → ℕ → Option ObjNo → Decision
 receive_do S t y None = nothing
-receive_do S t y (Some o) = unless_holding S t (Of word.Receive Do) (receive_next t o y (next_of S.messages o))
+receive_do S t y (Some o) = unless_holding S t (Of word.Receive Do) (receive_next t o y (next_of S.serving.messages o))
 
 -- the last step: a message came
 abbrev pub receive_came : ObjNo → ObjNo → ℕ → Option MsgNo → Decision
@@ -62,7 +62,7 @@ receive_came t o y (Some m) = take_message t (Of word.Receive Done) o y m
 
 abbrev pub receive_done : State → ObjNo → ℕ → Option ObjNo → Decision
 receive_done S t y None = nothing
-receive_done S t y (Some o) = receive_came t o y (next_of S.messages o)
+receive_done S t y (Some o) = receive_came t o y (next_of S.serving.messages o)
 
 abbrev pub receive_step : State → ObjNo → ThreadRow → ℕ → ℕ → Option Part → Decision
 receive_step S t row x y None = unless_holding S t (Of word.Receive Look) (look_kind S t row kind.Server word.Receive x)
@@ -76,11 +76,11 @@ is_owner t (Some u) = u.0 == t.0
 
 abbrev pub taken_by : State → ObjNo → Option Message → Option Message
 taken_by S t None = None
-taken_by S t (Some message) = if message.row.taken && is_owner t (owner_of S.servers message.row.server) then Some message else None
+taken_by S t (Some message) = if message.row.taken && is_owner t (owner_of S.serving.servers message.row.server) then Some message else None
 
 -- the message whose number a register has: one that a server of the thread took
 abbrev pub message_at : State → ObjNo → ThreadRow → ℕ → Option Message
-message_at S t row y = taken_by S t (message_of S.messages (record { 0 = slice_index row.messages y }))
+message_at S t row y = taken_by S t (message_of S.serving.messages (record { 0 = slice_index row.messages y }))
 
 -- no such message: a bad handle; else it is finished with the code
 abbrev pub complete_message : State → ObjNo → ℤ → Option Message → Decision

@@ -1,5 +1,5 @@
 -- `connect`, `send` and `call`: sessions with a server, and messages over them.
-use Rattle.std.specs.Prelude.{ℕ, ℤ, pos, ◌==◌, true, if◌then◌else◌, length, List, [], ◌∷◌, Option, Some, None}
+use Rattle.std.specs.Prelude.{ℕ, ℤ, pos, true, if◌then◌else◌, List, [], ◌∷◌, Option, Some, None}
 use Rattle.std.specs.Ordering.{int_eq}
 use Rattle.sym_base.specs.ErrorCode.{error_code}
 use Rattle.sym_base.specs.declared.error.Error.TheVariants.{InUse, Overflow, ServerTerminated, ServerBusy}
@@ -55,7 +55,7 @@ connect_to S t slots o (Some server) =
 
 abbrev pub connect_make : State → ObjNo → Slots → Option ObjNo → Decision
 connect_make S t slots None = nothing
-connect_make S t slots (Some o) = connect_to S t slots o (server_at S.servers o)
+connect_make S t slots (Some o) = connect_to S t slots o (server_at S.serving.servers o)
 
 -- the connection fails: the session's handle goes, and the code is answered
 abbrev pub fail_connect : ObjNo → ThreadRow → Part → ObjNo → ℤ → Decision
@@ -81,7 +81,7 @@ end_connect t row x s code =
 
 abbrev pub connect_done : State → ObjNo → ThreadRow → ℕ → Option ObjNo → Decision
 connect_done S t row x None = nothing
-connect_done S t row x (Some s) = end_connect t row x s (reply_of S.requests t)
+connect_done S t row x (Some s) = end_connect t row x s (reply_of S.synchronization.requests t)
 
 -- the session that the steps of a connect made
 abbrev pub session_made : State → ObjNo → ThreadRow → Option ObjNo
@@ -100,17 +100,17 @@ connect_return S t row = return_to S t row word.Connect AtMake
 abbrev pub send_to : State → ObjNo → ObjNo → ℤ → ℕ → List Arg → Option ObjNo → Decision
 send_to S t s function y args None = refuse t (Of word.Send Do) ServerTerminated
 send_to S t s function y args (Some o) =
-    if is_full S.messages s (slots_of S s) then refuse t (Of word.Send Do) ServerBusy
+    if is_full S.serving.messages s (slots_of S s) then refuse t (Of word.Send Do) ServerBusy
     else answer t (Of word.Send Do) (GoOn t Done ∷ Requests (SetPending t y) ∷ post S t s o function args (Async y)) (pos 0)
 
 -- the second step. No status comes to be pending between the look and this
 abbrev pub send_do : State → ObjNo → ℤ → ℕ → List Arg → Option ObjNo → Decision
 send_do S t function y args None = nothing
-send_do S t function y args (Some s) = if is_pending S.requests t y then nothing else send_to S t s function y args (open_server S s)
+send_do S t function y args (Some s) = if is_pending S.synchronization.requests t y then nothing else send_to S t s function y args (open_server S s)
 
 abbrev pub send_step : State → ObjNo → ThreadRow → ℕ → ℕ → ℕ → Args → Option Part → Decision
 send_step S t row x function y args None =
-    if is_pending S.requests t y then refuse t (Of word.Send Look) InUse else look_kind S t row kind.Session word.Send x
+    if is_pending S.synchronization.requests t y then refuse t (Of word.Send Look) InUse else look_kind S t row kind.Session word.Send x
 send_step S t row x function y args (Some Done) = nothing
 send_step S t row x function y args (Some part) = send_do S t (pos function) y (args_of args) row.uses
 
@@ -130,4 +130,4 @@ call_do S t function args (Some s) = unless_holding S t (Of word.Call Do) (call_
 abbrev pub call_step : State → ObjNo → ThreadRow → ℕ → ℕ → Args → Option Part → Decision
 call_step S t row x function args None = unless_holding S t (Of word.Call Look) (look_kind S t row kind.Session word.Call x)
 call_step S t row x function args (Some Do) = call_do S t (pos function) (args_of args) row.uses
-call_step S t row x function args (Some part) = answer t (Of word.Call Done) [] (reply_of S.requests t)
+call_step S t row x function args (Some part) = answer t (Of word.Call Done) [] (reply_of S.synchronization.requests t)

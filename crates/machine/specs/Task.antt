@@ -108,7 +108,7 @@ task_of_row script S t (Some row) =
     return_or (is_returning row.part) (instruction script row)
     (pay_or (first_owed S t)
     (by_stage row.stage (holdings S t row)
-    (live_task row.role (next_call S.deferred row.role) (work_or (held_servers S t) (step_or_end (is_protected S.nano t) (instruction script row))))))
+    (live_task row.role (next_call S.synchronization.deferred row.role) (work_or (held_servers S t) (step_or_end (is_protected S.synchronization.nano t) (instruction script row))))))
 
 -- what a thread does next, None where there is nothing
 abbrev pub task_of : Script → State → ObjNo → Option Task
@@ -128,7 +128,7 @@ is_waiting S t = is_waiting_row (thread_of S t)
 
 -- whether a thread is stopped: it is suspended, and nothing protects it from that
 abbrev pub is_stopped : State → ObjNo → Bool
-is_stopped S t = not (suspend_count S.nano t == 0) && not (is_protected S.nano t)
+is_stopped S t = not (suspend_count S.synchronization.nano t == 0) && not (is_protected S.synchronization.nano t)
 
 -- a thread is ready where it has something to do, doesn't wait and isn't stopped
 abbrev pub is_ready : Script → State → ObjNo → Bool
@@ -136,4 +136,4 @@ is_ready script S t = not (is_waiting S t) && not (is_stopped S t) && is_some (t
 
 -- a thread is able to act where it is ready and doesn't want a fast mutex that is held
 abbrev pub is_able : Script → State → ObjNo → Bool
-is_able script S t = is_ready script S t && is_none (wanted_holder S.nano t)
+is_able script S t = is_ready script S t && is_none (wanted_holder S.synchronization.nano t)

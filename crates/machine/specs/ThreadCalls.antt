@@ -46,11 +46,11 @@ refusal_of (Some row) = unless_live row.stage (refusal_of_role row.role)
 
 -- one suspension more, of which there are at most 127
 abbrev pub suspend_move : State → ObjNo → Option Move
-suspend_move S u = if suspend_count S.nano u == 127 then None else Some (Nano (Suspend u))
+suspend_move S u = if suspend_count S.synchronization.nano u == 127 then None else Some (Nano (Suspend u))
 
 -- one suspension less
 abbrev pub resume_move : State → ObjNo → Option Move
-resume_move S u = if suspend_count S.nano u == 0 then None else Some (Nano (Resume u))
+resume_move S u = if suspend_count S.synchronization.nano u == 0 then None else Some (Nano (Resume u))
 
 -- the call's move, or an error where there is none
 abbrev pub move_or_refuse : ObjNo → Word → Error → Option Move → Decision

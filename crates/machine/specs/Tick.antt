@@ -16,7 +16,7 @@ moved_behind qs (Some t) = unlisted t qs ++ t ∷ []
 
 -- the ready list after the end of a time slice
 abbrev pub after_tick : State → List ObjNo → List ObjNo
-after_tick S qs = moved_behind qs (turned S.nano (first_ready S qs))
+after_tick S qs = moved_behind qs (turned S.synchronization.nano (first_ready S qs))
 
 -- the end of a time slice
 abbrev pub tick : State → Transition

@@ -29,6 +29,10 @@ use Rattle.state_rows.specs.declared.handle_slot.HandleSlot.{HandleSlot}
 use Rattle.state_rows.specs.declared.thread.ThreadRow.{ThreadRow}
 use Rattle.state_rows.specs.declared.servers.ServerRows.{ServerRows}
 use Rattle.machine.specs.declared.state.State.{State}
+use Rattle.machine.specs.declared.references.References.{References}
+use Rattle.machine.specs.declared.synchronization.Synchronization.{Synchronization}
+use Rattle.machine.specs.declared.serving.Serving.{Serving}
+use Rattle.machine.specs.declared.services.Services.{Services}
 use Rattle.machine.specs.Serving.{IsUnlinked, MayBeLinked, AreServers, AreMessages}
 use Rattle.machine.specs.Rows.{object_of}
 use Rattle.state_rows.specs.HandleSlots.{IsTable, slot_at}
@@ -43,13 +47,13 @@ use Rattle.machine.specs.Arrivals.{is_listed}
 use Rattle.state_rows.specs.DeclaredCalls.{calls_of}
 
 -- processes and threads, the supervisor among them, have the least numbers, and a handle table and a list of duties each
-pub record AreSized (S : State) : Type 0 where
-  pub tables : length S.handles ≡ length S.threads
-  pub duties : length S.owed ≡ length S.threads
-  pub first : length S.threads ≤ length S.objects
-  pub supervised : 2 ≤ length S.threads
-  pub threads_few : length S.threads ≤ BOOT_OBJECTS
-  pub objects_few : length S.objects ≤ OBJECTS
+pub record AreSized (r : References) : Type 0 where
+  pub tables : length r.handles ≡ length r.threads
+  pub duties : length r.owed ≡ length r.threads
+  pub first : length r.threads ≤ length r.objects
+  pub supervised : 2 ≤ length r.threads
+  pub threads_few : length r.threads ≤ BOOT_OBJECTS
+  pub objects_few : length r.objects ≤ OBJECTS
 
 -- each handle table is one
 abbrev pub AreTables : List (List HandleSlot) → Type 0
@@ -263,7 +267,7 @@ owed_sweeps o (Close holder x) = 0
 owed_sweeps o (Sweep x) = same x o
 
 abbrev pub sweeps_of : State → ObjNo → ℕ
-sweeps_of S o = total (total (owed_sweeps o)) S.owed
+sweeps_of S o = total (total (owed_sweeps o)) S.references.owed
 
 -- objects live by their references: one that is referred to is alive, one that is alive is referred to, and
 -- exactly a dead one's sweep is owed, once
@@ -282,22 +286,40 @@ pub record IsReadyList (script : Script) (S : State) (qs : List ObjNo) : Type 0 
   pub exact : (t : ObjNo) → is_listed qs t ≡ is_ready script S t
   pub once : AreApart qs
 
+-- The conditions on the rows of each group. Each reads its group whole, and of the other groups what it names.
+
+-- objects, handle tables, threads and duties; the sessions and the messages that were accepted say whose closes may be owed
+pub record AreReferenceRows (script : Script) (servers : ServerRows) (accepted : ℕ) (r : References) : Type 0 where
+  pub sized : AreSized r
+  pub tables : AreTables r.handles
+  pub threads : AreThreads script r.threads
+  pub duties : AreDuties r.threads servers accepted r.owed
+  pub spent : AreSpent r.objects r.handles r.threads
+
+-- what threads synchronize by, for so many threads and so many objects
+pub record AreSynchronizationRows (script : Script) (count objects : ℕ) (threads : List (Option ThreadRow)) (owed : List (List Owed)) (r : Synchronization) : Type 0 where
+  pub nano : AreSynchronized script threads r.nano
+  pub deferred : AreCalls script r.deferred
+  pub requests : AreRequests count r.requests
+  pub locks : AreLocks objects threads r.mutexes owed r.locks
+  pub logons : AreLogons count r.requests r.logons
+  pub awaited : AreAwaited threads r.requests r.logons
+
+-- servers and messages, for so many objects; locks are no servers, and a message's status is told by nothing else
+pub record AreServingRows (objects : ℕ) (threads : List (Option ThreadRow)) (locks : LockRows) (untold : ObjNo → ℕ → Type 0) (r : Serving) : Type 0 where
+  pub servers : AreServers (λ row. is_spent row.stage) objects threads locks r.owned r.servers
+  pub messages : AreMessages untold threads r.servers r.messages
+
+-- what the kernel keeps for processes
+pub record AreServiceRows (threads : List (Option ThreadRow)) (r : Services) : Type 0 where
+  pub memories : AreMemories threads r.memories
+
 -- the rows of every state, also of one in the middle of an action
 pub record AreRows (script : Script) (S : State) : Type 0 where
-  pub sized : AreSized S
-  pub tables : AreTables S.handles
-  pub threads : AreThreads script S.threads
-  pub duties : AreDuties S.threads S.servers S.messages.accepted S.owed
-  pub nano : AreSynchronized script S.threads S.nano
-  pub deferred : AreCalls script S.deferred
-  pub requests : AreRequests (length S.threads) S.requests
-  pub locks : AreLocks (length S.objects) S.threads S.mutexes S.owed S.locks
-  pub memories : AreMemories S.threads S.memories
-  pub logons : AreLogons (length S.threads) S.requests S.logons
-  pub spent : AreSpent S.objects S.handles S.threads
-  pub awaited : AreAwaited S.threads S.requests S.logons
-  pub servers : AreServers (λ row. is_spent row.stage) (length S.objects) S.threads S.locks S.owned S.servers
-  pub messages : AreMessages (IsUntold S.requests S.logons) S.threads S.servers S.messages
+  pub references : AreReferenceRows script S.serving.servers S.serving.messages.accepted S.references
+  pub synchronization : AreSynchronizationRows script (length S.references.threads) (length S.references.objects) S.references.threads S.references.owed S.synchronization
+  pub serving : AreServingRows (length S.references.objects) S.references.threads S.synchronization.locks (IsUntold S.synchronization.requests S.synchronization.logons) S.serving
+  pub services : AreServiceRows S.references.threads S.services
   pub lives : AreLives S
 
 -- a state and its ready list

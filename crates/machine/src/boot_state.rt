@@ -14,70 +14,56 @@ use crate::boot_lists::{
     empty_lists, fresh_tables, memories_of, objects_of, ready_from, threads_of,
 };
 use crate::boot_rows::{nano_of, no_locks, no_messages, no_requests, no_servers};
-use crate::state_parts::{Holdings, Serving, Standing, Synchronizing, join};
-use crate::{DeferredRows, State};
+use crate::{DeferredRows, References, Services, Serving, State, Synchronization};
 use script_types::Script;
 use state_rows::calls_of;
 use std::alloc::Global;
 use sym_base::{Items, Limits, NoMemory, ThreadNo};
 
-/// What stands at boot, each with an empty table.
-fn standing_of(alloc: Global, all: &[Born]) -> Result<Standing, NoMemory>
+/// What stands at boot, each with an empty table, and owing nothing.
+fn references_of(alloc: Global, all: &[Born]) -> Result<References, NoMemory>
     requires { length all.now ≤ 65536 }
-    ensures objects { IfOk result (λ s. s.objects ≡ map (λ b. Some b.object) all.now) }
-    ensures handles { IfOk result (λ s. s.handles ≡ map (λ _. replicate 256 fresh_slot) all.now) }
-    ensures threads { IfOk result (λ s. s.threads ≡ map (λ b. b.thread) all.now) }
+    ensures { IfOk result (λ references. references ≡ record { objects = map (λ b. Some b.object) all.now; handles = map (λ _. replicate 256 fresh_slot) all.now; threads = map (λ b. b.thread) all.now; owed = map (λ _. []) all.now }) }
 {
     let objects = objects_of(alloc, all)?;
     let handles = fresh_tables(alloc, all)?;
     let threads = threads_of(alloc, all)?;
-    Ok(Standing {
+    let owed = empty_lists(alloc, all)?;
+    Ok(References {
         objects,
         handles,
         threads,
-    })
-}
-
-/// Nobody owes or holds anything or is logged on to at boot, and each byte is 0.
-fn no_holdings(alloc: Global, all: &[Born]) -> Result<Holdings, NoMemory>
-    ensures owed { IfOk result (λ h. h.owed ≡ map (λ _. []) all.now) }
-    ensures mutexes { IfOk result (λ h. h.mutexes ≡ map (λ _. []) all.now) }
-    ensures logons { IfOk result (λ h. h.logons ≡ map (λ _. []) all.now) }
-    ensures memories { IfOk result (λ h. h.memories ≡ map memory_of all.now) }
-{
-    let owed = empty_lists(alloc, all)?;
-    let mutexes = empty_lists(alloc, all)?;
-    let logons = empty_lists(alloc, all)?;
-    let memories = memories_of(alloc, all)?;
-    Ok(Holdings {
         owed,
-        mutexes,
-        logons,
-        memories,
     })
 }
 
-/// Nobody synchronizes, asks for anything, or locks.
-fn synchronizing_of(alloc: Global, fast: u8, all: &[Born]) -> Result<Synchronizing, NoMemory>
-    ensures nano { IfOk result (λ s. s.nano ≡ nano_of fast all.now) }
-    ensures requests { IfOk result (λ s. s.requests ≡ request_rows (length all.now) DEVICES) }
-    ensures locks { IfOk result (λ s. s.locks ≡ lock_rows OBJECTS) }
+/// Nobody synchronizes, asks for anything, locks, or is logged on to.
+fn synchronization_of(
+    alloc: Global,
+    fast: u8,
+    calls: DeferredRows,
+    all: &[Born],
+) -> Result<Synchronization, NoMemory>
+    ensures { IfOk result (λ synchronization. synchronization ≡ record { nano = nano_of fast all.now; deferred = calls; requests = request_rows (length all.now) DEVICES; locks = lock_rows OBJECTS; mutexes = map (λ _. []) all.now; logons = map (λ _. []) all.now }) }
 {
     let nano = nano_of(alloc, fast, all)?;
     let requests = no_requests(alloc, all.len())?;
     let locks = no_locks(alloc, Limits::OBJECTS)?;
-    Ok(Synchronizing {
+    let mutexes = empty_lists(alloc, all)?;
+    let logons = empty_lists(alloc, all)?;
+    Ok(Synchronization {
         nano,
+        deferred: calls,
         requests,
         locks,
+        mutexes,
+        logons,
     })
 }
 
 /// There is no server and no message, and nobody owns a server.
 fn serving_of(alloc: Global, pool: u8, all: &[Born]) -> Result<Serving, NoMemory>
-    ensures servers { IfOk result (λ s. s.servers ≡ no_rows OBJECTS) }
-    ensures owned { IfOk result (λ s. s.owned ≡ map (λ _. []) all.now) }
-    ensures messages { IfOk result (λ s. s.messages ≡ no_messages OBJECTS pool) }
+    ensures { IfOk result (λ serving. serving ≡ record { servers = no_rows OBJECTS; owned = map (λ _. []) all.now; messages = no_messages OBJECTS pool }) }
 {
     let servers = no_servers(alloc, Limits::OBJECTS)?;
     let owned = empty_lists(alloc, all)?;
@@ -87,6 +73,14 @@ fn serving_of(alloc: Global, pool: u8, all: &[Born]) -> Result<Serving, NoMemory
         owned,
         messages,
     })
+}
+
+/// Each byte of a process is 0 at boot.
+fn services_of(alloc: Global, all: &[Born]) -> Result<Services, NoMemory>
+    ensures { IfOk result (λ services. services ≡ record { memories = map memory_of all.now }) }
+{
+    let memories = memories_of(alloc, all)?;
+    Ok(Services { memories })
 }
 
 /// The state in which these stand, each with an empty table, nothing that it owes or holds and no logon, no device with a request,
@@ -102,11 +96,16 @@ pub fn boot_of(
     requires { length all.now ≤ 65536 }
     ensures { IfOk result (λ state. state ≡ boot_of pool fast calls all.now) }
 {
-    let standing = standing_of(alloc, all)?;
-    let holdings = no_holdings(alloc, all)?;
-    let synchronizing = synchronizing_of(alloc, fast, all)?;
+    let references = references_of(alloc, all)?;
+    let synchronization = synchronization_of(alloc, fast, calls, all)?;
     let serving = serving_of(alloc, pool, all)?;
-    Ok(join(standing, calls, holdings, synchronizing, serving))
+    let services = services_of(alloc, all)?;
+    Ok(State {
+        references,
+        synchronization,
+        serving,
+        services,
+    })
 }
 
 /// The state at boot.

@@ -169,9 +169,9 @@ fn messages_total(object: ObjNo, outstanding: &[Message]) -> u32
 fn server_names(state: &State, object: ObjNo) -> u32
     ensures { result ≡ min (server_names state.now object) (2 ^ 32 - 1) }
 {
-    lists_total(object, state.owned.as_slice())
-        .saturating_add(sessions_total(object, state.servers.sessions.as_slice()))
-        .saturating_add(messages_total(object, state.messages.outstanding.as_slice()))
+    lists_total(object, state.serving.owned.as_slice())
+        .saturating_add(sessions_total(object, state.serving.servers.sessions.as_slice()))
+        .saturating_add(messages_total(object, state.serving.messages.outstanding.as_slice()))
 }
 
 /// 1 until a thread's burial, then 0.
@@ -198,14 +198,14 @@ fn kernel_names(state: &State, object: ObjNo) -> u32
 fn capped_count(state: &State, object: ObjNo) -> u32
     ensures { result ≡ min (count_of state.now object) (2 ^ 32 - 1) }
 {
-    let handles = tables_total(object, state.handles.as_slice());
-    let threads = threads_total(object, state.threads.as_slice());
-    let owed = owed_total(object, state.owed.as_slice());
+    let handles = tables_total(object, state.references.handles.as_slice());
+    let threads = threads_total(object, state.references.threads.as_slice());
+    let owed = owed_total(object, state.references.owed.as_slice());
     handles
         .saturating_add(threads)
         .saturating_add(kernel_names(state, object))
         .saturating_add(owed)
-        .saturating_add(lists_total(object, state.mutexes.as_slice()))
+        .saturating_add(lists_total(object, state.synchronization.mutexes.as_slice()))
         .saturating_add(server_names(state, object))
 }
 

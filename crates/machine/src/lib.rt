@@ -12,6 +12,7 @@ mod decision;
 mod deferred_move;
 mod handles;
 mod holding;
+mod lists;
 mod lock_move;
 mod logon_move;
 mod message_move;
@@ -19,11 +20,14 @@ mod moves;
 mod nano_move;
 mod nano_rows;
 mod plan;
+mod references;
 mod request_move;
 mod rows;
 mod server_move;
+mod services;
+mod serving;
 mod state;
-mod state_parts;
+mod synchronization;
 mod task;
 mod touches;
 
@@ -46,12 +50,16 @@ pub use nano_rows::{
     wanted_mutex,
 };
 pub use plan::{Body, Plan};
+pub use references::References;
 pub use request_move::RequestMove;
 pub use rows::{first_owed, object_of, row_of, set_row, set_slot, table_of, thread_in, thread_of};
 pub use server_move::ServerMove;
+pub use services::Services;
+pub use serving::Serving;
 pub use state::State;
 pub use state_rows::{
     DeferredRows, HandleSlot, LockRows, NanoRows, Owed, RequestRows, Role, ThreadRow, Waiting,
 };
+pub use synchronization::Synchronization;
 pub use task::Task;
 pub use touches::{TouchedThreads, thread_of_queue, touched};

@@ -30,14 +30,14 @@ pub fn set_row<T: Copy>(rows: &mut Items<Option<T>>, number: ObjNo, row: Option<
 pub fn object_of(state: &State, object: ObjNo) -> Option<ObjectRow>
     ensures { result ≡ object_of state.now object }
 {
-    row_of(&state.objects, object)
+    row_of(&state.references.objects, object)
 }
 
 /// The thread of this number.
 pub fn thread_of(state: &State, thread: ThreadNo) -> Option<ThreadRow>
     ensures { result ≡ thread_of state.now thread }
 {
-    row_of(&state.threads, thread)
+    row_of(&state.references.threads, thread)
 }
 
 /// The thread of this number, where its row stands.
@@ -57,8 +57,8 @@ pub fn table_of(state: &State, owner: ObjNo) -> &[HandleSlot]
     ensures { result.now ≡ table_of state.now owner }
 {
     let at = owner.0 as usize;
-    if at < state.handles.len() {
-        state.handles.as_slice()[at].as_slice()
+    if at < state.references.handles.len() {
+        state.references.handles.as_slice()[at].as_slice()
     } else {
         &[]
     }
@@ -69,8 +69,8 @@ fn owed_of(state: &State, thread: ThreadNo) -> &[Owed]
     ensures { result.now ≡ owed_of state.now thread }
 {
     let at = thread.0 as usize;
-    if at < state.owed.len() {
-        state.owed.as_slice()[at].as_slice()
+    if at < state.references.owed.len() {
+        state.references.owed.as_slice()[at].as_slice()
     } else {
         &[]
     }

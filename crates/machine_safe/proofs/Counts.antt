@@ -21,14 +21,14 @@ use Rattle.machine_safe.proofs.FindsToOpen.{no_find_to_open}
 use Rattle.machine_safe.proofs.Runs.{IsSoundRun, run-front, run-rest, run-closed}
 use Rattle.machine_safe.proofs.SafeHistories.{legal_run, count_after-is}
 
-run-made : (script : Script) (S : State) (es : List Entry) → IsSoundRun script S es → length S.objects ≤ length (after_from script S es).objects
+run-made : (script : Script) (S : State) (es : List Entry) → IsSoundRun script S es → length S.references.objects ≤ length (after_from script S es).references.objects
 run-made script S [] h = omega arith
 run-made script S (e ∷ es) h = let a = h.0.lives.made in let r = run-made script (next script S e.actor) es h.1 in omega arith
 
 -- an object that was found was made
-run-found : (script : Script) (S : State) (es : List Entry) (o : ObjNo) → IsSoundRun script S es → 0 < finds (effects_of es) o → o.0 < length (after_from script S es).objects
+run-found : (script : Script) (S : State) (es : List Entry) (o : ObjNo) → IsSoundRun script S es → 0 < finds (effects_of es) o → o.0 < length (after_from script S es).references.objects
 run-found script S [] o h some = absurd (omega arith)
-run-found script S (e ∷ es) o h some = elim (cases_lt 0 (finds e.effects o)) as (λ _. o.0 < length (after_from script S (e ∷ es)).objects) [
+run-found script S (e ∷ es) o h some = elim (cases_lt 0 (finds e.effects o)) as (λ _. o.0 < length (after_from script S (e ∷ es)).references.objects) [
   | inl now ↦
       let a = h.0.lives.found o now in
       let r = run-made script (next script S e.actor) es h.1 in omega arith
@@ -52,10 +52,10 @@ none_to_open script first later o front rest lives zero = elim (cases_lt 0 (find
       let T = after script first in
       let le = finds_to_open_le first later o in
       let made = run-found script (boot script) first o front (omega arith) in
-      let few = gone_le T.objects o in
-      let dead : gone T.objects o ≡ 1 = elim (cases_lt 0 (gone T.objects o)) as (λ _. gone T.objects o ≡ 1) [
+      let few = gone_le T.references.objects o in
+      let dead : gone T.references.objects o ≡ 1 = elim (cases_lt 0 (gone T.references.objects o)) as (λ _. gone T.references.objects o ≡ 1) [
         | inl lt ↦ omega arith
-        | inr not_gone ↦ let c = lives.counted o (not_gone_alive T.objects o made (omega arith)) in absurd (omega arith)
+        | inr not_gone ↦ let c = lives.counted o (not_gone_alive T.references.objects o made (omega arith)) in absurd (omega arith)
       ] in
       no_find_to_open first later o (run-closed script T later o rest dead)
 ]

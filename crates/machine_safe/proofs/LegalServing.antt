@@ -19,13 +19,21 @@ use Rattle.machine_safe.specs.Sent.{finishes}
 use Rattle.machine_safe.specs.Served.{ends, ends_in, owner_in}
 use Rattle.script_types.proofs.ShapeLaws.{formed_is_shaped}
 use Rattle.script_types.specs.declared.script.Script.{Script}
-use Rattle.std.proofs.Common.{List, Some, [], ap, append_assoc, arith, inl, inr, refl, subst, sym, ◌++◌, ◌<◌, ◌∙◌, ◌∷◌, ◌≡◌}
+use Rattle.std.proofs.Common.{List, Some, [], ap, append_assoc, arith, inl, inr, refl, subst, sym, ◌++◌, ◌<◌, ◌∙◌, ◌∷◌, ◌≡◌, false, Option, None}
 use Rattle.std.proofs.lemmas.List.{append-nil}
 use Rattle.sym_base.specs.declared.number.ObjNo.{ObjNo}
 use Rattle.script_types.specs.Source.{IsWellFormed}
 use Rattle.machine_safe.specs.SafeBusy.{IsSafeBusy}
 use Rattle.machine_safe.proofs.Serving.Deeds.{Looked}
 use Rattle.machine_safe.proofs.Serving.Looked.{boot-looked, entry-looked}
+use Rattle.machine_safe.proofs.Serving.Connecting.{KeepHandles, kept-boot, kept-next}
+use Rattle.machine_safe.proofs.Serving.Served.{served-made}
+use Rattle.machine.specs.Moves.{next_object}
+use Rattle.state_rows.specs.ServerRows.{server_at, server_of}
+use Rattle.machine_safe.proofs.Serving.Reading.{reading}
+use Rattle.machine.specs.declared.state.State.{State}
+use Rattle.std.specs.Prelude.{is_some}
+use Rattle.state_rows.specs.declared.servers.ServerRow.{ServerRow}
 
 -- a thread that is there is live, or was doomed once
 fated : (script : Script) (before : List Entry) → IsWellFormed script → IsLegal script before → IsFated before (after script before)
@@ -38,20 +46,29 @@ fated script before valid legal u row is =
     let first = ap (row_bit stage_live) was.was in
     let born_live = ap stage_live (born_row script _ (born script) u.0 was.old (each_born script (formed_is_shaped script valid)) was.was).live in omega arith
 
--- after each entry
-pub book-after : (script : Script) (before later : List Entry) → IsWellFormed script → IsLegal script (before ++ later) → Book script before (after script before) × Looked script before (after script before)
-book-after script before later valid legal = by [] before refl (book-boot script (formed_is_shaped script valid), boot-looked script (formed_is_shaped script valid))
+-- what is made next is no server
+unmade-next : (script : Script) (before : List Entry) (S : State) → Book script before S → is_some (server_at S.serving.servers (next_object S)) ≡ false
+unmade-next script before S book = by (server_at S.serving.servers (next_object S)) refl
   where
-    by : (xs ys : List Entry) → before ≡ xs ++ ys → Book script xs (after script xs) × Looked script xs (after script xs) → Book script before (after script before) × Looked script before (after script before)
-    by xs [] e h = subst (λ (l : List Entry). Book script l (after script l) × Looked script l (after script l)) (sym (e ∙ append-nil xs)) h
+    by : (x : Option ServerRow) → server_at S.serving.servers (next_object S) ≡ x → is_some x ≡ false
+    by None e = refl
+    by (Some row) e = let made = served-made script (reading before) S book.served (next_object S) row e in absurd (omega arith)
+
+-- after each entry
+pub book-after : (script : Script) (before later : List Entry) → IsWellFormed script → IsLegal script (before ++ later) → Book script before (after script before) × Looked script before (after script before) × KeepHandles script (after script before)
+book-after script before later valid legal = by [] before refl (book-boot script (formed_is_shaped script valid), boot-looked script (formed_is_shaped script valid), kept-boot script (formed_is_shaped script valid))
+  where
+    by : (xs ys : List Entry) → before ≡ xs ++ ys → Book script xs (after script xs) × Looked script xs (after script xs) × KeepHandles script (after script xs) → Book script before (after script before) × Looked script before (after script before) × KeepHandles script (after script before)
+    by xs [] e h = subst (λ (l : List Entry). Book script l (after script l) × Looked script l (after script l) × KeepHandles script (after script l)) (sym (e ∙ append-nil xs)) h
     by xs (y ∷ ys) e h =
         let cuts = cut script (before ++ later) xs y (ys ++ later) valid legal (ap (λ (l : List Entry). l ++ later) e ∙ append_assoc xs (y ∷ ys) later) in
         let S = after script xs in
         let shaped = formed_is_shaped script valid in
-        let turn = turn-entry script xs S cuts.place shaped cuts.rows h.0 h.1 (fated script xs valid cuts.legal_before) y cuts.here in
+        let turn = turn-entry script xs S cuts.place shaped cuts.rows h.0 h.1 h.2 (fated script xs valid cuts.legal_before) y cuts.here in
         let looked = entry-looked script xs S cuts.place shaped cuts.rows h.1 y cuts.here in
+        let kept = kept-next script S shaped cuts.rows h.2 (unmade-next script xs S h.0) y.actor in
         let same = sym (after_from-push script (boot script) xs y) in
-        by (xs ++ y ∷ []) ys (e ∙ sym (append_assoc xs (y ∷ []) ys)) (subst (Book script (xs ++ y ∷ [])) same turn.book, subst (Looked script (xs ++ y ∷ [])) same looked)
+        by (xs ++ y ∷ []) ys (e ∙ sym (append_assoc xs (y ∷ []) ys)) (subst (Book script (xs ++ y ∷ [])) same turn.book, subst (Looked script (xs ++ y ∷ [])) same looked, subst (KeepHandles script) same kept)
 
 -- each entry is lawful
 lawful : (script : Script) (history before : List Entry) (e : Entry) (later : List Entry) → IsWellFormed script → IsLegal script history → StandsAt history before e later → IsLawful script before e
@@ -59,7 +76,7 @@ lawful script history before e later valid legal is =
     let c = cut script history before e later valid legal is in
     let shaped = formed_is_shaped script valid in
     let book = book-after script before (e ∷ later) valid (subst (IsLegal script) is legal) in
-    (turn-entry script before (after script before) c.place shaped c.rows book.0 book.1 (fated script before valid c.legal_before) e c.here).lawful
+    (turn-entry script before (after script before) c.place shaped c.rows book.0 book.1 book.2 (fated script before valid c.legal_before) e c.here).lawful
 
 pub legal_busy : (script : Script) (history : List Entry) → IsWellFormed script → IsLegal script history → IsSafeBusy script history
 legal_busy script history valid legal = record { answers = λ before e later is sends. (lawful script history before e later valid legal is).send sends }

@@ -1,5 +1,5 @@
 -- What holds over a run of actions, from what each does.
-use Rattle.std.proofs.Common.{◌≡◌, ℕ, ◌+◌, List, [], ◌∷◌, ◌++◌, arith, refl, sym, subst, ap}
+use Rattle.std.proofs.Common.{◌≡◌, ℕ, ◌+◌, List, [], ◌∷◌, ◌++◌, arith, refl, sym, subst, ap, append_assoc, ◌∙◌}
 use Rattle.sym_base.specs.declared.number.ObjNo.{ObjNo}
 use Rattle.script_types.specs.declared.script.Script.{Script}
 use Rattle.script_types.specs.Shape.{IsShaped}
@@ -19,6 +19,11 @@ use Rattle.machine_laws.proofs.Reached.Histories.{after_from-push}
 use Rattle.machine_laws.proofs.Reached.NextState.{sound-next}
 use Rattle.move_laws.proofs.References.Effects.{pluses-append, minuses-append, deaths-append, removals-append, fits-append, fits-same}
 use Rattle.machine_safe.specs.CountAfter.{effects_of}
+
+-- what entries tell, and others behind them
+pub effects-append : (xs ys : List Entry) → effects_of (xs ++ ys) ≡ effects_of xs ++ effects_of ys
+effects-append [] ys = refl
+effects-append (x ∷ xs) ys = ap (λ (l : List Effect). x.effects ++ l) (effects-append xs ys) ∙ sym (append_assoc x.effects (effects_of xs) (effects_of ys))
 
 -- each entry of a run tells what its actor did
 abbrev pub IsSoundRun : Script → State → List Entry → Type 0
@@ -57,7 +62,7 @@ run-counts script S (e ∷ es) o h =
     let m = minuses-append e.effects (effects_of es) o in omega arith
 
 -- an object is gone where it was or died
-pub run-gone : (script : Script) (S : State) (es : List Entry) (o : ObjNo) → IsSoundRun script S es → gone (after_from script S es).objects o ≡ gone S.objects o + deaths (effects_of es) o
+pub run-gone : (script : Script) (S : State) (es : List Entry) (o : ObjNo) → IsSoundRun script S es → gone (after_from script S es).references.objects o ≡ gone S.references.objects o + deaths (effects_of es) o
 run-gone script S [] o h = omega arith
 run-gone script S (e ∷ es) o h =
     let a = h.0.lives.deads o in
@@ -65,7 +70,7 @@ run-gone script S (e ∷ es) o h =
     let d = deaths-append e.effects (effects_of es) o in omega arith
 
 -- and swept where it was or its row went
-pub run-swept : (script : Script) (S : State) (es : List Entry) (o : ObjNo) → IsSoundRun script S es → swept (after_from script S es).objects o ≡ swept S.objects o + removals (effects_of es) o
+pub run-swept : (script : Script) (S : State) (es : List Entry) (o : ObjNo) → IsSoundRun script S es → swept (after_from script S es).references.objects o ≡ swept S.references.objects o + removals (effects_of es) o
 run-swept script S [] o h = omega arith
 run-swept script S (e ∷ es) o h =
     let a = h.0.lives.sweeps o in
@@ -73,12 +78,12 @@ run-swept script S (e ∷ es) o h =
     let d = removals-append e.effects (effects_of es) o in omega arith
 
 -- nobody opens an object that is gone
-pub run-closed : (script : Script) (S : State) (es : List Entry) (o : ObjNo) → IsSoundRun script S es → gone S.objects o ≡ 1 → pluses (effects_of es) o ≡ 0
+pub run-closed : (script : Script) (S : State) (es : List Entry) (o : ObjNo) → IsSoundRun script S es → gone S.references.objects o ≡ 1 → pluses (effects_of es) o ≡ 0
 run-closed script S [] o h dead = refl
 run-closed script S (e ∷ es) o h dead =
     let T = next script S e.actor in
     let moved = h.0.lives.deads o in
-    let le = gone_le T.objects o in
+    let le = gone_le T.references.objects o in
     let first : pluses e.effects o ≡ 0 = zero_or (pluses e.effects o) (λ some. let a = h.0.lives.opens o some in absurd (omega arith)) in
     let r = run-closed script T es o h.1 (omega arith) in
     let p = pluses-append e.effects (effects_of es) o in omega arith

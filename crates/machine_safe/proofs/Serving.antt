@@ -2,6 +2,7 @@
 pub mod Acting
 pub mod Books
 pub mod Closing
+pub mod Connecting
 pub mod Deeds
 pub mod Doing
 pub mod EffectSums
@@ -17,6 +18,7 @@ pub mod KeptUses
 pub mod Letters
 pub mod Looked
 pub mod Making
+pub mod Others
 pub mod Posted
 pub mod Quiet
 pub mod Reading

@@ -131,7 +131,7 @@ shared_late : (script : Script) (row : ThreadRow) → thread_of (boot script) (n
 shared_late script row is alone safe = let none : ◌≡◌ {A = ℕ} 1 0 = (safe.dead (number 3)).shares (ends 1 ∷ is_cleaned 2 ∷ []) (shares 3) [] (record row { process = number 2 }) 7 (number 5) refl (omega arith) is alone in omega arith
 
 -- and where a mutex is its own after that, it wasn't cleaned as it should be
-holds_late : (script : Script) (o : ObjNo) (rest : List ObjNo) → slice_index_or (after script (ends 1 ∷ is_cleaned 2 ∷ [])).mutexes 3 [] ≡ o ∷ rest → IsSafeDeaths script (ends 1 ∷ is_cleaned 2 ∷ []) → ⊥
+holds_late : (script : Script) (o : ObjNo) (rest : List ObjNo) → slice_index_or (after script (ends 1 ∷ is_cleaned 2 ∷ [])).synchronization.mutexes 3 [] ≡ o ∷ rest → IsSafeDeaths script (ends 1 ∷ is_cleaned 2 ∷ []) → ⊥
 holds_late script o rest holds safe = let none = ((safe.dead (number 3)).none (ends 1 ∷ is_cleaned 2 ∷ []) [] refl (omega arith)).mutexes in cc
 
 -- or a server that it made

@@ -1,5 +1,5 @@
 -- The definition of safe messages, tried on histories, changed by hand, that aren't safe.
-use Rattle.std.proofs.Common.{◌≡◌, ℕ, ℤ, ◌+◌, List, [], ◌∷◌, ◌++◌, ◌∙◌, Option, Some, None, Bool, true, false, refl, sym, ap, subst, arith, length}
+use Rattle.std.proofs.Common.{◌≡◌, ℕ, ℤ, ◌+◌, List, [], ◌∷◌, ◌++◌, ◌∙◌, Option, Some, None, Bool, true, false, refl, sym, ap, subst, arith, length, le-ltb, lt-ltb}
 use Rattle.std.specs.Prelude.{pos, nat_lt}
 use Rattle.sym_base.specs.declared.number.MsgNo.{MsgNo}
 use Rattle.sym_base.specs.declared.number.ObjNo.{ObjNo}
@@ -7,6 +7,7 @@ use Rattle.sym_base.specs.declared.word.Word.TheVariants as word
 use Rattle.script_types.specs.declared.script.Script.{Script}
 use Rattle.entry_log.specs.declared.effect.Effect.{Effect}
 use Rattle.entry_log.specs.declared.effect.Effect.TheVariants as effect
+use Rattle.entry_log.specs.declared.effect.Holder.TheVariants as holder
 use Rattle.entry_log.specs.declared.effect.StatusNo.{StatusNo}
 use Rattle.entry_log.specs.declared.effect.StatusNo.TheVariants as status
 use Rattle.entry_log.specs.declared.entry.Actor.TheVariants.{Thread}
@@ -17,9 +18,11 @@ use Rattle.machine.specs.Boot.{boot_of}
 use Rattle.machine_safe.specs.CountAfter.{effects_of, is_by}
 use Rattle.machine_safe.specs.SafeDeaths.{dooms}
 use Rattle.machine_safe.specs.SafeMessages.{IsSafeMessages, notice, code_of_complete}
-use Rattle.machine_safe.specs.Sent.{Accepts, accepts, accepts_by, instruction_in, status_by}
+use Rattle.machine_safe.specs.Sent.{Accepts, accepts, accepts_by, instruction_in, status_by, WasAccepted}
 use Rattle.machine_safe.specs.Served.{ends_in, owner_in, server_in, is_closing_in}
 use Rattle.machine_safe.proofs.ServedHistory.{served_script, number, message, acts, accepted, serves, joins, connects, completes, first_end, connected, sends, closes, stops, opens, links_elsewhere, AtEach, at-each, other_told, number_told}
+use Rattle.machine_safe.proofs.Runs.{effects-append}
+use Rattle.machine_safe.proofs.Deaths.EffectSums.{dooms-append}
 
 -- No message is finished a second time.
 finished_twice : (script : Script) → IsSafeMessages script (opens ++ first_end ∷ completes 5 1 (effect.Finish (message 1) (pos 0) ∷ []) ∷ []) → ⊥
@@ -63,21 +66,32 @@ pub third_object : List Effect → ObjNo
 third_object (a ∷ b ∷ effect.Plus h c ∷ rest) = c
 third_object _ = number 0
 
--- whoever accepted it named its client
-abbrev NamesClient : List Entry → Entry → Type 0
-NamesClient before e = (by : Accepts e (message 1)) → number 5 ≡ by.client
+-- what is told of dooms before a message is accepted, and from then on
+since_accepted : (history : List Entry) (a : WasAccepted history (message 1)) (c : ObjNo) → dooms (effects_of history) c ≡ dooms (effects_of a.before) c + dooms (effects_of (a.at ∷ a.later)) c
+since_accepted history a c =
+    let parts = ap (λ (l : List Entry). dooms (effects_of l) c) a.stands in
+    let split = ap (λ (l : List Effect). dooms l c) (effects-append a.before (a.at ∷ a.later)) in
+    let sum = dooms-append (effects_of a.before) (effects_of (a.at ∷ a.later)) c in omega arith
 
-each_named : AtEach NamesClient [] (opens ++ dies ∷ [])
+-- whoever accepted it named its client, who was doomed so often before
+abbrev NamesClient : ℕ → List Entry → Entry → Type 0
+NamesClient n before e = (by : Accepts e (message 1)) → (number 5 ≡ by.client) × (dooms (effects_of before) (number 5) ≡ n)
+
+each_named : AtEach (NamesClient 0) [] (opens ++ dies ∷ [])
 unfolding third_object
-each_named = (λ a. absurd (other_told serves (message 1) refl a), (λ a. absurd (other_told joins (message 1) refl a), (λ a. ap third_object a.told, (λ a. absurd (other_told dies (message 1) refl a), tt))))
+each_named = (λ a. absurd (other_told serves (message 1) refl a), (λ a. absurd (other_told joins (message 1) refl a), (λ a. (ap third_object a.told, refl), (λ a. absurd (other_told dies (message 1) refl a), tt))))
 
 signalled_dead : (script : Script) → IsSafeMessages script (opens ++ dies ∷ late_end ∷ []) → ⊥
 signalled_dead script safe =
     let before = opens ++ dies ∷ [] in
     let end = safe.finished (opens ++ dies ∷ []) late_end [] (message 1) refl (omega arith) in
     let a = end.accepted in
-    let client : number 5 ≡ a.by.client = at-each NamesClient [] (opens ++ dies ∷ []) a.before a.at a.later each_named a.stands a.by in
-    let doomed : nat_lt 0 (dooms (effects_of (opens ++ dies ∷ [])) a.by.client) ≡ true = subst (λ (c : ObjNo). nat_lt 0 (dooms (effects_of (opens ++ dies ∷ [])) c) ≡ true) client refl in
+    let named = at-each (NamesClient 0) [] (opens ++ dies ∷ []) a.before a.at a.later each_named a.stands a.by in
+    let none = named.1 in
+    let all = since_accepted before a (number 5) in
+    let once : dooms (effects_of before) (number 5) ≡ 1 = refl in
+    let since : nat_lt 0 (dooms (effects_of (a.at ∷ a.later)) (number 5)) ≡ true = lt-ltb 0 (dooms (effects_of (a.at ∷ a.later)) (number 5)) (omega arith) in
+    let doomed : nat_lt 0 (dooms (effects_of (a.at ∷ a.later)) a.by.client) ≡ true = subst (λ (c : ObjNo). nat_lt 0 (dooms (effects_of (a.at ∷ a.later)) c) ≡ true) named.0 since in
     let told = ap length end.told in
     let silent = nothing_more (status_by a.at.step (instruction_in script a.before a.by.client)) a.by.client end.code in
     let same = ap (λ (b : Bool). length (notice (status_by a.at.step (instruction_in script a.before a.by.client)) b a.by.client end.code)) doomed in absurd (omega arith)
@@ -91,6 +105,19 @@ accepted_late script safe =
     let server : Some (number 6) ≡ Some a.server = subst (λ (s : ObjNo). server_in (opens ++ first_end ∷ connected ∷ closes 6 ∷ []) s ≡ Some a.server) (sym session) a.linked in
     let own : number 6 ≡ a.server = cc in
     let accepting : true ≡ false = subst (λ (v : ObjNo). is_closing_in (opens ++ first_end ∷ connected ∷ closes 6 ∷ []) v ≡ false) (sym own) a.accepting in cc
+
+-- Nor once that handle goes in any other step.
+abbrev loses : ℕ → Entry
+loses place = acts place 3 (step.Of word.Connect part.Done) (effect.Minus (holder.InThread (number 3) 0) (number 6) ∷ []) (Some (pos 0))
+
+accepted_unhandled : (script : Script) → IsSafeMessages script (opens ++ first_end ∷ connected ∷ loses 6 ∷ sends 7 2 ∷ []) → ⊥
+unfolding second_object
+accepted_unhandled script safe =
+    let a = safe.acceptances (opens ++ first_end ∷ connected ∷ loses 6 ∷ []) (sends 7 2) [] refl (omega arith) in
+    let session : number 7 ≡ a.by.session = ap second_object a.by.told in
+    let server : Some (number 6) ≡ Some a.server = subst (λ (s : ObjNo). server_in (opens ++ first_end ∷ connected ∷ loses 6 ∷ []) s ≡ Some a.server) (sym session) a.linked in
+    let own : number 6 ≡ a.server = cc in
+    let accepting : true ≡ false = subst (λ (v : ObjNo). is_closing_in (opens ++ first_end ∷ connected ∷ loses 6 ∷ []) v ≡ false) (sym own) a.accepting in cc
 
 -- None is accepted in a step that isn't one that accepts: a call under the name of a time slice's end, whose client would wait for ever.
 abbrev calls_turning : Entry
@@ -217,7 +244,7 @@ abbrev ends_silent : Entry
 ends_silent = completes 4 1 (effect.Finish (message 1) (pos 0) ∷ [])
 
 -- none of those that act here is doomed
-undoomed : (u : ObjNo) → nat_lt 0 (dooms (effects_of opens) u) ≡ false
+undoomed : (u : ObjNo) → dooms (effects_of opens) u ≡ 0
 undoomed u = refl
 
 told_nobody : IsSafeMessages served_script (opens ++ ends_silent ∷ []) → ⊥
@@ -226,5 +253,44 @@ told_nobody safe =
     let a = end.accepted in
     let told = at-each NamesStatus [] opens a.before a.at a.later each_status a.stands a.by in
     let all = ap length end.told in
-    let doomed = ap (λ (b : Bool). length (notice (status_by a.at.step (instruction_in served_script a.before a.by.client)) b a.by.client end.code)) (undoomed a.by.client) in
+    let none = undoomed a.by.client in
+    let sum = since_accepted opens a a.by.client in
+    let doomed = ap (λ (b : Bool). length (notice (status_by a.at.step (instruction_in served_script a.before a.by.client)) b a.by.client end.code)) (le-ltb 0 (dooms (effects_of (a.at ∷ a.later)) a.by.client) (omega arith)) in
     let one : ◌≡◌ {A = ℕ} 1 (length (notice (status_by a.at.step (instruction_in served_script a.before a.by.client)) false a.by.client end.code)) = ap (λ (x : Option StatusNo). length (notice x false a.by.client end.code)) told in absurd (omega arith)
+
+-- And a doom before the message was accepted is of an earlier life, and takes nothing away from what it is told.
+abbrev died_before : List Entry
+died_before = dies ∷ opens
+
+abbrev NamesLiving : List Entry → Entry → Type 0
+NamesLiving before e = (by : Accepts e (message 1)) → (Some status.Sync ≡ status_by e.step (instruction_in served_script before by.client)) × ((number 5 ≡ by.client) × (dooms (effects_of before) (number 5) ≡ 1))
+
+each_living : AtEach NamesLiving [] died_before
+unfolding boot_of third_object
+each_living = (
+  λ a. absurd (other_told dies (message 1) refl a),
+  (
+    λ a. absurd (other_told serves (message 1) refl a),
+    (
+      λ a. absurd (other_told joins (message 1) refl a),
+      (
+        λ a. (subst (λ (u : ObjNo). Some status.Sync ≡ status_by (step.Of word.Connect part.Send) (instruction_in served_script (dies ∷ serves ∷ joins ∷ []) u)) (ap third_object a.told) refl, (ap third_object a.told, refl)),
+        tt,
+      ),
+    ),
+  ),
+)
+
+told_nobody_again : IsSafeMessages served_script (died_before ++ ends_silent ∷ []) → ⊥
+told_nobody_again safe =
+    let end = safe.finished died_before ends_silent [] (message 1) refl (omega arith) in
+    let a = end.accepted in
+    let named = at-each NamesLiving [] died_before a.before a.at a.later each_living a.stands a.by in
+    let before = named.1.1 in
+    let sum = since_accepted died_before a (number 5) in
+    let once : dooms (effects_of died_before) (number 5) ≡ 1 = refl in
+    let since : nat_lt 0 (dooms (effects_of (a.at ∷ a.later)) (number 5)) ≡ false = le-ltb 0 (dooms (effects_of (a.at ∷ a.later)) (number 5)) (omega arith) in
+    let living : nat_lt 0 (dooms (effects_of (a.at ∷ a.later)) a.by.client) ≡ false = subst (λ (c : ObjNo). nat_lt 0 (dooms (effects_of (a.at ∷ a.later)) c) ≡ false) named.1.0 since in
+    let all = ap length end.told in
+    let doomed = ap (λ (b : Bool). length (notice (status_by a.at.step (instruction_in served_script a.before a.by.client)) b a.by.client end.code)) living in
+    let one : ◌≡◌ {A = ℕ} 1 (length (notice (status_by a.at.step (instruction_in served_script a.before a.by.client)) false a.by.client end.code)) = ap (λ (x : Option StatusNo). length (notice x false a.by.client end.code)) named.0 in absurd (omega arith)

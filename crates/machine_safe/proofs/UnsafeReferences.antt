@@ -35,7 +35,11 @@ sweeps place = acts place (Swept (number 5) ∷ [])
 
 -- it doesn't die twice
 died_twice : (script : Script) → IsSafeReferences script (ends 1 ∷ ends 2 ∷ []) → ⊥
-died_twice script safe = let few : 2 ≤ 1 = (safe.over (number 5)).dies in omega arith
+died_twice script safe = let few : 2 ≤ 1 = (safe.once (number 5)).dies in omega arith
+
+-- nor twice in one life
+died_again : (script : Script) → IsSafeReferences script (ends 1 ∷ ends 2 ∷ []) → ⊥
+died_again script safe = let few : 2 ≤ 1 = (safe.lives (number 5)).dies (ends 1 ∷ []) (ends 2) [] refl in omega arith
 
 -- nor without a reference that goes
 died_held : (script : Script) → IsSafeReferences script (acts 1 (Dead (number 5) ∷ []) ∷ []) → ⊥
@@ -45,16 +49,19 @@ died_held script safe = let some : 0 < 0 = (safe.only (number 5) [] (acts 1 (Dea
 lived_on : (script : Script) → count_of (boot script) (number 5) ≡ 0 → IsSafeReferences script (opens 1 ∷ closes 2 ∷ []) → ⊥
 lived_on script none safe = let some : 0 < 0 = safe.always (number 5) (opens 1 ∷ []) (closes 2) [] refl (omega arith) (omega arith) in omega arith
 
--- nobody opens it afterwards
+-- nobody opens it before it is swept, nor afterwards
 opened_late : (script : Script) → IsSafeReferences script (ends 1 ∷ opens 2 ∷ []) → ⊥
-opened_late script safe = let none : ◌≡◌ {A = ℕ} 1 0 = (safe.over (number 5)).closed [] (ends 1) (opens 2 ∷ []) refl (omega arith) in omega arith
+opened_late script safe = let none : ◌≡◌ {A = ℕ} 1 0 = (safe.lives (number 5)).closed [] (ends 1) (opens 2 ∷ []) [] refl (omega arith) refl in omega arith
+
+opened_swept : (script : Script) → IsSafeReferences script (ends 1 ∷ sweeps 2 ∷ opens 3 ∷ []) → ⊥
+opened_swept script safe = let none : ◌≡◌ {A = ℕ} 1 0 = (safe.once (number 5)).closed [] (ends 1) (sweeps 2 ∷ opens 3 ∷ []) refl (omega arith) in omega arith
 
 -- its row goes once, and not before
 swept_twice : (script : Script) → IsSafeReferences script (ends 1 ∷ sweeps 2 ∷ sweeps 3 ∷ []) → ⊥
-swept_twice script safe = let few : 2 ≤ 1 = (safe.over (number 5)).once in omega arith
+swept_twice script safe = let few : 2 ≤ 1 = (safe.lives (number 5)).swept (ends 1 ∷ sweeps 2 ∷ []) (sweeps 3) [] refl in omega arith
 
 swept_alive : (script : Script) → IsSafeReferences script (sweeps 1 ∷ []) → ⊥
-swept_alive script safe = let some : 0 < 0 = (safe.over (number 5)).swept [] (sweeps 1) [] refl (omega arith) in omega arith
+swept_alive script safe = let few : 1 ≤ 0 = (safe.lives (number 5)).swept [] (sweeps 1) [] refl in omega arith
 
 -- and a holder doesn't get it twice
 opened_twice : (script : Script) → IsSafeReferences script (opens 1 ∷ opens 2 ∷ []) → ⊥

@@ -9,4 +9,4 @@ use Rattle.machine.specs.Task.{is_ready}
 
 -- after a history, whoever holds a fast mutex is ready
 abbrev pub AreHoldersReady : Script → List Entry → Type 0
-AreHoldersReady script history = (f : ℕ) (u : ObjNo) → holder_of (after script history).nano f ≡ Some u → is_ready script (after script history) u ≡ true
+AreHoldersReady script history = (f : ℕ) (u : ObjNo) → holder_of (after script history).synchronization.nano f ≡ Some u → is_ready script (after script history) u ≡ true

@@ -104,11 +104,11 @@ pub record CleanLeaves (script : Script) (history : List Entry) (t : ObjNo) : Ty
 -- Nothing is a thread's: no lock, no place of its table, no logon on it, and no server, closing or not. This doesn't ask for its row, which may
 -- be swept.
 pub record HasNone (S : State) (t : ObjNo) : Type 0 where
-  pub mutexes : slice_index_or S.mutexes t.0 [] ≡ []
-  pub fast : held_by S.nano t ≡ None
+  pub mutexes : slice_index_or S.synchronization.mutexes t.0 [] ≡ []
+  pub fast : held_by S.synchronization.nano t ≡ None
   pub handles : (i : ℕ) → (slot_at (table_of S t) i).object ≡ None
-  pub logons : logons_on S.logons t ≡ []
-  pub servers : owned_by S.owned t ≡ []
+  pub logons : logons_on S.synchronization.logons t ≡ []
+  pub servers : owned_by S.serving.owned t ≡ []
 
 -- From then on it doesn't act, gets no reference of its own, nor does its process's table where all others of that are cleaned too, and it
 -- has nothing left.

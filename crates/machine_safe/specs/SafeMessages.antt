@@ -45,7 +45,7 @@ code_by (step.Of word.Complete part) closing at = code_of_complete at
 code_by step.Finish true at = Some (error_code ServerTerminated)
 code_by _ closing at = None
 
--- what a client is told: the code, by the status that it sent the message with, unless it was doomed
+-- what a client is told: the code, by the status that it sent the message with, unless it was doomed since the message was accepted
 abbrev pub notice : Option StatusNo → Bool → ObjNo → ℤ → List Effect
 notice (Some status) false client code = effect.Signal client status code ∷ []
 notice _ doomed client code = []
@@ -63,7 +63,7 @@ pub record IsFinish (script : Script) (before : List Entry) (e : Entry) (m : Msg
   pub code : ℤ
   pub cause : code_by e.step (is_closing_in before server) (instruction_in script before owner) ≡ Some code
   pub told : e.effects ≡ effect.Finish m code ∷
-      notice (status_by accepted.at.step (instruction_in script accepted.before accepted.by.client)) (nat_lt 0 (dooms (effects_of before) accepted.by.client)) accepted.by.client code
+      notice (status_by accepted.at.step (instruction_in script accepted.before accepted.by.client)) (nat_lt 0 (dooms (effects_of (accepted.at ∷ accepted.later)) accepted.by.client)) accepted.by.client code
 
 -- nothing is left of a server: each message is finished whose session was at it as that was accepted
 abbrev pub NothingLeft : List Entry → ObjNo → Type 0

@@ -1,5 +1,5 @@
 -- Safe references: an object dies exactly where its last reference goes, and nobody opens it afterwards.
-use Rattle.std.specs.Prelude.{◌≡◌, ◌<◌, ◌≤◌, List, [], ◌∷◌, ◌++◌}
+use Rattle.std.specs.Prelude.{◌≡◌, ◌<◌, ◌≤◌, List, [], ◌∷◌, ◌++◌, ◌+◌}
 use Rattle.sym_base.specs.declared.number.ObjNo.{ObjNo}
 use Rattle.script_types.specs.declared.script.Script.{Script}
 use Rattle.entry_log.specs.declared.entry.Entry.{Entry}
@@ -18,12 +18,17 @@ abbrev pub DiesAtZero : Script → List Entry → ObjNo → Type 0
 DiesAtZero script history o = (before : List Entry) (e : Entry) (later : List Entry) → history ≡ before ++ e ∷ later →
     0 < minuses e.effects o → count_after script (before ++ e ∷ []) later o ≡ 0 → 0 < deaths e.effects o
 
--- it dies once at most; after an entry says that it died no entry adds a reference to it; it is swept once at most, and only after such an entry
-pub record IsOver (history : List Entry) (o : ObjNo) : Type 0 where
+-- A life of an object ends as its row is swept, and it dies once in it: each entry leaves it with at most one death more than sweeps, and with no more
+-- sweeps than there were deaths before; and from an entry that says that it died until its sweep no entry adds a reference to it.
+pub record DiesOnceALife (history : List Entry) (o : ObjNo) : Type 0 where
+  pub dies : (before : List Entry) (e : Entry) (later : List Entry) → history ≡ before ++ e ∷ later → deaths (effects_of (before ++ e ∷ [])) o ≤ removals (effects_of before) o + 1
+  pub swept : (before : List Entry) (e : Entry) (later : List Entry) → history ≡ before ++ e ∷ later → removals (effects_of (before ++ e ∷ [])) o ≤ deaths (effects_of before) o
+  pub closed : (before : List Entry) (e : Entry) (until later : List Entry) → history ≡ before ++ e ∷ (until ++ later) → 0 < deaths e.effects o → removals (effects_of until) o ≡ 0 → pluses (effects_of until) o ≡ 0
+
+-- No number is used again, so it has one life: it dies once at most, and after that no entry adds a reference to it.
+pub record HasOneLife (history : List Entry) (o : ObjNo) : Type 0 where
   pub dies : deaths (effects_of history) o ≤ 1
   pub closed : (before : List Entry) (e : Entry) (later : List Entry) → history ≡ before ++ e ∷ later → 0 < deaths e.effects o → pluses (effects_of later) o ≡ 0
-  pub once : removals (effects_of history) o ≤ 1
-  pub swept : (before : List Entry) (e : Entry) (later : List Entry) → history ≡ before ++ e ∷ later → 0 < removals e.effects o → 0 < deaths (effects_of before) o
 
 pub record IsSafeReferences (script : Script) (history : List Entry) : Type 0 where
   -- a Plus names a holder that doesn't hold the object then, and a Minus one that does
@@ -32,5 +37,6 @@ pub record IsSafeReferences (script : Script) (history : List Entry) : Type 0 wh
   pub only : (o : ObjNo) → DiesOnlyAtZero script history o
   -- and always where it goes
   pub always : (o : ObjNo) → DiesAtZero script history o
-  -- nobody opens a dead object, and its row goes once
-  pub over : (o : ObjNo) → IsOver history o
+  -- it dies once a life, nobody opens it between its death and its sweep, and it has one life
+  pub lives : (o : ObjNo) → DiesOnceALife history o
+  pub once : (o : ObjNo) → HasOneLife history o

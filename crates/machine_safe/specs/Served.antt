@@ -57,28 +57,19 @@ abbrev pub since : List Entry → ObjNo → List Entry
 since [] v = []
 since (e ∷ es) v = if is_some (owner_in es v) then since es v else e ∷ es
 
--- how often handles of an object are closed, by `close` or in the death of a thread
+-- how often handles of an object go
 abbrev pub handles_lost : List Effect → ObjNo → ℕ
 handles_lost [] v = 0
 handles_lost (Minus h o ∷ rest) v = (if is_handle h then same o v else 0) + handles_lost rest v
 handles_lost (_ ∷ rest) v = handles_lost rest v
 
-abbrev pub closes_handle : Step → Bool
-closes_handle (step.Of word.Close part.Do) = true
-closes_handle step.Shut = true
-closes_handle _ = false
-
-abbrev pub closings : List Entry → ObjNo → ℕ
-closings [] v = 0
-closings (e ∷ es) v = (if closes_handle e.step then handles_lost e.effects v else 0) + closings es v
-
--- a server is closing once, since it was made, its handle is closed or its owner is doomed
+-- a server is closing once, since it was made, its handle goes or its owner is doomed
 abbrev pub is_doomed : List Effect → Option ObjNo → Bool
 is_doomed effects None = false
 is_doomed effects (Some t) = nat_lt 0 (dooms effects t)
 
 abbrev pub is_closing_in : List Entry → ObjNo → Bool
-is_closing_in es v = nat_lt 0 (closings (since es v) v) || is_doomed (effects_of (since es v)) (owner_in es v)
+is_closing_in es v = nat_lt 0 (handles_lost (effects_of (since es v)) v) || is_doomed (effects_of (since es v)) (owner_in es v)
 
 -- how often a server ended, and how often since it was made
 abbrev pub ends : List Effect → ObjNo → ℕ

@@ -20,7 +20,7 @@ use script_types::Script;
 /// over a session of a server that isn't closing, and finished once at most, by that server's owner, with the code of its
 /// `complete` or, where the server is closing, as terminated; beside that end
 /// stands what the client is told, and nothing else: the code, by the status that it sent the message with, unless it was
-/// doomed or the message disconnects. A server ends once at most, where it is closing; each of its messages is finished
+/// doomed since the acceptance or the message disconnects. A server ends once at most, where it is closing; each of its messages is finished
 /// then, and nothing is accepted beside; and as a thread is cleaned each server that it made has ended. And a `send` to a
 /// server that isn't closing answers KErrServerBusy exactly where all slots are used of its session, which the look of that
 /// `send` found, and is accepted else. This call only states it, and changes nothing.

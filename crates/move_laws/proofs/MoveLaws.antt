@@ -1,5 +1,6 @@
 -- What each kind of move does, and several in a row.
 pub mod Sound
+pub mod Groups
 pub mod RowMoves
 pub mod ServerMoves
 pub mod LockMoves

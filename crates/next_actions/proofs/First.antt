@@ -54,36 +54,36 @@ first_of_parts [] (what ∷ work) used handles logons = refl
 first_of_parts (o ∷ mutexes) work used handles logons = refl
 
 first_of_all : (S : State) (t : ObjNo) (row : ThreadRow)
-    → first_of (slice_get (slice_index_or S.mutexes t.0 []) 0) (slice_get (held_servers S t) 0) row.uses (slice_get (held_handles (InThread t) 0 (table_of S t) ++ process_handles S t row.process) 0) (slice_get (logons_on S.logons t) 0)
+    → first_of (slice_get (slice_index_or S.synchronization.mutexes t.0 []) 0) (slice_get (held_servers S t) 0) row.uses (slice_get (held_handles (InThread t) 0 (table_of S t) ++ process_handles S t row.process) 0) (slice_get (logons_on S.synchronization.logons t) 0)
     ≡ slice_get (holdings S t row) 0
 first_of_all S t row =
     let own = held_handles (InThread t) 0 (table_of S t) in
     let shared = process_handles S t row.process in
-    first_of_parts (slice_index_or S.mutexes t.0 []) (held_servers S t) row.uses (own ++ shared) (logons_on S.logons t)
+    first_of_parts (slice_index_or S.synchronization.mutexes t.0 []) (held_servers S t) row.uses (own ++ shared) (logons_on S.synchronization.logons t)
     ∙ ap (λ (l : List Holding). slice_get (l ++ held_logons S t) 0) (sym (append_assoc (held_mutexes S t ++ held_servers S t ++ held_use row.uses) own shared))
 
 -- so it is a mutex, or else of its closing servers, or else what its call uses, or else a handle, or else a logon
 by_parts : (S : State) (t : ObjNo) (row : ThreadRow) (mutex : Option ObjNo) (work : Option Holding) (used : Option ObjNo) (handle : Option Holding) (logon : Option (ObjNo × ℕ))
-    → slice_get (slice_index_or S.mutexes t.0 []) 0 ≡ mutex → slice_get (held_servers S t) 0 ≡ work → row.uses ≡ used → slice_get (held_handles (InThread t) 0 (table_of S t) ++ process_handles S t row.process) 0 ≡ handle → slice_get (logons_on S.logons t) 0 ≡ logon
+    → slice_get (slice_index_or S.synchronization.mutexes t.0 []) 0 ≡ mutex → slice_get (held_servers S t) 0 ≡ work → row.uses ≡ used → slice_get (held_handles (InThread t) 0 (table_of S t) ++ process_handles S t row.process) 0 ≡ handle → slice_get (logons_on S.synchronization.logons t) 0 ≡ logon
     → slice_get (holdings S t row) 0 ≡ first_of mutex work used handle logon
 by_parts S t row mutex work used handle logon m w u h l = rw (sym m, sym w, sym u, sym h, sym l) (sym (first_of_all S t row))
 
-pub of_mutex : (S : State) (t : ObjNo) (row : ThreadRow) (o : ObjNo) → slice_get (slice_index_or S.mutexes t.0 []) 0 ≡ Some o → slice_get (holdings S t row) 0 ≡ Some (Mutex o)
+pub of_mutex : (S : State) (t : ObjNo) (row : ThreadRow) (o : ObjNo) → slice_get (slice_index_or S.synchronization.mutexes t.0 []) 0 ≡ Some o → slice_get (holdings S t row) 0 ≡ Some (Mutex o)
 of_mutex S t row o m = by_parts S t row (Some o) _ _ _ _ m refl refl refl refl
 
-pub of_work : (S : State) (t : ObjNo) (row : ThreadRow) (what : Holding) → slice_get (slice_index_or S.mutexes t.0 []) 0 ≡ None → slice_get (held_servers S t) 0 ≡ Some what → slice_get (holdings S t row) 0 ≡ Some what
+pub of_work : (S : State) (t : ObjNo) (row : ThreadRow) (what : Holding) → slice_get (slice_index_or S.synchronization.mutexes t.0 []) 0 ≡ None → slice_get (held_servers S t) 0 ≡ Some what → slice_get (holdings S t row) 0 ≡ Some what
 of_work S t row what m w = by_parts S t row None (Some what) _ _ _ m w refl refl refl
 
-pub of_use : (S : State) (t : ObjNo) (row : ThreadRow) (o : ObjNo) → slice_get (slice_index_or S.mutexes t.0 []) 0 ≡ None → slice_get (held_servers S t) 0 ≡ None → row.uses ≡ Some o → slice_get (holdings S t row) 0 ≡ Some (Use o)
+pub of_use : (S : State) (t : ObjNo) (row : ThreadRow) (o : ObjNo) → slice_get (slice_index_or S.synchronization.mutexes t.0 []) 0 ≡ None → slice_get (held_servers S t) 0 ≡ None → row.uses ≡ Some o → slice_get (holdings S t row) 0 ≡ Some (Use o)
 of_use S t row o m w u = by_parts S t row None None (Some o) _ _ m w u refl refl
 
-pub of_handle : (S : State) (t : ObjNo) (row : ThreadRow) (handle : Holding) → slice_get (slice_index_or S.mutexes t.0 []) 0 ≡ None → slice_get (held_servers S t) 0 ≡ None → row.uses ≡ None → slice_get (held_handles (InThread t) 0 (table_of S t) ++ process_handles S t row.process) 0 ≡ Some handle → slice_get (holdings S t row) 0 ≡ Some handle
+pub of_handle : (S : State) (t : ObjNo) (row : ThreadRow) (handle : Holding) → slice_get (slice_index_or S.synchronization.mutexes t.0 []) 0 ≡ None → slice_get (held_servers S t) 0 ≡ None → row.uses ≡ None → slice_get (held_handles (InThread t) 0 (table_of S t) ++ process_handles S t row.process) 0 ≡ Some handle → slice_get (holdings S t row) 0 ≡ Some handle
 of_handle S t row handle m w u h = by_parts S t row None None None (Some handle) _ m w u h refl
 
-pub of_logon : (S : State) (t : ObjNo) (row : ThreadRow) (logon : ObjNo × ℕ) → slice_get (slice_index_or S.mutexes t.0 []) 0 ≡ None → slice_get (held_servers S t) 0 ≡ None → row.uses ≡ None → slice_get (held_handles (InThread t) 0 (table_of S t) ++ process_handles S t row.process) 0 ≡ None → slice_get (logons_on S.logons t) 0 ≡ Some logon → slice_get (holdings S t row) 0 ≡ Some (Logon logon.0 logon.1)
+pub of_logon : (S : State) (t : ObjNo) (row : ThreadRow) (logon : ObjNo × ℕ) → slice_get (slice_index_or S.synchronization.mutexes t.0 []) 0 ≡ None → slice_get (held_servers S t) 0 ≡ None → row.uses ≡ None → slice_get (held_handles (InThread t) 0 (table_of S t) ++ process_handles S t row.process) 0 ≡ None → slice_get (logons_on S.synchronization.logons t) 0 ≡ Some logon → slice_get (holdings S t row) 0 ≡ Some (Logon logon.0 logon.1)
 of_logon S t row logon m w u h l = by_parts S t row None None None None (Some logon) m w u h l
 
-pub of_none : (S : State) (t : ObjNo) (row : ThreadRow) → slice_get (slice_index_or S.mutexes t.0 []) 0 ≡ None → slice_get (held_servers S t) 0 ≡ None → row.uses ≡ None → slice_get (held_handles (InThread t) 0 (table_of S t) ++ process_handles S t row.process) 0 ≡ None → slice_get (logons_on S.logons t) 0 ≡ None → slice_get (holdings S t row) 0 ≡ None
+pub of_none : (S : State) (t : ObjNo) (row : ThreadRow) → slice_get (slice_index_or S.synchronization.mutexes t.0 []) 0 ≡ None → slice_get (held_servers S t) 0 ≡ None → row.uses ≡ None → slice_get (held_handles (InThread t) 0 (table_of S t) ++ process_handles S t row.process) 0 ≡ None → slice_get (logons_on S.synchronization.logons t) 0 ≡ None → slice_get (holdings S t row) 0 ≡ None
 of_none S t row m w u h l = by_parts S t row None None None None None m w u h l
 
 -- the work of a live thread's closing servers, where there is any

@@ -56,7 +56,7 @@ IsStepOf task _ = Unit {0}
 -- whoever is reaped is doomed, and whoever ends is live and nothing protects it
 abbrev pub SuitsRow : State → ObjNo → ThreadRow → NextAction → Type 0
 SuitsRow S t row Dies = row.stage ≡ Doomed
-SuitsRow S t row Ends = (row.stage ≡ Live) × (is_protected S.nano t ≡ false)
+SuitsRow S t row Ends = (row.stage ≡ Live) × (is_protected S.synchronization.nano t ≡ false)
 SuitsRow S t row _ = Unit {0}
 
 -- a thread that isn't between a find and its return

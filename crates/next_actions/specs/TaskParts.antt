@@ -12,11 +12,11 @@ use Rattle.machine.specs.Task.{live_task, next_call, step_or_end, work_or, by_st
 
 -- of a live thread that serves no queue: the work of its closing servers, its instruction, or what is left at its list's end
 abbrev pub own_task : State → ObjNo → Option Instr → Task
-own_task S t instr = work_or (held_servers S t) (step_or_end (is_protected S.nano t) instr)
+own_task S t instr = work_or (held_servers S t) (step_or_end (is_protected S.synchronization.nano t) instr)
 
 -- of a live thread: a call of its queue, or what is its own to do
 abbrev pub task_alive : State → ObjNo → ThreadRow → Option Instr → Option Task
-task_alive S t row instr = live_task row.role (next_call S.deferred row.role) (own_task S t instr)
+task_alive S t row instr = live_task row.role (next_call S.synchronization.deferred row.role) (own_task S t instr)
 
 -- of a thread at any stage
 abbrev pub task_at_stage : State → ObjNo → ThreadRow → Option Instr → Option Task

@@ -58,7 +58,7 @@ pub fn immediate_action<R: Reads>(
     script: &Script,
     reads: &R,
 ) -> Option<Body>
-    ensures { let S = R.state reads.now in planned decision.new result ≡ immediate_plan script.now S (next_immediate S.deferred) }
+    ensures { let S = R.state reads.now in planned decision.new result ≡ immediate_plan script.now S (next_immediate S.synchronization.deferred) }
 {
     match reads.next_immediate() {
         Some(item) => item_action(decision, script, reads, item),

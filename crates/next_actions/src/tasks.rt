@@ -69,8 +69,8 @@ pub fn pay(decision: &mut Decision, what: Owed)
 /// What a live thread does at its list's end: it gives up what protects it, if it is protected, and else it ends.
 fn end_of_list<'a, R: Reads>(decision: &mut Decision, reads: &R, thread: ThreadNo) -> NextAction<'a>
     requires { R.is_readable reads.now }
-    ensures decided { (script : Script) (row : ThreadRow) → let S = R.state reads.now in decided_by script thread S (Some row) decision.new result ≡ decision_of_row script S thread (Some row) (Some (end_task (is_protected S.nano thread))) }
-    ensures step { IsStepOf (Some (end_task (is_protected (R.state reads.now).nano thread))) result }
+    ensures decided { (script : Script) (row : ThreadRow) → let S = R.state reads.now in decided_by script thread S (Some row) decision.new result ≡ decision_of_row script S thread (Some row) (Some (end_task (is_protected S.synchronization.nano thread))) }
+    ensures step { IsStepOf (Some (end_task (is_protected (R.state reads.now).synchronization.nano thread))) result }
     ensures suits { (row : ThreadRow) → row.stage ≡ Live → SuitsRow (R.state reads.now) thread row result }
 {
     if reads.is_protected(thread) {

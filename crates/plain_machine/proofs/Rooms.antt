@@ -137,40 +137,40 @@ long_closed : (last : Bool) (o : ObjNo) (threads : List (Option ThreadRow)) → 
 long_closed true o threads = long_row threads o unlinked
 long_closed false o threads = refl
 
-threads_long : (t : ObjNo) (m : Move) (S : State) → length (moved t m S).threads ≡ length S.threads
-threads_long t (Make kind name h) S = long_gained h (next_object S) S.threads
-threads_long t (Gain h o) S = long_gained h o S.threads
-threads_long t (Lose h o) S = long_closed (dies S o) o (threads_lose h S.threads) ∙ long_lost h S.threads
-threads_long t (Find u o) S = long_row S.threads u (with_found o)
+threads_long : (t : ObjNo) (m : Move) (S : State) → length (moved t m S).references.threads ≡ length S.references.threads
+threads_long t (Make kind name h) S = long_gained h (next_object S) S.references.threads
+threads_long t (Gain h o) S = long_gained h o S.references.threads
+threads_long t (Lose h o) S = long_closed (dies S o) o (threads_lose h S.references.threads) ∙ long_lost h S.references.threads
+threads_long t (Find u o) S = long_row S.references.threads u (with_found o)
 threads_long t (Miss o) S = refl
-threads_long t (GoOn u part) S = long_row S.threads u (with_part part)
-threads_long t (Keep u number) S = long_row S.threads u (with_kept number)
-threads_long t (Write u x value) S = long_row S.threads u (with_register x value)
-threads_long t (WriteMessage u y number) S = long_row S.threads u (with_message y number)
-threads_long t (PutDown u) S = long_row S.threads u (with_use None)
-threads_long t (Advance u) S = long_row S.threads u advanced
-threads_long t (Wait u what) S = long_row S.threads u (with_waiting what)
-threads_long t (Wake u) S = long_row S.threads u (with_waiting Nothing)
-threads_long t (SetPriority u priority) S = long_row S.threads u (with_priority priority)
+threads_long t (GoOn u part) S = long_row S.references.threads u (with_part part)
+threads_long t (Keep u number) S = long_row S.references.threads u (with_kept number)
+threads_long t (Write u x value) S = long_row S.references.threads u (with_register x value)
+threads_long t (WriteMessage u y number) S = long_row S.references.threads u (with_message y number)
+threads_long t (PutDown u) S = long_row S.references.threads u (with_use None)
+threads_long t (Advance u) S = long_row S.references.threads u advanced
+threads_long t (Wait u what) S = long_row S.references.threads u (with_waiting what)
+threads_long t (Wake u) S = long_row S.references.threads u (with_waiting Nothing)
+threads_long t (SetPriority u priority) S = long_row S.references.threads u (with_priority priority)
 threads_long t (Nano m) S = refl
 threads_long t (Deferred m) S = refl
 threads_long t (Requests m) S = refl
 threads_long t (Locks m) S = refl
 threads_long t (Logons m) S = refl
-threads_long t (Death m) S = long_row S.threads (death_thread m) (death_row m)
+threads_long t (Death m) S = long_row S.references.threads (death_thread m) (death_row m)
 threads_long t (Servers m) S = refl
 threads_long t (Messages m) S = refl
 threads_long t (Fill p at long byte) S = refl
 threads_long t (Copies m) S = refl
-threads_long t (Pay (Close h o)) S = long_closed (dies S o) o S.threads
-threads_long t (Pay (Sweep o)) S = length-set S.threads o.0 None
+threads_long t (Pay (Close h o)) S = long_closed (dies S o) o S.references.threads
+threads_long t (Pay (Sweep o)) S = length-set S.references.threads o.0 None
 
 -- room for more is room for less
 pub room_less : (m n : ℕ) (S : State) → m ≤ n → HasRoom n S → HasRoom m S
 room_less m n S le room = record {
   objects = let few = room.objects in omega arith;
   threads = room.threads;
-  instructions = threads_less m n le S.threads room.instructions;
+  instructions = threads_less m n le S.references.threads room.instructions;
   tables = room.tables;
   messages = let few = room.messages in omega arith;
 }
@@ -186,7 +186,7 @@ accepts_one (Take o) r = accepts_same (next_of r o)
     accepts_same (Some m) = omega arith
 
 -- room after a move that changes the rows of threads alone
-with_threads : (n : ℕ) (S T : State) → T.objects ≡ S.objects → T.handles ≡ S.handles → T.messages.accepted ≤ S.messages.accepted + 1 → length T.threads ≡ length S.threads → MayAdvance n T.threads → HasRoom (n + 1) S → HasRoom n T
+with_threads : (n : ℕ) (S T : State) → T.references.objects ≡ S.references.objects → T.references.handles ≡ S.references.handles → T.serving.messages.accepted ≤ S.serving.messages.accepted + 1 → length T.references.threads ≡ length S.references.threads → MayAdvance n T.references.threads → HasRoom (n + 1) S → HasRoom n T
 with_threads n S T same tables accepted long may room = record {
   objects = let few = room.objects in let made = ap (λ (xs : List (Option ObjectRow)). length xs) same in omega arith;
   threads = let few = room.threads in omega arith;
@@ -205,58 +205,58 @@ death_stays (Bury t) row = refl
 -- a move takes one away
 pub room_moved : (t : ObjNo) (m : Move) (n : ℕ) (S : State) → HasRoom (n + 1) S → HasRoom n (moved t m S)
 room_moved t (Make kind name h) n S room = record {
-  objects = let few = room.objects in let long = length-append S.objects (Some (new_object kind name) ∷ []) in omega arith;
+  objects = let few = room.objects in let long = length-append S.references.objects (Some (new_object kind name) ∷ []) in omega arith;
   threads = let few = room.threads in let long = threads_long t (Make kind name h) S in omega arith;
-  instructions = threads_gained h (next_object S) n S.threads (threads_less n (n + 1) (omega arith) S.threads room.instructions);
-  tables = tables_gained h (next_object S) S.handles room.tables;
+  instructions = threads_gained h (next_object S) n S.references.threads (threads_less n (n + 1) (omega arith) S.references.threads room.instructions);
+  tables = tables_gained h (next_object S) S.references.handles room.tables;
   messages = let few = room.messages in omega arith;
 }
 room_moved t (Gain h o) n S room = record {
   objects = let few = room.objects in omega arith;
   threads = let few = room.threads in let long = threads_long t (Gain h o) S in omega arith;
-  instructions = threads_gained h o n S.threads (threads_less n (n + 1) (omega arith) S.threads room.instructions);
-  tables = tables_gained h o S.handles room.tables;
+  instructions = threads_gained h o n S.references.threads (threads_less n (n + 1) (omega arith) S.references.threads room.instructions);
+  tables = tables_gained h o S.references.handles room.tables;
   messages = let few = room.messages in omega arith;
 }
 room_moved t (Lose h o) n S room = record {
-  objects = let few = room.objects in let long = length_closed (dies S o) o S.objects in omega arith;
+  objects = let few = room.objects in let long = length_closed (dies S o) o S.references.objects in omega arith;
   threads = let few = room.threads in let long = threads_long t (Lose h o) S in omega arith;
-  instructions = threads_unlinked (dies S o) o n (threads_lose h S.threads) (threads_lost h n S.threads (threads_less n (n + 1) (omega arith) S.threads room.instructions));
-  tables = tables_lost h S.handles room.tables;
+  instructions = threads_unlinked (dies S o) o n (threads_lose h S.references.threads) (threads_lost h n S.references.threads (threads_less n (n + 1) (omega arith) S.references.threads room.instructions));
+  tables = tables_lost h S.references.handles room.tables;
   messages = let few = room.messages in omega arith;
 }
-room_moved t (Find u o) n S room = with_threads n S (moved t (Find u o) S) refl refl (omega arith) (threads_long t (Find u o) S) (row_goes (with_found o) (λ row. omega arith) n S.threads u room.instructions) room
+room_moved t (Find u o) n S room = with_threads n S (moved t (Find u o) S) refl refl (omega arith) (threads_long t (Find u o) S) (row_goes (with_found o) (λ row. omega arith) n S.references.threads u room.instructions) room
 room_moved t (Miss o) n S room = room_less n (n + 1) S (omega arith) room
-room_moved t (GoOn u part) n S room = with_threads n S (moved t (GoOn u part) S) refl refl (omega arith) (threads_long t (GoOn u part) S) (row_goes (with_part part) (λ row. omega arith) n S.threads u room.instructions) room
-room_moved t (Keep u number) n S room = with_threads n S (moved t (Keep u number) S) refl refl (omega arith) (threads_long t (Keep u number) S) (row_goes (with_kept number) (λ row. omega arith) n S.threads u room.instructions) room
-room_moved t (Write u x value) n S room = with_threads n S (moved t (Write u x value) S) refl refl (omega arith) (threads_long t (Write u x value) S) (row_goes (with_register x value) (λ row. omega arith) n S.threads u room.instructions) room
-room_moved t (WriteMessage u y number) n S room = with_threads n S (moved t (WriteMessage u y number) S) refl refl (omega arith) (threads_long t (WriteMessage u y number) S) (row_goes (with_message y number) (λ row. omega arith) n S.threads u room.instructions) room
-room_moved t (PutDown u) n S room = with_threads n S (moved t (PutDown u) S) refl refl (omega arith) (threads_long t (PutDown u) S) (row_goes (with_use None) (λ row. omega arith) n S.threads u room.instructions) room
-room_moved t (Advance u) n S room = with_threads n S (moved t (Advance u) S) refl refl (omega arith) (threads_long t (Advance u) S) (row_goes advanced (λ row. omega arith) n S.threads u room.instructions) room
-room_moved t (Wait u what) n S room = with_threads n S (moved t (Wait u what) S) refl refl (omega arith) (threads_long t (Wait u what) S) (row_goes (with_waiting what) (λ row. omega arith) n S.threads u room.instructions) room
-room_moved t (Wake u) n S room = with_threads n S (moved t (Wake u) S) refl refl (omega arith) (threads_long t (Wake u) S) (row_goes (with_waiting Nothing) (λ row. omega arith) n S.threads u room.instructions) room
-room_moved t (SetPriority u priority) n S room = with_threads n S (moved t (SetPriority u priority) S) refl refl (omega arith) (threads_long t (SetPriority u priority) S) (row_goes (with_priority priority) (λ row. omega arith) n S.threads u room.instructions) room
-room_moved t (Nano m) n S room = with_threads n S (moved t (Nano m) S) refl refl (omega arith) (threads_long t (Nano m) S) (threads_less n (n + 1) (omega arith) S.threads room.instructions) room
-room_moved t (Deferred m) n S room = with_threads n S (moved t (Deferred m) S) refl refl (omega arith) (threads_long t (Deferred m) S) (threads_less n (n + 1) (omega arith) S.threads room.instructions) room
-room_moved t (Requests m) n S room = with_threads n S (moved t (Requests m) S) refl refl (omega arith) (threads_long t (Requests m) S) (threads_less n (n + 1) (omega arith) S.threads room.instructions) room
-room_moved t (Locks m) n S room = with_threads n S (moved t (Locks m) S) refl refl (omega arith) (threads_long t (Locks m) S) (threads_less n (n + 1) (omega arith) S.threads room.instructions) room
-room_moved t (Logons m) n S room = with_threads n S (moved t (Logons m) S) refl refl (omega arith) (threads_long t (Logons m) S) (threads_less n (n + 1) (omega arith) S.threads room.instructions) room
-room_moved t (Death m) n S room = with_threads n S (moved t (Death m) S) refl refl (omega arith) (threads_long t (Death m) S) (row_stays (death_row m) (death_stays m) n S.threads (death_thread m) (threads_less n (n + 1) (omega arith) S.threads room.instructions)) room
-room_moved t (Servers m) n S room = with_threads n S (moved t (Servers m) S) refl refl (omega arith) (threads_long t (Servers m) S) (threads_less n (n + 1) (omega arith) S.threads room.instructions) room
-room_moved t (Messages m) n S room = with_threads n S (moved t (Messages m) S) refl refl (accepts_one m S.messages) (threads_long t (Messages m) S) (threads_less n (n + 1) (omega arith) S.threads room.instructions) room
-room_moved t (Fill p at long byte) n S room = with_threads n S (moved t (Fill p at long byte) S) refl refl (omega arith) (threads_long t (Fill p at long byte) S) (threads_less n (n + 1) (omega arith) S.threads room.instructions) room
-room_moved t (Copies m) n S room = with_threads n S (moved t (Copies m) S) refl refl (let same = copy_accepts m S.threads S.messages in omega arith) (threads_long t (Copies m) S) (threads_less n (n + 1) (omega arith) S.threads room.instructions) room
+room_moved t (GoOn u part) n S room = with_threads n S (moved t (GoOn u part) S) refl refl (omega arith) (threads_long t (GoOn u part) S) (row_goes (with_part part) (λ row. omega arith) n S.references.threads u room.instructions) room
+room_moved t (Keep u number) n S room = with_threads n S (moved t (Keep u number) S) refl refl (omega arith) (threads_long t (Keep u number) S) (row_goes (with_kept number) (λ row. omega arith) n S.references.threads u room.instructions) room
+room_moved t (Write u x value) n S room = with_threads n S (moved t (Write u x value) S) refl refl (omega arith) (threads_long t (Write u x value) S) (row_goes (with_register x value) (λ row. omega arith) n S.references.threads u room.instructions) room
+room_moved t (WriteMessage u y number) n S room = with_threads n S (moved t (WriteMessage u y number) S) refl refl (omega arith) (threads_long t (WriteMessage u y number) S) (row_goes (with_message y number) (λ row. omega arith) n S.references.threads u room.instructions) room
+room_moved t (PutDown u) n S room = with_threads n S (moved t (PutDown u) S) refl refl (omega arith) (threads_long t (PutDown u) S) (row_goes (with_use None) (λ row. omega arith) n S.references.threads u room.instructions) room
+room_moved t (Advance u) n S room = with_threads n S (moved t (Advance u) S) refl refl (omega arith) (threads_long t (Advance u) S) (row_goes advanced (λ row. omega arith) n S.references.threads u room.instructions) room
+room_moved t (Wait u what) n S room = with_threads n S (moved t (Wait u what) S) refl refl (omega arith) (threads_long t (Wait u what) S) (row_goes (with_waiting what) (λ row. omega arith) n S.references.threads u room.instructions) room
+room_moved t (Wake u) n S room = with_threads n S (moved t (Wake u) S) refl refl (omega arith) (threads_long t (Wake u) S) (row_goes (with_waiting Nothing) (λ row. omega arith) n S.references.threads u room.instructions) room
+room_moved t (SetPriority u priority) n S room = with_threads n S (moved t (SetPriority u priority) S) refl refl (omega arith) (threads_long t (SetPriority u priority) S) (row_goes (with_priority priority) (λ row. omega arith) n S.references.threads u room.instructions) room
+room_moved t (Nano m) n S room = with_threads n S (moved t (Nano m) S) refl refl (omega arith) (threads_long t (Nano m) S) (threads_less n (n + 1) (omega arith) S.references.threads room.instructions) room
+room_moved t (Deferred m) n S room = with_threads n S (moved t (Deferred m) S) refl refl (omega arith) (threads_long t (Deferred m) S) (threads_less n (n + 1) (omega arith) S.references.threads room.instructions) room
+room_moved t (Requests m) n S room = with_threads n S (moved t (Requests m) S) refl refl (omega arith) (threads_long t (Requests m) S) (threads_less n (n + 1) (omega arith) S.references.threads room.instructions) room
+room_moved t (Locks m) n S room = with_threads n S (moved t (Locks m) S) refl refl (omega arith) (threads_long t (Locks m) S) (threads_less n (n + 1) (omega arith) S.references.threads room.instructions) room
+room_moved t (Logons m) n S room = with_threads n S (moved t (Logons m) S) refl refl (omega arith) (threads_long t (Logons m) S) (threads_less n (n + 1) (omega arith) S.references.threads room.instructions) room
+room_moved t (Death m) n S room = with_threads n S (moved t (Death m) S) refl refl (omega arith) (threads_long t (Death m) S) (row_stays (death_row m) (death_stays m) n S.references.threads (death_thread m) (threads_less n (n + 1) (omega arith) S.references.threads room.instructions)) room
+room_moved t (Servers m) n S room = with_threads n S (moved t (Servers m) S) refl refl (omega arith) (threads_long t (Servers m) S) (threads_less n (n + 1) (omega arith) S.references.threads room.instructions) room
+room_moved t (Messages m) n S room = with_threads n S (moved t (Messages m) S) refl refl (accepts_one m S.serving.messages) (threads_long t (Messages m) S) (threads_less n (n + 1) (omega arith) S.references.threads room.instructions) room
+room_moved t (Fill p at long byte) n S room = with_threads n S (moved t (Fill p at long byte) S) refl refl (omega arith) (threads_long t (Fill p at long byte) S) (threads_less n (n + 1) (omega arith) S.references.threads room.instructions) room
+room_moved t (Copies m) n S room = with_threads n S (moved t (Copies m) S) refl refl (let same = copy_accepts m S.references.threads S.serving.messages in omega arith) (threads_long t (Copies m) S) (threads_less n (n + 1) (omega arith) S.references.threads room.instructions) room
 room_moved t (Pay (Close h o)) n S room = record {
-  objects = let few = room.objects in let long = length_closed (dies S o) o S.objects in omega arith;
+  objects = let few = room.objects in let long = length_closed (dies S o) o S.references.objects in omega arith;
   threads = let few = room.threads in let long = threads_long t (Pay (Close h o)) S in omega arith;
-  instructions = threads_unlinked (dies S o) o n S.threads (threads_less n (n + 1) (omega arith) S.threads room.instructions);
+  instructions = threads_unlinked (dies S o) o n S.references.threads (threads_less n (n + 1) (omega arith) S.references.threads room.instructions);
   tables = room.tables;
   messages = let few = room.messages in omega arith;
 }
 room_moved t (Pay (Sweep o)) n S room = record {
-  objects = let few = room.objects in let long = length-set S.objects o.0 None in omega arith;
+  objects = let few = room.objects in let long = length-set S.references.objects o.0 None in omega arith;
   threads = let few = room.threads in let long = threads_long t (Pay (Sweep o)) S in omega arith;
-  instructions = set_keeps (CanGo n) S.threads o.0 None None (λ row e. absurd (cc)) (threads_less n (n + 1) (omega arith) S.threads room.instructions);
+  instructions = set_keeps (CanGo n) S.references.threads o.0 None None (λ row e. absurd (cc)) (threads_less n (n + 1) (omega arith) S.references.threads room.instructions);
   tables = room.tables;
   messages = let few = room.messages in omega arith;
 }

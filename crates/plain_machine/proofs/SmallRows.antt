@@ -109,13 +109,13 @@ small_copied (WriteCopy job) threads r small = by (write_refusal (ends_of thread
     by None false = small_changed r job.m (resized job.arg (job.offset + job.len)) small
 
 -- so both stay after each move
-same_rows : (S T : State) → T.nano ≡ S.nano → T.messages ≡ S.messages → IsSmall S → IsSmall T
+same_rows : (S T : State) → T.synchronization.nano ≡ S.synchronization.nano → T.serving.messages ≡ S.serving.messages → IsSmall S → IsSmall T
 same_rows S T same messages small = record { nano = subst AreSmallRows (sym same) small.nano; messages = subst (λ (r : MessageRows). AreSmallNumbers r.outstanding) (sym messages) small.messages }
 
 pub small_moved : (t : ObjNo) (m : Move) (n : ℕ) (S : State) → HasRoom (n + 1) S → IsSmall S → IsSmall (moved t m S)
-small_moved t (Nano m) n S room small = record { nano = small_nano m S.nano small.nano; messages = small.messages }
-small_moved t (Messages m) n S room small = record { nano = small.nano; messages = small_messages m n S.messages room.messages small.messages }
-small_moved t (Copies m) n S room small = record { nano = small.nano; messages = small_copied m S.threads S.messages small.messages }
+small_moved t (Nano m) n S room small = record { nano = small_nano m S.synchronization.nano small.nano; messages = small.messages }
+small_moved t (Messages m) n S room small = record { nano = small.nano; messages = small_messages m n S.serving.messages room.messages small.messages }
+small_moved t (Copies m) n S room small = record { nano = small.nano; messages = small_copied m S.references.threads S.serving.messages small.messages }
 small_moved t (Pay (Close h o)) n S room small = same_rows S (moved t (Pay (Close h o)) S) refl refl small
 small_moved t (Pay (Sweep o)) n S room small = same_rows S (moved t (Pay (Sweep o)) S) refl refl small
 small_moved t (Make kind name h) n S room small = same_rows S (moved t (Make kind name h) S) refl refl small

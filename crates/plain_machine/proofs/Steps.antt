@@ -49,18 +49,18 @@ small_table tables are k = elim (cases_lt k (length tables)) [
 -- a well-formed state has room for an action
 room_of_rows : (script : Script) (S : State) → IsShaped script → AreRows script S → HasRoom 9 S
 room_of_rows script S shaped rows = record {
-  objects = let few = rows.sized.objects_few in omega arith;
-  threads = let few = rows.sized.threads_few in omega arith;
-  instructions = λ k row is. let next = (rows.threads.rows k row is).next_instruction in let few = few_instructions script row.role shaped in omega arith;
-  tables = small_table S.handles rows.tables;
-  messages = let few = rows.messages.numbered in omega arith;
+  objects = let few = rows.references.sized.objects_few in omega arith;
+  threads = let few = rows.references.sized.threads_few in omega arith;
+  instructions = λ k row is. let next = (rows.references.threads.rows k row is).next_instruction in let few = few_instructions script row.role shaped in omega arith;
+  tables = small_table S.references.handles rows.references.tables;
+  messages = let few = rows.serving.messages.numbered in omega arith;
 }
 
 -- its rows of threads that synchronize are small
-small_nano : (script : Script) (S : State) → AreRows script S → AreSmallRows S.nano
+small_nano : (script : Script) (S : State) → AreRows script S → AreSmallRows S.synchronization.nano
 small_nano script S rows = record {
-  mutexes = let few = rows.nano.rows.few in omega arith;
-  suspensions = rows.nano.rows.limited;
+  mutexes = let few = rows.synchronization.nano.rows.few in omega arith;
+  suspensions = rows.synchronization.nano.rows.limited;
 }
 
 small_of_rows : (script : Script) (S : State) → IsShaped script → AreRows script S → IsSmall S
@@ -68,7 +68,7 @@ small_of_rows script S shaped rows =
     let room = room_of_rows script S shaped rows in
     record {
       nano = small_nano script S rows;
-      messages = All-weaker (Contains S.messages.outstanding) IsSmallNumber (λ message is. let few = room.messages in let given = rows.messages.given message is in omega arith) S.messages.outstanding (All-contains_itself S.messages.outstanding);
+      messages = All-weaker (Contains S.serving.messages.outstanding) IsSmallNumber (λ message is. let few = room.messages in let given = rows.serving.messages.given message is in omega arith) S.serving.messages.outstanding (All-contains_itself S.serving.messages.outstanding);
     }
 
 -- an action of a thread tells four effects at most, and so does what is done without one
@@ -86,7 +86,7 @@ allows_action script S shaped rows = record {
   room = room_of_rows script S shaped rows;
   small = small_of_rows script S shaped rows;
   threads = λ t. few_effects script S t shaped rows;
-  immediate = let found = next_immediate S.deferred in few_told script S (decision_by script supervisor S (immediate_plan script S found)) (goes-immediate script S found shaped rows refl);
+  immediate = let found = next_immediate S.synchronization.deferred in few_told script S (decision_by script supervisor S (immediate_plan script S found)) (goes-immediate script S found shaped rows refl);
   interrupts = λ k. few_told script S (decision_by script supervisor S (Runs (Interrupt k))) (goes-interrupt script S k shaped rows);
 }
 

@@ -21,13 +21,13 @@ TellsFew t S d = length (tell t d.moves S) ≤ 4
 
 -- the rows of threads that synchronize are small, and so are the numbers of outstanding messages
 pub record IsSmall (S : State) : Type 0 where
-  pub nano : AreSmallRows S.nano
-  pub messages : AreSmallNumbers S.messages.outstanding
+  pub nano : AreSmallRows S.synchronization.nano
+  pub messages : AreSmallNumbers S.serving.messages.outstanding
 
 -- there is room for nine moves, and no action tells more than four effects
 pub record AllowsAction (script : Script) (S : State) : Type 0 where
   pub room : HasRoom 9 S
   pub small : IsSmall S
   pub threads : (t : ObjNo) → TellsFew t S (decision_of script S t)
-  pub immediate : TellsFew supervisor S (decision_by script supervisor S (immediate_plan script S (next_immediate S.deferred)))
+  pub immediate : TellsFew supervisor S (decision_by script supervisor S (immediate_plan script S (next_immediate S.synchronization.deferred)))
   pub interrupts : (k : ℕ) → TellsFew supervisor S (decision_by script supervisor S (Runs (Interrupt k)))

@@ -17,7 +17,7 @@ pub fn first_ready(state: &State, ready: &[ThreadNo]) -> Option<ThreadNo>
 
 /// Who acts in a thread's place: the holder of the fast mutex that it wants, or the thread itself.
 fn in_place_of(state: &State, thread: ThreadNo) -> ThreadNo
-    ensures { result ≡ in_place_of state.now.nano thread }
+    ensures { result ≡ in_place_of state.now.synchronization.nano thread }
 {
     match wanted_holder(state, thread) {
         Some(holder) => holder,

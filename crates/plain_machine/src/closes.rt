@@ -5,20 +5,20 @@ ghost use Rattle.machine.specs.Rows.{thread_of};
 
 use crate::slots::lose_slot;
 use entry_log::Holder;
-use machine::{Move, Owed, State, dies, object_of, set_row, thread_in};
+use machine::{Move, Owed, State, dies, row_of, set_row, thread_in};
 use plain_rows::{drop_first_owed, owe_close, threads_closed, threads_lose};
 use plain_servers::{owned_lose, server_of, servers_closed, servers_lose};
-use state_rows::dead_row;
+use state_rows::{ObjectRow, dead_row};
 use std::alloc::Global;
-use sym_base::{NoMemory, ObjNo, ThreadNo};
+use sym_base::{Items, NoMemory, ObjNo, ThreadNo};
 
 /// An object that dies as a reference is given up is dead from then on.
-fn close_object(state: &mut State, dying: bool, object: ObjNo)
-    ensures { state.new ≡ record state.old { objects = objects_closed dying object state.old.objects } }
+fn close_object(objects: &mut Items<Option<ObjectRow>>, dying: bool, object: ObjNo)
+    ensures { objects.new ≡ objects_closed dying object objects.old }
 {
     if dying {
-        let dead = dead_row(object_of(state, object));
-        set_row(&mut state.objects, object, dead);
+        let dead = dead_row(row_of(objects, object));
+        set_row(objects, object, dead);
     }
 }
 
@@ -26,7 +26,7 @@ fn close_object(state: &mut State, dying: bool, object: ObjNo)
 fn process_link(state: &State, object: ObjNo) -> Option<ObjNo>
     ensures { result ≡ link_of_row (thread_of state.now object) }
 {
-    thread_in(&state.threads, object)?.link
+    thread_in(&state.references.threads, object)?.link
 }
 
 /// An object's own reference: a thread's link to its process, or a session's to its server.
@@ -35,7 +35,7 @@ fn link_of(state: &State, object: ObjNo) -> Option<ObjNo>
 {
     match process_link(state, object) {
         Some(process) => Some(process),
-        None => server_of(&state.servers, object),
+        None => server_of(&state.serving.servers, object),
     }
 }
 
@@ -51,14 +51,14 @@ pub fn lose(
 {
     let dying = dies(state, object);
     let link = link_of(state, object);
-    lose_slot(state, holder);
-    threads_lose(&mut state.threads, holder);
-    servers_lose(alloc, &mut state.servers, holder)?;
-    owned_lose(alloc, &mut state.owned, holder, object)?;
-    close_object(state, dying, object);
-    threads_closed(&mut state.threads, dying, object);
-    servers_closed(alloc, &mut state.servers, dying, object)?;
-    owe_close(&mut state.owed, thread, dying, object, link)
+    lose_slot(&mut state.references.handles, holder);
+    threads_lose(&mut state.references.threads, holder);
+    servers_lose(alloc, &mut state.serving.servers, holder)?;
+    owned_lose(alloc, &mut state.serving.owned, holder, object)?;
+    close_object(&mut state.references.objects, dying, object);
+    threads_closed(&mut state.references.threads, dying, object);
+    servers_closed(alloc, &mut state.serving.servers, dying, object)?;
+    owe_close(&mut state.references.owed, thread, dying, object, link)
 }
 
 /// The thread pays a close that it owes.
@@ -73,20 +73,20 @@ fn pay_close(
 {
     let dying = dies(state, object);
     let link = link_of(state, object);
-    close_object(state, dying, object);
-    threads_closed(&mut state.threads, dying, object);
-    servers_closed(alloc, &mut state.servers, dying, object)?;
-    drop_first_owed(&mut state.owed, thread);
-    owe_close(&mut state.owed, thread, dying, object, link)
+    close_object(&mut state.references.objects, dying, object);
+    threads_closed(&mut state.references.threads, dying, object);
+    servers_closed(alloc, &mut state.serving.servers, dying, object)?;
+    drop_first_owed(&mut state.references.owed, thread);
+    owe_close(&mut state.references.owed, thread, dying, object, link)
 }
 
 /// The thread removes the row of a dead object.
 fn pay_sweep(state: &mut State, thread: ThreadNo, object: ObjNo)
     ensures { state.new ≡ moved thread (Move.Pay (Owed.Sweep object)) state.old }
 {
-    set_row(&mut state.objects, object, None);
-    set_row(&mut state.threads, object, None);
-    drop_first_owed(&mut state.owed, thread);
+    set_row(&mut state.references.objects, object, None);
+    set_row(&mut state.references.threads, object, None);
+    drop_first_owed(&mut state.references.owed, thread);
 }
 
 /// The thread pays the oldest of what it owes.

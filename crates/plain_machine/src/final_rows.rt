@@ -13,18 +13,18 @@ use sym_base::{Exit, ObjNo};
 fn exit_of(state: &State, object: ObjNo) -> Option<Exit>
     ensures { result ≡ exit_of_row (thread_of state.now object) }
 {
-    thread_in(&state.threads, object)?.exit
+    thread_in(&state.references.threads, object)?.exit
 }
 
 /// The first object that isn't swept of the numbers from `from` on, with its count.
 #[tactic(auto, using(machine_laws::proofs::Reached::LeftRows::rows_from_swept, machine_laws::proofs::Reached::LeftRows::rows_from_left))]
 pub fn next_row(state: &State, from: u16) -> Option<FinalRow>
-    requires few { length state.now.objects ≤ 4096 }
+    requires few { length state.now.references.objects ≤ 4096 }
     requires counts { (object : ObjNo) → count_of state.now object < 65536 }
     ensures { IsNextRow (rows_from state.now) from result }
 {
-    for number in from..state.objects.len() as u16 {
-        if let Some(row) = state.objects.get(number as usize) {
+    for number in from..state.references.objects.len() as u16 {
+        if let Some(row) = state.references.objects.get(number as usize) {
             return Some(FinalRow {
                 object: ObjNo(number),
                 kind: row.kind,

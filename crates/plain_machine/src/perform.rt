@@ -23,7 +23,7 @@ use sym_base::{Kind, Name, NoMemory, ObjNo, ThreadNo};
 fn use_of(state: &State, thread: ThreadNo) -> Option<ObjNo>
     ensures { result ≡ use_of state.now thread }
 {
-    thread_in(&state.threads, thread)?.uses
+    thread_in(&state.references.threads, thread)?.uses
 }
 
 /// Makes an object, whose first reference is the holder's.
@@ -37,16 +37,16 @@ fn make(
     requires { HasRoom 1 state.old }
     ensures { OnOk result (state.new ≡ moved thread (Move.Make kind name holder) state.old) }
 {
-    let object = ObjNo(state.objects.len() as u16);
+    let object = ObjNo(state.references.objects.len() as u16);
     let row = ObjectRow {
         kind,
         name,
         dead: false,
     };
-    state.objects.push(Some(row))?;
-    gain_slot(state, holder, object);
-    threads_gain(&mut state.threads, holder, object);
-    owned_gain(&mut state.owned, holder, object)
+    state.references.objects.push(Some(row))?;
+    gain_slot(&mut state.references.handles, holder, object);
+    threads_gain(&mut state.references.threads, holder, object);
+    owned_gain(&mut state.serving.owned, holder, object)
 }
 
 /// The thread goes on to its next instruction, and owes the close of what it used.
@@ -55,8 +55,8 @@ fn advance(state: &mut State, thread: ThreadNo, other: ThreadNo) -> Result<(), N
     ensures { OnOk result (state.new ≡ moved thread (Move.Advance other) state.old) }
 {
     let uses = use_of(state, other);
-    threads_advance(&mut state.threads, other);
-    owe_use(&mut state.owed, other, uses)
+    threads_advance(&mut state.references.threads, other);
+    owe_use(&mut state.references.owed, other, uses)
 }
 
 /// The thread owes the close of what it used, and doesn't use it any more.
@@ -64,17 +64,17 @@ fn put_down(state: &mut State, thread: ThreadNo, other: ThreadNo) -> Result<(), 
     ensures { OnOk result (state.new ≡ moved thread (Move.PutDown other) state.old) }
 {
     let uses = use_of(state, other);
-    threads_lose(&mut state.threads, Holder::Temp(other));
-    owe_use(&mut state.owed, other, uses)
+    threads_lose(&mut state.references.threads, Holder::Temp(other));
+    owe_use(&mut state.references.owed, other, uses)
 }
 
 /// A holder gets a reference.
 fn gain(state: &mut State, thread: ThreadNo, holder: Holder, object: ObjNo)
-    requires { AreSmallTables state.old.handles }
+    requires { AreSmallTables state.old.references.handles }
     ensures { state.new ≡ moved thread (Move.Gain holder object) state.old }
 {
-    gain_slot(state, holder, object);
-    threads_gain(&mut state.threads, holder, object);
+    gain_slot(&mut state.references.handles, holder, object);
+    threads_gain(&mut state.references.threads, holder, object);
 }
 
 /// One move in an action of a thread.
@@ -96,38 +96,43 @@ pub fn make_move(
         Move::Pay(what) => return pay(alloc, state, thread, what),
         Move::Gain(holder, object) => gain(state, thread, holder, object),
         Move::Miss(_) => {}
-        Move::Find(other, object) => threads_find(&mut state.threads, other, object),
-        Move::GoOn(other, part) => threads_go_on(&mut state.threads, other, part),
-        Move::Keep(other, number) => threads_keep(&mut state.threads, other, number),
-        Move::Write(other, register, value) => threads_write(
-            &mut state.threads,
-            other,
-            register,
-            value,
-        ),
-        Move::WriteMessage(other, register, number) => threads_write_message(
-            &mut state.threads,
-            other,
-            register,
-            number,
-        ),
-        Move::Wait(other, what) => threads_wait(&mut state.threads, other, what),
-        Move::Wake(other) => threads_wait(&mut state.threads, other, Waiting::Nothing),
-        Move::SetPriority(other, priority) => threads_set_priority(
-            &mut state.threads,
-            other,
-            priority,
-        ),
-        Move::Nano(change) => make_nano_move(&mut state.nano, change),
-        Move::Deferred(change) => return make_deferred_move(alloc, state, change),
-        Move::Requests(change) => return make_request_move(alloc, state, change),
+        Move::Find(other, object) => threads_find(&mut state.references.threads, other, object),
+        Move::GoOn(other, part) => threads_go_on(&mut state.references.threads, other, part),
+        Move::Keep(other, number) => threads_keep(&mut state.references.threads, other, number),
+        Move::Write(other, register, value) => {
+            threads_write(&mut state.references.threads, other, register, value);
+        }
+        Move::WriteMessage(other, register, number) => {
+            threads_write_message(&mut state.references.threads, other, register, number);
+        }
+        Move::Wait(other, what) => threads_wait(&mut state.references.threads, other, what),
+        Move::Wake(other) => threads_wait(&mut state.references.threads, other, Waiting::Nothing),
+        Move::SetPriority(other, priority) => {
+            threads_set_priority(&mut state.references.threads, other, priority);
+        }
+        Move::Nano(change) => make_nano_move(&mut state.synchronization.nano, change),
+        Move::Deferred(change) => {
+            return make_deferred_move(alloc, &mut state.synchronization.deferred, change);
+        }
+        Move::Requests(change) => {
+            return make_request_move(alloc, &mut state.synchronization.requests, change);
+        }
         Move::Locks(change) => return make_lock_move(alloc, state, thread, change),
-        Move::Logons(change) => return make_logon_move(alloc, &mut state.logons, change),
+        Move::Logons(change) => {
+            return make_logon_move(alloc, &mut state.synchronization.logons, change);
+        }
         Move::Death(change) => return make_death_move(state, thread, &change),
         Move::Servers(change) => return make_server_move(state, thread, change),
         Move::Messages(change) => return make_message_move(alloc, state, thread, change),
         Move::Fill(process, at, length, byte) => {
-            return fill_memory(alloc, &mut state.memories, process, at, length, byte);
+            return fill_memory(
+                alloc,
+                &mut state.services.memories,
+                process,
+                at,
+                length,
+                byte,
+            );
         }
         Move::Copies(change) => return make_copy(alloc, state, thread, &change),
     }

@@ -30,7 +30,7 @@ fn moved_behind(
 
 /// The thread whose turn ends: one that holds a fast mutex is spared.
 fn turned(state: &State, first: Option<ThreadNo>) -> Option<ThreadNo>
-    ensures { result ≡ turned state.now.nano first }
+    ensures { result ≡ turned state.now.synchronization.nano first }
 {
     let first = first?;
     if state.is_holding(first) {

@@ -44,14 +44,14 @@ first_if S x later rest o true behind is =
     in work_before _ _ x rest ∙ ap (λ (y : ObjNo). slice_get (server_holdings S y) 0) same
 first_if S x later rest o false behind is = behind is
 
-pub first_of_closing : (S : State) (os : List ObjNo) (o : ObjNo) → find (is_closing S.servers) os ≡ Some o → slice_get (closing_holdings S os) 0 ≡ slice_get (server_holdings S o) 0
+pub first_of_closing : (S : State) (os : List ObjNo) (o : ObjNo) → find (is_closing S.serving.servers) os ≡ Some o → slice_get (closing_holdings S os) 0 ≡ slice_get (server_holdings S o) 0
 first_of_closing S [] o is = absurd (cc)
-first_of_closing S (x ∷ xs) o is = first_if S x (find (is_closing S.servers) xs) (closing_holdings S xs) o (is_closing S.servers x) (first_of_closing S xs o) is
+first_of_closing S (x ∷ xs) o is = first_if S x (find (is_closing S.serving.servers) xs) (closing_holdings S xs) o (is_closing S.serving.servers x) (first_of_closing S xs o) is
 
 none_if : (S : State) (x : ObjNo) (later : Option ObjNo) (rest : List Holding) (closing : Bool) → (later ≡ None → slice_get rest 0 ≡ None) → cond closing (Some x) later ≡ None → slice_get ((if closing then server_holdings S x else []) ++ rest) 0 ≡ None
 none_if S x later rest true behind is = absurd (cc)
 none_if S x later rest false behind is = behind is
 
-pub none_closing : (S : State) (os : List ObjNo) → find (is_closing S.servers) os ≡ None → slice_get (closing_holdings S os) 0 ≡ None
+pub none_closing : (S : State) (os : List ObjNo) → find (is_closing S.serving.servers) os ≡ None → slice_get (closing_holdings S os) 0 ≡ None
 none_closing S [] is = refl
-none_closing S (x ∷ xs) is = none_if S x (find (is_closing S.servers) xs) (closing_holdings S xs) (is_closing S.servers x) (none_closing S xs) is
+none_closing S (x ∷ xs) is = none_if S x (find (is_closing S.serving.servers) xs) (closing_holdings S xs) (is_closing S.serving.servers x) (none_closing S xs) is

@@ -52,9 +52,9 @@ pub fn burial_place(script: &Script, dfc: u8, rows: &[Option<ThreadRow>]) -> Opt
 
 /// The cleaned thread whose burial a call is.
 pub fn buried_by(state: &State, script: &Script, dfc: u8) -> Option<ThreadNo>
-    requires { length state.now.threads ≤ 65535 }
+    requires { length state.now.references.threads ≤ 65535 }
     ensures { result ≡ buried_by script.now state.now dfc }
 {
-    let place = burial_place(script, dfc, state.threads.as_slice())?;
+    let place = burial_place(script, dfc, state.references.threads.as_slice())?;
     Some(ObjNo(place as u16))
 }

@@ -11,7 +11,7 @@ use sym_base::ThreadNo;
 fn priority_of(state: &State, thread: ThreadNo) -> u8
     ensures { result ≡ priority_of state.now thread }
 {
-    match thread_in(&state.threads, thread) {
+    match thread_in(&state.references.threads, thread) {
         Some(row) => row.priority,
         None => 0,
     }

@@ -69,5 +69,5 @@ pub fn is_one_left(process: ObjNo, rows: &[Option<ThreadRow>]) -> bool
 pub fn has_one_left(state: &State, process: ObjNo) -> bool
     ensures { result ≡ has_one_left state.now process }
 {
-    is_one_left(process, state.threads.as_slice())
+    is_one_left(process, state.references.threads.as_slice())
 }

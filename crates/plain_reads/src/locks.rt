@@ -11,22 +11,22 @@ use sym_base::{Items, ObjNo, ThreadNo};
 
 /// The count of a semaphore.
 pub fn lock_count(state: &State, semaphore: ObjNo) -> u32
-    ensures { result ≡ count_at state.now.locks semaphore }
+    ensures { result ≡ count_at state.now.synchronization.locks semaphore }
 {
-    let counts = state.locks.counts.as_slice();
+    let counts = state.synchronization.locks.counts.as_slice();
     counts.get(semaphore.0 as usize).copied().unwrap_or(0)
 }
 
 /// The threads that wait for an object, in order of waiting.
 fn waiters_at(state: &State, object: ObjNo) -> &[ThreadNo]
-    ensures { result.now ≡ waiters_at state.now.locks object }
+    ensures { result.now ≡ waiters_at state.now.synchronization.locks object }
 {
-    list_at(&state.locks.waiters, object)
+    list_at(&state.synchronization.locks.waiters, object)
 }
 
 /// The waiter of a mutex or semaphore that is served next.
 pub fn best_waiter(state: &State, object: ObjNo) -> Option<ThreadNo>
-    ensures { result ≡ best_waiter (priority_of state.now) state.now.locks object }
+    ensures { result ≡ best_waiter (priority_of state.now) state.now.synchronization.locks object }
 {
     first_of_greatest(state, waiters_at(state, object))
 }

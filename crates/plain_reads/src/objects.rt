@@ -53,11 +53,14 @@ fn findable(state: &State, found: Option<ObjNo>) -> Option<ObjNo>
 
 /// The object that a find by kind and name finds. A session has no name.
 pub fn find_object(state: &State, kind: Kind, name: &Name) -> Option<ObjNo>
-    requires { length state.now.objects ≤ 65536 }
+    requires { length state.now.references.objects ≤ 65536 }
     ensures { result ≡ find_object state.now kind name.now }
 {
     if is_session(kind) {
         return None;
     }
-    findable(state, named(kind, name, state.objects.as_slice()))
+    findable(
+        state,
+        named(kind, name, state.references.objects.as_slice()),
+    )
 }

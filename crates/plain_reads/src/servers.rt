@@ -50,10 +50,10 @@ fn first_closing(rows: &ServerRows, servers: &[ObjNo]) -> Option<ObjNo>
 fn work_of(state: &State, server: ObjNo) -> Holding
     ensures { Some result ≡ slice_get (server_holdings state.now server) 0 }
 {
-    if let Some(message) = first_message(&state.messages, server) {
+    if let Some(message) = first_message(&state.serving.messages, server) {
         return Holding::Message(message.number);
     }
-    match first_in(&state.servers.linked, server) {
+    match first_in(&state.serving.servers.linked, server) {
         Some(session) => Holding::Link(session, server),
         None => Holding::Server(server),
     }
@@ -64,7 +64,7 @@ fn work_of(state: &State, server: ObjNo) -> Holding
 pub fn first_work(state: &State, thread: ThreadNo) -> Option<Holding>
     ensures { result ≡ slice_get (held_servers state.now thread) 0 }
 {
-    let servers = list_at(&state.owned, thread);
-    let server = first_closing(&state.servers, servers)?;
+    let servers = list_at(&state.serving.owned, thread);
+    let server = first_closing(&state.serving.servers, servers)?;
     Some(work_of(state, server))
 }

@@ -4,28 +4,28 @@ ghost use Rattle.std.specs.List.{slice_index_or};
 ghost use Rattle.machine.specs.DeferredMoves.{deferred_moved};
 ghost use Rattle.state_rows.specs.DeferredChanges.{after_add_idfc, after_add_from_irq, after_add, after_next_idfc, after_next_dfc, without, left};
 
-use machine::{DeferredMove, State};
-use readings::{Reads, is_queued};
+use machine::{DeferredMove, DeferredRows};
+use plain_reads::{is_queued, next_of, queue_of};
 use state_rows::Item;
 use std::alloc::Global;
 use sym_base::{Items, NoMemory};
 
 /// The immediate deferred function call joins the immediate queue, unless it is queued.
-fn add_immediate(state: &mut State, item: u8) -> Result<(), NoMemory>
-    ensures { OnOk result (state.new ≡ record state.old { deferred = after_add_idfc state.old.deferred item }) }
+fn add_immediate(rows: &mut DeferredRows, item: u8) -> Result<(), NoMemory>
+    ensures { OnOk result (rows.new ≡ after_add_idfc rows.old item) }
 {
-    if !is_queued(&state.deferred, Item::Idfc(item)) {
-        state.deferred.immediate.push(Item::Idfc(item))?;
+    if !is_queued(rows, Item::Idfc(item)) {
+        rows.immediate.push(Item::Idfc(item))?;
     }
     Ok(())
 }
 
 /// The deferred function call joins the immediate queue, to be moved, unless it is queued.
-fn add_to_move(state: &mut State, dfc: u8) -> Result<(), NoMemory>
-    ensures { OnOk result (state.new ≡ record state.old { deferred = after_add_from_irq state.old.deferred dfc }) }
+fn add_to_move(rows: &mut DeferredRows, dfc: u8) -> Result<(), NoMemory>
+    ensures { OnOk result (rows.new ≡ after_add_from_irq rows.old dfc) }
 {
-    if !is_queued(&state.deferred, Item::Move(dfc)) {
-        state.deferred.immediate.push(Item::Move(dfc))?;
+    if !is_queued(rows, Item::Move(dfc)) {
+        rows.immediate.push(Item::Move(dfc))?;
     }
     Ok(())
 }
@@ -43,21 +43,21 @@ fn push_call(queues: &mut Items<Items<u8>>, queue: u8, dfc: u8) -> Result<(), No
 }
 
 /// The deferred function call joins its own queue, unless it is queued.
-fn add(state: &mut State, dfc: u8) -> Result<(), NoMemory>
-    ensures { OnOk result (state.new ≡ record state.old { deferred = after_add state.old.deferred dfc }) }
+fn add(rows: &mut DeferredRows, dfc: u8) -> Result<(), NoMemory>
+    ensures { OnOk result (rows.new ≡ after_add rows.old dfc) }
 {
-    if !is_queued(&state.deferred, Item::Move(dfc)) {
-        let queue = state.queue_of(dfc);
-        push_call(&mut state.deferred.queues, queue, dfc)?;
+    if !is_queued(rows, Item::Move(dfc)) {
+        let queue = queue_of(rows, dfc);
+        push_call(&mut rows.queues, queue, dfc)?;
     }
     Ok(())
 }
 
 /// The oldest item leaves the immediate queue.
-fn take_immediate(state: &mut State)
-    ensures { state.new ≡ record state.old { deferred = after_next_idfc state.old.deferred } }
+fn take_immediate(rows: &mut DeferredRows)
+    ensures { rows.new ≡ after_next_idfc rows.old }
 {
-    let _ = state.deferred.immediate.take_first();
+    let _ = rows.immediate.take_first();
 }
 
 /// The calls without one.
@@ -102,29 +102,29 @@ fn leave_queue(
 }
 
 /// The call that comes next leaves its queue.
-fn take(alloc: Global, state: &mut State, queue: u8) -> Result<(), NoMemory>
-    ensures { OnOk result (state.new ≡ record state.old { deferred = after_next_dfc state.old.deferred queue }) }
+fn take(alloc: Global, rows: &mut DeferredRows, queue: u8) -> Result<(), NoMemory>
+    ensures { OnOk result (rows.new ≡ after_next_dfc rows.old queue) }
 {
-    let dfc = state.next_call(queue);
-    leave_queue(alloc, &mut state.deferred.queues, queue, dfc)
+    let dfc = next_of(rows, queue);
+    leave_queue(alloc, &mut rows.queues, queue, dfc)
 }
 
 /// One move in the rows of deferred function calls.
 pub fn make_deferred_move(
     alloc: Global,
-    state: &mut State,
+    rows: &mut DeferredRows,
     change: DeferredMove,
 ) -> Result<(), NoMemory>
-    ensures { OnOk result (state.new ≡ record state.old { deferred = deferred_moved change state.old.deferred }) }
+    ensures { OnOk result (rows.new ≡ deferred_moved change rows.old) }
 {
     match change {
-        DeferredMove::AddImmediate(item) => add_immediate(state, item),
-        DeferredMove::AddFromInterrupt(dfc) => add_to_move(state, dfc),
-        DeferredMove::Add(dfc, _) => add(state, dfc),
+        DeferredMove::AddImmediate(item) => add_immediate(rows, item),
+        DeferredMove::AddFromInterrupt(dfc) => add_to_move(rows, dfc),
+        DeferredMove::Add(dfc, _) => add(rows, dfc),
         DeferredMove::TakeImmediate => {
-            take_immediate(state);
+            take_immediate(rows);
             Ok(())
         }
-        DeferredMove::Take(queue) => take(alloc, state, queue),
+        DeferredMove::Take(queue) => take(alloc, rows, queue),
     }
 }

@@ -69,6 +69,6 @@ pub fn make_death_move(
 ) -> Result<(), NoMemory>
     ensures { OnOk result (state.new ≡ moved thread (Move.Death change.now) state.old) }
 {
-    change_threads(&mut state.threads, change);
-    owe_burial(&mut state.owed, thread, change)
+    change_threads(&mut state.references.threads, change);
+    owe_burial(&mut state.references.owed, thread, change)
 }

@@ -25,7 +25,7 @@ pub fn unlisted(
 }
 
 /// The list of a number, empty past the last number.
-pub fn list_of(lists: &Items<Items<ObjNo>>, number: ObjNo) -> &[ObjNo]
+pub fn list_of<T: Copy>(lists: &Items<Items<T>>, number: ObjNo) -> &[T]
     ensures { result.now ≡ slice_index_or lists.now number.0 [] }
 {
     let at = number.0 as usize;

@@ -249,7 +249,7 @@ pub fn make_lock_move(
 ) -> Result<(), NoMemory>
     ensures { OnOk result (state.new ≡ moved thread (Move.Locks change) state.old) }
 {
-    move_rows(alloc, &mut state.locks, change)?;
-    move_mutexes(alloc, &mut state.mutexes, change)?;
-    move_owed(&mut state.owed, change)
+    move_rows(alloc, &mut state.synchronization.locks, change)?;
+    move_mutexes(alloc, &mut state.synchronization.mutexes, change)?;
+    move_owed(&mut state.references.owed, change)
 }

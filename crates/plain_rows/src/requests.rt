@@ -4,8 +4,8 @@ ghost use Rattle.machine.specs.RequestMoves.{request_moved};
 ghost use Rattle.state_rows.specs.RequestChanges.{after_begin, after_drop, after_finish, after_set_pending, after_signal, after_take, with_status, without};
 
 use crate::nano::{one_more, set_count};
-use machine::{RequestMove, State, set_row};
-use readings::Reads;
+use machine::{RequestMove, RequestRows, set_row};
+use plain_reads::{request_at, request_signals};
 use state_rows::{PENDING, Request, STATUSES};
 use std::alloc::Global;
 use sym_base::{Items, NoMemory, ObjNo, ThreadNo};
@@ -34,38 +34,38 @@ fn set_status(statuses: &mut Items<[i32; STATUSES]>, thread: ThreadNo, status: u
 }
 
 /// The status is pending, and the device has the request, where it had none.
-fn begin(state: &mut State, device: u8, thread: ThreadNo, status: u8)
-    ensures { state.new ≡ record state.old { requests = after_begin (after_set_pending state.old.requests thread status) device thread status } }
+fn begin(rows: &mut RequestRows, device: u8, thread: ThreadNo, status: u8)
+    ensures { rows.new ≡ after_begin (after_set_pending rows.old thread status) device thread status }
 {
-    set_status(&mut state.requests.statuses, thread, status, PENDING);
-    if state.request_at(device).is_none() {
+    set_status(&mut rows.statuses, thread, status, PENDING);
+    if request_at(rows, device).is_none() {
         let request = Some(Request { thread, status });
-        set_row(&mut state.requests.devices, ObjNo(device as u16), request);
+        set_row(&mut rows.devices, ObjNo(device as u16), request);
     }
 }
 
 /// The status has the code, and its thread one signal more.
-fn signal(state: &mut State, thread: ThreadNo, status: u8, code: i32)
-    ensures { state.new ≡ record state.old { requests = after_signal state.old.requests thread status code } }
+fn signal(rows: &mut RequestRows, thread: ThreadNo, status: u8, code: i32)
+    ensures { rows.new ≡ after_signal rows.old thread status code }
 {
-    let count = one_more(state.request_signals(thread));
-    set_status(&mut state.requests.statuses, thread, status, code);
-    set_count(&mut state.requests.signals, thread, count);
+    let count = one_more(request_signals(rows, thread));
+    set_status(&mut rows.statuses, thread, status, code);
+    set_count(&mut rows.signals, thread, count);
 }
 
 /// The device has no request.
-fn finish(state: &mut State, device: u8)
-    ensures { state.new ≡ record state.old { requests = after_finish state.old.requests device } }
+fn finish(rows: &mut RequestRows, device: u8)
+    ensures { rows.new ≡ after_finish rows.old device }
 {
-    set_row(&mut state.requests.devices, ObjNo(device as u16), None);
+    set_row(&mut rows.devices, ObjNo(device as u16), None);
 }
 
 /// The thread has one signal less.
-fn take_signal(state: &mut State, thread: ThreadNo)
-    ensures { state.new ≡ record state.old { requests = after_take state.old.requests thread } }
+fn take_signal(rows: &mut RequestRows, thread: ThreadNo)
+    ensures { rows.new ≡ after_take rows.old thread }
 {
-    let count = state.request_signals(thread).saturating_sub(1);
-    set_count(&mut state.requests.signals, thread, count);
+    let count = request_signals(rows, thread).saturating_sub(1);
+    set_count(&mut rows.signals, thread, count);
 }
 
 /// A request, unless it is the thread's.
@@ -94,34 +94,34 @@ fn dropped(
 }
 
 /// No device has a request of the thread any more.
-fn drop_all(alloc: Global, state: &mut State, thread: ThreadNo) -> Result<(), NoMemory>
-    ensures { OnOk result (state.new ≡ record state.old { requests = after_drop state.old.requests thread }) }
+fn drop_all(alloc: Global, rows: &mut RequestRows, thread: ThreadNo) -> Result<(), NoMemory>
+    ensures { OnOk result (rows.new ≡ after_drop rows.old thread) }
 {
-    state.requests.devices = dropped(alloc, state.requests.devices.as_slice(), thread)?;
+    rows.devices = dropped(alloc, rows.devices.as_slice(), thread)?;
     Ok(())
 }
 
 /// One move in the rows of requests.
 pub fn make_request_move(
     alloc: Global,
-    state: &mut State,
+    rows: &mut RequestRows,
     change: RequestMove,
 ) -> Result<(), NoMemory>
-    ensures { OnOk result (state.new ≡ record state.old { requests = request_moved change state.old.requests }) }
+    ensures { OnOk result (rows.new ≡ request_moved change rows.old) }
 {
     match change {
-        RequestMove::Begin(device, thread, status) => begin(state, device, thread, status),
+        RequestMove::Begin(device, thread, status) => begin(rows, device, thread, status),
         RequestMove::Complete(device, thread, status, code) => {
-            finish(state, device);
-            signal(state, thread, status, code);
+            finish(rows, device);
+            signal(rows, thread, status, code);
         }
         RequestMove::SetPending(thread, status) => {
-            set_status(&mut state.requests.statuses, thread, status, PENDING);
+            set_status(&mut rows.statuses, thread, status, PENDING);
         }
-        RequestMove::Signal(thread, status, code) => signal(state, thread, status, code),
-        RequestMove::DropAll(thread) => return drop_all(alloc, state, thread),
-        RequestMove::TakeSignal(thread) => take_signal(state, thread),
-        RequestMove::Reply(thread, code) => set_count(&mut state.requests.replies, thread, code),
+        RequestMove::Signal(thread, status, code) => signal(rows, thread, status, code),
+        RequestMove::DropAll(thread) => return drop_all(alloc, rows, thread),
+        RequestMove::TakeSignal(thread) => take_signal(rows, thread),
+        RequestMove::Reply(thread, code) => set_count(&mut rows.replies, thread, code),
     }
     Ok(())
 }

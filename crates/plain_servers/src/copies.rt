@@ -192,10 +192,10 @@ fn argument_in(args: &[Arg], arg: u8) -> Arg
 
 /// The two ends of a copy. Without a message the client is nobody.
 fn ends_of(state: &State, job: &Job) -> Ends
-    ensures { result ≡ ends_of state.now.threads state.now.messages job.now }
+    ensures { result ≡ ends_of state.now.references.threads state.now.serving.messages job.now }
 {
-    let caller = process_of(thread_in(&state.threads, job.caller));
-    let Some(row) = row_of(&state.messages, job.m) else {
+    let caller = process_of(thread_in(&state.references.threads, job.caller));
+    let Some(row) = row_of(&state.serving.messages, job.m) else {
         return Ends {
             stage: Stage::Buried,
             client: ObjNo(0),
@@ -203,7 +203,7 @@ fn ends_of(state: &State, job: &Job) -> Ends
             caller,
         };
     };
-    let client = thread_in(&state.threads, row.client);
+    let client = thread_in(&state.references.threads, row.client);
     Ends {
         stage: stage_of(client),
         client: process_of(client),
@@ -245,7 +245,7 @@ fn read_piece(alloc: Global, state: &mut State, thread: ThreadNo, job: &Job) -> 
     let from = client_point(&ends, job);
     let to = caller_point(&ends, job);
     let count = piece_size(read_size(&ends, job), job.done);
-    copy(alloc, &mut state.memories, from, to, count)
+    copy(alloc, &mut state.services.memories, from, to, count)
 }
 
 /// A piece of a write.
@@ -264,8 +264,8 @@ fn write_piece(
     let from = caller_point(&ends, job);
     let to = client_point(&ends, job);
     let count = piece_size(job.len, job.done);
-    copy(alloc, &mut state.memories, from, to, count)?;
-    set_length(alloc, &mut state.messages, job)
+    copy(alloc, &mut state.services.memories, from, to, count)?;
+    set_length(alloc, &mut state.serving.messages, job)
 }
 
 /// One piece of a copy, in an action of a thread.

@@ -115,19 +115,19 @@ pub fn make_message_move(
     thread: ThreadNo,
     change: MessageMove,
 ) -> Result<(), NoMemory>
-    requires { state.old.messages.accepted < 4294967295 }
+    requires { state.old.serving.messages.accepted < 4294967295 }
     ensures { OnOk result (state.new ≡ moved thread (Move.Messages change) state.old) }
 {
     match change {
-        MessageMove::Accept(slots, row) => add(&mut state.messages, slots, row),
+        MessageMove::Accept(slots, row) => add(&mut state.serving.messages, slots, row),
         MessageMove::Take(server) => {
-            let number = next_message(&state.messages, server);
-            take(alloc, &mut state.messages, number)
+            let number = next_message(&state.serving.messages, server);
+            take(alloc, &mut state.serving.messages, number)
         }
         MessageMove::Finish(number, _) => {
-            let message = message_of(&state.messages, number);
-            finish(alloc, &mut state.messages, number)?;
-            owe_closes(&mut state.owed, thread, message)
+            let message = message_of(&state.serving.messages, number);
+            finish(alloc, &mut state.serving.messages, number)?;
+            owe_closes(&mut state.references.owed, thread, message)
         }
     }
 }

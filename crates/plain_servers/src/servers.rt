@@ -99,15 +99,18 @@ pub fn make_server_move(
     ensures { OnOk result (state.new ≡ moved thread (Move.Servers change) state.old) }
 {
     match change {
-        ServerMove::Start(object, owner) => start(&mut state.servers, object, owner),
+        ServerMove::Start(object, owner) => start(&mut state.serving.servers, object, owner),
         ServerMove::Join(object, server, slots, client) => {
-            return join(&mut state.servers, object, server, slots, client);
+            return join(&mut state.serving.servers, object, server, slots, client);
         }
-        ServerMove::Close(server) => close(&mut state.servers, server),
+        ServerMove::Close(server) => close(&mut state.serving.servers, server),
         ServerMove::CloseAll(owner) => {
-            close_all(&mut state.servers, list_of(&state.owned, owner));
+            close_all(
+                &mut state.serving.servers,
+                list_of(&state.serving.owned, owner),
+            );
         }
-        ServerMove::SetOpen(session, to) => set_open(&mut state.servers, session, to),
+        ServerMove::SetOpen(session, to) => set_open(&mut state.serving.servers, session, to),
         ServerMove::End(_) => {}
     }
     Ok(())

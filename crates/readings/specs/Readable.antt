@@ -19,5 +19,5 @@ AreSmallNumbers outstanding = All (λ message. message.number.0 < 2147483648) ou
 
 pub record IsReadable (S : State) : Type 0 where
   pub room : HasRoom 0 S
-  pub nano : AreSmallRows S.nano
-  pub messages : AreSmallNumbers S.messages.outstanding
+  pub nano : AreSmallRows S.synchronization.nano
+  pub messages : AreSmallNumbers S.serving.messages.outstanding

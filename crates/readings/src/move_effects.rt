@@ -158,8 +158,8 @@ fn tell_accepted(effects: &mut Effects, number: MsgNo, session: ObjNo, client: T
 /// Tells a move in the rows of messages, from the state before it: which message is accepted, or finished with which code.
 fn tell_message<R: Reads>(effects: &mut Effects, reads: &R, change: &MessageMove)
     requires readable { R.is_readable reads.now }
-    requires few { length effects.old + length (message_told change.now (R.state reads.now).messages) ≤ 4 }
-    ensures { effects.new ≡ effects.old ++ message_told change.now (R.state reads.now).messages }
+    requires few { length effects.old + length (message_told change.now (R.state reads.now).serving.messages) ≤ 4 }
+    ensures { effects.new ≡ effects.old ++ message_told change.now (R.state reads.now).serving.messages }
 {
     match *change {
         MessageMove::Accept(_, row) => {
@@ -179,7 +179,7 @@ pub fn tell<R: Reads>(effects: &mut Effects, reads: &R, change: &Move)
 {
     match *change {
         Move::Make(_, _, holder) => {
-            let object = ObjNo(reads.objects_made() as u16);
+            let object = reads.next_object();
             effects.push(Effect::Plus(holder, object));
         }
         Move::Gain(holder, object) => effects.push(Effect::Plus(holder, object)),

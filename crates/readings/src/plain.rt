@@ -14,7 +14,7 @@ use script_types::Script;
 use state_rows::{
     Item, Message, ObjectRow, Owner, Request, ServerRow, SessionRow, free_index, is_local, look,
 };
-use sym_base::{Kind, MsgNo, Name, ObjNo, Slots, ThreadNo};
+use sym_base::{Kind, Limits, MsgNo, Name, ObjNo, Slots, ThreadNo};
 
 impl Reads for State {
     ghost use Rattle.readings.specs.Readable.{IsReadable};
@@ -28,7 +28,7 @@ impl Reads for State {
     }
 
     fn thread(&self, thread: ThreadNo) -> Option<&ThreadRow> {
-        thread_in(&self.threads, thread)
+        thread_in(&self.references.threads, thread)
     }
 
     fn first_owed(&self, thread: ThreadNo) -> Option<Owed> {
@@ -51,7 +51,7 @@ impl Reads for State {
     }
 
     fn is_taken(&self, kind: Kind, name: &Name) -> bool {
-        is_taken(kind, name, self.objects.as_slice())
+        is_taken(kind, name, self.references.objects.as_slice())
     }
 
     fn find(&self, kind: Kind, name: &Name) -> Option<ObjNo> {
@@ -62,73 +62,77 @@ impl Reads for State {
         dies(self, object)
     }
 
-    fn objects_made(&self) -> usize {
-        self.objects.len()
+    fn next_object(&self) -> ObjNo {
+        ObjNo(self.references.objects.len() as u16)
+    }
+
+    fn no_number_left(&self) -> bool {
+        self.references.objects.len() == Limits::OBJECTS
     }
 
     fn signal_count(&self, thread: ThreadNo) -> u64 {
-        signal_count(&self.nano, thread)
+        signal_count(&self.synchronization.nano, thread)
     }
 
     fn suspend_count(&self, thread: ThreadNo) -> u8 {
-        suspend_count(&self.nano, thread)
+        suspend_count(&self.synchronization.nano, thread)
     }
 
     fn critical_count(&self, thread: ThreadNo) -> u64 {
-        critical_count(&self.nano, thread)
+        critical_count(&self.synchronization.nano, thread)
     }
 
     fn want(&self, thread: ThreadNo) -> Option<u8> {
-        wanted_mutex(&self.nano, thread)
+        wanted_mutex(&self.synchronization.nano, thread)
     }
 
     fn holder(&self, fast: u8) -> Option<ThreadNo> {
-        mutex_holder(&self.nano, fast)
+        mutex_holder(&self.synchronization.nano, fast)
     }
 
     fn held(&self, thread: ThreadNo) -> Option<u8> {
-        let place = held_place(self.nano.holders.as_slice(), thread)?;
+        let place = held_place(self.synchronization.nano.holders.as_slice(), thread)?;
         Some(place as u8)
     }
 
     fn is_holding(&self, thread: ThreadNo) -> bool {
-        held_place(self.nano.holders.as_slice(), thread).is_some()
+        held_place(self.synchronization.nano.holders.as_slice(), thread).is_some()
     }
 
     fn is_protected(&self, thread: ThreadNo) -> bool {
-        is_protected(&self.nano, thread)
+        is_protected(&self.synchronization.nano, thread)
     }
 
     fn next_call(&self, queue: u8) -> Option<u8> {
-        next_of(&self.deferred, queue)
+        next_of(&self.synchronization.deferred, queue)
     }
 
     fn next_immediate(&self) -> Option<Item> {
-        next_immediate(&self.deferred)
+        next_immediate(&self.synchronization.deferred)
     }
 
     fn is_queued(&self, dfc: u8) -> bool {
-        is_queued(&self.deferred, Item::Move(dfc))
+        is_queued(&self.synchronization.deferred, Item::Move(dfc))
     }
 
     fn queue_of(&self, dfc: u8) -> u8 {
-        queue_of(&self.deferred, dfc)
+        queue_of(&self.synchronization.deferred, dfc)
     }
 
     fn request_at(&self, device: u8) -> Option<Request> {
-        request_at(&self.requests, device)
+        request_at(&self.synchronization.requests, device)
     }
 
     fn value_of(&self, thread: ThreadNo, status: u8) -> i32 {
-        value_of(&self.requests, thread, status)
+        value_of(&self.synchronization.requests, thread, status)
     }
 
     fn request_signals(&self, thread: ThreadNo) -> u64 {
-        request_signals(&self.requests, thread)
+        request_signals(&self.synchronization.requests, thread)
     }
 
     fn lock_owner(&self, mutex: ObjNo) -> Option<Owner> {
-        row_of(&self.locks.owners, mutex)
+        row_of(&self.synchronization.locks.owners, mutex)
     }
 
     fn lock_count(&self, semaphore: ObjNo) -> u32 {
@@ -140,11 +144,11 @@ impl Reads for State {
     }
 
     fn first_mutex(&self, thread: ThreadNo) -> Option<ObjNo> {
-        first_in(&self.mutexes, thread)
+        first_in(&self.synchronization.mutexes, thread)
     }
 
     fn first_logon(&self, thread: ThreadNo) -> Option<(ThreadNo, u8)> {
-        first_in(&self.logons, thread)
+        first_in(&self.synchronization.logons, thread)
     }
 
     fn first_work(&self, thread: ThreadNo) -> Option<Holding> {
@@ -152,32 +156,32 @@ impl Reads for State {
     }
 
     fn server(&self, object: ObjNo) -> Option<ServerRow> {
-        server_at(&self.servers, object)
+        server_at(&self.serving.servers, object)
     }
 
     fn session(&self, object: ObjNo) -> Option<SessionRow> {
-        session_at(&self.servers, object)
+        session_at(&self.serving.servers, object)
     }
 
     fn message(&self, number: MsgNo) -> Option<Message> {
-        message_of(&self.messages, number)
+        message_of(&self.serving.messages, number)
     }
 
     #[tactic(auto, using(crate::proofs::Numbers::small_next))]
     fn next_message(&self, server: ObjNo) -> Option<MsgNo> {
-        next_message(&self.messages, server)
+        next_message(&self.serving.messages, server)
     }
 
     fn is_full(&self, session: ObjNo, slots: Slots) -> bool {
-        is_full(&self.messages, session, slots)
+        is_full(&self.serving.messages, session, slots)
     }
 
     fn accepted(&self) -> u32 {
-        self.messages.accepted
+        self.serving.messages.accepted
     }
 
     fn reply_of(&self, thread: ThreadNo) -> i32 {
-        reply_of(&self.requests, thread)
+        reply_of(&self.synchronization.requests, thread)
     }
 
     fn first_handle(&self, owner: ObjNo) -> Option<(u8, ObjNo)> {
@@ -193,6 +197,6 @@ impl Reads for State {
     }
 
     fn byte(&self, process: ObjNo, at: u16) -> u8 {
-        byte_of(self.memories.as_slice(), process, at)
+        byte_of(self.services.memories.as_slice(), process, at)
     }
 }

@@ -1,6 +1,6 @@
 //! What decisions read of a state. The plain machine keeps it as lists and the kernel as tables of its own,
 //! and both decide by the same functions.
-ghost use Rattle.std.specs.Prelude.{◌≡◌, ◌<◌, ◌≤◌, [], length, IfSome, is_some, option_copied, slice_get, slice_index_or};
+ghost use Rattle.std.specs.Prelude.{◌≡◌, ◌<◌, [], IfSome, is_some, option_copied, slice_get, slice_index_or};
 ghost use Rattle.machine.specs.Find.{find_object};
 ghost use Rattle.machine.specs.Holdings.{first_used, has_one_left, held_servers};
 ghost use Rattle.machine.specs.LogonMoves.{logons_on};
@@ -9,6 +9,7 @@ ghost use Rattle.state_rows.specs.HandleSlots.{look};
 ghost use Rattle.machine.specs.Choice.{priority_of};
 ghost use Rattle.machine.specs.Handles.{process_handle, thread_handle};
 ghost use Rattle.machine.specs.Memory.{byte_of};
+ghost use Rattle.machine.specs.Moves.{next_object, no_number_left};
 ghost use Rattle.state_rows.specs.HandleNumbers.{index_of, is_local};
 ghost use Rattle.state_rows.specs.Locks.{owner_at, count_at, best_waiter};
 ghost use Rattle.machine.specs.References.{dies};
@@ -71,7 +72,7 @@ pub trait Reads {
 
     /// Whether an unswept object has this kind and name.
     fn is_taken(&self, kind: Kind, name: &Name) -> bool
-        ensures { result ≡ is_taken kind name.now (state self.now).objects };
+        ensures { result ≡ is_taken kind name.now (state self.now).references.objects };
 
     /// The object that a find by kind and name finds.
     fn find(&self, kind: Kind, name: &Name) -> Option<ObjNo>
@@ -83,93 +84,96 @@ pub trait Reads {
         requires { is_readable self.now }
         ensures { result ≡ dies (state self.now) object };
 
-    /// The number of objects that were made.
-    fn objects_made(&self) -> usize
+    /// The number that a new object gets.
+    fn next_object(&self) -> ObjNo
         requires { is_readable self.now }
-        ensures number { result ≡ length (state self.now).objects }
-        ensures few { result ≤ 65535 };
+        ensures { result ≡ next_object (state self.now) };
+
+    /// Whether no number is left for a new object.
+    fn no_number_left(&self) -> bool
+        ensures { result ≡ no_number_left (state self.now) };
 
     /// How many signals are at a thread's fast semaphore.
     fn signal_count(&self, thread: ThreadNo) -> u64
-        ensures { result ≡ signal_count (state self.now).nano thread };
+        ensures { result ≡ signal_count (state self.now).synchronization.nano thread };
 
     /// How many suspensions of a thread aren't resumed.
     fn suspend_count(&self, thread: ThreadNo) -> u8
-        ensures { result ≡ suspend_count (state self.now).nano thread };
+        ensures { result ≡ suspend_count (state self.now).synchronization.nano thread };
 
     /// How many critical sections a thread is in.
     fn critical_count(&self, thread: ThreadNo) -> u64
-        ensures { result ≡ critical_count (state self.now).nano thread };
+        ensures { result ≡ critical_count (state self.now).synchronization.nano thread };
 
     /// The fast mutex that a thread wants.
     fn want(&self, thread: ThreadNo) -> Option<u8>
-        ensures { result ≡ want_of (state self.now).nano thread };
+        ensures { result ≡ want_of (state self.now).synchronization.nano thread };
 
     /// The thread that holds a fast mutex.
     fn holder(&self, fast: u8) -> Option<ThreadNo>
-        ensures { result ≡ holder_of (state self.now).nano fast };
+        ensures { result ≡ holder_of (state self.now).synchronization.nano fast };
 
     /// The fast mutex that a thread holds.
     fn held(&self, thread: ThreadNo) -> Option<u8>
         requires { is_readable self.now }
-        ensures { result ≡ held_by (state self.now).nano thread };
+        ensures { result ≡ held_by (state self.now).synchronization.nano thread };
 
     /// Whether a thread holds a fast mutex.
     fn is_holding(&self, thread: ThreadNo) -> bool
-        ensures { result ≡ is_some (held_by (state self.now).nano thread) };
+        ensures { result ≡ is_some (held_by (state self.now).synchronization.nano thread) };
 
     /// Whether a thread holds a fast mutex or is in a critical section.
     fn is_protected(&self, thread: ThreadNo) -> bool
-        ensures { result ≡ is_protected (state self.now).nano thread };
+        ensures { result ≡ is_protected (state self.now).synchronization.nano thread };
 
     /// The call of a queue of deferred function calls that runs next.
     fn next_call(&self, queue: u8) -> Option<u8>
-        ensures { result ≡ next_call_of (state self.now).deferred queue };
+        ensures { result ≡ next_call_of (state self.now).synchronization.deferred queue };
 
     /// The item of the immediate queue that comes next.
     fn next_immediate(&self) -> Option<Item>
-        ensures { result ≡ next_immediate (state self.now).deferred };
+        ensures { result ≡ next_immediate (state self.now).synchronization.deferred };
 
     /// Whether a deferred function call stands in the immediate queue or in its own.
     fn is_queued(&self, dfc: u8) -> bool
-        ensures { result ≡ is_queued (state self.now).deferred (Move dfc) };
+        ensures { result ≡ is_queued (state self.now).synchronization.deferred (Move dfc) };
 
     /// The queue of a deferred function call.
     fn queue_of(&self, dfc: u8) -> u8
-        ensures { result ≡ queue_of (state self.now).deferred dfc };
+        ensures { result ≡ queue_of (state self.now).synchronization.deferred dfc };
 
     /// The request that a device has to complete.
     fn request_at(&self, device: u8) -> Option<Request>
-        ensures { result ≡ request_at (state self.now).requests device };
+        ensures { result ≡ request_at (state self.now).synchronization.requests device };
 
     /// The value of a thread's status.
     fn value_of(&self, thread: ThreadNo, status: u8) -> i32
-        ensures { result ≡ value_of (state self.now).requests thread status };
+        ensures { result ≡ value_of (state self.now).synchronization.requests thread status };
 
     /// How many signals are at a thread's request semaphore.
     fn request_signals(&self, thread: ThreadNo) -> u64
-        ensures { result ≡ request_signals (state self.now).requests thread };
+        ensures { result ≡ request_signals (state self.now).synchronization.requests thread };
 
     /// Who owns a mutex, and how often.
     fn lock_owner(&self, mutex: ObjNo) -> Option<Owner>
-        ensures { result ≡ owner_at (state self.now).locks mutex };
+        ensures { result ≡ owner_at (state self.now).synchronization.locks mutex };
 
     /// The count of a semaphore.
     fn lock_count(&self, semaphore: ObjNo) -> u32
-        ensures { result ≡ count_at (state self.now).locks semaphore };
+        ensures { result ≡ count_at (state self.now).synchronization.locks semaphore };
 
     /// The waiter of a mutex or semaphore that is served next.
     fn best_waiter(&self, object: ObjNo) -> Option<ThreadNo>
         requires { is_readable self.now }
-        ensures { result ≡ best_waiter (priority_of (state self.now)) (state self.now).locks object };
+        ensures { result ≡ best_waiter (priority_of (state self.now)) (state self.now).synchronization.locks object };
 
     /// The first of the mutexes that a thread holds.
     fn first_mutex(&self, thread: ThreadNo) -> Option<ObjNo>
-        ensures { result ≡ slice_get (slice_index_or (state self.now).mutexes thread.0 []) 0 };
+        ensures { result ≡ slice_get (slice_index_or (state self.now).synchronization.mutexes thread.0 []) 0 };
 
     /// The first of the logons on a thread: the thread that made it, and its status.
     fn first_logon(&self, thread: ThreadNo) -> Option<(ThreadNo, u8)>
-        ensures { result ≡ slice_get (logons_on (state self.now).logons thread) 0 };
+        ensures { result ≡ slice_get (logons_on (state self.now).synchronization.logons thread) 0 };
 
     /// The first of what a thread has of its closing servers: a message, a linked session, or a server of which nothing else
     /// is left.
@@ -179,37 +183,37 @@ pub trait Reads {
 
     /// The row of a server.
     fn server(&self, object: ObjNo) -> Option<ServerRow>
-        ensures { result ≡ server_at (state self.now).servers object };
+        ensures { result ≡ server_at (state self.now).serving.servers object };
 
     /// The row of a session.
     fn session(&self, object: ObjNo) -> Option<SessionRow>
-        ensures { result ≡ session_at (state self.now).servers object };
+        ensures { result ≡ session_at (state self.now).serving.servers object };
 
     /// An outstanding message.
     fn message(&self, number: MsgNo) -> Option<Message>
         requires { is_readable self.now }
-        ensures { result ≡ message_of (state self.now).messages number };
+        ensures { result ≡ message_of (state self.now).serving.messages number };
 
     /// The first message that a server hasn't taken.
     fn next_message(&self, server: ObjNo) -> Option<MsgNo>
         requires { is_readable self.now }
-        ensures message { result ≡ next_of (state self.now).messages server }
+        ensures message { result ≡ next_of (state self.now).serving.messages server }
         ensures positive { IfSome result (λ message. message.0 < 2147483648) };
 
     /// Whether all the slots that a session may use are used.
     fn is_full(&self, session: ObjNo, slots: Slots) -> bool
         requires { is_readable self.now }
-        ensures { result ≡ is_full (state self.now).messages session slots };
+        ensures { result ≡ is_full (state self.now).serving.messages session slots };
 
     /// The greatest message number so far, 0 where no message was accepted.
     fn accepted(&self) -> u32
         requires { is_readable self.now }
-        ensures number { result ≡ (state self.now).messages.accepted }
+        ensures number { result ≡ (state self.now).serving.messages.accepted }
         ensures positive { result < 2147483648 };
 
     /// The reply to a thread's synchronous message.
     fn reply_of(&self, thread: ThreadNo) -> i32
-        ensures { result ≡ reply_of (state self.now).requests thread };
+        ensures { result ≡ reply_of (state self.now).synchronization.requests thread };
 
     /// The first handle, by index, of the table of a process or a thread, and its object.
     fn first_handle(&self, owner: ObjNo) -> Option<(u8, ObjNo)>
@@ -228,5 +232,5 @@ pub trait Reads {
 
     /// A byte of a process's memory, 0 past its end.
     fn byte(&self, process: ObjNo, at: u16) -> u8
-        ensures { result ≡ byte_of (state self.now).memories process at };
+        ensures { result ≡ byte_of (state self.now).services.memories process at };
 }

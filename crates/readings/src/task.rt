@@ -52,7 +52,7 @@ fn served_queue(role: Role) -> Option<u8>
 
 /// The call that comes next of the queue that a thread of this role serves.
 pub fn next_call<R: Reads>(reads: &R, role: Role) -> Option<u8>
-    ensures { result ≡ next_call (R.state reads.now).deferred role }
+    ensures { result ≡ next_call (R.state reads.now).synchronization.deferred role }
 {
     let queue = served_queue(role)?;
     reads.next_call(queue)
@@ -69,7 +69,7 @@ pub fn serves_queue(role: Role) -> bool
 /// call of it, and any other thread has at least its end to come.
 #[tactic(auto, using(crate::proofs::Active::live_some))]
 fn is_active<R: Reads>(reads: &R, row: &ThreadRow) -> bool
-    ensures { (has : List Holding) (own : Task) → result ≡ is_some (by_stage row.now.stage has (live_task row.now.role (next_call (R.state reads.now).deferred row.now.role) own)) }
+    ensures { (has : List Holding) (own : Task) → result ≡ is_some (by_stage row.now.stage has (live_task row.now.role (next_call (R.state reads.now).synchronization.deferred row.now.role) own)) }
 {
     match row.stage {
         Stage::Live => !serves_queue(row.role) || next_call(reads, row.role).is_some(),
@@ -126,7 +126,7 @@ pub fn is_ready<R: Reads>(script: &Script, reads: &R, thread: ThreadNo) -> bool
 
 /// The thread that holds the fast mutex that a thread wants, if there is one.
 pub fn wanted_holder<R: Reads>(reads: &R, thread: ThreadNo) -> Option<ThreadNo>
-    ensures { result ≡ wanted_holder (R.state reads.now).nano thread }
+    ensures { result ≡ wanted_holder (R.state reads.now).synchronization.nano thread }
 {
     let fast = reads.want(thread)?;
     reads.holder(fast)

@@ -30,9 +30,9 @@ row_among S n (Some object ∷ objects) row rest e =
 -- so it is below 4,096
 pub row_number : (script : Script) (history : List Entry) (n : ℕ) (row : FinalRow) (rest : List FinalRow) → IsWellFormed script → rows_from (after script history) n ≡ row ∷ rest → row.object.0 < 4096
 row_number script history n row rest valid e =
-    let among = row_among (after script history) n (drop n (after script history).objects) row rest e in
-    let few = (well_formed-after script history valid).rows.sized.objects_few in
-    omega (arith, length-drop n (after script history).objects)
+    let among = row_among (after script history) n (drop n (after script history).references.objects) row rest e in
+    let few = (well_formed-after script history valid).rows.references.sized.objects_few in
+    omega (arith, length-drop n (after script history).references.objects)
 
 -- and there are at most so many of them
 length-rows : (S : State) (n : ℕ) (objects : List (Option ObjectRow)) → length (rows_of S n objects) ≤ length objects
@@ -41,4 +41,4 @@ length-rows S n (None ∷ objects) = omega (arith, length-rows S (n + 1) objects
 length-rows S n (Some object ∷ objects) = omega (arith, length-rows S (n + 1) objects)
 
 pub few_rows : (script : Script) (history : List Entry) → IsWellFormed script → length (final_rows (after script history)) ≤ 4096
-few_rows script history valid = omega (arith, length-rows (after script history) 0 (after script history).objects, (well_formed-after script history valid).rows.sized.objects_few)
+few_rows script history valid = omega (arith, length-rows (after script history) 0 (after script history).references.objects, (well_formed-after script history valid).rows.references.sized.objects_few)

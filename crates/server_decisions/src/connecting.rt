@@ -9,7 +9,7 @@ use entry_log::{Part, Step, Word};
 use machine::{Decision, Move, NewHandle, ServerMove, ThreadRow, Waiting, holder_of};
 use readings::Reads;
 use state_rows::Way;
-use sym_base::{Error, Kind, Limits, Name, ObjNo, Slots, ThreadNo};
+use sym_base::{Error, Kind, Name, ObjNo, Slots, ThreadNo};
 use thread_decisions::{
     answer_after, answer_handle, nothing, object_at, refuse, refuse_holder, return_to, seek,
 };
@@ -64,12 +64,12 @@ fn connect_make<R: Reads>(
     if row.is_closing {
         return refuse(decision, thread, MAKE, Error::ServerTerminated);
     }
-    let made = reads.objects_made();
-    if made == Limits::OBJECTS {
+    if reads.no_number_left() {
         return refuse(decision, thread, MAKE, Error::Overflow);
     }
+    let session = reads.next_object();
     let handle = reads.thread_handle(thread);
-    make_session(decision, thread, server, slots, ObjNo(made as u16), handle)
+    make_session(decision, thread, server, slots, session, handle)
 }
 
 /// The connection fails: the session's handle goes, and the code is answered.

@@ -51,7 +51,7 @@ pub fn slots_of<R: Reads>(reads: &R, session: ObjNo) -> Slots
 
 /// Whether a server is closing.
 pub fn is_closing<R: Reads>(reads: &R, server: ObjNo) -> bool
-    ensures { result ≡ is_closing (R.state reads.now).servers server }
+    ensures { result ≡ is_closing (R.state reads.now).serving.servers server }
 {
     match reads.server(server) {
         Some(row) => row.is_closing,
@@ -61,7 +61,7 @@ pub fn is_closing<R: Reads>(reads: &R, server: ObjNo) -> bool
 
 /// The thread that owns a server.
 pub fn owner_of<R: Reads>(reads: &R, server: ObjNo) -> Option<ThreadNo>
-    ensures { result ≡ owner_of (R.state reads.now).servers server }
+    ensures { result ≡ owner_of (R.state reads.now).serving.servers server }
 {
     Some(reads.server(server)?.owner)
 }

@@ -45,7 +45,7 @@ fn content_of(function: u32, args: &Args) -> Content
 /// Whether all the slots that a session has are used.
 fn is_busy<R: Reads>(reads: &R, session: ObjNo) -> bool
     requires { R.is_readable reads.now }
-    ensures { let S = R.state reads.now in result ≡ is_full S.messages session (slots_of S session) }
+    ensures { let S = R.state reads.now in result ≡ is_full S.serving.messages session (slots_of S session) }
 {
     reads.is_full(session, slots_of(reads, session))
 }

@@ -6,7 +6,7 @@ ghost use Rattle.machine.specs.ServerCalls.{make_server, server_do, take_message
 use entry_log::{Holder, Part, Step, Word};
 use machine::{Decision, MessageMove, Move, NewHandle, ServerMove, ThreadRow, Waiting};
 use readings::Reads;
-use sym_base::{Error, Kind, Limits, MsgNo, Name, ObjNo, ThreadNo};
+use sym_base::{Error, Kind, MsgNo, Name, ObjNo, ThreadNo};
 use thread_decisions::{
     answer, answer_handle, look_kind, nothing, refuse, refuse_holder, wait_for,
 };
@@ -55,12 +55,12 @@ pub fn server_do<R: Reads>(
     if reads.is_taken(Kind::Server, name) {
         return refuse(decision, thread, SERVER, Error::AlreadyExists);
     }
-    let made = reads.objects_made();
-    if made == Limits::OBJECTS {
+    if reads.no_number_left() {
         return refuse(decision, thread, SERVER, Error::Overflow);
     }
+    let server = reads.next_object();
     let handle = reads.thread_handle(thread);
-    make_server(decision, thread, ObjNo(made as u16), name, register, handle)
+    make_server(decision, thread, server, name, register, handle)
 }
 
 /// The first message that the server hasn't taken is taken, and its number goes to a register and is answered.

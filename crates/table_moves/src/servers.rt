@@ -34,6 +34,9 @@ pub fn first_closing(cleanup: &Cleanup, servers: &ServerTable, thread: ThreadNo)
         return None;
     }
     let mut next = cleanup.next_server(thread, None);
+    if next.is_none() {
+        return None;
+    }
     for _place in 0..Limits::OBJECTS {
         let object = next?;
         if is_closing(servers, object) {

@@ -78,7 +78,7 @@ pub fn refuse_holder<R: Reads>(
     thread: ThreadNo,
     step: Step,
 ) -> bool
-    ensures holds { result ≡ is_some (held_by (R.state reads.now).nano thread) }
+    ensures holds { result ≡ is_some (held_by (R.state reads.now).synchronization.nano thread) }
     ensures decision { decision.new ≡ (if result then refuse thread step InUse else decision.old) }
 {
     let holds = reads.is_holding(thread);

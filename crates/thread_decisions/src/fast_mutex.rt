@@ -62,7 +62,7 @@ pub fn flock_step<R: Reads>(
 
 /// Whether a thread holds a fast mutex.
 fn is_holder<R: Reads>(reads: &R, thread: ThreadNo, fast: u8) -> bool
-    ensures { result ≡ is_holder (R.state reads.now).nano thread fast }
+    ensures { result ≡ is_holder (R.state reads.now).synchronization.nano thread fast }
 {
     match reads.holder(fast) {
         Some(holder) => holder.0 == thread.0,

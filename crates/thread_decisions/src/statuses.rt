@@ -11,7 +11,7 @@ use sym_base::ThreadNo;
 
 /// Whether a thread's status waits for its completion.
 pub fn is_pending<R: Reads>(reads: &R, thread: ThreadNo, status: u8) -> bool
-    ensures { result ≡ is_pending (R.state reads.now).requests thread status }
+    ensures { result ≡ is_pending (R.state reads.now).synchronization.requests thread status }
 {
     reads.value_of(thread, status) == PENDING
 }

@@ -76,6 +76,6 @@ born_not_gone script n (b ∷ bs) zero h = ap dead_bit h.0.alive
 born_not_gone script n (b ∷ bs) (suc i) h = born_not_gone script n bs i h.1
 
 -- nothing is gone at boot
-pub not_gone-boot : (script : Script) → IsShaped script → (o : ObjNo) → gone (boot script).objects o ≡ 0
+pub not_gone-boot : (script : Script) → IsShaped script → (o : ObjNo) → gone (boot script).references.objects o ≡ 0
 unfolding boot_of
 not_gone-boot script shaped o = born_not_gone script (length (born script)) (born script) o.0 (each_born script shaped)

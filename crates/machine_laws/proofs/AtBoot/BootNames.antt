@@ -59,19 +59,19 @@ plain_at (b ∷ bs) zero row all at = let e : b.object ≡ row = cc in subst IsP
 plain_at (b ∷ bs) (suc k) row all at = plain_at bs k row all.1 at
 
 -- each row at boot is of a process or a thread that is alive
-pub boot_rows : (script : Script) (k : ℕ) → k < length (boot script).objects → (row : ObjectRow) × (slice_get (boot script).objects k ≡ Some (Some row)) × (row.dead ≡ false) × ((row.kind ≡ Process) ⊎ (row.kind ≡ Thread))
+pub boot_rows : (script : Script) (k : ℕ) → k < length (boot script).references.objects → (row : ObjectRow) × (slice_get (boot script).references.objects k ≡ Some (Some row)) × (row.dead ≡ false) × ((row.kind ≡ Process) ⊎ (row.kind ≡ Thread))
 unfolding boot_of
 boot_rows script k inside =
     let long = length-map (born script) (λ b. Some b.object) in
     row_at (born script) k (plain_born script) (omega arith)
 
 -- and each object that is read there is one
-pub boot_kinds : (script : Script) (k : ℕ) (row : ObjectRow) → slice_get (boot script).objects k ≡ Some (Some row) → (row.dead ≡ false) × ((row.kind ≡ Process) ⊎ (row.kind ≡ Thread))
+pub boot_kinds : (script : Script) (k : ℕ) (row : ObjectRow) → slice_get (boot script).references.objects k ≡ Some (Some row) → (row.dead ≡ false) × ((row.kind ≡ Process) ⊎ (row.kind ≡ Thread))
 unfolding boot_of
 boot_kinds script k row at = plain_at (born script) k row (plain_born script) at
 
 -- no session stands at boot
-pub boot_no_session : (script : Script) (k : ℕ) (row : ObjectRow) → slice_get (boot script).objects k ≡ Some (Some row) → (kind_number row.kind == 5) ≡ false
+pub boot_no_session : (script : Script) (k : ℕ) (row : ObjectRow) → slice_get (boot script).references.objects k ≡ Some (Some row) → (kind_number row.kind == 5) ≡ false
 boot_no_session script k row at = elim (boot_kinds script k row at).1 as (λ _. (kind_number row.kind == 5) ≡ false) [
   | inl process ↦ ap (λ kind. kind_number kind == 5) process
   | inr thread ↦ ap (λ kind. kind_number kind == 5) thread
@@ -257,9 +257,9 @@ threads_apart script valid =
     subst AreNamesApart (sym names) (apart_behind front script.processes script.threads (formed_names_new script valid).threads)
 
 -- no two objects at boot have one kind and one name
-pub boot_names_new : (script : Script) → IsWellFormed script → (k : ℕ) (row : ObjectRow) → slice_get (boot script).objects k ≡ Some (Some row) → list_any (has_name row.kind row.name) (take k (boot script).objects) ≡ false
+pub boot_names_new : (script : Script) → IsWellFormed script → (k : ℕ) (row : ObjectRow) → slice_get (boot script).references.objects k ≡ Some (Some row) → list_any (has_name row.kind row.name) (take k (boot script).references.objects) ≡ false
 unfolding boot_of
-boot_names_new script valid k row at = elim (boot_kinds script k row at).1 as (λ _. list_any (has_name row.kind row.name) (take k (boot script).objects) ≡ false) [
+boot_names_new script valid k row at = elim (boot_kinds script k row at).1 as (λ _. list_any (has_name row.kind row.name) (take k (boot script).references.objects) ≡ false) [
   | inl process ↦ new_at 0 (born script) k row (ap kind_number process) (processes_apart script valid) at
   | inr thread ↦ new_at 1 (born script) k row (ap kind_number thread) (threads_apart script valid) at
 ]

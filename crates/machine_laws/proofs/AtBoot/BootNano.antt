@@ -76,7 +76,7 @@ sound-boot fast bs small =
     }
 
 -- these rows are sound, one for each that stands at boot and for each fast mutex
-pub synchronized-boot : (script : Script) → IsShaped script → AreSynchronized script (boot script).threads (boot script).nano
+pub synchronized-boot : (script : Script) → IsShaped script → AreSynchronized script (boot script).references.threads (boot script).synchronization.nano
 unfolding boot_of
 synchronized-boot script shaped =
     let few = shaped.numbers.fast in

@@ -106,54 +106,62 @@ rows-boot script valid =
     let objects = length-map bs (λ b. Some b.object) in
     let threads = length-map bs (λ b. b.thread) in
     record {
-      sized = record {
-        tables = length-map bs (λ _. replicate 256 fresh_slot) ∙ sym threads;
-        duties = length-map bs (λ _. []) ∙ sym threads;
-        first = omega arith;
-        supervised = omega arith;
-        threads_few = omega arith;
-        objects_few = omega arith;
+      references = record {
+        sized = record {
+          tables = length-map bs (λ _. replicate 256 fresh_slot) ∙ sym threads;
+          duties = length-map bs (λ _. []) ∙ sym threads;
+          first = omega arith;
+          supervised = omega arith;
+          threads_few = omega arith;
+          objects_few = omega arith;
+        };
+        tables = λ k inside. subst IsTable (sym (const_at (replicate 256 fresh_slot) [] bs k (let a = length-map bs (λ _. replicate 256 fresh_slot) in omega arith))) fresh_table;
+        threads = record {
+          rows = λ k row is. let new = born_row script (length bs) bs k row each is in
+              let process = new.process in
+              let next = new.next_instruction in
+              record {
+                process = omega arith;
+                link = λ p at. let same : Some row.process ≡ Some p = sym new.link ∙ at in let e : row.process ≡ p = cc in ap (λ (x : ObjNo). x.0) (sym e);
+                priority = new.priority;
+                next_instruction = omega arith;
+                unused = λ _. new.uses;
+                registers = new.registers;
+                declared = born_role script (length bs) bs k row each is;
+                returns = λ e. let first = new.part in absurd (cc);
+              };
+          processes = λ k row is. linked_at bs bs k row (each_linked script) is;
+          servers = λ k queue row is serves. servers-boot script k queue row is serves;
+        };
+        duties = record {
+          own = λ k. nothing_at bs (EachMayOwe (map (λ b. b.thread) bs) (no_rows OBJECTS) 0 k) k tt;
+          few = λ k. nothing_at bs (λ (l : List Owed). total weight l ≤ 12) k (omega arith);
+          returns = λ k _. nothing_at bs (λ (l : List Owed). l ≡ []) k refl;
+        };
+        spent = record {
+          rows = λ k row is after. let new = born_row script (length bs) bs k row each is in let no : is_spent row.stage ≡ false = ap is_spent new.live in absurd (cc);
+          unlinked = λ k row is dead. let none = born_dead script (length bs) bs k each in absurd (omega arith);
+        };
       };
-      tables = λ k inside. subst IsTable (sym (const_at (replicate 256 fresh_slot) [] bs k (let a = length-map bs (λ _. replicate 256 fresh_slot) in omega arith))) fresh_table;
-      threads = record {
-        rows = λ k row is. let new = born_row script (length bs) bs k row each is in
-            let process = new.process in
-            let next = new.next_instruction in
-            record {
-              process = omega arith;
-              link = λ p at. let same : Some row.process ≡ Some p = sym new.link ∙ at in let e : row.process ≡ p = cc in ap (λ (x : ObjNo). x.0) (sym e);
-              priority = new.priority;
-              next_instruction = omega arith;
-              unused = λ _. new.uses;
-              registers = new.registers;
-              declared = born_role script (length bs) bs k row each is;
-              returns = λ e. let first = new.part in absurd (cc);
-            };
-        processes = λ k row is. linked_at bs bs k row (each_linked script) is;
-        servers = λ k queue row is serves. servers-boot script k queue row is serves;
+      synchronization = record {
+        nano = synchronized-boot script shaped;
+        deferred = record { idfcs = refl; places = refl; queues = length-replicate {A = List ℕ} (1 + length script.queues) []; known = tt };
+        requests = subst (λ (n : ℕ). AreRequests n (request_rows (length bs) DEVICES)) (sym threads) (requests-boot (length bs));
+        locks = locks-boot (length (map (λ b. Some b.object) bs)) OBJECTS bs refl;
+        logons = subst (λ (n : ℕ). AreLogons n (request_rows (length bs) DEVICES) (map (λ _. []) bs)) (sym threads) (logons-boot bs (length bs) (request_rows (length bs) DEVICES) refl);
+        awaited = record {
+          requests = λ d request is. absurd (no_request (length bs) d request is);
+          logons = λ u s some. let none = none_logged u s bs in absurd (omega arith);
+          waits = λ k row o is waits. (born_row script (length bs) bs k row each is).live;
+        };
       };
-      duties = record {
-        own = λ k. nothing_at bs (EachMayOwe (map (λ b. b.thread) bs) (no_rows OBJECTS) 0 k) k tt;
-        few = λ k. nothing_at bs (λ (l : List Owed). total weight l ≤ 12) k (omega arith);
-        returns = λ k _. nothing_at bs (λ (l : List Owed). l ≡ []) k refl;
+      serving = record {
+        servers = rows_of_servers-boot (λ row. is_spent row.stage) (length (map (λ b. Some b.object) bs)) OBJECTS (lock_rows OBJECTS) bs refl;
+        messages = messages-boot script (IsUntold (request_rows (length bs) DEVICES) (map (λ _. []) bs)) OBJECTS script.pool shaped refl;
       };
-      nano = synchronized-boot script shaped;
-      deferred = record { idfcs = refl; places = refl; queues = length-replicate {A = List ℕ} (1 + length script.queues) []; known = tt };
-      requests = subst (λ (n : ℕ). AreRequests n (request_rows (length bs) DEVICES)) (sym threads) (requests-boot (length bs));
-      locks = locks-boot (length (map (λ b. Some b.object) bs)) OBJECTS bs refl;
-      memories = memories-boot script shaped;
-      logons = subst (λ (n : ℕ). AreLogons n (request_rows (length bs) DEVICES) (map (λ _. []) bs)) (sym threads) (logons-boot bs (length bs) (request_rows (length bs) DEVICES) refl);
-      spent = record {
-        rows = λ k row is after. let new = born_row script (length bs) bs k row each is in let no : is_spent row.stage ≡ false = ap is_spent new.live in absurd (cc);
-        unlinked = λ k row is dead. let none = born_dead script (length bs) bs k each in absurd (omega arith);
+      services = record {
+        memories = memories-boot script shaped;
       };
-      awaited = record {
-        requests = λ d request is. absurd (no_request (length bs) d request is);
-        logons = λ u s some. let none = none_logged u s bs in absurd (omega arith);
-        waits = λ k row o is waits. (born_row script (length bs) bs k row each is).live;
-      };
-      servers = rows_of_servers-boot (λ row. is_spent row.stage) (length (map (λ b. Some b.object) bs)) OBJECTS (lock_rows OBJECTS) bs refl;
-      messages = messages-boot script (IsUntold (request_rows (length bs) DEVICES) (map (λ _. []) bs)) OBJECTS script.pool shaped refl;
       lives = record {
         alive = λ o c. elim (cases_lt o.0 (length bs)) [
           | inl lt ↦ born_alive script (length bs) bs o.0 each lt

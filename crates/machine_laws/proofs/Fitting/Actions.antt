@@ -70,7 +70,7 @@ pub record FitsAction (k : Kinds) (script : Script) (S : State) (t : ObjNo) (d :
 -- whatever holds of each action of a thread: the step of an instruction, its return, what is given up, what is paid, and what is plain
 pub record OfAction (script : Script) (S : State) (t : ObjNo) (P : Decision → Type 0) : Type 0 where
   pub plainly : (d : Decision) → FitsAction plain script S t d → P d
-  pub steps : (row : ThreadRow) (instr : Instr) → thread_of S t ≡ Some row → instruction script row ≡ Some instr → FitsAction (kind_of instr row.part) script S t (step_of script S t row instr row.part) → P (step_of script S t row instr row.part)
+  pub steps : (row : ThreadRow) (instr : Instr) → thread_of S t ≡ Some row → row.stage ≡ Live → is_returning row.part ≡ false → instruction script row ≡ Some instr → FitsAction (kind_of instr row.part) script S t (step_of script S t row instr row.part) → P (step_of script S t row instr row.part)
   pub returns : (row : ThreadRow) (instr : Instr) → thread_of S t ≡ Some row → instruction script row ≡ Some instr → FitsAction looking script S t (return_of S t row instr) → P (return_of S t row instr)
   pub gives : (row : ThreadRow) (what : Holding) → IsGiven S t what → FitsAction (kind_given what) script S t (give_up S t row what) → P (give_up S t row what)
   pub pays : (what : Owed) (rest : List Owed) → owed_of S t ≡ what ∷ rest → P (pay what)
@@ -82,7 +82,7 @@ goes_by script S t d nothing fits = record {
 }
 
 idles : (script : Script) (S : State) (t : ObjNo) → AreRows script S → FitsAction plain script S t nothing
-idles script S t rows = record { goes = record { each = tt; few = let a = rows.duties.few t.0 in omega arith; told = omega arith }; regular = tame _ refl }
+idles script S t rows = record { goes = record { each = tt; few = let a = rows.references.duties.few t.0 in omega arith; told = omega arith }; regular = tame _ refl }
 
 -- a number at which a list has something is inside the list
 pub slice_get_inside : {A : Type 0} (xs : List A) (i : ℕ) (x : A) → slice_get xs i ≡ Some x → i < length xs
@@ -91,7 +91,7 @@ slice_get_inside xs i x h = elim (cases_lt i (length xs)) [ inl lt ↦ lt | inr 
 -- what is known of a thread that is able
 record IsAble (S : State) (t : ObjNo) (row : ThreadRow) : Type 0 where
   pub waits : row.waiting ≡ waiting.Nothing
-  pub free : wanted_holder S.nano t ≡ None
+  pub free : wanted_holder S.synchronization.nano t ≡ None
 
 waits_not : (what : Waiting) → not (is_wait what) ≡ true → what ≡ waiting.Nothing
 waits_not waiting.Nothing e = refl
@@ -99,12 +99,12 @@ waits_not _ e = absurd (cc)
 
 able_is : (script : Script) (S : State) (t : ObjNo) (row : ThreadRow) → thread_of S t ≡ Some row → is_able script S t ≡ true → IsAble S t row
 able_is script S t row is able =
-    let parts = both (is_ready script S t) (is_none (wanted_holder S.nano t)) able in
+    let parts = both (is_ready script S t) (is_none (wanted_holder S.synchronization.nano t)) able in
     let ready = both (not (is_waiting S t) && not (is_stopped S t)) (is_some (task_of script S t)) parts.0 in
     let still = both (not (is_waiting S t)) (not (is_stopped S t)) ready.0 in
     record {
       waits = waits_not row.waiting (sym (ap (λ (r : Option ThreadRow). not (is_waiting_row r)) is) ∙ still.0);
-      free = none_is (wanted_holder S.nano t) parts.1;
+      free = none_is (wanted_holder S.synchronization.nano t) parts.1;
     }
 
 stepping : (script : Script) (S : State) (t : ObjNo) (row : ThreadRow) (instr : Instr) → IsShaped script → AreRows script S → thread_of S t ≡ Some row → (is_returning row.part ≡ false → row.stage ≡ Live) → IsAble S t row → instruction script row ≡ Some instr → owed_of S t ≡ [] → IsStepping script S t row instr
@@ -126,7 +126,7 @@ stepping script S t row instr shaped rows is live able at nothing = record {
 
 -- a thread that is there may act
 pub sane-of : (script : Script) (S : State) (t : ObjNo) (row : ThreadRow) → AreRows script S → thread_of S t ≡ Some row → Sane script t S
-sane-of script S t row rows is = record { rows = rows; inside = inside S.threads t.0 row is }
+sane-of script S t row rows is = record { rows = rows; inside = inside S.references.threads t.0 row is }
 
 -- a thread that acts, isn't between a find and its return, and owes nothing
 record IsActing (script : Script) (S : State) (t : ObjNo) (row : ThreadRow) : Type 0 where
@@ -159,7 +159,7 @@ module _ (script : Script) (S : State) (t : ObjNo) (P : Decision → Type 0) (ea
   idle-acts rows = each.plainly nothing (idles script S t rows)
 
   -- a live thread at its list's end gives up what protects it, or ends
-  end-acts : (row : ThreadRow) (protected : Bool) → IsActing script S t row → row.stage ≡ Live → is_protected S.nano t ≡ protected → P (decision_of_task script S t row (end_task protected))
+  end-acts : (row : ThreadRow) (protected : Bool) → IsActing script S t row → row.stage ≡ Live → is_protected S.synchronization.nano t ≡ protected → P (decision_of_task script S t row (end_task protected))
   end-acts row true h live e = plain-by (flush S t) h.paid (fits-flush script S t row h.rows h.is live)
   end-acts row false h live e = plain-by (end t) h.paid (fits-end script S t row h.rows h.is live e)
 
@@ -171,23 +171,23 @@ module _ (script : Script) (S : State) (t : ObjNo) (P : Decision → Type 0) (ea
       by : (declared : Bool) → P (decision_of_row script S t (Some row) (Some (if declared then RunDfc dfc else Bury dfc)))
       by true =
           let light = light-body script S t (Deferred dfc) h.shaped (sane-of script S t row h.rows h.is) in
-          each.plainly _ (record { goes = goes-light script S t _ h.rows light; regular = regular-moves (run_body script t S (Deferred dfc)) (run-named (slice_get script.dfcs dfc)) light.calm })
+          each.plainly _ (record { goes = goes-light script S t _ h.rows light; regular = regular-moves (run_body script t S (Deferred dfc)) (run-named (slice_get script.dfcs dfc)) refl light.calm })
       by false = plain-by (bury script S dfc) h.paid (fits-bury script S t dfc h.rows (record { thread = ap is_some h.is; going = ap (λ (r : Option ThreadRow). is_returning (part_of r)) h.is ∙ h.going }))
 
   -- what a live thread does of its own
-  own-acts : (row : ThreadRow) (at : Option Instr) → row.stage ≡ Live → instruction script row ≡ at → IsActing script S t row → P (decision_of_task script S t row (step_or_end (is_protected S.nano t) at))
-  own-acts row None live e h = end-acts row (is_protected S.nano t) h live refl
+  own-acts : (row : ThreadRow) (at : Option Instr) → row.stage ≡ Live → instruction script row ≡ at → IsActing script S t row → P (decision_of_task script S t row (step_or_end (is_protected S.synchronization.nano t) at))
+  own-acts row None live e h = end-acts row (is_protected S.synchronization.nano t) h live refl
   own-acts row (Some instr) live e h =
-      each.steps row instr h.is e (goes_by script S t (step_of script S t row instr row.part) h.paid (fits-step script S t row instr row.part (stepping script S t row instr h.shaped h.rows h.is (λ _. live) h.able e h.paid) h.going refl))
+      each.steps row instr h.is live h.going e (goes_by script S t (step_of script S t row instr row.part) h.paid (fits-step script S t row instr row.part (stepping script S t row instr h.shaped h.rows h.is (λ _. live) h.able e h.paid) h.going refl))
 
   -- the work of its closing servers comes first
-  work-acts : (row : ThreadRow) (work : List Holding) → row.stage ≡ Live → held_servers S t ≡ work → IsActing script S t row → P (decision_of_task script S t row (work_or work (step_or_end (is_protected S.nano t) (instruction script row))))
+  work-acts : (row : ThreadRow) (work : List Holding) → row.stage ≡ Live → held_servers S t ≡ work → IsActing script S t row → P (decision_of_task script S t row (work_or work (step_or_end (is_protected S.synchronization.nano t) (instruction script row))))
   work-acts row [] live e h = own-acts row (instruction script row) live refl h
   work-acts row (what ∷ rest) live e h =
       let work = fits-work what rest (record { rows = h.rows; is = h.is; going = h.going }) e in
       each.gives row what work.1 (goes_by script S t (give_up S t row what) h.paid (few work.0))
 
-  live-acts : (row : ThreadRow) (role : Role) (call : Option ℕ) → row.stage ≡ Live → IsActing script S t row → P (decision_of_row script S t (Some row) (live_task role call (work_or (held_servers S t) (step_or_end (is_protected S.nano t) (instruction script row)))))
+  live-acts : (row : ThreadRow) (role : Role) (call : Option ℕ) → row.stage ≡ Live → IsActing script S t row → P (decision_of_row script S t (Some row) (live_task role call (work_or (held_servers S t) (step_or_end (is_protected S.synchronization.nano t) (instruction script row)))))
   live-acts row Supervisor call live h = call-acts row call h
   live-acts row (Queue queue) call live h = call-acts row call h
   live-acts row (Declared k) call live h = work-acts row (held_servers S t) live refl h
@@ -201,10 +201,10 @@ module _ (script : Script) (S : State) (t : ObjNo) (P : Decision → Type 0) (ea
 
   -- and what one does at any stage
   abbrev own_task : ThreadRow → Option Task
-  own_task row = live_task row.role (next_call S.deferred row.role) (work_or (held_servers S t) (step_or_end (is_protected S.nano t) (instruction script row)))
+  own_task row = live_task row.role (next_call S.synchronization.deferred row.role) (work_or (held_servers S t) (step_or_end (is_protected S.synchronization.nano t) (instruction script row)))
 
   stage-acts : (row : ThreadRow) (stage : Stage) → row.stage ≡ stage → IsActing script S t row → P (decision_of_row script S t (Some row) (by_stage stage (holdings S t row) (own_task row)))
-  stage-acts row Live live h = live-acts row row.role (next_call S.deferred row.role) live h
+  stage-acts row Live live h = live-acts row row.role (next_call S.synchronization.deferred row.role) live h
   stage-acts row Doomed doomed h = dying-acts row (holdings S t row) doomed refl h
   stage-acts row Cleaned at h = idle-acts h.rows
   stage-acts row Buried at h = idle-acts h.rows
@@ -213,9 +213,9 @@ module _ (script : Script) (S : State) (t : ObjNo) (P : Decision → Type 0) (ea
   row-acts : (row : ThreadRow) (returns : Bool) (at : Option Instr) (owed : List Owed) → IsShaped script → AreRows script S → thread_of S t ≡ Some row → IsAble S t row → is_returning row.part ≡ returns → instruction script row ≡ at → owed_of S t ≡ owed
       → P (decision_of_row script S t (Some row) (return_or returns at (pay_or (first_of owed) (by_stage row.stage (holdings S t row) (own_task row)))))
   row-acts row true (Some instr) owed shaped rows is able r e o =
-      let nothing = rows.duties.returns t.0 (ap (λ (x : Option ThreadRow). is_returning (part_of x)) is ∙ r) in
+      let nothing = rows.references.duties.returns t.0 (ap (λ (x : Option ThreadRow). is_returning (part_of x)) is ∙ r) in
       each.returns row instr is e (goes_by script S t (return_of S t row instr) nothing (few (fits-returning script S t row instr (stepping script S t row instr shaped rows is (λ going. absurd (cc)) able e nothing) (returning_before row.part r))))
-  row-acts row true None owed shaped rows is able r e o = absurd (nothing_past (instructions_of script row.role) row.next_instruction ((rows.threads.rows t.0 row is).returns r) e)
+  row-acts row true None owed shaped rows is able r e o = absurd (nothing_past (instructions_of script row.role) row.next_instruction ((rows.references.threads.rows t.0 row is).returns r) e)
   row-acts row false at (what ∷ rest) shaped rows is able r e o = each.pays what rest o
   row-acts row false at [] shaped rows is able r e o = stage-acts row row.stage refl (record { shaped = shaped; rows = rows; is = is; able = able; going = r; paid = o })
 
@@ -237,7 +237,7 @@ module _ (script : Script) (S : State) (t : ObjNo) (P : Decision → Type 0) (ea
 pub regular-action : (script : Script) (S : State) (t : ObjNo) → IsShaped script → AreRows script S → (k : Kinds) × IsRegular k script S t (decision_of script S t)
 regular-action script S t shaped rows = each-action script S t (λ (d : Decision). (k : Kinds) × IsRegular k script S t d) (record {
   plainly = λ d fits. (plain, fits.regular);
-  steps = λ row instr is at fits. (kind_of instr row.part, fits.regular);
+  steps = λ row instr is live going at fits. (kind_of instr row.part, fits.regular);
   returns = λ row instr is at fits. (looking, fits.regular);
   gives = λ row what given fits. (kind_given what, fits.regular);
   pays = λ what rest owes. (plain, regular-pay what);
@@ -246,17 +246,17 @@ regular-action script S t shaped rows = each-action script S t (λ (d : Decision
 -- Moves that fit, a payment of the oldest of what it owes, or nothing at a number past the threads.
 pub of_action : (script : Script) (S : State) (t : ObjNo) (P : List Move → Type 0) → IsShaped script → AreRows script S
     → ((ms : List Move) → Sane script t S → Goes script t S ms → P ms) → ((what : Owed) (rest : List Owed) → Sane script t S → owed_of S t ≡ what ∷ rest → P (move.Pay what ∷ [])) → P [] → P (decision_of script S t).moves
-of_action script S t P shaped rows goes pays none = elim (cases_lt t.0 (length S.threads)) as (λ _. P (decision_of script S t).moves) [
+of_action script S t P shaped rows goes pays none = elim (cases_lt t.0 (length S.references.threads)) as (λ _. P (decision_of script S t).moves) [
   | inl within ↦
       let sane : Sane script t S = record { rows = rows; inside = within } in
       each-action script S t (λ (d : Decision). P d.moves) (record {
         plainly = λ d fits. goes d.moves sane fits.goes;
-        steps = λ row instr is at fits. goes (step_of script S t row instr row.part).moves sane fits.goes;
+        steps = λ row instr is live going at fits. goes (step_of script S t row instr row.part).moves sane fits.goes;
         returns = λ row instr is at fits. goes (return_of S t row instr).moves sane fits.goes;
         gives = λ row what given fits. goes (give_up S t row what).moves sane fits.goes;
         pays = λ what rest owes. pays what rest sane owes;
       }) shaped rows
-  | inr past ↦ subst P (sym (no_thread script S t (get_or_past S.threads t.0 None past) (is_able script S t))) none
+  | inr past ↦ subst P (sym (no_thread script S t (get_or_past S.references.threads t.0 None past) (is_able script S t))) none
 ]
   where
     no_thread : (script : Script) (S : State) (t : ObjNo) → thread_of S t ≡ None → (able : Bool) → (decision_where script able S t (task_of script S t)).moves ≡ []
@@ -271,7 +271,7 @@ fits_goes script S t ms goes = record { each = goes.each; few = goes.few; told =
 pub fits-action : (script : Script) (S : State) (t : ObjNo) → IsShaped script → AreRows script S → Fits script t (decision_of script S t).moves S ⊎ Pays S t (decision_of script S t).moves
 fits-action script S t shaped rows = each-action script S t (λ (d : Decision). Fits script t d.moves S ⊎ Pays S t d.moves) (record {
   plainly = λ d fits. inl (fits_goes script S t d.moves fits.goes);
-  steps = λ row instr is at fits. inl (fits_goes script S t (step_of script S t row instr row.part).moves fits.goes);
+  steps = λ row instr is live going at fits. inl (fits_goes script S t (step_of script S t row instr row.part).moves fits.goes);
   returns = λ row instr is at fits. inl (fits_goes script S t (return_of S t row instr).moves fits.goes);
   gives = λ row what given fits. inl (fits_goes script S t (give_up S t row what).moves fits.goes);
   pays = λ what rest owes. inr (record { what = what; rest = rest; moves = refl; owes = owes });

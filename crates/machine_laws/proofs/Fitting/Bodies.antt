@@ -63,7 +63,7 @@ pub record OwesNothing (k : Kinds) (script : Script) (t : ObjNo) (S : State) (ms
 
 -- there is room for what they owe
 pub light_few : (script : Script) (S : State) (t : ObjNo) (ms : List Move) → AreRows script S → total most_owed ms ≡ 0 → total weight (owed_of S t) + total most_owed ms ≤ 12
-light_few script S t ms rows light = let few = rows.duties.few t.0 in omega arith
+light_few script S t ms rows light = let few = rows.references.duties.few t.0 in omega arith
 
 pub goes-light : (script : Script) (S : State) (t : ObjNo) (ms : List Move) → AreRows script S → OwesNothing plain script t S ms 4 → Goes script t S ms
 goes-light script S t ms rows h = record { each = h.each; few = light_few script S t ms rows h.light; told = let few = h.told in let most = tell_few t ms S in omega arith }
@@ -108,7 +108,7 @@ ends_no_reply : (S : State) (u : ObjNo) (s : ℕ) (what : Waiting) → ends_wait
 ends_no_reply S u s waiting.Reply ends is = cc
 ends_no_reply S u s _ ends is = cc
 
-pub light-end : {k : Kinds} (script : Script) (S T : State) (t u : ObjNo) (s : ℕ) (row : Option ThreadRow) → AreRows script S → T.locks ≡ S.locks → T.threads ≡ S.threads → times_called T.messages.outstanding u ≤ times_called S.messages.outstanding u → thread_of S u ≡ row → OwesNothing k script t T (end_wait S u s row) 0
+pub light-end : {k : Kinds} (script : Script) (S T : State) (t u : ObjNo) (s : ℕ) (row : Option ThreadRow) → AreRows script S → T.synchronization.locks ≡ S.synchronization.locks → T.references.threads ≡ S.references.threads → times_called T.serving.messages.outstanding u ≤ times_called S.serving.messages.outstanding u → thread_of S u ≡ row → OwesNothing k script t T (end_wait S u s row) 0
 light-end script S T t u s None rows same threads fewer is = no_moves script T t 0
 light-end {k = k} script S T t u s (Some row) rows same threads fewer is = by (ends_wait S u s row.waiting) refl
   where
@@ -122,11 +122,11 @@ light-end {k = k} script S T t u s (Some row) rows same threads fewer is = by (e
     by true ends = record { each = ((nowhere ends, calls ends), tt); told = omega arith; light = refl; calm = tame-moves _ refl refl }
     by false ends = no_moves script T t 0
 
-light-complete : (script : Script) (S : State) (t : ObjNo) (d : ℕ) (code : ℤ) (request : Option Request) → AreRows script S → request_at S.requests d ≡ request → OwesNothing plain script t S (complete S d code request) 1
+light-complete : (script : Script) (S : State) (t : ObjNo) (d : ℕ) (code : ℤ) (request : Option Request) → AreRows script S → request_at S.synchronization.requests d ≡ request → OwesNothing plain script t S (complete S d code request) 1
 light-complete script S t d code None rows is = no_moves script S t 1
 light-complete script S t d code (Some request) rows is =
     light-then script S t (move.Requests (Complete d request.thread request.status code) ∷ []) _ 1 0 1 (omega arith)
-    (record { each = (((inside S.requests.devices d request is, is), tt), tt); told = omega arith; light = refl; calm = tame-moves _ refl refl })
+    (record { each = (((inside S.synchronization.requests.devices d request is, is), tt), tt); told = omega arith; light = refl; calm = tame-moves _ refl refl })
     (light-end script S _ t request.thread request.status (thread_of S request.thread) rows refl refl (omega arith) refl)
 
 -- an operation
@@ -135,19 +135,19 @@ light-op script S t (op.Idfc name) rows = by (idfc_named script name) refl
   where
     by : (found : Option ℕ) → idfc_named script name ≡ found → OwesNothing plain script t S (queue_immediate found) 1
     by None is = no_moves script S t 1
-    by (Some call) is = record { each = (idfc_inside script S.deferred name call rows.deferred is, tt); told = omega arith; light = refl; calm = tame-moves _ refl refl }
+    by (Some call) is = record { each = (idfc_inside script S.synchronization.deferred name call rows.synchronization.deferred is, tt); told = omega arith; light = refl; calm = tame-moves _ refl refl }
 light-op script S t (op.Dfc name) rows = by (dfc_named script name) refl
   where
     by : (found : Option ℕ) → dfc_named script name ≡ found → OwesNothing plain script t S (queue_to_move found) 1
     by None is = no_moves script S t 1
-    by (Some dfc) is = record { each = (dfc_inside script S.deferred name dfc rows.deferred is, tt); told = omega arith; light = refl; calm = tame-moves _ refl refl }
+    by (Some dfc) is = record { each = (dfc_inside script S.synchronization.deferred name dfc rows.synchronization.deferred is, tt); told = omega arith; light = refl; calm = tame-moves _ refl refl }
 light-op script S t (op.Fssignal name) rows = light-named script S t (find_object S Thread name) rows
-light-op script S t (op.Device d code) rows = light-complete script S t d code (request_at S.requests d) rows refl
+light-op script S t (op.Device d code) rows = light-complete script S t d code (request_at S.synchronization.requests d) rows refl
 light-op script S t (op.Queue name) rows = by (dfc_named script name) refl
   where
     by : (found : Option ℕ) → dfc_named script name ≡ found → OwesNothing plain script t S (queue_call S found) 1
     by None is = no_moves script S t 1
-    by (Some dfc) is = record { each = ((dfc_inside script S.deferred name dfc rows.deferred is, refl), tt); told = omega arith; light = refl; calm = tame-moves _ refl refl }
+    by (Some dfc) is = record { each = ((dfc_inside script S.synchronization.deferred name dfc rows.synchronization.deferred is, refl), tt); told = omega arith; light = refl; calm = tame-moves _ refl refl }
 
 -- operations, each in the state that the earlier ones left
 pub light-ops : (script : Script) (S : State) (t : ObjNo) (ops : List Op) → Sane script t S → OwesNothing plain script t S (ops_moves script t S ops) (length ops)
@@ -161,7 +161,7 @@ light-ops script S t (first ∷ rest) s =
 pub light-leave : (script : Script) (S : State) (t : ObjNo) (body : Body) → AreRows script S → OwesNothing plain script t S (leave_queue S body) 0
 light-leave script S t (Interrupt k) rows = no_moves script S t 0
 light-leave script S t (Immediate call) rows = record { each = (tt, tt); told = omega arith; light = refl; calm = tame-moves _ refl refl }
-light-leave script S t (Deferred dfc) rows = record { each = (queue_inside script S.deferred dfc rows.deferred, tt); told = omega arith; light = refl; calm = tame-moves _ refl refl }
+light-leave script S t (Deferred dfc) rows = record { each = (queue_inside script S.synchronization.deferred dfc rows.synchronization.deferred, tt); told = omega arith; light = refl; calm = tame-moves _ refl refl }
 
 -- a body of a well-formed script has at most four operations
 short_dfc : (script : Script) (k : ℕ) (found : Option DfcDecl) → IsShaped script → slice_get script.dfcs k ≡ found → length (ops_of_dfc found) ≤ 4

@@ -25,7 +25,7 @@ use Rattle.machine.specs.declared.moves.Move.TheVariants.{Lose, Wake, Servers, M
 use Rattle.machine.specs.declared.server_move.ServerMove.TheVariants.{Close, SetOpen}
 use Rattle.machine.specs.declared.state.State.{State}
 use Rattle.machine.specs.Closing.{before_close, close_moves, close_or, connected_to, disconnect}
-use Rattle.machine.specs.Fits.{EachFits, FitsMove, Holds, most_owed}
+use Rattle.machine.specs.Fits.{IsOwn, EachFits, FitsMove, Holds, most_owed}
 use Rattle.machine.specs.FitsServers.{HasNumber, HasSpare}
 use Rattle.machine.specs.Messaging.{disconnects, no_args, open_server, slots_of}
 use Rattle.machine.specs.Moves.{closed_effects, moved, tell, told, with_waiting}
@@ -43,31 +43,32 @@ use Rattle.move_laws.proofs.RowLaws.Tables.{slot_inside, table_inside}
 use Rattle.machine_laws.proofs.Fitting.Living.{handle_is_alive}
 use Rattle.machine_laws.proofs.Fitting.Posting.{MayPost, accepted_fits, of_wake, open_session, posted, stay-post, woken_fits}
 use Rattle.machine_laws.proofs.Fitting.Staying.{AllStay, Stays, stays-lose, stays-servers}
-use Rattle.machine_laws.proofs.Fitting.Regular.{IsTame, serving}
+use Rattle.machine_laws.proofs.Fitting.Regular.{IsTame, calling}
 use Rattle.machine_laws.proofs.Fitting.Tame.{tame-at}
 
 -- the handle of an object stands in a table, and its holder holds it as long as tables and threads are there
-pub record IsHandle (S : State) (h : Holder) (o : ObjNo) : Type 0 where
+pub record IsHandle (S : State) (t : ObjNo) (h : Holder) (o : ObjNo) : Type 0 where
+  pub own : IsOwn t h
   pub owner : ObjNo
   pub index : ℕ
   pub slot : (slot_at (table_of S owner) index).object ≡ Some o
-  pub holds : (T : State) → T.handles ≡ S.handles → ((p : ObjNo) → is_some (thread_of T p) ≡ is_some (thread_of S p)) → Holds T h o
+  pub holds : (T : State) → T.references.handles ≡ S.references.handles → ((p : ObjNo) → is_some (thread_of T p) ≡ is_some (thread_of S p)) → Holds T h o
 
 same_slot : (tables other : List (List HandleSlot)) (owner : ObjNo) (i : ℕ) (o : ObjNo) → other ≡ tables → (slot_at (get_or tables owner.0 []) i).object ≡ Some o → (slot_at (get_or other owner.0 []) i).object ≡ Some o
 same_slot tables other owner i o same is = ap (λ (x : List (List HandleSlot)). (slot_at (get_or x owner.0 []) i).object) same ∙ is
 
-pub handle_of_thread : (S : State) (t : ObjNo) (i : ℕ) (o : ObjNo) → is_some (thread_of S t) ≡ true → (slot_at (table_of S t) i).object ≡ Some o → IsHandle S (InThread t i) o
-handle_of_thread S t i o there is = record { owner = t; index = i; slot = is; holds = λ T tables threads. (threads t ∙ there, same_slot S.handles T.handles t i o tables is) }
+pub handle_of_thread : (S : State) (t : ObjNo) (i : ℕ) (o : ObjNo) → is_some (thread_of S t) ≡ true → (slot_at (table_of S t) i).object ≡ Some o → IsHandle S t (InThread t i) o
+handle_of_thread S t i o there is = record { own = refl; owner = t; index = i; slot = is; holds = λ T tables threads. (threads t ∙ there, same_slot S.references.handles T.references.handles t i o tables is) }
 
-pub handle_of_process : (S : State) (p : ObjNo) (i : ℕ) (o : ObjNo) → thread_of S p ≡ None → (slot_at (table_of S p) i).object ≡ Some o → IsHandle S (InProcess p i) o
-handle_of_process S p i o none is = record { owner = p; index = i; slot = is; holds = λ T tables threads. (none_of (thread_of T p) (threads p ∙ ap is_some none), same_slot S.handles T.handles p i o tables is) }
+pub handle_of_process : (S : State) {t : ObjNo} (p : ObjNo) (i : ℕ) (o : ObjNo) → thread_of S p ≡ None → (slot_at (table_of S p) i).object ≡ Some o → IsHandle S t (InProcess p i) o
+handle_of_process S p i o none is = record { own = tt; owner = p; index = i; slot = is; holds = λ T tables threads. (none_of (thread_of T p) (threads p ∙ ap is_some none), same_slot S.references.handles T.references.handles p i o tables is) }
 
 -- moves that close a handle in an action of thread t
 pub record Closes (script : Script) (S : State) (t : ObjNo) (ms : List Move) : Type 0 where
   pub each : EachFits script t ms S
   pub told : length (tell t ms S) ≤ 4
   pub light : total most_owed ms ≤ 3
-  pub calm : IsTame serving 0 ms
+  pub calm : IsTame calling 0 ms
 
 -- a thread that may close it: it waits for nothing, isn't between a find and its return, and isn't buried
 pub record MayClose (script : Script) (S : State) (t : ObjNo) : Type 0 where
@@ -82,13 +83,13 @@ part_going : {script : Script} {S : State} {t : ObjNo} → MayClose script S t �
 part_going h = ap (λ (r : Option ThreadRow). is_returning (part_of r)) h.is ∙ h.going
 
 -- an object with a handle and a message has two references
-two_references : (S : State) (owner o : ObjNo) (i : ℕ) → (slot_at (table_of S owner) i).object ≡ Some o → 0 < total (message_names o) S.messages.outstanding → dies S o ≡ false
+two_references : (S : State) (owner o : ObjNo) (i : ℕ) → (slot_at (table_of S owner) i).object ≡ Some o → 0 < total (message_names o) S.serving.messages.outstanding → dies S o ≡ false
 two_references S owner o i is message =
     let within = slot_inside (table_of S owner) i o is in
     let named : slot_names o (slot_at (table_of S owner) i) ≡ same o o = ap (option_names o) is in
     let self = same_self o in
     let inner = total_at_least (slot_names o) (table_of S owner) i fresh_slot within in
-    let outer = total_at_least (total (slot_names o)) S.handles owner.0 [] (table_inside S.handles owner.0 i within) in
+    let outer = total_at_least (total (slot_names o)) S.references.handles owner.0 [] (table_inside S.references.handles owner.0 i within) in
     eqb_apart (count_of S o) 1 (λ one. absurd (omega arith))
 
 -- what moves tell, by their first
@@ -108,41 +109,41 @@ closed_there : (x : Option SessionRow) → session_bit (option_map (opened false
 closed_there None = refl
 closed_there (Some row) = refl
 
-spare_closed : (script : Script) (S : State) (t s : ObjNo) → AreRows script S → was_opened (session_at S.servers s) ≡ true → HasSpare (moved t (Servers (SetOpen s false)) S)
+spare_closed : (script : Script) (S : State) (t s : ObjNo) → AreRows script S → was_opened (session_at S.serving.servers s) ≡ true → HasSpare (moved t (Servers (SetOpen s false)) S)
 spare_closed script S t s rows was =
-    let a = total-with open_bit (option_map (opened false)) None S.servers.sessions s.0 refl in
-    let b = total-with session_bit (option_map (opened false)) None S.servers.sessions s.0 refl in
-    let bit : open_bit (session_at S.servers s) ≡ 1 = ap (λ (x : Bool). if x then 1 else 0) was in
-    let new = closed_open (session_at S.servers s) in
-    let there = closed_there (session_at S.servers s) in
-    let few = rows.messages.few in omega arith
+    let a = total-with open_bit (option_map (opened false)) None S.serving.servers.sessions s.0 refl in
+    let b = total-with session_bit (option_map (opened false)) None S.serving.servers.sessions s.0 refl in
+    let bit : open_bit (session_at S.serving.servers s) ≡ 1 = ap (λ (x : Bool). if x then 1 else 0) was in
+    let new = closed_open (session_at S.serving.servers s) in
+    let there = closed_there (session_at S.serving.servers s) in
+    let few = rows.serving.messages.few in omega arith
 
 -- and a number
-number_closed : (script : Script) (S : State) (t s : ObjNo) → AreRows script S → was_opened (session_at S.servers s) ≡ true → HasNumber (moved t (Servers (SetOpen s false)) S)
+number_closed : (script : Script) (S : State) (t s : ObjNo) → AreRows script S → was_opened (session_at S.serving.servers s) ≡ true → HasNumber (moved t (Servers (SetOpen s false)) S)
 number_closed script S t s rows was =
-    let a = total-with open_bit (option_map (opened false)) None S.servers.sessions s.0 refl in
-    let bit : open_bit (session_at S.servers s) ≡ 1 = ap (λ (x : Bool). if x then 1 else 0) was in
-    let new = closed_open (session_at S.servers s) in
-    let numbered = rows.messages.numbered in omega arith
+    let a = total-with open_bit (option_map (opened false)) None S.serving.servers.sessions s.0 refl in
+    let bit : open_bit (session_at S.serving.servers s) ≡ 1 = ap (λ (x : Bool). if x then 1 else 0) was in
+    let new = closed_open (session_at S.serving.servers s) in
+    let numbered = rows.serving.messages.numbered in omega arith
 
-module _ (script : Script) (S : State) (t : ObjNo) (h : Holder) (o : ObjNo) (may : MayClose script S t) (handle : IsHandle S h o) where
+module _ (script : Script) (S : State) (t : ObjNo) (h : Holder) (o : ObjNo) (may : MayClose script S t) (handle : IsHandle S t h o) where
   -- of an object that is neither an open session nor a server the handle goes
   loses-only : Closes script S t (Lose h o ∷ [])
-  loses-only = record { each = ((part_going may, handle.holds S refl (λ p. refl)), tt); told = let few = tell_few t (Lose h o ∷ []) S in omega arith; light = omega arith; calm = tame-at serving _ refl refl }
+  loses-only = record { each = ((part_going may, handle.holds S refl (λ p. refl), handle.own), tt); told = let few = tell_few t (Lose h o ∷ []) S in omega arith; light = omega arith; calm = tame-at calling _ refl refl }
 
-  closes-server : is_some (server_at S.servers o) ≡ true → Closes script S t (Servers (Close o) ∷ Lose h o ∷ [])
+  closes-server : is_some (server_at S.serving.servers o) ≡ true → Closes script S t (Servers (Close o) ∷ Lose h o ∷ [])
   closes-server is = record {
-    each = (is, ((part_going may, handle.holds (moved t (Servers (Close o)) S) refl (λ p. refl)), tt));
+    each = (is, ((part_going may, handle.holds (moved t (Servers (Close o)) S) refl (λ p. refl), handle.own), tt));
     told = let few = tell_few t (Servers (Close o) ∷ Lose h o ∷ []) S in omega arith;
     light = omega arith;
-    calm = tame-at serving _ refl refl;
+    calm = tame-at calling _ refl refl;
   }
 
   -- an open session is disconnected
   abbrev closing : State
   closing = moved t (Servers (SetOpen o false)) S
 
-  may_post : (v : ObjNo) → was_opened (session_at S.servers o) ≡ true → open_server S o ≡ Some v → MayPost script S closing t o v Disconnect
+  may_post : (v : ObjNo) → was_opened (session_at S.serving.servers o) ≡ true → open_server S o ≡ Some v → MayPost script S closing t o v Disconnect
   may_post v was accepts = record {
     rows = may.rows;
     row = may.row;
@@ -154,7 +155,7 @@ module _ (script : Script) (S : State) (t : ObjNo) (h : Holder) (o : ObjNo) (may
     objects = refl;
     locks = refl;
     messages = refl;
-    session = mapped-some (opened false) S.servers.sessions o.0 o.0 ∙ open_session S o v accepts;
+    session = mapped-some (opened false) S.serving.servers.sessions o.0 o.0 ∙ open_session S o v accepts;
     owes = record { thread = ap is_some may.is; going = part_going may };
     others = λ u apart. refl;
     sends = spare_closed script S t o may.rows was;
@@ -163,29 +164,29 @@ module _ (script : Script) (S : State) (t : ObjNo) (h : Holder) (o : ObjNo) (may
   }
 
   -- the message refers to it
-  named_by : (v : ObjNo) → 0 < total (message_names o) (posted S closing t o v disconnects no_args Disconnect).messages.outstanding
+  named_by : (v : ObjNo) → 0 < total (message_names o) (posted S closing t o v disconnects no_args Disconnect).serving.messages.outstanding
   named_by v =
-      let more = total-append (message_names o) S.messages.outstanding (message ∷ []) in
+      let more = total-append (message_names o) S.serving.messages.outstanding (message ∷ []) in
       let self = same_self o in omega arith
     where
       message : Message
-      message = record { number = next_number S.messages; slots = slots_of S o; row = new_row o v t disconnects no_args Disconnect }
+      message = record { number = next_number S.serving.messages; slots = slots_of S o; row = new_row o v t disconnects no_args Disconnect }
 
-  not_last : (v : ObjNo) (T : State) → T.handles ≡ S.handles → T.messages ≡ (posted S closing t o v disconnects no_args Disconnect).messages → dies T o ≡ false
+  not_last : (v : ObjNo) (T : State) → T.references.handles ≡ S.references.handles → T.serving.messages ≡ (posted S closing t o v disconnects no_args Disconnect).serving.messages → dies T o ≡ false
   not_last v T handles messages =
-      two_references T handle.owner o handle.index (same_slot S.handles T.handles handle.owner handle.index o handles handle.slot)
+      two_references T handle.owner o handle.index (same_slot S.references.handles T.references.handles handle.owner handle.index o handles handle.slot)
       (subst (λ (m : MessageRows). 0 < total (message_names o) m.outstanding) (sym messages) (named_by v))
 
-  disconnects-session : (v : ObjNo) → was_opened (session_at S.servers o) ≡ true → open_server S o ≡ Some v → Closes script S t (disconnect S t o (Some v) ++ Lose h o ∷ [])
+  disconnects-session : (v : ObjNo) → was_opened (session_at S.serving.servers o) ≡ true → open_server S o ≡ Some v → Closes script S t (disconnect S t o (Some v) ++ Lose h o ∷ [])
   disconnects-session v was accepts =
-      of_wake S v (owner_of S.servers v) (λ (wakes : List Move). Closes script S t (Servers (SetOpen o false) ∷ Messages message ∷ wakes ++ Lose h o ∷ []))
+      of_wake S v (owner_of S.serving.servers v) (λ (wakes : List Move). Closes script S t (Servers (SetOpen o false) ∷ Messages message ∷ wakes ++ Lose h o ∷ []))
       (record {
-        each = (session, (accepted, ((part_going may, handle.holds T refl (λ p. refl)), tt)));
+        each = (session, (accepted, ((part_going may, handle.holds T refl (λ p. refl), handle.own), tt)));
         told = told_then t (Servers (SetOpen o false)) (Messages message ∷ Lose h o ∷ []) S 0 4 (omega arith)
             (told_then t (Messages message) (Lose h o ∷ []) closing 3 1 (omega arith)
             (told_then t (Lose h o) [] T 1 0 (closed_one (dies T o) h o (not_last v T refl refl)) (omega arith)));
         light = omega arith;
-        calm = tame-at serving _ refl refl;
+        calm = tame-at calling _ refl refl;
       })
       (λ u row is receiving.
       let W = moved t (Wake u) T in
@@ -196,7 +197,7 @@ module _ (script : Script) (S : State) (t : ObjNo) (h : Holder) (o : ObjNo) (may
             accepted,
             (
               woken_fits script S closing t o v disconnects no_args Disconnect u row (may_post v was accepts) is receiving,
-              ((ap is_returning (mapped-value part_of (with_waiting waiting.Nothing) S.threads u.0 t.0 (λ r. refl)) ∙ part_going may, handle.holds W refl (λ p. mapped-some (with_waiting waiting.Nothing) S.threads u.0 p.0)), tt),
+              ((ap is_returning (mapped-value part_of (with_waiting waiting.Nothing) S.references.threads u.0 t.0 (λ r. refl)) ∙ part_going may, handle.holds W refl (λ p. mapped-some (with_waiting waiting.Nothing) S.references.threads u.0 p.0), handle.own), tt),
             ),
           ),
         );
@@ -205,7 +206,7 @@ module _ (script : Script) (S : State) (t : ObjNo) (h : Holder) (o : ObjNo) (may
             (told_then t (Wake u) (Lose h o ∷ []) T 0 1 (omega arith)
             (told_then t (Lose h o) [] W 1 0 (closed_one (dies W o) h o (not_last v W refl refl)) (omega arith))));
         light = omega arith;
-        calm = tame-at serving _ refl refl;
+        calm = tame-at calling _ refl refl;
       })
     where
       message : MessageMove
@@ -214,24 +215,24 @@ module _ (script : Script) (S : State) (t : ObjNo) (h : Holder) (o : ObjNo) (may
       T : State
       T = moved t (Messages message) closing
 
-      session : IsSession S.servers o
+      session : IsSession S.serving.servers o
       session = open_session S o v accepts
 
       accepted : FitsMove script t (Messages message) closing
       accepted = accepted_fits script S closing t o v disconnects no_args Disconnect refl (may_post v was accepts)
 
-  disconnects-where : (was : Bool) (v : Option ObjNo) → was_opened (session_at S.servers o) ≡ was → open_server S o ≡ v → Closes script S t (disconnect S t o (if was then v else None) ++ Lose h o ∷ [])
+  disconnects-where : (was : Bool) (v : Option ObjNo) → was_opened (session_at S.serving.servers o) ≡ was → open_server S o ≡ v → Closes script S t (disconnect S t o (if was then v else None) ++ Lose h o ∷ [])
   disconnects-where false v was accepts = loses-only
   disconnects-where true None was accepts = loses-only
   disconnects-where true (Some v) was accepts = disconnects-session v was accepts
 
-  closes-by : (server : Option ServerRow) → server_at S.servers o ≡ server → Closes script S t (close_or o server (disconnect S t o (connected_to S o)) ++ Lose h o ∷ [])
-  closes-by None is = disconnects-where (was_opened (session_at S.servers o)) (open_server S o) refl refl
+  closes-by : (server : Option ServerRow) → server_at S.serving.servers o ≡ server → Closes script S t (close_or o server (disconnect S t o (connected_to S o)) ++ Lose h o ∷ [])
+  closes-by None is = disconnects-where (was_opened (session_at S.serving.servers o)) (open_server S o) refl refl
   closes-by (Some server) is = closes-server (ap is_some is)
 
 -- the close of a handle
-pub closes : (script : Script) (S : State) (t : ObjNo) (h : Holder) (o : ObjNo) → MayClose script S t → IsHandle S h o → Closes script S t (close_moves S t h o)
-closes script S t h o may handle = closes-by script S t h o may handle (server_at S.servers o) refl
+pub closes : (script : Script) (S : State) (t : ObjNo) (h : Holder) (o : ObjNo) → MayClose script S t → IsHandle S t h o → Closes script S t (close_moves S t h o)
+closes script S t h o may handle = closes-by script S t h o may handle (server_at S.serving.servers o) refl
 
 -- and the thread is at its instruction still
 stay-disconnect : (script : Script) (S : State) (t s : ObjNo) (o : Option ObjNo) → AllStay script t (disconnect S t s o)
@@ -243,4 +244,4 @@ stay-close_or script S t o None = stay-disconnect script S t o (connected_to S o
 stay-close_or script S t o (Some server) = (stays-servers script t _, tt)
 
 pub stay-close : (script : Script) (S : State) (t : ObjNo) (h : Holder) (o : ObjNo) → AllStay script t (close_moves S t h o)
-stay-close script S t h o = all-both (Stays script t) (before_close S t o) (Lose h o ∷ []) (stay-close_or script S t o (server_at S.servers o)) (stays-lose script t h o, tt)
+stay-close script S t h o = all-both (Stays script t) (before_close S t o) (Lose h o ∷ []) (stay-close_or script S t o (server_at S.serving.servers o)) (stays-lose script t h o, tt)

@@ -17,8 +17,8 @@ use Rattle.move_laws.proofs.Lists.Mapped.{made-here, made-other, mapped-some}
 use Rattle.move_laws.proofs.References.Same.{eqb_apart}
 
 -- each server that a thread owns is one
-pub owned_server : (script : Script) (S : State) (u : ObjNo) → AreRows script S → (o : ObjNo) → 0 < times_owned S.owned u o → IsServer S.servers o
-owned_server script S u rows o some = ap is_some (rows.servers.owners u o some).is
+pub owned_server : (script : Script) (S : State) (u : ObjNo) → AreRows script S → (o : ObjNo) → 0 < times_owned S.serving.owned u o → IsServer S.serving.servers o
+owned_server script S u rows o some = ap is_some (rows.serving.servers.owners u o some).is
 
 -- a server that begins to close is closing then
 closed_there : (x : Option ServerRow) → is_some x ≡ true → closes (option_map closing x) ≡ true

@@ -40,15 +40,15 @@ use Rattle.machine_laws.proofs.Fitting.Servers.{taken_is}
 use Rattle.machine_laws.proofs.Fitting.Stepping.{FitsDecision, IsStepping, fits-answers, fits-nothing, fits-refuse, unspent}
 use Rattle.move_laws.proofs.Numbers.Registers.{read_small, write_small}
 use Rattle.machine_laws.proofs.Fitting.Regular.{looking, plain}
-use Rattle.machine_laws.proofs.Fitting.Tame.{may_tell, tame, tame-moves}
+use Rattle.machine_laws.proofs.Fitting.Tame.{may_tell, tame, tame-moves, regular-moves, tame-going}
 
 -- a piece, whatever it answers
 fits-piece : {script : Script} {S : State} {t : ObjNo} {row : ThreadRow} {instr : Instr} (told : Step) (named : may_tell plain told ≡ true) (copy : CopyMove) (piece : Piece) → IsStepping script S t row instr → begun row.part ≡ 0 → FitsCopies copy S → FitsDecision looking script t S (copy_piece t told copy piece)
 fits-piece {row = row} told named copy (More done) h early fits = record {
-  each = (fits, ((record { unused = λ r is e. absurd (cc); paid = λ e. absurd (cc); unspent = unspent h; at = λ e. absurd (cc); ends = λ r is. let same_row : row ≡ r = let a = h.is in cc in subst (λ (x : ThreadRow). begun x.part ≤ 0) same_row (omega arith) }, tt), (tt, tt)));
+  each = (fits, ((record { unused = λ r is e. absurd (cc); paid = λ e. absurd (cc); unspent = unspent h; at = λ e. absurd (cc); ends = λ r is. let same_row : row ≡ r = let a = h.is in cc in subst (λ (x : ThreadRow). begun x.part ≤ 0) same_row (omega arith) }, tt, refl), (refl, tt)));
   told = omega arith;
   light = omega arith;
-  regular = tame _ named;
+  regular = regular-moves _ named refl (tame-going _ refl refl refl);
 }
 fits-piece {row = row} told named copy (Whole size) h early fits = fits-answers told named (Copies copy ∷ []) (whole_answer copy size) (tame-moves _ refl refl) (fits, tt) (record { row = row; is = h.is; next = h.next }) (omega arith) (omega arith)
 fits-piece told named copy BadDescriptor h early fits = fits-refuse told named error.BadDescriptor h
@@ -59,27 +59,27 @@ fits-piece told named copy Died h early fits = fits-refuse told named error.Died
 -- a message that a server of a thread took was taken
 taken_was : (S : State) (t : ObjNo) (found : Option Message) (message : Message) → taken_by S t found ≡ Some message → message.row.taken ≡ true
 taken_was S t None message e = absurd (cc)
-taken_was S t (Some x) message e = by (x.row.taken && is_owner t (owner_of S.servers x.row.server)) refl e
+taken_was S t (Some x) message e = by (x.row.taken && is_owner t (owner_of S.serving.servers x.row.server)) refl e
   where
-    by : (b : Bool) → (x.row.taken && is_owner t (owner_of S.servers x.row.server)) ≡ b → (if b then Some x else None) ≡ Some message → message.row.taken ≡ true
-    by true both e = let same : x ≡ message = cc in ap (λ (y : Message). y.row.taken) (sym same) ∙ (and_parts x.row.taken (is_owner t (owner_of S.servers x.row.server)) both).0
+    by : (b : Bool) → (x.row.taken && is_owner t (owner_of S.serving.servers x.row.server)) ≡ b → (if b then Some x else None) ≡ Some message → message.row.taken ≡ true
+    by true both e = let same : x ≡ message = cc in ap (λ (y : Message). y.row.taken) (sym same) ∙ (and_parts x.row.taken (is_owner t (owner_of S.serving.servers x.row.server)) both).0
     by false both e = absurd (cc)
 
 -- the message that a copy names is the one that its register's number is
 record Names (S : State) (message : Message) : Type 0 where
-  here : message_of S.messages message.number ≡ Some message
-  taken : IsTrue (was_taken (message_of S.messages message.number))
+  here : message_of S.serving.messages message.number ≡ Some message
+  taken : IsTrue (was_taken (message_of S.serving.messages message.number))
 
 named : (S : State) (t : ObjNo) (row : ThreadRow) (y : ℕ) (message : Message) → message_at S t row y ≡ Some message → Names S message
 named S t row y message e =
-    let found = message_of S.messages (record { 0 = slice_index row.messages y }) in
+    let found = message_of S.serving.messages (record { 0 = slice_index row.messages y }) in
     let here = at_number S _ message (taken_is S t found message e) in
     record { here = here; taken = ap was_taken here ∙ taken_was S t found message e }
 
 -- and so are the ends of the copy
-same_ends : (S : State) (t : ObjNo) (row : ThreadRow) (message : Message) (job : Job) → thread_of S t ≡ Some row → message_of S.messages message.number ≡ Some message → job.m ≡ message.number → job.caller ≡ t → ends_of S.threads S.messages job ≡ message_ends S row message job.arg
+same_ends : (S : State) (t : ObjNo) (row : ThreadRow) (message : Message) (job : Job) → thread_of S t ≡ Some row → message_of S.serving.messages message.number ≡ Some message → job.m ≡ message.number → job.caller ≡ t → ends_of S.references.threads S.serving.messages job ≡ message_ends S row message job.arg
 same_ends S t row message job is here number caller =
-    ap (λ (found : Option MsgRow). ends_at S.threads found job) (ap (λ (m : MsgNo). option_map (λ (x : Message). x.row) (message_of S.messages m)) number ∙ ap (option_map (λ (x : Message). x.row)) here)
+    ap (λ (found : Option MsgRow). ends_at S.references.threads found job) (ap (λ (m : MsgNo). option_map (λ (x : Message). x.row) (message_of S.serving.messages m)) number ∙ ap (option_map (λ (x : Message). x.row)) here)
     ∙ ap (λ (r : Option ThreadRow). ends_between (thread_of S message.row.client) r message.row job.arg) (ap (thread_of S) caller ∙ is)
 
 -- a step that isn't the last of its instruction

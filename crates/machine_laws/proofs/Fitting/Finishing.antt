@@ -40,10 +40,10 @@ use Rattle.machine_laws.proofs.Fitting.Tame.{tame-at, tame-both, tame-moves}
 use Rattle.machine.specs.Bodies.{end_wait, ends_wait}
 
 -- a message that is outstanding stands at its number
-pub at_number : (S : State) (m : MsgNo) (message : Message) → message_of S.messages m ≡ Some message → message_of S.messages message.number ≡ Some message
+pub at_number : (S : State) (m : MsgNo) (message : Message) → message_of S.serving.messages m ≡ Some message → message_of S.serving.messages message.number ≡ Some message
 at_number S m message found =
-    let number = eqb-true message.number.0 m.0 (found_there (has_number m) S.messages.outstanding message found).1 in
-    subst (λ (n : MsgNo). message_of S.messages n ≡ Some message) (same_number m message.number (sym number)) found
+    let number = eqb-true message.number.0 m.0 (found_there (has_number m) S.serving.messages.outstanding message found).1 in
+    subst (λ (n : MsgNo). message_of S.serving.messages n ≡ Some message) (same_number m message.number (sym number)) found
   where
     same_number : (a b : MsgNo) → a.0 ≡ b.0 → a ≡ b
     same_number a b e = let made : ℕ → MsgNo = λ n. record { 0 = n } in ap made e
@@ -73,39 +73,39 @@ tame-reply_to {k = k} S u code way (Some row) = if_cases (IsTame k 0) (is_live r
 abbrev finished : State → ObjNo → Message → ℤ → State
 finished S t message code = moved t (Messages (Finish message.number code)) S
 
-module _ (script : Script) (S : State) (t : ObjNo) (message : Message) (code : ℤ) (rows : AreRows script S) (found : message_of S.messages message.number ≡ Some message) where
+module _ (script : Script) (S : State) (t : ObjNo) (message : Message) (code : ℤ) (rows : AreRows script S) (found : message_of S.serving.messages message.number ≡ Some message) where
   -- of a thread it was the only one of its status, and the only one whose end it waits for
-  sent_once : (u : ObjNo) (s : ℕ) → message.row.client ≡ u → message.row.way ≡ Async s → (0 < times_sent S.messages.outstanding u s) × (times_sent (finished S t message code).messages.outstanding u s ≡ 0)
+  sent_once : (u : ObjNo) (s : ℕ) → message.row.client ≡ u → message.row.way ≡ Async s → (0 < times_sent S.serving.messages.outstanding u s) × (times_sent (finished S t message code).serving.messages.outstanding u s ≡ 0)
   sent_once u s client way =
       let one : sent_names u s message ≡ 1 = ap (λ (w : Way). if is_sent u s message.row.client w then 1 else 0) way ∙ ap (λ (c : ObjNo). if is_sent u s c (Async s) then 1 else 0) client ∙ self u s in
-      let goes = one_goes (sent_names u s) message.number S.messages.outstanding message rows.messages.rising found in
-      let most = rows.messages.sent u s in (omega arith, omega arith)
+      let goes = one_goes (sent_names u s) message.number S.serving.messages.outstanding message rows.serving.messages.rising found in
+      let most = rows.serving.messages.sent u s in (omega arith, omega arith)
     where
       self : (u : ObjNo) (s : ℕ) → ◌≡◌ {A = ℕ} (if is_sent u s u (Async s) then 1 else 0) 1
       self u s = rw (eq-eqb u.0 u.0 refl, eq-eqb s s refl) refl
 
-  called_once : (u : ObjNo) → message.row.client ≡ u → message.row.way ≡ Sync → (0 < times_called S.messages.outstanding u) × (times_called (finished S t message code).messages.outstanding u ≡ 0)
+  called_once : (u : ObjNo) → message.row.client ≡ u → message.row.way ≡ Sync → (0 < times_called S.serving.messages.outstanding u) × (times_called (finished S t message code).serving.messages.outstanding u ≡ 0)
   called_once u client way =
       let one : call_names u message ≡ 1 = ap (λ (w : Way). if is_called u message.row.client w then 1 else 0) way ∙ ap (λ (c : ObjNo). if is_called u c Sync then 1 else 0) client ∙ self u in
-      let goes = one_goes (call_names u) message.number S.messages.outstanding message rows.messages.rising found in
-      let most = rows.messages.called u in (omega arith, omega arith)
+      let goes = one_goes (call_names u) message.number S.serving.messages.outstanding message rows.serving.messages.rising found in
+      let most = rows.serving.messages.called u in (omega arith, omega arith)
     where
       self : (u : ObjNo) → ◌≡◌ {A = ℕ} (if is_called u u Sync then 1 else 0) 1
       self u = rw (eq-eqb u.0 u.0 refl) refl
 
   -- it isn't awaited more often then
-  called_fewer : (u : ObjNo) → times_called (finished S t message code).messages.outstanding u ≤ times_called S.messages.outstanding u
-  called_fewer u = let goes = one_goes (call_names u) message.number S.messages.outstanding message rows.messages.rising found in omega arith
+  called_fewer : (u : ObjNo) → times_called (finished S t message code).serving.messages.outstanding u ≤ times_called S.serving.messages.outstanding u
+  called_fewer u = let goes = one_goes (call_names u) message.number S.serving.messages.outstanding message rows.serving.messages.rising found in omega arith
 
   -- the state then, with any rows of servers
   abbrev left : ServerRows → State
-  left servers = record (finished S t message code) { servers = servers }
+  left servers = record (finished S t message code) { serving = record ((finished S t message code).serving) { servers = servers } }
 
   -- a status is completed, and the wait for it ends
   tells-status : (servers : ServerRows) (u : ObjNo) (row : ThreadRow) (s : ℕ) → thread_of S u ≡ Some row → row.stage ≡ Live → message.row.client ≡ u → message.row.way ≡ Async s → OwesNothing serving script t (left servers) (reply S u row code (Async s)) 1
   tells-status servers u row s is live client way =
       let once = sent_once u s client way in
-      let untold = rows.messages.awaited u s once.0 in
+      let untold = rows.serving.messages.awaited u s once.0 in
       light-then script (left servers) t (Requests (Signal u s code) ∷ []) (end_wait S u s (Some row)) 1 0 1 (omega arith)
       (record { each = ((untold, (record { row = row; is = is; live = live }, once.1)), tt); told = omega arith; light = refl; calm = tame-moves _ refl refl })
       (light-end script S (moved t (Requests (Signal u s code)) (left servers)) t u s (Some row) rows refl refl (called_fewer u) is)
@@ -114,9 +114,9 @@ module _ (script : Script) (S : State) (t : ObjNo) (message : Message) (code : �
   tells-reply : (servers : ServerRows) (u : ObjNo) (row : ThreadRow) → thread_of S u ≡ Some row → row.stage ≡ Live → message.row.client ≡ u → message.row.way ≡ Sync → OwesNothing serving script t (left servers) (reply S u row code Sync) 1
   tells-reply servers u row is live client way =
       let once = called_once u client way in
-      let waits = rows.messages.replies u row once.0 is live in
-      let within = inside S.threads u.0 row is in
-      let sized = rows.requests.sized in
+      let waits = rows.serving.messages.replies u row once.0 is live in
+      let within = inside S.references.threads u.0 row is in
+      let sized = rows.synchronization.requests.sized in
       record {
         each = ((omega arith, record { row = row; is = is; live = live }), ((waits_nowhere script S u row rows is (λ o e. absurd (cc)), λ r at lives. once.1), tt));
         told = omega arith;
@@ -141,9 +141,9 @@ module _ (script : Script) (S : State) (t : ObjNo) (message : Message) (code : �
       (λ _.
       let closes = SetOpen message.row.session false in
       light-then script (finished S t message code) t (Servers closes ∷ []) _ 0 1 1 (omega arith)
-      (record { each = (rows.messages.sessions message (found_there (has_number message.number) S.messages.outstanding message found).0, tt); told = omega arith; light = refl; calm = tame-moves _ refl refl })
-      (tells-client (servers_moved closes S.owned S.servers) (thread_of S message.row.client) refl))
-      (λ _. tells-client S.servers (thread_of S message.row.client) refl)
+      (record { each = (rows.serving.messages.sessions message (found_there (has_number message.number) S.serving.messages.outstanding message found).0, tt); told = omega arith; light = refl; calm = tame-moves _ refl refl })
+      (tells-client (servers_moved closes S.serving.owned S.serving.servers) (thread_of S message.row.client) refl))
+      (λ _. tells-client S.serving.servers (thread_of S message.row.client) refl)
 
 -- what finishes a message fits, tells two effects at most, and owes two closes
 pub record Finishes (script : Script) (S : State) (t : ObjNo) (ms : List Move) : Type 0 where
@@ -152,7 +152,7 @@ pub record Finishes (script : Script) (S : State) (t : ObjNo) (ms : List Move) :
   pub light : total most_owed ms ≤ 8
   pub calm : IsTame serving 0 ms
 
-pub finishes : (script : Script) (S : State) (t : ObjNo) (m : MsgNo) (message : Message) (code : ℤ) → AreRows script S → MayOweMore S t → message_of S.messages m ≡ Some message → Finishes script S t (finish S message code)
+pub finishes : (script : Script) (S : State) (t : ObjNo) (m : MsgNo) (message : Message) (code : ℤ) → AreRows script S → MayOweMore S t → message_of S.serving.messages m ≡ Some message → Finishes script S t (finish S message code)
 finishes script S t m message code rows may at =
     let found = at_number S m message at in
     let more = ends script S t message code rows found in

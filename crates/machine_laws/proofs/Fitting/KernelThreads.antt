@@ -55,7 +55,7 @@ use Rattle.machine_laws.proofs.Fitting.Stepping.{FitsDecision, IsStepping, fits-
 use Rattle.machine_laws.proofs.Fitting.Uncalled.{is_uncalled, stepping_uncalled}
 use Rattle.machine_laws.proofs.Fitting.Waiters.{waits_nowhere, stepping_nowhere}
 use Rattle.machine_laws.proofs.Fitting.Regular.{Kinds, looking, plain}
-use Rattle.machine_laws.proofs.Fitting.Tame.{may_tell, regular-answer, regular-moves, tame, tame-both, tame-in, tame-moves}
+use Rattle.machine_laws.proofs.Fitting.Tame.{may_tell, regular-answer, regular-moves, tame, tame-both, tame-in, tame-moves, tame-going}
 
 pub none_of : {A : Type 0} (x : Option A) → is_some x ≡ false → x ≡ None
 none_of None e = refl
@@ -70,12 +70,12 @@ pub held_holder : (r : NanoRows) (t : ObjNo) (f : ℕ) → held_by r t ≡ Some 
 held_holder r t f held = let at = position-Some (is_thread t) r.holders f None held in (at.0, is_thread-true t (holder_of r f) at.1)
 
 -- a thread that wants a fast mutex holds none
-wants_holds_none : (script : Script) (S : State) (t : ObjNo) (f : ℕ) → AreRows script S → want_of S.nano t ≡ Some f → held_by S.nano t ≡ None
-wants_holds_none script S t f rows wants = held (held_by S.nano t) refl
+wants_holds_none : (script : Script) (S : State) (t : ObjNo) (f : ℕ) → AreRows script S → want_of S.synchronization.nano t ≡ Some f → held_by S.synchronization.nano t ≡ None
+wants_holds_none script S t f rows wants = held (held_by S.synchronization.nano t) refl
   where
-    held : (x : Option ℕ) → held_by S.nano t ≡ x → x ≡ None
+    held : (x : Option ℕ) → held_by S.synchronization.nano t ≡ x → x ≡ None
     held None e = refl
-    held (Some g) e = let none = (rows.nano.holders g t (held_holder S.nano t g e).1).wants in absurd (cc)
+    held (Some g) e = let none = (rows.synchronization.nano.holders g t (held_holder S.synchronization.nano t g e).1).wants in absurd (cc)
 
 -- an answer after no move
 pub fits-answer : {k : Kinds} {script : Script} {S : State} {t : ObjNo} {row : ThreadRow} {instr : Instr} (told : Step) (named : may_tell k told ≡ true) (code : ℤ) → IsStepping script S t row instr → FitsDecision k script t S (answer t told [] code)
@@ -101,51 +101,51 @@ own_row : {script : Script} {S : State} {t : ObjNo} {row : ThreadRow} {instr : I
 own_row h = ap is_some h.is
 
 -- the last step comes next, with a move that fits then
-pub fits-later : {k : Kinds} {script : Script} {S : State} {t : ObjNo} {row : ThreadRow} {instr : Instr} (told : Step) (named : may_tell k told ≡ true) (m : Move) → IsStepping script S t row instr → IsCheap m → FitsMove script t m (moved t (move.GoOn t part.Done) S) → FitsDecision k script t S (go_on t told m part.Done)
-fits-later told named m h cheap fits = record {
-  each = ((record { unused = λ r is e. absurd (cc); paid = λ e. absurd (cc); unspent = unspent h; at = λ e. absurd (cc); ends = λ r is. begun_one r.part }, tt), (fits, tt));
+pub fits-later : {k : Kinds} {script : Script} {S : State} {t : ObjNo} {row : ThreadRow} {instr : Instr} (told : Step) (named : may_tell k told ≡ true) (m : Move) → k.goes ≡ true → IsStepping script S t row instr → IsCheap m → FitsMove script t m (moved t (move.GoOn t part.Done) S) → FitsDecision k script t S (go_on t told m part.Done)
+fits-later told named m goes h cheap fits = record {
+  each = ((record { unused = λ r is e. absurd (cc); paid = λ e. absurd (cc); unspent = unspent h; at = λ e. absurd (cc); ends = λ r is. begun_one r.part }, tt, refl), (fits, tt));
   told = let a = cheap.told in omega arith;
   light = let a = cheap.light in omega arith;
-  regular = regular-moves _ named (tame-both (move.GoOn _ part.Done ∷ []) (m ∷ []) (tame-moves _ refl refl) (tame-in cheap.calm));
+  regular = regular-moves _ named refl (tame-both (move.GoOn _ part.Done ∷ []) (m ∷ []) (tame-going _ goes refl refl) (tame-in cheap.calm));
 }
 
 -- what is refused to a thread that holds a fast mutex
-pub fits-unless : {k : Kinds} {script : Script} {S : State} {t : ObjNo} {row : ThreadRow} {instr : Instr} (told : Step) (named : may_tell k told ≡ true) (d : Decision) → IsStepping script S t row instr → (held_by S.nano t ≡ None → FitsDecision k script t S d) → FitsDecision k script t S (unless_holding S t told d)
+pub fits-unless : {k : Kinds} {script : Script} {S : State} {t : ObjNo} {row : ThreadRow} {instr : Instr} (told : Step) (named : may_tell k told ≡ true) (d : Decision) → IsStepping script S t row instr → (held_by S.synchronization.nano t ≡ None → FitsDecision k script t S d) → FitsDecision k script t S (unless_holding S t told d)
 fits-unless {k = k} {script = script} {S = S} {t = t} told named d h fits =
-    if_cases (FitsDecision k script t S) (is_some (held_by S.nano t)) _ _ (λ _. fits-refuse told named error.InUse h) (λ e. fits (none_of (held_by S.nano t) e))
+    if_cases (FitsDecision k script t S) (is_some (held_by S.synchronization.nano t)) _ _ (λ _. fits-refuse told named error.InUse h) (λ e. fits (none_of (held_by S.synchronization.nano t) e))
 
-may_take : {script : Script} {S : State} {t : ObjNo} {row : ThreadRow} {instr : Instr} → IsStepping script S t row instr → is_returning row.part ≡ false → held_by S.nano t ≡ None → MayTake S t
+may_take : {script : Script} {S : State} {t : ObjNo} {row : ThreadRow} {instr : Instr} → IsStepping script S t row instr → is_returning row.part ≡ false → held_by S.synchronization.nano t ≡ None → MayTake S t
 may_take {script = script} {row = row} h going none = record { row = row; is = h.is; live = h.live going; serves = serves_none script row.role row.next_instruction h.next; waits = h.waits; holds = none }
 
 -- the number of a fast mutex that an instruction names is one of the script's
-pub mutex_inside : (script : Script) (S : State) (f : ℕ) → AreRows script S → nat_lt f script.fast ≡ true → f < length S.nano.holders
-mutex_inside script S f rows known = let below = ltb-true f script.fast known in let size = rows.nano.mutexes in omega arith
+pub mutex_inside : (script : Script) (S : State) (f : ℕ) → AreRows script S → nat_lt f script.fast ≡ true → f < length S.synchronization.nano.holders
+mutex_inside script S f rows known = let below = ltb-true f script.fast known in let size = rows.synchronization.nano.mutexes in omega arith
 
 -- `flock`
 pub fits-flock : {script : Script} {S : State} {t : ObjNo} {row : ThreadRow} (f : ℕ) (p : Option Part) → IsStepping script S t row (instr.Flock f) → is_returning row.part ≡ false → FitsDecision looking script t S (flock_step S t f p)
 fits-flock {script = script} {S = S} {t = t} {row = row} f None h going =
     fits-unless (step.Of word.Flock part.Do) refl _ h (λ none.
-    if_cases (FitsDecision looking script t S) (is_free S.nano f) _ _
-    (λ free. fits-nano (step.Of word.Flock part.Do) refl (nano.Take t f) (pos 0) h (own_row h) (inside, none_is (holder_of S.nano f) free, may_take h going none))
-    (λ _. fits-later (step.Of word.Flock part.Do) refl (move.Nano (nano.Want t (Some f))) h (cheap_nano _) (there, (inside, none))))
+    if_cases (FitsDecision looking script t S) (is_free S.synchronization.nano f) _ _
+    (λ free. fits-nano (step.Of word.Flock part.Do) refl (nano.Take t f) (pos 0) h (own_row h) (inside, none_is (holder_of S.synchronization.nano f) free, may_take h going none))
+    (λ _. fits-later (step.Of word.Flock part.Do) refl (move.Nano (nano.Want t (Some f))) refl h (cheap_nano _) (there, (inside, none))))
   where
-    inside : f < length S.nano.holders
+    inside : f < length S.synchronization.nano.holders
     inside = mutex_inside script S f h.rows h.names
 
     there : is_some (thread_of (moved t (move.GoOn t part.Done) S) t) ≡ true
-    there = ap is_some (row-here S.threads t (with_part part.Done) t.0 refl ∙ ap (option_map (with_part part.Done)) h.is)
-fits-flock {script = script} {S = S} {t = t} f (Some p) h going = taken (want_of S.nano t) refl
+    there = ap is_some (row-here S.references.threads t (with_part part.Done) t.0 refl ∙ ap (option_map (with_part part.Done)) h.is)
+fits-flock {script = script} {S = S} {t = t} f (Some p) h going = taken (want_of S.synchronization.nano t) refl
   where
-    taken : (wanted : Option ℕ) → want_of S.nano t ≡ wanted → FitsDecision looking script t S (flock_done t wanted)
+    taken : (wanted : Option ℕ) → want_of S.synchronization.nano t ≡ wanted → FitsDecision looking script t S (flock_done t wanted)
     taken None e = fits-nothing script S t
-    taken (Some g) e = fits-nano (step.Of word.Flock part.Done) refl (nano.Take t g) (pos 0) h (own_row h) (h.rows.nano.rows.wants_known t g e, subst (λ (w : Option ℕ). option_and_then (holder_of S.nano) w ≡ None) e h.free, may_take h going (wants_holds_none script S t g h.rows e))
+    taken (Some g) e = fits-nano (step.Of word.Flock part.Done) refl (nano.Take t g) (pos 0) h (own_row h) (h.rows.synchronization.nano.rows.wants_known t g e, subst (λ (w : Option ℕ). option_and_then (holder_of S.synchronization.nano) w ≡ None) e h.free, may_take h going (wants_holds_none script S t g h.rows e))
 
 -- `fswait`
 pub fits-fswait : {script : Script} {S : State} {t : ObjNo} {row : ThreadRow} {instr : Instr} (p : Option Part) → IsStepping script S t row instr → is_returning row.part ≡ false → FitsDecision looking script t S (fswait_step S t p)
 fits-fswait {script = script} {S = S} {t = t} None h going =
     fits-unless (step.Of word.Fswait part.Do) refl _ h (λ none.
-    if_cases (FitsDecision looking script t S) (signal_count S.nano t == 0) _ _
-    (λ _. fits-later (step.Of word.Fswait part.Do) refl (move.Wait t waiting.Fast) h (record { told = omega arith; light = refl; calm = tame-moves _ refl refl }) (none, stepping_nowhere h, live-changed S (moved t (move.GoOn t part.Done) S) t (with_part part.Done) (λ r. refl) refl (stepping_live h going), λ r at live. stepping_uncalled h going))
+    if_cases (FitsDecision looking script t S) (signal_count S.synchronization.nano t == 0) _ _
+    (λ _. fits-later (step.Of word.Fswait part.Do) refl (move.Wait t waiting.Fast) refl h (record { told = omega arith; light = refl; calm = tame-moves _ refl refl }) (none, stepping_nowhere h, live-changed S (moved t (move.GoOn t part.Done) S) t (with_part part.Done) (λ r. refl) refl (stepping_live h going), λ r at live. stepping_uncalled h going))
     (λ _. fits-nano (step.Of word.Fswait part.Do) refl (nano.Lower t) (pos 0) h (own_row h) tt))
 fits-fswait (Some p) h going = fits-answer (step.Of word.Fswait part.Done) refl (pos 0) h
 
@@ -181,12 +181,12 @@ of_kind_is S kind (Some x) o e = chosen (is_of_kind kind (object_of S x)) e
     chosen true e = e
     chosen false e = absurd (cc)
 
-pub fits-look_kind : {k : Kinds} {script : Script} {S : State} {t : ObjNo} {row : ThreadRow} {instr : Instr} (kind : Kind) (word : Word) (x : ℕ) → k.uses ≡ true → IsStepping script S t row instr → is_before_use row.part ≡ true → FitsDecision k script t S (look_kind S t row kind word x)
-fits-look_kind {k = k} {script = script} {S = S} {t = t} {row = row} kind word x uses h before = found (of_kind S kind (object_at S t row (slice_index row.registers x))) refl
+pub fits-look_kind : {k : Kinds} {script : Script} {S : State} {t : ObjNo} {row : ThreadRow} {instr : Instr} (kind : Kind) (word : Word) (x : ℕ) → k.uses ≡ true → k.goes ≡ true → IsStepping script S t row instr → is_before_use row.part ≡ true → FitsDecision k script t S (look_kind S t row kind word x)
+fits-look_kind {k = k} {script = script} {S = S} {t = t} {row = row} kind word x uses goes h before = found (of_kind S kind (object_at S t row (slice_index row.registers x))) refl
   where
     found : (named : Option ObjNo) → of_kind S kind (object_at S t row (slice_index row.registers x)) ≡ named → FitsDecision k script t S (look_at t word named)
     found None e = fits-refuse (step.Of word part.Look) refl error.BadHandle h
-    found (Some o) e = fits-use (step.Of word part.Look) refl o part.Do uses h before refl tt (handle_is_alive S _ _ o h.rows.lives (object_of_is _ _ _ o (of_kind_is S kind _ o e)))
+    found (Some o) e = fits-use (step.Of word part.Look) refl o part.Do uses goes h before refl tt (handle_is_alive S _ _ o h.rows.lives (object_of_is _ _ _ o (of_kind_is S kind _ o e)))
 
 -- a move of a call on a thread that is there
 pub record FitsCall (script : Script) (S : State) (t : ObjNo) (m : Move) : Type 0 where
@@ -223,24 +223,24 @@ chosen_some false x y e = (refl, cc)
 
 -- `suspend`, `resume` and `priority`
 pub fits-suspend : {script : Script} {S : State} {t : ObjNo} {row : ThreadRow} {instr : Instr} (x : ℕ) (p : Option Part) → IsStepping script S t row instr → row.part ≡ p → FitsDecision looking script t S (suspend_step S t row x p)
-fits-suspend x None h at = fits-look_kind kind.Thread word.Suspend x refl h (ap is_before_use at)
+fits-suspend x None h at = fits-look_kind kind.Thread word.Suspend x refl refl h (ap is_before_use at)
 fits-suspend {script = script} {S = S} {t = t} {row = row} x (Some p) h at =
     fits-call word.Suspend refl error.Overflow (suspend_move S) row.uses h (λ u r m is e.
-    let made = chosen_some (suspend_count S.nano u == 127) (move.Nano (nano.Suspend u)) m e in
-    let most = h.rows.nano.rows.limited u in
+    let made = chosen_some (suspend_count S.synchronization.nano u == 127) (move.Nano (nano.Suspend u)) m e in
+    let most = h.rows.synchronization.nano.rows.limited u in
     let differs = made.0 in
-    let apart : suspend_count S.nano u ≢ 127 = λ same. cc (eq-eqb (suspend_count S.nano u) 127 same) in
+    let apart : suspend_count S.synchronization.nano u ≢ 127 = λ same. cc (eq-eqb (suspend_count S.synchronization.nano u) 127 same) in
     subst (FitsCall script S t) made.1 (call_nano (nano.Suspend u) h (ap is_some is) (omega arith)))
 
 pub fits-resume : {script : Script} {S : State} {t : ObjNo} {row : ThreadRow} {instr : Instr} (x : ℕ) (p : Option Part) → IsStepping script S t row instr → row.part ≡ p → FitsDecision looking script t S (resume_step S t row x p)
-fits-resume x None h at = fits-look_kind kind.Thread word.Resume x refl h (ap is_before_use at)
+fits-resume x None h at = fits-look_kind kind.Thread word.Resume x refl refl h (ap is_before_use at)
 fits-resume {script = script} {S = S} {t = t} {row = row} x (Some p) h at =
     fits-call word.Resume refl error.General (resume_move S) row.uses h (λ u r m is e.
-    let made = chosen_some (suspend_count S.nano u == 0) (move.Nano (nano.Resume u)) m e in
+    let made = chosen_some (suspend_count S.synchronization.nano u == 0) (move.Nano (nano.Resume u)) m e in
     subst (FitsCall script S t) made.1 (call_nano (nano.Resume u) h (ap is_some is) tt))
 
 pub fits-priority : {script : Script} {S : State} {t : ObjNo} {row : ThreadRow} (x priority : ℕ) (p : Option Part) → IsStepping script S t row (instr.Priority x priority) → row.part ≡ p → FitsDecision looking script t S (priority_step S t row x priority p)
-fits-priority x priority None h at = fits-look_kind kind.Thread word.Priority x refl h (ap is_before_use at)
+fits-priority x priority None h at = fits-look_kind kind.Thread word.Priority x refl refl h (ap is_before_use at)
 fits-priority {script = script} {S = S} {t = t} {row = row} x priority (Some p) h at =
     fits-call word.Priority refl error.General (λ u. Some (move.SetPriority u priority)) row.uses h (λ u r m is e.
     let same : move.SetPriority u priority ≡ m = cc in

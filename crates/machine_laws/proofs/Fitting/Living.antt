@@ -24,13 +24,13 @@ handle_is_alive S owner i o lives is =
     let named : slot_names o (slot_at (table_of S owner) i) ≡ same o o = ap (option_names o) is in
     let self = same_self o in
     let inner = total_at_least (slot_names o) (table_of S owner) i fresh_slot within in
-    let outer = total_at_least (total (slot_names o)) S.handles owner.0 [] (table_inside S.handles owner.0 i within) in
+    let outer = total_at_least (total (slot_names o)) S.references.handles owner.0 [] (table_inside S.references.handles owner.0 i within) in
     lives.alive o (omega arith)
 
 -- what a thread uses is alive
 pub use_is_alive : (S : State) (t : ObjNo) (row : ThreadRow) (o : ObjNo) → AreLives S → thread_of S t ≡ Some row → row.uses ≡ Some o → IsAlive (object_of S o)
 use_is_alive S t row o lives is uses =
-    let at = total_at_least (thread_names o) S.threads t.0 None (inside S.threads t.0 row is) in
+    let at = total_at_least (thread_names o) S.references.threads t.0 None (inside S.references.threads t.0 row is) in
     let was : thread_names o (thread_of S t) ≡ thread_names o (Some row) = ap (thread_names o) is in
     let used : option_names o row.uses ≡ same o o = ap (option_names o) uses in
     let self = same_self o in
@@ -68,7 +68,7 @@ findable_is S None o e = cc
 findable_is S (Some x) o e = seen_step (is_dead_row (object_of S x) || nat_lt 0 (count_of S x)) x o e
 
 -- what is found by name was made
-pub found_inside : (S : State) (kind : Kind) (name : List ℕ) (o : ObjNo) → find_object S kind name ≡ Some o → o.0 < length S.objects
+pub found_inside : (S : State) (kind : Kind) (name : List ℕ) (o : ObjNo) → find_object S kind name ≡ Some o → o.0 < length S.references.objects
 found_inside S kind name o e =
-    number_inside S.objects (position (has_name kind name) S.objects) o (λ n at. (position-Some (has_name kind name) S.objects n None at).0)
-    (findable_is S (named kind name S.objects) o (guard_step (is_session kind) (findable S (named kind name S.objects)) o e))
+    number_inside S.references.objects (position (has_name kind name) S.references.objects) o (λ n at. (position-Some (has_name kind name) S.references.objects n None at).0)
+    (findable_is S (named kind name S.references.objects) o (guard_step (is_session kind) (findable S (named kind name S.references.objects)) o e))

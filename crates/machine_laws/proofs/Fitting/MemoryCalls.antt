@@ -28,4 +28,4 @@ fits-fill {script = script} {S = S} {t = t} {row = row} at length byte h =
 
 -- `peek`
 pub fits-peek : {script : Script} {S : State} {t : ObjNo} {row : ThreadRow} {instr : Instr} (at : ℕ) → IsStepping script S t row instr → FitsDecision looking script t S (peek_do S t row at)
-fits-peek {S = S} {row = row} at h = fits-answer (Of word.Peek part.Do) refl (pos (byte_of S.memories row.process at)) h
+fits-peek {S = S} {row = row} at h = fits-answer (Of word.Peek part.Do) refl (pos (byte_of S.services.memories row.process at)) h

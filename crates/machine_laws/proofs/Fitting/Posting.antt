@@ -45,15 +45,15 @@ chosen_server : (b : Bool) (x : Option ObjNo) (o : ObjNo) → (if b then x else 
 chosen_server true x o e = e
 chosen_server false x o e = absurd (cc)
 
-pub linked_server : (S : State) (s o : ObjNo) → open_server S s ≡ Some o → server_of S.servers s ≡ Some o
-linked_server S s o e = chosen_server (accepts S.servers (server_of S.servers s)) (server_of S.servers s) o e
+pub linked_server : (S : State) (s o : ObjNo) → open_server S s ≡ Some o → server_of S.serving.servers s ≡ Some o
+linked_server S s o e = chosen_server (accepts S.serving.servers (server_of S.serving.servers s)) (server_of S.serving.servers s) o e
 
 linked_session : (x : Option SessionRow) (o : ObjNo) → link_of x ≡ Some o → is_some x ≡ true
 linked_session None o e = absurd (cc)
 linked_session (Some row) o e = refl
 
-pub open_session : (S : State) (s o : ObjNo) → open_server S s ≡ Some o → IsSession S.servers s
-open_session S s o e = linked_session (session_at S.servers s) o (linked_server S s o e)
+pub open_session : (S : State) (s o : ObjNo) → open_server S s ≡ Some o → IsSession S.serving.servers s
+open_session S s o e = linked_session (session_at S.serving.servers s) o (linked_server S s o e)
 
 some_inside : {A : Type 0} (xs : List (Option A)) (i : ℕ) (x : Option A) → get_or xs i None ≡ x → is_some x ≡ true → i < length xs
 some_inside xs i None at is = absurd (cc)
@@ -61,9 +61,9 @@ some_inside xs i (Some x) at is = inside xs i x at
 
 server_inside : (script : Script) (S : State) (s o : ObjNo) → AreRows script S → open_server S s ≡ Some o → o.0 < OBJECTS
 server_inside script S s o rows e =
-    let is = rows.servers.sessions s o (linked_server S s o e) in
-    let sized = rows.servers.servers_sized in
-    let within = some_inside S.servers.servers o.0 _ refl is in omega arith
+    let is = rows.serving.servers.sessions s o (linked_server S s o e) in
+    let sized = rows.serving.servers.servers_sized in
+    let within = some_inside S.serving.servers.servers o.0 _ refl is in omega arith
 
 -- the object of a thread that isn't buried is alive
 pub thread_is_alive : (script : Script) (S : State) (t : ObjNo) (row : ThreadRow) → AreRows script S → thread_of S t ≡ Some row → kernel_holds (Some row) ≡ 1 → IsAlive (object_of S t)
@@ -100,15 +100,15 @@ pub record MayPost (script : Script) (S T : State) (t s o : ObjNo) (way : Way) :
   pub held : kernel_holds (Some row) ≡ 1
   pub accepts : open_server S s ≡ Some o
   pub alive : IsAlive (object_of S s)
-  pub objects : T.objects ≡ S.objects
-  pub locks : T.locks ≡ S.locks
-  pub messages : T.messages ≡ S.messages
-  pub session : IsSession T.servers s
+  pub objects : T.references.objects ≡ S.references.objects
+  pub locks : T.synchronization.locks ≡ S.synchronization.locks
+  pub messages : T.serving.messages ≡ S.serving.messages
+  pub session : IsSession T.serving.servers s
   pub owes : MayOweMore T t
   pub others : (u : ObjNo) → (t.0 ≡ u.0 → ⊥) → thread_of T u ≡ thread_of S u
   pub sends : FitsWay t way T
   pub number : HasNumber T
-  pub slot : (is_async way && is_full T.messages s (slots_of S s)) ≡ false
+  pub slot : (is_async way && is_full T.serving.messages s (slots_of S s)) ≡ false
 
 -- the message is no call of another thread
 not_called : (t u : ObjNo) (way : Way) → (t.0 ≡ u.0 → ⊥) → ◌≡◌ {A = ℕ} (if is_called u t way then 1 else 0) 0
@@ -149,7 +149,7 @@ woken_fits script S T t s o function args way u row h is receiving = (nowhere, c
     apart : t.0 ≡ u.0 → ⊥
     apart at =
         let own = h.is in
-        let here : thread_of S t ≡ Some row = ap (λ (n : ℕ). get_or S.threads n None) at ∙ is in
+        let here : thread_of S t ≡ Some row = ap (λ (n : ℕ). get_or S.references.threads n None) at ∙ is in
         let same_row : h.row ≡ row = cc in
         let nothing = ap (λ (r : ThreadRow). r.waiting) (sym same_row) ∙ h.waits in
         let other = waits_for.1 in absurd (cc)
@@ -157,21 +157,21 @@ woken_fits script S T t s o function args way u row h is receiving = (nowhere, c
     calls : IsUncalled (posted S T t s o function args way) u
     calls = λ r at live.
         let none = is_uncalled script S u row h.rows is (λ e. let other = waits_for.1 in absurd (cc)) r (sym (h.others u apart) ∙ at) live in
-        let was : times_called T.messages.outstanding u ≡ times_called S.messages.outstanding u = ap (λ (m : MessageRows). times_called m.outstanding u) h.messages in
+        let was : times_called T.serving.messages.outstanding u ≡ times_called S.serving.messages.outstanding u = ap (λ (m : MessageRows). times_called m.outstanding u) h.messages in
         let new = not_called t u way apart in
-        let more = total-append (call_names u) T.messages.outstanding (message ∷ []) in omega arith
+        let more = total-append (call_names u) T.serving.messages.outstanding (message ∷ []) in omega arith
       where
         message : Message
-        message = record { number = next_number T.messages; slots = slots_of S s; row = new_row s o t function args way }
+        message = record { number = next_number T.serving.messages; slots = slots_of S s; row = new_row s o t function args way }
 
 -- sent with a wake where the owner waits
 pub posts : (script : Script) (S T : State) (t s o : ObjNo) (function : ℤ) (args : List Arg) (way : Way) → length args ≡ 4 → MayPost script S T t s o way → OwesNothing serving script t T (post S t s o function args way) 3
 posts script S T t s o function args way four h =
     let accepts = accepted_fits script S T t s o function args way four h in
-    of_wake S o (owner_of S.servers o) (λ (wakes : List Move). OwesNothing serving script t T (Messages (Accept (slots_of S s) (new_row s o t function args way)) ∷ wakes) 3)
+    of_wake S o (owner_of S.serving.servers o) (λ (wakes : List Move). OwesNothing serving script t T (Messages (Accept (slots_of S s) (new_row s o t function args way)) ∷ wakes) 3)
     (record { each = (accepts, tt); told = omega arith; light = refl; calm = tame-at serving _ refl refl })
     (λ u row is receiving. record { each = (accepts, (woken_fits script S T t s o function args way u row h is receiving, tt)); told = omega arith; light = refl; calm = tame-at serving _ refl refl })
 
 -- and the thread is at its instruction still
 pub stay-post : (script : Script) (S : State) (t s o : ObjNo) (function : ℤ) (args : List Arg) (way : Way) → AllStay script t (post S t s o function args way)
-stay-post script S t s o function args way = (stays-messages script t _, of_wake S o (owner_of S.servers o) (AllStay script t) tt (λ u row is receiving. (stays-wake script t u, tt)))
+stay-post script S t s o function args way = (stays-messages script t _, of_wake S o (owner_of S.serving.servers o) (AllStay script t) tt (λ u row is receiving. (stays-wake script t u, tt)))

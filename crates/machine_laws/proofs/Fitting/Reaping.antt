@@ -27,7 +27,7 @@ use Rattle.machine.specs.declared.moves.Move.TheVariants as move
 use Rattle.machine.specs.declared.request_move.RequestMove.TheVariants.{Signal}
 use Rattle.machine.specs.declared.state.State.{State}
 use Rattle.machine.specs.Choice.{priority_of}
-use Rattle.machine.specs.Fits.{EachFits, FitsLocks, Holds, IsAtStage, MayOweMore, OwnsNothing}
+use Rattle.machine.specs.Fits.{IsOwn, EachFits, FitsLocks, Holds, IsAtStage, MayOweMore, OwnsNothing}
 use Rattle.machine.specs.Holdings.{held_handles, held_logons, held_mutexes, held_servers, held_slot, held_use, left_of, holdings, process_handles}
 use Rattle.machine.specs.LogonCalls.{reason_of}
 use Rattle.machine.specs.LogonMoves.{is_logon, logons_on, without_logon}
@@ -51,8 +51,8 @@ use Rattle.machine_laws.proofs.Fitting.Stepping.{FitsDecision, FitsStep, by_kind
 use Rattle.machine_laws.proofs.Fitting.Uncalled.{logged_unsent, waiter_uncalled}
 use Rattle.machine_laws.proofs.Fitting.Waiters.{struck_nowhere, waits_nowhere}
 use Rattle.machine_laws.proofs.Fitting.Working.{IsGiven, OfFirst, empty_left, empty_right, first-all, first-both, fits-work, no-items, none-owned}
-use Rattle.machine_laws.proofs.Fitting.Regular.{freeing, kind_given, plain, serving}
-use Rattle.machine_laws.proofs.Fitting.Tame.{regular-moves, tame, tame-at, tame-both, tame-moves}
+use Rattle.machine_laws.proofs.Fitting.Regular.{freeing, kind_given, plain, serving, calling, going}
+use Rattle.machine_laws.proofs.Fitting.Tame.{regular-moves, tame, tame-at, tame-both, tame-moves, tame-going}
 
 -- a doomed thread that acts: it waits for nothing, and isn't between a find and its return
 pub record IsDying (script : Script) (S : State) (t : ObjNo) (row : ThreadRow) : Type 0 where
@@ -63,16 +63,16 @@ pub record IsDying (script : Script) (S : State) (t : ObjNo) (row : ThreadRow) :
   pub going : is_returning row.part ≡ false
 
 -- a mutex that it holds
-gives-mutex : {script : Script} {S : State} {t : ObjNo} {row : ThreadRow} (o : ObjNo) → IsDying script S t row → 0 < times_held S.mutexes t o → FitsDecision freeing script t S (give_up S t row (Mutex o))
-gives-mutex {script = script} {S = S} {t = t} {row = row} o h some = by (best_waiter (priority_of S) S.locks o) refl
+gives-mutex : {script : Script} {S : State} {t : ObjNo} {row : ThreadRow} (o : ObjNo) → IsDying script S t row → 0 < times_held S.synchronization.mutexes t o → FitsDecision freeing script t S (give_up S t row (Mutex o))
+gives-mutex {script = script} {S = S} {t = t} {row = row} o h some = by (best_waiter (priority_of S) S.synchronization.locks o) refl
   where
-    made : o.0 < length S.objects
-    made = elim (cases_lt o.0 (length S.objects)) as (λ _. o.0 < length S.objects) [
+    made : o.0 < length S.references.objects
+    made = elim (cases_lt o.0 (length S.references.objects)) as (λ _. o.0 < length S.references.objects) [
       | inl within ↦ within
-      | inr past ↦ let none = h.rows.locks.owners_made o past in let owns = (h.rows.locks.held t o some).is in absurd (cc)
+      | inr past ↦ let none = h.rows.synchronization.locks.owners_made o past in let owns = (h.rows.synchronization.locks.held t o some).is in absurd (cc)
     ]
 
-    fits : (best : Option ObjNo) → best_waiter (priority_of S) S.locks o ≡ best → FitsLocks t (Free o t best) S
+    fits : (best : Option ObjNo) → best_waiter (priority_of S) S.synchronization.locks o ≡ best → FitsLocks t (Free o t best) S
     fits best e = (
       refl,
       record {
@@ -80,26 +80,26 @@ gives-mutex {script = script} {S = S} {t = t} {row = row} o h some = by (best_wa
         thread = ap is_some h.is;
         nowhere = waits_nowhere script S t row h.rows h.is (λ x e. let nothing = h.waits in absurd (cc));
         going = ap (λ (r : Option ThreadRow). is_returning (part_of r)) h.is ∙ h.going;
-        owns = h.rows.locks.held t o some;
+        owns = h.rows.synchronization.locks.held t o some;
         chosen = sym e;
       },
     )
 
-    by : (best : Option ObjNo) → best_waiter (priority_of S) S.locks o ≡ best → FitsDecision freeing script t S (free_mutex t o best)
-    by None e = record { each = (fits None e, tt); told = omega arith; light = omega arith; regular = regular-moves _ refl (tame-at freeing _ refl refl) }
-    by (Some w) e = record { each = (fits (Some w) e, ((struck_nowhere script S o w h.rows (greatest_listed (priority_of S) (waiters_at S.locks o) w e), waiter_uncalled script S o w h.rows (greatest_listed (priority_of S) (waiters_at S.locks o) w e)), tt)); told = omega arith; light = omega arith; regular = regular-moves _ refl (tame-at freeing _ refl refl) }
+    by : (best : Option ObjNo) → best_waiter (priority_of S) S.synchronization.locks o ≡ best → FitsDecision freeing script t S (free_mutex t o best)
+    by None e = record { each = (fits None e, tt); told = omega arith; light = omega arith; regular = regular-moves _ refl refl (tame-at freeing _ refl refl) }
+    by (Some w) e = record { each = (fits (Some w) e, ((struck_nowhere script S o w h.rows (greatest_listed (priority_of S) (waiters_at S.synchronization.locks o) w e), waiter_uncalled script S o w h.rows (greatest_listed (priority_of S) (waiters_at S.synchronization.locks o) w e)), tt)); told = omega arith; light = omega arith; regular = regular-moves _ refl refl (tame-at freeing _ refl refl) }
 
 -- a reference that it has
-loses : {script : Script} {S : State} {t : ObjNo} {row : ThreadRow} (holder : Holder) (o : ObjNo) → IsDying script S t row → Holds S holder o → EachFits script t (move.Lose holder o ∷ []) S
-loses holder o h holds = ((ap (λ (r : Option ThreadRow). is_returning (part_of r)) h.is ∙ h.going, holds), tt)
+loses : {script : Script} {S : State} {t : ObjNo} {row : ThreadRow} (holder : Holder) (o : ObjNo) → IsDying script S t row → Holds S holder o → IsOwn t holder → EachFits script t (move.Lose holder o ∷ []) S
+loses holder o h holds own = ((ap (λ (r : Option ThreadRow). is_returning (part_of r)) h.is ∙ h.going, holds, own), tt)
 
-gives-use : {script : Script} {S : State} {t : ObjNo} {row : ThreadRow} (o : ObjNo) → IsDying script S t row → row.uses ≡ Some o → FitsDecision plain script t S (give_up S t row (Use o))
-gives-use {t = t} {row = row} o h uses = record { each = loses (Temp t) o h (record { row = row; is = h.is; uses = uses }); told = omega arith; light = omega arith; regular = tame _ refl }
+gives-use : {script : Script} {S : State} {t : ObjNo} {row : ThreadRow} (o : ObjNo) → IsDying script S t row → row.uses ≡ Some o → FitsDecision going script t S (give_up S t row (Use o))
+gives-use {t = t} {row = row} o h uses = record { each = loses (Temp t) o h (record { row = row; is = h.is; uses = uses }) refl; told = omega arith; light = omega arith; regular = regular-moves _ refl refl (tame-going _ refl refl refl) }
 
-gives-handle : {script : Script} {S : State} {t : ObjNo} {row : ThreadRow} (holder : Holder) (o : ObjNo) → IsDying script S t row → IsHandle S holder o → FitsStep serving script t S (give_up S t row (Handle holder o))
+gives-handle : {script : Script} {S : State} {t : ObjNo} {row : ThreadRow} (holder : Holder) (o : ObjNo) → IsDying script S t row → IsHandle S t holder o → FitsStep calling script t S (give_up S t row (Handle holder o))
 gives-handle {script = script} {S = S} {t = t} {row = row} holder o h handle =
     let done = closes script S t holder o (record { rows = h.rows; row = row; is = h.is; waits = h.waits; held = ap stage_holds h.doomed; going = h.going }) handle in
-    record { each = done.each; told = done.told; light = let few = done.light in omega arith; regular = regular-moves _ refl done.calm }
+    record { each = done.each; told = done.told; light = let few = done.light in omega arith; regular = regular-moves _ refl refl done.calm }
 
 -- a logon goes, and no other has its status
 names-none : (u : ObjNo) (s : ℕ) (logons : List (ObjNo × ℕ)) → total (logon_names u s) (without_logon u s logons) ≡ 0
@@ -110,28 +110,28 @@ names-none u s (x ∷ xs) = by (is_logon u s x) refl (names-none u s xs)
     by true e rest = rest
     by false e rest = let one : logon_names u s x ≡ 0 = ap (λ (b : Bool). if b then 1 else 0) e in omega arith
 
-unlogged : (script : Script) (S : State) (t u : ObjNo) (s : ℕ) → AreRows script S → t.0 < length S.threads → 0 < total (logon_names u s) (logons_on S.logons t) → times_logged (moved t (move.Logons (Remove t u s)) S).logons u s ≡ 0
+unlogged : (script : Script) (S : State) (t u : ObjNo) (s : ℕ) → AreRows script S → t.0 < length S.references.threads → 0 < total (logon_names u s) (logons_on S.synchronization.logons t) → times_logged (moved t (move.Logons (Remove t u s)) S).synchronization.logons u s ≡ 0
 unlogged script S t u s rows within some =
-    let long = rows.logons.sized in
-    let once = rows.logons.once u s in
-    let none = names-none u s (logons_on S.logons t) in
-    let after = total-set (total (logon_names u s)) S.logons t.0 (without_logon u s (logons_on S.logons t)) [] (omega arith) in omega arith
+    let long = rows.synchronization.logons.sized in
+    let once = rows.synchronization.logons.once u s in
+    let none = names-none u s (logons_on S.synchronization.logons t) in
+    let after = total-set (total (logon_names u s)) S.synchronization.logons t.0 (without_logon u s (logons_on S.synchronization.logons t)) [] (omega arith) in omega arith
 
-gives-logon : {script : Script} {S : State} {t : ObjNo} {row : ThreadRow} (u : ObjNo) (s : ℕ) → IsDying script S t row → 0 < total (logon_names u s) (logons_on S.logons t) → FitsDecision plain script t S (tell_logon S t row u s)
+gives-logon : {script : Script} {S : State} {t : ObjNo} {row : ThreadRow} (u : ObjNo) (s : ℕ) → IsDying script S t row → 0 < total (logon_names u s) (logons_on S.synchronization.logons t) → FitsDecision plain script t S (tell_logon S t row u s)
 gives-logon {script = script} {S = S} {t = t} {row = row} u s h some =
-    let within = inside S.threads t.0 row h.is in
-    let long = h.rows.logons.sized in
-    let signals = h.rows.requests.sized in
-    let here = total_at_least (total (logon_names u s)) S.logons t.0 [] (omega arith) in
-    let awaited = h.rows.logons.waits u s (omega arith) in
+    let within = inside S.references.threads t.0 row h.is in
+    let long = h.rows.synchronization.logons.sized in
+    let signals = h.rows.synchronization.requests.sized in
+    let here = total_at_least (total (logon_names u s)) S.synchronization.logons t.0 [] (omega arith) in
+    let awaited = h.rows.synchronization.logons.waits u s (omega arith) in
     let known = awaited.thread in
     let told = moved t (move.Logons (Remove t u s)) S in
     let wakes = light-end script S (moved t (move.Requests (Signal u s (reason_of row.exit))) told) t u s (thread_of S u) h.rows refl refl (omega arith) refl in
     record {
-      each = ((within, omega arith, awaited.status), (((awaited, unlogged script S t u s h.rows within some), (h.rows.awaited.logons u s (omega arith), logged_unsent script S u s h.rows (omega arith))), wakes.each));
+      each = ((within, omega arith, awaited.status), (((awaited, unlogged script S t u s h.rows within some), (h.rows.synchronization.awaited.logons u s (omega arith), logged_unsent script S u s h.rows (omega arith))), wakes.each));
       told = let few = wakes.told in omega arith;
       light = let none = wakes.light in omega arith;
-      regular = regular-moves _ refl (tame-both (move.Logons (Remove t u s) ∷ move.Requests (Signal u s (reason_of row.exit)) ∷ []) _ (tame-moves _ refl refl) wakes.calm);
+      regular = regular-moves _ refl refl (tame-both (move.Logons (Remove t u s) ∷ move.Requests (Signal u s (reason_of row.exit)) ∷ []) _ (tame-moves _ refl refl) wakes.calm);
     }
 
 -- each of what it has is given up
@@ -172,11 +172,11 @@ module _ (script : Script) (S : State) (t : ObjNo) (row : ThreadRow) (h : IsDyin
       logon_self u s = rw (eq-eqb u.0 u.0 refl, eq-eqb s s refl) refl
 
   all-own : AllByRecursion Gives (held_handles (InThread t) 0 (table_of S t))
-  all-own = all-handles (InThread t) 0 (table_of S t) (λ j o is. numbered (InThread t) j o (gives-handle (InThread t j) o h (handle_of_thread S t j o (ap is_some h.is) is), refl))
+  all-own = all-handles (InThread t) 0 (table_of S t) (λ j o is. numbered (InThread t) j o (gives-handle (InThread t j) o h (handle_of_thread S t j o (ap is_some h.is) is), (refl, record { row = row; is = h.is; at = h.doomed })))
 
   all-process : AllByRecursion Gives (process_handles S t row.process)
-  all-process = if_cases (AllByRecursion Gives) (total (left_of row.process) S.threads == left_of row.process (thread_of S t)) _ _
-      (λ _. all-handles (InProcess row.process) 0 (table_of S row.process) (λ j o is. numbered (InProcess row.process) j o (gives-handle (InProcess row.process j) o h (handle_of_process S row.process j o (h.rows.threads.processes t.0 row h.is) is), refl))) (λ _. tt)
+  all-process = if_cases (AllByRecursion Gives) (total (left_of row.process) S.references.threads == left_of row.process (thread_of S t)) _ _
+      (λ _. all-handles (InProcess row.process) 0 (table_of S row.process) (λ j o is. numbered (InProcess row.process) j o (gives-handle (InProcess row.process j) o h (handle_of_process S row.process j o (h.rows.references.threads.processes t.0 row h.is) is), (refl, record { row = row; is = h.is; at = h.doomed })))) (λ _. tt)
 
   -- so is the first of it; the work of closing servers goes in its order
   first-given : OfFirst Gives (holdings S t row)
@@ -185,11 +185,11 @@ module _ (script : Script) (S : State) (t : ObjNo) (row : ThreadRow) (h : IsDyin
       (first-both Gives (held_mutexes S t ++ held_servers S t ++ held_use row.uses ++ held_handles (InThread t) 0 (table_of S t)) (process_handles S t row.process)
       (first-both Gives (held_mutexes S t ++ held_servers S t ++ held_use row.uses) (held_handles (InThread t) 0 (table_of S t))
       (first-both Gives (held_mutexes S t ++ held_servers S t) (held_use row.uses)
-      (first-both Gives (held_mutexes S t) (held_servers S t) (first-all Gives (held_mutexes S t) (all-mutexes (get_or S.mutexes t.0 []) (λ o some. (kinds (Mutex o) (gives-mutex o h some), tt))))
+      (first-both Gives (held_mutexes S t) (held_servers S t) (first-all Gives (held_mutexes S t) (all-mutexes (get_or S.synchronization.mutexes t.0 []) (λ o some. (kinds (Mutex o) (gives-mutex o h some), tt))))
       (λ _ what rest e. let work = fits-work what rest (record { rows = h.rows; is = h.is; going = h.going }) e in (kinds what work.0, work.1)))
-      (λ _. first-all Gives (held_use row.uses) (all-use row.uses (λ o uses. (kinds (Use o) (gives-use o h uses), tt)))))
+      (λ _. first-all Gives (held_use row.uses) (all-use row.uses (λ o uses. (kinds (Use o) (gives-use o h uses), record { row = row; is = h.is; at = h.doomed })))))
       (λ _. first-all Gives (held_handles (InThread t) 0 (table_of S t)) all-own)) (λ _. first-all Gives (process_handles S t row.process) all-process))
-      (λ _. first-all Gives (held_logons S t) (all-logons (logons_on S.logons t) (λ u s some. (kinds (Logon u s) (gives-logon u s h some), tt))))
+      (λ _. first-all Gives (held_logons S t) (all-logons (logons_on S.synchronization.logons t) (λ u s some. (kinds (Logon u s) (gives-logon u s h some), tt))))
 
 pub fits-give_up : {script : Script} {S : State} {t : ObjNo} {row : ThreadRow} (what : Holding) (rest : List Holding) → IsDying script S t row → holdings S t row ≡ what ∷ rest → FitsStep (kind_given what) script t S (give_up S t row what) × IsGiven S t what
 fits-give_up {script = script} {S = S} {t = t} {row = row} what rest h has = first-given script S t row h what rest has
@@ -209,21 +209,21 @@ no-handles holder i (slot ∷ rest) e (suc j) = no-handles holder (i + 1) rest (
 
 -- a thread that has nothing left holds no mutex, has nothing of closing servers, uses nothing, and has no handle and no logon
 pub record HasNothing (S : State) (t : ObjNo) (row : ThreadRow) : Type 0 where
-  pub mutexes : get_or S.mutexes t.0 [] ≡ []
+  pub mutexes : get_or S.synchronization.mutexes t.0 [] ≡ []
   pub servers : held_servers S t ≡ []
   pub unused : row.uses ≡ None
   pub empty : (i : ℕ) → (slot_at (table_of S t) i).object ≡ None
   pub process : process_handles S t row.process ≡ []
-  pub logons : logons_on S.logons t ≡ []
+  pub logons : logons_on S.synchronization.logons t ≡ []
 
 pub has-nothing : (S : State) (t : ObjNo) (row : ThreadRow) → holdings S t row ≡ [] → HasNothing S t row
 has-nothing S t row nothing = record {
-  mutexes = no-items (λ (o : ObjNo). Mutex o) (get_or S.mutexes t.0 []) (empty_left (held_mutexes S t) (held_servers S t) first);
+  mutexes = no-items (λ (o : ObjNo). Mutex o) (get_or S.synchronization.mutexes t.0 []) (empty_left (held_mutexes S t) (held_servers S t) first);
   servers = empty_right (held_mutexes S t) (held_servers S t) first;
   unused = no-use row.uses (empty_right (held_mutexes S t ++ held_servers S t) (held_use row.uses) second);
   empty = no-handles (InThread t) 0 (table_of S t) (empty_right (held_mutexes S t ++ held_servers S t ++ held_use row.uses) (held_handles (InThread t) 0 (table_of S t)) third);
   process = empty_right (held_mutexes S t ++ held_servers S t ++ held_use row.uses ++ held_handles (InThread t) 0 (table_of S t)) (process_handles S t row.process) fourth;
-  logons = no-items (λ (logon : ObjNo × ℕ). Logon logon.0 logon.1) (logons_on S.logons t) (empty_right (held_mutexes S t ++ held_servers S t ++ held_use row.uses ++ held_handles (InThread t) 0 (table_of S t) ++ process_handles S t row.process) (held_logons S t) nothing);
+  logons = no-items (λ (logon : ObjNo × ℕ). Logon logon.0 logon.1) (logons_on S.synchronization.logons t) (empty_right (held_mutexes S t ++ held_servers S t ++ held_use row.uses ++ held_handles (InThread t) 0 (table_of S t) ++ process_handles S t row.process) (held_logons S t) nothing);
 }
   where
     fourth : held_mutexes S t ++ held_servers S t ++ held_use row.uses ++ held_handles (InThread t) 0 (table_of S t) ++ process_handles S t row.process ≡ []
@@ -239,35 +239,35 @@ has-nothing S t row nothing = record {
     first = empty_left (held_mutexes S t ++ held_servers S t) (held_use row.uses) second
 
 -- a doomed thread holds no fast mutex
-dying_unheld : {script : Script} {S : State} {t : ObjNo} {row : ThreadRow} → IsDying script S t row → held_by S.nano t ≡ None
-dying_unheld {script = script} {S = S} {t = t} {row = row} h = by (held_by S.nano t) refl
+dying_unheld : {script : Script} {S : State} {t : ObjNo} {row : ThreadRow} → IsDying script S t row → held_by S.synchronization.nano t ≡ None
+dying_unheld {script = script} {S = S} {t = t} {row = row} h = by (held_by S.synchronization.nano t) refl
   where
     not_both : (stage : Stage) → stage ≡ Live → stage ≡ Doomed → ⊥
     not_both stage live doomed = cc
 
-    by : (held : Option ℕ) → held_by S.nano t ≡ held → held ≡ None
+    by : (held : Option ℕ) → held_by S.synchronization.nano t ≡ held → held ≡ None
     by None e = refl
     by (Some f) e =
-        let holder = h.rows.nano.holders f t (held_holder S.nano t f e).1 in
+        let holder = h.rows.synchronization.nano.holders f t (held_holder S.synchronization.nano t f e).1 in
         let same_row : holder.row ≡ row = (let one = h.is in let other = holder.is in cc) in
         absurd (not_both row.stage (ap (λ (r : ThreadRow). r.stage) (sym same_row) ∙ holder.live) h.doomed)
 
 -- nothing is left, and it is cleaned
 pub fits-clean : {script : Script} {S : State} {t : ObjNo} {row : ThreadRow} → IsDying script S t row → holdings S t row ≡ [] → owed_of S t ≡ [] → FitsDecision plain script t S (clean script S t row)
 fits-clean {script = script} {S = S} {t = t} {row = row} h nothing paid = record {
-  each = ((record { row = row; is = h.is; at = h.doomed }, (dying_unheld h, λ r is. let same_row : row ≡ r = (let one = h.is in cc) in subst (IsSpent S.handles t.0) same_row spent, λ r is. let same_row : row ≡ r = (let one = h.is in cc) in subst (λ (x : ThreadRow). process_handles S t x.process ≡ []) same_row has.process, owns), refl), ((burial_inside script S.deferred row.role h.rows.deferred (h.rows.threads.rows t.0 row h.is).declared, refl), tt));
+  each = ((record { row = row; is = h.is; at = h.doomed }, (dying_unheld h, λ r is. let same_row : row ≡ r = (let one = h.is in cc) in subst (IsSpent S.references.handles t.0) same_row spent, λ r is. let same_row : row ≡ r = (let one = h.is in cc) in subst (λ (x : ThreadRow). process_handles S t x.process ≡ []) same_row has.process, owns), refl), ((burial_inside script S.synchronization.deferred row.role h.rows.synchronization.deferred (h.rows.references.threads.rows t.0 row h.is).declared, refl), tt));
   told = omega arith;
   light = omega arith;
-  regular = record { answers = refl; dooms = λ v. refl; calm = λ _. refl; making = λ e. absurd (cc); sends = λ _. refl; cleans = λ e. absurd (cc); uses = λ u _. refl; known = λ _. record { row = row; is = h.is; doomed = h.doomed; paid = paid; nothing = nothing; moves = refl } };
+  regular = record { answers = refl; dooms = λ v. refl; calm = λ _. refl; making = λ e. absurd (cc); sends = λ _. refl; goes = λ _. refl; last = refl; cleans = λ e. absurd (cc); uses = λ u _. refl; known = λ _. record { row = row; is = h.is; doomed = h.doomed; paid = paid; nothing = nothing; moves = refl } };
 }
   where
     has : HasNothing S t row
     has = has-nothing S t row nothing
 
     owns : OwnsNothing S t
-    owns = none-owned S (owned_by S.owned t) (λ o some. h.rows.servers.closing t.0 row o h.is (ap is_live h.doomed) some) has.servers
+    owns = none-owned S (owned_by S.serving.owned t) (λ o some. h.rows.serving.servers.closing t.0 row o h.is (ap is_live h.doomed) some) has.servers
 
-    spent : IsSpent S.handles t.0 row
+    spent : IsSpent S.references.handles t.0 row
     spent = record { unused = has.unused; waits = h.waits; going = h.going; empty = has.empty }
 
 -- whoever a call buries is cleaned
@@ -276,24 +276,24 @@ cleaned_by Cleaned e = refl
 cleaned_by _ e = absurd (cc)
 
 found_cleaned : (script : Script) (S : State) (dfc : ℕ) (u : ObjNo) → buried_by script S dfc ≡ Some u → IsAtStage S u Cleaned
-found_cleaned script S dfc u found = at (position (is_buried_by script dfc) S.threads) refl found
+found_cleaned script S dfc u found = at (position (is_buried_by script dfc) S.references.threads) refl found
   where
     by : (row : Option ThreadRow) → thread_of S u ≡ row → is_buried_by script dfc row ≡ true → IsAtStage S u Cleaned
     by None is e = absurd (cc)
     by (Some row) is e = record { row = row; is = is; at = cleaned_by row.stage (and_parts (burial_of script row.role == dfc) (is_cleaned row.stage) e).1 }
 
-    at : (place : Option ℕ) → position (is_buried_by script dfc) S.threads ≡ place → option_map (λ (n : ℕ). record { 0 = n }) place ≡ Some u → IsAtStage S u Cleaned
+    at : (place : Option ℕ) → position (is_buried_by script dfc) S.references.threads ≡ place → option_map (λ (n : ℕ). record { 0 = n }) place ≡ Some u → IsAtStage S u Cleaned
     at None is e = absurd (cc)
     at (Some n) is e =
         let same_number : n ≡ u.0 = cc in
-        by (thread_of S u) refl (subst (λ (k : ℕ). is_buried_by script dfc (get_or S.threads k None) ≡ true) same_number (position-Some (is_buried_by script dfc) S.threads n None is).1)
+        by (thread_of S u) refl (subst (λ (k : ℕ). is_buried_by script dfc (get_or S.references.threads k None) ≡ true) same_number (position-Some (is_buried_by script dfc) S.references.threads n None is).1)
 
 pub fits-bury : (script : Script) (S : State) (t : ObjNo) (dfc : ℕ) → AreRows script S → MayOweMore S t → FitsDecision plain script t S (bury script S dfc)
 fits-bury script S t dfc rows may = by (buried_by script S dfc) refl
   where
-    leaves : queue_of S.deferred dfc < length S.deferred.queues
-    leaves = queue_inside script S.deferred dfc rows.deferred
+    leaves : queue_of S.synchronization.deferred dfc < length S.synchronization.deferred.queues
+    leaves = queue_inside script S.synchronization.deferred dfc rows.synchronization.deferred
 
-    by : (found : Option ObjNo) → buried_by script S dfc ≡ found → FitsDecision plain script t S (record { step = step.Bury; moves = move.Deferred (Take (queue_of S.deferred dfc)) ∷ bury_found found; answer = None })
+    by : (found : Option ObjNo) → buried_by script S dfc ≡ found → FitsDecision plain script t S (record { step = step.Bury; moves = move.Deferred (Take (queue_of S.synchronization.deferred dfc)) ∷ bury_found found; answer = None })
     by None e = record { each = (leaves, tt); told = omega arith; light = omega arith; regular = tame _ refl }
     by (Some u) e = let at = found_cleaned script S dfc u e in record { each = (leaves, ((record { row = at.row; is = at.is; at = at.at }, record { thread = may.thread; going = may.going }), tt)); told = omega arith; light = omega arith; regular = tame _ refl }

@@ -1,12 +1,12 @@
 -- What the laws of whole histories need of a decision: whether it answers as it ends its instruction, whom it cleans, which servers begin to
 -- close, and what it leaves alone.
-use Rattle.std.proofs.Common.{◌≡◌, ℕ, ℤ, List, [], Option, Some, None, Bool, true, false, ◌<◌, ◌⊎◌}
+use Rattle.std.proofs.Common.{◌≡◌, ℕ, ℤ, List, [], Option, Some, None, Bool, true, false, ◌<◌, ◌⊎◌, ◌∷◌}
 use Rattle.sym_base.specs.declared.number.ObjNo.{ObjNo}
 use Rattle.script_types.specs.declared.instruction.Instr.{Instr}
 use Rattle.script_types.specs.declared.instruction.Instr.TheVariants as instr
 use Rattle.script_types.specs.declared.script.Script.{Script}
 use Rattle.entry_log.specs.declared.effect.Holder.{Holder}
-use Rattle.entry_log.specs.declared.effect.Holder.TheVariants.{Temp}
+use Rattle.entry_log.specs.declared.effect.Holder.TheVariants.{Temp, InProcess, InThread}
 use Rattle.entry_log.specs.declared.step.Part.{Part}
 use Rattle.state_rows.specs.declared.thread.Stage.TheVariants.{Doomed}
 use Rattle.state_rows.specs.declared.thread.ThreadRow.{ThreadRow}
@@ -17,7 +17,7 @@ use Rattle.machine.specs.declared.holding.Holding.TheVariants as holding
 use Rattle.machine.specs.declared.lock_move.LockMove.TheVariants.{Lock, Unlock, Free}
 use Rattle.machine.specs.declared.message_move.MessageMove.TheVariants.{Take}
 use Rattle.machine.specs.declared.moves.Move.{Move}
-use Rattle.machine.specs.declared.moves.Move.TheVariants.{Advance, Death, Gain, Lose, Make, Servers, Messages, Locks}
+use Rattle.machine.specs.declared.moves.Move.TheVariants.{Advance, Death, Gain, Lose, Make, Servers, Messages, Locks, Find, GoOn, Keep, PutDown}
 use Rattle.machine.specs.declared.server_move.ServerMove.TheVariants.{CloseAll, SetOpen}
 use Rattle.machine.specs.declared.state.State.{State}
 use Rattle.machine.specs.Holdings.{holdings}
@@ -26,34 +26,42 @@ use Rattle.machine.specs.References.{same, total}
 use Rattle.machine.specs.Rows.{owed_of, thread_of}
 use Rattle.machine.specs.EntryWords.{is_clean, is_send, makes_server}
 
--- what a kind of decision may do: serve, change who has a mutex, and come to use an object
+-- what a kind of decision may do: serve, change who has a mutex, come to use an object, and go on with its instruction or give a handle up
 pub record Kinds : Type 0 where
   pub serves : Bool
   pub locks : Bool
   pub uses : Bool
+  pub goes : Bool
 
 abbrev pub plain : Kinds
-plain = record { serves = false; locks = false; uses = false }
+plain = record { serves = false; locks = false; uses = false; goes = false }
 
 abbrev pub serving : Kinds
-serving = record { serves = true; locks = false; uses = false }
+serving = record { serves = true; locks = false; uses = false; goes = false }
+
+-- what only goes on, and a step that serves and may go on
+abbrev pub going : Kinds
+going = record { serves = false; locks = false; uses = false; goes = true }
+
+abbrev pub calling : Kinds
+calling = record { serves = true; locks = false; uses = false; goes = true }
 
 abbrev pub freeing : Kinds
-freeing = record { serves = false; locks = true; uses = false }
+freeing = record { serves = false; locks = true; uses = false; goes = false }
 
 abbrev pub looking : Kinds
-looking = record { serves = false; locks = false; uses = true }
+looking = record { serves = false; locks = false; uses = true; goes = true }
 
 abbrev pub locking : Kinds
-locking = record { serves = false; locks = true; uses = true }
+locking = record { serves = false; locks = true; uses = true; goes = true }
 
 -- the kind of an instruction's step, by the part that is next, and of what is given up
 abbrev pub kind_of : Instr → Option Part → Kinds
-kind_of (instr.Close x) p = serving
-kind_of (instr.Server name x) p = serving
-kind_of (instr.Connect name slots x) (Some p) = serving
-kind_of (instr.Send x function y args) (Some p) = serving
-kind_of (instr.Call x function args) (Some p) = serving
+kind_of (instr.Close x) p = calling
+kind_of (instr.Server name x) p = calling
+kind_of (instr.Connect name slots x) (Some p) = calling
+kind_of (instr.Send x function y args) (Some p) = calling
+kind_of (instr.Call x function args) (Some p) = calling
 kind_of (instr.Complete y code) p = serving
 kind_of (instr.Lock x) p = locking
 kind_of (instr.Unlock x) p = locking
@@ -61,7 +69,8 @@ kind_of _ p = looking
 
 abbrev pub kind_given : Holding → Kinds
 kind_given (holding.Mutex o) = freeing
-kind_given (holding.Use o) = plain
+kind_given (holding.Use o) = going
+kind_given (holding.Handle h o) = calling
 kind_given (holding.Logon u s) = plain
 kind_given _ = serving
 
@@ -112,6 +121,25 @@ use_bit u (Make kind name h) = gained_bit u h
 use_bit u (Gain h o) = gained_bit u h
 use_bit u _ = 0
 
+-- 1 for one by which a thread finds an object, goes on, keeps a number, or comes to hold an object, and where its handle or its use goes
+abbrev pub going_bit : Move → ℕ
+going_bit (Make kind name h) = 1
+going_bit (Gain h o) = 1
+going_bit (Find u o) = 1
+going_bit (GoOn u part) = 1
+going_bit (Keep u number) = 1
+going_bit (Lose (InProcess p i) o) = 1
+going_bit (Lose (InThread u i) o) = 1
+going_bit (Lose (Temp u) o) = 1
+going_bit (PutDown u) = 1
+going_bit _ = 0
+
+-- how much of that comes behind the end of an instruction
+abbrev pub going_late : List Move → ℕ
+going_late [] = 0
+going_late (Advance u ∷ ms) = total going_bit ms
+going_late (m ∷ ms) = going_late ms
+
 -- 1 where something is answered
 abbrev pub answer_bit : Option ℤ → ℕ
 answer_bit None = 0
@@ -126,8 +154,8 @@ pub record IsCleaning (script : Script) (S : State) (t : ObjNo) (d : Decision) :
   pub nothing : holdings S t row ≡ []
   pub moves : d.moves ≡ (clean script S t row).moves
 
--- a decision answers where it ends an instruction, servers begin to close exactly of threads that it dooms, no server is made with a mutex,
--- it serves and sends only where its kind does, cleans only in that step, and its thread alone comes to use something, where its kind does and
+-- a decision answers where it ends an instruction, and goes on with nothing then, servers begin to close exactly of threads that it dooms, no server is made with a mutex,
+-- it serves, sends and goes on only where its kind does, cleans only in that step, and its thread alone comes to use something, where its kind does and
 -- nothing is answered
 pub record IsRegular (k : Kinds) (script : Script) (S : State) (t : ObjNo) (d : Decision) : Type 0 where
   pub answers : total advance_bit d.moves ≡ answer_bit d.answer
@@ -135,6 +163,8 @@ pub record IsRegular (k : Kinds) (script : Script) (S : State) (t : ObjNo) (d : 
   pub calm : k.serves ≡ false → total serving_bit d.moves ≡ 0
   pub making : makes_server d.step ≡ true → total mutex_bit d.moves ≡ 0
   pub sends : k.serves ≡ false → is_send d.step ≡ false
+  pub goes : k.goes ≡ false → total going_bit d.moves ≡ 0
+  pub last : going_late d.moves ≡ 0
   pub cleans : is_clean d.step ≡ false → total cleaning_bit d.moves ≡ 0
   pub known : is_clean d.step ≡ true → IsCleaning script S t d
   pub uses : (u : ObjNo) → (u.0 ≡ t.0 → ⊥) ⊎ ((k.uses ≡ false) ⊎ (0 < answer_bit d.answer)) → total (use_bit u) d.moves ≡ 0
@@ -146,4 +176,5 @@ pub record IsTame (k : Kinds) (ends : ℕ) (ms : List Move) : Type 0 where
   pub dooms : (v : ObjNo) → total (closed_bit v) ms ≡ total (doomed_bit v) ms
   pub calm : k.serves ≡ false → total serving_bit ms ≡ 0
   pub mutexes : k.locks ≡ false → total mutex_bit ms ≡ 0
+  pub goes : k.goes ≡ false → total going_bit ms ≡ 0
   pub uses : (u : ObjNo) → total (use_bit u) ms ≡ 0

@@ -1,7 +1,7 @@
 -- The steps of `connect`, `send` and `call`.
 use Rattle.std.proofs.Common.{◌≡◌, ℕ, ℤ, ◌<◌, List, [], ◌∷◌, length, get_or, arith, refl, sym, ap, subst, ◌∙◌, Option, Some, None, true, false, ◌+◌, ◌≤◌, Bool}
 use Rattle.std.specs.Ordering.{int_eq}
-use Rattle.std.specs.Prelude.{pos, ◌==◌, is_some, option_map, if◌then◌else◌}
+use Rattle.std.specs.Prelude.{pos, is_some, option_map, if◌then◌else◌}
 use Rattle.std.proofs.lemmas.List.{get_or_append_left, length_push}
 use Rattle.sym_base.specs.ErrorCode.{error_code}
 use Rattle.sym_base.specs.declared.error.Error.TheVariants as error
@@ -38,7 +38,7 @@ use Rattle.machine.specs.Fits.{IsFree, MayGoOn}
 use Rattle.machine.specs.FitsServers.{HasSpare, MayJoinServer, HasNumber}
 use Rattle.machine.specs.Handles.{holder_of}
 use Rattle.machine.specs.Messaging.{connects, no_args, open_server, post, slots_of}
-use Rattle.machine.specs.Moves.{moved, new_object, next_object, with_kept, with_part, with_use, with_waiting}
+use Rattle.machine.specs.Moves.{moved, new_object, next_object, no_number_left, with_kept, with_part, with_use, with_waiting}
 use Rattle.machine.specs.Rows.{object_of, thread_of}
 use Rattle.machine.specs.Serving.{is_sending, open_bit, sending_bit, session_bit, begun, numbers_left}
 use Rattle.machine.specs.SessionCalls.{args_of, call_do, call_step, call_to, connect_done, connect_make, connect_return, connect_send, connect_step, connect_to, fail_connect, make_session, send_connect, send_do, send_step, send_to, session_made}
@@ -63,11 +63,11 @@ use Rattle.machine_laws.proofs.Fitting.Stepping.{FitsDecision, IsStepping, at_in
 use Rattle.machine_laws.proofs.Fitting.Steps.{handle_named, room_left}
 use Rattle.machine_laws.proofs.Fitting.Uncalled.{not_sent, stepping_uncalled}
 use Rattle.machine_laws.proofs.Fitting.Waiters.{stepping_nowhere}
-use Rattle.machine_laws.proofs.Fitting.Regular.{kind_of, looking, serving}
-use Rattle.machine_laws.proofs.Fitting.Tame.{may_tell, regular-moves, tame-at, tame-both, tame-moves}
+use Rattle.machine_laws.proofs.Fitting.Regular.{kind_of, looking, serving, calling}
+use Rattle.machine_laws.proofs.Fitting.Tame.{may_tell, regular-moves, tame-at, tame-both, tame-moves, tame-going, tame-calling}
 
 -- a session is made, where the server is one and isn't closing
-module _ (script : Script) (S : State) (t : ObjNo) (row : ThreadRow) (instr : Instr) (o : ObjNo) (slots : Slots) (h : IsStepping script S t row instr) (going : is_returning row.part ≡ false) (server : ServerRow) (is : server_at S.servers o ≡ Some server) (accepts : server.is_closing ≡ false) (room : length S.objects < OBJECTS) (alive : IsAlive (object_of S o)) (first : begun row.part ≡ 0) where
+module _ (script : Script) (S : State) (t : ObjNo) (row : ThreadRow) (instr : Instr) (o : ObjNo) (slots : Slots) (h : IsStepping script S t row instr) (going : is_returning row.part ≡ false) (server : ServerRow) (is : server_at S.serving.servers o ≡ Some server) (accepts : server.is_closing ≡ false) (room : (next_object S).0 < OBJECTS) (alive : IsAlive (object_of S o)) (first : begun row.part ≡ 0) where
   abbrev made : ℕ → State
   made i = moved t (move.Make kind.Session [] (InThread t i)) S
 
@@ -80,13 +80,13 @@ module _ (script : Script) (S : State) (t : ObjNo) (row : ThreadRow) (instr : In
   may_join : (i : ℕ) → MayJoinServer (made i) (next_object S) o
   may_join i =
       let s = next_object S in
-      let within = alive_inside S.objects o.0 alive in
-      let longer = length_push S.objects (Some (new_object kind.Session [])) in
+      let within = alive_inside S.references.objects o.0 alive in
+      let longer = length_push S.references.objects (Some (new_object kind.Session [])) in
       let fresh = next_fresh script S h.rows in
       let none = fresh.count in
       record {
         made = omega arith;
-        later = h.rows.sized.first;
+        later = h.rows.references.sized.first;
         other = λ same. absurd (omega arith);
         fresh = fresh.session;
         alone = record { no_session = fresh.linked; no_server = ap link_of fresh.session };
@@ -94,30 +94,30 @@ module _ (script : Script) (S : State) (t : ObjNo) (row : ThreadRow) (instr : In
         unowed = omega arith;
         server = ap is_some is;
         accepts = ap closes is ∙ accepts;
-        alive = subst IsAlive (sym (get_or_append_left S.objects (Some (new_object kind.Session []) ∷ []) None o.0 within)) alive;
+        alive = subst IsAlive (sym (get_or_append_left S.references.objects (Some (new_object kind.Session []) ∷ []) None o.0 within)) alive;
       }
 
   -- the thread is there then, and its step is the same
   kept_there : (i number : ℕ) → thread_of (moved t (move.Keep t number) (joined i)) t ≡ Some (with_kept number row)
-  kept_there i number = row-here S.threads t (with_kept number) t.0 refl ∙ ap (option_map (with_kept number)) h.is
+  kept_there i number = row-here S.references.threads t (with_kept number) t.0 refl ∙ ap (option_map (with_kept number)) h.is
 
   down_there : (i number : ℕ) → thread_of (put_down i number) t ≡ Some (with_use None (with_kept number row))
-  down_there i number = row-here (moved t (move.Keep t number) (joined i)).threads t (with_use None) t.0 refl ∙ ap (option_map (with_use None)) (kept_there i number)
+  down_there i number = row-here (moved t (move.Keep t number) (joined i)).references.threads t (with_use None) t.0 refl ∙ ap (option_map (with_use None)) (kept_there i number)
 
   -- one session more is there, and none more is used
   spare_made : (i number : ℕ) → HasSpare (put_down i number)
   spare_made i number =
       let s = next_object S in
-      let sized = h.rows.servers.sessions_sized in
+      let sized = h.rows.serving.servers.sessions_sized in
       let fresh = (next_fresh script S h.rows).session in
       let new = new_session o slots t in
-      let first = fewer-with_row sending_bit S.threads t (with_kept number) (λ r at. omega arith) in
-      let second = fewer-with_row sending_bit (moved t (move.Keep t number) (joined i)).threads t (with_use None) (λ r at. omega arith) in
-      let opens = total-set open_bit S.servers.sessions s.0 (Some new) None (omega arith) in
-      let there = total-set session_bit S.servers.sessions s.0 (Some new) None (omega arith) in
-      let none : open_bit (session_at S.servers s) ≡ 0 = ap open_bit fresh in
-      let no_row : session_bit (session_at S.servers s) ≡ 0 = ap session_bit fresh in
-      let few = h.rows.messages.few in omega arith
+      let first = fewer-with_row sending_bit S.references.threads t (with_kept number) (λ r at. omega arith) in
+      let second = fewer-with_row sending_bit (moved t (move.Keep t number) (joined i)).references.threads t (with_use None) (λ r at. omega arith) in
+      let opens = total-set open_bit S.serving.servers.sessions s.0 (Some new) None (omega arith) in
+      let there = total-set session_bit S.serving.servers.sessions s.0 (Some new) None (omega arith) in
+      let none : open_bit (session_at S.serving.servers s) ≡ 0 = ap open_bit fresh in
+      let no_row : session_bit (session_at S.serving.servers s) ≡ 0 = ap session_bit fresh in
+      let few = h.rows.serving.messages.few in omega arith
 
   goes_on : (i number : ℕ) → MayGoOn script (put_down i number) t (Some part.Send)
   goes_on i number = record {
@@ -128,50 +128,50 @@ module _ (script : Script) (S : State) (t : ObjNo) (row : ThreadRow) (instr : In
     ends = λ r at. let same_row : with_use None (with_kept number row) ≡ r = (let there = down_there i number in cc) in subst (λ (x : ThreadRow). begun x.part ≤ 0) same_row (omega arith);
   }
 
-  fits-made : (i number : ℕ) → IsFree S (InThread t i) → FitsDecision serving script t S (make_session t o slots (next_object S) (Some (record { holder = InThread t i; number = number })))
+  fits-made : (i number : ℕ) → IsFree S (InThread t i) → FitsDecision calling script t S (make_session t o slots (next_object S) (Some (record { holder = InThread t i; number = number })))
   fits-made i number free = record {
     each = (
-      (record { room = room; new = refl }, free, λ e. refl),
+      (record { room = room; new = refl }, free, λ e. refl, refl),
       (
         may_join i,
-        (tt, ((refl, record { thread = ap is_some (kept_there i number); going = ap (λ (r : Option ThreadRow). is_returning (part_of r)) (kept_there i number) ∙ going }), ((goes_on i number, spare_made i number), tt))),
+        (refl, ((refl, record { thread = ap is_some (kept_there i number); going = ap (λ (r : Option ThreadRow). is_returning (part_of r)) (kept_there i number) ∙ going }), ((goes_on i number, spare_made i number, refl), tt))),
       ),
     );
     told = omega arith;
     light = omega arith;
-    regular = regular-moves _ refl (tame-at serving _ refl refl);
+    regular = regular-moves _ refl refl (tame-at calling _ refl refl);
   }
 
-fits-connect_make : {script : Script} {S : State} {t : ObjNo} {row : ThreadRow} {instr : Instr} (slots : Slots) (uses : Option ObjNo) → IsStepping script S t row instr → row.part ≡ Some part.Make → row.uses ≡ uses → FitsDecision serving script t S (connect_make S t slots uses)
+fits-connect_make : {script : Script} {S : State} {t : ObjNo} {row : ThreadRow} {instr : Instr} (slots : Slots) (uses : Option ObjNo) → IsStepping script S t row instr → row.part ≡ Some part.Make → row.uses ≡ uses → FitsDecision calling script t S (connect_make S t slots uses)
 fits-connect_make {script = script} {S = S} {t = t} slots None h at e = fits-nothing script S t
-fits-connect_make {script = script} {S = S} {t = t} {row = row} {instr = instr} slots (Some o) h at e = by (server_at S.servers o) refl
+fits-connect_make {script = script} {S = S} {t = t} {row = row} {instr = instr} slots (Some o) h at e = by (server_at S.serving.servers o) refl
   where
-    by : (server : Option ServerRow) → server_at S.servers o ≡ server → FitsDecision serving script t S (connect_to S t slots o server)
+    by : (server : Option ServerRow) → server_at S.serving.servers o ≡ server → FitsDecision calling script t S (connect_to S t slots o server)
     by None is = fits-nothing script S t
     by (Some server) is =
-        if_cases (FitsDecision serving script t S) server.is_closing _ _ (λ _. fits-refuse (Of word.Connect part.Make) refl error.ServerTerminated h)
-        (λ accepts. if_cases (FitsDecision serving script t S) (length S.objects == OBJECTS) _ _ (λ _. fits-refuse (Of word.Connect part.Make) refl error.Overflow h)
-        (λ room. of_thread_handle (λ handle. FitsDecision serving script t S (make_session t o slots (next_object S) handle)) h (fits-refuse (Of word.Connect part.Make) refl error.Overflow h)
+        if_cases (FitsDecision calling script t S) server.is_closing _ _ (λ _. fits-refuse (Of word.Connect part.Make) refl error.ServerTerminated h)
+        (λ accepts. if_cases (FitsDecision calling script t S) (length S.references.objects == OBJECTS) _ _ (λ _. fits-refuse (Of word.Connect part.Make) refl error.Overflow h)
+        (λ room. of_thread_handle (λ handle. FitsDecision calling script t S (make_session t o slots (next_object S) handle)) h (fits-refuse (Of word.Connect part.Make) refl error.Overflow h)
         (fits-made script S t row instr o slots h (ap is_returning at) server is accepts (room_left h room) (use_is_alive S t row o h.rows.lives h.is e) (ap begun at))))
 
 -- the connection fails, and the handle goes
-fits-fail : {script : Script} {S : State} {t : ObjNo} {row : ThreadRow} {instr : Instr} (p : Part) (named : may_tell serving (Of word.Connect p) ≡ true) (s : ObjNo) (code : ℤ) → IsStepping script S t row instr → is_returning row.part ≡ false → session_made S t row ≡ Some s → FitsDecision serving script t S (fail_connect t row p s code)
+fits-fail : {script : Script} {S : State} {t : ObjNo} {row : ThreadRow} {instr : Instr} (p : Part) (named : may_tell calling (Of word.Connect p) ≡ true) (s : ObjNo) (code : ℤ) → IsStepping script S t row instr → is_returning row.part ≡ false → session_made S t row ≡ Some s → FitsDecision calling script t S (fail_connect t row p s code)
 fits-fail {script = script} {S = S} {t = t} {row = row} p named s code h going is =
     let holder = holder_of t row row.found in
     let handle = handle_named row.found s h is in
-    fits-answers (Of word.Connect p) named (move.Lose holder s ∷ []) code (tame-at serving _ refl refl) (((owes_more h going).going, handle.holds S refl (λ x. refl)), tt) ((stays-lose script t holder s).at S (at_instruction h)) (omega arith) (omega arith)
+    fits-answers (Of word.Connect p) named (move.Lose holder s ∷ []) code (tame-at calling _ refl refl) (((owes_more h going).going, handle.holds S refl (λ x. refl), handle.own), tt) ((stays-lose script t holder s).at S (at_instruction h)) (omega arith) (omega arith)
 
 -- a thread waits for the reply to a message, with any rows of servers
 abbrev awaiting : State → ObjNo → ServerRows → State
-awaiting S t servers = record (moved t (move.Wait t waiting.Reply) (moved t (move.GoOn t part.Done) S)) { servers = servers }
+awaiting S t servers = record (moved t (move.Wait t waiting.Reply) (moved t (move.GoOn t part.Done) S)) { serving = record S.serving { servers = servers } }
 
 awaits_there : {script : Script} {S : State} {t : ObjNo} {row : ThreadRow} {instr : Instr} (servers : ServerRows) → IsStepping script S t row instr → thread_of (awaiting S t servers) t ≡ Some (with_waiting waiting.Reply (with_part part.Done row))
 awaits_there {S = S} {t = t} servers h =
-    let first = row-here S.threads t (with_part part.Done) t.0 refl ∙ ap (option_map (with_part part.Done)) h.is in
-    row-here (moved t (move.GoOn t part.Done) S).threads t (with_waiting waiting.Reply) t.0 refl ∙ ap (option_map (with_waiting waiting.Reply)) first
+    let first = row-here S.references.threads t (with_part part.Done) t.0 refl ∙ ap (option_map (with_part part.Done)) h.is in
+    row-here (moved t (move.GoOn t part.Done) S).references.threads t (with_waiting waiting.Reply) t.0 refl ∙ ap (option_map (with_waiting waiting.Reply)) first
 
 -- and sends it
-may_call : {script : Script} {S : State} {t : ObjNo} {row : ThreadRow} {instr : Instr} (servers : ServerRows) (s o : ObjNo) → IsStepping script S t row instr → is_returning row.part ≡ false → begun row.part ≡ 0 → total open_bit servers.sessions ≤ total open_bit S.servers.sessions + 1 → open_server S s ≡ Some o → IsAlive (object_of S s) → is_some (get_or servers.sessions s.0 None) ≡ true → MayPost script S (awaiting S t servers) t s o Sync
+may_call : {script : Script} {S : State} {t : ObjNo} {row : ThreadRow} {instr : Instr} (servers : ServerRows) (s o : ObjNo) → IsStepping script S t row instr → is_returning row.part ≡ false → begun row.part ≡ 0 → total open_bit servers.sessions ≤ total open_bit S.serving.servers.sessions + 1 → open_server S s ≡ Some o → IsAlive (object_of S s) → is_some (get_or servers.sessions s.0 None) ≡ true → MayPost script S (awaiting S t servers) t s o Sync
 may_call {script = script} {S = S} {t = t} {row = row} servers s o h going first opens accepts alive session =
     let there = awaits_there servers h in
     record {
@@ -187,11 +187,11 @@ may_call {script = script} {S = S} {t = t} {row = row} servers s o h going first
       messages = refl;
       session = session;
       owes = record { thread = ap is_some there; going = ap (λ (r : Option ThreadRow). is_returning (part_of r)) there };
-      others = λ u apart. row-other (moved t (move.GoOn t part.Done) S).threads t (with_waiting waiting.Reply) u.0 apart ∙ row-other S.threads t (with_part part.Done) u.0 apart;
+      others = λ u apart. row-other (moved t (move.GoOn t part.Done) S).references.threads t (with_waiting waiting.Reply) u.0 apart ∙ row-other S.references.threads t (with_part part.Done) u.0 apart;
       slot = refl;
       number =
-          let waits = fewer-with_row numbers_left (moved t (move.GoOn t part.Done) S).threads t (with_waiting waiting.Reply) (λ r at. omega arith) in
-          let left = fewer-left h first in let numbered = h.rows.messages.numbered in omega arith;
+          let waits = fewer-with_row numbers_left (moved t (move.GoOn t part.Done) S).references.threads t (with_waiting waiting.Reply) (λ r at. omega arith) in
+          let left = fewer-left h first in let numbered = h.rows.serving.messages.numbered in omega arith;
       sends = (stepping_uncalled h going, λ r is. let same_row : with_waiting waiting.Reply (with_part part.Done row) ≡ r = cc in ap (λ (x : ThreadRow). x.waiting) (sym same_row));
     }
 
@@ -202,14 +202,14 @@ last_step h = record { unused = λ r is e. absurd (cc); paid = λ e. absurd (cc)
 -- `connect` opens its session
 opens_spare : {script : Script} {S : State} {t : ObjNo} {row : ThreadRow} {instr : Instr} → IsStepping script S t row instr → row.part ≡ Some part.Send → HasSpare (moved t (move.GoOn t part.Done) S)
 opens_spare {S = S} {t = t} {row = row} h at =
-    let all = total-with sending_bit (option_map (with_part part.Done)) None S.threads t.0 refl in
+    let all = total-with sending_bit (option_map (with_part part.Done)) None S.references.threads t.0 refl in
     let old : sending_bit (thread_of S t) ≡ 1 = ap sending_bit h.is ∙ ap is_sending at in
     let new : sending_bit (option_map (with_part part.Done) (thread_of S t)) ≡ 0 = ap (λ (r : Option ThreadRow). sending_bit (option_map (with_part part.Done) r)) h.is in
-    let few = h.rows.messages.few in omega arith
+    let few = h.rows.serving.messages.few in omega arith
 
 -- and has a number
 opens_number : {script : Script} {S : State} {t : ObjNo} {row : ThreadRow} {instr : Instr} → IsStepping script S t row instr → row.part ≡ Some part.Send → HasNumber (moved t (move.GoOn t part.Done) S)
-opens_number h at = let left = fewer-left h (ap begun at) in let numbered = h.rows.messages.numbered in omega arith
+opens_number h at = let left = fewer-left h (ap begun at) in let numbered = h.rows.serving.messages.numbered in omega arith
 
 open_one : (x : Option SessionRow) → open_bit x ≤ 1
 open_one x = by (was_opened x)
@@ -218,50 +218,50 @@ open_one x = by (was_opened x)
     by true = omega arith
     by false = omega arith
 
-fits-connect_send : {script : Script} {S : State} {t : ObjNo} {row : ThreadRow} {instr : Instr} (made : Option ObjNo) → IsStepping script S t row instr → is_returning row.part ≡ false → row.part ≡ Some part.Send → session_made S t row ≡ made → FitsDecision serving script t S (connect_send S t row made)
+fits-connect_send : {script : Script} {S : State} {t : ObjNo} {row : ThreadRow} {instr : Instr} (made : Option ObjNo) → IsStepping script S t row instr → is_returning row.part ≡ false → row.part ≡ Some part.Send → session_made S t row ≡ made → FitsDecision calling script t S (connect_send S t row made)
 fits-connect_send {script = script} {S = S} {t = t} None h going at is = fits-nothing script S t
 fits-connect_send {script = script} {S = S} {t = t} {row = row} (Some s) h going at is = fits-unless (Of word.Connect part.Send) refl _ h (λ none. by none (open_server S s) refl)
   where
-    by : held_by S.nano t ≡ None → (server : Option ObjNo) → open_server S s ≡ server → FitsDecision serving script t S (send_connect S t row s server)
+    by : held_by S.synchronization.nano t ≡ None → (server : Option ObjNo) → open_server S s ≡ server → FitsDecision calling script t S (send_connect S t row s server)
     by none None accepts = fits-fail part.Send refl s (error_code error.ServerTerminated) h going is
     by none (Some o) accepts =
         let handle = handle_named row.found s h is in
-        let servers = (moved t (move.Servers (SetOpen s true)) S).servers in
+        let servers = (moved t (move.Servers (SetOpen s true)) S).serving.servers in
         let session = open_session S s o accepts in
-        let bits = total-with open_bit (option_map (opened true)) None S.servers.sessions s.0 refl in
-        let bit = open_one (option_map (opened true) (session_at S.servers s)) in
-        let opens : total open_bit servers.sessions ≤ total open_bit S.servers.sessions + 1 = omega arith in
-        let sends = posts script S (awaiting S t servers) t s o connects no_args Sync refl (may_call servers s o h going (ap begun at) opens accepts (handle_is_alive S handle.owner handle.index s h.rows.lives handle.slot) (mapped-some (opened true) S.servers.sessions s.0 s.0 ∙ session)) in
+        let bits = total-with open_bit (option_map (opened true)) None S.serving.servers.sessions s.0 refl in
+        let bit = open_one (option_map (opened true) (session_at S.serving.servers s)) in
+        let opens : total open_bit servers.sessions ≤ total open_bit S.serving.servers.sessions + 1 = omega arith in
+        let sends = posts script S (awaiting S t servers) t s o connects no_args Sync refl (may_call servers s o h going (ap begun at) opens accepts (handle_is_alive S handle.owner handle.index s h.rows.lives handle.slot) (mapped-some (opened true) S.serving.servers.sessions s.0 s.0 ∙ session)) in
         record {
-          each = ((last_step h, tt), ((session, opens_spare h at, opens_number h at), ((none, stepping_nowhere h, live-changed S (moved t (move.GoOn t part.Done) S) t (with_part part.Done) (λ r. refl) refl (stepping_live h going), λ r is live. stepping_uncalled h going), sends.each)));
+          each = ((last_step h, tt, refl), ((session, opens_spare h at, opens_number h at), ((none, stepping_nowhere h, live-changed S (moved t (move.GoOn t part.Done) S) t (with_part part.Done) (λ r. refl) refl (stepping_live h going), λ r is live. stepping_uncalled h going), sends.each)));
           told = let few = sends.told in omega arith;
           light = let few = sends.light in omega arith;
-          regular = regular-moves _ refl (tame-both (move.GoOn t part.Done ∷ move.Servers (SetOpen s true) ∷ move.Wait t waiting.Reply ∷ []) _ (tame-moves _ refl refl) sends.calm);
+          regular = regular-moves _ refl refl (tame-both (move.GoOn t part.Done ∷ move.Servers (SetOpen s true) ∷ move.Wait t waiting.Reply ∷ []) _ (tame-going _ refl refl refl) (tame-calling sends.calm));
         }
 
-fits-connect_done : {script : Script} {S : State} {t : ObjNo} {row : ThreadRow} {instr : Instr} (x : ℕ) (made : Option ObjNo) → IsStepping script S t row instr → is_returning row.part ≡ false → x < 8 → session_made S t row ≡ made → FitsDecision serving script t S (connect_done S t row x made)
+fits-connect_done : {script : Script} {S : State} {t : ObjNo} {row : ThreadRow} {instr : Instr} (x : ℕ) (made : Option ObjNo) → IsStepping script S t row instr → is_returning row.part ≡ false → x < 8 → session_made S t row ≡ made → FitsDecision calling script t S (connect_done S t row x made)
 fits-connect_done {script = script} {S = S} {t = t} x None h going register is = fits-nothing script S t
 fits-connect_done {script = script} {S = S} {t = t} {row = row} x (Some s) h going register is =
-    if_cases (FitsDecision serving script t S) (int_eq (reply_of S.requests t) (pos 0)) _ _
-    (λ _. fits-handle (Of word.Connect part.Done) refl [] x row.found (tame-moves _ refl refl) h register tt refl (omega arith) (omega arith)) (λ _. fits-fail part.Done refl s (reply_of S.requests t) h going is)
+    if_cases (FitsDecision calling script t S) (int_eq (reply_of S.synchronization.requests t) (pos 0)) _ _
+    (λ _. fits-handle (Of word.Connect part.Done) refl [] x row.found (tame-moves _ refl refl) h register tt refl (omega arith) (omega arith)) (λ _. fits-fail part.Done refl s (reply_of S.synchronization.requests t) h going is)
 
 pub fits-connect : {script : Script} {S : State} {t : ObjNo} {row : ThreadRow} (name : List ℕ) (slots : Slots) (x : ℕ) (p : Option Part) → IsStepping script S t row (instr.Connect name slots x) → is_returning row.part ≡ false → row.part ≡ p → FitsDecision (kind_of (instr.Connect name slots x) p) script t S (connect_step S t row name slots x p)
-fits-connect name slots x None h going at = fits-unless (Of word.Connect part.Seek) refl _ h (λ _. fits-seek word.Connect kind.Server name h (ap is_before_use at))
+fits-connect name slots x None h going at = fits-unless (Of word.Connect part.Seek) refl _ h (λ _. fits-seek word.Connect kind.Server name refl h (ap is_before_use at))
 fits-connect {row = row} name slots x (Some part.Make) h going at = fits-connect_make slots row.uses h at refl
 fits-connect {S = S} {t = t} {row = row} name slots x (Some part.Send) h going at = fits-connect_send (session_made S t row) h going at refl
 fits-connect {S = S} {t = t} {row = row} name slots x (Some _) h going at = fits-connect_done x (session_made S t row) h going h.registers refl
 
 pub fits-connect_return : {script : Script} {S : State} {t : ObjNo} {row : ThreadRow} {instr : Instr} → IsStepping script S t row instr → is_before_use row.part ≡ true → FitsDecision looking script t S (connect_return S t row)
-fits-connect_return h before = fits-return word.Connect part.Make refl h before refl tt
+fits-connect_return h before = fits-return word.Connect part.Make refl refl h before refl tt
 
 -- `send`
-fits-send_to : {script : Script} {S : State} {t : ObjNo} {row : ThreadRow} {instr : Instr} (s : ObjNo) (function : ℤ) (y : ℕ) (args : List Arg) (server : Option ObjNo) → IsStepping script S t row instr → is_returning row.part ≡ false → begun row.part ≡ 0 → y < 16 → is_pending S.requests t y ≡ false → length args ≡ 4 → IsAlive (object_of S s) → open_server S s ≡ server → FitsDecision serving script t S (send_to S t s function y args server)
+fits-send_to : {script : Script} {S : State} {t : ObjNo} {row : ThreadRow} {instr : Instr} (s : ObjNo) (function : ℤ) (y : ℕ) (args : List Arg) (server : Option ObjNo) → IsStepping script S t row instr → is_returning row.part ≡ false → begun row.part ≡ 0 → y < 16 → is_pending S.synchronization.requests t y ≡ false → length args ≡ 4 → IsAlive (object_of S s) → open_server S s ≡ server → FitsDecision calling script t S (send_to S t s function y args server)
 fits-send_to s function y args None h going first small done four alive accepts = fits-refuse (Of word.Send part.Do) refl error.ServerTerminated h
 fits-send_to {script = script} {S = S} {t = t} {row = row} s function y args (Some o) h going first small done four alive accepts =
-    if_cases (FitsDecision serving script t S) (is_full S.messages s (slots_of S s)) _ _ (λ _. fits-refuse (Of word.Send part.Do) refl error.ServerBusy h)
+    if_cases (FitsDecision calling script t S) (is_full S.serving.messages s (slots_of S s)) _ _ (λ _. fits-refuse (Of word.Send part.Do) refl error.ServerBusy h)
     (λ left.
     let pending = moved t (move.Requests (SetPending t y)) (moved t (move.GoOn t part.Done) S) in
-    let there = row-here S.threads t (with_part part.Done) t.0 refl ∙ ap (option_map (with_part part.Done)) h.is in
+    let there = row-here S.references.threads t (with_part part.Done) t.0 refl ∙ ap (option_map (with_part part.Done)) h.is in
     let ms = post S t s o function args (Async y) in
     let sends = posts script S pending t s o function args (Async y) four (record {
       rows = h.rows;
@@ -276,43 +276,43 @@ fits-send_to {script = script} {S = S} {t = t} {row = row} s function y args (So
       messages = refl;
       session = open_session S s o accepts;
       owes = record { thread = ap is_some there; going = ap (λ (r : Option ThreadRow). is_returning (part_of r)) there };
-      others = λ u apart. row-other S.threads t (with_part part.Done) u.0 apart;
+      others = λ u apart. row-other S.references.threads t (with_part part.Done) u.0 apart;
       slot = left;
-      number = let left = fewer-left h first in let numbered = h.rows.messages.numbered in omega arith;
-      sends = ((set_awaited (length S.threads) S.requests t y h.rows.requests (has_signals h) small done, not_logged (length S.threads) S.requests S.logons t y h.rows.logons done), not_sent script S t y h.rows done);
+      number = let left = fewer-left h first in let numbered = h.rows.serving.messages.numbered in omega arith;
+      sends = ((set_awaited (length S.references.threads) S.synchronization.requests t y h.rows.synchronization.requests (has_signals h) small done, not_logged (length S.references.threads) S.synchronization.requests S.synchronization.logons t y h.rows.synchronization.logons done), not_sent script S t y h.rows done);
     }) in
-    fits-answers (Of word.Send part.Do) refl (move.GoOn t part.Done ∷ move.Requests (SetPending t y) ∷ ms) (pos 0) (tame-both (move.GoOn t part.Done ∷ move.Requests (SetPending t y) ∷ []) ms (tame-moves _ refl refl) sends.calm) ((last_step h, tt), (((has_signals h, small), tt), sends.each))
+    fits-answers (Of word.Send part.Do) refl (move.GoOn t part.Done ∷ move.Requests (SetPending t y) ∷ ms) (pos 0) (tame-both (move.GoOn t part.Done ∷ move.Requests (SetPending t y) ∷ []) ms (tame-going _ refl refl refl) (tame-calling sends.calm)) ((last_step h, tt, refl), (((has_signals h, small), tt), sends.each))
     (stay-perform script t (move.GoOn t part.Done ∷ move.Requests (SetPending t y) ∷ ms) S (stays-go_on script t _ _, (stays-requests script t _, stay-post script S t s o function args (Async y))) (at_instruction h)) (let few = sends.told in omega arith) (let few = sends.light in omega arith))
 
 pub fits-send : {script : Script} {S : State} {t : ObjNo} {row : ThreadRow} (x n y : ℕ) (args : Args) (p : Option Part) → IsStepping script S t row (instr.Send x n y args) → is_returning row.part ≡ false → row.part ≡ p → FitsDecision (kind_of (instr.Send x n y args) p) script t S (send_step S t row x n y args p)
 fits-send {script = script} {S = S} {t = t} x n y args None h going at =
-    if_cases (FitsDecision looking script t S) (is_pending S.requests t y) _ _ (λ _. fits-refuse (Of word.Send part.Look) refl error.InUse h) (λ _. fits-look_kind kind.Session word.Send x refl h (ap is_before_use at))
+    if_cases (FitsDecision looking script t S) (is_pending S.synchronization.requests t y) _ _ (λ _. fits-refuse (Of word.Send part.Look) refl error.InUse h) (λ _. fits-look_kind kind.Session word.Send x refl refl h (ap is_before_use at))
 fits-send {script = script} {S = S} {t = t} x n y args (Some part.Done) h going at = fits-nothing script S t
 fits-send {script = script} {S = S} {t = t} {row = row} x n y args (Some p) h going at = over row.uses refl
   where
-    over : (uses : Option ObjNo) → row.uses ≡ uses → FitsDecision serving script t S (send_do S t (pos n) y (args_of args) uses)
+    over : (uses : Option ObjNo) → row.uses ≡ uses → FitsDecision calling script t S (send_do S t (pos n) y (args_of args) uses)
     over None e = fits-nothing script S t
     over (Some s) e =
-        if_cases (FitsDecision serving script t S) (is_pending S.requests t y) _ _ (λ _. fits-nothing script S t)
+        if_cases (FitsDecision calling script t S) (is_pending S.synchronization.requests t y) _ _ (λ _. fits-nothing script S t)
         (λ done. fits-send_to s (pos n) y (args_of args) (open_server S s) h going (ap begun at) (let few = send_small x n y args h.ranges in omega arith) done refl (use_is_alive S t row s h.rows.lives h.is e) refl)
 
 -- `call`
-fits-call_to : {script : Script} {S : State} {t : ObjNo} {row : ThreadRow} {instr : Instr} (s : ObjNo) (function : ℤ) (args : List Arg) (server : Option ObjNo) → IsStepping script S t row instr → is_returning row.part ≡ false → begun row.part ≡ 0 → held_by S.nano t ≡ None → length args ≡ 4 → IsAlive (object_of S s) → open_server S s ≡ server → FitsDecision serving script t S (call_to S t s function args server)
+fits-call_to : {script : Script} {S : State} {t : ObjNo} {row : ThreadRow} {instr : Instr} (s : ObjNo) (function : ℤ) (args : List Arg) (server : Option ObjNo) → IsStepping script S t row instr → is_returning row.part ≡ false → begun row.part ≡ 0 → held_by S.synchronization.nano t ≡ None → length args ≡ 4 → IsAlive (object_of S s) → open_server S s ≡ server → FitsDecision calling script t S (call_to S t s function args server)
 fits-call_to s function args None h going first none four alive accepts = fits-refuse (Of word.Call part.Do) refl error.ServerTerminated h
 fits-call_to {script = script} {S = S} {t = t} s function args (Some o) h going first none four alive accepts =
-    let sends = posts script S (awaiting S t S.servers) t s o function args Sync four (may_call S.servers s o h going first (omega arith) accepts alive (open_session S s o accepts)) in
+    let sends = posts script S (awaiting S t S.serving.servers) t s o function args Sync four (may_call S.serving.servers s o h going first (omega arith) accepts alive (open_session S s o accepts)) in
     record {
-      each = ((last_step h, tt), ((none, stepping_nowhere h, live-changed S (moved t (move.GoOn t part.Done) S) t (with_part part.Done) (λ r. refl) refl (stepping_live h going), λ r is live. stepping_uncalled h going), sends.each));
+      each = ((last_step h, tt, refl), ((none, stepping_nowhere h, live-changed S (moved t (move.GoOn t part.Done) S) t (with_part part.Done) (λ r. refl) refl (stepping_live h going), λ r is live. stepping_uncalled h going), sends.each));
       told = let few = sends.told in omega arith;
       light = let few = sends.light in omega arith;
-      regular = regular-moves _ refl (tame-both (move.GoOn t part.Done ∷ move.Wait t waiting.Reply ∷ []) _ (tame-moves _ refl refl) sends.calm);
+      regular = regular-moves _ refl refl (tame-both (move.GoOn t part.Done ∷ move.Wait t waiting.Reply ∷ []) _ (tame-going _ refl refl refl) (tame-calling sends.calm));
     }
 
 pub fits-call : {script : Script} {S : State} {t : ObjNo} {row : ThreadRow} {i : Instr} (x n : ℕ) (args : Args) (p : Option Part) → IsStepping script S t row i → is_returning row.part ≡ false → row.part ≡ p → FitsDecision (kind_of (instr.Call x n args) p) script t S (call_step S t row x n args p)
-fits-call x n args None h going at = fits-unless (Of word.Call part.Look) refl _ h (λ _. fits-look_kind kind.Session word.Call x refl h (ap is_before_use at))
+fits-call x n args None h going at = fits-unless (Of word.Call part.Look) refl _ h (λ _. fits-look_kind kind.Session word.Call x refl refl h (ap is_before_use at))
 fits-call {script = script} {S = S} {t = t} {row = row} x n args (Some part.Do) h going at = over row.uses refl
   where
-    over : (uses : Option ObjNo) → row.uses ≡ uses → FitsDecision serving script t S (call_do S t (pos n) (args_of args) uses)
+    over : (uses : Option ObjNo) → row.uses ≡ uses → FitsDecision calling script t S (call_do S t (pos n) (args_of args) uses)
     over None e = fits-nothing script S t
     over (Some s) e = fits-unless (Of word.Call part.Do) refl _ h (λ none. fits-call_to s (pos n) (args_of args) (open_server S s) h going (ap begun at) none refl (use_is_alive S t row s h.rows.lives h.is e) refl)
-fits-call {S = S} {t = t} x n args (Some _) h going at = fits-answer (Of word.Call part.Done) refl (reply_of S.requests t) h
+fits-call {S = S} {t = t} x n args (Some _) h going at = fits-answer (Of word.Call part.Done) refl (reply_of S.synchronization.requests t) h

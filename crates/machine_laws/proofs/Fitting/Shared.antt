@@ -30,7 +30,7 @@ use Rattle.machine.specs.WellFormed.{IsAlive, is_before_use, is_spent}
 use Rattle.move_laws.proofs.Lists.Cases.{if_cases}
 use Rattle.move_laws.proofs.RowLaws.Tables.{free_index_inside, object_of_is}
 use Rattle.machine_laws.proofs.Fitting.Regular.{IsTame, Kinds, plain}
-use Rattle.machine_laws.proofs.Fitting.Tame.{may_tell, tame, tame-moves}
+use Rattle.machine_laws.proofs.Fitting.Tame.{may_tell, tame, tame-moves, regular-moves, tame-going}
 use Rattle.machine_laws.proofs.Fitting.Living.{handle_is_alive, open_is_alive, found_inside}
 use Rattle.machine_laws.proofs.Fitting.Stepping.{FitsDecision, IsStepping, fits-refuse, fits-use, fits-handle, may_go_on, at_instruction, unspent}
 use Rattle.state_rows.specs.declared.thread.Stage.{Stage}
@@ -41,31 +41,31 @@ use Rattle.move_laws.proofs.Lists.Totals.{total_at_least, inside}
 use Rattle.std.proofs.lemmas.Bool.{eq-eqb}
 
 -- a look at a handle
-pub fits-look : {k : Kinds} {script : Script} {S : State} {t : ObjNo} {row : ThreadRow} {instr : Instr} (word : Word) (x : ℕ) → k.uses ≡ true → IsStepping script S t row instr → is_before_use row.part ≡ true → FitsDecision k script t S (look S t row word x)
-fits-look {k = k} {script = script} {S = S} {t = t} {row = row} word x uses h before = found (object_at S t row (slice_index row.registers x)) refl
+pub fits-look : {k : Kinds} {script : Script} {S : State} {t : ObjNo} {row : ThreadRow} {instr : Instr} (word : Word) (x : ℕ) → k.uses ≡ true → k.goes ≡ true → IsStepping script S t row instr → is_before_use row.part ≡ true → FitsDecision k script t S (look S t row word x)
+fits-look {k = k} {script = script} {S = S} {t = t} {row = row} word x uses goes h before = found (object_at S t row (slice_index row.registers x)) refl
   where
     found : (named : Option ObjNo) → object_at S t row (slice_index row.registers x) ≡ named → FitsDecision k script t S (look_at t word named)
     found None e = fits-refuse (Of word Look) refl BadHandle h
-    found (Some o) e = fits-use (Of word Look) refl o Do uses h before refl tt (handle_is_alive S _ _ o h.rows.lives (object_of_is _ _ _ o e))
+    found (Some o) e = fits-use (Of word Look) refl o Do uses goes h before refl tt (handle_is_alive S _ _ o h.rows.lives (object_of_is _ _ _ o e))
 
 -- a find by name
-pub fits-seek : {k : Kinds} {script : Script} {S : State} {t : ObjNo} {row : ThreadRow} {instr : Instr} (word : Word) (kind : Kind) (name : List ℕ) → IsStepping script S t row instr → is_before_use row.part ≡ true → FitsDecision k script t S (seek S t word kind name)
-fits-seek {k = k} {script = script} {S = S} {t = t} word kind name h before = found (find_object S kind name) refl
+pub fits-seek : {k : Kinds} {script : Script} {S : State} {t : ObjNo} {row : ThreadRow} {instr : Instr} (word : Word) (kind : Kind) (name : List ℕ) → k.goes ≡ true → IsStepping script S t row instr → is_before_use row.part ≡ true → FitsDecision k script t S (seek S t word kind name)
+fits-seek {k = k} {script = script} {S = S} {t = t} word kind name goes h before = found (find_object S kind name) refl
   where
     found : (named : Option ObjNo) → find_object S kind name ≡ named → FitsDecision k script t S (seek_object t word named)
     found None e = fits-refuse (Of word Seek) refl NotFound h
-    found (Some o) e = record { each = (may_go_on Return h before tt, (found_inside S kind name o e, tt)); told = omega arith; light = omega arith; regular = tame _ refl }
+    found (Some o) e = record { each = (may_go_on Return h before tt, ((found_inside S kind name o e, refl), tt)); told = omega arith; light = omega arith; regular = regular-moves _ refl refl (tame-going _ goes refl refl) }
 
 -- and its return
-pub fits-return : {k : Kinds} {script : Script} {S : State} {t : ObjNo} {row : ThreadRow} {instr : Instr} (word : Word) (part : Part) → k.uses ≡ true → IsStepping script S t row instr → is_before_use row.part ≡ true → is_before_use (Some part) ≡ false → MaySend (Some part) S → FitsDecision k script t S (return_to S t row word part)
-fits-return {k = k} {script = script} {S = S} {t = t} {row = row} word part uses h before later sends =
+pub fits-return : {k : Kinds} {script : Script} {S : State} {t : ObjNo} {row : ThreadRow} {instr : Instr} (word : Word) (part : Part) → k.uses ≡ true → k.goes ≡ true → IsStepping script S t row instr → is_before_use row.part ≡ true → is_before_use (Some part) ≡ false → MaySend (Some part) S → FitsDecision k script t S (return_to S t row word part)
+fits-return {k = k} {script = script} {S = S} {t = t} {row = row} word part uses goes h before later sends =
     if_cases (FitsDecision k script t S) (is_open (object_of S (found_object row))) _ _
-    (λ e. fits-use (Of word Return) refl (found_object row) part uses h before later sends (open_is_alive (object_of S (found_object row)) e))
+    (λ e. fits-use (Of word Return) refl (found_object row) part uses goes h before later sends (open_is_alive (object_of S (found_object row)) e))
     (λ _. missed (is_live row.stage))
   where
     missed : (live : Bool) → FitsDecision k script t S (miss t word part (found_object row) live)
     missed true = record { each = (tt, ((refl, at_instruction h), tt)); told = omega arith; light = omega arith; regular = tame _ refl }
-    missed false = record { each = (may_go_on part h before sends, (tt, tt)); told = omega arith; light = omega arith; regular = tame _ refl }
+    missed false = record { each = (may_go_on part h before sends, (tt, tt)); told = omega arith; light = omega arith; regular = regular-moves _ refl refl (tame-going _ goes refl refl) }
 
 -- a thread of its process isn't cleaned: itself
 not_cleaned : (stage : Stage) → is_spent stage ≡ false → stage_left stage ≡ 1
@@ -73,9 +73,9 @@ not_cleaned Live e = refl
 not_cleaned Doomed e = refl
 not_cleaned _ e = absurd (cc)
 
-some-left : {script : Script} {S : State} {t : ObjNo} {row : ThreadRow} {instr : Instr} → IsStepping script S t row instr → 0 < total (left_of row.process) S.threads
+some-left : {script : Script} {S : State} {t : ObjNo} {row : ThreadRow} {instr : Instr} → IsStepping script S t row instr → 0 < total (left_of row.process) S.references.threads
 some-left {S = S} {t = t} {row = row} h =
-    let here = total_at_least (left_of row.process) S.threads t.0 None (inside S.threads t.0 row h.is) in
+    let here = total_at_least (left_of row.process) S.references.threads t.0 None (inside S.references.threads t.0 row h.is) in
     let one : left_of row.process (Some row) ≡ 1 = ap (λ (b : Bool). if b then stage_left row.stage else 0) (eq-eqb row.process.0 row.process.0 refl) ∙ not_cleaned row.stage (unspent h row h.is) in
     let own : left_of row.process (thread_of S t) ≡ 1 = ap (left_of row.process) h.is ∙ one in omega arith
 
@@ -84,7 +84,7 @@ pub of_process_handle : {script : Script} {S : State} {t : ObjNo} {row : ThreadR
     → ((i number : ℕ) → IsFree S (InProcess row.process i) → P (Some (record { holder = InProcess row.process i; number = number }))) → P (process_handle S row.process)
 of_process_handle {S = S} {t = t} {row = row} P h none some =
     let table = table_of S row.process in
-    if_cases P (is_full table) _ _ (λ _. none) (λ room. some (free_index table) (new_handle false table) (h.rows.threads.processes t.0 row h.is, record { inside = free_index_inside table room; least = refl }, some-left h))
+    if_cases P (is_full table) _ _ (λ _. none) (λ room. some (free_index table) (new_handle false table) (h.rows.references.threads.processes t.0 row h.is, record { inside = free_index_inside table room; least = refl }, some-left h))
 
 pub of_thread_handle : {script : Script} {S : State} {t : ObjNo} {row : ThreadRow} {instr : Instr} (P : Option NewHandle → Type 0) → IsStepping script S t row instr → P None
     → ((i number : ℕ) → IsFree S (InThread t i) → P (Some (record { holder = InThread t i; number = number }))) → P (thread_handle S t)
@@ -93,15 +93,15 @@ of_thread_handle {S = S} {t = t} P h none some =
     if_cases P (is_full table) _ _ (λ _. none) (λ room. some (free_index table) (new_handle true table) (ap is_some h.is, record { inside = free_index_inside table room; least = refl }, unspent h))
 
 -- a handle of a living object
-pub fits-give : {k : Kinds} {script : Script} {S : State} {t : ObjNo} {row : ThreadRow} {instr : Instr} (told : Step) (named : may_tell k told ≡ true) (o : ObjNo) (x : ℕ) → IsStepping script S t row instr → x < 8 → IsAlive (object_of S o) → FitsDecision k script t S (give_handle t told o x (process_handle S row.process))
-fits-give {k = k} {script = script} {S = S} {t = t} {row = row} told named o x h register alive =
+pub fits-give : {k : Kinds} {script : Script} {S : State} {t : ObjNo} {row : ThreadRow} {instr : Instr} (told : Step) (named : may_tell k told ≡ true) (o : ObjNo) (x : ℕ) → k.goes ≡ true → IsStepping script S t row instr → x < 8 → IsAlive (object_of S o) → FitsDecision k script t S (give_handle t told o x (process_handle S row.process))
+fits-give {k = k} {script = script} {S = S} {t = t} {row = row} told named o x goes h register alive =
     of_process_handle (λ handle. FitsDecision k script t S (give_handle t told o x handle)) h (fits-refuse told named Overflow h)
-    (λ i number free. fits-handle told named (Gain (InProcess row.process i) o ∷ []) x number (tame-moves _ refl refl) h register ((free, alive), tt) refl (omega arith) (omega arith))
+    (λ i number free. fits-handle told named (Gain (InProcess row.process i) o ∷ []) x number (tame-going _ goes refl refl) h register ((free, alive, tt), tt) refl (omega arith) (omega arith))
 
-pub fits-give_own : {k : Kinds} {script : Script} {S : State} {t : ObjNo} {row : ThreadRow} {instr : Instr} (told : Step) (named : may_tell k told ≡ true) (o : ObjNo) (x : ℕ) → IsStepping script S t row instr → x < 8 → IsAlive (object_of S o) → FitsDecision k script t S (give_handle t told o x (thread_handle S t))
-fits-give_own {k = k} {script = script} {S = S} {t = t} told named o x h register alive =
+pub fits-give_own : {k : Kinds} {script : Script} {S : State} {t : ObjNo} {row : ThreadRow} {instr : Instr} (told : Step) (named : may_tell k told ≡ true) (o : ObjNo) (x : ℕ) → k.goes ≡ true → IsStepping script S t row instr → x < 8 → IsAlive (object_of S o) → FitsDecision k script t S (give_handle t told o x (thread_handle S t))
+fits-give_own {k = k} {script = script} {S = S} {t = t} told named o x goes h register alive =
     of_thread_handle (λ handle. FitsDecision k script t S (give_handle t told o x handle)) h (fits-refuse told named Overflow h)
-    (λ i number free. fits-handle told named (Gain (InThread t i) o ∷ []) x number (tame-moves _ refl refl) h register ((free, alive), tt) refl (omega arith) (omega arith))
+    (λ i number free. fits-handle told named (Gain (InThread t i) o ∷ []) x number (tame-going _ goes refl refl) h register ((free, alive, refl), tt) refl (omega arith) (omega arith))
 
 -- a move that tells one effect at most, owes nothing, and is tame in any kind
 pub record IsCheap (m : Move) : Type 0 where

@@ -57,16 +57,16 @@ pub stays-wake : (script : Script) (t u : ObjNo) → Stays script t (move.Wake u
 stays-wake script t u = record { at = λ S at. at-with_row script S (moved t (move.Wake u) S) t u (with_waiting waiting.Nothing) (record { role = λ r. refl; next = λ r. refl }) refl at }
 
 -- the loss of a reference
-stays-unlinked : (script : Script) (S T : State) (t o : ObjNo) (last : Bool) → T.threads ≡ threads_closed last o S.threads → IsAtInstruction script S t → IsAtInstruction script T t
+stays-unlinked : (script : Script) (S T : State) (t o : ObjNo) (last : Bool) → T.references.threads ≡ threads_closed last o S.references.threads → IsAtInstruction script S t → IsAtInstruction script T t
 stays-unlinked script S T t o true same at = at-with_row script S T t o unlinked (record { role = λ r. refl; next = λ r. refl }) same at
 stays-unlinked script S T t o false same at = record { row = at.row; is = ap (λ (threads : List (Option ThreadRow)). get_or threads t.0 None) same ∙ at.is; next = at.next }
 
-stays-lost : (script : Script) (S T : State) (t : ObjNo) (h : Holder) → T.threads ≡ threads_lose h S.threads → IsAtInstruction script S t → IsAtInstruction script T t
+stays-lost : (script : Script) (S T : State) (t : ObjNo) (h : Holder) → T.references.threads ≡ threads_lose h S.references.threads → IsAtInstruction script S t → IsAtInstruction script T t
 stays-lost script S T t (Temp u) same at = at-with_row script S T t u (with_use None) (record { role = λ r. refl; next = λ r. refl }) same at
 stays-lost script S T t _ same at = record { row = at.row; is = ap (λ (threads : List (Option ThreadRow)). get_or threads t.0 None) same ∙ at.is; next = at.next }
 
 pub stays-lose : (script : Script) (t : ObjNo) (h : Holder) (o : ObjNo) → Stays script t (move.Lose h o)
-stays-lose script t h o = record { at = λ S at. stays-unlinked script (record S { threads = threads_lose h S.threads }) (moved t (move.Lose h o) S) t o (dies S o) refl (stays-lost script S (record S { threads = threads_lose h S.threads }) t h refl at) }
+stays-lose script t h o = record { at = λ S at. stays-unlinked script (record S { references = record S.references { threads = threads_lose h S.references.threads } }) (moved t (move.Lose h o) S) t o (dies S o) refl (stays-lost script S (record S { references = record S.references { threads = threads_lose h S.references.threads } }) t h refl at) }
 
 -- what finishes a message
 stay-end_wait : (script : Script) (S : State) (t u : ObjNo) (s : ℕ) (row : Option ThreadRow) → AllStay script t (end_wait S u s row)

@@ -70,15 +70,15 @@ pub record IsStepping (script : Script) (S : State) (t : ObjNo) (row : ThreadRow
   pub ranges : is_source_line (line.Instr instr) ≡ true
   pub live : is_returning row.part ≡ false → row.stage ≡ Live
   pub waits : row.waiting ≡ waiting.Nothing
-  pub free : wanted_holder S.nano t ≡ None
+  pub free : wanted_holder S.synchronization.nano t ≡ None
   pub early : row.next_instruction < 16384
 
 pub fits-nothing : {k : Kinds} (script : Script) (S : State) (t : ObjNo) → FitsDecision k script t S nothing
 fits-nothing script S t = record { each = tt; told = omega arith; light = omega arith; regular = tame _ refl }
 
 -- such a thread has a request semaphore
-pub has_signals : {script : Script} {S : State} {t : ObjNo} {row : ThreadRow} {instr : Instr} → IsStepping script S t row instr → t.0 < length S.requests.signals
-has_signals {S = S} {t = t} {row = row} h = let within = inside S.threads t.0 row h.is in let long = h.rows.requests.sized in omega arith
+pub has_signals : {script : Script} {S : State} {t : ObjNo} {row : ThreadRow} {instr : Instr} → IsStepping script S t row instr → t.0 < length S.synchronization.requests.signals
+has_signals {S = S} {t = t} {row = row} h = let within = inside S.references.threads t.0 row h.is in let long = h.rows.synchronization.requests.sized in omega arith
 
 -- and serves no queue, since it has an instruction
 pub serves_none : (script : Script) (role : Role) (n : ℕ) → n < length (instructions_of script role) → served_queue role ≡ None
@@ -90,9 +90,9 @@ pub at_instruction : {script : Script} {S : State} {t : ObjNo} {row : ThreadRow}
 at_instruction {row = row} h = record { row = row; is = h.is; next = h.next }
 
 -- its last step leaves two messages fewer to its instructions
-pub fewer-left : {script : Script} {S : State} {t : ObjNo} {row : ThreadRow} {instr : Instr} → IsStepping script S t row instr → begun row.part ≡ 0 → total numbers_left (with_row S.threads t (with_part Done)) + 2 ≤ total numbers_left S.threads
+pub fewer-left : {script : Script} {S : State} {t : ObjNo} {row : ThreadRow} {instr : Instr} → IsStepping script S t row instr → begun row.part ≡ 0 → total numbers_left (with_row S.references.threads t (with_part Done)) + 2 ≤ total numbers_left S.references.threads
 fewer-left {S = S} {t = t} {row = row} h first =
-    let all = total-with numbers_left (option_map (with_part Done)) None S.threads t.0 refl in
+    let all = total-with numbers_left (option_map (with_part Done)) None S.references.threads t.0 refl in
     let old : numbers_left (thread_of S t) ≡ 2 * (16384 - (row.next_instruction + 0)) = ap numbers_left h.is ∙ ap (λ (n : ℕ). 2 * (16384 - (row.next_instruction + n))) first in
     let new : numbers_left (option_map (with_part Done) (thread_of S t)) ≡ 2 * (16384 - (row.next_instruction + 1)) = ap (λ (r : Option ThreadRow). numbers_left (option_map (with_part Done) r)) h.is in
     let early = h.early in omega arith
@@ -103,9 +103,9 @@ pub record KeepsInstruction (f : ThreadRow → ThreadRow) : Type 0 where
   pub next : (row : ThreadRow) → (f row).next_instruction ≡ row.next_instruction
 
 -- a thread is at its instruction still
-pub at-with_row : (script : Script) (S T : State) (t u : ObjNo) (f : ThreadRow → ThreadRow) → KeepsInstruction f → T.threads ≡ with_row S.threads u f → IsAtInstruction script S t → IsAtInstruction script T t
+pub at-with_row : (script : Script) (S T : State) (t u : ObjNo) (f : ThreadRow → ThreadRow) → KeepsInstruction f → T.references.threads ≡ with_row S.references.threads u f → IsAtInstruction script S t → IsAtInstruction script T t
 at-with_row script S T t u f keeps threads at =
-    let r = row-kept S.threads u f t.0 at.row (λ (row : ThreadRow). row.next_instruction < length (instructions_of script row.role))
+    let r = row-kept S.references.threads u f t.0 at.row (λ (row : ThreadRow). row.next_instruction < length (instructions_of script row.role))
     (λ row h. rw (keeps.role row, keeps.next row) h) at.is at.next in
     record { row = r.0; is = ap (λ (threads : List (Option ThreadRow)). get_or threads t.0 None) threads ∙ r.1; next = r.2 }
 
@@ -117,7 +117,7 @@ pub unspent : {script : Script} {S : State} {t : ObjNo} {row : ThreadRow} {instr
 unspent {script = script} {S = S} {t = t} {row = row} h = λ r is. let same_row : row ≡ r = let a = h.is in cc in subst (λ (x : ThreadRow). is_spent x.stage ≡ false) same_row (own (is_returning row.part) refl)
   where
     back : (spent : Bool) → is_spent row.stage ≡ spent → is_returning row.part ≡ true → is_spent row.stage ≡ false
-    back true is returns = let going = (h.rows.spent.rows t.0 row h.is is).going in absurd (cc)
+    back true is returns = let going = (h.rows.references.spent.rows t.0 row h.is is).going in absurd (cc)
     back false is returns = is
 
     own : (returns : Bool) → is_returning row.part ≡ returns → is_spent row.stage ≡ false
@@ -128,13 +128,13 @@ unspent {script = script} {S = S} {t = t} {row = row} h = λ r is. let same_row 
 pub stepping_live : {script : Script} {S : State} {t : ObjNo} {row : ThreadRow} {instr : Instr} → IsStepping script S t row instr → is_returning row.part ≡ false → IsLive S t
 stepping_live {row = row} h going = λ r is. let same_row : row ≡ r = let a = h.is in cc in subst (λ (x : ThreadRow). x.stage ≡ Live) same_row (h.live going)
 
-pub live_thread : {script : Script} {S : State} {t : ObjNo} {row : ThreadRow} {instr : Instr} → IsStepping script S t row instr → is_returning row.part ≡ false → IsLiveThread S.threads t
+pub live_thread : {script : Script} {S : State} {t : ObjNo} {row : ThreadRow} {instr : Instr} → IsStepping script S t row instr → is_returning row.part ≡ false → IsLiveThread S.references.threads t
 live_thread {row = row} h going = record { row = row; is = h.is; live = h.live going }
 
 -- and stays so where its row changes otherwise
-pub live-changed : (S T : State) (t : ObjNo) (f : ThreadRow → ThreadRow) → ((row : ThreadRow) → (f row).stage ≡ row.stage) → T.threads ≡ with_row S.threads t f → IsLive S t → IsLive T t
+pub live-changed : (S T : State) (t : ObjNo) (f : ThreadRow → ThreadRow) → ((row : ThreadRow) → (f row).stage ≡ row.stage) → T.references.threads ≡ with_row S.references.threads t f → IsLive S t → IsLive T t
 live-changed S T t f keeps same h = λ r is.
-    let was = map_some f (thread_of S t) r (sym (row-here S.threads t f t.0 refl) ∙ (ap (λ (threads : List (Option ThreadRow)). get_or threads t.0 None) (sym same) ∙ is)) in
+    let was = map_some f (thread_of S t) r (sym (row-here S.references.threads t f t.0 refl) ∙ (ap (λ (threads : List (Option ThreadRow)). get_or threads t.0 None) (sym same) ∙ is)) in
     subst (λ (x : ThreadRow). x.stage ≡ Live) was.2 (keeps was.0 ∙ h was.0 was.1)
 
 -- a step before the use of anything is the last of no instruction
@@ -144,33 +144,34 @@ before_begins (Some Return) e = refl
 before_begins (Some _) e = absurd (cc)
 
 -- a thread that made no step but a find goes on to a step
-pub may_go_on : {script : Script} {S : State} {t : ObjNo} {row : ThreadRow} {instr : Instr} (part : Part) → IsStepping script S t row instr → is_before_use row.part ≡ true → MaySend (Some part) S → MayGoOn script S t (Some part) × MaySend (Some part) S
+pub may_go_on : {script : Script} {S : State} {t : ObjNo} {row : ThreadRow} {instr : Instr} (part : Part) → IsStepping script S t row instr → is_before_use row.part ≡ true → MaySend (Some part) S → MayGoOn script S t (Some part) × MaySend (Some part) S × (t ≡ t)
 may_go_on {S = S} {t = t} {row = row} part h before sends = (
   record {
-    unused = λ r is _. let same_row : row ≡ r = let a = h.is in cc in subst (λ (x : ThreadRow). x.uses ≡ None) same_row ((h.rows.threads.rows t.0 row h.is).unused before);
+    unused = λ r is _. let same_row : row ≡ r = let a = h.is in cc in subst (λ (x : ThreadRow). x.uses ≡ None) same_row ((h.rows.references.threads.rows t.0 row h.is).unused before);
     paid = λ _. h.paid;
     unspent = unspent h;
     at = λ _. at_instruction h;
     ends = λ r is. let same_row : row ≡ r = let a = h.is in cc in subst (λ (x : ThreadRow). begun x.part ≤ begun (Some part)) same_row (let none = before_begins row.part before in omega arith);
   },
   sends,
+  refl,
 )
 
 -- and uses an object from then on
-pub fits-use : {k : Kinds} {script : Script} {S : State} {t : ObjNo} {row : ThreadRow} {instr : Instr} (told : Step) (named : may_tell k told ≡ true) (o : ObjNo) (part : Part) → k.uses ≡ true → IsStepping script S t row instr → is_before_use row.part ≡ true → is_before_use (Some part) ≡ false → MaySend (Some part) S → IsAlive (object_of S o) → FitsDecision k script t S (go_on t told (Gain (Temp t) o) part)
-fits-use {script = script} {S = S} {t = t} {row = row} told named o part uses h before later sends alive = record {
-  each = (may_go_on part h before sends, ((free, alive), tt));
+pub fits-use : {k : Kinds} {script : Script} {S : State} {t : ObjNo} {row : ThreadRow} {instr : Instr} (told : Step) (named : may_tell k told ≡ true) (o : ObjNo) (part : Part) → k.uses ≡ true → k.goes ≡ true → IsStepping script S t row instr → is_before_use row.part ≡ true → is_before_use (Some part) ≡ false → MaySend (Some part) S → IsAlive (object_of S o) → FitsDecision k script t S (go_on t told (Gain (Temp t) o) part)
+fits-use {script = script} {S = S} {t = t} {row = row} told named o part uses goes h before later sends alive = record {
+  each = (may_go_on part h before sends, ((free, alive, refl), tt));
   told = omega arith;
   light = omega arith;
-  regular = regular-use t told o part named uses;
+  regular = regular-use t told o part named uses goes;
 }
   where
     free : IsFree (moved t (GoOn t part) S) (Temp t)
     free = record {
       row = with_part part row;
-      is = row-here S.threads t (with_part part) t.0 refl ∙ ap (option_map (with_part part)) h.is;
+      is = row-here S.references.threads t (with_part part) t.0 refl ∙ ap (option_map (with_part part)) h.is;
       later = later;
-      unused = (h.rows.threads.rows t.0 row h.is).unused before;
+      unused = (h.rows.references.threads.rows t.0 row h.is).unused before;
       unspent = unspent h row h.is;
       paid = λ x. ap (total (owed_by (Temp t) x)) h.paid;
     }
@@ -207,7 +208,7 @@ answers_step {script = script} {S = S} {t = t} told named ms code calm each at f
     record { each = fits-both script S t ms (Advance t ∷ []) each ((refl, at), tt); told = omega arith; light = omega arith; regular = regular-answer told ms code named calm }
 
 -- a new handle's number, after moves that fit and leave the threads
-pub fits-handle : {k : Kinds} {script : Script} {S : State} {t : ObjNo} {row : ThreadRow} {instr : Instr} (told : Step) (named : may_tell k told ≡ true) (ms : List Move) (x number : ℕ) → IsTame k 0 ms → IsStepping script S t row instr → x < 8 → EachFits script t ms S → (perform t ms S).threads ≡ S.threads → total most_told ms ≤ 4 → total most_owed ms ≤ 8 → FitsDecision k script t S (answer_handle t told ms x number)
+pub fits-handle : {k : Kinds} {script : Script} {S : State} {t : ObjNo} {row : ThreadRow} {instr : Instr} (told : Step) (named : may_tell k told ≡ true) (ms : List Move) (x number : ℕ) → IsTame k 0 ms → IsStepping script S t row instr → x < 8 → EachFits script t ms S → (perform t ms S).references.threads ≡ S.references.threads → total most_told ms ≤ 4 → total most_owed ms ≤ 8 → FitsDecision k script t S (answer_handle t told ms x number)
 fits-handle {script = script} {S = S} {t = t} told named ms x number calm h register each stays few light =
     let more = Write t x number ∷ [] in
     let all_told = total-append most_told ms more in

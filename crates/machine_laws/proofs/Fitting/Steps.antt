@@ -1,8 +1,8 @@
 -- The steps of each instruction.
-use Rattle.std.proofs.Common.{◌≡◌, ◌≢◌, ℕ, ◌<◌, ◌≤◌, List, ◌∷◌, length, arith, refl, ap, Option, Some, None, Bool, true, false, []}
+use Rattle.std.proofs.Common.{◌≡◌, ◌≢◌, ℕ, ◌<◌, ◌≤◌, List, ◌∷◌, arith, refl, ap, Option, Some, None, Bool, true, false, []}
 use Rattle.std.proofs.lemmas.Bool.{eq-eqb}
 use Rattle.std.proofs.lemmas.List.{length_push}
-use Rattle.std.specs.Prelude.{pos, ◌==◌, if◌then◌else◌, is_some, slice_index}
+use Rattle.std.specs.Prelude.{pos, if◌then◌else◌, is_some, slice_index}
 use Rattle.sym_base.specs.declared.error.Error.TheVariants.{AlreadyExists, Overflow, PermissionDenied, BadHandle}
 use Rattle.sym_base.specs.declared.kind.Kind.{Kind}
 use Rattle.sym_base.specs.declared.kind.Kind.TheVariants.{Mutex, Semaphore}
@@ -29,7 +29,7 @@ use Rattle.machine.specs.Handles.{object_at, holder_of}
 use Rattle.state_rows.specs.HandleSlots.{slot_at}
 use Rattle.state_rows.specs.HandleNumbers.{index_of, is_local}
 use Rattle.machine.specs.Closing.{close_moves}
-use Rattle.machine.specs.Moves.{moved, perform, next_object, new_object}
+use Rattle.machine.specs.Moves.{moved, perform, next_object, new_object, no_number_left}
 use Rattle.move_laws.proofs.Lives.Fresh.{next_fresh}
 use Rattle.machine.specs.References.{stage_holds, total}
 use Rattle.machine.specs.Close.{close_do, close_handle}
@@ -50,13 +50,13 @@ use Rattle.machine_laws.proofs.Fitting.KernelThreads.{fits-unless}
 use Rattle.machine_laws.proofs.Fitting.Stepping.{FitsDecision, FitsStep, IsStepping, answers_step, at_instruction, by_kinds, fits-handle, fits-nothing, fits-refuse}
 use Rattle.machine_laws.proofs.Fitting.Staying.{stay-perform}
 use Rattle.machine_laws.proofs.Fitting.Shared.{fits-look, fits-seek, fits-return, fits-give, fits-give_own, of_process_handle}
-use Rattle.machine_laws.proofs.Fitting.Regular.{IsTame, looking, plain, serving}
-use Rattle.machine_laws.proofs.Fitting.Tame.{may_tell, tame-both, tame-in, tame-moves}
+use Rattle.machine_laws.proofs.Fitting.Regular.{IsTame, looking, plain, calling}
+use Rattle.machine_laws.proofs.Fitting.Tame.{may_tell, tame-both, tame-in, tame-moves, tame-going}
 
 -- what follows the making of an object fits then, leaves the threads, and is tame
 record Begins (script : Script) (t : ObjNo) (start : Option LockMove) (T : State) : Type 0 where
   pub each : EachFits script t (start_moves start) T
-  pub threads : (perform t (start_moves start) T).threads ≡ T.threads
+  pub threads : (perform t (start_moves start) T).references.threads ≡ T.references.threads
   pub calm : IsTame plain 0 (start_moves start)
 
 start_told : (start : Option LockMove) → total most_told (start_moves start) ≤ 3
@@ -68,22 +68,22 @@ start_owed None = omega arith
 start_owed (Some m) = let few = lock-owes m in omega arith
 
 -- there is room for an object where objects aren't full
-pub room_left : {script : Script} {S : State} {t : ObjNo} {row : ThreadRow} {instr : Instr} → IsStepping script S t row instr → (length S.objects == OBJECTS) ≡ false → length S.objects < OBJECTS
-room_left {S = S} h room = let few = h.rows.sized.objects_few in let apart : length S.objects ≢ OBJECTS = λ e. cc (eq-eqb (length S.objects) OBJECTS e) in omega arith
+pub room_left : {script : Script} {S : State} {t : ObjNo} {row : ThreadRow} {instr : Instr} → IsStepping script S t row instr → no_number_left S ≡ false → (next_object S).0 < OBJECTS
+room_left {S = S} h room = let few = h.rows.references.sized.objects_few in let apart : (next_object S).0 ≢ OBJECTS = λ e. cc (eq-eqb (next_object S).0 OBJECTS e) in omega arith
 
 -- `create`
 fits-create : {script : Script} {S : State} {t : ObjNo} {row : ThreadRow} {instr : Instr} (kind : Kind) (name : List ℕ) (start : Option LockMove) (x : ℕ) → HasName kind name → IsStepping script S t row instr → x < 8
     → ((i : ℕ) → Begins script t start (moved t (Make kind name (InProcess row.process i)) S)) → FitsDecision looking script t S (create_do S t row kind name start x)
 fits-create {script = script} {S = S} {t = t} {row = row} kind name start x named h register begins =
-    if_cases (FitsDecision looking script t S) (is_taken kind name S.objects) _ _ (λ _. fits-refuse (Of word.Create part.Do) refl AlreadyExists h)
-    (λ new. if_cases (FitsDecision looking script t S) (length S.objects == OBJECTS) _ _ (λ _. fits-refuse (Of word.Create part.Do) refl Overflow h)
+    if_cases (FitsDecision looking script t S) (is_taken kind name S.references.objects) _ _ (λ _. fits-refuse (Of word.Create part.Do) refl AlreadyExists h)
+    (λ new. if_cases (FitsDecision looking script t S) (no_number_left S) _ _ (λ _. fits-refuse (Of word.Create part.Do) refl Overflow h)
     (λ room. of_process_handle (λ handle. FitsDecision looking script t S (make_with_handle t kind name start x handle)) h (fits-refuse (Of word.Create part.Do) refl Overflow h) (made new (room_left h room))))
   where
-    made : is_taken kind name S.objects ≡ false → length S.objects < OBJECTS → (i number : ℕ) → IsFree S (InProcess row.process i) → FitsDecision looking script t S (make_with_handle t kind name start x (Some (record { holder = InProcess row.process i; number = number })))
+    made : is_taken kind name S.references.objects ≡ false → (next_object S).0 < OBJECTS → (i number : ℕ) → IsFree S (InProcess row.process i) → FitsDecision looking script t S (make_with_handle t kind name start x (Some (record { holder = InProcess row.process i; number = number })))
     made new room i number free =
         let told = start_told start in
         let owed = start_owed start in
-        fits-handle (Of word.Create part.Do) refl (Make kind name (InProcess row.process i) ∷ start_moves start) x number (tame-both (Make kind name (InProcess row.process i) ∷ []) (start_moves start) (tame-moves _ refl refl) (tame-in (begins i).calm)) h register ((record { room = room; new = new }, free, named), (begins i).each) (begins i).threads (omega arith) (omega arith)
+        fits-handle (Of word.Create part.Do) refl (Make kind name (InProcess row.process i) ∷ start_moves start) x number (tame-both (Make kind name (InProcess row.process i) ∷ []) (start_moves start) (tame-going _ refl refl refl) (tame-in (begins i).calm)) h register ((record { room = room; new = new }, free, named, tt), (begins i).each) (begins i).references.threads (omega arith) (omega arith)
 
 pub fits-create_mutex : {script : Script} {S : State} {t : ObjNo} {row : ThreadRow} (name : List ℕ) (x : ℕ) → IsStepping script S t row (instr.CreateMutex name x) → FitsDecision looking script t S (create_mutex_do S t row name x)
 fits-create_mutex name x h = fits-create Mutex name None x (λ e. absurd (cc)) h h.registers (λ i. record { each = tt; threads = refl; calm = tame-moves [] refl refl })
@@ -92,7 +92,7 @@ pub fits-create_semaphore : {script : Script} {S : State} {t : ObjNo} {row : Thr
 fits-create_semaphore {script = script} {S = S} name count x h = fits-create Semaphore name (Some (Start (next_object S) count)) x (λ e. absurd (cc)) h h.registers (λ i. record {
   each = (
     record {
-      object = let longer = length_push S.objects (Some (new_object Semaphore name)) in omega arith;
+      object = let longer = length_push S.references.objects (Some (new_object Semaphore name)) in omega arith;
       few = count_few name count x h.ranges;
       free = (next_fresh script S h.rows).owner;
       alone = (next_fresh script S h.rows).waiters;
@@ -112,41 +112,41 @@ fits-dup_do {script = script} {S = S} {t = t} {row = row} word named y handle (S
     (λ _. given o (use_is_alive S t row o h.rows.lives h.is e))
 
 pub fits-dup : {script : Script} {S : State} {t : ObjNo} {row : ThreadRow} {instr : Instr} (x y : ℕ) (p : Option Part) → IsStepping script S t row instr → y < 8 → row.part ≡ p → FitsDecision looking script t S (dup_step S t row x y p)
-fits-dup x y None h register at = fits-look word.Dup x refl h (ap is_before_use at)
-fits-dup {row = row} x y (Some p) h register at = fits-dup_do word.Dup refl y _ row.uses h refl (λ o alive. fits-give (Of word.Dup part.Do) refl o y h register alive)
+fits-dup x y None h register at = fits-look word.Dup x refl refl h (ap is_before_use at)
+fits-dup {row = row} x y (Some p) h register at = fits-dup_do word.Dup refl y _ row.uses h refl (λ o alive. fits-give (Of word.Dup part.Do) refl o y refl h register alive)
 
 pub fits-duplocal : {script : Script} {S : State} {t : ObjNo} {row : ThreadRow} {instr : Instr} (x y : ℕ) (p : Option Part) → IsStepping script S t row instr → y < 8 → row.part ≡ p → FitsDecision looking script t S (duplocal_step S t row x y p)
-fits-duplocal x y None h register at = fits-look word.Duplocal x refl h (ap is_before_use at)
-fits-duplocal {row = row} x y (Some p) h register at = fits-dup_do word.Duplocal refl y _ row.uses h refl (λ o alive. fits-give_own (Of word.Duplocal part.Do) refl o y h register alive)
+fits-duplocal x y None h register at = fits-look word.Duplocal x refl refl h (ap is_before_use at)
+fits-duplocal {row = row} x y (Some p) h register at = fits-dup_do word.Duplocal refl y _ row.uses h refl (λ o alive. fits-give_own (Of word.Duplocal part.Do) refl o y refl h register alive)
 
 -- `open`
 fits-open_do : {script : Script} {S : State} {t : ObjNo} {row : ThreadRow} {instr : Instr} (x : ℕ) (uses : Option ObjNo) → IsStepping script S t row instr → x < 8 → row.uses ≡ uses → FitsDecision looking script t S (open_do S t row x uses)
 fits-open_do {script = script} {S = S} {t = t} x None h register e = fits-nothing script S t
-fits-open_do {S = S} {t = t} {row = row} x (Some o) h register e = fits-give (Of word.Open part.Do) refl o x h register (use_is_alive S t row o h.rows.lives h.is e)
+fits-open_do {S = S} {t = t} {row = row} x (Some o) h register e = fits-give (Of word.Open part.Do) refl o x refl h register (use_is_alive S t row o h.rows.lives h.is e)
 
 pub fits-open : {script : Script} {S : State} {t : ObjNo} {row : ThreadRow} {instr : Instr} (kind : Kind) (name : List ℕ) (x : ℕ) (p : Option Part) → IsStepping script S t row instr → x < 8 → row.part ≡ p → FitsDecision looking script t S (open_step S t row kind name x p)
-fits-open kind name x None h register at = fits-unless (Of word.Open part.Seek) refl _ h (λ _. fits-seek word.Open kind name h (ap is_before_use at))
+fits-open kind name x None h register at = fits-unless (Of word.Open part.Seek) refl _ h (λ _. fits-seek word.Open kind name refl h (ap is_before_use at))
 fits-open {row = row} kind name x (Some p) h register at = fits-open_do x row.uses h register refl
 
 pub fits-open_return : {script : Script} {S : State} {t : ObjNo} {row : ThreadRow} {instr : Instr} → IsStepping script S t row instr → is_before_use row.part ≡ true → FitsDecision looking script t S (open_return S t row)
-fits-open_return h before = fits-return word.Open part.Do refl h before refl tt
+fits-open_return h before = fits-return word.Open part.Do refl refl h before refl tt
 
 -- the handle of an object stands in the table of the thread or of its process
-handle_by : {script : Script} {S : State} {t : ObjNo} {row : ThreadRow} {instr : Instr} (local : Bool) (i : ℕ) (o : ObjNo) → IsStepping script S t row instr → (slot_at (table_of S (if local then t else row.process)) i).object ≡ Some o → IsHandle S (if local then InThread t i else InProcess row.process i) o
+handle_by : {script : Script} {S : State} {t : ObjNo} {row : ThreadRow} {instr : Instr} (local : Bool) (i : ℕ) (o : ObjNo) → IsStepping script S t row instr → (slot_at (table_of S (if local then t else row.process)) i).object ≡ Some o → IsHandle S t (if local then InThread t i else InProcess row.process i) o
 handle_by {S = S} {t = t} true i o h is = handle_of_thread S t i o (ap is_some h.is) is
-handle_by {S = S} {t = t} {row = row} false i o h is = handle_of_process S row.process i o (h.rows.threads.processes t.0 row h.is) is
+handle_by {S = S} {t = t} {row = row} false i o h is = handle_of_process S row.process i o (h.rows.references.threads.processes t.0 row h.is) is
 
-pub handle_named : {script : Script} {S : State} {t : ObjNo} {row : ThreadRow} {instr : Instr} (handle : ℕ) (o : ObjNo) → IsStepping script S t row instr → object_at S t row handle ≡ Some o → IsHandle S (holder_of t row handle) o
+pub handle_named : {script : Script} {S : State} {t : ObjNo} {row : ThreadRow} {instr : Instr} (handle : ℕ) (o : ObjNo) → IsStepping script S t row instr → object_at S t row handle ≡ Some o → IsHandle S t (holder_of t row handle) o
 handle_named handle o h is = handle_by (is_local handle) (index_of handle) o h (object_of_is _ _ _ o is)
 
 -- `close`
-pub fits-close : {script : Script} {S : State} {t : ObjNo} {row : ThreadRow} {instr : Instr} (x : ℕ) → IsStepping script S t row instr → is_returning row.part ≡ false → FitsStep serving script t S (close_do S t row x)
+pub fits-close : {script : Script} {S : State} {t : ObjNo} {row : ThreadRow} {instr : Instr} (x : ℕ) → IsStepping script S t row instr → is_returning row.part ≡ false → FitsStep calling script t S (close_do S t row x)
 fits-close {script = script} {S = S} {t = t} {row = row} x h going = closed (slice_index row.registers x) (object_at S t row (slice_index row.registers x)) refl
   where
     may_close : MayClose script S t
     may_close = record { rows = h.rows; row = row; is = h.is; waits = h.waits; held = ap stage_holds (h.live going); going = going }
 
-    closed : (handle : ℕ) (named : Option ObjNo) → object_at S t row handle ≡ named → FitsStep serving script t S (close_handle S t row handle named)
+    closed : (handle : ℕ) (named : Option ObjNo) → object_at S t row handle ≡ named → FitsStep calling script t S (close_handle S t row handle named)
     closed handle None e = by_kinds script S t _ (fits-refuse (Of word.Close part.Do) refl BadHandle h)
     closed handle (Some o) e =
         let holder = holder_of t row handle in

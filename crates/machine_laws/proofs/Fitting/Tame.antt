@@ -1,5 +1,5 @@
 -- Moves and decisions of which it can be seen that they are regular for their kind.
-use Rattle.std.proofs.Common.{◌≡◌, ℕ, ℤ, ◌+◌, List, [], ◌∷◌, ◌++◌, arith, refl, sym, ap, ◌∙◌, Bool, true, false, ◌<◌, ◌⊎◌, inl, inr}
+use Rattle.std.proofs.Common.{◌≡◌, ℕ, ℤ, ◌+◌, List, [], ◌∷◌, ◌++◌, arith, refl, sym, ap, ◌∙◌, Bool, true, false, ◌<◌, ◌⊎◌, inl, inr, None}
 use Rattle.std.specs.Prelude.{◌==◌, ◌&&◌, ◌||◌, not}
 use Rattle.std.proofs.lemmas.Bool.{and_parts, eqb-true}
 use Rattle.sym_base.specs.declared.kind.Exit.{Exit}
@@ -24,7 +24,7 @@ use Rattle.machine.specs.EntryWords.{is_clean, is_send, makes_server}
 use Rattle.machine.specs.Steps.{pay}
 use Rattle.move_laws.proofs.Lists.Totals.{total-append}
 use Rattle.move_laws.proofs.References.Same.{eqb_apart, if_not}
-use Rattle.machine_laws.proofs.Fitting.Regular.{Kinds, plain, cleaning_bit, advance_bit, closed_bit, doomed_bit, mutex_bit, serving_bit, gained_bit, use_bit, answer_bit, IsRegular, IsTame}
+use Rattle.machine_laws.proofs.Fitting.Regular.{Kinds, plain, cleaning_bit, advance_bit, closed_bit, doomed_bit, mutex_bit, serving_bit, gained_bit, use_bit, answer_bit, IsRegular, IsTame, going_bit, serving, calling, going, going_late}
 
 -- whether a kind may tell this step: it is no cleaning, no `send` where the kind doesn't serve, and makes no server where it changes mutexes
 abbrev pub may_tell : Kinds → Step → Bool
@@ -46,14 +46,14 @@ using_bit (Gain h o) = holding_bit h
 using_bit _ = 0
 
 abbrev is_tame_move : Kinds → Move → Bool
-is_tame_move k m = (cleaning_bit m + closing_bit m + using_bit m == 0) && ((k.serves || serving_bit m == 0) && (k.locks || mutex_bit m == 0))
+is_tame_move k m = (cleaning_bit m + closing_bit m + using_bit m == 0) && ((k.serves || serving_bit m == 0) && ((k.locks || mutex_bit m == 0) && (k.goes || going_bit m == 0)))
 
 abbrev pub are_tame : Kinds → List Move → Bool
 are_tame k [] = true
 are_tame k (m ∷ ms) = is_tame_move k m && are_tame k ms
 
 abbrev pub is_tame : Kinds → Decision → Bool
-is_tame k d = (total advance_bit d.moves == answer_bit d.answer) && (are_tame plain d.moves && may_tell k d.step)
+is_tame k d = (going_late d.moves == 0) && ((total advance_bit d.moves == answer_bit d.answer) && (are_tame plain d.moves && may_tell k d.step))
 
 second : (x y : Bool) → (x || y) ≡ true → x ≡ false → y ≡ true
 second true y e none = absurd (cc)
@@ -102,8 +102,14 @@ module _ (k : Kinds) (ms : List Move) (e : are_tame k ms ≡ true) where
   abbrev free_move : Move → Bool
   free_move m = k.locks || mutex_bit m == 0
 
+  abbrev staying_move : Move → Bool
+  staying_move m = k.goes || going_bit m == 0
+
+  abbrev rest_move : Move → Bool
+  rest_move m = free_move m && staying_move m
+
   alone-is : (m : Move) → is_tame_move k m ≡ true → cleaning_bit m + closing_bit m + using_bit m ≡ 0
-  alone-is m is = eqb-true (cleaning_bit m + closing_bit m + using_bit m) 0 (and_parts (alone m) (calm_move m && free_move m) is).0
+  alone-is m is = eqb-true (cleaning_bit m + closing_bit m + using_bit m) 0 (and_parts (alone m) (calm_move m && rest_move m) is).0
 
   seen-cleans : total cleaning_bit ms ≡ 0
   seen-cleans = total-none k cleaning_bit (λ m is. let none = alone-is m is in omega arith) ms e
@@ -114,23 +120,39 @@ module _ (k : Kinds) (ms : List Move) (e : are_tame k ms ≡ true) where
       ∙ sym (total-none k (doomed_bit v) (λ m is. doomed-none v m (let none = alone-is m is in omega arith)) ms e)
 
   seen-calm : k.serves ≡ false → total serving_bit ms ≡ 0
-  seen-calm calm = total-none k serving_bit (λ m is. eqb-true (serving_bit m) 0 (second k.serves (serving_bit m == 0) (and_parts (calm_move m) (free_move m) (and_parts (alone m) (calm_move m && free_move m) is).1).0 calm)) ms e
+  seen-calm calm = total-none k serving_bit (λ m is. eqb-true (serving_bit m) 0 (second k.serves (serving_bit m == 0) (and_parts (calm_move m) (rest_move m) (and_parts (alone m) (calm_move m && rest_move m) is).1).0 calm)) ms e
 
   seen-mutexes : k.locks ≡ false → total mutex_bit ms ≡ 0
-  seen-mutexes calm = total-none k mutex_bit (λ m is. eqb-true (mutex_bit m) 0 (second k.locks (mutex_bit m == 0) (and_parts (calm_move m) (free_move m) (and_parts (alone m) (calm_move m && free_move m) is).1).1 calm)) ms e
+  seen-mutexes calm = total-none k mutex_bit (λ m is. eqb-true (mutex_bit m) 0 (second k.locks (mutex_bit m == 0) (and_parts (free_move m) (staying_move m) (and_parts (calm_move m) (rest_move m) (and_parts (alone m) (calm_move m && rest_move m) is).1).1).0 calm)) ms e
+
+  seen-goes : k.goes ≡ false → total going_bit ms ≡ 0
+  seen-goes stays = total-none k going_bit (λ m is. eqb-true (going_bit m) 0 (second k.goes (going_bit m == 0) (and_parts (free_move m) (staying_move m) (and_parts (calm_move m) (rest_move m) (and_parts (alone m) (calm_move m && rest_move m) is).1).1).1 stays)) ms e
 
   seen-uses : (u : ObjNo) → total (use_bit u) ms ≡ 0
   seen-uses u = total-none k (use_bit u) (λ m is. used-none u m (let none = alone-is m is in omega arith)) ms e
 
 -- moves of a kind, and moves that are of any
 pub tame-at : (k : Kinds) {n : ℕ} (ms : List Move) → are_tame k ms ≡ true → total advance_bit ms ≡ n → IsTame k n ms
-tame-at k ms e ends = record { cleans = seen-cleans k ms e; advances = ends; dooms = seen-dooms k ms e; calm = seen-calm k ms e; mutexes = seen-mutexes k ms e; uses = seen-uses k ms e }
+tame-at k ms e ends = record { cleans = seen-cleans k ms e; advances = ends; dooms = seen-dooms k ms e; calm = seen-calm k ms e; mutexes = seen-mutexes k ms e; goes = seen-goes k ms e; uses = seen-uses k ms e }
 
 pub tame-in : {k : Kinds} {n : ℕ} {ms : List Move} → IsTame plain n ms → IsTame k n ms
-tame-in h = record { cleans = h.cleans; advances = h.advances; dooms = h.dooms; calm = λ _. h.calm refl; mutexes = λ _. h.mutexes refl; uses = h.uses }
+tame-in h = record { cleans = h.cleans; advances = h.advances; dooms = h.dooms; calm = λ _. h.calm refl; mutexes = λ _. h.mutexes refl; goes = λ _. h.goes refl; uses = h.uses }
 
 pub tame-moves : {k : Kinds} {n : ℕ} (ms : List Move) → are_tame plain ms ≡ true → total advance_bit ms ≡ n → IsTame k n ms
 tame-moves ms e ends = tame-in (tame-at plain ms e ends)
+
+-- moves by which the thread goes on, in a kind that does
+contrary : (b : Bool) (n : ℕ) → b ≡ true → b ≡ false → n ≡ 0
+contrary b n is not_so = absurd (cc)
+
+pub tame-going : {k : Kinds} {n : ℕ} (ms : List Move) → k.goes ≡ true → are_tame going ms ≡ true → total advance_bit ms ≡ n → IsTame k n ms
+tame-going {k = k} ms goes e ends =
+    let h : IsTame going _ ms = tame-at going ms e ends in
+    record { cleans = h.cleans; advances = h.advances; dooms = h.dooms; calm = λ _. h.calm refl; mutexes = λ _. h.mutexes refl; goes = λ stays. contrary k.goes (total going_bit ms) goes stays; uses = h.uses }
+
+-- what serves, in a step that serves and may go on
+pub tame-calling : {n : ℕ} {ms : List Move} → IsTame serving n ms → IsTame calling n ms
+tame-calling h = record { cleans = h.cleans; advances = h.advances; dooms = h.dooms; calm = λ serves. absurd (cc); mutexes = λ _. h.mutexes refl; goes = λ stays. absurd (cc); uses = h.uses }
 
 pub tame-both : {k : Kinds} {n m : ℕ} (xs ys : List Move) → IsTame k n xs → IsTame k m ys → IsTame k (n + m) (xs ++ ys)
 tame-both xs ys h g = record {
@@ -139,6 +161,7 @@ tame-both xs ys h g = record {
   dooms = λ v. let both = total-append (closed_bit v) xs ys in let all = total-append (doomed_bit v) xs ys in let p = h.dooms v in let q = g.dooms v in omega arith;
   calm = λ e. let both = total-append serving_bit xs ys in let p = h.calm e in let q = g.calm e in omega arith;
   mutexes = λ e. let both = total-append mutex_bit xs ys in let p = h.mutexes e in let q = g.mutexes e in omega arith;
+  goes = λ e. let both = total-append going_bit xs ys in let p = h.goes e in let q = g.goes e in omega arith;
   uses = λ u. let both = total-append (use_bit u) xs ys in let p = h.uses u in let q = g.uses u in omega arith;
 }
 
@@ -146,7 +169,7 @@ doom-closes : (u : ObjNo) (exit : Exit) (v : ObjNo) → total (closed_bit v) (do
 doom-closes u exit v = omega arith
 
 pub tame-doom : {k : Kinds} (u : ObjNo) (exit : Exit) → IsTame k 0 (doom u exit)
-tame-doom u exit = record { cleans = refl; advances = refl; dooms = doom-closes u exit; calm = λ _. refl; mutexes = λ _. refl; uses = λ u. refl }
+tame-doom u exit = record { cleans = refl; advances = refl; dooms = doom-closes u exit; calm = λ _. refl; mutexes = λ _. refl; goes = λ _. refl; uses = λ u. refl }
 
 -- what a kind may tell
 module _ (k : Kinds) (step : Step) (e : may_tell k step ≡ true) where
@@ -163,26 +186,42 @@ module _ (k : Kinds) (step : Step) (e : may_tell k step ≡ true) where
   told-cleans = negated (is_clean step) (and_parts (not (is_send step) || k.serves) (not (is_clean step)) told-parts.1).1
 
 -- a decision of such moves, an answer after them, and a decision whose moves show all
-pub regular-moves : {k : Kinds} {script : Script} {S : State} {t : ObjNo} (d : Decision) → may_tell k d.step ≡ true → IsTame k (answer_bit d.answer) d.moves → IsRegular k script S t d
-regular-moves {k = k} d named h = record {
+late-none : (ms : List Move) → total advance_bit ms ≡ 0 → going_late ms ≡ 0
+late-none [] none = refl
+late-none (Advance u ∷ ms) none = absurd (omega arith)
+late-none (m ∷ ms) none = late-none ms (omega arith)
+
+late-answer : (ms : List Move) (t : ObjNo) → total advance_bit ms ≡ 0 → going_late (ms ++ Advance t ∷ []) ≡ 0
+late-answer [] t none = refl
+late-answer (Advance u ∷ ms) t none = absurd (omega arith)
+late-answer (m ∷ ms) t none = late-answer ms t (omega arith)
+
+regular-by : {k : Kinds} {script : Script} {S : State} {t : ObjNo} (d : Decision) → may_tell k d.step ≡ true → going_late d.moves ≡ 0 → IsTame k (answer_bit d.answer) d.moves → IsRegular k script S t d
+regular-by {k = k} d named last h = record {
   answers = h.advances;
   dooms = h.dooms;
   calm = h.calm;
   making = λ is. h.mutexes (told-makes k d.step named is);
   sends = told-sends k d.step named;
+  goes = h.goes;
+  last = last;
   cleans = λ _. h.cleans;
   known = λ is. let no = told-cleans k d.step named in absurd (cc);
   uses = λ u _. h.uses u;
 }
 
+pub regular-moves : {k : Kinds} {script : Script} {S : State} {t : ObjNo} (d : Decision) → may_tell k d.step ≡ true → d.answer ≡ None → IsTame k (answer_bit d.answer) d.moves → IsRegular k script S t d
+regular-moves d named silent h = regular-by d named (late-none d.moves (h.advances ∙ ap answer_bit silent)) h
+
 pub regular-answer : {k : Kinds} {script : Script} {S : State} {t : ObjNo} (told : Step) (ms : List Move) (code : ℤ) → may_tell k told ≡ true → IsTame k 0 ms → IsRegular k script S t (answer t told ms code)
-regular-answer {t = t} told ms code named h = regular-moves (answer t told ms code) named (tame-both ms (Advance t ∷ []) h (tame-moves (Advance t ∷ []) refl refl))
+regular-answer {t = t} told ms code named h = regular-by (answer t told ms code) named (late-answer ms t h.advances) (tame-both ms (Advance t ∷ []) h (tame-moves (Advance t ∷ []) refl refl))
 
 pub tame : {k : Kinds} {script : Script} {S : State} {t : ObjNo} (d : Decision) → is_tame k d ≡ true → IsRegular k script S t d
 tame {k = k} d e =
-    let parts = and_parts (total advance_bit d.moves == answer_bit d.answer) (are_tame plain d.moves && may_tell k d.step) e in
+    let late = and_parts (going_late d.moves == 0) ((total advance_bit d.moves == answer_bit d.answer) && (are_tame plain d.moves && may_tell k d.step)) e in
+    let parts = and_parts (total advance_bit d.moves == answer_bit d.answer) (are_tame plain d.moves && may_tell k d.step) late.1 in
     let more = and_parts (are_tame plain d.moves) (may_tell k d.step) parts.1 in
-    regular-moves d more.1 (tame-moves d.moves more.0 (eqb-true (total advance_bit d.moves) (answer_bit d.answer) parts.0))
+    regular-by d more.1 (eqb-true (going_late d.moves) 0 late.0) (tame-moves d.moves more.0 (eqb-true (total advance_bit d.moves) (answer_bit d.answer) parts.0))
 
 -- what is owed is paid
 pub regular-pay : {script : Script} {S : State} {t : ObjNo} (what : Owed) → IsRegular plain script S t (pay what)
@@ -190,13 +229,15 @@ regular-pay (Close h o) = tame _ refl
 regular-pay (Sweep o) = tame _ refl
 
 -- a thread comes to use an object, and goes on to another step
-pub regular-use : {k : Kinds} {script : Script} {S : State} (t : ObjNo) (told : Step) (o : ObjNo) (part : Part) → may_tell k told ≡ true → k.uses ≡ true → IsRegular k script S t (go_on t told (Gain (Temp t) o) part)
-regular-use {k = k} t told o part named uses = record {
+pub regular-use : {k : Kinds} {script : Script} {S : State} (t : ObjNo) (told : Step) (o : ObjNo) (part : Part) → may_tell k told ≡ true → k.uses ≡ true → k.goes ≡ true → IsRegular k script S t (go_on t told (Gain (Temp t) o) part)
+regular-use {k = k} t told o part named uses goes = record {
   answers = refl;
   dooms = λ v. refl;
   calm = λ _. refl;
   making = λ _. refl;
   sends = told-sends k told named;
+  goes = λ stays. absurd (cc);
+  last = refl;
   cleans = λ _. refl;
   known = λ is. let unclean = told-cleans k told named in absurd (cc);
   uses = own;

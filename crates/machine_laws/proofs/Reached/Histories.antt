@@ -50,13 +50,13 @@ true-is h = h
 
 -- the chosen actor may act
 pub can_act_chosen : (script : Script) (S : State) (qs : List ObjNo) → IsWellFormed script S qs → CanAct script S (chosen S qs)
-can_act_chosen script S qs formed = by (next_immediate S.deferred) refl
+can_act_chosen script S qs formed = by (next_immediate S.synchronization.deferred) refl
   where
-    thread : next_immediate S.deferred ≡ None → (found : Option ObjNo) → first_ready S qs ≡ found → CanAct script S (actor_of (option_map (in_place_of S.nano) found))
+    thread : next_immediate S.synchronization.deferred ≡ None → (found : Option ObjNo) → first_ready S qs ≡ found → CanAct script S (actor_of (option_map (in_place_of S.synchronization.nano) found))
     thread none None e = idle_of script S qs formed none e
     thread none (Some t) e = true-is (place_able script S t formed.rows (sym (formed.ready.exact t) ∙ first_listed S qs t e))
 
-    by : (item : Option Item) → next_immediate S.deferred ≡ item → CanAct script S (item_or item (chosen_thread S qs))
+    by : (item : Option Item) → next_immediate S.synchronization.deferred ≡ item → CanAct script S (item_or item (chosen_thread S qs))
     by (Some item) e = true-is (ap is_some e)
     by None e = thread e (first_ready S qs) refl
 

@@ -14,9 +14,9 @@ drop_got_one : {A : Type 0} (xs : List A) (i : ℕ) (x : A) → slice_get xs i �
 drop_got_one xs i x h = rw add-one (drop_got xs i x h)
 
 -- a swept object has no row
-pub rows_from_swept : (S : State) (n : ℕ) → slice_get S.objects n ≡ Some None → rows_from S n ≡ rows_from S (n + 1)
-rows_from_swept S n h = ap (rows_of S n) (drop_got_one S.objects n None h)
+pub rows_from_swept : (S : State) (n : ℕ) → slice_get S.references.objects n ≡ Some None → rows_from S n ≡ rows_from S (n + 1)
+rows_from_swept S n h = ap (rows_of S n) (drop_got_one S.references.objects n None h)
 
 -- an object that isn't swept has one
-pub rows_from_left : (S : State) (n : ℕ) (row : ObjectRow) → slice_get S.objects n ≡ Some (Some row) → rows_from S n ≡ final_row S n row ∷ rows_from S (n + 1)
-rows_from_left S n row h = ap (rows_of S n) (drop_got_one S.objects n (Some row) h)
+pub rows_from_left : (S : State) (n : ℕ) (row : ObjectRow) → slice_get S.references.objects n ≡ Some (Some row) → rows_from S n ≡ final_row S n row ∷ rows_from S (n + 1)
+rows_from_left S n row h = ap (rows_of S n) (drop_got_one S.references.objects n (Some row) h)

@@ -48,7 +48,7 @@ sound-interrupt script S k shaped rows = sound-done script S (Runs (Interrupt k)
 sound-immediate : (script : Script) (S : State) → IsShaped script → AreRows script S → Sound script S (immediate script S).state (immediate script S).outcome.effects
 unfolding immediate
 sound-immediate script S shaped rows =
-    let found = next_immediate S.deferred in sound-done script S (immediate_plan script S found) rows (goes-immediate script S found shaped rows refl)
+    let found = next_immediate S.synchronization.deferred in sound-done script S (immediate_plan script S found) rows (goes-immediate script S found shaped rows refl)
 
 -- what an actor does to references, lives and rows
 pub sound-next : (script : Script) (S : State) (actor : Actor) → IsShaped script → AreRows script S → Sound script S (next script S actor) (transition script S actor).outcome.effects
@@ -62,7 +62,7 @@ sound-next script S Idle shaped rows = sound-none script S rows
 ready-act : (script : Script) (S : State) (t : ObjNo) (qs : List ObjNo) → IsShaped script → AreRows script S → IsReadyList script S qs → IsReadyList script (act script S t).state (ready_after script t (decision_of script S t).moves S qs)
 unfolding act
 ready-act script S t qs shaped rows h = of_action script S t (λ (ms : List Move). IsReadyList script (perform t ms S) (ready_after script t ms S qs)) shaped rows
-    (λ ms sane goes. ready-moves script S t ms qs goes.each goes.few sane h) (λ what rest sane owes. ready-pay script S t what qs rows.threads h) (ready-none script S t qs h)
+    (λ ms sane goes. ready-moves script S t ms qs goes.each goes.few sane h) (λ what rest sane owes. ready-pay script S t what qs rows.references.threads h) (ready-none script S t qs h)
 
 -- and so does what is done without a thread
 ready-by : (script : Script) (S : State) (plan : Plan) (qs : List ObjNo) → AreRows script S → Goes script supervisor S (decision_by script supervisor S plan).moves → IsReadyList script S qs → IsReadyList script (done_by script S plan).state (arrived_by script S plan qs)
@@ -72,10 +72,10 @@ ready-interrupt : (script : Script) (S : State) (k : ℕ) (qs : List ObjNo) → 
 unfolding interrupt
 ready-interrupt script S k qs shaped rows h = ready-by script S (Runs (Interrupt k)) qs rows (goes-interrupt script S k shaped rows) h
 
-ready-immediate : (script : Script) (S : State) (qs : List ObjNo) → IsShaped script → AreRows script S → IsReadyList script S qs → IsReadyList script (immediate script S).state (arrived_by script S (immediate_plan script S (next_immediate S.deferred)) qs)
+ready-immediate : (script : Script) (S : State) (qs : List ObjNo) → IsShaped script → AreRows script S → IsReadyList script S qs → IsReadyList script (immediate script S).state (arrived_by script S (immediate_plan script S (next_immediate S.synchronization.deferred)) qs)
 unfolding immediate
 ready-immediate script S qs shaped rows h =
-    let found = next_immediate S.deferred in ready-by script S (immediate_plan script S found) qs rows (goes-immediate script S found shaped rows refl) h
+    let found = next_immediate S.synchronization.deferred in ready-by script S (immediate_plan script S found) qs rows (goes-immediate script S found shaped rows refl) h
 
 turned_is : (r : NanoRows) (found : Option ObjNo) (t : ObjNo) → turned r found ≡ Some t → found ≡ Some t
 turned_is r None t e = absurd (cc)
@@ -87,7 +87,7 @@ turned_is r (Some u) t e = by (is_some (held_by r u)) e
 
 ready-tick : (script : Script) (S : State) (qs : List ObjNo) → IsReadyList script S qs → IsReadyList script S (after_tick S qs)
 ready-tick script S qs h =
-    ready-behind script S qs (turned S.nano (first_ready S qs)) (λ t e. first_listed S qs t (turned_is S.nano (first_ready S qs) t e)) h
+    ready-behind script S qs (turned S.synchronization.nano (first_ready S qs)) (λ t e. first_listed S qs t (turned_is S.synchronization.nano (first_ready S qs) t e)) h
 
 -- the ready list has exactly the threads that are ready, each once, also after an actor's action
 pub ready-next : (script : Script) (S : State) (actor : Actor) (qs : List ObjNo) → IsShaped script → AreRows script S → IsReadyList script S qs → IsReadyList script (next script S actor) (arrived_next script S actor qs)

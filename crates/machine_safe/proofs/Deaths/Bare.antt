@@ -37,39 +37,39 @@ use Rattle.machine_safe.proofs.Deaths.LockMoves.{live-one}
 
 pub record IsBare (S : State) (t : ObjNo) : Type 0 where
   pub left : row_bit stage_left (thread_of S t) ≡ 0
-  pub held : (o : ObjNo) → times_held S.mutexes t o ≡ 0
-  pub logged : logons_on S.logons t ≡ []
-  pub owned : owned_by S.owned t ≡ []
+  pub held : (o : ObjNo) → times_held S.synchronization.mutexes t o ≡ 0
+  pub logged : logons_on S.synchronization.logons t ≡ []
+  pub owned : owned_by S.serving.owned t ≡ []
 
 without-empty : (u : ObjNo) (logons : List (List (ObjNo × ℕ))) (k : ℕ) → get_or logons k [] ≡ [] → get_or (map (without_maker u) logons) k [] ≡ []
 without-empty u [] k e = refl
 without-empty u (x ∷ xs) zero e = ap (without_maker u) e
 without-empty u (x ∷ xs) (suc k) e = without-empty u xs k e
 
-unlogged-move : (script : Script) (S : State) (a : ObjNo) (m : Move) (t : ObjNo) → FitsMove script a m S → row_bit stage_left (thread_of S t) ≡ 0 → logons_on S.logons t ≡ [] → logons_on (moved a m S).logons t ≡ []
-unlogged-move script S a (Logons (logon.Add v w s)) t fits left h = elim (cases_eq t.0 v.0) as (λ _. logons_on (moved a (Logons (logon.Add v w s)) S).logons t ≡ []) [
-  | inl at ↦ absurd (is-left (thread_of S v) fits.6 fits.5 (ap (λ (n : ℕ). row_bit stage_left (get_or S.threads n None)) (sym at) ∙ left))
-  | inr apart ↦ get_or-set_other S.logons v.0 t.0 _ [] apart ∙ h
+unlogged-move : (script : Script) (S : State) (a : ObjNo) (m : Move) (t : ObjNo) → FitsMove script a m S → row_bit stage_left (thread_of S t) ≡ 0 → logons_on S.synchronization.logons t ≡ [] → logons_on (moved a m S).synchronization.logons t ≡ []
+unlogged-move script S a (Logons (logon.Add v w s)) t fits left h = elim (cases_eq t.0 v.0) as (λ _. logons_on (moved a (Logons (logon.Add v w s)) S).synchronization.logons t ≡ []) [
+  | inl at ↦ absurd (is-left (thread_of S v) fits.6 fits.5 (ap (λ (n : ℕ). row_bit stage_left (get_or S.references.threads n None)) (sym at) ∙ left))
+  | inr apart ↦ get_or-set_other S.synchronization.logons v.0 t.0 _ [] apart ∙ h
 ]
-unlogged-move script S a (Logons (logon.Remove v w s)) t fits left h = elim (set_either S.logons v.0 (without_logon w s (logons_on S.logons v)) t.0 []) as (λ _. logons_on (moved a (Logons (logon.Remove v w s)) S).logons t ≡ []) [
-  | inl at ↦ at.1 ∙ ap (without_logon w s) (ap (λ (n : ℕ). get_or S.logons n []) (sym at.0) ∙ h)
+unlogged-move script S a (Logons (logon.Remove v w s)) t fits left h = elim (set_either S.synchronization.logons v.0 (without_logon w s (logons_on S.synchronization.logons v)) t.0 []) as (λ _. logons_on (moved a (Logons (logon.Remove v w s)) S).synchronization.logons t ≡ []) [
+  | inl at ↦ at.1 ∙ ap (without_logon w s) (ap (λ (n : ℕ). get_or S.synchronization.logons n []) (sym at.0) ∙ h)
   | inr other ↦ other ∙ h
 ]
-unlogged-move script S a (Logons (logon.Drop w)) t fits left h = without-empty w S.logons t.0 h
+unlogged-move script S a (Logons (logon.Drop w)) t fits left h = without-empty w S.synchronization.logons t.0 h
 unlogged-move script S a (Pay what) t fits left h = absurd fits
 unlogged-move script S a _ t fits left h = h
 
 -- a server that is made is a live thread's
-unowned-move : (script : Script) (S : State) (a : ObjNo) (m : Move) (t : ObjNo) → FitsMove script a m S → row_bit stage_left (thread_of S t) ≡ 0 → owned_by S.owned t ≡ [] → owned_by (moved a m S).owned t ≡ []
-unowned-move script S a (Make kind name (Own u)) t fits left h = elim (cases_eq t.0 u.0) as (λ _. owned_by (moved a (Make kind name (Own u)) S).owned t ≡ []) [
+unowned-move : (script : Script) (S : State) (a : ObjNo) (m : Move) (t : ObjNo) → FitsMove script a m S → row_bit stage_left (thread_of S t) ≡ 0 → owned_by S.serving.owned t ≡ [] → owned_by (moved a m S).serving.owned t ≡ []
+unowned-move script S a (Make kind name (Own u)) t fits left h = elim (cases_eq t.0 u.0) as (λ _. owned_by (moved a (Make kind name (Own u)) S).serving.owned t ≡ []) [
   | inl at ↦
-      let same : row_bit stage_left (thread_of S u) ≡ 0 = ap (λ (n : ℕ). row_bit stage_left (get_or S.threads n None)) (sym at) ∙ left in
+      let same : row_bit stage_left (thread_of S u) ≡ 0 = ap (λ (n : ℕ). row_bit stage_left (get_or S.references.threads n None)) (sym at) ∙ left in
       let one = live-one S u fits.1.owner in
       let le = live-left (thread_of S u) in absurd (omega arith)
-  | inr apart ↦ get_or-set_other S.owned u.0 t.0 _ [] apart ∙ h
+  | inr apart ↦ get_or-set_other S.serving.owned u.0 t.0 _ [] apart ∙ h
 ]
-unowned-move script S a (Lose (Own u) o) t fits left h = elim (set_either S.owned u.0 (without o (owned_by S.owned u)) t.0 []) as (λ _. owned_by (moved a (Lose (Own u) o) S).owned t ≡ []) [
-  | inl at ↦ at.1 ∙ ap (without o) (ap (λ (n : ℕ). get_or S.owned n []) (sym at.0) ∙ h)
+unowned-move script S a (Lose (Own u) o) t fits left h = elim (set_either S.serving.owned u.0 (without o (owned_by S.serving.owned u)) t.0 []) as (λ _. owned_by (moved a (Lose (Own u) o) S).serving.owned t ≡ []) [
+  | inl at ↦ at.1 ∙ ap (without o) (ap (λ (n : ℕ). get_or S.serving.owned n []) (sym at.0) ∙ h)
   | inr other ↦ other ∙ h
 ]
 unowned-move script S a (Pay what) t fits left h = absurd fits
@@ -84,11 +84,11 @@ bare-move script t S a m rows fits h =
       owned = unowned-move script S a m t fits h.left h.owned;
     }
 
-paid-bare : (S : State) (a : ObjNo) (what : Owed) (t : ObjNo) → ((moved a (Pay what) S).logons ≡ S.logons) × ((moved a (Pay what) S).owned ≡ S.owned)
+paid-bare : (S : State) (a : ObjNo) (what : Owed) (t : ObjNo) → ((moved a (Pay what) S).synchronization.logons ≡ S.synchronization.logons) × ((moved a (Pay what) S).serving.owned ≡ S.serving.owned)
 paid-bare S a (Close h o) t = (refl, refl)
 paid-bare S a (Sweep o) t = (refl, refl)
 
-bare-pay : (script : Script) (t : ObjNo) (S : State) (a : ObjNo) (what : Owed) (rest : List Owed) → AreRows script S → owed_of S a ≡ what ∷ rest → a.0 < length S.owed → IsBare S t → IsBare (moved a (Pay what) S) t
+bare-pay : (script : Script) (t : ObjNo) (S : State) (a : ObjNo) (what : Owed) (rest : List Owed) → AreRows script S → owed_of S a ≡ what ∷ rest → a.0 < length S.references.owed → IsBare S t → IsBare (moved a (Pay what) S) t
 bare-pay script t S a what rest rows owes here h =
     let d = dies-pay script S a what rest owes here rows in record {
       left = let le = d.left t in let none = h.left in omega arith;
@@ -109,5 +109,5 @@ bare-cleaned script S e t rows c =
       left = left-after script S e t c;
       held = λ o. ap (λ (l : List (List ObjNo)). times_held l t o) later.mutexes ∙ ap (total (mutex_names o)) has.mutexes;
       logged = ap (λ (l : List (List (ObjNo × ℕ))). logons_on l t) later.logons ∙ has.logons;
-      owned = ap (λ (l : List (List ObjNo)). owned_by l t) later.owned ∙ none-owned S (owned_by S.owned t) (λ o some. rows.servers.closing t.0 known.row o known.is (ap is_live known.doomed) some) has.servers;
+      owned = ap (λ (l : List (List ObjNo)). owned_by l t) later.owned ∙ none-owned S (owned_by S.serving.owned t) (λ o some. rows.serving.servers.closing t.0 known.row o known.is (ap is_live known.doomed) some) has.servers;
     }

@@ -72,10 +72,6 @@ cut script history before e later valid legal is =
       rest = dies-run script (next script S e.actor) (behind.0 + 1) later shaped rows_next behind.1.1;
     }
 
-pub effects-append : (xs ys : List Entry) → effects_of (xs ++ ys) ≡ effects_of xs ++ effects_of ys
-effects-append [] ys = refl
-effects-append (x ∷ xs) ys = ap (λ (l : List Effect). x.effects ++ l) (effects-append xs ys) ∙ sym (append_assoc x.effects (effects_of xs) (effects_of ys))
-
 -- at boot each thread is live, and nobody has a lock
 pub live-boot : (script : Script) (t : ObjNo) → IsWellFormed script → row_bit stage_holds (thread_of (boot script) t) ≡ row_bit stage_live (thread_of (boot script) t)
 unfolding boot_of
@@ -85,7 +81,7 @@ live-boot script t valid = by (thread_of (boot script) t) refl
     by None is = refl
     by (Some row) is = let new = born_row script _ (born script) t.0 row (each_born script (formed_is_shaped script valid)) is in ap stage_holds new.live ∙ sym (ap stage_live new.live)
 
-pub unlocked-boot : (script : Script) (t : ObjNo) (lock : LockNo) → lock_bit (boot script).nano.holders (boot script).mutexes t lock ≡ 0
+pub unlocked-boot : (script : Script) (t : ObjNo) (lock : LockNo) → lock_bit (boot script).synchronization.nano.holders (boot script).synchronization.mutexes t lock ≡ 0
 unfolding boot_of
 unlocked-boot script t (Object o) = nothing_at (born script) (λ (l : List ObjNo). total (mutex_names o) l ≡ 0) t.0 refl
 unlocked-boot script t (Fast f) = ap (option_names t) (copy_at {A = Option ObjNo} None script.fast f)

@@ -73,44 +73,44 @@ has-none : (script : Script) (S : State) (t : ObjNo) (row : ThreadRow) → AreRo
 has-none script S t row rows h emptied is =
     both-none (held_mutexes S t ++ held_servers S t ++ held_use row.uses ++ held_handles (InThread t) 0 (table_of S t) ++ process_handles S t row.process) (held_logons S t)
     (both-none (held_mutexes S t ++ held_servers S t ++ held_use row.uses ++ held_handles (InThread t) 0 (table_of S t)) (process_handles S t row.process)
-    (both-none (held_mutexes S t ++ held_servers S t ++ held_use row.uses) (held_handles (InThread t) 0 (table_of S t)) (both-none (held_mutexes S t ++ held_servers S t) (held_use row.uses) (both-none (held_mutexes S t) (held_servers S t) mutexes servers) (ap held_use spent.unused)) (no-handles-held (InThread t) 0 (table_of S t) spent.empty)) (process (total (left_of row.process) S.threads == left_of row.process (thread_of S t)) refl))
+    (both-none (held_mutexes S t ++ held_servers S t ++ held_use row.uses) (held_handles (InThread t) 0 (table_of S t)) (both-none (held_mutexes S t ++ held_servers S t) (held_use row.uses) (both-none (held_mutexes S t) (held_servers S t) mutexes servers) (ap held_use spent.unused)) (no-handles-held (InThread t) 0 (table_of S t) spent.empty)) (process (total (left_of row.process) S.references.threads == left_of row.process (thread_of S t)) refl))
     (ap (map (λ (logon : ObjNo × ℕ). Logon logon.0 logon.1)) h.bare.logged)
   where
-    spent : IsSpent S.handles t.0 row
-    spent = rows.spent.rows t.0 row is (not-left row.stage (sym (ap (row_bit stage_left) is) ∙ h.left))
+    spent : IsSpent S.references.handles t.0 row
+    spent = rows.references.spent.rows t.0 row is (not-left row.stage (sym (ap (row_bit stage_left) is) ∙ h.left))
 
     servers : held_servers S t ≡ []
-    servers = ap (closing_holdings S) (rows.servers.none t.0 row is (not-left row.stage (sym (ap (row_bit stage_left) is) ∙ h.left)))
+    servers = ap (closing_holdings S) (rows.serving.servers.none t.0 row is (not-left row.stage (sym (ap (row_bit stage_left) is) ∙ h.left)))
 
     mutexes : held_mutexes S t ≡ []
-    mutexes = ap (map (λ (o : ObjNo). Mutex o)) (no-mutexes (get_or S.mutexes t.0 []) h.bare.held)
+    mutexes = ap (map (λ (o : ObjNo). Mutex o)) (no-mutexes (get_or S.synchronization.mutexes t.0 []) h.bare.held)
 
-    process : (b : Bool) → (total (left_of row.process) S.threads == left_of row.process (thread_of S t)) ≡ b → (if b then held_handles (InProcess row.process) 0 (table_of S row.process) else []) ≡ []
+    process : (b : Bool) → (total (left_of row.process) S.references.threads == left_of row.process (thread_of S t)) ≡ b → (if b then held_handles (InProcess row.process) 0 (table_of S row.process) else []) ≡ []
     process false e = refl
     process true e =
-        let only = eqb-true (total (left_of row.process) S.threads) (left_of row.process (thread_of S t)) e in
-        no-handles-held (InProcess row.process) 0 (table_of S row.process) (emptied row.process (rows.threads.processes t.0 row is) (only ∙ left-none row.process (thread_of S t) h.left))
+        let only = eqb-true (total (left_of row.process) S.references.threads) (left_of row.process (thread_of S t)) e in
+        no-handles-held (InProcess row.process) 0 (table_of S row.process) (emptied row.process (rows.references.threads.processes t.0 row is) (only ∙ left-none row.process (thread_of S t) h.left))
 
 -- and it has none without its row too, where no row ever had its number for its process
-none-left : (script : Script) (S : State) (t : ObjNo) → AreRows script S → IsGone S t → IsEmptyTable S.handles t → HasNone S t
+none-left : (script : Script) (S : State) (t : ObjNo) → AreRows script S → IsGone S t → IsEmptyTable S.references.handles t → HasNone S t
 none-left script S t rows h empty = record {
-  mutexes = no-mutexes (get_or S.mutexes t.0 []) h.bare.held;
-  fast = by (held_by S.nano t) refl;
+  mutexes = no-mutexes (get_or S.synchronization.mutexes t.0 []) h.bare.held;
+  fast = by (held_by S.synchronization.nano t) refl;
   handles = empty;
   logons = h.bare.logged;
   servers = h.bare.owned;
 }
   where
-    by : (held : Option ℕ) → held_by S.nano t ≡ held → held ≡ None
+    by : (held : Option ℕ) → held_by S.synchronization.nano t ≡ held → held ≡ None
     by None e = refl
     by (Some f) e =
         let none = unheld script S t f rows (let le = live-left (thread_of S t) in let left = h.left in omega arith) in
-        let one : option_names t (holder_of S.nano f) ≡ 1 = ap (option_names t) (held_holder S.nano t f e).1 ∙ same_self t in absurd (omega arith)
+        let one : option_names t (holder_of S.synchronization.nano f) ≡ 1 = ap (option_names t) (held_holder S.synchronization.nano t f e).1 ∙ same_self t in absurd (omega arith)
 
-no-process : (script : Script) (before : List Entry) (t : ObjNo) → IsWellFormed script → Dies (boot script) (after script before) (effects_of before) → 0 < row_bit stage_left (thread_of (boot script) t) → total (left_of t) (after script before).threads ≡ 0
-no-process script before t valid front was = total-none (left_of t) (after script before).threads None (λ j. by j (get_or (after script before).threads j None) refl)
+no-process : (script : Script) (before : List Entry) (t : ObjNo) → IsWellFormed script → Dies (boot script) (after script before) (effects_of before) → 0 < row_bit stage_left (thread_of (boot script) t) → total (left_of t) (after script before).references.threads ≡ 0
+no-process script before t valid front was = total-none (left_of t) (after script before).references.threads None (λ j. by j (get_or (after script before).references.threads j None) refl)
   where
-    by : (j : ℕ) (x : Option ThreadRow) → get_or (after script before).threads j None ≡ x → left_of t x ≡ 0
+    by : (j : ℕ) (x : Option ThreadRow) → get_or (after script before).references.threads j None ≡ x → left_of t x ≡ 0
     by j None is = refl
     by j (Some row) is = test (row.process.0 == t.0) refl
       where
@@ -118,15 +118,15 @@ no-process script before t valid front was = total-none (left_of t) (after scrip
         test false e = refl
         test true e =
             let old = front.were j row is in
-            let none = (rows-boot script valid).threads.processes j old.old old.was in
+            let none = (rows-boot script valid).references.threads.processes j old.old old.was in
             let same : old.old.process.0 ≡ t.0 = ap (λ (p : ObjNo). p.0) old.process ∙ eqb-true row.process.0 t.0 e in
-            let gone : row_bit stage_left (thread_of (boot script) t) ≡ 0 = ap (row_bit stage_left) (ap (λ (n : ℕ). get_or (boot script).threads n None) (sym same) ∙ none) in absurd (omega arith)
+            let gone : row_bit stage_left (thread_of (boot script) t) ≡ 0 = ap (row_bit stage_left) (ap (λ (n : ℕ). get_or (boot script).references.threads n None) (sym same) ∙ none) in absurd (omega arith)
 
-own-empty : (script : Script) (before : List Entry) (t : ObjNo) → IsWellFormed script → IsLegal script before → AreEmptied (after script before) → IsGone (after script before) t → 0 < cleanings before t → IsEmptyTable (after script before).handles t
+own-empty : (script : Script) (before : List Entry) (t : ObjNo) → IsWellFormed script → IsLegal script before → AreEmptied (after script before) → IsGone (after script before) t → 0 < cleanings before t → IsEmptyTable (after script before).references.handles t
 own-empty script before t valid legal emptied h some = by (thread_of (after script before) t) refl
   where
-    by : (x : Option ThreadRow) → thread_of (after script before) t ≡ x → IsEmptyTable (after script before).handles t
-    by (Some row) is = ((well_formed-after script before valid).rows.spent.rows t.0 row is (not-left row.stage (sym (ap (row_bit stage_left) is) ∙ h.left))).empty
+    by : (x : Option ThreadRow) → thread_of (after script before) t ≡ x → IsEmptyTable (after script before).references.handles t
+    by (Some row) is = ((well_formed-after script before valid).rows.references.spent.rows t.0 row is (not-left row.stage (sym (ap (row_bit stage_left) is) ∙ h.left))).empty
     by None is =
         let run = exact-run script (boot script) 1 before t (formed_is_shaped script valid) (rows-boot script valid) legal in
         emptied t is (no-process script before t valid (dies-history script before valid legal) (omega arith))

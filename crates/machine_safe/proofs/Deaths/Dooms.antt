@@ -15,7 +15,8 @@ use Rattle.machine.specs.Rows.{thread_of}
 use Rattle.machine.specs.WellFormed.{AreRows}
 use Rattle.machine_safe.specs.CountAfter.{effects_of}
 use Rattle.machine_safe.specs.SafeDeaths.{DoomEnds, dooms, gives, takes}
-use Rattle.machine_safe.proofs.Deaths.Cut.{IsCut, cut, effects-append, unlocked-boot}
+use Rattle.machine_safe.proofs.Deaths.Cut.{IsCut, cut, unlocked-boot}
+use Rattle.machine_safe.proofs.Runs.{effects-append}
 use Rattle.machine_safe.proofs.Deaths.EffectSums.{gives-append, takes-append}
 use Rattle.machine_safe.proofs.Deaths.LockMoves.{only-live}
 use Rattle.machine_safe.proofs.Deaths.Rows.{held-one, left-held, live-left, row_bit, stage_live}
@@ -30,12 +31,12 @@ doomed-after script before e later t c doomed =
     let one = held-one (thread_of S t) in omega arith
 
 -- whoever holds a fast mutex is live
-pub unheld : (script : Script) (S : State) (t : ObjNo) (f : ℕ) → AreRows script S → row_bit stage_live (thread_of S t) ≡ 0 → option_names t (holder_of S.nano f) ≡ 0
-unheld script S t f rows none = by (holder_of S.nano f) refl
+pub unheld : (script : Script) (S : State) (t : ObjNo) (f : ℕ) → AreRows script S → row_bit stage_live (thread_of S t) ≡ 0 → option_names t (holder_of S.synchronization.nano f) ≡ 0
+unheld script S t f rows none = by (holder_of S.synchronization.nano f) refl
   where
-    by : (x : Option ObjNo) → holder_of S.nano f ≡ x → option_names t x ≡ 0
+    by : (x : Option ObjNo) → holder_of S.synchronization.nano f ≡ x → option_names t x ≡ 0
     by None is = refl
-    by (Some u) is = let held = rows.nano.holders f u is in only-live S u t (record { row = held.row; is = held.is; live = held.live }) none
+    by (Some u) is = let held = rows.synchronization.nano.holders f u is in only-live S u t (record { row = held.row; is = held.is; live = held.live }) none
 
 -- what the last entry tells is told behind the others
 takes-last : (before : List Entry) (e : Entry) (t : ObjNo) (lock : LockNo) → takes (effects_of (before ++ e ∷ [])) t lock ≡ takes (effects_of before) t lock + takes e.effects t lock

@@ -48,25 +48,25 @@ dropped script S t (Death (Clean w) ∷ ms) u fits was now = elim (cases_eq w.0 
   | inl at ↦ record { own = sym (same_object w u at) ∙ fits.0.2; cleans = omega arith }
   | inr apart ↦
       let at_stage = fits.0.0 in
-      let less = bit-less stage_left S.threads w (death_row (Clean w)) at_stage.row 1 at_stage.is (sym (ap stage_left at_stage.at)) u in
+      let less = bit-less stage_left S.references.threads w (death_row (Clean w)) at_stage.row 1 at_stage.is (sym (ap stage_left at_stage.at)) u in
       let none = if_not (w.0 == u.0) 1 (eqb_apart w.0 u.0 apart) in
       let rest = dropped script (moved t (Death (Clean w)) S) t ms u fits.1 (omega arith) now in
       record { own = rest.own; cleans = omega arith }
 ]
 dropped script S t (Death (Doom w exit) ∷ ms) u fits was now =
     let at_stage = fits.0.0 in
-    let less = bit-less stage_left S.threads w (death_row (Doom w exit)) at_stage.row 0 at_stage.is (sym (ap stage_left at_stage.at)) u in
+    let less = bit-less stage_left S.references.threads w (death_row (Doom w exit)) at_stage.row 0 at_stage.is (sym (ap stage_left at_stage.at)) u in
     let none = if_zero (w.0 == u.0) 0 refl in
     let rest = dropped script (moved t (Death (Doom w exit)) S) t ms u fits.1 (omega arith) now in
     record { own = rest.own; cleans = let some = rest.cleans in omega arith }
 dropped script S t (Death (Bury w) ∷ ms) u fits was now =
     let at_stage = fits.0.0 in
-    let less = bit-less stage_left S.threads w (death_row (Bury w)) at_stage.row 0 at_stage.is (sym (ap stage_left at_stage.at)) u in
+    let less = bit-less stage_left S.references.threads w (death_row (Bury w)) at_stage.row 0 at_stage.is (sym (ap stage_left at_stage.at)) u in
     let none = if_zero (w.0 == u.0) 0 refl in
     let rest = dropped script (moved t (Death (Bury w)) S) t ms u fits.1 (omega arith) now in
     record { own = rest.own; cleans = let some = rest.cleans in omega arith }
 dropped script S t (Death (Note w exit) ∷ ms) u fits was now =
-    let keeps = keeps-with_row S.threads w (death_row (Note w exit)) (λ row. refl) (λ row. refl) in
+    let keeps = keeps-with_row S.references.threads w (death_row (Note w exit)) (λ row. refl) (λ row. refl) in
     let rest = dropped script (moved t (Death (Note w exit)) S) t ms u fits.1 (keeps.stages stage_left u.0 ∙ was) now in
     record { own = rest.own; cleans = let some = rest.cleans in omega arith }
 dropped script S t (m ∷ ms) u fits was now =
@@ -80,14 +80,14 @@ record OwnCleaning (script : Script) (S : State) (t u : ObjNo) : Type 0 where
   pub step : is_clean (decision_of script S t).step ≡ true
 
 -- a payment cleans nobody
-paid-kept : (script : Script) (S : State) (t : ObjNo) (what : Owed) (rest : List Owed) → owed_of S t ≡ what ∷ rest → t.0 < length S.owed → AreRows script S → (u : ObjNo) → row_bit stage_left (thread_of (moved t (Pay what) S) u) ≡ row_bit stage_left (thread_of S u)
-paid-kept script S t (Close h o) rest owes here rows u = (keeps-closed (dies S o) o S.threads).stages stage_left u.0
+paid-kept : (script : Script) (S : State) (t : ObjNo) (what : Owed) (rest : List Owed) → owed_of S t ≡ what ∷ rest → t.0 < length S.references.owed → AreRows script S → (u : ObjNo) → row_bit stage_left (thread_of (moved t (Pay what) S) u) ≡ row_bit stage_left (thread_of S u)
+paid-kept script S t (Close h o) rest owes here rows u = (keeps-closed (dies S o) o S.references.threads).stages stage_left u.0
 paid-kept script S t (Sweep o) rest owes here rows u =
     let unheld : row_bit stage_holds (thread_of S o) ≡ 0 = sym (held-is (thread_of S o)) ∙ sweep-unheld script S t o rest owes here rows in
-    bit-swept stage_left S.threads o.0 u.0 (let le = left-held (thread_of S o) in omega arith)
+    bit-swept stage_left S.references.threads o.0 u.0 (let le = left-held (thread_of S o) in omega arith)
 
 paid-left : (script : Script) (S : State) (t : ObjNo) (what : Owed) (rest : List Owed) (u : ObjNo) → owed_of S t ≡ what ∷ rest → Sane script t S → row_bit stage_left (thread_of (moved t (Pay what) S) u) ≡ row_bit stage_left (thread_of S u)
-paid-left script S t what rest u owes s = paid-kept script S t what rest owes (let a = s.inside in let b = s.rows.sized.duties in omega arith) s.rows u
+paid-left script S t what rest u owes s = paid-kept script S t what rest owes (let a = s.inside in let b = s.rows.references.sized.duties in omega arith) s.rows u
 
 drop-act : (script : Script) (S : State) (t u : ObjNo) → IsShaped script → AreRows script S → row_bit stage_left (thread_of S u) ≡ 1 → row_bit stage_left (thread_of (act script S t).state u) ≡ 0 → OwnCleaning script S t u
 unfolding act
@@ -120,7 +120,7 @@ kept-interrupt script S k u shaped rows was =
 kept-immediate : (script : Script) (S : State) (u : ObjNo) → IsShaped script → AreRows script S → row_bit stage_left (thread_of S u) ≡ 1 → row_bit stage_left (thread_of (immediate script S).state u) ≡ 1
 unfolding immediate
 kept-immediate script S u shaped rows was =
-    let found = next_immediate S.deferred in
+    let found = next_immediate S.synchronization.deferred in
     let light = light-immediate script S found shaped rows refl in
     kept-none script S supervisor (decision_by script supervisor S (immediate_plan script S found)).moves u light.each light.calm.cleans was
 

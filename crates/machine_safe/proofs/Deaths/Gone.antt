@@ -63,31 +63,31 @@ abbrev OwesNoMore : ObjNo → ObjNo → ℕ → Type 0
 OwesNoMore t u owes = (u.0 ≡ t.0 → ⊥) ⊎ (owes ≡ 0)
 
 owed-lock : (script : Script) (S : State) (t : ObjNo) (m : LockMove) (u : ObjNo) → FitsMove script t (Locks m) S → OwesNoMore t u (most_owed (Locks m)) → owed_of (moved t (Locks m) S) u ≡ owed_of S u
-owed-lock script S t (Unlock o v Freed) u fits (inl apart) = get_or-set_other S.owed v.0 u.0 _ [] (λ e. apart (e ∙ ap (λ (x : ObjNo). x.0) fits.0))
-owed-lock script S t (Unlock o v (Passed w)) u fits (inl apart) = get_or-set_other S.owed v.0 u.0 _ [] (λ e. apart (e ∙ ap (λ (x : ObjNo). x.0) fits.0))
-owed-lock script S t (Free o v best) u fits (inl apart) = get_or-set_other S.owed v.0 u.0 _ [] (λ e. apart (e ∙ ap (λ (x : ObjNo). x.0) fits.0))
+owed-lock script S t (Unlock o v Freed) u fits (inl apart) = get_or-set_other S.references.owed v.0 u.0 _ [] (λ e. apart (e ∙ ap (λ (x : ObjNo). x.0) fits.0))
+owed-lock script S t (Unlock o v (Passed w)) u fits (inl apart) = get_or-set_other S.references.owed v.0 u.0 _ [] (λ e. apart (e ∙ ap (λ (x : ObjNo). x.0) fits.0))
+owed-lock script S t (Free o v best) u fits (inl apart) = get_or-set_other S.references.owed v.0 u.0 _ [] (λ e. apart (e ∙ ap (λ (x : ObjNo). x.0) fits.0))
 owed-lock script S t (Unlock o v unlocked) u fits (inr none) = absurd (omega arith)
 owed-lock script S t (Free o v best) u fits (inr none) = absurd (omega arith)
 owed-lock script S t _ u fits none = refl
 
 owed-death : (script : Script) (S : State) (t : ObjNo) (m : DeathMove) (u : ObjNo) → OwesNoMore t u (most_owed (Death m)) → owed_of (moved t (Death m) S) u ≡ owed_of S u
-owed-death script S t (Bury v) u (inl apart) = get_or-set_other S.owed t.0 u.0 _ [] apart
+owed-death script S t (Bury v) u (inl apart) = get_or-set_other S.references.owed t.0 u.0 _ [] apart
 owed-death script S t (Bury v) u (inr none) = absurd (omega arith)
 owed-death script S t (Note v exit) u none = refl
 owed-death script S t (Doom v exit) u none = refl
 owed-death script S t (Clean v) u none = refl
 
 owed-message : (S : State) (t : ObjNo) (m : MessageMove) (u : ObjNo) → OwesNoMore t u (most_owed (Messages m)) → owed_of (moved t (Messages m) S) u ≡ owed_of S u
-owed-message S t (Finish n code) u (inl apart) = get_or-set_other S.owed t.0 u.0 _ [] apart
+owed-message S t (Finish n code) u (inl apart) = get_or-set_other S.references.owed t.0 u.0 _ [] apart
 owed-message S t (Finish n code) u (inr none) = absurd (omega arith)
 owed-message S t m u none = refl
 
 owed-move : (script : Script) (S : State) (t : ObjNo) (m : Move) (u : ObjNo) → FitsMove script t m S → OwesNoMore t u (most_owed m) → owed_of (moved t m S) u ≡ owed_of S u
-owed-move script S t (Lose h o) u fits (inl apart) = get_or-set_other S.owed t.0 u.0 _ [] apart
+owed-move script S t (Lose h o) u fits (inl apart) = get_or-set_other S.references.owed t.0 u.0 _ [] apart
 owed-move script S t (Lose h o) u fits (inr none) = absurd (omega arith)
-owed-move script S t (Advance v) u fits (inl apart) = get_or-set_other S.owed v.0 u.0 _ [] (λ e. apart (e ∙ ap (λ (x : ObjNo). x.0) fits.0))
+owed-move script S t (Advance v) u fits (inl apart) = get_or-set_other S.references.owed v.0 u.0 _ [] (λ e. apart (e ∙ ap (λ (x : ObjNo). x.0) fits.0))
 owed-move script S t (Advance v) u fits (inr none) = absurd (omega arith)
-owed-move script S t (PutDown v) u fits (inl apart) = get_or-set_other S.owed v.0 u.0 _ [] (λ e. apart (e ∙ ap (λ (x : ObjNo). x.0) fits.0))
+owed-move script S t (PutDown v) u fits (inl apart) = get_or-set_other S.references.owed v.0 u.0 _ [] (λ e. apart (e ∙ ap (λ (x : ObjNo). x.0) fits.0))
 owed-move script S t (PutDown v) u fits (inr none) = absurd (omega arith)
 owed-move script S t (Messages m) u fits none = owed-message S t m u none
 owed-move script S t (Locks m) u fits none = owed-lock script S t m u fits none
@@ -109,8 +109,8 @@ each-owed script S t (m ∷ ms) u fits none =
     each-owed script (moved t m S) t ms u fits.1 (rest-owes t u (most_owed m) (total most_owed ms) none) ∙ owed-move script S t m u fits.0 (first-owes t u (most_owed m) (total most_owed ms) none)
 
 owed-pay : (S : State) (t : ObjNo) (what : Owed) (u : ObjNo) → (u.0 ≡ t.0 → ⊥) → owed_of (moved t (Pay what) S) u ≡ owed_of S u
-owed-pay S t (Close h o) u apart = get_or-set_other (without_first S.owed t) t.0 u.0 _ [] apart ∙ get_or-set_other S.owed t.0 u.0 _ [] apart
-owed-pay S t (Sweep o) u apart = get_or-set_other S.owed t.0 u.0 _ [] apart
+owed-pay S t (Close h o) u apart = get_or-set_other (without_first S.references.owed t) t.0 u.0 _ [] apart ∙ get_or-set_other S.references.owed t.0 u.0 _ [] apart
+owed-pay S t (Sweep o) u apart = get_or-set_other S.references.owed t.0 u.0 _ [] apart
 
 -- an action of another
 owed-act : (script : Script) (S : State) (t u : ObjNo) → IsShaped script → AreRows script S → (u.0 ≡ t.0 → ⊥) → owed_of (act script S t).state u ≡ owed_of S u
@@ -134,7 +134,7 @@ owed-interrupt script S k u shaped rows = owed-body script S (Interrupt k) u sha
 
 owed-immediate : (script : Script) (S : State) (u : ObjNo) → IsShaped script → AreRows script S → owed_of (immediate script S).state u ≡ owed_of S u
 unfolding immediate
-owed-immediate script S u shaped rows = by (next_immediate S.deferred)
+owed-immediate script S u shaped rows = by (next_immediate S.synchronization.deferred)
   where
     by : (found : Option Item) → owed_of (perform supervisor (decision_by script supervisor S (immediate_plan script S found)).moves S) u ≡ owed_of S u
     by None = refl
@@ -179,7 +179,7 @@ no-task script S t rows h = by (thread_of S t) refl h.left
     by None is left = refl
     by (Some row) is left =
         let spent = not-left row.stage left in
-        idle-by (is_returning row.part) (instruction script row) (owed_of S t) row.stage (holdings S t row) _ (rows.spent.rows t.0 row is spent).going h.paid spent
+        idle-by (is_returning row.part) (instruction script row) (owed_of S t) row.stage (holdings S t row) _ (rows.references.spent.rows t.0 row is spent).going h.paid spent
 
 pub no-action : (script : Script) (S : State) (t : ObjNo) (actor : Actor) → AreRows script S → IsGone S t → CanAct script S actor → is_by t actor ≡ false
 no-action script S t (Thread u) rows h able = by (u.0 == t.0) refl
@@ -188,7 +188,7 @@ no-action script S t (Thread u) rows h able = by (u.0 == t.0) refl
     by false e = refl
     by true e =
         let same : u ≡ t = same_object u t (eqb-true u.0 t.0 e) in
-        let parts = both (is_ready script S t) (is_none (wanted_holder S.nano t)) (subst (λ (x : ObjNo). is_able script S x ≡ true) same able) in
+        let parts = both (is_ready script S t) (is_none (wanted_holder S.synchronization.nano t)) (subst (λ (x : ObjNo). is_able script S x ≡ true) same able) in
         let ready = both (not (is_waiting S t) && not (is_stopped S t)) (is_some (task_of script S t)) parts.0 in
         let none = no-task script S t rows h in
         let some = ready.1 in absurd (cc)

@@ -46,7 +46,7 @@ pub record IsEmpty (S : State) (t : ObjNo) : Type 0 where
   pub left : stage_left row.stage ≡ 1
   pub paid : owed_of S t ≡ []
   pub has : HasNothing S t row
-  pub owned : owned_by S.owned t ≡ []
+  pub owned : owned_by S.serving.owned t ≡ []
 
 pub empty-cleaning : (script : Script) (S : State) (e : Entry) (t : ObjNo) → AreRows script S → Cleans script S e t → IsEmpty S t
 empty-cleaning script S e t rows c =
@@ -59,11 +59,11 @@ empty-cleaning script S e t rows c =
       left = ap stage_left known.doomed;
       paid = known.paid;
       has = left;
-      owned = none-owned S (owned_by S.owned t) (λ o some. rows.servers.closing t.0 known.row o known.is (ap is_live known.doomed) some) left.servers;
+      owned = none-owned S (owned_by S.serving.owned t) (λ o some. rows.serving.servers.closing t.0 known.row o known.is (ap is_live known.doomed) some) left.servers;
     }
 
 -- it has no lock
-unlocked : (script : Script) (S : State) (t : ObjNo) (lock : LockNo) → AreRows script S → IsEmpty S t → lock_bit S.nano.holders S.mutexes t lock ≡ 0
+unlocked : (script : Script) (S : State) (t : ObjNo) (lock : LockNo) → AreRows script S → IsEmpty S t → lock_bit S.synchronization.nano.holders S.synchronization.mutexes t lock ≡ 0
 unlocked script S t (Object o) rows h = ap (total (mutex_names o)) h.has.mutexes
 unlocked script S t (Fast f) rows h = unheld script S t f rows h.dead
 
@@ -77,16 +77,16 @@ unheld-own : (script : Script) (S : State) (t : ObjNo) (h : Holder) (o : ObjNo) 
 unheld-own script S t (InThread u i) o rows h own =
     let at : t ≡ u = sym (same_object u t (eqb-true u.0 t.0 own)) in
     let slot = no-slot-names (not (is_some (thread_of S u))) o (slot_at (table_of S u) i) (ap (λ (v : ObjNo). (slot_at (table_of S v) i).object) (sym at) ∙ h.has.empty i) in
-    let owed = none_owed S.threads S.servers S.messages.accepted S.owed (InThread u i) o rows.duties (λ k y own. own) in omega arith
+    let owed = none_owed S.references.threads S.serving.servers S.serving.messages.accepted S.references.owed (InThread u i) o rows.references.duties (λ k y own. own) in omega arith
 unheld-own script S t (Temp u) o rows h own =
     let at : t ≡ u = sym (same_object u t (eqb-true u.0 t.0 own)) in
     let uses : use_names o (thread_of S u) ≡ 0 = ap (λ (v : ObjNo). use_names o (thread_of S v)) (sym at) ∙ (ap (use_names o) h.is ∙ ap (option_names o) h.has.unused) in
-    let owed = none_owed_by S.threads S.servers S.messages.accepted S.owed u (Temp u) o rows.duties (λ k y own. own) (ap (λ (v : ObjNo). total (owed_by (Temp u) o) (owed_of S v)) (sym at) ∙ ap (total (owed_by (Temp u) o)) h.paid) in omega arith
+    let owed = none_owed_by S.references.threads S.serving.servers S.serving.messages.accepted S.references.owed u (Temp u) o rows.references.duties (λ k y own. own) (ap (λ (v : ObjNo). total (owed_by (Temp u) o) (owed_of S v)) (sym at) ∙ ap (total (owed_by (Temp u) o)) h.paid) in omega arith
 unheld-own script S t (Own u) o rows h own =
     let at : t ≡ u = sym (same_object u t (eqb-true u.0 t.0 own)) in
-    let held : times_held S.mutexes u o ≡ 0 = ap (λ (v : ObjNo). times_held S.mutexes v o) (sym at) ∙ ap (total (mutex_names o)) h.has.mutexes in
-    let owned : times_owned S.owned u o ≡ 0 = ap (λ (v : ObjNo). times_owned S.owned v o) (sym at) ∙ ap (total (mutex_names o)) h.owned in
-    let owed = none_owed_by S.threads S.servers S.messages.accepted S.owed u (Own u) o rows.duties (λ k y own. own) (ap (λ (v : ObjNo). total (owed_by (Own u) o) (owed_of S v)) (sym at) ∙ ap (total (owed_by (Own u) o)) h.paid) in omega arith
+    let held : times_held S.synchronization.mutexes u o ≡ 0 = ap (λ (v : ObjNo). times_held S.synchronization.mutexes v o) (sym at) ∙ ap (total (mutex_names o)) h.has.mutexes in
+    let owned : times_owned S.serving.owned u o ≡ 0 = ap (λ (v : ObjNo). times_owned S.serving.owned v o) (sym at) ∙ ap (total (mutex_names o)) h.owned in
+    let owed = none_owed_by S.references.threads S.serving.servers S.serving.messages.accepted S.references.owed u (Own u) o rows.references.duties (λ k y own. own) (ap (λ (v : ObjNo). total (owed_by (Own u) o) (owed_of S v)) (sym at) ∙ ap (total (owed_by (Own u) o)) h.paid) in omega arith
 unheld-own script S t _ o rows h own = absurd (cc)
 
 -- numbers that are all 0
@@ -103,13 +103,13 @@ total-only f (x ∷ xs) (suc i) d none others =
     let rest = total-only f xs i d none (λ j apart. others (suc j) (λ e. apart (omega arith))) in omega arith
 
 -- no other thread of its process is left, where the others were cleaned
-pub alone : (script : Script) (before : List Entry) (t : ObjNo) (row : ThreadRow) → IsWellFormed script → IsLegal script before → Dies (boot script) (after script before) (effects_of before) → OthersAreCleaned script before row.process t → total (left_of row.process) (after script before).threads ≡ left_of row.process (thread_of (after script before) t)
-alone script before t row valid legal front others = total-only (left_of row.process) S.threads t.0 None refl (λ j apart. by j apart (get_or S.threads j None) refl)
+pub alone : (script : Script) (before : List Entry) (t : ObjNo) (row : ThreadRow) → IsWellFormed script → IsLegal script before → Dies (boot script) (after script before) (effects_of before) → OthersAreCleaned script before row.process t → total (left_of row.process) (after script before).references.threads ≡ left_of row.process (thread_of (after script before) t)
+alone script before t row valid legal front others = total-only (left_of row.process) S.references.threads t.0 None refl (λ j apart. by j apart (get_or S.references.threads j None) refl)
   where
     S : State
     S = after script before
 
-    gone : (j : ℕ) (r : ThreadRow) → (j ≡ t.0 → ⊥) → get_or S.threads j None ≡ Some r → r.process.0 ≡ row.process.0 → stage_left r.stage ≡ 0
+    gone : (j : ℕ) (r : ThreadRow) → (j ≡ t.0 → ⊥) → get_or S.references.threads j None ≡ Some r → r.process.0 ≡ row.process.0 → stage_left r.stage ≡ 0
     gone j r apart is at =
         let u : ObjNo = record { 0 = j } in
         let was = front.were j r is in
@@ -117,7 +117,7 @@ alone script before t row valid legal front others = total-only (left_of row.pro
         let few = cleaned-left script before u valid legal in
         let own : row_bit stage_left (thread_of S u) ≡ stage_left r.stage = ap (row_bit stage_left) is in omega arith
 
-    by : (j : ℕ) → (j ≡ t.0 → ⊥) → (x : Option ThreadRow) → get_or S.threads j None ≡ x → left_of row.process x ≡ 0
+    by : (j : ℕ) → (j ≡ t.0 → ⊥) → (x : Option ThreadRow) → get_or S.references.threads j None ≡ x → left_of row.process x ≡ 0
     by j apart None is = refl
     by j apart (Some r) is = test (r.process.0 == row.process.0) refl
       where
@@ -126,8 +126,8 @@ alone script before t row valid legal front others = total-only (left_of row.pro
         test true e = gone j r apart is (eqb-true r.process.0 row.process.0 e)
 
 -- then its process's table is empty
-pub handles-none : (S : State) (t p : ObjNo) → total (left_of p) S.threads ≡ left_of p (thread_of S t) → process_handles S t p ≡ [] → (i : ℕ) → (slot_at (table_of S p) i).object ≡ None
-handles-none S t p only none = by (total (left_of p) S.threads == left_of p (thread_of S t)) (eq-eqb (total (left_of p) S.threads) (left_of p (thread_of S t)) only) none
+pub handles-none : (S : State) (t p : ObjNo) → total (left_of p) S.references.threads ≡ left_of p (thread_of S t) → process_handles S t p ≡ [] → (i : ℕ) → (slot_at (table_of S p) i).object ≡ None
+handles-none S t p only none = by (total (left_of p) S.references.threads == left_of p (thread_of S t)) (eq-eqb (total (left_of p) S.references.threads) (left_of p (thread_of S t)) only) none
   where
     by : (b : Bool) → b ≡ true → (if b then held_handles (InProcess p) 0 (table_of S p) else []) ≡ [] → (i : ℕ) → (slot_at (table_of S p) i).object ≡ None
     by true e none = no-handles (InProcess p) 0 (table_of S p) none
@@ -136,7 +136,7 @@ handles-none S t p only none = by (total (left_of p) S.threads == left_of p (thr
 table-free : {script : Script} (S : State) (p : ObjNo) (i : ℕ) (o : ObjNo) → (slot_at (table_of S p) i).object ≡ None → AreRows script S → held_in S (InProcess p i) o ≡ 0
 table-free S p i o none rows =
     let slot = no-slot-names (is_some (thread_of S p)) o (slot_at (table_of S p) i) none in
-    let owed = none_owed S.threads S.servers S.messages.accepted S.owed (InProcess p i) o rows.duties (λ k y own. own) in omega arith
+    let owed = none_owed S.references.threads S.serving.servers S.serving.messages.accepted S.references.owed (InProcess p i) o rows.references.duties (λ k y own. own) in omega arith
 
 pub clean-leaves : (script : Script) (history : List Entry) (t : ObjNo) → IsWellFormed script → IsLegal script history → CleanLeaves script history t
 clean-leaves script history t valid legal = record {

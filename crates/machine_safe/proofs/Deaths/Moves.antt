@@ -65,23 +65,23 @@ is_death (Death m) = true
 is_death _ = false
 
 -- every other one leaves stages
-pub keeps-move : (script : Script) (S : State) (t : ObjNo) (m : Move) → FitsMove script t m S → is_death m ≡ false → KeepsRows S.threads (moved t m S).threads
-keeps-move script S t (Make kind name h) fits other = keeps-gain h (next_object S) S.threads
-keeps-move script S t (Gain h o) fits other = keeps-gain h o S.threads
-keeps-move script S t (Lose h o) fits other = keeps-then S.threads (threads_lose h S.threads) (threads_closed (dies S o) o (threads_lose h S.threads)) (keeps-lose h S.threads) (keeps-closed (dies S o) o (threads_lose h S.threads))
-keeps-move script S t (Find u o) fits other = keeps-with_row S.threads u (with_found o) (λ row. refl) (λ row. refl)
-keeps-move script S t (GoOn u part) fits other = keeps-with_row S.threads u (with_part part) (λ row. refl) (λ row. refl)
-keeps-move script S t (Keep u number) fits other = keeps-with_row S.threads u (with_kept number) (λ row. refl) (λ row. refl)
-keeps-move script S t (Write u x value) fits other = keeps-with_row S.threads u (with_register x value) (λ row. refl) (λ row. refl)
-keeps-move script S t (WriteMessage u y number) fits other = keeps-with_row S.threads u (with_message y number) (λ row. refl) (λ row. refl)
-keeps-move script S t (PutDown u) fits other = keeps-with_row S.threads u (with_use None) (λ row. refl) (λ row. refl)
-keeps-move script S t (Advance u) fits other = keeps-with_row S.threads u advanced (λ row. refl) (λ row. refl)
-keeps-move script S t (Wait u what) fits other = keeps-with_row S.threads u (with_waiting what) (λ row. refl) (λ row. refl)
-keeps-move script S t (Wake u) fits other = keeps-with_row S.threads u (with_waiting waiting.Nothing) (λ row. refl) (λ row. refl)
-keeps-move script S t (SetPriority u priority) fits other = keeps-with_row S.threads u (with_priority priority) (λ row. refl) (λ row. refl)
+pub keeps-move : (script : Script) (S : State) (t : ObjNo) (m : Move) → FitsMove script t m S → is_death m ≡ false → KeepsRows S.references.threads (moved t m S).references.threads
+keeps-move script S t (Make kind name h) fits other = keeps-gain h (next_object S) S.references.threads
+keeps-move script S t (Gain h o) fits other = keeps-gain h o S.references.threads
+keeps-move script S t (Lose h o) fits other = keeps-then S.references.threads (threads_lose h S.references.threads) (threads_closed (dies S o) o (threads_lose h S.references.threads)) (keeps-lose h S.references.threads) (keeps-closed (dies S o) o (threads_lose h S.references.threads))
+keeps-move script S t (Find u o) fits other = keeps-with_row S.references.threads u (with_found o) (λ row. refl) (λ row. refl)
+keeps-move script S t (GoOn u part) fits other = keeps-with_row S.references.threads u (with_part part) (λ row. refl) (λ row. refl)
+keeps-move script S t (Keep u number) fits other = keeps-with_row S.references.threads u (with_kept number) (λ row. refl) (λ row. refl)
+keeps-move script S t (Write u x value) fits other = keeps-with_row S.references.threads u (with_register x value) (λ row. refl) (λ row. refl)
+keeps-move script S t (WriteMessage u y number) fits other = keeps-with_row S.references.threads u (with_message y number) (λ row. refl) (λ row. refl)
+keeps-move script S t (PutDown u) fits other = keeps-with_row S.references.threads u (with_use None) (λ row. refl) (λ row. refl)
+keeps-move script S t (Advance u) fits other = keeps-with_row S.references.threads u advanced (λ row. refl) (λ row. refl)
+keeps-move script S t (Wait u what) fits other = keeps-with_row S.references.threads u (with_waiting what) (λ row. refl) (λ row. refl)
+keeps-move script S t (Wake u) fits other = keeps-with_row S.references.threads u (with_waiting waiting.Nothing) (λ row. refl) (λ row. refl)
+keeps-move script S t (SetPriority u priority) fits other = keeps-with_row S.references.threads u (with_priority priority) (λ row. refl) (λ row. refl)
 keeps-move script S t (Death m) fits other = absurd (cc)
 keeps-move script S t (Pay what) fits other = absurd fits
-keeps-move script S t _ fits other = keeps-same S.threads
+keeps-move script S t _ fits other = keeps-same S.references.threads
 
 -- effects that tell of references alone
 calm-plus : (h : Holder) (o : ObjNo) → IsCalm (effect.Plus h o ∷ [])
@@ -146,11 +146,11 @@ make-gains S (Own u) o may h x none = let a = gains-own S u o may.owner h x none
 make-gains S g o may h x none = plus-gains S g o may h x none
 
 -- rows change that tell of nothing
-dies-row : (S T : State) → KeepsRows S.threads T.threads → T.nano.holders ≡ S.nano.holders → T.mutexes ≡ S.mutexes → Dies S T []
+dies-row : (S T : State) → KeepsRows S.references.threads T.references.threads → T.synchronization.nano.holders ≡ S.synchronization.nano.holders → T.synchronization.mutexes ≡ S.synchronization.mutexes → Dies S T []
 dies-row S T rows holders mutexes = dies-calm S T [] rows holders mutexes calm-none (λ h o none. refl)
 
 -- a signal is a live thread's
-dies-signal : (S : State) (r : RequestRows) (u : ObjNo) (s : StatusNo) (code : ℤ) → IsLiveThread S.threads u → Dies S (record S { requests = r }) (effect.Signal u s code ∷ [])
+dies-signal : (S : State) (r : RequestRows) (u : ObjNo) (s : StatusNo) (code : ℤ) → IsLiveThread S.references.threads u → Dies S (record S { synchronization = record S.synchronization { requests = r } }) (effect.Signal u s code ∷ [])
 dies-signal S r u s code live = record {
   live = λ v. omega arith;
   left = λ v. omega arith;
@@ -159,69 +159,69 @@ dies-signal S r u s code live = record {
   takes_none = λ v lock none. refl;
   signals_none = λ v none. let a = only-live S u v live none in omega arith;
   gains_none = λ h o none. refl;
-  were = (keeps-same S.threads).were;
+  were = (keeps-same S.references.threads).were;
 }
 
 dies-request : (script : Script) (S : State) (t : ObjNo) (m : RequestMove) → AreRows script S → FitsMove script t (Requests m) S → Dies S (moved t (Requests m) S) (request_told m)
-dies-request script S t (Complete d u s code) rows fits = dies-signal S (request_moved (Complete d u s code) S.requests) u (Async s) code (rows.awaited.requests d _ fits.0.1)
-dies-request script S t (Signal u s code) rows fits = dies-signal S (request_moved (Signal u s code) S.requests) u (Async s) code fits.1.0
-dies-request script S t (Reply u code) rows fits = dies-signal S (request_moved (Reply u code) S.requests) u Sync code fits.1
-dies-request script S t m rows fits = dies-row S (moved t (Requests m) S) (keeps-same S.threads) refl refl
+dies-request script S t (Complete d u s code) rows fits = dies-signal S (request_moved (Complete d u s code) S.synchronization.requests) u (Async s) code (rows.synchronization.awaited.requests d _ fits.0.1)
+dies-request script S t (Signal u s code) rows fits = dies-signal S (request_moved (Signal u s code) S.synchronization.requests) u (Async s) code fits.1.0
+dies-request script S t (Reply u code) rows fits = dies-signal S (request_moved (Reply u code) S.synchronization.requests) u Sync code fits.1
+dies-request script S t m rows fits = dies-row S (moved t (Requests m) S) (keeps-same S.references.threads) refl refl
 
 -- servers and messages tell of no thread
 dies-servers : (S : State) (t : ObjNo) (m : ServerMove) → Dies S (moved t (Servers m) S) (server_told m)
-dies-servers S t (Join s o slots u) = dies-calm S _ _ (keeps-same S.threads) refl refl (calm-plus (Link s) o) (λ h x none. let a = foreign S (Link s) h o x (λ e. e) none in omega arith)
-dies-servers S t (End o) = dies-calm S _ _ (keeps-same S.threads) refl refl (calm-ended o) (λ h x none. refl)
-dies-servers S t m = dies-row S (moved t (Servers m) S) (keeps-same S.threads) refl refl
+dies-servers S t (Join s o slots u) = dies-calm S _ _ (keeps-same S.references.threads) refl refl (calm-plus (Link s) o) (λ h x none. let a = foreign S (Link s) h o x (λ e. e) none in omega arith)
+dies-servers S t (End o) = dies-calm S _ _ (keeps-same S.references.threads) refl refl (calm-ended o) (λ h x none. refl)
+dies-servers S t m = dies-row S (moved t (Servers m) S) (keeps-same S.references.threads) refl refl
 
-dies-messages : (S : State) (t : ObjNo) (m : MessageMove) → Dies S (moved t (Messages m) S) (message_told m S.messages)
+dies-messages : (S : State) (t : ObjNo) (m : MessageMove) → Dies S (moved t (Messages m) S) (message_told m S.serving.messages)
 dies-messages S t (Accept slots row) =
-    let n = next_number S.messages in
-    dies-calm S _ _ (keeps-same S.threads) refl refl (calm-accepted n row.session row.client) (λ h x none. let a = foreign S (Message n) h row.session x (λ e. e) none in let b = foreign S (Message n) h row.client x (λ e. e) none in omega arith)
-dies-messages S t (Finish n code) = dies-calm S _ _ (keeps-same S.threads) refl refl (calm-finished n code) (λ h x none. refl)
-dies-messages S t m = dies-row S (moved t (Messages m) S) (keeps-same S.threads) refl refl
+    let n = next_number S.serving.messages in
+    dies-calm S _ _ (keeps-same S.references.threads) refl refl (calm-accepted n row.session row.client) (λ h x none. let a = foreign S (Message n) h row.session x (λ e. e) none in let b = foreign S (Message n) h row.client x (λ e. e) none in omega arith)
+dies-messages S t (Finish n code) = dies-calm S _ _ (keeps-same S.references.threads) refl refl (calm-finished n code) (λ h x none. refl)
+dies-messages S t m = dies-row S (moved t (Messages m) S) (keeps-same S.references.threads) refl refl
 
 -- a row goes on to another stage
 dies-death : (script : Script) (S : State) (t : ObjNo) (m : DeathMove) → FitsMove script t (Death m) S → Dies S (moved t (Death m) S) (death_told m)
-dies-death script S t (Note u exit) fits = dies-row S (moved t (Death (Note u exit)) S) (keeps-with_row S.threads u (death_row (Note u exit)) (λ row. refl) (λ row. refl)) refl refl
+dies-death script S t (Note u exit) fits = dies-row S (moved t (Death (Note u exit)) S) (keeps-with_row S.references.threads u (death_row (Note u exit)) (λ row. refl) (λ row. refl)) refl refl
 dies-death script S t (Doom u exit) fits =
     let at = fits.0 in
     let f = death_row (Doom u exit) in
     record {
-      live = λ v. let a = bit-less stage_live S.threads u f at.row 1 at.is (sym (ap stage_live at.at)) v in omega arith;
-      left = λ v. let a = bit-less stage_left S.threads u f at.row 0 at.is (sym (ap stage_left at.at)) v in omega arith;
-      held = λ v. let a = bit-less stage_holds S.threads u f at.row 0 at.is (sym (ap stage_holds at.at)) v in let b = if_zero (u.0 == v.0) 0 refl in omega arith;
+      live = λ v. let a = bit-less stage_live S.references.threads u f at.row 1 at.is (sym (ap stage_live at.at)) v in omega arith;
+      left = λ v. let a = bit-less stage_left S.references.threads u f at.row 0 at.is (sym (ap stage_left at.at)) v in omega arith;
+      held = λ v. let a = bit-less stage_holds S.references.threads u f at.row 0 at.is (sym (ap stage_holds at.at)) v in let b = if_zero (u.0 == v.0) 0 refl in omega arith;
       locks = λ v lock. refl;
       takes_none = λ v lock none. refl;
       signals_none = λ v none. refl;
       gains_none = λ h o none. refl;
-      were = were-with_row S.threads u f (λ row. refl);
+      were = were-with_row S.references.threads u f (λ row. refl);
     }
 dies-death script S t (Clean u) fits =
     let at = fits.0 in
     let f = death_row (Clean u) in
     record {
-      live = λ v. let a = bit-less stage_live S.threads u f at.row 0 at.is (sym (ap stage_live at.at)) v in let b = if_zero (u.0 == v.0) 0 refl in omega arith;
-      left = λ v. let a = bit-less stage_left S.threads u f at.row 1 at.is (sym (ap stage_left at.at)) v in omega arith;
-      held = λ v. let a = bit-less stage_holds S.threads u f at.row 0 at.is (sym (ap stage_holds at.at)) v in let b = if_zero (u.0 == v.0) 0 refl in omega arith;
+      live = λ v. let a = bit-less stage_live S.references.threads u f at.row 0 at.is (sym (ap stage_live at.at)) v in let b = if_zero (u.0 == v.0) 0 refl in omega arith;
+      left = λ v. let a = bit-less stage_left S.references.threads u f at.row 1 at.is (sym (ap stage_left at.at)) v in omega arith;
+      held = λ v. let a = bit-less stage_holds S.references.threads u f at.row 0 at.is (sym (ap stage_holds at.at)) v in let b = if_zero (u.0 == v.0) 0 refl in omega arith;
       locks = λ v lock. refl;
       takes_none = λ v lock none. refl;
       signals_none = λ v none. refl;
       gains_none = λ h o none. refl;
-      were = were-with_row S.threads u f (λ row. refl);
+      were = were-with_row S.references.threads u f (λ row. refl);
     }
 dies-death script S t (Bury u) fits =
     let at = fits.0 in
     let f = death_row (Bury u) in
     record {
-      live = λ v. let a = bit-less stage_live S.threads u f at.row 0 at.is (sym (ap stage_live at.at)) v in let b = if_zero (u.0 == v.0) 0 refl in omega arith;
-      left = λ v. let a = bit-less stage_left S.threads u f at.row 0 at.is (sym (ap stage_left at.at)) v in omega arith;
-      held = λ v. let a = bit-less stage_holds S.threads u f at.row 1 at.is (sym (ap stage_holds at.at)) v in omega arith;
+      live = λ v. let a = bit-less stage_live S.references.threads u f at.row 0 at.is (sym (ap stage_live at.at)) v in let b = if_zero (u.0 == v.0) 0 refl in omega arith;
+      left = λ v. let a = bit-less stage_left S.references.threads u f at.row 0 at.is (sym (ap stage_left at.at)) v in omega arith;
+      held = λ v. let a = bit-less stage_holds S.references.threads u f at.row 1 at.is (sym (ap stage_holds at.at)) v in omega arith;
       locks = λ v lock. refl;
       takes_none = λ v lock none. refl;
       signals_none = λ v none. refl;
       gains_none = λ h o none. refl;
-      were = were-with_row S.threads u f (λ row. refl);
+      were = were-with_row S.references.threads u f (λ row. refl);
     }
 
 -- what a move tells that fits
@@ -230,7 +230,7 @@ dies-move script S t (Make kind name h) rows fits = dies-calm S _ _ (keeps-move 
 dies-move script S t (Gain h o) rows fits = dies-calm S _ _ (keeps-move script S t (Gain h o) fits refl) refl refl (calm-plus h o) (plus-gains S h o fits.0)
 dies-move script S t (Lose h o) rows fits = dies-calm S _ _ (keeps-move script S t (Lose h o) fits refl) refl refl (calm-close (dies S o) h o) (close-gains S (dies S o) h o)
 dies-move script S t (Find u o) rows fits = dies-calm S _ _ (keeps-move script S t (Find u o) fits refl) refl refl (calm-found o) (λ h x none. refl)
-dies-move script S t (Miss o) rows fits = dies-calm S _ _ (keeps-same S.threads) refl refl (calm-missed o) (λ h x none. refl)
+dies-move script S t (Miss o) rows fits = dies-calm S _ _ (keeps-same S.references.threads) refl refl (calm-missed o) (λ h x none. refl)
 dies-move script S t (Nano m) rows fits = dies-nano script S t m fits
 dies-move script S t (Requests m) rows fits = dies-request script S t m rows fits
 dies-move script S t (Locks m) rows fits = dies-locks script S t m rows fits
@@ -241,23 +241,23 @@ dies-move script S t (Pay what) rows fits = absurd fits
 dies-move script S t m rows fits = dies-row S (moved t m S) (keeps-move script S t m fits refl) refl refl
 
 -- and what a payment tells
-pub dies-pay : (script : Script) (S : State) (t : ObjNo) (what : Owed) (rest : List Owed) → owed_of S t ≡ what ∷ rest → t.0 < length S.owed → AreRows script S → Dies S (moved t (Pay what) S) (told (Pay what) S)
-dies-pay script S t (Close h o) rest owes here rows = dies-calm S _ _ (keeps-closed (dies S o) o S.threads) refl refl (calm-close (dies S o) h o) (close-gains S (dies S o) h o)
+pub dies-pay : (script : Script) (S : State) (t : ObjNo) (what : Owed) (rest : List Owed) → owed_of S t ≡ what ∷ rest → t.0 < length S.references.owed → AreRows script S → Dies S (moved t (Pay what) S) (told (Pay what) S)
+dies-pay script S t (Close h o) rest owes here rows = dies-calm S _ _ (keeps-closed (dies S o) o S.references.threads) refl refl (calm-close (dies S o) h o) (close-gains S (dies S o) h o)
 dies-pay script S t (Sweep o) rest owes here rows =
     let unheld : row_bit stage_holds (thread_of S o) ≡ 0 = sym (held-is (thread_of S o)) ∙ sweep-unheld script S t o rest owes here rows in
     let left : row_bit stage_left (thread_of S o) ≡ 0 = (let le = left-held (thread_of S o) in omega arith) in
     let live : row_bit stage_live (thread_of S o) ≡ 0 = (let le = live-left (thread_of S o) in omega arith) in
     record {
-      live = λ v. let a = bit-swept stage_live S.threads o.0 v.0 live in omega arith;
-      left = λ v. let a = bit-swept stage_left S.threads o.0 v.0 left in omega arith;
-      held = λ v. let a = bit-swept stage_holds S.threads o.0 v.0 unheld in omega arith;
+      live = λ v. let a = bit-swept stage_live S.references.threads o.0 v.0 live in omega arith;
+      left = λ v. let a = bit-swept stage_left S.references.threads o.0 v.0 left in omega arith;
+      held = λ v. let a = bit-swept stage_holds S.references.threads o.0 v.0 unheld in omega arith;
       locks = λ v lock. omega arith;
       takes_none = λ v lock none. refl;
       signals_none = λ v none. refl;
       gains_none = λ h x none. refl;
-      were = were-swept S.threads o.0;
+      were = were-swept S.references.threads o.0;
     }
 
 -- nothing tells of nothing
 pub dies-none : (S : State) → Dies S S []
-dies-none S = dies-row S S (keeps-same S.threads) refl refl
+dies-none S = dies-row S S (keeps-same S.references.threads) refl refl

@@ -64,20 +64,20 @@ cleans script S place e t shaped rows here is =
 
 -- after it the thread is cleaned, and all else of it is as it was
 pub record IsAfter (S T : State) (t : ObjNo) : Type 0 where
-  pub threads : T.threads ≡ with_row S.threads t (death_row (Clean t))
-  pub owed : T.owed ≡ S.owed
-  pub mutexes : T.mutexes ≡ S.mutexes
-  pub logons : T.logons ≡ S.logons
-  pub owned : T.owned ≡ S.owned
+  pub threads : T.references.threads ≡ with_row S.references.threads t (death_row (Clean t))
+  pub owed : T.references.owed ≡ S.references.owed
+  pub mutexes : T.synchronization.mutexes ≡ S.synchronization.mutexes
+  pub logons : T.synchronization.logons ≡ S.synchronization.logons
+  pub owned : T.serving.owned ≡ S.serving.owned
 
 after-act : (script : Script) (S : State) (t : ObjNo) → IsCleaning script S t (decision_of script S t) → IsAfter S (act script S t).state t
 unfolding act
 after-act script S t c = record {
-  threads = ap (λ (ms : List Move). (perform t ms S).threads) c.moves;
-  owed = ap (λ (ms : List Move). (perform t ms S).owed) c.moves;
-  mutexes = ap (λ (ms : List Move). (perform t ms S).mutexes) c.moves;
-  logons = ap (λ (ms : List Move). (perform t ms S).logons) c.moves;
-  owned = ap (λ (ms : List Move). (perform t ms S).owned) c.moves;
+  threads = ap (λ (ms : List Move). (perform t ms S).references.threads) c.moves;
+  owed = ap (λ (ms : List Move). (perform t ms S).references.owed) c.moves;
+  mutexes = ap (λ (ms : List Move). (perform t ms S).synchronization.mutexes) c.moves;
+  logons = ap (λ (ms : List Move). (perform t ms S).synchronization.logons) c.moves;
+  owned = ap (λ (ms : List Move). (perform t ms S).serving.owned) c.moves;
 }
 
 pub after-cleaning : (script : Script) (S : State) (e : Entry) (t : ObjNo) → Cleans script S e t → IsAfter S (next script S e.actor) t
@@ -89,7 +89,7 @@ left-doomed script S e t c = let known = c.known in ap (row_bit stage_left) know
 pub left-after : (script : Script) (S : State) (e : Entry) (t : ObjNo) → Cleans script S e t → row_bit stage_left (thread_of (next script S e.actor) t) ≡ 0
 left-after script S e t c =
     let known = c.known in
-    let same : thread_of (next script S e.actor) t ≡ option_map (death_row (Clean t)) (thread_of S t) = ap (λ (l : List (Option ThreadRow)). get_or l t.0 None) (after-cleaning script S e t c).threads ∙ row-here S.threads t (death_row (Clean t)) t.0 refl in
+    let same : thread_of (next script S e.actor) t ≡ option_map (death_row (Clean t)) (thread_of S t) = ap (λ (l : List (Option ThreadRow)). get_or l t.0 None) (after-cleaning script S e t c).threads ∙ row-here S.references.threads t (death_row (Clean t)) t.0 refl in
     ap (row_bit stage_left) (same ∙ ap (option_map (death_row (Clean t))) known.is)
 
 -- a cleaning leaves a thread less that isn't cleaned

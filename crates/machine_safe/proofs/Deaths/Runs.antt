@@ -47,7 +47,7 @@ dies-act : (script : Script) (S : State) (t : ObjNo) → IsShaped script → Are
 unfolding act
 dies-act script S t shaped rows = of_action script S t (λ (ms : List Move). Dies S (perform t ms S) (tell t ms S)) shaped rows
     (λ ms sane goes. each-dies script S t ms goes.each goes.few sane)
-    (λ what rest sane owes. subst (Dies S (moved t (move.Pay what) S)) (sym (append-nil (told (move.Pay what) S))) (dies-pay script S t what rest owes (let a = sane.inside in let b = rows.sized.duties in omega arith) rows)) (dies-none S)
+    (λ what rest sane owes. subst (Dies S (moved t (move.Pay what) S)) (sym (append-nil (told (move.Pay what) S))) (dies-pay script S t what rest owes (let a = sane.inside in let b = rows.references.sized.duties in omega arith) rows)) (dies-none S)
 
 dies-done : (script : Script) (S : State) (plan : Plan) → AreRows script S → Goes script supervisor S (decision_by script supervisor S plan).moves → Dies S (done_by script S plan).state (done_by script S plan).outcome.effects
 dies-done script S plan rows goes = each-dies script S supervisor (decision_by script supervisor S plan).moves goes.each goes.few (sane-supervisor script S rows)
@@ -59,7 +59,7 @@ dies-interrupt script S k shaped rows = dies-done script S (Runs (Interrupt k)) 
 dies-immediate : (script : Script) (S : State) → IsShaped script → AreRows script S → Dies S (immediate script S).state (immediate script S).outcome.effects
 unfolding immediate
 dies-immediate script S shaped rows =
-    let found = next_immediate S.deferred in dies-done script S (immediate_plan script S found) rows (goes-immediate script S found shaped rows refl)
+    let found = next_immediate S.synchronization.deferred in dies-done script S (immediate_plan script S found) rows (goes-immediate script S found shaped rows refl)
 
 -- what an actor's action tells
 pub dies-next : (script : Script) (S : State) (actor : Actor) → IsShaped script → AreRows script S → Dies S (next script S actor) (transition script S actor).outcome.effects
@@ -92,11 +92,11 @@ each-kept script P moves S t (m ∷ ms) fits few s p =
 
 module _ (script : Script) (P : State → Type 0)
     (moves : (S : State) (t : ObjNo) (m : Move) → AreRows script S → FitsMove script t m S → P S → P (moved t m S))
-    (pays : (S : State) (t : ObjNo) (what : Owed) (rest : List Owed) → AreRows script S → owed_of S t ≡ what ∷ rest → t.0 < length S.owed → P S → P (moved t (move.Pay what) S)) where
+    (pays : (S : State) (t : ObjNo) (what : Owed) (rest : List Owed) → AreRows script S → owed_of S t ≡ what ∷ rest → t.0 < length S.references.owed → P S → P (moved t (move.Pay what) S)) where
   kept-act : (S : State) (t : ObjNo) → IsShaped script → AreRows script S → P S → P (act script S t).state
   unfolding act
   kept-act S t shaped rows p = of_action script S t (λ (ms : List Move). P (perform t ms S)) shaped rows
-      (λ ms sane goes. each-kept script P moves S t ms goes.each goes.few sane p) (λ what rest sane owes. pays S t what rest rows owes (let a = sane.inside in let b = rows.sized.duties in omega arith) p) p
+      (λ ms sane goes. each-kept script P moves S t ms goes.each goes.few sane p) (λ what rest sane owes. pays S t what rest rows owes (let a = sane.inside in let b = rows.references.sized.duties in omega arith) p) p
 
   kept-done : (S : State) (plan : Plan) → AreRows script S → Goes script supervisor S (decision_by script supervisor S plan).moves → P S → P (done_by script S plan).state
   kept-done S plan rows goes p = each-kept script P moves S supervisor (decision_by script supervisor S plan).moves goes.each goes.few (sane-supervisor script S rows) p
@@ -107,7 +107,7 @@ module _ (script : Script) (P : State → Type 0)
 
   kept-immediate : (S : State) → IsShaped script → AreRows script S → P S → P (immediate script S).state
   unfolding immediate
-  kept-immediate S shaped rows p = let found = next_immediate S.deferred in kept-done S (immediate_plan script S found) rows (goes-immediate script S found shaped rows refl) p
+  kept-immediate S shaped rows p = let found = next_immediate S.synchronization.deferred in kept-done S (immediate_plan script S found) rows (goes-immediate script S found shaped rows refl) p
 
   pub kept-next : (S : State) (actor : Actor) → IsShaped script → AreRows script S → P S → P (next script S actor)
   kept-next S (Thread t) shaped rows p = kept-act S t shaped rows p

@@ -41,7 +41,7 @@ use Rattle.machine_safe.proofs.Serving.Turns.{at-instruction, Book, IsTurn, entr
 use Rattle.machine_safe.specs.CountAfter.{effects_of, is_by}
 use Rattle.machine_safe.specs.SafeDeaths.{dooms}
 use Rattle.machine_safe.specs.Sent.{instruction_in}
-use Rattle.machine_safe.specs.Served.{closes_handle, handles_lost}
+use Rattle.machine_safe.specs.Served.{handles_lost}
 use Rattle.move_laws.proofs.Lists.Contents.{none_contained}
 use Rattle.move_laws.proofs.Lists.Copies.{copy_at}
 use Rattle.move_laws.proofs.MoveLaws.RowMoves.{silent}
@@ -67,6 +67,7 @@ use Rattle.script_types.specs.declared.declaration.DfcDecl.{DfcDecl}
 use Rattle.script_types.specs.declared.declaration.IdfcDecl.{IdfcDecl}
 use Rattle.machine.specs.EntryWords.{is_send}
 use Rattle.machine_laws.proofs.Fitting.Actions.{regular-action}
+use Rattle.machine_safe.proofs.Serving.Connecting.{KeepHandles}
 
 -- such an action ends nobody's instruction
 unanswered : (t : ObjNo) (actor : Actor) (ms : List Move) (answer : Option ℤ) (k : ObjNo) → total advance_bit ms ≡ 0 → is_by k actor ≡ false → steps_of t ms k.0 ≡ (if is_by k actor && is_some answer then 1 else 0) + 0
@@ -91,7 +92,7 @@ turn-without script before S place t actor d rows book nobody silent unsent calm
             (same-entry before e (steps_of t d.moves) (λ n. unanswered t actor d.moves d.answer (record { 0 = n }) calm.advances (nobody (record { 0 = n }))))
             (served-keeps script (reading before) S (perform t d.moves S) t d.moves d.step fs book.served k
             (λ v. let a = calm.dooms v in let b = doom-told t d.moves S v in omega arith) (λ v. doom-among t d.moves S v)
-            (λ v row there. if_zero (closes_handle d.step) (handles_lost fs v) (let most = lost-doing script S t d.moves v does rows in let none = lost-none v d.moves (calm.calm refl) in omega arith))
+            (λ v row there. let most = lost-doing script S t d.moves v does rows in let none = lost-none v d.moves (calm.calm refl) in omega arith)
             (λ _. calm.mutexes refl) (λ v some. let none = detach-none v d.moves (calm.calm refl) in absurd (omega arith)));
         letters = letters-quiet script before S (perform t d.moves S) e book.letters (λ p among. k.unlinked p.session) q (λ p among. k.unended p.server);
         slotted = slotted-keeps script before e S (perform t d.moves S) book.slotted k.unlinked k.slots q.pool;
@@ -104,12 +105,12 @@ turn-without script before S place t actor d rows book nobody silent unsent calm
 abbrev pub IsFated : List Entry → State → Type 0
 IsFated before S = (u : ObjNo) (row : ThreadRow) → thread_of S u ≡ Some row → row_bit stage_live (Some row) + dooms (effects_of before) u ≡ 1
 
-module _ (script : Script) (before : List Entry) (S : State) (place : ℕ) (shaped : IsShaped script) (rows : AreRows script S) (book : Book script before S) (looked : Looked script before S) (fate : IsFated before S) where
+module _ (script : Script) (before : List Entry) (S : State) (place : ℕ) (shaped : IsShaped script) (rows : AreRows script S) (book : Book script before S) (looked : Looked script before S) (kept : KeepHandles script S) (fate : IsFated before S) where
   -- an action of a thread
   each-turn : (t : ObjNo) → OfEach S t (instruction_in script before t) (λ (d : Decision). (k : Kinds) → IsRegular k script S t d → Doing script S t d.moves → IsTurn script before (entry_for place t S d) (perform t d.moves S))
   each-turn t = record {
     keeps = λ d is k regular. turn-keeps script before S place t rows book d regular looked is;
-    sends = λ d is k regular. turn-sends script before S place t rows book looked d regular is;
+    sends = λ d is k regular does. turn-sends script before S place t rows book looked d regular is does fate;
     finishes = λ d is k regular does. turn-finishes script before S place t rows book d regular is does fate;
     makes = λ d is k regular does. turn-makes script before S place t rows book d regular is does (λ u live. let a = fate u live.row live.is in let b = ap stage_live live.live in omega arith);
     joins = λ d is k regular. turn-joins script before S place t rows book d regular is;
@@ -119,7 +120,7 @@ module _ (script : Script) (before : List Entry) (S : State) (place : ℕ) (shap
 
   turn-act : (t : ObjNo) → IsTurn script before (entry_of place (Thread t) (act script S t).outcome) (act script S t).state
   unfolding act
-  turn-act t = deed-of script S t (instruction_in script before t) _ (each-turn t) shaped rows (λ row is. at-instruction script before S t row book is) (regular-action script S t shaped rows).0 (regular-action script S t shaped rows).1 (doing script S t shaped rows)
+  turn-act t = deed-of script S t (instruction_in script before t) _ (each-turn t) shaped rows kept (λ row is. at-instruction script before S t row book is) (regular-action script S t shaped rows).0 (regular-action script S t shaped rows).1 (doing script S t shaped rows)
 
   turn-done : (actor : Actor) (plan : Plan) → ((u : ObjNo) → is_by u actor ≡ false) → (decision_by script supervisor S plan).answer ≡ None → is_send (decision_by script supervisor S plan).step ≡ false → IsTame plain 0 (decision_by script supervisor S plan).moves → Goes script supervisor S (decision_by script supervisor S plan).moves → IsTurn script before (entry_of place actor (done_by script S plan).outcome) (done_by script S plan).state
   turn-done actor plan nobody silent unsent calm goes = turn-without script before S place supervisor actor (decision_by script supervisor S plan) rows book nobody silent unsent calm (doing-by script S plan rows goes)
@@ -149,7 +150,7 @@ module _ (script : Script) (before : List Entry) (S : State) (place : ℕ) (shap
   turn-immediate : IsTurn script before (entry_of place Idfc (immediate script S).outcome) (immediate script S).state
   unfolding immediate
   turn-immediate =
-      let found = next_immediate S.deferred in turn-done Idfc (immediate_plan script S found) (λ u. refl) (silent-plan found) (unsent-plan found) (light-immediate script S found shaped rows refl).calm (goes-immediate script S found shaped rows refl)
+      let found = next_immediate S.synchronization.deferred in turn-done Idfc (immediate_plan script S found) (λ u. refl) (silent-plan found) (unsent-plan found) (light-immediate script S found shaped rows refl).calm (goes-immediate script S found shaped rows refl)
 
   turn-tick : IsTurn script before (entry_of place Tick (tick S).outcome) (tick S).state
   turn-tick = turn-without script before S place supervisor Tick (record { step = step.Turn; moves = []; answer = None }) rows book (λ u. refl) refl refl (tame-moves [] refl refl) (inr (inr refl))

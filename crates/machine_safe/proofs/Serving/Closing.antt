@@ -17,9 +17,9 @@ use Rattle.machine_safe.proofs.Serving.Keeps.{Keeps, closing-row, keeps-closing,
 use Rattle.machine_safe.proofs.Serving.KeptRows.{at-closed, closed-long, closing-was, link-closed}
 use Rattle.machine_safe.proofs.Serving.Reading.{Reading, closing_by, further}
 use Rattle.machine_safe.proofs.Serving.Served.{IsServed, Served, bit-is, bit-none, bit-some, closing-count}
-use Rattle.machine_safe.proofs.Serving.Told.{unlinking-close}
+use Rattle.machine_safe.proofs.Serving.Told.{unlinking-close, close-lost}
 use Rattle.machine_safe.specs.SafeDeaths.{dooms}
-use Rattle.machine_safe.specs.Served.{closes_handle, ends, handles_lost, or_before, owner_told, server_told}
+use Rattle.machine_safe.specs.Served.{ends, handles_lost, or_before, owner_told, server_told}
 use Rattle.move_laws.proofs.Lists.Mapped.{mapped-some}
 use Rattle.move_laws.proofs.References.Mutexes.{held-not_holding}
 use Rattle.move_laws.proofs.References.Same.{eqb_apart, if_is, if_not, if_zero, same_object, same_self}
@@ -64,7 +64,7 @@ module _ (script : Script) (r : Reading) (S : State) (t : ObjNo) (done : Step) (
   abbrev begun : ObjNo → State
   begun v = moved t (Servers (Close v)) S
 
-  module _ (v : ObjNo) (holder : Holder) (handle : is_handle holder ≡ true) (makes : makes_server done ≡ false) (closing_step : closes_handle done ≡ true)
+  module _ (v : ObjNo) (holder : Holder) (handle : is_handle holder ≡ true) (makes : makes_server done ≡ false)
       (k : Keeps (begun v) (moved t (Lose holder v) (begun v)) t (Lose holder v ∷ []) (told (Lose holder v) (begun v))) where
     abbrev gone : State
     gone = moved t (Lose holder v) (begun v)
@@ -79,7 +79,7 @@ module _ (script : Script) (r : Reading) (S : State) (t : ObjNo) (done : Step) (
     owner_same o = ap (λ (b : Bool). or_before (if b then owner_told fs o else None) (r.owner o)) makes
 
     closings_more : (o : ObjNo) → now_told.closings o ≡ r.closings o + same v o
-    closings_more o = let a = ap (λ (b : Bool). if b then handles_lost fs o else 0) closing_step in let b = closed-lost (dies (begun v) v) holder v o handle in omega arith
+    closings_more o = let b = closed-lost (dies (begun v) v) holder v o handle in omega arith
 
     closing_now : (o w : ObjNo) → now_told.owner o ≡ Some w → closing_by now_told o ≡ nat_lt 0 (r.closings o + same v o + dooms r.effects w)
     closing_now o w is =
@@ -88,10 +88,10 @@ module _ (script : Script) (r : Reading) (S : State) (t : ObjNo) (done : Step) (
         let c = closed-dooms (dies (begun v) v) holder v w in
         closing-count now_told o w is ∙ ap (nat_lt 0) (let equal : now_told.closings o + dooms now_told.effects w ≡ r.closings o + same v o + dooms r.effects w = omega arith in equal)
 
-    row_now : (o : ObjNo) (row : ServerRow) → server_at gone.servers o ≡ Some row → IsServed now_told gone o row
+    row_now : (o : ObjNo) (row : ServerRow) → server_at gone.serving.servers o ≡ Some row → IsServed now_told gone o row
     row_now o row is =
         let one = k.servers o row is in
-        let was = closing-was v S.servers o one.old one.was in
+        let was = closing-was v S.serving.servers o one.old one.was in
         let old = h.rows o was.0 was.1 in
         let own : was.0.owner ≡ row.owner = was.2 ∙ one.owner in
         let owner : now_told.owner o ≡ Some row.owner = owner_same o ∙ (old.owner ∙ ap Some own) in
@@ -107,7 +107,7 @@ module _ (script : Script) (r : Reading) (S : State) (t : ObjNo) (done : Step) (
               (λ not. let zero = bit-none was.0.is_closing (r.closings o + dooms r.effects was.0.owner) count (old_not not) in
               let apart : same v o ≡ 0 = if_not (v.0 == o.0) 1 (eqb_apart v.0 o.0 (λ at. let so = was.5 at in let no_so = first_not not in absurd (cc))) in omega arith)
               ∙ sym (closing_now o row.owner owner);
-          owned = λ not. subst (λ (u : ObjNo). 0 < times_owned gone.owned u o) own (subst (λ (l : List (List ObjNo)). 0 < times_owned l was.0.owner o) (sym k.owned) (old.owned (old_not not)));
+          owned = λ not. subst (λ (u : ObjNo). 0 < times_owned gone.serving.owned u o) own (subst (λ (l : List (List ObjNo)). 0 < times_owned l was.0.owner o) (sym k.owned) (old.owned (old_not not)));
         }
       where
         some_now : (o : ObjNo) (b c d : Bool) (n m l : ℕ) → b ≡ true → (b ≡ true → c ≡ false → ⊥) → (c ≡ true → d ≡ false → v.0 ≡ o.0) → d ≡ nat_lt 0 (n + m) → l ≡ m → 0 < n + same v o + l
@@ -122,16 +122,16 @@ module _ (script : Script) (r : Reading) (S : State) (t : ObjNo) (done : Step) (
     served-closing = record {
       rows = row_now;
       links = λ s o is. server_told-append r.effects fs s ∙ (ap (λ (x : Option ObjNo). or_before x (server_told r.effects s)) (k.unlinked s) ∙ h.links s o (k.links s o is));
-      ended = λ o some. let a = ends-append r.effects fs o in let b = k.unended o in keeps-closing (begun v) gone t (Lose holder v ∷ []) fs o k (closing-stays v S.servers o (h.ended o (omega arith)));
+      ended = λ o some. let a = ends-append r.effects fs o in let b = k.unended o in keeps-closing (begun v) gone t (Lose holder v ∷ []) fs o k (closing-stays v S.serving.servers o (h.ended o (omega arith)));
       over = λ u o some. ap (λ (l : List (List ObjNo)). times_owned l u o) k.owned ∙ h.over u o (let a = ends-append r.effects fs o in let b = k.unended o in omega arith);
-      made = λ u o is. elim (h.made u o (sym (owner_same o) ∙ is)) as (λ _. (0 < times_owned gone.owned u o) ⊎ (0 < ends (r.effects ++ fs) o)) [
+      made = λ u o is. elim (h.made u o (sym (owner_same o) ∙ is)) as (λ _. (0 < times_owned gone.serving.owned u o) ⊎ (0 < ends (r.effects ++ fs) o)) [
         | inl owned ↦ inl (subst (λ (l : List (List ObjNo)). 0 < times_owned l u o) (sym k.owned) owned)
         | inr over ↦ inr (let a = ends-append r.effects fs o in omega arith)
       ];
       unmade = λ o past.
           let more = k.objects in
           let old = h.unmade o (omega arith) in
-          let none = if_zero (closes_handle done) (handles_lost fs o) (k.lost o past) in omega arith;
+          let none = k.lost o past in omega arith;
       places = λ n row is.
           let w = k.threads n row is in
           let old = h.places n w.old w.was in
@@ -140,11 +140,11 @@ module _ (script : Script) (r : Reading) (S : State) (t : ObjNo) (done : Step) (
       told_linked = λ s o is alive.
           let was = told_first s o is in
           let inside = h.told_made s o was in
-          elim (h.told_linked s o was (k.alive s inside alive)) as (λ _. (server_of gone.servers s ≡ Some o) ⊎ (is_closing gone.servers o ≡ true)) [
-            | inr closing ↦ inr (keeps-closing (begun v) gone t (Lose holder v ∷ []) fs o k (closing-stays v S.servers o closing))
-            | inl linked ↦ elim (k.linked s o inside linked) as (λ _. (server_of gone.servers s ≡ Some o) ⊎ (is_closing gone.servers o ≡ true)) [
+          elim (h.told_linked s o was (k.alive s inside alive)) as (λ _. (server_of gone.serving.servers s ≡ Some o) ⊎ (is_closing gone.serving.servers o ≡ true)) [
+            | inr closing ↦ inr (keeps-closing (begun v) gone t (Lose holder v ∷ []) fs o k (closing-stays v S.serving.servers o closing))
+            | inl linked ↦ elim (k.linked s o inside linked) as (λ _. (server_of gone.serving.servers s ≡ Some o) ⊎ (is_closing gone.serving.servers o ≡ true)) [
               | inl still ↦ inl still
-              | inr other ↦ elim other as (λ _. (server_of gone.servers s ≡ Some o) ⊎ (is_closing gone.servers o ≡ true)) [
+              | inr other ↦ elim other as (λ _. (server_of gone.serving.servers s ≡ Some o) ⊎ (is_closing gone.serving.servers o ≡ true)) [
                 | inl dead ↦ absurd (dead alive)
                 | inr detached ↦ let none = undetached holder v o handle in absurd (omega arith)
               ]
@@ -153,7 +153,7 @@ module _ (script : Script) (r : Reading) (S : State) (t : ObjNo) (done : Step) (
     }
 
   -- a server stops
-  module _ (v : ObjNo) (makes : makes_server done ≡ false) (closing_step : closes_handle done ≡ false) (may : MayEnd S v) (inside : t.0 < length S.owned) (once : times_owned S.owned t v ≡ 1) (alone : (u : ObjNo) → 0 < times_owned S.owned u v → u.0 ≡ t.0) where
+  module _ (v : ObjNo) (makes : makes_server done ≡ false) (may : MayEnd S v) (inside : t.0 < length S.serving.owned) (once : times_owned S.serving.owned t v ≡ 1) (alone : (u : ObjNo) → 0 < times_owned S.serving.owned u v → u.0 ≡ t.0) where
     abbrev stopped : State
     stopped = moved t (Lose (Own t) v) (moved t (Servers (End v)) S)
 
@@ -170,7 +170,7 @@ module _ (script : Script) (r : Reading) (S : State) (t : ObjNo) (done : Step) (
     owner_kept o = ap (λ (b : Bool). or_before (if b then owner_told told_then o else None) (r.owner o)) makes
 
     closings_kept : (o : ObjNo) → after.closings o ≡ r.closings o
-    closings_kept o = let a = ap (λ (b : Bool). if b then handles_lost told_then o else 0) closing_step in omega arith
+    closings_kept o = let a = close-lost last (Own t) v o refl in omega arith
 
     closing_kept : (o w : ObjNo) → after.owner o ≡ Some w → closing_by after o ≡ nat_lt 0 (r.closings o + dooms r.effects w)
     closing_kept o w is =
@@ -179,21 +179,21 @@ module _ (script : Script) (r : Reading) (S : State) (t : ObjNo) (done : Step) (
         let c = closed-dooms last (Own t) v w in
         closing-count after o w is ∙ ap (nat_lt 0) (let equal : after.closings o + dooms after.effects w ≡ r.closings o + dooms r.effects w = omega arith in equal)
 
-    fewer : (u o : ObjNo) → times_owned stopped.owned u o + (if t.0 == u.0 then same v o else 0) ≡ times_owned S.owned u o
-    fewer u o = held-not_holding S.owned t v u o inside once
+    fewer : (u o : ObjNo) → times_owned stopped.serving.owned u o + (if t.0 == u.0 then same v o else 0) ≡ times_owned S.serving.owned u o
+    fewer u o = held-not_holding S.serving.owned t v u o inside once
 
-    owned_other : (u o : ObjNo) → (v.0 ≡ o.0 → ⊥) → times_owned stopped.owned u o ≡ times_owned S.owned u o
+    owned_other : (u o : ObjNo) → (v.0 ≡ o.0 → ⊥) → times_owned stopped.serving.owned u o ≡ times_owned S.serving.owned u o
     owned_other u o apart =
         let a = fewer u o in
         let none : same v o ≡ 0 = if_not (v.0 == o.0) 1 (eqb_apart v.0 o.0 apart) in
         let zero = if_zero (t.0 == u.0) (same v o) none in omega arith
 
     -- and nobody owns it then
-    nobodys : (u : ObjNo) → times_owned stopped.owned u v ≡ 0
-    nobodys u = zero_or (times_owned stopped.owned u v) (λ some.
+    nobodys : (u : ObjNo) → times_owned stopped.serving.owned u v ≡ 0
+    nobodys u = zero_or (times_owned stopped.serving.owned u v) (λ some.
         let a = fewer u v in
         let at = alone u (omega arith) in
-        let owner : times_owned S.owned u v ≡ 1 = ap (λ (x : ObjNo). times_owned S.owned x v) (same_object u t at) ∙ once in
+        let owner : times_owned S.serving.owned u v ≡ 1 = ap (λ (x : ObjNo). times_owned S.serving.owned x v) (same_object u t at) ∙ once in
         let own = same_self v in
         let here : (if t.0 == u.0 then same v v else 0) ≡ 1 = if_is (t.0 == u.0) (same v v) (eq-eqb t.0 u.0 (sym at)) ∙ own in absurd (omega arith))
 
@@ -209,37 +209,37 @@ module _ (script : Script) (r : Reading) (S : State) (t : ObjNo) (done : Step) (
           let old = h.rows o row is in
           let owner = owner_kept o ∙ old.owner in
           record {
-            made = let a = old.made in let b = closed-long last v S.objects in omega arith;
+            made = let a = old.made in let b = closed-long last v S.references.objects in omega arith;
             owner = owner;
             closing = old.closing ∙ (closing-count r o row.owner old.owner ∙ sym (closing_kept o row.owner owner));
             owned = λ not.
-                let apart : v.0 ≡ o.0 → ⊥ = λ at. let so : is_closing S.servers o ≡ true = ap (λ (n : ℕ). closes (get_or S.servers.servers n None)) (sym at) ∙ may.closing in let now = sym (ap closes is) ∙ so in absurd (cc) in
+                let apart : v.0 ≡ o.0 → ⊥ = λ at. let so : is_closing S.serving.servers o ≡ true = ap (λ (n : ℕ). closes (get_or S.serving.servers.servers n None)) (sym at) ∙ may.closing in let now = sym (ap closes is) ∙ so in absurd (cc) in
                 let a = owned_other row.owner o apart in let b = old.owned not in omega arith;
           };
-      links = λ s o is. server_told-append r.effects told_then s ∙ (ap (λ (x : Option ObjNo). or_before x (server_told r.effects s)) ((unlinking-close last (Own t) v).unlinked s) ∙ h.links s o (link-closed last v S.servers s o is));
-      ended = λ o some. elim (cases_eq v.0 o.0) as (λ _. is_closing S.servers o ≡ true) [
-        | inl at ↦ ap (λ (n : ℕ). closes (get_or S.servers.servers n None)) (sym at) ∙ may.closing
+      links = λ s o is. server_told-append r.effects told_then s ∙ (ap (λ (x : Option ObjNo). or_before x (server_told r.effects s)) ((unlinking-close last (Own t) v).unlinked s) ∙ h.links s o (link-closed last v S.serving.servers s o is));
+      ended = λ o some. elim (cases_eq v.0 o.0) as (λ _. is_closing S.serving.servers o ≡ true) [
+        | inl at ↦ ap (λ (n : ℕ). closes (get_or S.serving.servers.servers n None)) (sym at) ∙ may.closing
         | inr apart ↦ h.ended o (let a = ends_more o in let none : same v o ≡ 0 = if_not (v.0 == o.0) 1 (eqb_apart v.0 o.0 apart) in omega arith)
       ];
-      over = λ u o some. elim (cases_eq v.0 o.0) as (λ _. times_owned stopped.owned u o ≡ 0) [
-        | inl at ↦ ap (times_owned stopped.owned u) (sym (same_object v o at)) ∙ nobodys u
+      over = λ u o some. elim (cases_eq v.0 o.0) as (λ _. times_owned stopped.serving.owned u o ≡ 0) [
+        | inl at ↦ ap (times_owned stopped.serving.owned u) (sym (same_object v o at)) ∙ nobodys u
         | inr apart ↦ owned_other u o apart ∙ h.over u o (let a = ends_more o in let none : same v o ≡ 0 = if_not (v.0 == o.0) 1 (eqb_apart v.0 o.0 apart) in omega arith)
       ];
-      made = λ u o is. elim (cases_eq v.0 o.0) as (λ _. (0 < times_owned stopped.owned u o) ⊎ (0 < ends after.effects o)) [
+      made = λ u o is. elim (cases_eq v.0 o.0) as (λ _. (0 < times_owned stopped.serving.owned u o) ⊎ (0 < ends after.effects o)) [
         | inl at ↦ inr (let a = ends_more o in let one = if_is (v.0 == o.0) 1 (eq-eqb v.0 o.0 at) in omega arith)
-        | inr apart ↦ elim (h.made u o (sym (owner_kept o) ∙ is)) as (λ _. (0 < times_owned stopped.owned u o) ⊎ (0 < ends after.effects o)) [
+        | inr apart ↦ elim (h.made u o (sym (owner_kept o) ∙ is)) as (λ _. (0 < times_owned stopped.serving.owned u o) ⊎ (0 < ends after.effects o)) [
           | inl owned ↦ inl (let a = owned_other u o apart in omega arith)
           | inr over ↦ inr (let a = ends_more o in omega arith)
         ]
       ];
-      unmade = λ o past. let a = closed-long last v S.objects in let old = h.unmade o (omega arith) in let none = closings_kept o in omega arith;
+      unmade = λ o past. let a = closed-long last v S.references.objects in let old = h.unmade o (omega arith) in let none = closings_kept o in omega arith;
       places = λ n row is.
-          let w = at-closed last v S.threads n row is in
+          let w = at-closed last v S.references.threads n row is in
           let old = h.places n w.old w.was in
           record { first = old.first; is = old.is; role = old.role ∙ w.role; place = let a = w.place in let b = old.place in omega arith };
-      told_made = λ s o is. let a = closed-long last v S.objects in let inside = h.told_made s o (told_earlier s o is) in omega arith;
-      told_linked = λ s o is alive. elim (h.told_linked s o (told_earlier s o is) (alive-closed last v S.objects s alive)) as (λ _. (server_of stopped.servers s ≡ Some o) ⊎ (is_closing stopped.servers o ≡ true)) [
-        | inl linked ↦ elim (linked-closed last v S.objects S.servers s o linked) as (λ _. (server_of stopped.servers s ≡ Some o) ⊎ (is_closing stopped.servers o ≡ true)) [
+      told_made = λ s o is. let a = closed-long last v S.references.objects in let inside = h.told_made s o (told_earlier s o is) in omega arith;
+      told_linked = λ s o is alive. elim (h.told_linked s o (told_earlier s o is) (alive-closed last v S.references.objects s alive)) as (λ _. (server_of stopped.serving.servers s ≡ Some o) ⊎ (is_closing stopped.serving.servers o ≡ true)) [
+        | inl linked ↦ elim (linked-closed last v S.references.objects S.serving.servers s o linked) as (λ _. (server_of stopped.serving.servers s ≡ Some o) ⊎ (is_closing stopped.serving.servers o ≡ true)) [
           | inl still ↦ inl still
           | inr dead ↦ absurd (dead alive)
         ]

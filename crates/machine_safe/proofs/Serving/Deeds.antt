@@ -16,7 +16,7 @@ use Rattle.machine_laws.proofs.Fitting.Regular.{serving_bit}
 use Rattle.machine_safe.proofs.Serving.Keeps.{changing-none, changing_bit, lost-none, lost_bit, message-none, message_bit, detach-none, detach_bit}
 use Rattle.machine_safe.specs.SafeMessages.{code_by}
 use Rattle.machine_safe.specs.Sent.{accepts_by, status_by}
-use Rattle.machine_safe.specs.Served.{closes_handle, makes_session}
+use Rattle.machine_safe.specs.Served.{makes_session}
 use Rattle.script_types.specs.declared.instruction.Instr.{Instr}
 use Rattle.state_rows.specs.MessageRows.{message_of, is_async, is_full}
 use Rattle.state_rows.specs.ServerRows.{is_closing, owner_of, server_at, server_of}
@@ -41,6 +41,8 @@ use Rattle.machine.specs.Task.{instruction}
 use Rattle.machine_safe.specs.Slotted.{looked_in}
 use Rattle.script_types.specs.declared.instruction.Instr.TheVariants as instr
 use Rattle.script_types.specs.declared.script.Script.{Script}
+use Rattle.std.specs.Prelude.{is_some}
+use Rattle.machine.specs.WellFormed.{IsLiveThread}
 
 -- what stands behind the moves of a call that answers
 abbrev pub behind : Bool → ObjNo → List Move
@@ -53,13 +55,13 @@ status_of_way (Async s) = Some (status.Async s)
 status_of_way Sync = Some status.Sync
 status_of_way Disconnect = None
 
--- a handle goes with a close only of what is no server
+-- a handle goes only of what is no server
 abbrev pub ClosesOthers : State → Decision → Type 0
-ClosesOthers S d = closes_handle d.step ≡ true → (v : ObjNo) → 0 < total (lost_bit v) d.moves → server_at S.servers v ≡ None
+ClosesOthers S d = (v : ObjNo) → 0 < total (lost_bit v) d.moves → server_at S.serving.servers v ≡ None
 
 -- a session is detached only from a server that is closing
 abbrev pub Detaches : State → Decision → Type 0
-Detaches S d = (v : ObjNo) → 0 < total (detach_bit v) d.moves → is_closing S.servers v ≡ true
+Detaches S d = (v : ObjNo) → 0 < total (detach_bit v) d.moves → is_closing S.serving.servers v ≡ true
 
 -- whether an instruction is a `send`
 abbrev pub at_send : Option Instr → Bool
@@ -79,7 +81,7 @@ pub record IsSendOver (S : State) (t : ObjNo) (at : Option Instr) (s : ObjNo) : 
 
 -- why a `send` is refused: its server is closing, or it isn't and all slots are used
 abbrev pub RefusedBy : State → ObjNo → Option ℤ → Type 0
-RefusedBy S s answer = ((open_server S s ≡ None) × (answer ≡ Some (error_code ServerTerminated))) ⊎ ((o : ObjNo) × (open_server S s ≡ Some o) × (is_full S.messages s (slots_of S s) ≡ true) × (answer ≡ Some (error_code ServerBusy)))
+RefusedBy S s answer = ((open_server S s ≡ None) × (answer ≡ Some (error_code ServerTerminated))) ⊎ ((o : ObjNo) × (open_server S s ≡ Some o) × (is_full S.serving.messages s (slots_of S s) ≡ true) × (answer ≡ Some (error_code ServerBusy)))
 
 pub record IsRefusal (S : State) (t : ObjNo) (at : Option Instr) (d : Decision) : Type 0 where
   pub session : ObjNo
@@ -98,7 +100,7 @@ pub record IsKeeping (S : State) (t : ObjNo) (at : Option Instr) (d : Decision) 
 pub record IsAnswered (S : State) (t : ObjNo) (at : Option Instr) (s : ObjNo) (slots : Slots) (d : Decision) : Type 0 where
   pub over : IsSendOver S t at s
   pub answer : d.answer ≡ Some (pos 0)
-  pub free : is_full S.messages s slots ≡ false
+  pub free : is_full S.serving.messages s slots ≡ false
 
 -- thread t, at an instruction, sends a message
 pub record IsSending (S : State) (t : ObjNo) (at : Option Instr) (d : Decision) : Type 0 where
@@ -112,8 +114,9 @@ pub record IsSending (S : State) (t : ObjNo) (at : Option Instr) (d : Decision) 
   pub changing : total changing_bit back ≡ 0
   pub still : total message_bit back ≡ 0
   pub client : row.client ≡ t
-  pub linked : server_of S.servers row.session ≡ Some row.server
-  pub accepting : is_closing S.servers row.server ≡ false
+  pub live : is_some (status_of_way row.way) ≡ true → IsLiveThread S.references.threads t
+  pub linked : server_of S.serving.servers row.session ≡ Some row.server
+  pub accepting : is_closing S.serving.servers row.server ≡ false
   pub way : status_by d.step at ≡ status_of_way row.way
   pub named : accepts_by d.step (status_of_way row.way) ≡ true
   pub closed : ClosesOthers S d
@@ -127,11 +130,10 @@ pub record IsFinishing (S : State) (t : ObjNo) (at : Option Instr) (d : Decision
   pub message : Message
   pub code : ℤ
   pub answers : Bool
-  pub there : message_of S.messages message.number ≡ Some message
+  pub there : message_of S.serving.messages message.number ≡ Some message
   pub moves : d.moves ≡ finish S message code ++ behind answers t
-  pub owner : owner_of S.servers message.row.server ≡ Some t
-  pub cause : code_by d.step (is_closing S.servers message.row.server) at ≡ Some code
-  pub step : closes_handle d.step ≡ false
+  pub owner : owner_of S.serving.servers message.row.server ≡ Some t
+  pub cause : code_by d.step (is_closing S.serving.servers message.row.server) at ≡ Some code
   pub unsent : is_send d.step ≡ false
 
 -- it makes a server
@@ -142,7 +144,6 @@ pub record IsMaking (S : State) (t : ObjNo) (d : Decision) : Type 0 where
   pub moves : d.moves ≡ Servers (Start (next_object S) t) ∷ Make kind.Server name (Own t) ∷ Gain holder (next_object S) ∷ back
   pub quiet : total serving_bit back ≡ 0
   pub makes : makes_server d.step ≡ true
-  pub step : closes_handle d.step ≡ false
   pub unsent : is_send d.step ≡ false
 
 -- it joins a session at a server
@@ -156,20 +157,18 @@ pub record IsJoining (S : State) (t : ObjNo) (at : Option Instr) (d : Decision) 
   pub quiet : total serving_bit back ≡ 0
   pub joins : makes_session d.step ≡ true
   pub makes : makes_server d.step ≡ false
-  pub step : closes_handle d.step ≡ false
   pub unsent : is_send d.step ≡ false
 
 -- it closes the handle of a server
 pub record IsClosing (S : State) (t : ObjNo) (d : Decision) : Type 0 where
   pub server : ObjNo
   pub row : ServerRow
-  pub is : server_at S.servers server ≡ Some row
+  pub is : server_at S.serving.servers server ≡ Some row
   pub holder : Holder
   pub handle : is_handle holder ≡ true
   pub answers : Bool
   pub moves : d.moves ≡ Servers (Close server) ∷ Lose holder server ∷ behind answers t
   pub makes : makes_server d.step ≡ false
-  pub step : closes_handle d.step ≡ true
   pub unsent : is_send d.step ≡ false
 
 -- it stops one
@@ -177,7 +176,6 @@ pub record IsStopping (S : State) (t : ObjNo) (d : Decision) : Type 0 where
   pub server : ObjNo
   pub moves : d.moves ≡ Servers (End server) ∷ Lose (Own t) server ∷ []
   pub makes : makes_server d.step ≡ false
-  pub step : closes_handle d.step ≡ false
   pub unsent : is_send d.step ≡ false
 
 -- whatever holds of each kind of action
@@ -195,7 +193,7 @@ pub calm : {S : State} {t : ObjNo} {at : Option Instr} {P : Decision → Type 0}
 calm each d quiet unsent = each.keeps d (record {
   changing = changing-none d.moves quiet;
   still = message-none d.moves quiet;
-  closed = λ closes v some. let none = lost-none v d.moves quiet in absurd (omega arith);
+  closed = λ v some. let none = lost-none v d.moves quiet in absurd (omega arith);
   detaches = λ v some. let none = detach-none v d.moves quiet in absurd (omega arith);
   send = λ sends. absurd (cc);
 })

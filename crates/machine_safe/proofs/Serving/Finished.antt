@@ -22,7 +22,7 @@ use Rattle.machine_laws.proofs.Fitting.Regular.{serving_bit}
 use Rattle.machine_safe.proofs.Deaths.Rows.{row_bit, stage_live}
 use Rattle.machine_safe.proofs.Serving.Deeds.{IsFinishing, status_of_way, behind}
 use Rattle.machine_safe.proofs.Serving.Doing.{Doing, IsGoing, going, keeps-doing}
-use Rattle.machine_safe.proofs.Serving.Keeps.{Keeps, changing-none, changing_bit, message-none, detach-none, detach_bit}
+use Rattle.machine_safe.proofs.Serving.Keeps.{Keeps, changing-none, changing_bit, message-none, detach-none, detach_bit, lost_bit, lost-none}
 use Rattle.machine_safe.proofs.Serving.Letters.{Known, letters-less, same_number}
 use Rattle.machine_safe.proofs.Serving.Quiet.{IsQuiet, Post, post_of, posts, quiet-each}
 use Rattle.machine_safe.proofs.Serving.Reading.{reading}
@@ -55,6 +55,8 @@ use Rattle.machine_safe.proofs.Serving.Since.{fresh-on}
 use Rattle.machine_safe.proofs.Serving.Slots.{over, over-less, slotted-keeps}
 use Rattle.machine_laws.proofs.Fitting.Regular.{IsRegular, Kinds, plain}
 use Rattle.machine_laws.proofs.Fitting.Finishing.{tame-refused, tame-reply_to}
+use Rattle.machine_safe.proofs.Runs.{effects-append}
+use Rattle.machine_safe.proofs.Deaths.EffectSums.{dooms-append}
 
 -- a message's number tells it among posts
 fewer-posts : (m : MsgNo) (xs : List Message) (x : Post) → Contains (map post_of (filter (λ z. not (has_number m z)) xs)) x → Contains (map post_of xs) x × (x.number.0 ≢ m.0)
@@ -133,10 +135,10 @@ abbrev posts_of : State → List Post
 posts_of X = posts X
 
 abbrev pool_of : State → ℕ
-pool_of X = X.messages.pool
+pool_of X = X.serving.messages.pool
 
 abbrev accepted_of : State → ℕ
-accepted_of X = X.messages.accepted
+accepted_of X = X.serving.messages.accepted
 
 there-thread : (x : Option ThreadRow) → is_some x ≡ true → (row : ThreadRow) × (x ≡ Some row)
 there-thread None is = absurd (cc)
@@ -150,11 +152,11 @@ module _ (script : Script) (before : List Entry) (S : State) (place : ℕ) (t : 
   pub turn-finishes : {k : Kinds} (d : Decision) → IsRegular k script S t d → IsFinishing S t (instruction_in script before t) d → Doing script S t d.moves → ((u : ObjNo) (row : ThreadRow) → thread_of S u ≡ Some row → row_bit stage_live (Some row) + dooms (effects_of before) u ≡ 1) → IsTurn script before (entry_for place t S d) (perform t d.moves S)
   turn-finishes d regular is does fate = record {
     book = record {
-      served = served-doing script before S place t rows book d does changing regular (λ closes v some. let not_so = is.step in absurd (cc)) (λ v some. let a = ap (total (detach_bit v)) is.moves in let b = detach-none v rest calm_rest in absurd (omega arith));
+      served = served-doing script before S place t rows book d does changing regular (λ v some. let none = lost-none v rest calm_rest in let all = ap (total (lost_bit v)) is.moves in absurd (omega arith)) (λ v some. let a = ap (total (detach_bit v)) is.moves in let b = detach-none v rest calm_rest in absurd (omega arith));
       letters = letters-less script before S T e book.letters (λ p among. keeps.unlinked p.session) post among
-          (λ x there. fewer-posts m.number S.messages.outstanding x (subst (λ (l : List Post). Contains l x) left there))
-          (λ x there apart. subst (λ (l : List Post). Contains l x) (sym left) (other-posts m.number S.messages.outstanding x there apart))
-          same_accepted (ap accepts told ∙ (notice-silent _ _ _ _).0) finishes_it keeps.unended (rows.messages.given m found) (ap over left ∙ over-less m.number S.messages.outstanding);
+          (λ x there. fewer-posts m.number S.serving.messages.outstanding x (subst (λ (l : List Post). Contains l x) left there))
+          (λ x there apart. subst (λ (l : List Post). Contains l x) (sym left) (other-posts m.number S.serving.messages.outstanding x there apart))
+          same_accepted (ap accepts told ∙ (notice-silent _ _ _ _).0) finishes_it keeps.unended (rows.serving.messages.given m found) (ap over left ∙ over-less m.number S.serving.messages.outstanding);
       slotted = slotted-keeps script before e S T book.slotted keeps.unlinked keeps.slots (ap (λ (l : List Move). pool_of (perform t l S)) is.moves ∙ quiet.pool);
       fresh = fresh-on before e book.fresh (λ makes. keeps.unowned (regular.making makes));
     };
@@ -184,11 +186,11 @@ module _ (script : Script) (before : List Entry) (S : State) (place : ℕ) (t : 
       ms : List Move
       ms = finish S is.message is.code ++ behind is.answers t
 
-      found : Contains S.messages.outstanding is.message
-      found = (found_there (has_number is.message.number) S.messages.outstanding is.message is.there).0
+      found : Contains S.serving.messages.outstanding is.message
+      found = (found_there (has_number is.message.number) S.serving.messages.outstanding is.message is.there).0
 
       among : Contains (posts S) (post_of is.message)
-      among = map_there post_of S.messages.outstanding is.message found
+      among = map_there post_of S.serving.messages.outstanding is.message found
 
       known : Known script before (post_of is.message)
       known = book.letters.known (post_of is.message) among
@@ -216,17 +218,31 @@ module _ (script : Script) (before : List Entry) (S : State) (place : ℕ) (t : 
       quiet : IsQuiet (moved t (Messages (Finish is.message.number is.code)) S) (perform t rest (moved t (Messages (Finish is.message.number is.code)) S)) (tell t rest (moved t (Messages (Finish is.message.number is.code)) S))
       quiet = quiet-each script (moved t (Messages (Finish is.message.number is.code)) S) t rest goes.each.1 (message-none rest calm_rest)
 
-      left : posts T ≡ map post_of (filter (λ z. not (has_number is.message.number z)) S.messages.outstanding)
+      left : posts T ≡ map post_of (filter (λ z. not (has_number is.message.number z)) S.serving.messages.outstanding)
       left = ap (λ (l : List Move). posts_of (perform t l S)) is.moves ∙ quiet.posts
 
-      same_accepted : T.messages.accepted ≡ S.messages.accepted
+      same_accepted : T.serving.messages.accepted ≡ S.serving.messages.accepted
       same_accepted = ap (λ (l : List Move). accepted_of (perform t l S)) is.moves ∙ quiet.accepted
 
       client : (row : ThreadRow) × (thread_of S is.message.row.client ≡ Some row)
-      client = there-thread (thread_of S is.message.row.client) (rows.messages.clients is.message found)
+      client = there-thread (thread_of S is.message.row.client) (rows.serving.messages.clients is.message found)
 
       told : e.effects ≡ effect.Finish is.message.number is.code ∷ notice (status_of_way is.message.row.way) (nat_lt 0 (dooms (effects_of before) is.message.row.client)) is.message.row.client is.code
       told = ap (λ (l : List Move). tell t l S) is.moves ∙ finish-tells S t is.message is.code is.answers client.0 (dooms (effects_of before) is.message.row.client) client.1 (fate is.message.row.client client.0 client.1)
+
+      -- a client that is told of its message was doomed exactly if it was since the message was accepted
+      since : List Effect
+      since = effects_of (known.accepted.at ∷ known.accepted.later)
+
+      noticed : (x : Option StatusNo) → (is_some x ≡ true → dooms (effects_of known.accepted.before) is.message.row.client ≡ 0) → notice x (nat_lt 0 (dooms (effects_of before) is.message.row.client)) is.message.row.client is.code ≡ notice x (nat_lt 0 (dooms since is.message.row.client)) is.message.row.client is.code
+      noticed None undoomed = refl
+      noticed (Some s) undoomed =
+          let none = undoomed refl in
+          let parts = ap (λ (l : List Entry). dooms (effects_of l) is.message.row.client) known.accepted.stands in
+          let split = ap (λ (l : List Effect). dooms l is.message.row.client) (effects-append known.accepted.before (known.accepted.at ∷ known.accepted.later)) in
+          let sum = dooms-append (effects_of known.accepted.before) since is.message.row.client in
+          let same : dooms (effects_of before) is.message.row.client ≡ dooms since is.message.row.client = omega arith in
+          ap (λ (n : ℕ). notice (Some s) (nat_lt 0 n) is.message.row.client is.code) same
 
       finishes_it : (n : MsgNo) → finishes e.effects n ≡ (if is.message.number.0 == n.0 then 1 else 0)
       finishes_it n = let a = ap (λ (l : List Effect). finishes l n) told in let b = (notice-silent (status_of_way is.message.row.way) (nat_lt 0 (dooms (effects_of before) is.message.row.client)) is.message.row.client is.code).1 n in omega arith
@@ -238,8 +254,8 @@ module _ (script : Script) (before : List Entry) (S : State) (place : ℕ) (t : 
           by true at some = same_number is.message.number n (eqb-true is.message.number.0 n.0 at)
           by false at some = absurd (omega arith)
 
-      server : (row : ServerRow) × (server_at S.servers is.message.row.server ≡ Some row) × (row.owner ≡ t)
-      server = owner-row (server_at S.servers is.message.row.server) is.owner
+      server : (row : ServerRow) × (server_at S.serving.servers is.message.row.server ≡ Some row) × (row.owner ≡ t)
+      server = owner-row (server_at S.serving.servers is.message.row.server) is.owner
 
       lawful_finish : IsFinish script before e is.message.number
       lawful_finish =
@@ -254,6 +270,7 @@ module _ (script : Script) (before : List Entry) (S : State) (place : ℕ) (t : 
             actor = refl;
             code = is.code;
             cause = ap (λ (b : Bool). code_by d.step b (instruction_in script before t)) (closing-told-by script before S is.message.row.server server.0 book server.1 ∙ sym (ap closes server.1)) ∙ is.cause;
-            told = told ∙ (ap (λ (x : Option StatusNo). effect.Finish is.message.number is.code ∷ notice x (nat_lt 0 (dooms (effects_of before) is.message.row.client)) is.message.row.client is.code) (sym known.way)
-                ∙ ap (λ (u : ObjNo). effect.Finish is.message.number is.code ∷ notice (status_by known.accepted.at.step (instruction_in script known.accepted.before u)) (nat_lt 0 (dooms (effects_of before) u)) u is.code) (sym known.client));
+            told = told ∙ (ap (λ (l : List Effect). effect.Finish is.message.number is.code ∷ l) (noticed (status_of_way is.message.row.way) known.undoomed)
+                ∙ (ap (λ (x : Option StatusNo). effect.Finish is.message.number is.code ∷ notice x (nat_lt 0 (dooms since is.message.row.client)) is.message.row.client is.code) (sym known.way)
+                ∙ ap (λ (u : ObjNo). effect.Finish is.message.number is.code ∷ notice (status_by known.accepted.at.step (instruction_in script known.accepted.before u)) (nat_lt 0 (dooms since u)) u is.code) (sym known.client)));
           }

@@ -19,17 +19,17 @@ use Rattle.machine_safe.proofs.Serving.Doing.{Doing, IsGoing, going, going-then,
 use Rattle.machine_safe.proofs.Serving.Fated.{doom-among, doom-told}
 use Rattle.machine_safe.proofs.Serving.EffectSums.{owner_told-append}
 use Rattle.move_laws.proofs.Lives.LivesMove.{zero_or}
-use Rattle.machine_safe.proofs.Serving.Keeps.{closing-row, Keeps, changing-none, message-none, message_bit, steps_of, detach-none, WasSession}
+use Rattle.machine_safe.proofs.Serving.Keeps.{closing-row, Keeps, changing-none, message-none, message_bit, steps_of, detach-none, WasSession, lost-none}
 use Rattle.machine_safe.proofs.Serving.Kept.{AreMade}
 use Rattle.machine_safe.proofs.Serving.Letters.{letters-quiet}
 use Rattle.machine_safe.proofs.Serving.Making.{served-made_server}
-use Rattle.machine_safe.proofs.Serving.Quiet.{IsQuiet}
-use Rattle.machine_safe.proofs.Serving.Reading.{IsSame, further, reading, same-both, same-entry, same-then}
+use Rattle.machine_safe.proofs.Serving.Quiet.{IsQuiet, lost-each}
+use Rattle.machine_safe.proofs.Serving.Reading.{IsSame, further, reading, same-both, same-entry, same-then, closings}
 use Rattle.machine_safe.proofs.Serving.Served.{Served, served-keeps, served-made, served-same}
 use Rattle.machine_safe.proofs.Serving.Turns.{Book, IsTurn, entry_for, unserving, counts}
 use Rattle.machine_safe.specs.CountAfter.{effects_of}
 use Rattle.machine_safe.specs.SafeDeaths.{dooms}
-use Rattle.machine_safe.specs.Served.{closings, ends, handles_lost, one_if, or_before, owner_in, owner_told, server_told}
+use Rattle.machine_safe.specs.Served.{ends, handles_lost, one_if, or_before, owner_in, owner_told, server_told}
 use Rattle.script_types.specs.declared.script.Script.{Script}
 use Rattle.std.proofs.Common.{Bool, true, false, refl, List, None, [], ap, arith, subst, sym, ℕ, ◌++◌, ◌+◌, ◌∙◌, ◌∷◌, ◌≡◌, Option, Some, get_or}
 use Rattle.std.specs.Prelude.{if◌then◌else◌, ◌==◌}
@@ -47,7 +47,7 @@ module _ (script : Script) (before : List Entry) (S : State) (place : ℕ) (t : 
   made = served-made script (reading before) S book.served
 
   -- a server is made
-  pub turn-makes : {k : Kinds} (d : Decision) → IsRegular k script S t d → IsMaking S t d → Doing script S t d.moves → ((u : ObjNo) → IsLiveThread S.threads u → dooms (effects_of before) u ≡ 0) → IsTurn script before (entry_for place t S d) (perform t d.moves S)
+  pub turn-makes : {k : Kinds} (d : Decision) → IsRegular k script S t d → IsMaking S t d → Doing script S t d.moves → ((u : ObjNo) → IsLiveThread S.references.threads u → dooms (effects_of before) u ≡ 0) → IsTurn script before (entry_for place t S d) (perform t d.moves S)
   turn-makes d regular is does undoomed = record {
     book = record {
       served = served-same script (further (further (reading before) d.step fs (λ k. 0)) d.step gs (steps_of t rest)) (reading (before ++ e ∷ [])) (perform t d.moves S) same whole;
@@ -89,7 +89,7 @@ module _ (script : Script) (before : List Entry) (S : State) (place : ℕ) (t : 
       middle = going-then script (moved t (Servers (Start (next_object S) t)) S) t (Make kind.Server is.name (Own t)) rest (going-then script S t (Servers (Start (next_object S) t)) (Make kind.Server is.name (Own t) ∷ rest) goes)
 
       first : Served script (further (reading before) d.step fs (λ k. 0)) mid
-      first = served-made_server script (reading before) S t d.step book.served rows is.name start (let a = goes.sane.inside in let b = rows.servers.owned_sized in omega arith) is.makes is.step (undoomed t start.owner)
+      first = served-made_server script (reading before) S t d.step book.served rows is.name start (let a = goes.sane.inside in let b = rows.serving.servers.owned_sized in omega arith) is.makes (undoomed t start.owner)
 
       keeps : Keeps mid (perform t rest mid) t rest gs
       keeps = keeps-going script mid t rest middle (served-made script (further (reading before) d.step fs (λ k. 0)) mid first) (changing-none rest (let a = is.quiet in omega arith))
@@ -99,7 +99,7 @@ module _ (script : Script) (before : List Entry) (S : State) (place : ℕ) (t : 
           (served-keeps script (further (reading before) d.step fs (λ k. 0)) mid (perform t rest mid) t rest d.step gs first keeps
           (λ v. let a = regular.dooms v in let b = ap (total (closed_bit v)) is.moves in let c = ap (total (doomed_bit v)) is.moves in let f = doom-told t rest mid v in omega arith)
           (λ v. doom-among t rest mid v)
-          (λ v row there. ap (λ (b : Bool). if b then handles_lost gs v else 0) is.step)
+          (λ v row there. let a = lost-each script mid t rest v middle.each in let b = lost-none v rest (let q = is.quiet in omega arith) in omega arith)
           (λ makes. let a = regular.making makes in let b = ap (total mutex_bit) is.moves in omega arith)
           (λ v some. let none = detach-none v rest (let a = is.quiet in omega arith) in absurd (omega arith)))
 
@@ -127,7 +127,7 @@ module _ (script : Script) (before : List Entry) (S : State) (place : ℕ) (t : 
           let new = owner-new v u (o.0 == v.0) refl (sym (owner-told v) ∙ (sym first_owner ∙ owns)) in
           let at = new.0 in (
             book.served.unmade v (omega arith),
-            zero_or (ends (effects_of before) v) (λ some. let row = closing-row (server_at S.servers v) (book.served.ended v some) in let below = made v row.0 row.1 in absurd (omega arith)),
+            zero_or (ends (effects_of before) v) (λ some. let row = closing-row (server_at S.serving.servers v) (book.served.ended v some) in let below = made v row.0 row.1 in absurd (omega arith)),
             subst (λ (x : ObjNo). dooms (effects_of before) x ≡ 0) new.1 (undoomed t start.owner),
           )
 
@@ -140,7 +140,7 @@ module _ (script : Script) (before : List Entry) (S : State) (place : ℕ) (t : 
       q : IsQuiet S (perform t d.moves S) e.effects
       q = quiet-doing script S t d.moves does (let a = ap (total message_bit) is.moves in let b = message-none rest (let c = is.quiet in omega arith) in omega arith)
 
-      slots : (s : ObjNo) (row : SessionRow) → session_at (perform t d.moves S).servers s ≡ Some row → WasSession S.servers s row
+      slots : (s : ObjNo) (row : SessionRow) → session_at (perform t d.moves S).serving.servers s ≡ Some row → WasSession S.serving.servers s row
       slots s row is_row =
-          let later = keeps.slots s row (ap (λ (l : List Move). session_at (perform t l S).servers s) (sym is.moves) ∙ is_row) in
-          record { old = later.old; was = set_item (λ (x : Option SessionRow). x ≡ Some later.old → get_or S.servers.sessions s.0 None ≡ Some later.old) S.servers.sessions (next_object S).0 s.0 None None (λ at none. absurd (cc)) (λ same_row. same_row) later.was; slots = later.slots }
+          let later = keeps.slots s row (ap (λ (l : List Move). session_at (perform t l S).serving.servers s) (sym is.moves) ∙ is_row) in
+          record { old = later.old; was = set_item (λ (x : Option SessionRow). x ≡ Some later.old → get_or S.serving.servers.sessions s.0 None ≡ Some later.old) S.serving.servers.sessions (next_object S).0 s.0 None None (λ at none. absurd (cc)) (λ same_row. same_row) later.was; slots = later.slots }

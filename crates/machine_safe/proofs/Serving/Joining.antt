@@ -17,11 +17,11 @@ use Rattle.machine_safe.proofs.Serving.Deeds.{IsJoining}
 use Rattle.machine_safe.proofs.Serving.Doing.{Doing, IsGoing, going, going-then, keeps-going, quiet-doing}
 use Rattle.machine_safe.proofs.Serving.EffectSums.{ends-append, server_told-append}
 use Rattle.machine_safe.proofs.Serving.Fated.{doom-among, doom-told}
-use Rattle.machine_safe.proofs.Serving.Keeps.{Keeps, changing-none, message-none, message_bit, steps_of, detach-none}
+use Rattle.machine_safe.proofs.Serving.Keeps.{Keeps, changing-none, message-none, message_bit, steps_of, detach-none, lost-none}
 use Rattle.machine_safe.proofs.Serving.Kept.{AreMade, keeps-move}
 use Rattle.machine_safe.proofs.Serving.Letters.{letters-quiet}
 use Rattle.machine_safe.proofs.Serving.Making.{served-joined}
-use Rattle.machine_safe.proofs.Serving.Quiet.{IsQuiet, Post, post_of, posts}
+use Rattle.machine_safe.proofs.Serving.Quiet.{IsQuiet, Post, post_of, posts, lost-each}
 use Rattle.machine_safe.proofs.Serving.Reading.{IsSame, Reading, further, reading, same-both, same-entry, same-then}
 use Rattle.machine_safe.proofs.Serving.Served.{Served, served-keeps, served-made, served-same}
 use Rattle.machine_safe.proofs.Serving.Turns.{Book, IsTurn, counts, entry_for, unserving}
@@ -45,10 +45,10 @@ use Rattle.state_rows.specs.declared.servers.SessionRow.{SessionRow}
 use Rattle.std.proofs.lemmas.Bool.{cases_eq, eq-eqb}
 use Rattle.machine_laws.proofs.Fitting.Regular.{IsRegular, Kinds}
 
-no-server : (S : State) (o : ObjNo) → AreMade S → length S.objects ≤ o.0 → server_at S.servers o ≡ None
-no-server S o made past = by (server_at S.servers o) refl
+no-server : (S : State) (o : ObjNo) → AreMade S → length S.references.objects ≤ o.0 → server_at S.serving.servers o ≡ None
+no-server S o made past = by (server_at S.serving.servers o) refl
   where
-    by : (x : Option ServerRow) → server_at S.servers o ≡ x → x ≡ None
+    by : (x : Option ServerRow) → server_at S.serving.servers o ≡ x → x ≡ None
     by None e = refl
     by (Some row) e = let below = made o row e in absurd (omega arith)
 
@@ -56,8 +56,8 @@ module _ (script : Script) (before : List Entry) (S : State) (place : ℕ) (t : 
   made : AreMade S
   made = served-made script (reading before) S book.served
 
-  posted : (p : Post) → Contains (posts S) p → (m : Message) × Contains S.messages.outstanding m × (post_of m ≡ p)
-  posted p among = contains_map post_of S.messages.outstanding p among
+  posted : (p : Post) → Contains (posts S) p → (m : Message) × Contains S.serving.messages.outstanding m × (post_of m ≡ p)
+  posted p among = contains_map post_of S.serving.messages.outstanding p among
 
   -- a session joins a server
   pub turn-joins : {k : Kinds} (d : Decision) → IsRegular k script S t d → IsJoining S t (instruction_in script before t) d → Doing script S t d.moves → IsTurn script before (entry_for place t S d) (perform t d.moves S)
@@ -115,13 +115,13 @@ module _ (script : Script) (before : List Entry) (S : State) (place : ℕ) (t : 
 
       served1 : Served script r1 T
       served1 = served-keeps script (reading before) S T t (one ∷ []) d.step fs book.served makes (λ v. omega arith) (λ v. omega arith)
-          (λ v row there. ap (λ (b : Bool). if b then handles_lost fs v else 0) is.step) (λ making. refl) (λ v some. absurd (omega arith))
+          (λ v row there. refl) (λ making. refl) (λ v some. absurd (omega arith))
 
       r2 : Reading
       r2 = further r1 d.step hs (λ k. 0)
 
       served2 : Served script r2 mid
-      served2 = served-joined script r1 T t d.step served1 later.sane.rows (next_object S) is.server is.slots later.each.0 (no-server S (next_object S) made (omega arith)) is.makes is.step
+      served2 = served-joined script r1 T t d.step served1 later.sane.rows (next_object S) is.server is.slots later.each.0 (no-server S (next_object S) made (omega arith)) is.makes
 
       keeps : Keeps mid (perform t is.back mid) t is.back gs
       keeps = keeps-going script mid t is.back last (served-made script r2 mid served2) (changing-none is.back is.quiet)
@@ -134,7 +134,7 @@ module _ (script : Script) (before : List Entry) (S : State) (place : ℕ) (t : 
           (served-keeps script r2 mid (perform t is.back mid) t is.back d.step gs served2 keeps
           (λ v. let a = regular.dooms v in let b = ap (total (closed_bit v)) is.moves in let c = ap (total (doomed_bit v)) is.moves in let f = doom-told t is.back mid v in omega arith)
           (λ v. doom-among t is.back mid v)
-          (λ v row there. ap (λ (b : Bool). if b then handles_lost gs v else 0) is.step)
+          (λ v row there. let a = lost-each script mid t is.back v last.each in let b = lost-none v is.back is.quiet in omega arith)
           (λ making. absurd (cc)) (λ v some. let none = detach-none v is.back is.quiet in absurd (omega arith)))
 
       told_all : e.effects ≡ fs ++ (hs ++ gs)
@@ -149,8 +149,8 @@ module _ (script : Script) (before : List Entry) (S : State) (place : ℕ) (t : 
       apart : (p : Post) → Contains (posts S) p → ((next_object S).0 ≡ p.session.0 → ⊥)
       apart p among at =
           let was = posted p among in
-          let session : is_some (session_at S.servers p.session) ≡ true = ap (λ (x : Post). is_some (session_at S.servers x.session)) (sym was.2) ∙ rows.messages.sessions was.0 was.1 in
-          let none : session_at S.servers p.session ≡ None = ap (λ (n : ℕ). get_or S.servers.sessions n None) (sym at) ∙ (next_fresh script S rows).session in
+          let session : is_some (session_at S.serving.servers p.session) ≡ true = ap (λ (x : Post). is_some (session_at S.serving.servers x.session)) (sym was.2) ∙ rows.serving.messages.sessions was.0 was.1 in
+          let none : session_at S.serving.servers p.session ≡ None = ap (λ (n : ℕ). get_or S.serving.servers.sessions n None) (sym at) ∙ (next_fresh script S rows).session in
           let no_session = ap is_some none in absurd (cc)
 
       unlinked : (p : Post) → Contains (posts S) p → server_told e.effects p.session ≡ None
@@ -164,8 +164,8 @@ module _ (script : Script) (before : List Entry) (S : State) (place : ℕ) (t : 
       q : IsQuiet S (perform t d.moves S) e.effects
       q = quiet-doing script S t d.moves does (let a = ap (total message_bit) is.moves in let b = message-none is.back is.quiet in omega arith)
 
-      session_room : (next_object S).0 < length T.servers.sessions
-      session_room = let a = later.each.0.made in let b = later.sane.rows.sized.objects_few in let c = later.sane.rows.servers.sessions_sized in omega arith
+      session_room : (next_object S).0 < length T.serving.servers.sessions
+      session_room = let a = later.each.0.made in let b = later.sane.rows.references.sized.objects_few in let c = later.sane.rows.serving.servers.sessions_sized in omega arith
 
       link-told : (s : ObjNo) → (next_object S).0 ≡ s.0 → server_told e.effects s ≡ Some is.server
       link-told s at =
@@ -178,17 +178,17 @@ module _ (script : Script) (before : List Entry) (S : State) (place : ℕ) (t : 
           ∙ (ap (λ (x : Option ObjNo). or_before x (server_told hs s)) (keeps.unlinked s) ∙ ap (λ (b : Bool). one_if b is.server) (eqb_apart (next_object S).0 s.0 other))) ∙ makes.unlinked s))
 
       -- the session has the slots of the instruction, and the others theirs
-      slots : (s : ObjNo) (row : SessionRow) → session_at (perform t d.moves S).servers s ≡ Some row → slots_in script (before ++ e ∷ []) s ≡ Some row.slots
+      slots : (s : ObjNo) (row : SessionRow) → session_at (perform t d.moves S).serving.servers s ≡ Some row → slots_in script (before ++ e ∷ []) s ≡ Some row.slots
       slots s row is_row =
-          let after = keeps.slots s row (ap (λ (l : List Move). session_at (perform t l S).servers s) (sym is.moves) ∙ is_row) in
+          let after = keeps.slots s row (ap (λ (l : List Move). session_at (perform t l S).serving.servers s) (sym is.moves) ∙ is_row) in
           elim (cases_eq (next_object S).0 s.0) as (λ _. slots_in script (before ++ e ∷ []) s ≡ Some row.slots) [
             | inl at ↦
-                let inside : (next_object S).0 < length T.servers.sessions = session_room in
-                let new : session_at mid.servers s ≡ Some (new_session is.server is.slots t) = ap (λ (n : ℕ). get_or mid.servers.sessions n None) (sym at) ∙ get_or-set_same T.servers.sessions (next_object S).0 (Some (new_session is.server is.slots t)) None inside in
+                let inside : (next_object S).0 < length T.serving.servers.sessions = session_room in
+                let new : session_at mid.serving.servers s ≡ Some (new_session is.server is.slots t) = ap (λ (n : ℕ). get_or mid.serving.servers.sessions n None) (sym at) ∙ get_or-set_same T.serving.servers.sessions (next_object S).0 (Some (new_session is.server is.slots t)) None inside in
                 let both : Some after.old ≡ Some (new_session is.server is.slots t) = sym after.was ∙ new in
                 let own : after.old ≡ new_session is.server is.slots t = cc in
                 slots-joined script before e s is.server is.slots is.joins (link-told s at) is.connects ∙ ap Some (sym (ap (λ (z : SessionRow). z.slots) own) ∙ after.slots)
             | inr other ↦
-                let first = makes.slots s after.old (sym (get_or-set_other T.servers.sessions (next_object S).0 s.0 (Some (new_session is.server is.slots t)) None (λ at. other (sym at))) ∙ after.was) in
+                let first = makes.slots s after.old (sym (get_or-set_other T.serving.servers.sessions (next_object S).0 s.0 (Some (new_session is.server is.slots t)) None (λ at. other (sym at))) ∙ after.was) in
                 slots-kept script before e s (link-untold s other) ∙ (book.slotted.sessions s first.old first.was ∙ ap Some (first.slots ∙ after.slots))
           ]

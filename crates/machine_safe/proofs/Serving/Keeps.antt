@@ -122,7 +122,7 @@ pub record WasSession (r : ServerRows) (s : ObjNo) (row : SessionRow) : Type 0 w
 
 -- a session is at its server still, or it died, or was detached from that
 abbrev pub StillLinked : State → List Move → ObjNo → ObjNo → Type 0
-StillLinked T ms s v = (server_of T.servers s ≡ Some v) ⊎ ((IsAlive (object_of T s) → ⊥) ⊎ (0 < total (detach_bit v) ms))
+StillLinked T ms s v = (server_of T.serving.servers s ≡ Some v) ⊎ ((IsAlive (object_of T s) → ⊥) ⊎ (0 < total (detach_bit v) ms))
 
 -- how far a thread goes where moves of thread t end its instructions
 abbrev pub steps_of : ObjNo → List Move → ℕ → ℕ
@@ -138,19 +138,19 @@ steps-then t m ms k = by (t.0 == k)
 -- Servers keep their owners, and begin to close only with their owner's doom; nobody is linked to another; threads go on by their own instructions; and
 -- no link, no end and, but for mutexes, no ownership is told, nor a handle of what isn't made.
 pub record Keeps (S T : State) (t : ObjNo) (ms : List Move) (effects : List Effect) : Type 0 where
-  pub servers : (o : ObjNo) (row : ServerRow) → server_at T.servers o ≡ Some row → WasServer S.servers ms o row
-  pub there : (o : ObjNo) → is_some (server_at S.servers o) ≡ true → is_some (server_at T.servers o) ≡ true
-  pub links : (s o : ObjNo) → server_of T.servers s ≡ Some o → server_of S.servers s ≡ Some o
-  pub owned : T.owned ≡ S.owned
-  pub doomed : (u o : ObjNo) → 0 < total (doomed_bit u) ms → 0 < times_owned T.owned u o → is_closing T.servers o ≡ true
-  pub objects : length S.objects ≤ length T.objects
-  pub alive : (o : ObjNo) → o.0 < length S.objects → IsAlive (object_of T o) → IsAlive (object_of S o)
-  pub slots : (s : ObjNo) (row : SessionRow) → session_at T.servers s ≡ Some row → WasSession S.servers s row
-  pub linked : (s v : ObjNo) → s.0 < length S.objects → server_of S.servers s ≡ Some v → StillLinked T ms s v
-  pub threads : (k : ℕ) (row : ThreadRow) → get_or T.threads k None ≡ Some row → WasAt S.threads k (steps_of t ms k) row
+  pub servers : (o : ObjNo) (row : ServerRow) → server_at T.serving.servers o ≡ Some row → WasServer S.serving.servers ms o row
+  pub there : (o : ObjNo) → is_some (server_at S.serving.servers o) ≡ true → is_some (server_at T.serving.servers o) ≡ true
+  pub links : (s o : ObjNo) → server_of T.serving.servers s ≡ Some o → server_of S.serving.servers s ≡ Some o
+  pub owned : T.serving.owned ≡ S.serving.owned
+  pub doomed : (u o : ObjNo) → 0 < total (doomed_bit u) ms → 0 < times_owned T.serving.owned u o → is_closing T.serving.servers o ≡ true
+  pub objects : length S.references.objects ≤ length T.references.objects
+  pub alive : (o : ObjNo) → o.0 < length S.references.objects → IsAlive (object_of T o) → IsAlive (object_of S o)
+  pub slots : (s : ObjNo) (row : SessionRow) → session_at T.serving.servers s ≡ Some row → WasSession S.serving.servers s row
+  pub linked : (s v : ObjNo) → s.0 < length S.references.objects → server_of S.serving.servers s ≡ Some v → StillLinked T ms s v
+  pub threads : (k : ℕ) (row : ThreadRow) → get_or T.references.threads k None ≡ Some row → WasAt S.references.threads k (steps_of t ms k) row
   pub unlinked : (s : ObjNo) → server_told effects s ≡ None
   pub unended : (v : ObjNo) → ends effects v ≡ 0
-  pub lost : (v : ObjNo) → length T.objects ≤ v.0 → handles_lost effects v ≡ 0
+  pub lost : (v : ObjNo) → length T.references.objects ≤ v.0 → handles_lost effects v ≡ 0
   pub unowned : total mutex_bit ms ≡ 0 → (v : ObjNo) → owner_told effects v ≡ None
 
 pub keeps-none : (S : State) (t : ObjNo) → Keeps S S t [] []
@@ -183,10 +183,10 @@ pub there-row : (x : Option ServerRow) → is_some x ≡ true → (row : ServerR
 there-row None is = absurd (cc)
 there-row (Some row) is = (row, refl)
 
-pub keeps-closing : (S T : State) (t : ObjNo) (ms : List Move) (effects : List Effect) (o : ObjNo) → Keeps S T t ms effects → is_closing S.servers o ≡ true → is_closing T.servers o ≡ true
+pub keeps-closing : (S T : State) (t : ObjNo) (ms : List Move) (effects : List Effect) (o : ObjNo) → Keeps S T t ms effects → is_closing S.serving.servers o ≡ true → is_closing T.serving.servers o ≡ true
 keeps-closing S T t ms effects o h is =
-    let first = closing-row (server_at S.servers o) is in
-    let now = there-row (server_at T.servers o) (h.there o (ap is_some first.1)) in
+    let first = closing-row (server_at S.serving.servers o) is in
+    let now = there-row (server_at T.serving.servers o) (h.there o (ap is_some first.1)) in
     let was = h.servers o now.0 now.1 in
     let both : Some first.0 ≡ Some was.old = sym first.1 ∙ was.was in
     let own : first.0 ≡ was.old = cc in
@@ -207,7 +207,7 @@ keeps-then S T U t m ms es fs h g = record {
   there = λ o is. g.there o (h.there o is);
   links = λ s o is. h.links s o (g.links s o is);
   owned = g.owned ∙ h.owned;
-  doomed = λ u o some owned. elim (cases_lt 0 (total (doomed_bit u) ms)) as (λ _. is_closing U.servers o ≡ true) [
+  doomed = λ u o some owned. elim (cases_lt 0 (total (doomed_bit u) ms)) as (λ _. is_closing U.serving.servers o ≡ true) [
     | inl later ↦ g.doomed u o later owned
     | inr none ↦ keeps-closing T U t ms fs o g (h.doomed u o (omega arith) (subst (λ (l : List (List ObjNo)). 0 < times_owned l u o) g.owned owned))
   ];
@@ -237,6 +237,6 @@ keeps-then S T U t m ms es fs h g = record {
   unowned = λ none v. owner_told-append es fs v ∙ nothing-told (owner_told fs v) (owner_told es v) (g.unowned (omega arith) v) (h.unowned (omega arith) v);
 }
   where
-    by : (o : ObjNo) (row : ServerRow) (two : WasServer T.servers ms o row) (one : WasServer S.servers (m ∷ []) o two.old) → row.is_closing ≡ true → one.old.is_closing ≡ false → (b : Bool) → two.old.is_closing ≡ b → 0 < total (closed_bit one.old.owner) (m ∷ ms)
+    by : (o : ObjNo) (row : ServerRow) (two : WasServer T.serving.servers ms o row) (one : WasServer S.serving.servers (m ∷ []) o two.old) → row.is_closing ≡ true → one.old.is_closing ≡ false → (b : Bool) → two.old.is_closing ≡ b → 0 < total (closed_bit one.old.owner) (m ∷ ms)
     by o row two one e not true was = let a = one.began was not in omega arith
     by o row two one e not false was = let a = subst (λ (u : ObjNo). 0 < total (closed_bit u) ms) (sym one.owner) (two.began e was) in omega arith

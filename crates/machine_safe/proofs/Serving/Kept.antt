@@ -35,24 +35,24 @@ use Rattle.state_rows.specs.declared.object.ObjectRow.{ObjectRow}
 
 -- each server was made
 abbrev pub AreMade : State → Type 0
-AreMade S = (o : ObjNo) (row : ServerRow) → server_at S.servers o ≡ Some row → o.0 < length S.objects
+AreMade S = (o : ObjNo) (row : ServerRow) → server_at S.serving.servers o ≡ Some row → o.0 < length S.references.objects
 
 -- a handle that goes is one of an object that was made
-slot-made : (script : Script) (S : State) (owner o v : ObjNo) (i n : ℕ) → AreRows script S → (slot_at (table_of S owner) i).object ≡ Some o → length S.objects ≤ v.0 → n ≤ same o v → n ≡ 0
+slot-made : (script : Script) (S : State) (owner o v : ObjNo) (i n : ℕ) → AreRows script S → (slot_at (table_of S owner) i).object ≡ Some o → length S.references.objects ≤ v.0 → n ≤ same o v → n ≡ 0
 slot-made script S owner o v i n rows is past most = zero_or n (λ some.
     let own = same_is o v (omega arith) in
-    let inside = alive_inside S.objects o.0 (handle_is_alive S owner i o rows.lives is) in
+    let inside = alive_inside S.references.objects o.0 (handle_is_alive S owner i o rows.lives is) in
     let at : o.0 ≡ v.0 = ap (λ (x : ObjNo). x.0) own in absurd (omega arith))
 
-handle-made : (script : Script) (S : State) (t : ObjNo) (m : Move) → AreRows script S → FitsMove script t m S → (v : ObjNo) → length S.objects ≤ v.0 → handles_lost (told m S) v ≡ 0
+handle-made : (script : Script) (S : State) (t : ObjNo) (m : Move) → AreRows script S → FitsMove script t m S → (v : ObjNo) → length S.references.objects ≤ v.0 → handles_lost (told m S) v ≡ 0
 handle-made script S t (Lose (InProcess p i) o) rows fits v past = slot-made script S p o v i _ rows fits.1.1 past (lost-move script S t (Lose (InProcess p i) o) v fits)
 handle-made script S t (Lose (InThread u i) o) rows fits v past = slot-made script S u o v i _ rows fits.1.1 past (lost-move script S t (Lose (InThread u i) o) v fits)
 handle-made script S t (Pay what) rows fits v past = absurd fits
 handle-made script S t m rows fits v past = let a = lost-move script S t m v fits in omega arith
 
 -- who is doomed owns closing servers alone
-doomed-move : (script : Script) (S : State) (t : ObjNo) (m : Move) → FitsMove script t m S → (u o : ObjNo) → 0 < total (doomed_bit u) (m ∷ []) → 0 < times_owned (moved t m S).owned u o → is_closing (moved t m S).servers o ≡ true
-doomed-move script S t (Death (Doom v exit)) fits u o some owned = let own : v ≡ u = same_is v u (omega arith) in fits.4 o (subst (λ (x : ObjNo). 0 < times_owned S.owned x o) (sym own) owned)
+doomed-move : (script : Script) (S : State) (t : ObjNo) (m : Move) → FitsMove script t m S → (u o : ObjNo) → 0 < total (doomed_bit u) (m ∷ []) → 0 < times_owned (moved t m S).serving.owned u o → is_closing (moved t m S).serving.servers o ≡ true
+doomed-move script S t (Death (Doom v exit)) fits u o some owned = let own : v ≡ u = same_is v u (omega arith) in fits.4 o (subst (λ (x : ObjNo). 0 < times_owned S.serving.owned x o) (sym own) owned)
 doomed-move script S t m fits u o some owned = absurd (omega arith)
 
 pub keeps-move : (script : Script) (S : State) (t : ObjNo) (m : Move) → AreRows script S → AreMade S → FitsMove script t m S → changing_bit m ≡ 0 → Keeps S (moved t m S) t (m ∷ []) (told m S)
@@ -88,35 +88,35 @@ keeps-each script S t (m ∷ ms) fits few s made none =
 -- a payment
 pub keeps-pay : (script : Script) (S : State) (t : ObjNo) (what : Owed) (rest : List Owed) → AreRows script S → owed_of S t ≡ what ∷ rest → Keeps S (moved t (Pay what) S) t (Pay what ∷ []) (told (Pay what) S)
 keeps-pay script S t (Close h o) rest rows owes = record {
-  servers = λ x row is. server-same S.servers (Pay (Close h o) ∷ []) x row is;
+  servers = λ x row is. server-same S.serving.servers (Pay (Close h o) ∷ []) x row is;
   there = λ x is. is;
-  links = λ s x is. link-closed (dies S o) o S.servers s x is;
+  links = λ s x is. link-closed (dies S o) o S.serving.servers s x is;
   owned = refl;
   doomed = λ u x some owned. absurd (omega arith);
-  objects = let a = closed-long (dies S o) o S.objects in omega arith;
-  alive = λ x inside alive. alive-closed (dies S o) o S.objects x alive;
-  slots = λ s row is. session-closed (dies S o) o S.servers s row is;
-  linked = λ s v inside is. elim (linked-closed (dies S o) o S.objects S.servers s v is) as (λ _. StillLinked (moved t (Pay (Close h o)) S) (Pay (Close h o) ∷ []) s v) [
+  objects = let a = closed-long (dies S o) o S.references.objects in omega arith;
+  alive = λ x inside alive. alive-closed (dies S o) o S.references.objects x alive;
+  slots = λ s row is. session-closed (dies S o) o S.serving.servers s row is;
+  linked = λ s v inside is. elim (linked-closed (dies S o) o S.references.objects S.serving.servers s v is) as (λ _. StillLinked (moved t (Pay (Close h o)) S) (Pay (Close h o) ∷ []) s v) [
     | inl still ↦ inl still
     | inr dead ↦ inr (inl dead)
   ];
-  threads = λ k row is. at-steps S.threads t (Pay (Close h o) ∷ []) k row refl (at-pay S t (Close h o) k row is);
+  threads = λ k row is. at-steps S.references.threads t (Pay (Close h o) ∷ []) k row refl (at-pay S t (Close h o) k row is);
   unlinked = (unlinking-close (dies S o) h o).unlinked;
   unended = (unlinking-close (dies S o) h o).unended;
   lost = λ v past. pay-lost script S t (Close h o) rest v rows owes;
   unowned = λ none v. unowned-close (dies S o) h o v;
 }
 keeps-pay script S t (Sweep o) rest rows owes = record {
-  servers = λ x row is. server-same S.servers (Pay (Sweep o) ∷ []) x row is;
+  servers = λ x row is. server-same S.serving.servers (Pay (Sweep o) ∷ []) x row is;
   there = λ x is. is;
   links = λ s x is. is;
   owned = refl;
   doomed = λ u x some owned. absurd (omega arith);
-  objects = let a = length-set S.objects o.0 None in omega arith;
-  alive = λ x inside alive. set_item (λ (y : Option ObjectRow). IsAlive y → IsAlive (get_or S.objects x.0 None)) S.objects o.0 x.0 None None (λ at none. absurd none) (λ e. e) alive;
+  objects = let a = length-set S.references.objects o.0 None in omega arith;
+  alive = λ x inside alive. set_item (λ (y : Option ObjectRow). IsAlive y → IsAlive (get_or S.references.objects x.0 None)) S.references.objects o.0 x.0 None None (λ at none. absurd none) (λ e. e) alive;
   slots = λ s row is. record { old = row; was = is; slots = refl };
   linked = λ s v inside is. inl is;
-  threads = λ k row is. at-steps S.threads t (Pay (Sweep o) ∷ []) k row refl (at-pay S t (Sweep o) k row is);
+  threads = λ k row is. at-steps S.references.threads t (Pay (Sweep o) ∷ []) k row refl (at-pay S t (Sweep o) k row is);
   unlinked = λ s. refl;
   unended = λ v. refl;
   lost = λ v past. refl;

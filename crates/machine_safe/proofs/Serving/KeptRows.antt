@@ -67,26 +67,26 @@ all-was (x ∷ xs) r o row is =
     by first second one two e not false was = let a = two e was in omega arith
 
 -- a move that changes no servers
-pub server-move : (script : Script) (S : State) (t : ObjNo) (m : Move) → AreRows script S → FitsMove script t m S → changing_bit m ≡ 0 → (o : ObjNo) (row : ServerRow) → server_at (moved t m S).servers o ≡ Some row → WasServer S.servers (m ∷ []) o row
-server-move script S t (Lose h o) rows fits none x row is = server-same S.servers (Lose h o ∷ []) x row (ap (λ (l : List (Option ServerRow)). get_or l x.0 None) (sym (lost-servers h S.servers)) ∙ is)
+pub server-move : (script : Script) (S : State) (t : ObjNo) (m : Move) → AreRows script S → FitsMove script t m S → changing_bit m ≡ 0 → (o : ObjNo) (row : ServerRow) → server_at (moved t m S).serving.servers o ≡ Some row → WasServer S.serving.servers (m ∷ []) o row
+server-move script S t (Lose h o) rows fits none x row is = server-same S.serving.servers (Lose h o ∷ []) x row (ap (λ (l : List (Option ServerRow)). get_or l x.0 None) (sym (lost-servers h S.serving.servers)) ∙ is)
 server-move script S t (Servers (CloseAll u)) rows fits none o row is =
-    let was = all-was (owned_by S.owned u) S.servers o row is in
+    let was = all-was (owned_by S.serving.owned u) S.serving.servers o row is in
     record {
       old = was.0;
       was = was.1;
       owner = was.2;
       still = was.3;
       began = λ e not.
-          let made = rows.servers.owners u o (was.4 e not) in
+          let made = rows.serving.servers.owners u o (was.4 e not) in
           let both : Some made.row ≡ Some was.0 = sym made.is ∙ was.1 in
           let same_row : made.row ≡ was.0 = cc in
           let own : u.0 ≡ was.0.owner.0 = sym (ap (λ (z : ServerRow). z.owner.0) (sym same_row) ∙ made.owner) in
           let one = if_is (u.0 == was.0.owner.0) 1 (eq-eqb u.0 was.0.owner.0 own) in omega arith;
     }
-server-move script S t (Servers (SetOpen s to)) rows fits none o row is = server-same S.servers (Servers (SetOpen s to) ∷ []) o row is
+server-move script S t (Servers (SetOpen s to)) rows fits none o row is = server-same S.serving.servers (Servers (SetOpen s to) ∷ []) o row is
 server-move script S t (Servers m) rows fits none o row is = absurd (omega arith)
 server-move script S t (Pay what) rows fits none o row is = absurd fits
-server-move script S t m rows fits none o row is = server-same S.servers (m ∷ []) o row is
+server-move script S t m rows fits none o row is = server-same S.serving.servers (m ∷ []) o row is
 
 still-there : (x : ObjNo) (r : ServerRows) (o : ObjNo) → is_some (server_at r o) ≡ true → is_some (server_at (after_closing r x) o) ≡ true
 still-there x r o is = mapped-some closing r.servers x.0 o.0 ∙ is
@@ -95,9 +95,9 @@ all-there : (os : List ObjNo) (r : ServerRows) (o : ObjNo) → is_some (server_a
 all-there [] r o is = is
 all-there (x ∷ xs) r o is = all-there xs (after_closing r x) o (still-there x r o is)
 
-pub there-move : (script : Script) (S : State) (t : ObjNo) (m : Move) → FitsMove script t m S → changing_bit m ≡ 0 → (o : ObjNo) → is_some (server_at S.servers o) ≡ true → is_some (server_at (moved t m S).servers o) ≡ true
-there-move script S t (Lose h o) fits none x is = ap (λ (l : List (Option ServerRow)). is_some (get_or l x.0 None)) (lost-servers h S.servers) ∙ is
-there-move script S t (Servers (CloseAll u)) fits none o is = all-there (owned_by S.owned u) S.servers o is
+pub there-move : (script : Script) (S : State) (t : ObjNo) (m : Move) → FitsMove script t m S → changing_bit m ≡ 0 → (o : ObjNo) → is_some (server_at S.serving.servers o) ≡ true → is_some (server_at (moved t m S).serving.servers o) ≡ true
+there-move script S t (Lose h o) fits none x is = ap (λ (l : List (Option ServerRow)). is_some (get_or l x.0 None)) (lost-servers h S.serving.servers) ∙ is
+there-move script S t (Servers (CloseAll u)) fits none o is = all-there (owned_by S.serving.owned u) S.serving.servers o is
 there-move script S t (Servers (SetOpen s to)) fits none o is = is
 there-move script S t (Servers m) fits none o is = absurd (omega arith)
 there-move script S t (Pay what) fits none o is = absurd fits
@@ -126,16 +126,16 @@ all-links : (os : List ObjNo) (r : ServerRows) → (all_closing os r).sessions �
 all-links [] r = refl
 all-links (x ∷ xs) r = all-links xs (after_closing r x)
 
-pub link-move : (script : Script) (S : State) (t : ObjNo) (m : Move) → FitsMove script t m S → changing_bit m ≡ 0 → (s o : ObjNo) → server_of (moved t m S).servers s ≡ Some o → server_of S.servers s ≡ Some o
-link-move script S t (Lose h x) fits none s o is = link-lost h S.servers s o (link-closed (dies S x) x (servers_lose h S.servers) s o is)
-link-move script S t (Servers (CloseAll u)) fits none s o is = ap (λ (l : List (Option SessionRow)). link_of (get_or l s.0 None)) (sym (all-links (owned_by S.owned u) S.servers)) ∙ is
-link-move script S t (Servers (SetOpen x to)) fits none s o is = link-mapped (opened to) S.servers.sessions x.0 s o (λ row e. e) is
+pub link-move : (script : Script) (S : State) (t : ObjNo) (m : Move) → FitsMove script t m S → changing_bit m ≡ 0 → (s o : ObjNo) → server_of (moved t m S).serving.servers s ≡ Some o → server_of S.serving.servers s ≡ Some o
+link-move script S t (Lose h x) fits none s o is = link-lost h S.serving.servers s o (link-closed (dies S x) x (servers_lose h S.serving.servers) s o is)
+link-move script S t (Servers (CloseAll u)) fits none s o is = ap (λ (l : List (Option SessionRow)). link_of (get_or l s.0 None)) (sym (all-links (owned_by S.serving.owned u) S.serving.servers)) ∙ is
+link-move script S t (Servers (SetOpen x to)) fits none s o is = link-mapped (opened to) S.serving.servers.sessions x.0 s o (λ row e. e) is
 link-move script S t (Servers m) fits none s o is = absurd (omega arith)
 link-move script S t (Pay what) fits none s o is = absurd fits
 link-move script S t m fits none s o is = is
 
 -- who owns which server
-pub owned-move : (script : Script) (S : State) (t : ObjNo) (m : Move) → ((o : ObjNo) (row : ServerRow) → server_at S.servers o ≡ Some row → o.0 < length S.objects) → FitsMove script t m S → changing_bit m ≡ 0 → (moved t m S).owned ≡ S.owned
+pub owned-move : (script : Script) (S : State) (t : ObjNo) (m : Move) → ((o : ObjNo) (row : ServerRow) → server_at S.serving.servers o ≡ Some row → o.0 < length S.references.objects) → FitsMove script t m S → changing_bit m ≡ 0 → (moved t m S).serving.owned ≡ S.serving.owned
 owned-move script S t (Make kind name (Own u)) made fits none = let past = made (next_object S) _ fits.1.server in absurd (omega arith)
 owned-move script S t (Make kind name h) made fits none = refl
 owned-move script S t (Lose (Own u) o) made fits none = absurd (omega arith)
@@ -149,9 +149,9 @@ pub closed-long : (last : Bool) (o : ObjNo) (objects : List (Option ObjectRow)) 
 closed-long true o objects = length-set objects o.0 _
 closed-long false o objects = refl
 
-pub objects-move : (script : Script) (S : State) (t : ObjNo) (m : Move) → FitsMove script t m S → length S.objects ≤ length (moved t m S).objects
-objects-move script S t (Make kind name h) fits = let a = length-append S.objects (Some (new_object kind name) ∷ []) in omega arith
-objects-move script S t (Lose h o) fits = let a = closed-long (dies S o) o S.objects in omega arith
+pub objects-move : (script : Script) (S : State) (t : ObjNo) (m : Move) → FitsMove script t m S → length S.references.objects ≤ length (moved t m S).references.objects
+objects-move script S t (Make kind name h) fits = let a = length-append S.references.objects (Some (new_object kind name) ∷ []) in omega arith
+objects-move script S t (Lose h o) fits = let a = closed-long (dies S o) o S.references.objects in omega arith
 objects-move script S t (Pay what) fits = absurd fits
 objects-move script S t m fits = omega arith
 
@@ -184,25 +184,25 @@ at-dies threads (Bury u) k row is = at-with threads u _ (λ r. refl) (λ r. refl
 pub at-steps : (threads : List (Option ThreadRow)) (t : ObjNo) (ms : List Move) (k : ℕ) (row : ThreadRow) → total advance_bit ms ≡ 0 → WasAt threads k 0 row → WasAt threads k (steps_of t ms k) row
 at-steps threads t ms k row none h = record { old = h.old; was = h.was; role = h.role; place = let a = if_zero (t.0 == k) (total advance_bit ms) none in let b = h.place in omega arith }
 
-pub at-move : (script : Script) (S : State) (t : ObjNo) (m : Move) → FitsMove script t m S → (k : ℕ) (row : ThreadRow) → get_or (moved t m S).threads k None ≡ Some row → WasAt S.threads k (steps_of t (m ∷ []) k) row
-at-move script S t (Make kind name h) fits k row is = at-steps S.threads t (Make kind name h ∷ []) k row refl (at-gained h (next_object S) S.threads k row is)
-at-move script S t (Gain h o) fits k row is = at-steps S.threads t (Gain h o ∷ []) k row refl (at-gained h o S.threads k row is)
+pub at-move : (script : Script) (S : State) (t : ObjNo) (m : Move) → FitsMove script t m S → (k : ℕ) (row : ThreadRow) → get_or (moved t m S).references.threads k None ≡ Some row → WasAt S.references.threads k (steps_of t (m ∷ []) k) row
+at-move script S t (Make kind name h) fits k row is = at-steps S.references.threads t (Make kind name h ∷ []) k row refl (at-gained h (next_object S) S.references.threads k row is)
+at-move script S t (Gain h o) fits k row is = at-steps S.references.threads t (Gain h o ∷ []) k row refl (at-gained h o S.references.threads k row is)
 at-move script S t (Lose h o) fits k row is =
-    let one = at-closed (dies S o) o (threads_lose h S.threads) k row is in
-    let two = at-lost h S.threads k one.old one.was in
-    at-steps S.threads t (Lose h o ∷ []) k row refl (record { old = two.old; was = two.was; role = two.role ∙ one.role; place = let a = one.place in let b = two.place in omega arith })
-at-move script S t (Find u o) fits k row is = at-steps S.threads t (Find u o ∷ []) k row refl (at-with S.threads u (with_found o) (λ r. refl) (λ r. refl) k row is)
-at-move script S t (GoOn u part) fits k row is = at-steps S.threads t (GoOn u part ∷ []) k row refl (at-with S.threads u (with_part part) (λ r. refl) (λ r. refl) k row is)
-at-move script S t (Keep u number) fits k row is = at-steps S.threads t (Keep u number ∷ []) k row refl (at-with S.threads u (with_kept number) (λ r. refl) (λ r. refl) k row is)
-at-move script S t (Write u x value) fits k row is = at-steps S.threads t (Write u x value ∷ []) k row refl (at-with S.threads u (with_register x value) (λ r. refl) (λ r. refl) k row is)
-at-move script S t (WriteMessage u y number) fits k row is = at-steps S.threads t (WriteMessage u y number ∷ []) k row refl (at-with S.threads u (with_message y number) (λ r. refl) (λ r. refl) k row is)
-at-move script S t (PutDown u) fits k row is = at-steps S.threads t (PutDown u ∷ []) k row refl (at-with S.threads u (with_use None) (λ r. refl) (λ r. refl) k row is)
-at-move script S t (Advance u) fits k row is = elim (cases_eq u.0 k) as (λ _. WasAt S.threads k (steps_of t (Advance u ∷ []) k) row) [
+    let one = at-closed (dies S o) o (threads_lose h S.references.threads) k row is in
+    let two = at-lost h S.references.threads k one.old one.was in
+    at-steps S.references.threads t (Lose h o ∷ []) k row refl (record { old = two.old; was = two.was; role = two.role ∙ one.role; place = let a = one.place in let b = two.place in omega arith })
+at-move script S t (Find u o) fits k row is = at-steps S.references.threads t (Find u o ∷ []) k row refl (at-with S.references.threads u (with_found o) (λ r. refl) (λ r. refl) k row is)
+at-move script S t (GoOn u part) fits k row is = at-steps S.references.threads t (GoOn u part ∷ []) k row refl (at-with S.references.threads u (with_part part) (λ r. refl) (λ r. refl) k row is)
+at-move script S t (Keep u number) fits k row is = at-steps S.references.threads t (Keep u number ∷ []) k row refl (at-with S.references.threads u (with_kept number) (λ r. refl) (λ r. refl) k row is)
+at-move script S t (Write u x value) fits k row is = at-steps S.references.threads t (Write u x value ∷ []) k row refl (at-with S.references.threads u (with_register x value) (λ r. refl) (λ r. refl) k row is)
+at-move script S t (WriteMessage u y number) fits k row is = at-steps S.references.threads t (WriteMessage u y number ∷ []) k row refl (at-with S.references.threads u (with_message y number) (λ r. refl) (λ r. refl) k row is)
+at-move script S t (PutDown u) fits k row is = at-steps S.references.threads t (PutDown u ∷ []) k row refl (at-with S.references.threads u (with_use None) (λ r. refl) (λ r. refl) k row is)
+at-move script S t (Advance u) fits k row is = elim (cases_eq u.0 k) as (λ _. WasAt S.references.threads k (steps_of t (Advance u ∷ []) k) row) [
   | inl at ↦
-      let was = map_some advanced (get_or S.threads u.0 None) row (sym (row-here S.threads u advanced k at) ∙ is) in
+      let was = map_some advanced (get_or S.references.threads u.0 None) row (sym (row-here S.references.threads u advanced k at) ∙ is) in
       record {
         old = was.0;
-        was = ap (λ (n : ℕ). get_or S.threads n None) (sym at) ∙ was.1;
+        was = ap (λ (n : ℕ). get_or S.references.threads n None) (sym at) ∙ was.1;
         role = ap (λ (z : ThreadRow). z.role) was.2;
         place =
             let own : t.0 ≡ k = ap (λ (z : ObjNo). z.0) (sym fits.0) ∙ at in
@@ -211,21 +211,21 @@ at-move script S t (Advance u) fits k row is = elim (cases_eq u.0 k) as (λ _. W
       }
   | inr apart ↦ record {
     old = row;
-    was = sym (row-other S.threads u advanced k apart) ∙ is;
+    was = sym (row-other S.references.threads u advanced k apart) ∙ is;
     role = refl;
     place =
         let other : t.0 ≡ k → ⊥ = λ e. apart (ap (λ (z : ObjNo). z.0) fits.0 ∙ e) in
         let none = if_not (t.0 == k) 1 (eqb_apart t.0 k other) in omega arith;
   }
 ]
-at-move script S t (Wait u what) fits k row is = at-steps S.threads t (Wait u what ∷ []) k row refl (at-with S.threads u (with_waiting what) (λ r. refl) (λ r. refl) k row is)
-at-move script S t (Wake u) fits k row is = at-steps S.threads t (Wake u ∷ []) k row refl (at-with S.threads u (with_waiting waiting.Nothing) (λ r. refl) (λ r. refl) k row is)
-at-move script S t (SetPriority u priority) fits k row is = at-steps S.threads t (SetPriority u priority ∷ []) k row refl (at-with S.threads u (with_priority priority) (λ r. refl) (λ r. refl) k row is)
-at-move script S t (Death m) fits k row is = at-steps S.threads t (Death m ∷ []) k row refl (at-dies S.threads m k row is)
+at-move script S t (Wait u what) fits k row is = at-steps S.references.threads t (Wait u what ∷ []) k row refl (at-with S.references.threads u (with_waiting what) (λ r. refl) (λ r. refl) k row is)
+at-move script S t (Wake u) fits k row is = at-steps S.references.threads t (Wake u ∷ []) k row refl (at-with S.references.threads u (with_waiting waiting.Nothing) (λ r. refl) (λ r. refl) k row is)
+at-move script S t (SetPriority u priority) fits k row is = at-steps S.references.threads t (SetPriority u priority ∷ []) k row refl (at-with S.references.threads u (with_priority priority) (λ r. refl) (λ r. refl) k row is)
+at-move script S t (Death m) fits k row is = at-steps S.references.threads t (Death m ∷ []) k row refl (at-dies S.references.threads m k row is)
 at-move script S t (Pay what) fits k row is = absurd fits
-at-move script S t m fits k row is = at-steps S.threads t (m ∷ []) k row refl (at-same S.threads k row is)
+at-move script S t m fits k row is = at-steps S.references.threads t (m ∷ []) k row refl (at-same S.references.threads k row is)
 
 -- what is owed is paid
-pub at-pay : (S : State) (t : ObjNo) (what : Owed) (k : ℕ) (row : ThreadRow) → get_or (moved t (Pay what) S).threads k None ≡ Some row → WasAt S.threads k 0 row
-at-pay S t (Close h o) k row is = at-closed (dies S o) o S.threads k row is
-at-pay S t (Sweep o) k row is = at-same S.threads k row (set_item (λ (x : Option ThreadRow). x ≡ Some row → get_or S.threads k None ≡ Some row) S.threads o.0 k None None (λ at e. absurd (cc)) (λ e. e) is)
+pub at-pay : (S : State) (t : ObjNo) (what : Owed) (k : ℕ) (row : ThreadRow) → get_or (moved t (Pay what) S).references.threads k None ≡ Some row → WasAt S.references.threads k 0 row
+at-pay S t (Close h o) k row is = at-closed (dies S o) o S.references.threads k row is
+at-pay S t (Sweep o) k row is = at-same S.references.threads k row (set_item (λ (x : Option ThreadRow). x ≡ Some row → get_or S.references.threads k None ≡ Some row) S.references.threads o.0 k None None (λ at e. absurd (cc)) (λ e. e) is)

@@ -141,30 +141,30 @@ unused-message (Accept slots row) r u = refl
 unused-message (Finish m code) r u = refl
 unused-message _ r u = refl
 
-pub uses-move : (script : Script) (S : State) (t : ObjNo) (m : Move) → FitsMove script t m S → (u o : ObjNo) (row : ThreadRow) → get_or (moved t m S).threads u.0 None ≡ Some row → row.uses ≡ Some o → UsesTold S.threads (told m S) u o
-uses-move script S t (Make kind name h) fits u o row is uses = using-gained h (next_object S) S.threads u o row is uses
-uses-move script S t (Gain h x) fits u o row is uses = using-gained h x S.threads u o row is uses
+pub uses-move : (script : Script) (S : State) (t : ObjNo) (m : Move) → FitsMove script t m S → (u o : ObjNo) (row : ThreadRow) → get_or (moved t m S).references.threads u.0 None ≡ Some row → row.uses ≡ Some o → UsesTold S.references.threads (told m S) u o
+uses-move script S t (Make kind name h) fits u o row is uses = using-gained h (next_object S) S.references.threads u o row is uses
+uses-move script S t (Gain h x) fits u o row is uses = using-gained h x S.references.threads u o row is uses
 uses-move script S t (Lose h x) fits u o row is uses =
-    let one = using-closed (dies S x) x (threads_lose h S.threads) u o row is uses in
-    inr (unused-close (dies S x) h x u, using-lost h S.threads u o one.old one.was one.uses)
-uses-move script S t (Find v x) fits u o row is uses = inr (refl, using-with S.threads v (with_found x) u o row (λ r. refl) is uses)
-uses-move script S t (GoOn v part) fits u o row is uses = inr (refl, using-with S.threads v (with_part part) u o row (λ r. refl) is uses)
-uses-move script S t (Keep v number) fits u o row is uses = inr (refl, using-with S.threads v (with_kept number) u o row (λ r. refl) is uses)
-uses-move script S t (Write v x value) fits u o row is uses = inr (refl, using-with S.threads v (with_register x value) u o row (λ r. refl) is uses)
-uses-move script S t (WriteMessage v y number) fits u o row is uses = inr (refl, using-with S.threads v (with_message y number) u o row (λ r. refl) is uses)
-uses-move script S t (PutDown v) fits u o row is uses = inr (refl, using-less S.threads v (with_use None) u o row (λ r. refl) is uses)
-uses-move script S t (Advance v) fits u o row is uses = inr (refl, using-less S.threads v advanced u o row (λ r. refl) is uses)
-uses-move script S t (Wait v what) fits u o row is uses = inr (refl, using-with S.threads v (with_waiting what) u o row (λ r. refl) is uses)
-uses-move script S t (Wake v) fits u o row is uses = inr (refl, using-with S.threads v (with_waiting waiting.Nothing) u o row (λ r. refl) is uses)
-uses-move script S t (SetPriority v priority) fits u o row is uses = inr (refl, using-with S.threads v (with_priority priority) u o row (λ r. refl) is uses)
-uses-move script S t (Nano m) fits u o row is uses = inr (unused-nano m u, using-same S.threads u o row is uses)
-uses-move script S t (Requests m) fits u o row is uses = inr (unused-request m u, using-same S.threads u o row is uses)
-uses-move script S t (Locks m) fits u o row is uses = inr (unused-lock m u, using-same S.threads u o row is uses)
-uses-move script S t (Death m) fits u o row is uses = inr (unused-death m u, using-dies m S.threads u o row is uses)
-uses-move script S t (Servers m) fits u o row is uses = inr (unused-server m u, using-same S.threads u o row is uses)
-uses-move script S t (Messages m) fits u o row is uses = inr (unused-message m S.messages u, using-same S.threads u o row is uses)
+    let one = using-closed (dies S x) x (threads_lose h S.references.threads) u o row is uses in
+    inr (unused-close (dies S x) h x u, using-lost h S.references.threads u o one.old one.was one.uses)
+uses-move script S t (Find v x) fits u o row is uses = inr (refl, using-with S.references.threads v (with_found x) u o row (λ r. refl) is uses)
+uses-move script S t (GoOn v part) fits u o row is uses = inr (refl, using-with S.references.threads v (with_part part) u o row (λ r. refl) is uses)
+uses-move script S t (Keep v number) fits u o row is uses = inr (refl, using-with S.references.threads v (with_kept number) u o row (λ r. refl) is uses)
+uses-move script S t (Write v x value) fits u o row is uses = inr (refl, using-with S.references.threads v (with_register x value) u o row (λ r. refl) is uses)
+uses-move script S t (WriteMessage v y number) fits u o row is uses = inr (refl, using-with S.references.threads v (with_message y number) u o row (λ r. refl) is uses)
+uses-move script S t (PutDown v) fits u o row is uses = inr (refl, using-less S.references.threads v (with_use None) u o row (λ r. refl) is uses)
+uses-move script S t (Advance v) fits u o row is uses = inr (refl, using-less S.references.threads v advanced u o row (λ r. refl) is uses)
+uses-move script S t (Wait v what) fits u o row is uses = inr (refl, using-with S.references.threads v (with_waiting what) u o row (λ r. refl) is uses)
+uses-move script S t (Wake v) fits u o row is uses = inr (refl, using-with S.references.threads v (with_waiting waiting.Nothing) u o row (λ r. refl) is uses)
+uses-move script S t (SetPriority v priority) fits u o row is uses = inr (refl, using-with S.references.threads v (with_priority priority) u o row (λ r. refl) is uses)
+uses-move script S t (Nano m) fits u o row is uses = inr (unused-nano m u, using-same S.references.threads u o row is uses)
+uses-move script S t (Requests m) fits u o row is uses = inr (unused-request m u, using-same S.references.threads u o row is uses)
+uses-move script S t (Locks m) fits u o row is uses = inr (unused-lock m u, using-same S.references.threads u o row is uses)
+uses-move script S t (Death m) fits u o row is uses = inr (unused-death m u, using-dies m S.references.threads u o row is uses)
+uses-move script S t (Servers m) fits u o row is uses = inr (unused-server m u, using-same S.references.threads u o row is uses)
+uses-move script S t (Messages m) fits u o row is uses = inr (unused-message m S.serving.messages u, using-same S.references.threads u o row is uses)
 uses-move script S t (Pay what) fits u o row is uses = absurd fits
-uses-move script S t m fits u o row is uses = inr (refl, using-same S.threads u o row is uses)
+uses-move script S t m fits u o row is uses = inr (refl, using-same S.references.threads u o row is uses)
 
 -- a move by which a thread comes to use nothing tells of no use
 unused-plus : (h : Holder) (x u : ObjNo) → gained_bit u h ≡ 0 → used_told (effect.Plus h x ∷ []) u ≡ None
@@ -184,7 +184,7 @@ unused-move script S t (Requests m) fits u none = unused-request m u
 unused-move script S t (Locks m) fits u none = unused-lock m u
 unused-move script S t (Death m) fits u none = unused-death m u
 unused-move script S t (Servers m) fits u none = unused-server m u
-unused-move script S t (Messages m) fits u none = unused-message m S.messages u
+unused-move script S t (Messages m) fits u none = unused-message m S.serving.messages u
 unused-move script S t (Pay what) fits u none = absurd fits
 unused-move script S t m fits u none = refl
 
@@ -193,9 +193,9 @@ pub unused-pay : (S : State) (what : Owed) (u : ObjNo) → used_told (told (Pay 
 unused-pay S (Close h o) u = unused-close (dies S o) h o u
 unused-pay S (Sweep o) u = refl
 
-pub using-pay : (S : State) (t : ObjNo) (what : Owed) (u o : ObjNo) (row : ThreadRow) → get_or (moved t (Pay what) S).threads u.0 None ≡ Some row → row.uses ≡ Some o → WasUsing S.threads u o
-using-pay S t (Close h x) u o row is uses = using-closed (dies S x) x S.threads u o row is uses
-using-pay S t (Sweep x) u o row is uses = record { old = row; was = set_item (λ (y : Option ThreadRow). y ≡ Some row → get_or S.threads u.0 None ≡ Some row) S.threads x.0 u.0 None None (λ at e. absurd (cc)) (λ e. e) is; uses = uses }
+pub using-pay : (S : State) (t : ObjNo) (what : Owed) (u o : ObjNo) (row : ThreadRow) → get_or (moved t (Pay what) S).references.threads u.0 None ≡ Some row → row.uses ≡ Some o → WasUsing S.references.threads u o
+using-pay S t (Close h x) u o row is uses = using-closed (dies S x) x S.references.threads u o row is uses
+using-pay S t (Sweep x) u o row is uses = record { old = row; was = set_item (λ (y : Option ThreadRow). y ≡ Some row → get_or S.references.threads u.0 None ≡ Some row) S.references.threads x.0 u.0 None None (λ at e. absurd (cc)) (λ e. e) is; uses = uses }
 
 -- an object that is alive was alive, if it was made
 dead_not : (x : Option ObjectRow) → IsAlive (dead_row x) → ⊥
@@ -209,9 +209,9 @@ alive-closed true x objects o alive = elim (cases_eq o.0 x.0) as (λ _. IsAlive 
 ]
 alive-closed false x objects o alive = alive
 
-pub alive-move : (script : Script) (S : State) (t : ObjNo) (m : Move) → FitsMove script t m S → (o : ObjNo) → o.0 < length S.objects → IsAlive (object_of (moved t m S) o) → IsAlive (object_of S o)
-alive-move script S t (Make kind name h) fits o made alive = subst IsAlive (get_or-append S.objects (Some (new_object kind name) ∷ []) None o.0 made) alive
-alive-move script S t (Lose h x) fits o made alive = alive-closed (dies S x) x S.objects o alive
+pub alive-move : (script : Script) (S : State) (t : ObjNo) (m : Move) → FitsMove script t m S → (o : ObjNo) → o.0 < length S.references.objects → IsAlive (object_of (moved t m S) o) → IsAlive (object_of S o)
+alive-move script S t (Make kind name h) fits o made alive = subst IsAlive (get_or-append S.references.objects (Some (new_object kind name) ∷ []) None o.0 made) alive
+alive-move script S t (Lose h x) fits o made alive = alive-closed (dies S x) x S.references.objects o alive
 alive-move script S t (Pay what) fits o made alive = absurd fits
 alive-move script S t m fits o made alive = alive
 
@@ -235,13 +235,13 @@ pub closing-sessions : (os : List ObjNo) (r : ServerRows) → (all_closing os r)
 closing-sessions [] r = refl
 closing-sessions (x ∷ xs) r = closing-sessions xs (after_closing r x)
 
-pub session-move : (script : Script) (S : State) (t : ObjNo) (m : Move) → FitsMove script t m S → changing_bit m ≡ 0 → (s : ObjNo) (row : SessionRow) → session_at (moved t m S).servers s ≡ Some row → WasSession S.servers s row
+pub session-move : (script : Script) (S : State) (t : ObjNo) (m : Move) → FitsMove script t m S → changing_bit m ≡ 0 → (s : ObjNo) (row : SessionRow) → session_at (moved t m S).serving.servers s ≡ Some row → WasSession S.serving.servers s row
 session-move script S t (Lose h x) fits none s row is =
-    let one = session-closed (dies S x) x (servers_lose h S.servers) s row is in
-    let two = session-lost h S.servers s one.old one.was in
+    let one = session-closed (dies S x) x (servers_lose h S.serving.servers) s row is in
+    let two = session-lost h S.serving.servers s one.old one.was in
     record { old = two.old; was = two.was; slots = two.slots ∙ one.slots }
-session-move script S t (Servers (CloseAll u)) fits none s row is = record { old = row; was = ap (λ (l : List (Option SessionRow)). get_or l s.0 None) (sym (closing-sessions (owned_by S.owned u) S.servers)) ∙ is; slots = refl }
-session-move script S t (Servers (SetOpen x to)) fits none s row is = session-mapped (opened to) S.servers x s row (λ z. refl) is
+session-move script S t (Servers (CloseAll u)) fits none s row is = record { old = row; was = ap (λ (l : List (Option SessionRow)). get_or l s.0 None) (sym (closing-sessions (owned_by S.serving.owned u) S.serving.servers)) ∙ is; slots = refl }
+session-move script S t (Servers (SetOpen x to)) fits none s row is = session-mapped (opened to) S.serving.servers x s row (λ z. refl) is
 session-move script S t (Servers m) fits none s row is = absurd (omega arith)
 session-move script S t (Pay what) fits none s row is = absurd fits
 session-move script S t m fits none s row is = record { old = row; was = is; slots = refl }
@@ -256,26 +256,26 @@ linked-closed true x objects r s v is = elim (cases_eq x.0 s.0) as (λ _. (serve
     set_here : (l : List (Option ObjectRow)) (y z : ObjNo) → y.0 ≡ z.0 → IsAlive (get_or (slice_set l y.0 (dead_row (get_or l y.0 None))) z.0 None) → ⊥
     set_here l y z at alive = dead_not (get_or l z.0 None) (subst IsAlive (made-here dead_row None l y.0 z.0 refl at) alive)
 
-linked-lost : (h : Holder) (S : State) (x s v : ObjNo) → Holds S h x → server_of S.servers s ≡ Some v → (server_of (servers_lose h S.servers) s ≡ Some v) ⊎ (0 < total (detach_bit v) (Lose h x ∷ []))
-linked-lost (Link y) S x s v holds is = elim (cases_eq y.0 s.0) as (λ _. (server_of (servers_lose (Link y) S.servers) s ≡ Some v) ⊎ (0 < total (detach_bit v) (Lose (Link y) x ∷ []))) [
+linked-lost : (h : Holder) (S : State) (x s v : ObjNo) → Holds S h x → server_of S.serving.servers s ≡ Some v → (server_of (servers_lose h S.serving.servers) s ≡ Some v) ⊎ (0 < total (detach_bit v) (Lose h x ∷ []))
+linked-lost (Link y) S x s v holds is = elim (cases_eq y.0 s.0) as (λ _. (server_of (servers_lose (Link y) S.serving.servers) s ≡ Some v) ⊎ (0 < total (detach_bit v) (Lose (Link y) x ∷ []))) [
   | inl at ↦
-      let both : Some x ≡ Some v = sym holds ∙ (ap (server_of S.servers) (same_object y s at) ∙ is) in
+      let both : Some x ≡ Some v = sym holds ∙ (ap (server_of S.serving.servers) (same_object y s at) ∙ is) in
       let own : x ≡ v = cc in
       inr (let self = same_self v in let one : same x v ≡ same v v = ap (λ (z : ObjNo). same z v) own in omega arith)
-  | inr apart ↦ inl (ap link_of (made-other (option_map detached) None S.servers.sessions y.0 s.0 apart) ∙ is)
+  | inr apart ↦ inl (ap link_of (made-other (option_map detached) None S.serving.servers.sessions y.0 s.0 apart) ∙ is)
 ]
 linked-lost _ S x s v holds is = inl is
 
-pub linked-move : (script : Script) (S : State) (t : ObjNo) (m : Move) → FitsMove script t m S → changing_bit m ≡ 0 → (s v : ObjNo) → server_of S.servers s ≡ Some v → StillLinked (moved t m S) (m ∷ []) s v
+pub linked-move : (script : Script) (S : State) (t : ObjNo) (m : Move) → FitsMove script t m S → changing_bit m ≡ 0 → (s v : ObjNo) → server_of S.serving.servers s ≡ Some v → StillLinked (moved t m S) (m ∷ []) s v
 linked-move script S t (Lose h x) fits none s v is = elim (linked-lost h S x s v fits.1 is) as (λ _. StillLinked (moved t (Lose h x) S) (Lose h x ∷ []) s v) [
   | inr detached ↦ inr (inr detached)
-  | inl still ↦ elim (linked-closed (dies S x) x S.objects (servers_lose h S.servers) s v still) as (λ _. StillLinked (moved t (Lose h x) S) (Lose h x ∷ []) s v) [
+  | inl still ↦ elim (linked-closed (dies S x) x S.references.objects (servers_lose h S.serving.servers) s v still) as (λ _. StillLinked (moved t (Lose h x) S) (Lose h x ∷ []) s v) [
     | inl linked ↦ inl linked
     | inr dead ↦ inr (inl dead)
   ]
 ]
-linked-move script S t (Servers (CloseAll u)) fits none s v is = inl (ap (λ (l : List (Option SessionRow)). link_of (get_or l s.0 None)) (closing-sessions (owned_by S.owned u) S.servers) ∙ is)
-linked-move script S t (Servers (SetOpen x to)) fits none s v is = inl (mapped-value link_of (opened to) S.servers.sessions x.0 s.0 (λ z. refl) ∙ is)
+linked-move script S t (Servers (CloseAll u)) fits none s v is = inl (ap (λ (l : List (Option SessionRow)). link_of (get_or l s.0 None)) (closing-sessions (owned_by S.serving.owned u) S.serving.servers) ∙ is)
+linked-move script S t (Servers (SetOpen x to)) fits none s v is = inl (mapped-value link_of (opened to) S.serving.servers.sessions x.0 s.0 (λ z. refl) ∙ is)
 linked-move script S t (Servers m) fits none s v is = absurd (omega arith)
 linked-move script S t (Pay what) fits none s v is = absurd fits
 linked-move script S t m fits none s v is = inl is

@@ -3,7 +3,7 @@ use Rattle.entry_log.specs.declared.effect.Effect.TheVariants as effect
 use Rattle.entry_log.specs.declared.effect.Holder.TheVariants as holder
 use Rattle.entry_log.specs.declared.effect.Effect.{Effect}
 use Rattle.entry_log.specs.declared.entry.Entry.{Entry}
-use Rattle.machine.specs.Dooms.{end}
+use Rattle.machine.specs.Dooms.{end, doom}
 use Rattle.machine.specs.declared.state.State.{State}
 use Rattle.machine_safe.proofs.Serving.Deeds.{status_of_way}
 use Rattle.machine_safe.proofs.Serving.EffectSums.{accepts-append, ends-append, finishes-append, server_told-append}
@@ -15,16 +15,17 @@ use Rattle.machine_safe.specs.Served.{ends, or_before, server_in, server_told}
 use Rattle.move_laws.proofs.Lists.Contents.{contains_behind, contains_cases, contains_first, none_contained}
 use Rattle.move_laws.proofs.References.Same.{eqb_apart, if_is, if_not}
 use Rattle.script_types.specs.declared.script.Script.{Script}
-use Rattle.std.proofs.Common.{List, None, Option, Some, [], ap, append_assoc, arith, inl, inr, refl, subst, sym, ℕ, ◌++◌, ◌+◌, ◌<◌, ◌∙◌, ◌∷◌, ◌≡◌, ◌≢◌, ◌≤◌, ◌⊎◌}
+use Rattle.std.proofs.Common.{List, None, Option, Some, [], ap, append_assoc, arith, inl, inr, refl, subst, sym, ℕ, ◌++◌, ◌+◌, ◌<◌, ◌∙◌, ◌∷◌, ◌≡◌, ◌≢◌, ◌≤◌, ◌⊎◌, true}
 use Rattle.std.proofs.lemmas.Bool.{cases_eq, eq-eqb}
 use Rattle.std.proofs.lemmas.List.Elements.{Contains-push_cases}
-use Rattle.std.specs.Prelude.{Contains, if◌then◌else◌, ◌==◌, filter, not}
+use Rattle.std.specs.Prelude.{Contains, if◌then◌else◌, ◌==◌, filter, not, is_some}
 use Rattle.sym_base.specs.declared.number.MsgNo.{MsgNo}
 use Rattle.sym_base.specs.declared.number.ObjNo.{ObjNo}
 use Rattle.machine_safe.proofs.Serving.Slots.{over-append, sends-less, sends-more, sends-quiet, sent_of, slots-kept, over}
 use Rattle.machine_safe.specs.Slotted.{SentOver, outstanding_in, sent_told, slots_in}
 use Rattle.std.proofs.lemmas.List.{append-nil}
 use Rattle.machine.specs.EntryWords.{is_send}
+use Rattle.machine_safe.specs.SafeDeaths.{dooms}
 
 -- what is known of an outstanding message
 pub record Known (script : Script) (before : List Entry) (p : Post) : Type 0 where
@@ -36,6 +37,7 @@ pub record Known (script : Script) (before : List Entry) (p : Post) : Type 0 whe
   pub lasts : ends (effects_of before) p.server ≡ 0
   pub unfinished : finishes (effects_of before) p.number ≡ 0
   pub way : status_by accepted.at.step (instruction_in script accepted.before p.client) ≡ status_of_way p.way
+  pub undoomed : is_some (status_of_way p.way) ≡ true → dooms (effects_of accepted.before) p.client ≡ 0
   pub slots : slots_in script before p.session ≡ Some p.slots
 
 -- a message that was accepted over a session, which was at this server then, is outstanding
@@ -49,10 +51,10 @@ pub record IsOut (S : State) (m : MsgNo) (session : ObjNo) (server : Option ObjN
 -- So many are accepted; what is outstanding is known; each that was accepted is finished once, or outstanding; none that comes later is finished; and
 -- the sends that are outstanding are those among them.
 pub record Letters (script : Script) (before : List Entry) (S : State) : Type 0 where
-  pub accepted : accepts (effects_of before) ≡ S.messages.accepted
+  pub accepted : accepts (effects_of before) ≡ S.serving.messages.accepted
   pub known : (p : Post) → Contains (posts S) p → Known script before p
   pub all : (m : MsgNo) (a : WasAccepted before m) → (finishes (effects_of before) m ≡ 1) ⊎ IsOut S m a.by.session (server_in a.before a.by.session)
-  pub later : (m : MsgNo) → S.messages.accepted < m.0 → finishes (effects_of before) m ≡ 0
+  pub later : (m : MsgNo) → S.serving.messages.accepted < m.0 → finishes (effects_of before) m ≡ 0
   pub sends : outstanding_in before ≡ over (posts S)
 
 -- what stands in a list with one more behind it is that one, or stands in the list
@@ -106,6 +108,7 @@ known-on script before e p h unlinked unended unfinished =
       lasts = let a = ap (λ (l : List Effect). ends l p.server) es in let b = ends-append (effects_of before) e.effects p.server in let c = h.lasts in omega arith;
       unfinished = let a = ap (λ (l : List Effect). finishes l p.number) es in let b = finishes-append (effects_of before) e.effects p.number in let c = h.unfinished in omega arith;
       way = h.way;
+      undoomed = h.undoomed;
       slots = slots-kept script before e p.session unlinked ∙ h.slots;
     }
 
@@ -167,9 +170,9 @@ module _ (script : Script) (before : List Entry) (S T : State) (e : Entry) (h : 
   }
 
   -- a message comes
-  pub letters-more : (p : Post) → posts T ≡ posts S ++ p ∷ [] → T.messages.accepted ≡ S.messages.accepted + 1 → (a : Accepts e p.number) → p.number.0 ≡ S.messages.accepted + 1 → accepts a.rest ≡ 0 → ((m : MsgNo) → finishes e.effects m ≡ 0) → a.session ≡ p.session → a.client ≡ p.client
-      → server_in before p.session ≡ Some p.server → server_told (effects_of before) p.session ≡ Some p.server → server_told e.effects p.session ≡ None → ((v : ObjNo) → ends e.effects v ≡ 0) → ends (effects_of before) p.server ≡ 0 → status_by e.step (instruction_in script before p.client) ≡ status_of_way p.way → slots_in script before p.session ≡ Some p.slots → (if is_send e.step then sent_told e.effects else []) ≡ sent_of p.way p → Letters script (before ++ e ∷ []) T
-  letters-more p posts_then more a number none unfinished session client linked_then linked unlinked_new unended lasts way slots sends = record {
+  pub letters-more : (p : Post) → posts T ≡ posts S ++ p ∷ [] → T.serving.messages.accepted ≡ S.serving.messages.accepted + 1 → (a : Accepts e p.number) → p.number.0 ≡ S.serving.messages.accepted + 1 → accepts a.rest ≡ 0 → ((m : MsgNo) → finishes e.effects m ≡ 0) → a.session ≡ p.session → a.client ≡ p.client
+      → server_in before p.session ≡ Some p.server → server_told (effects_of before) p.session ≡ Some p.server → server_told e.effects p.session ≡ None → ((v : ObjNo) → ends e.effects v ≡ 0) → ends (effects_of before) p.server ≡ 0 → status_by e.step (instruction_in script before p.client) ≡ status_of_way p.way → (is_some (status_of_way p.way) ≡ true → dooms (effects_of before) p.client ≡ 0) → slots_in script before p.session ≡ Some p.slots → (if is_send e.step then sent_told e.effects else []) ≡ sent_of p.way p → Letters script (before ++ e ∷ []) T
+  letters-more p posts_then more a number none unfinished session client linked_then linked unlinked_new unended lasts way undoomed slots sends = record {
     accepted = let b = accepted-then in let c = ap accepts a.told in let d = h.accepted in omega arith;
     known = λ x among. elim (Contains-push_cases (posts S) p x (subst (λ (l : List Post). Contains l x) posts_then among)) as (λ _. Known script (before ++ e ∷ []) x) [
       | inl was ↦ known-on script before e x (h.known x was) (unlinked x was) (unended x.server) (unfinished x.number)
@@ -201,6 +204,7 @@ module _ (script : Script) (before : List Entry) (S T : State) (e : Entry) (h : 
         lasts = let b = ap (λ (l : List Effect). ends l p.server) es in let c = ends-append (effects_of before) e.effects p.server in let d = unended p.server in omega arith;
         unfinished = let b = finished-then p.number in let c = unfinished p.number in let d = h.later p.number (omega arith) in omega arith;
         way = way;
+        undoomed = undoomed;
         slots = slots-kept script before e p.session unlinked_new ∙ slots;
       }
 
@@ -217,8 +221,8 @@ module _ (script : Script) (before : List Entry) (S T : State) (e : Entry) (h : 
           }
 
   -- a message goes
-  pub letters-less : (p : Post) → Contains (posts S) p → ((x : Post) → Contains (posts T) x → Contains (posts S) x × (x.number.0 ≢ p.number.0)) → ((x : Post) → Contains (posts S) x → (x.number.0 ≢ p.number.0) → Contains (posts T) x) → T.messages.accepted ≡ S.messages.accepted
-      → accepts e.effects ≡ 0 → ((m : MsgNo) → finishes e.effects m ≡ (if p.number.0 == m.0 then 1 else 0)) → ((v : ObjNo) → ends e.effects v ≡ 0) → p.number.0 ≤ S.messages.accepted → over (posts T) ≡ filter (λ (x : SentOver). not (p.number.0 == x.number.0)) (over (posts S)) → Letters script (before ++ e ∷ []) T
+  pub letters-less : (p : Post) → Contains (posts S) p → ((x : Post) → Contains (posts T) x → Contains (posts S) x × (x.number.0 ≢ p.number.0)) → ((x : Post) → Contains (posts S) x → (x.number.0 ≢ p.number.0) → Contains (posts T) x) → T.serving.messages.accepted ≡ S.serving.messages.accepted
+      → accepts e.effects ≡ 0 → ((m : MsgNo) → finishes e.effects m ≡ (if p.number.0 == m.0 then 1 else 0)) → ((v : ObjNo) → ends e.effects v ≡ 0) → p.number.0 ≤ S.serving.messages.accepted → over (posts T) ≡ filter (λ (x : SentOver). not (p.number.0 == x.number.0)) (over (posts S)) → Letters script (before ++ e ∷ []) T
   letters-less p there fewer others same none goes unended given sends = record {
     accepted = let b = accepted-then in let d = h.accepted in omega arith;
     known = λ x among. let was = fewer x among in known-on script before e x (h.known x was.0) (unlinked x was.0) (unended x.server) (goes x.number ∙ if_not (p.number.0 == x.number.0) 1 (eqb_apart p.number.0 x.number.0 (λ e. was.1 (sym e))));

@@ -57,6 +57,7 @@ use Rattle.machine_safe.proofs.Serving.Turns.{entry_for}
 use Rattle.machine_safe.specs.CountAfter.{is_by}
 use Rattle.machine_safe.specs.Served.{or_before, one_if}
 use Rattle.machine_safe.specs.Slotted.{looked_in, looks_to_send, used_told}
+use Rattle.machine_safe.proofs.Serving.Others.{at-each, same-instruction}
 
 -- what one entry more tells
 abbrev looks : Entry → ObjNo → Option ObjNo
@@ -94,7 +95,7 @@ record WasThere (script : Script) (S : State) (u o : ObjNo) (row : ThreadRow) : 
 still-move : (script : Script) (S : State) (t : ObjNo) (m : Move) → FitsMove script t m S → (u o : ObjNo) (row : ThreadRow) → thread_of (moved t m S) u ≡ Some row → row.uses ≡ Some o → steps_of t (m ∷ []) u.0 ≡ 0
 still-move script S t (Advance v) fits u o row is uses = elim (cases_eq v.0 u.0) as (λ _. steps_of t (Advance v ∷ []) u.0 ≡ 0) [
   | inl at ↦
-      let was = map_some advanced (get_or S.threads v.0 None) row (sym (row-here S.threads v advanced u.0 at) ∙ is) in
+      let was = map_some advanced (get_or S.references.threads v.0 None) row (sym (row-here S.references.threads v advanced u.0 at) ∙ is) in
       let gone : None ≡ Some o = ap (λ (z : ThreadRow). z.uses) was.2 ∙ uses in absurd (cc)
   | inr apart ↦ if_not (t.0 == u.0) 1 (eqb_apart t.0 u.0 (λ at. apart (ap (λ (x : ObjNo). x.0) fits.0 ∙ at)))
 ]
@@ -120,17 +121,6 @@ there-each script S t [] fits u o row is uses none = record { old = row; was = i
 there-each script S t (m ∷ ms) fits u o row is uses none =
     let later = there-each script (moved t m S) t ms fits.1 u o row is uses (omega arith) in
     there-then script S (moved t m S) u o row later (there-move script S t m fits.0 u o later.old later.was later.uses (omega arith))
-
--- and a thread that isn't answered is at its instruction still
-at-each : (script : Script) (S : State) (t : ObjNo) (ms : List Move) → EachFits script t ms S → (k : ℕ) (row : ThreadRow) → get_or (perform t ms S).threads k None ≡ Some row → WasAt S.threads k (steps_of t ms k) row
-at-each script S t [] fits k row is = let same = at-same S.threads k row is in let none = if_zero (t.0 == k) (total advance_bit []) refl in record { old = same.old; was = same.was; role = same.role; place = let p = same.place in omega arith }
-at-each script S t (m ∷ ms) fits k row is =
-    let later = at-each script (moved t m S) t ms fits.1 k row is in
-    let first = at-move script S t m fits.0 k later.old later.was in
-    record { old = first.old; was = first.was; role = first.role ∙ later.role; place = let a = later.place in let b = first.place in let c = steps-then t m ms k in omega arith }
-
-same-instruction : (script : Script) (old row : ThreadRow) → old.role ≡ row.role → row.next_instruction ≡ old.next_instruction → instruction script row ≡ instruction script old
-same-instruction script old row role place = ap (λ (r : Role). slice_get (instructions_of script r) row.next_instruction) (sym role) ∙ ap (λ (n : ℕ). slice_get (instructions_of script old.role) n) place
 
 -- so it looked for that still, after an entry that tells what the moves do
 looked-from : (script : Script) (before : List Entry) (S : State) (t : ObjNo) (ms : List Move) (e : Entry) → e.effects ≡ tell t ms S → Looked script before S → EachFits script t ms S → (u o : ObjNo) (row : ThreadRow) → total (use_bit u) ms ≡ 0 → thread_of (perform t ms S) u ≡ Some row → at_send (instruction script row) ≡ true → row.uses ≡ Some o → looked_in (before ++ e ∷ []) u ≡ Some o
@@ -165,7 +155,7 @@ module _ (script : Script) (before : List Entry) (S : State) (place : ℕ) (t : 
             let w = at-each script S t d.moves fits.goes.each u.0 now is_now in
             let none : total advance_bit d.moves ≡ 0 = fits.regular.answers ∙ ap answer_bit e in
             let still = if_zero (t.0 == u.0) (total advance_bit d.moves) none in
-            let there : thread_of S t ≡ Some w.old = ap (λ (n : ℕ). get_or S.threads n None) (sym same) ∙ w.was in
+            let there : thread_of S t ≡ Some w.old = ap (λ (n : ℕ). get_or S.references.threads n None) (sym same) ∙ w.was in
             let own : w.old ≡ row = cc in
             let at_now : instruction script now ≡ at = same-instruction script w.old now w.role (let p = w.place in omega arith) ∙ (ap (instruction script) own ∙ here) in
             let so : at_send at ≡ true = ap at_send (sym at_now) ∙ sends in absurd (cc)
@@ -178,7 +168,7 @@ module _ (script : Script) (before : List Entry) (S : State) (place : ℕ) (t : 
     | inr apart ↦ looked-from script before S t (look_at t word.Send (Some s)).moves e refl looked fits.goes.each u o row (fits.regular.uses u (inl apart)) is sends uses
     | inl same ↦
         let own : (t.0 == u.0) ≡ true = eq-eqb t.0 u.0 (sym same) in
-        let was = map_some (with_use (Some s)) (get_or (with_row S.threads t (with_part _)) t.0 None) row (sym (row-here (with_row S.threads t (with_part _)) t (with_use (Some s)) u.0 (sym same)) ∙ is) in
+        let was = map_some (with_use (Some s)) (get_or (with_row S.references.threads t (with_part _)) t.0 None) row (sym (row-here (with_row S.references.threads t (with_part _)) t (with_use (Some s)) u.0 (sym same)) ∙ is) in
         let found : Some s ≡ Some o = ap (λ (z : ThreadRow). z.uses) was.2 ∙ uses in
         let tells : used_told e.effects u ≡ Some s = ap (λ (b : Bool). one_if b s) own in
         let here : looks e u ≡ Some s = ap (λ (b : Bool). if b && true then used_told e.effects u else None) own ∙ tells in
@@ -189,7 +179,7 @@ module _ (script : Script) (before : List Entry) (S : State) (place : ℕ) (t : 
       e = entry_for place t S (look_at t word.Send (Some s))
 
   send-looked : (row : ThreadRow) (x function y : ℕ) (args : Args) → FitsAction looking script S t (send_step S t row x function y args None) → LookedThen (send_step S t row x function y args None)
-  send-looked row x function y args fits = if_cases (λ (d : Decision). FitsAction looking script S t d → LookedThen d) (is_pending S.requests t y) _ _
+  send-looked row x function y args fits = if_cases (λ (d : Decision). FitsAction looking script S t d → LookedThen d) (is_pending S.synchronization.requests t y) _ _
       (λ _ fits. unused-looked _ fits (inr (omega arith))) (λ _ fits. found-looked (of_kind S kind.Session (object_at S t row (slice_index row.registers x))) fits) fits
 
   step-looked : (row : ThreadRow) (i : Instr) (p : Option Part) → thread_of S t ≡ Some row → instruction script row ≡ Some i → FitsAction (kind_of i p) script S t (step_of script S t row i p) → LookedThen (step_of script S t row i p)
@@ -214,7 +204,7 @@ module _ (script : Script) (before : List Entry) (S : State) (place : ℕ) (t : 
   decision-looked : IsShaped script → AreRows script S → LookedThen (decision_of script S t)
   decision-looked shaped rows = each-action script S t LookedThen (record {
     plainly = λ d fits. unused-looked d fits (inl refl);
-    steps = λ row i is at fits. step-looked row i row.part is at fits;
+    steps = λ row i is live going at fits. step-looked row i row.part is at fits;
     returns = λ row i is at fits. return-looked row i is at fits;
     gives = λ row what given fits. unused-looked _ fits (inl (given-unused what));
     pays = pay-looked;
@@ -231,7 +221,7 @@ module _ (script : Script) (before : List Entry) (S : State) (place : ℕ) (shap
 
   immediate-looked : Looked script (before ++ entry_by script S place Idfc ∷ []) (immediate script S).state
   unfolding immediate
-  immediate-looked u o row is sends uses = let light = light-immediate script S (next_immediate S.deferred) shaped rows refl in looked-from script before S supervisor _ (entry_by script S place Idfc) refl looked light.each u o row (light.calm.uses u) is sends uses
+  immediate-looked u o row is sends uses = let light = light-immediate script S (next_immediate S.synchronization.deferred) shaped rows refl in looked-from script before S supervisor _ (entry_by script S place Idfc) refl looked light.each u o row (light.calm.uses u) is sends uses
 
   next-looked : (actor : Actor) → Looked script (before ++ entry_by script S place actor ∷ []) (next script S actor)
   next-looked (Thread t) = act-looked t

@@ -33,7 +33,7 @@ use Rattle.state_rows.specs.MessageChanges.{next_number}
 use Rattle.state_rows.specs.ServerRows.{IsServer, closes, server_at, link_of, session_at}
 use Rattle.state_rows.specs.declared.messages.MsgRow.{MsgRow}
 use Rattle.state_rows.specs.declared.servers.ServerRow.{ServerRow}
-use Rattle.std.proofs.Common.{List, Some, [], ap, arith, false, refl, subst, sym, ℕ, ◌++◌, ◌+◌, ◌<◌, ◌∙◌, ◌∷◌, ◌≡◌, Bool, None, Option}
+use Rattle.std.proofs.Common.{List, Some, [], ap, arith, false, refl, subst, sym, ℕ, ◌++◌, ◌+◌, ◌<◌, ◌∙◌, ◌∷◌, ◌≡◌, Bool, None, Option, true}
 use Rattle.std.proofs.lemmas.Bool.{eq-eqb}
 use Rattle.sym_base.specs.declared.kind.Slots.{Slots}
 use Rattle.sym_base.specs.declared.number.MsgNo.{MsgNo}
@@ -47,17 +47,22 @@ use Rattle.state_rows.specs.MessageRows.{is_async}
 use Rattle.state_rows.specs.declared.messages.Way.{Way}
 use Rattle.state_rows.specs.declared.messages.Way.TheVariants.{Async, Disconnect, Sync}
 use Rattle.state_rows.specs.declared.servers.SessionRow.{SessionRow}
-use Rattle.std.specs.Prelude.{if◌then◌else◌}
+use Rattle.std.specs.Prelude.{if◌then◌else◌, is_some}
 use Rattle.machine.specs.EntryWords.{is_send}
 use Rattle.machine_laws.proofs.Fitting.Regular.{IsRegular, Kinds}
+use Rattle.state_rows.specs.declared.thread.ThreadRow.{ThreadRow}
+use Rattle.machine.specs.Rows.{thread_of}
+use Rattle.machine_safe.proofs.Deaths.Rows.{row_bit, stage_live}
+use Rattle.entry_log.specs.declared.effect.Effect.TheVariants.{Doom}
+use Rattle.machine_safe.specs.SafeDeaths.{dooms}
 
 -- what moves do in which one message is accepted
 record IsPosted (S T : State) (t : ObjNo) (slots : Slots) (row : MsgRow) (effects : List Effect) : Type 0 where
   pub number : MsgNo
-  pub next : number.0 ≡ S.messages.accepted + 1
+  pub next : number.0 ≡ S.serving.messages.accepted + 1
   pub posts : posts T ≡ posts S ++ record { number = number; session = row.session; server = row.server; client = row.client; way = row.way; slots = slots } ∷ []
-  pub pool : T.messages.pool ≡ S.messages.pool
-  pub more : T.messages.accepted ≡ S.messages.accepted + 1
+  pub pool : T.serving.messages.pool ≡ S.serving.messages.pool
+  pub more : T.serving.messages.accepted ≡ S.serving.messages.accepted + 1
   pub rest : List Effect
   pub told : effects ≡ effect.Accept number ∷ effect.Plus (holder.Message number) row.session ∷ effect.Plus (holder.Message number) row.client ∷ rest
   pub none : accepts rest ≡ 0
@@ -75,16 +80,16 @@ posted-moves script S t front back slots row fits silent quiet still =
     let both = fits-front script t front (m ∷ back) S fits in
     let before = quiet-each script S t front both.0 quiet in
     let behind = quiet-each script U t back both.1.1 still in
-    let n = next_number T.messages in
+    let n = next_number T.serving.messages in
     let performed = perform-append t front (m ∷ back) S in
     let told_all = tell-append t front (m ∷ back) S in
     let told : tell t (front ++ m ∷ back) S ≡ effect.Accept n ∷ effect.Plus (holder.Message n) row.session ∷ effect.Plus (holder.Message n) row.client ∷ tell t back U = told_all ∙ ap (λ (l : List Effect). l ++ tell t (m ∷ back) T) silent in
     record {
       number = n;
       next = let a = before.accepted in omega arith;
-      posts = ap posts_of performed ∙ (behind.posts ∙ (map-append post_of T.messages.outstanding (record { number = n; slots = slots; row = row } ∷ []) ∙ ap (λ (l : List Post). l ++ record { number = n; session = row.session; server = row.server; client = row.client; way = row.way; slots = slots } ∷ []) before.posts));
-      pool = ap (λ (X : State). X.messages.pool) performed ∙ (behind.pool ∙ before.pool);
-      more = ap (λ (X : State). X.messages.accepted) performed ∙ (let a = behind.accepted in let b = before.accepted in omega arith);
+      posts = ap posts_of performed ∙ (behind.posts ∙ (map-append post_of T.serving.messages.outstanding (record { number = n; slots = slots; row = row } ∷ []) ∙ ap (λ (l : List Post). l ++ record { number = n; session = row.session; server = row.server; client = row.client; way = row.way; slots = slots } ∷ []) before.posts));
+      pool = ap (λ (X : State). X.serving.messages.pool) performed ∙ (behind.pool ∙ before.pool);
+      more = ap (λ (X : State). X.serving.messages.accepted) performed ∙ (let a = behind.accepted in let b = before.accepted in omega arith);
       rest = tell t back U;
       told = told;
       none = behind.accepts;
@@ -96,11 +101,11 @@ session-row None v e = absurd (cc)
 session-row (Some row) v e = (row, refl)
 
 module _ (script : Script) (before : List Entry) (S : State) (place : ℕ) (t : ObjNo) (rows : AreRows script S) (book : Book script before S) (looked : Looked script before S) where
-  pub turn-sends : {k : Kinds} (d : Decision) → IsRegular k script S t d → IsSending S t (instruction_in script before t) d → Doing script S t d.moves → IsTurn script before (entry_for place t S d) (perform t d.moves S)
-  turn-sends d regular is does = record {
+  pub turn-sends : {k : Kinds} (d : Decision) → IsRegular k script S t d → IsSending S t (instruction_in script before t) d → Doing script S t d.moves → ((u : ObjNo) (row : ThreadRow) → thread_of S u ≡ Some row → row_bit stage_live (Some row) + dooms (effects_of before) u ≡ 1) → IsTurn script before (entry_for place t S d) (perform t d.moves S)
+  turn-sends d regular is does fate = record {
     book = record {
       served = served-doing script before S place t rows book d does changing regular is.closed (λ v some. let none = is.detached v in absurd (omega arith));
-      letters = letters-more script before S T e book.letters (λ p among. keeps.unlinked p.session) post p.posts p.more by p.next p.none p.unfinished refl refl (book.slotted.servers is.row.session ∙ linked) linked (keeps.unlinked is.row.session) keeps.unended unended way slots sends;
+      letters = letters-more script before S T e book.letters (λ p among. keeps.unlinked p.session) post p.posts p.more by p.next p.none p.unfinished refl refl (book.slotted.servers is.row.session ∙ linked) linked (keeps.unlinked is.row.session) keeps.unended unended way undoomed slots sends;
       slotted = slotted-keeps script before e S T book.slotted keeps.unlinked keeps.slots p.pool;
       fresh = fresh-on before e book.fresh (λ makes. keeps.unowned (regular.making makes));
     };
@@ -157,11 +162,11 @@ module _ (script : Script) (before : List Entry) (S : State) (place : ℕ) (t : 
       linked = book.served.links is.row.session is.row.server is.linked
 
       -- the server has a row, which says that it isn't closing
-      server_is : IsServer S.servers is.row.server
-      server_is = rows.servers.sessions is.row.session is.row.server is.linked
+      server_is : IsServer S.serving.servers is.row.server
+      server_is = rows.serving.servers.sessions is.row.session is.row.server is.linked
 
-      row : (r : ServerRow) × (server_at S.servers is.row.server ≡ Some r)
-      row = there-row (server_at S.servers is.row.server) server_is
+      row : (r : ServerRow) × (server_at S.serving.servers is.row.server ≡ Some r)
+      row = there-row (server_at S.serving.servers is.row.server) server_is
 
       accepting : is_closing_in before is.row.server ≡ false
       accepting = closing-told-by script before S is.row.server row.0 book row.1 ∙ (sym (ap closes row.1) ∙ is.accepting)
@@ -172,9 +177,17 @@ module _ (script : Script) (before : List Entry) (S : State) (place : ℕ) (t : 
       way : status_by e.step (instruction_in script before is.row.client) ≡ status_of_way is.row.way
       way = ap (λ (u : ObjNo). status_by d.step (instruction_in script before u)) is.client ∙ is.way
 
+      -- a client that is told lived until then
+      undoomed : is_some (status_of_way is.row.way) ≡ true → dooms (effects_of before) is.row.client ≡ 0
+      undoomed some =
+          let live = is.live some in
+          let bit = ap stage_live live.live in
+          let once = fate t live.row live.is in
+          let same = ap (λ (u : ObjNo). dooms (effects_of before) u) is.client in omega arith
+
       -- its session has the slots that are told
-      session : (r : SessionRow) × (session_at S.servers is.row.session ≡ Some r)
-      session = session-row (session_at S.servers is.row.session) is.row.server is.linked
+      session : (r : SessionRow) × (session_at S.serving.servers is.row.session ≡ Some r)
+      session = session-row (session_at S.serving.servers is.row.session) is.row.server is.linked
 
       slots : slots_in script before is.row.session ≡ Some is.slots
       slots = book.slotted.sessions is.row.session session.0 session.1 ∙ ap Some (sym (is.of_session ∙ ap slots_of_row session.1))

@@ -58,12 +58,12 @@ abbrev pub post_of : Message → Post
 post_of message = record { number = message.number; session = message.row.session; server = message.row.server; client = message.row.client; way = message.row.way; slots = message.slots }
 
 abbrev pub posts : State → List Post
-posts S = map post_of S.messages.outstanding
+posts S = map post_of S.serving.messages.outstanding
 
 pub record IsQuiet (S T : State) (effects : List Effect) : Type 0 where
   pub posts : posts T ≡ posts S
-  pub accepted : T.messages.accepted ≡ S.messages.accepted
-  pub pool : T.messages.pool ≡ S.messages.pool
+  pub accepted : T.serving.messages.accepted ≡ S.serving.messages.accepted
+  pub pool : T.serving.messages.pool ≡ S.serving.messages.pool
   pub accepts : accepts effects ≡ 0
   pub finishes : (m : MsgNo) → finishes effects m ≡ 0
 
@@ -100,7 +100,7 @@ quiet-copy (Write job) threads r = by (write_refusal (ends_of threads r job) job
     by None true = (refl, refl)
     by None false = (edited-posts job.m (resized job.arg (job.offset + job.len)) (λ x. refl) r.outstanding, refl)
 
-quiet-told : (S T : State) (effects : List Effect) → T.messages ≡ S.messages → accepts effects ≡ 0 → ((m : MsgNo) → finishes effects m ≡ 0) → IsQuiet S T effects
+quiet-told : (S T : State) (effects : List Effect) → T.serving.messages ≡ S.serving.messages → accepts effects ≡ 0 → ((m : MsgNo) → finishes effects m ≡ 0) → IsQuiet S T effects
 quiet-told S T effects same accepts finishes = record {
   posts = ap (λ (r : MessageRows). map post_of r.outstanding) same;
   accepted = ap (λ (r : MessageRows). r.accepted) same;
@@ -110,7 +110,7 @@ quiet-told S T effects same accepts finishes = record {
 }
 
 pub quiet-move : (script : Script) (S : State) (t : ObjNo) (m : Move) → FitsMove script t m S → message_bit m ≡ 0 → IsQuiet S (moved t m S) (told m S)
-quiet-move script S t (Messages (Take o)) fits none = let taken = quiet-take S.messages (next_of S.messages o) in record { posts = taken.0; accepted = taken.1; pool = taken.2; accepts = refl; finishes = λ m. refl }
+quiet-move script S t (Messages (Take o)) fits none = let taken = quiet-take S.serving.messages (next_of S.serving.messages o) in record { posts = taken.0; accepted = taken.1; pool = taken.2; accepts = refl; finishes = λ m. refl }
 quiet-move script S t (Messages m) fits none = absurd (omega arith)
 quiet-move script S t (Lose h o) fits none = quiet-told S (moved t (Lose h o) S) (told (Lose h o) S) refl (close-accepts (dies S o) h o) (close-finishes (dies S o) h o)
 quiet-move script S t (Servers m) fits none = quiet-told S (moved t (Servers m) S) (server_told m) refl (server-accepts m) (server-finishes m)
@@ -124,7 +124,7 @@ quiet-move script S t (Servers m) fits none = quiet-told S (moved t (Servers m) 
     server-finishes (Join s o slots u) n = refl
     server-finishes (End o) n = refl
     server-finishes _ n = refl
-quiet-move script S t (Copies m) fits none = let same = quiet-copy m S.threads S.messages in record { posts = same.0; accepted = copy_accepts m S.threads S.messages; pool = same.1; accepts = refl; finishes = λ n. refl }
+quiet-move script S t (Copies m) fits none = let same = quiet-copy m S.references.threads S.serving.messages in record { posts = same.0; accepted = copy_accepts m S.references.threads S.serving.messages; pool = same.1; accepts = refl; finishes = λ n. refl }
 quiet-move script S t (Pay what) fits none = absurd fits
 quiet-move script S t m fits none = let told = unserved-move script S t m fits refl in quiet-told S (moved t m S) _ refl told.accepts told.finishes
 
@@ -140,9 +140,9 @@ quiet-pay S t (Close h o) = record { posts = refl; accepted = refl; pool = refl;
 -- no payment is a close of a handle
 pub pay-lost : (script : Script) (S : State) (t : ObjNo) (what : Owed) (rest : List Owed) (v : ObjNo) → AreRows script S → owed_of S t ≡ what ∷ rest → handles_lost (told (Pay what) S) v ≡ 0
 pay-lost script S t (Sweep o) rest v rows owes = refl
-pay-lost script S t (Close h o) rest v rows owes = close-lost (dies S o) h o v (by h (subst (EachMayOwe S.threads S.servers S.messages.accepted t.0) owes (rows.duties.own t.0)).0)
+pay-lost script S t (Close h o) rest v rows owes = close-lost (dies S o) h o v (by h (subst (EachMayOwe S.references.threads S.serving.servers S.serving.messages.accepted t.0) owes (rows.references.duties.own t.0)).0)
   where
-    by : (g : Holder) → MayOwe S.threads S.servers S.messages.accepted t.0 g o → is_handle g ≡ false
+    by : (g : Holder) → MayOwe S.references.threads S.serving.servers S.serving.messages.accepted t.0 g o → is_handle g ≡ false
     by (InProcess p i) may = absurd may
     by (InThread u i) may = absurd may
     by _ may = refl

@@ -2,10 +2,10 @@
 use Rattle.entry_log.specs.declared.effect.Effect.{Effect}
 use Rattle.entry_log.specs.declared.entry.Entry.{Entry}
 use Rattle.entry_log.specs.declared.step.Step.{Step}
-use Rattle.machine_safe.proofs.Deaths.Cut.{effects-append}
+use Rattle.machine_safe.proofs.Runs.{effects-append}
 use Rattle.machine_safe.proofs.Serving.EffectSums.{handles_lost-append, or-none, or-three, owner_told-append}
 use Rattle.machine_safe.specs.CountAfter.{effects_of}
-use Rattle.machine_safe.specs.Served.{closes_handle, handles_lost, is_doomed, or_before, owner_in, owner_told, closings}
+use Rattle.machine_safe.specs.Served.{handles_lost, is_doomed, or_before, owner_in, owner_told}
 use Rattle.std.proofs.Common.{Bool, List, None, Option, [], ap, append_assoc, arith, false, refl, sym, true, ℕ, ◌++◌, ◌+◌, ◌∙◌, ◌∷◌, ◌≡◌}
 use Rattle.std.proofs.lemmas.List.{append-nil}
 use Rattle.std.specs.Prelude.{if◌then◌else◌, nat_lt, ◌||◌}
@@ -19,6 +19,10 @@ pub record Reading : Type 0 where
   pub effects : List Effect
   pub answers : ℕ → ℕ
 
+-- how often handles of an object go in entries
+abbrev pub closings : List Entry → ObjNo → ℕ
+closings es v = handles_lost (effects_of es) v
+
 -- what entries tell
 abbrev pub reading : List Entry → Reading
 reading es = record { owner = owner_in es; closings = closings es; effects = effects_of es; answers = λ k. answers es (record { 0 = k }) }
@@ -31,7 +35,7 @@ closing_by r v = nat_lt 0 (r.closings v) || is_doomed r.effects (r.owner v)
 abbrev pub further : Reading → Step → List Effect → (ℕ → ℕ) → Reading
 further r done effects n = record {
   owner = λ v. or_before (if makes_server done then owner_told effects v else None) (r.owner v);
-  closings = λ v. r.closings v + (if closes_handle done then handles_lost effects v else 0);
+  closings = λ v. r.closings v + handles_lost effects v;
   effects = r.effects ++ effects;
   answers = λ k. r.answers k + n k;
 }
@@ -54,14 +58,10 @@ or-where false x y z = refl
 pub same-both : (r : Reading) (done : Step) (fs gs : List Effect) (n m : ℕ → ℕ) → IsSame (further (further r done fs n) done gs m) (further r done (fs ++ gs) (λ k. n k + m k))
 same-both r done fs gs n m = record {
   owner = λ v. or-where (makes_server done) (owner_told gs v) (owner_told fs v) (r.owner v) ∙ ap (λ (x : Option ObjNo). or_before (if makes_server done then x else None) (r.owner v)) (sym (owner_told-append fs gs v));
-  closings = λ v. let a = by v (closes_handle done) in omega arith;
+  closings = λ v. let a = handles_lost-append fs gs v in omega arith;
   effects = append_assoc r.effects fs gs;
   answers = λ k. omega arith;
 }
-  where
-    by : (v : ObjNo) (b : Bool) → (if b then handles_lost fs v else 0) + (if b then handles_lost gs v else 0) ≡ (if b then handles_lost (fs ++ gs) v else 0)
-    by v true = let a = handles_lost-append fs gs v in omega arith
-    by v false = refl
 
 -- entries that stand first, and one behind them
 pub owner_in-append : (xs ys : List Entry) (v : ObjNo) → owner_in (xs ++ ys) v ≡ or_before (owner_in ys v) (owner_in xs v)
@@ -69,8 +69,7 @@ owner_in-append [] ys v = sym (or-none (owner_in ys v))
 owner_in-append (x ∷ xs) ys v = ap (λ (o : Option ObjNo). or_before o (if makes_server x.step then owner_told x.effects v else None)) (owner_in-append xs ys v) ∙ or-three (owner_in ys v) (owner_in xs v) (if makes_server x.step then owner_told x.effects v else None)
 
 pub closings-append : (xs ys : List Entry) (v : ObjNo) → closings (xs ++ ys) v ≡ closings xs v + closings ys v
-closings-append [] ys v = omega arith
-closings-append (x ∷ xs) ys v = let r = closings-append xs ys v in omega arith
+closings-append xs ys v = ap (λ (l : List Effect). handles_lost l v) (effects-append xs ys) ∙ handles_lost-append (effects_of xs) (effects_of ys) v
 
 pub answers-append : (xs ys : List Entry) (t : ObjNo) → answers (xs ++ ys) t ≡ answers xs t + answers ys t
 answers-append [] ys t = omega arith
@@ -82,7 +81,7 @@ effects-push before e = effects-append before (e ∷ []) ∙ ap (λ (l : List Ef
 pub same-entry : (before : List Entry) (e : Entry) (n : ℕ → ℕ) → ((k : ℕ) → n k ≡ answers (e ∷ []) (record { 0 = k })) → IsSame (further (reading before) e.step e.effects n) (reading (before ++ e ∷ []))
 same-entry before e n counts = record {
   owner = λ v. sym (owner_in-append before (e ∷ []) v);
-  closings = λ v. let a = closings-append before (e ∷ []) v in omega arith;
+  closings = λ v. let a = ap (λ (l : List Effect). handles_lost l v) (effects-push before e) in let b = handles_lost-append (effects_of before) e.effects v in omega arith;
   effects = sym (effects-push before e);
   answers = λ k. let a = answers-append before (e ∷ []) (record { 0 = k }) in let b = counts k in omega arith;
 }

@@ -13,7 +13,7 @@ use Rattle.machine_safe.proofs.Serving.Keeps.{Keeps, keeps-closing, steps_of, de
 use Rattle.machine_safe.proofs.Serving.Kept.{AreMade}
 use Rattle.machine_safe.proofs.Serving.Reading.{IsSame, Reading, closing_by, further}
 use Rattle.machine_safe.specs.SafeDeaths.{dooms}
-use Rattle.machine_safe.specs.Served.{closes_handle, ends, handles_lost, is_doomed, or_before, owner_told, server_told}
+use Rattle.machine_safe.specs.Served.{ends, handles_lost, is_doomed, or_before, owner_told, server_told}
 use Rattle.move_laws.proofs.Lives.LivesMove.{zero_or}
 use Rattle.move_laws.proofs.References.Same.{if_zero}
 use Rattle.script_types.specs.declared.script.Script.{Script}
@@ -31,15 +31,15 @@ use Rattle.machine.specs.EntryWords.{makes_server}
 
 -- a server's row
 pub record IsServed (r : Reading) (S : State) (o : ObjNo) (row : ServerRow) : Type 0 where
-  pub made : o.0 < length S.objects
+  pub made : o.0 < length S.references.objects
   pub owner : r.owner o ≡ Some row.owner
   pub closing : row.is_closing ≡ closing_by r o
-  pub owned : row.is_closing ≡ false → 0 < times_owned S.owned row.owner o
+  pub owned : row.is_closing ≡ false → 0 < times_owned S.serving.owned row.owner o
 
 -- a thread's row
 pub record IsPlaced (script : Script) (r : Reading) (k : ℕ) (row : ThreadRow) : Type 0 where
   pub first : ThreadRow
-  pub is : get_or (boot script).threads k None ≡ Some first
+  pub is : get_or (boot script).references.threads k None ≡ Some first
   pub role : first.role ≡ row.role
   pub place : row.next_instruction ≡ r.answers k
 
@@ -47,15 +47,15 @@ pub record IsPlaced (script : Script) (r : Reading) (k : ℕ) (row : ThreadRow) 
 -- nobody's; whoever made a server owns it, or it
 -- ended; nothing is told of what isn't made; a thread is at the place of its answers; and a session that is alive is at the server that is told of it, unless that is closing.
 pub record Served (script : Script) (r : Reading) (S : State) : Type 0 where
-  pub rows : (o : ObjNo) (row : ServerRow) → server_at S.servers o ≡ Some row → IsServed r S o row
-  pub links : (s o : ObjNo) → server_of S.servers s ≡ Some o → server_told r.effects s ≡ Some o
-  pub ended : (o : ObjNo) → 0 < ends r.effects o → is_closing S.servers o ≡ true
-  pub over : (u o : ObjNo) → 0 < ends r.effects o → times_owned S.owned u o ≡ 0
-  pub made : (t o : ObjNo) → r.owner o ≡ Some t → (0 < times_owned S.owned t o) ⊎ (0 < ends r.effects o)
-  pub unmade : (o : ObjNo) → length S.objects ≤ o.0 → r.closings o ≡ 0
-  pub places : (k : ℕ) (row : ThreadRow) → get_or S.threads k None ≡ Some row → IsPlaced script r k row
-  pub told_made : (s v : ObjNo) → server_told r.effects s ≡ Some v → s.0 < length S.objects
-  pub told_linked : (s v : ObjNo) → server_told r.effects s ≡ Some v → IsAlive (object_of S s) → (server_of S.servers s ≡ Some v) ⊎ (is_closing S.servers v ≡ true)
+  pub rows : (o : ObjNo) (row : ServerRow) → server_at S.serving.servers o ≡ Some row → IsServed r S o row
+  pub links : (s o : ObjNo) → server_of S.serving.servers s ≡ Some o → server_told r.effects s ≡ Some o
+  pub ended : (o : ObjNo) → 0 < ends r.effects o → is_closing S.serving.servers o ≡ true
+  pub over : (u o : ObjNo) → 0 < ends r.effects o → times_owned S.serving.owned u o ≡ 0
+  pub made : (t o : ObjNo) → r.owner o ≡ Some t → (0 < times_owned S.serving.owned t o) ⊎ (0 < ends r.effects o)
+  pub unmade : (o : ObjNo) → length S.references.objects ≤ o.0 → r.closings o ≡ 0
+  pub places : (k : ℕ) (row : ThreadRow) → get_or S.references.threads k None ≡ Some row → IsPlaced script r k row
+  pub told_made : (s v : ObjNo) → server_told r.effects s ≡ Some v → s.0 < length S.references.objects
+  pub told_linked : (s v : ObjNo) → server_told r.effects s ≡ Some v → IsAlive (object_of S s) → (server_of S.serving.servers s ≡ Some v) ⊎ (is_closing S.serving.servers v ≡ true)
 
 pub served-made : (script : Script) (r : Reading) (S : State) → Served script r S → AreMade S
 served-made script r S h o row is = (h.rows o row is).made
@@ -74,7 +74,7 @@ served-same script r q S same h = record {
   links = λ s o is. ap (λ (es : List Effect). server_told es s) (sym same.effects) ∙ h.links s o is;
   ended = λ o some. h.ended o (subst (λ (es : List Effect). 0 < ends es o) (sym same.effects) some);
   over = λ u o some. h.over u o (subst (λ (es : List Effect). 0 < ends es o) (sym same.effects) some);
-  made = λ t o is. subst (λ (es : List Effect). (0 < times_owned S.owned t o) ⊎ (0 < ends es o)) same.effects (h.made t o (same.owner o ∙ is));
+  made = λ t o is. subst (λ (es : List Effect). (0 < times_owned S.serving.owned t o) ⊎ (0 < ends es o)) same.effects (h.made t o (same.owner o ∙ is));
   unmade = λ o past. sym (same.closings o) ∙ h.unmade o past;
   places = λ k row is. let was = h.places k row is in record { first = was.first; is = was.is; role = was.role; place = was.place ∙ same.answers k };
   told_made = λ s v is. h.told_made s v (ap (λ (es : List Effect). server_told es s) same.effects ∙ is);
@@ -115,9 +115,9 @@ module _ (script : Script) (r : Reading) (S T : State) (t : ObjNo) (ms : List Mo
     (h : Served script r S) (k : Keeps S T t ms fs)
     (closes : (v : ObjNo) → total (closed_bit v) ms ≤ dooms fs v)
     (dooms_of : (v : ObjNo) → dooms fs v ≤ total (doomed_bit v) ms)
-    (closed : (v : ObjNo) (row : ServerRow) → server_at S.servers v ≡ Some row → (if closes_handle done then handles_lost fs v else 0) ≡ 0)
+    (closed : (v : ObjNo) (row : ServerRow) → server_at S.serving.servers v ≡ Some row → handles_lost fs v ≡ 0)
     (making : makes_server done ≡ true → total mutex_bit ms ≡ 0)
-    (detaches : (v : ObjNo) → 0 < total (detach_bit v) ms → is_closing S.servers v ≡ true) where
+    (detaches : (v : ObjNo) → 0 < total (detach_bit v) ms → is_closing S.serving.servers v ≡ true) where
   abbrev told_then : Reading
   told_then = further r done fs (steps_of t ms)
 
@@ -128,7 +128,7 @@ module _ (script : Script) (r : Reading) (S T : State) (t : ObjNo) (ms : List Mo
   same-owner : (v : ObjNo) → told_then.owner v ≡ r.owner v
   same-owner v = ap (λ (x : Option ObjNo). or_before x (r.owner v)) (no-owner v (makes_server done) refl)
 
-  row-then : (o : ObjNo) (row : ServerRow) → server_at T.servers o ≡ Some row → IsServed told_then T o row
+  row-then : (o : ObjNo) (row : ServerRow) → server_at T.serving.servers o ≡ Some row → IsServed told_then T o row
   row-then o row is =
       let w = k.servers o row is in
       let old = h.rows o w.old w.was in
@@ -153,7 +153,7 @@ module _ (script : Script) (r : Reading) (S T : State) (t : ObjNo) (ms : List Mo
             let now : closes_bit (Some row) ≡ true = ap closes_bit (sym is) ∙ closing in
             absurd (cc)) in omega arith)
             ∙ sym (closing-count told_then o row.owner owner);
-        owned = λ not. subst (λ (u : ObjNo). 0 < times_owned T.owned u o) w.owner (subst (λ (l : List (List ObjNo)). 0 < times_owned l w.old.owner o) (sym k.owned) (old.owned (still not)));
+        owned = λ not. subst (λ (u : ObjNo). 0 < times_owned T.serving.owned u o) w.owner (subst (λ (l : List (List ObjNo)). 0 < times_owned l w.old.owner o) (sym k.owned) (old.owned (still not)));
       }
     where
       opposite : (a b : Bool) → (a ≡ true → b ≡ true) → b ≡ false → a ≡ false
@@ -169,14 +169,14 @@ module _ (script : Script) (r : Reading) (S T : State) (t : ObjNo) (ms : List Mo
     links = λ s o is. server_told-append r.effects fs s ∙ (ap (λ (x : Option ObjNo). or_before x (server_told r.effects s)) (k.unlinked s) ∙ h.links s o (k.links s o is));
     ended = λ o some. let a = ends-append r.effects fs o in let b = k.unended o in keeps-closing S T t ms fs o k (h.ended o (omega arith));
     over = λ u o some. ap (λ (l : List (List ObjNo)). times_owned l u o) k.owned ∙ h.over u o (let a = ends-append r.effects fs o in let b = k.unended o in omega arith);
-    made = λ u o is. elim (h.made u o (sym (same-owner o) ∙ is)) as (λ _. (0 < times_owned T.owned u o) ⊎ (0 < ends (r.effects ++ fs) o)) [
+    made = λ u o is. elim (h.made u o (sym (same-owner o) ∙ is)) as (λ _. (0 < times_owned T.serving.owned u o) ⊎ (0 < ends (r.effects ++ fs) o)) [
       | inl owned ↦ inl (subst (λ (l : List (List ObjNo)). 0 < times_owned l u o) (sym k.owned) owned)
       | inr over ↦ inr (let a = ends-append r.effects fs o in omega arith)
     ];
     unmade = λ o past.
         let more = k.objects in
         let old = h.unmade o (omega arith) in
-        let none = if_zero (closes_handle done) (handles_lost fs o) (k.lost o past) in omega arith;
+        let none = k.lost o past in omega arith;
     places = λ n row is.
         let w = k.threads n row is in
         let old = h.places n w.old w.was in
@@ -185,11 +185,11 @@ module _ (script : Script) (r : Reading) (S T : State) (t : ObjNo) (ms : List Mo
     told_linked = λ s v is alive.
         let was = told_before s v is in
         let inside = h.told_made s v was in
-        elim (h.told_linked s v was (k.alive s inside alive)) as (λ _. (server_of T.servers s ≡ Some v) ⊎ (is_closing T.servers v ≡ true)) [
+        elim (h.told_linked s v was (k.alive s inside alive)) as (λ _. (server_of T.serving.servers s ≡ Some v) ⊎ (is_closing T.serving.servers v ≡ true)) [
           | inr closing ↦ inr (keeps-closing S T t ms fs v k closing)
-          | inl linked ↦ elim (k.linked s v inside linked) as (λ _. (server_of T.servers s ≡ Some v) ⊎ (is_closing T.servers v ≡ true)) [
+          | inl linked ↦ elim (k.linked s v inside linked) as (λ _. (server_of T.serving.servers s ≡ Some v) ⊎ (is_closing T.serving.servers v ≡ true)) [
             | inl still ↦ inl still
-            | inr other ↦ elim other as (λ _. (server_of T.servers s ≡ Some v) ⊎ (is_closing T.servers v ≡ true)) [
+            | inr other ↦ elim other as (λ _. (server_of T.serving.servers s ≡ Some v) ⊎ (is_closing T.serving.servers v ≡ true)) [
               | inl dead ↦ absurd (dead alive)
               | inr detached ↦ inr (keeps-closing S T t ms fs v k (detaches v detached))
             ]

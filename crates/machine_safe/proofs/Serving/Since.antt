@@ -4,10 +4,10 @@ use Rattle.entry_log.specs.declared.entry.Entry.{Entry}
 use Rattle.machine.specs.EntryWords.{makes_server}
 use Rattle.machine_safe.proofs.Deaths.EffectSums.{dooms-append}
 use Rattle.machine_safe.proofs.Serving.EffectSums.{ends-append}
-use Rattle.machine_safe.proofs.Serving.Reading.{closing_by, closings-append, effects-push, owner_in-append, reading}
+use Rattle.machine_safe.proofs.Serving.Reading.{closing_by, closings-append, effects-push, owner_in-append, reading, closings}
 use Rattle.machine_safe.specs.CountAfter.{effects_of}
 use Rattle.machine_safe.specs.SafeDeaths.{dooms}
-use Rattle.machine_safe.specs.Served.{closings, ends, is_closing_in, is_doomed, or_before, owner_in, owner_told, since}
+use Rattle.machine_safe.specs.Served.{ends, is_closing_in, is_doomed, or_before, owner_in, owner_told, since}
 use Rattle.std.proofs.Common.{Bool, List, None, Option, Some, [], ap, arith, false, refl, subst, sym, true, ℕ, ◌++◌, ◌∙◌, ◌∷◌, ◌≡◌}
 use Rattle.std.specs.Prelude.{if◌then◌else◌, is_some, nat_lt, ◌||◌}
 use Rattle.sym_base.specs.declared.number.ObjNo.{ObjNo}

@@ -83,11 +83,11 @@ slots-joined script before e s v slots makes linked by = slots-push script [] be
 
 -- sessions have the slots that are told of them, and their links are told where they are made alone
 pub record Slotted (script : Script) (before : List Entry) (S : State) : Type 0 where
-  pub sessions : (s : ObjNo) (row : SessionRow) → session_at S.servers s ≡ Some row → slots_in script before s ≡ Some row.slots
-  pub pool : S.messages.pool ≡ script.pool
+  pub sessions : (s : ObjNo) (row : SessionRow) → session_at S.serving.servers s ≡ Some row → slots_in script before s ≡ Some row.slots
+  pub pool : S.serving.messages.pool ≡ script.pool
   pub servers : (s : ObjNo) → server_in before s ≡ server_told (effects_of before) s
 
-pub slotted-keeps : (script : Script) (before : List Entry) (e : Entry) (S T : State) → Slotted script before S → ((s : ObjNo) → server_told e.effects s ≡ None) → ((s : ObjNo) (row : SessionRow) → session_at T.servers s ≡ Some row → WasSession S.servers s row) → T.messages.pool ≡ S.messages.pool → Slotted script (before ++ e ∷ []) T
+pub slotted-keeps : (script : Script) (before : List Entry) (e : Entry) (S T : State) → Slotted script before S → ((s : ObjNo) → server_told e.effects s ≡ None) → ((s : ObjNo) (row : SessionRow) → session_at T.serving.servers s ≡ Some row → WasSession S.serving.servers s row) → T.serving.messages.pool ≡ S.serving.messages.pool → Slotted script (before ++ e ∷ []) T
 slotted-keeps script before e S T h unlinked slots pool = record {
   sessions = λ s row is. let was = slots s row is in slots-kept script before e s (unlinked s) ∙ (h.sessions s was.old was.was ∙ ap Some was.slots);
   pool = pool ∙ h.pool;

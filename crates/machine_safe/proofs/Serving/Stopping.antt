@@ -32,7 +32,7 @@ use Rattle.machine_safe.proofs.Serving.Turns.{closing-told-by, Book, IsTurn, cou
 use Rattle.machine_safe.specs.CountAfter.{effects_of}
 use Rattle.machine_safe.specs.SafeMessages.{NothingLeft}
 use Rattle.machine_safe.specs.Sent.{finishes}
-use Rattle.machine_safe.specs.Served.{closes_handle, ends, handles_lost, or_before, server_told}
+use Rattle.machine_safe.specs.Served.{ends, handles_lost, or_before, server_told}
 use Rattle.move_laws.proofs.Lists.Contents.{contains_behind, contains_cases, contains_first, contains_map, none_contained}
 use Rattle.move_laws.proofs.References.Same.{eqb_apart, if_not, if_zero, same_is, same_self}
 use Rattle.move_laws.proofs.Lives.LivesMove.{zero_or}
@@ -72,8 +72,8 @@ module _ (script : Script) (before : List Entry) (S : State) (place : ℕ) (t : 
   made : AreMade S
   made = served-made script (reading before) S book.served
 
-  posted : (p : Post) → Contains (posts S) p → (m : Message) × Contains S.messages.outstanding m × (post_of m ≡ p)
-  posted p among = contains_map post_of S.messages.outstanding p among
+  posted : (p : Post) → Contains (posts S) p → (m : Message) × Contains S.serving.messages.outstanding m × (post_of m ≡ p)
+  posted p among = contains_map post_of S.serving.messages.outstanding p among
 
   -- the handle of a server is closed
   pub turn-closes : {k : Kinds} (d : Decision) → IsRegular k script S t d → IsClosing S t d → Doing script S t d.moves → IsTurn script before (entry_for place t S d) (perform t d.moves S)
@@ -121,7 +121,7 @@ module _ (script : Script) (before : List Entry) (S : State) (place : ℕ) (t : 
       last = going-then script T t (Lose is.holder is.server) back later
 
       made1 : AreMade T
-      made1 o row there = let was = closing-was is.server S.servers o row there in made o was.0 was.1
+      made1 o row there = let was = closing-was is.server S.serving.servers o row there in made o was.0 was.1
 
       loses : Keeps T mid t (Lose is.holder is.server ∷ []) fs
       loses = keeps-move script T t (Lose is.holder is.server) later.sane.rows made1 later.each.0 (changing-handle is.holder is.server is.handle)
@@ -130,7 +130,7 @@ module _ (script : Script) (before : List Entry) (S : State) (place : ℕ) (t : 
       r1 = further (reading before) d.step fs (steps_of t (Lose is.holder is.server ∷ []))
 
       served1 : Served script r1 mid
-      served1 = served-closing script (reading before) S t d.step book.served is.server is.holder is.handle is.makes is.step loses
+      served1 = served-closing script (reading before) S t d.step book.served is.server is.holder is.handle is.makes loses
 
       keeps : Keeps mid (perform t back mid) t back gs
       keeps = keeps-going script mid t back last (served-made script r1 mid served1) (behind-still is.answers t).0
@@ -143,7 +143,7 @@ module _ (script : Script) (before : List Entry) (S : State) (place : ℕ) (t : 
           (served-keeps script r1 mid (perform t back mid) t back d.step gs served1 keeps
           (λ x. let a = regular.dooms x in let b = ap (total (closed_bit x)) is.moves in let c = ap (total (doomed_bit x)) is.moves in let f = doom-told t back mid x in omega arith)
           (λ x. doom-among t back mid x)
-          (λ x row there. if_zero (closes_handle d.step) (handles_lost gs x) (let a = lost-each script mid t back x last.each in let b = lost-behind is.answers t x in omega arith))
+          (λ x row there. let a = lost-each script mid t back x last.each in let b = lost-behind is.answers t x in omega arith)
           (λ making. absurd (cc)) (λ x some. let none = undetached-behind is.answers t x in absurd (omega arith)))
 
       told_all : e.effects ≡ fs ++ gs
@@ -163,9 +163,9 @@ module _ (script : Script) (before : List Entry) (S : State) (place : ℕ) (t : 
       q : IsQuiet S (perform t d.moves S) e.effects
       q = quiet-doing script S t d.moves does (let a = ap (total message_bit) is.moves in let b = (behind-still is.answers t).1 in omega arith)
 
-      slots : (s : ObjNo) (row : SessionRow) → session_at (perform t d.moves S).servers s ≡ Some row → WasSession S.servers s row
+      slots : (s : ObjNo) (row : SessionRow) → session_at (perform t d.moves S).serving.servers s ≡ Some row → WasSession S.serving.servers s row
       slots s row is_row =
-          let after = keeps.slots s row (ap (λ (l : List Move). session_at (perform t l S).servers s) (sym is.moves) ∙ is_row) in
+          let after = keeps.slots s row (ap (λ (l : List Move). session_at (perform t l S).serving.servers s) (sym is.moves) ∙ is_row) in
           let first = loses.slots s after.old after.was in
           record { old = first.old; was = first.was; slots = first.slots ∙ after.slots }
 
@@ -177,7 +177,7 @@ module _ (script : Script) (before : List Entry) (S : State) (place : ℕ) (t : 
       letters = letters-quiet script before S (perform t d.moves S) e book.letters (λ p among. unlinked p.session) q
           (λ p among. let a = ended p.server in let none : same_bit is.server p.server ≡ 0 = if_not (is.server.0 == p.server.0) 1 (eqb_apart is.server.0 p.server.0 (λ at. left p among (sym at))) in omega arith);
       slotted = slotted-keeps script before e S (perform t d.moves S) book.slotted unlinked
-          (λ s row is_row. session-closed (dies (moved t (Servers (End is.server)) S) is.server) is.server S.servers s row (ap (λ (l : List Move). session_at (perform t l S).servers s) (sym is.moves) ∙ is_row)) q.pool;
+          (λ s row is_row. session-closed (dies (moved t (Servers (End is.server)) S) is.server) is.server S.serving.servers s row (ap (λ (l : List Move). session_at (perform t l S).serving.servers s) (sym is.moves) ∙ is_row)) q.pool;
       fresh = fresh-on before e book.fresh (λ makes. let none = is.makes in absurd (cc));
     };
     lawful = record {
@@ -203,14 +203,14 @@ module _ (script : Script) (before : List Entry) (S : State) (place : ℕ) (t : 
       may : MayEnd S is.server
       may = goes.each.0
 
-      owned : 0 < times_owned S.owned t is.server
+      owned : 0 < times_owned S.serving.owned t is.server
       owned = goes.each.1.0.1
 
       -- it is its owner's alone
-      alone : (u : ObjNo) → 0 < times_owned S.owned u is.server → u.0 ≡ t.0
+      alone : (u : ObjNo) → 0 < times_owned S.serving.owned u is.server → u.0 ≡ t.0
       alone u some =
-          let first = rows.servers.owners u is.server some in
-          let own = rows.servers.owners t is.server owned in
+          let first = rows.serving.servers.owners u is.server some in
+          let own = rows.serving.servers.owners t is.server owned in
           let both : Some first.row ≡ Some own.row = sym first.is ∙ own.is in
           let same_row : first.row ≡ own.row = cc in
           sym first.owner ∙ (ap (λ (x : ServerRow). x.owner.0) same_row ∙ own.owner)
@@ -222,7 +222,7 @@ module _ (script : Script) (before : List Entry) (S : State) (place : ℕ) (t : 
       r1 = further (reading before) d.step gs (λ k. 0)
 
       whole : Served script r1 (perform t d.moves S)
-      whole = subst (λ (l : List Move). Served script r1 (perform t l S)) (sym is.moves) (served-stopped script (reading before) S t d.step book.served is.server is.makes is.step may (owned_inside S.owned t is.server owned) (let a = rows.servers.once t is.server in let b = owned in omega arith) alone)
+      whole = subst (λ (l : List Move). Served script r1 (perform t l S)) (sym is.moves) (served-stopped script (reading before) S t d.step book.served is.server is.makes may (owned_inside S.serving.owned t is.server owned) (let a = rows.serving.servers.once t is.server in let b = owned in omega arith) alone)
 
       told_all : e.effects ≡ gs
       told_all = ap (λ (l : List Move). tell t l S) is.moves ∙ ap (λ (l : List Effect). Terminated is.server ∷ l) (append-nil (closed_effects (dies (moved t (Servers (End is.server)) S) is.server) (Own t) is.server))
@@ -244,7 +244,7 @@ module _ (script : Script) (before : List Entry) (S : State) (place : ℕ) (t : 
       left : (p : Post) → Contains (posts S) p → (p.server.0 ≡ is.server.0 → ⊥)
       left p among at =
           let was = posted p among in
-          let there = filter_there (is_at is.server.0) S.messages.outstanding was.0 was.1 (eq-eqb was.0.row.server.0 is.server.0 (ap (λ (x : Post). x.server.0) was.2 ∙ at)) in
+          let there = filter_there (is_at is.server.0) S.serving.messages.outstanding was.0 was.1 (eq-eqb was.0.row.server.0 is.server.0 (ap (λ (x : Post). x.server.0) was.2 ∙ at)) in
           none_contained was.0 (subst (λ (l : List Message). Contains l was.0) may.finished there)
 
       nothing : NothingLeft before is.server
@@ -259,7 +259,7 @@ module _ (script : Script) (before : List Entry) (S : State) (place : ℕ) (t : 
 
       is_end : IsEnd before e is.server
       is_end =
-          let row = closing-row (server_at S.servers is.server) may.closing in record {
+          let row = closing-row (server_at S.serving.servers is.server) may.closing in record {
             closing = closing-told-by script before S is.server row.0 book row.1 ∙ row.2;
             first = sym (book.fresh is.server row.0.owner (book.served.rows is.server row.0 row.1).owner).ends ∙ zero_or (ends (effects_of before) is.server) (λ some. let none = book.served.over t is.server some in let own = owned in absurd (omega arith));
             once = let a = ended is.server in let own = same_self is.server in omega arith;

@@ -153,7 +153,7 @@ pub unowned-close : (last : Bool) (h : Holder) (o v : ObjNo) → owner_told (clo
 unowned-close true h o v = refl
 unowned-close false h o v = refl
 
-pub unowned-move : (script : Script) (S : State) (t : ObjNo) (m : Move) → ((o : ObjNo) (row : ServerRow) → server_at S.servers o ≡ Some row → o.0 < length S.objects) → FitsMove script t m S → changing_bit m ≡ 0 → mutex_bit m ≡ 0 → (v : ObjNo) → owner_told (told m S) v ≡ None
+pub unowned-move : (script : Script) (S : State) (t : ObjNo) (m : Move) → ((o : ObjNo) (row : ServerRow) → server_at S.serving.servers o ≡ Some row → o.0 < length S.references.objects) → FitsMove script t m S → changing_bit m ≡ 0 → mutex_bit m ≡ 0 → (v : ObjNo) → owner_told (told m S) v ≡ None
 unowned-move script S t (Make kind name (Own u)) made fits none unlocked v = let past = made (next_object S) _ fits.1.server in absurd (omega arith)
 unowned-move script S t (Make kind name h) made fits none unlocked v = refl
 unowned-move script S t (Gain (Own u) o) made fits none unlocked v = absurd fits.0

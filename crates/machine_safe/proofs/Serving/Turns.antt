@@ -19,7 +19,7 @@ use Rattle.machine_safe.proofs.Serving.Reading.{further, reading, same-entry}
 use Rattle.machine_safe.proofs.Serving.Served.{Served, served-keeps, served-made, served-same}
 use Rattle.machine_safe.specs.SafeMessages.{IsAcceptance, IsFinish, IsEnd}
 use Rattle.machine_safe.specs.Sent.{accepts, finishes}
-use Rattle.machine_safe.specs.Served.{closes_handle, ends, handles_lost, is_closing_in, server_in, server_told}
+use Rattle.machine_safe.specs.Served.{ends, handles_lost, is_closing_in, server_in, server_told}
 use Rattle.move_laws.proofs.Lives.LivesMove.{zero_or}
 use Rattle.script_types.specs.declared.script.Script.{Script}
 use Rattle.state_rows.specs.ServerRows.{server_at, IsSession, closes, is_closing, link_of, server_of, session_at}
@@ -90,26 +90,26 @@ counts t ms d k same = by (t.0 == k) d.answer same
     by false x same = refl
 
 -- a server is closing, as told, where its row says so
-pub closing-told-by : (script : Script) (before : List Entry) (S : State) (v : ObjNo) (row : ServerRow) → Book script before S → server_at S.servers v ≡ Some row → is_closing_in before v ≡ row.is_closing
+pub closing-told-by : (script : Script) (before : List Entry) (S : State) (v : ObjNo) (row : ServerRow) → Book script before S → server_at S.serving.servers v ≡ Some row → is_closing_in before v ≡ row.is_closing
 closing-told-by script before S v row book is = let served = book.served.rows v row is in closing-since before v row.owner book.fresh served.owner ∙ sym served.closing
 
 -- a session that is alive, as it is in the rows and as it is told
-accepting-told : (script : Script) (before : List Entry) (S : State) (s v : ObjNo) → AreRows script S → Book script before S → server_of S.servers s ≡ Some v → is_closing S.servers v ≡ false → accepts_in before (server_in before s) ≡ true
+accepting-told : (script : Script) (before : List Entry) (S : State) (s v : ObjNo) → AreRows script S → Book script before S → server_of S.serving.servers s ≡ Some v → is_closing S.serving.servers v ≡ false → accepts_in before (server_in before s) ≡ true
 accepting-told script before S s v rows book linked open_server_is =
-    let row = there-row (server_at S.servers v) (rows.servers.sessions s v linked) in
+    let row = there-row (server_at S.serving.servers v) (rows.serving.servers.sessions s v linked) in
     let told : is_closing_in before v ≡ false = closing-told-by script before S v row.0 book row.1 ∙ (sym (ap closes row.1) ∙ open_server_is) in
     ap (accepts_in before) (book.slotted.servers s ∙ book.served.links s v linked) ∙ ap not told
 
 closing-told : (script : Script) (before : List Entry) (S : State) (s : ObjNo) → Book script before S → IsAlive (object_of S s) → open_server S s ≡ None → accepts_in before (server_in before s) ≡ false
 closing-told script before S s book alive none = by (server_in before s) (book.slotted.servers s)
   where
-    closing : (v : ObjNo) → is_closing S.servers v ≡ true → not (is_closing_in before v) ≡ false
-    closing v is = let row = closing-row (server_at S.servers v) is in ap not (closing-told-by script before S v row.0 book row.1 ∙ row.2)
+    closing : (v : ObjNo) → is_closing S.serving.servers v ≡ true → not (is_closing_in before v) ≡ false
+    closing v is = let row = closing-row (server_at S.serving.servers v) is in ap not (closing-told-by script before S v row.0 book row.1 ∙ row.2)
 
-    linked : (v : ObjNo) → server_of S.servers s ≡ Some v → is_closing S.servers v ≡ true
-    linked v is = where_open (is_closing S.servers v) refl (sym (ap (λ (x : Option ObjNo). if server_rows.accepts S.servers x then x else None) is) ∙ none)
+    linked : (v : ObjNo) → server_of S.serving.servers s ≡ Some v → is_closing S.serving.servers v ≡ true
+    linked v is = where_open (is_closing S.serving.servers v) refl (sym (ap (λ (x : Option ObjNo). if server_rows.accepts S.serving.servers x then x else None) is) ∙ none)
       where
-        where_open : (b : Bool) → is_closing S.servers v ≡ b → (if not b then Some v else None) ≡ None → is_closing S.servers v ≡ true
+        where_open : (b : Bool) → is_closing S.serving.servers v ≡ b → (if not b then Some v else None) ≡ None → is_closing S.serving.servers v ≡ true
         where_open true e none = e
         where_open false e none = absurd (cc)
 
@@ -121,18 +121,18 @@ closing-told script before S s book alive none = by (server_in before s) (book.s
     ]
 
 -- all slots of a session are used, as told, where they are in the rows
-full-told : (script : Script) (before : List Entry) (S : State) (s : ObjNo) → Book script before S → IsSession S.servers s → is_full_in script before s (slots_in script before s) ≡ is_full S.messages s (slots_of S s)
+full-told : (script : Script) (before : List Entry) (S : State) (s : ObjNo) → Book script before S → IsSession S.serving.servers s → is_full_in script before s (slots_in script before s) ≡ is_full S.serving.messages s (slots_of S s)
 full-told script before S s book is =
-    let row = session-row (session_at S.servers s) is in
+    let row = session-row (session_at S.serving.servers s) is in
     let slots = row.0.slots in
     let told : slots_in script before s ≡ Some slots = book.slotted.sessions s row.0 row.1 in
     let own : slots_of S s ≡ slots = ap slots_of_row row.1 in
-    let used : used_in script before s slots ≡ used_slots S.messages s slots =
+    let used : used_in script before s slots ≡ used_slots S.serving.messages s slots =
     ap (λ (l : List SentOver). length (filter (takes_of script before s slots) l)) book.letters.sends
-    ∙ (used-is script before s slots S.messages.outstanding (λ p there. (book.letters.known p there).slots) ∙ length-filter (takes_slot s slots) S.messages.outstanding) in
+    ∙ (used-is script before s slots S.serving.messages.outstanding (λ p there. (book.letters.known p there).slots) ∙ length-filter (takes_slot s slots) S.serving.messages.outstanding) in
     ap (is_full_in script before s) told
     ∙ (ap (λ (n : ℕ). n == all_slots script.pool slots) used
-    ∙ (ap (λ (n : ℕ). used_slots S.messages s slots == all_slots n slots) (sym book.slotted.pool) ∙ ap (is_full S.messages s) (sym own)))
+    ∙ (ap (λ (n : ℕ). used_slots S.serving.messages s slots == all_slots n slots) (sym book.slotted.pool) ∙ ap (is_full S.serving.messages s) (sym own)))
   where
     session-row : (x : Option SessionRow) → is_some x ≡ true → (row : SessionRow) × (x ≡ Some row)
     session-row None is = absurd (cc)
@@ -173,13 +173,13 @@ refused-answer script before S place t d rows book looked none r = record {
     accepting : (o : ObjNo) → open_server S r.session ≡ Some o → told ≡ true
     accepting o e = accepting-told script before S r.session o rows book (linked_server S r.session o e) (open_is S r.session o e)
 
-    is_busy : (o : ObjNo) → open_server S r.session ≡ Some o → is_full S.messages r.session (slots_of S r.session) ≡ true → full ≡ true
+    is_busy : (o : ObjNo) → open_server S r.session ≡ Some o → is_full S.serving.messages r.session (slots_of S r.session) ≡ true → full ≡ true
     is_busy o e is = full-told script before S r.session book (open_session S r.session o e) ∙ is
 
     both : {A : Type 0} (f : Bool → Bool → A) {b c x y : Bool} → b ≡ x → c ≡ y → f b c ≡ f x y
     both f {b = b} {y = y} p q = ap (f b) q ∙ ap (λ z. f z y) p
 
-pub sent-answer : (script : Script) (before : List Entry) (S : State) (place : ℕ) (t : ObjNo) (d : Decision) (s v : ObjNo) → AreRows script S → Book script before S → Looked script before S → server_of S.servers s ≡ Some v → is_closing S.servers v ≡ false → accepts (tell t d.moves S) ≡ 1 → IsAnswered S t (instruction_in script before t) s (slots_of S s) d → IsSendAnswer script before (entry_for place t S d)
+pub sent-answer : (script : Script) (before : List Entry) (S : State) (place : ℕ) (t : ObjNo) (d : Decision) (s v : ObjNo) → AreRows script S → Book script before S → Looked script before S → server_of S.serving.servers s ≡ Some v → is_closing S.serving.servers v ≡ false → accepts (tell t d.moves S) ≡ 1 → IsAnswered S t (instruction_in script before t) s (slots_of S s) d → IsSendAnswer script before (entry_for place t S d)
 sent-answer script before S place t d s v rows book looked linked open_server_is one r =
     let told = accepting-told script before S s v rows book linked open_server_is in
     let full = full-told script before S s book (session-of s v linked) ∙ r.free in
@@ -192,8 +192,8 @@ sent-answer script before S place t d s v rows book looked linked open_server_is
       accepted = one ∙ sym (ap (λ (b : Bool). accepted_of b (is_full_in script before s (slots_in script before s))) told ∙ ap (accepted_of true) full);
     }
   where
-    session-of : (x y : ObjNo) → server_of S.servers x ≡ Some y → IsSession S.servers x
-    session-of x y is = by (session_at S.servers x) is
+    session-of : (x y : ObjNo) → server_of S.serving.servers x ≡ Some y → IsSession S.serving.servers x
+    session-of x y is = by (session_at S.serving.servers x) is
       where
         by : (z : Option SessionRow) → link_of z ≡ Some y → is_some z ≡ true
         by None e = absurd (cc)
@@ -208,12 +208,10 @@ module _ (script : Script) (before : List Entry) (S : State) (place : ℕ) (t : 
       served-same script (further (reading before) d.step fs (steps_of t d.moves)) (reading (before ++ entry_for place t S d ∷ [])) (perform t d.moves S)
       (same-entry before (entry_for place t S d) (steps_of t d.moves) (λ n. counts t d.moves d n is.answers))
       (served-keeps script (reading before) S (perform t d.moves S) t d.moves d.step fs book.served k
-      (λ v. let a = is.dooms v in let b = doom-told t d.moves S v in omega arith) (λ v. doom-among t d.moves S v)
-      (λ v row there. lost_none (closes_handle d.step) refl v row there) is.making detaches)
+      (λ v. let a = is.dooms v in let b = doom-told t d.moves S v in omega arith) (λ v. doom-among t d.moves S v) lost_none is.making detaches)
     where
-      lost_none : (b : Bool) → closes_handle d.step ≡ b → (v : ObjNo) (row : ServerRow) → server_at S.servers v ≡ Some row → (if b then handles_lost (tell t d.moves S) v else 0) ≡ 0
-      lost_none false e v row there = refl
-      lost_none true e v row there = zero_or (handles_lost (tell t d.moves S) v) (λ some. let most = lost-doing script S t d.moves v does rows in let gone = closed e v (omega arith) in absurd (cc))
+      lost_none : (v : ObjNo) (row : ServerRow) → server_at S.serving.servers v ≡ Some row → handles_lost (tell t d.moves S) v ≡ 0
+      lost_none v row there = zero_or (handles_lost (tell t d.moves S) v) (λ some. let most = lost-doing script S t d.moves v does rows in let gone = closed v (omega arith) in absurd (cc))
 
   -- nothing of servers and messages changes
   pub turn-keeps : {k : Kinds} (d : Decision) → IsRegular k script S t d → Looked script before S → IsKeeping S t (instruction_in script before t) d → Doing script S t d.moves → IsTurn script before (entry_for place t S d) (perform t d.moves S)

@@ -45,13 +45,13 @@ not_one : (n : ℕ) → (n == 1) ≡ false → n ≢ 1
 not_one n h e = cc (eq-eqb n 1 e)
 
 -- a living object has a reference less
-pub lives-closed : (last : Bool) (S T : State) (holder : Holder) (o : ObjNo) → dies S o ≡ last → IsAlive (object_of S o) → T.objects ≡ objects_closed last o S.objects → ((p : ObjNo) → count_of T p + same o p ≡ count_of S p) → ((p : ObjNo) → sweeps_of T p ≡ sweeps_of S p + deaths (closed_effects last holder o) p) → LivesMove S T (closed_effects last holder o)
+pub lives-closed : (last : Bool) (S T : State) (holder : Holder) (o : ObjNo) → dies S o ≡ last → IsAlive (object_of S o) → T.references.objects ≡ objects_closed last o S.references.objects → ((p : ObjNo) → count_of T p + same o p ≡ count_of S p) → ((p : ObjNo) → sweeps_of T p ≡ sweeps_of S p + deaths (closed_effects last holder o) p) → LivesMove S T (closed_effects last holder o)
 lives-closed false S T holder o e alive objects counts owed =
-    let long : length T.objects ≡ length S.objects = ap length objects in
+    let long : length T.references.objects ≡ length S.references.objects = ap length objects in
     record {
       counts = λ p. let a = counts p in omega arith;
-      deads = λ p. let a : gone T.objects p ≡ gone S.objects p = ap (λ (os : List (Option ObjectRow)). gone os p) objects in omega arith;
-      sweeps = λ p. let a : swept T.objects p ≡ swept S.objects p = ap (λ (os : List (Option ObjectRow)). swept os p) objects in omega arith;
+      deads = λ p. let a : gone T.references.objects p ≡ gone S.references.objects p = ap (λ (os : List (Option ObjectRow)). gone os p) objects in omega arith;
+      sweeps = λ p. let a : swept T.references.objects p ≡ swept S.references.objects p = ap (λ (os : List (Option ObjectRow)). swept os p) objects in omega arith;
       owed = λ p. let a = owed p in omega arith;
       last = λ p h. absurd (omega arith);
       dies = λ p h c.
@@ -67,18 +67,18 @@ lives-closed false S T holder o e alive objects counts owed =
       born = λ p past lt living. absurd (omega arith);
     }
 lives-closed true S T holder o e alive objects counts owed =
-    let was = alive_not_gone S.objects o alive in
+    let was = alive_not_gone S.references.objects o alive in
     let inside = was.1 in
     let row = object_of S o in
     let dead = dead_row_gone row in
     let stays = dead_row_swept row in
-    let same_bit : swept_bit row ≡ swept_bit (get_or S.objects o.0 unmade) = ap swept_bit (sym (row_made S.objects o inside)) in
-    let long : length T.objects ≡ length S.objects = ap length objects ∙ length-set S.objects o.0 (dead_row row) in
+    let same_bit : swept_bit row ≡ swept_bit (get_or S.references.objects o.0 unmade) = ap swept_bit (sym (row_made S.references.objects o inside)) in
+    let long : length T.references.objects ≡ length S.references.objects = ap length objects ∙ length-set S.references.objects o.0 (dead_row row) in
     let one : count_of S o ≡ 1 = eqb-true (count_of S o) 1 e in
     record {
       counts = λ p. let a = counts p in omega arith;
-      deads = λ p. ap (λ (os : List (Option ObjectRow)). gone os p) objects ∙ bit-set gone_bit S.objects o (dead_row row) 1 inside (omega arith) p (same o p + 0) (λ z. omega arith) (λ z. omega arith);
-      sweeps = λ p. ap (λ (os : List (Option ObjectRow)). swept os p) objects ∙ bit-set swept_bit S.objects o (dead_row row) 0 inside (omega arith) p 0 (λ z. refl) (λ z. refl);
+      deads = λ p. ap (λ (os : List (Option ObjectRow)). gone os p) objects ∙ bit-set gone_bit S.references.objects o (dead_row row) 1 inside (omega arith) p (same o p + 0) (λ z. omega arith) (λ z. omega arith);
+      sweeps = λ p. ap (λ (os : List (Option ObjectRow)). swept os p) objects ∙ bit-set swept_bit S.references.objects o (dead_row row) 0 inside (omega arith) p 0 (λ z. refl) (λ z. refl);
       owed = λ p. let a = owed p in omega arith;
       last = λ p h.
           let at : o ≡ p = same_is o p (omega arith) in
@@ -98,19 +98,19 @@ dead_is_made : (objects : List (Option ObjectRow)) (o : ObjNo) → is_dead (get_
 dead_is_made objects o h = let a = gone_is objects o in let b = gone_le objects o in let c = swept_le objects o in (omega arith, omega arith)
 
 -- a dead object is swept
-pub lives-swept : (S T : State) (o : ObjNo) → o.0 < length S.objects → is_dead (object_of S o) ≡ 1 → T.objects ≡ slice_set S.objects o.0 None → ((p : ObjNo) → count_of T p ≡ count_of S p) → ((p : ObjNo) → sweeps_of T p + same o p ≡ sweeps_of S p) → LivesMove S T (Swept o ∷ [])
+pub lives-swept : (S T : State) (o : ObjNo) → o.0 < length S.references.objects → is_dead (object_of S o) ≡ 1 → T.references.objects ≡ slice_set S.references.objects o.0 None → ((p : ObjNo) → count_of T p ≡ count_of S p) → ((p : ObjNo) → sweeps_of T p + same o p ≡ sweeps_of S p) → LivesMove S T (Swept o ∷ [])
 lives-swept S T o inside dead objects counts owed =
-    let was = dead_is_made S.objects o dead in
-    let long : length T.objects ≡ length S.objects = ap length objects ∙ length-set S.objects o.0 None in
+    let was = dead_is_made S.references.objects o dead in
+    let long : length T.references.objects ≡ length S.references.objects = ap length objects ∙ length-set S.references.objects o.0 None in
     record {
       counts = λ p. let a = counts p in omega arith;
-      deads = λ p. ap (λ (os : List (Option ObjectRow)). gone os p) objects ∙ bit-set gone_bit S.objects o None 0 inside (omega arith) p 0 (λ z. refl) (λ z. refl);
-      sweeps = λ p. ap (λ (os : List (Option ObjectRow)). swept os p) objects ∙ bit-set swept_bit S.objects o None 1 inside (omega arith) p (same o p + 0) (λ z. omega arith) (λ z. omega arith);
+      deads = λ p. ap (λ (os : List (Option ObjectRow)). gone os p) objects ∙ bit-set gone_bit S.references.objects o None 0 inside (omega arith) p 0 (λ z. refl) (λ z. refl);
+      sweeps = λ p. ap (λ (os : List (Option ObjectRow)). swept os p) objects ∙ bit-set swept_bit S.references.objects o None 1 inside (omega arith) p (same o p + 0) (λ z. omega arith) (λ z. omega arith);
       owed = λ p. let a = owed p in omega arith;
       last = λ p h. absurd (omega arith);
       dies = λ p h c. absurd (omega arith);
       opens = λ p h. absurd (omega arith);
-      removes = λ p h. subst (λ (x : ObjNo). gone S.objects x ≡ 1) (same_is o p (omega arith)) was.0;
+      removes = λ p h. subst (λ (x : ObjNo). gone S.references.objects x ≡ 1) (same_is o p (omega arith)) was.0;
       found = λ p h. absurd (omega arith);
       made = omega arith;
       born = λ p past lt living. absurd (omega arith);

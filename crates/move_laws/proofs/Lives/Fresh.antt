@@ -12,13 +12,13 @@ use Rattle.move_laws.proofs.Lives.LivesMove.{zero_or}
 
 pub next_fresh : (script : Script) (S : State) → AreRows script S → IsFresh S (next_object S)
 next_fresh script S rows =
-    let first = rows.sized.first in
+    let first = rows.references.sized.first in
     record {
-      object = get_or_past S.objects (next_object S).0 None (omega arith);
-      thread = get_or_past S.threads (next_object S).0 None (omega arith);
-      count = zero_or (count_of S (next_object S)) (λ some. let made = (alive_not_gone S.objects (next_object S) (rows.lives.alive (next_object S) some)).1 in absurd (omega arith));
-      owner = rows.locks.owners_made (next_object S) (omega arith);
-      waiters = rows.locks.waiters_made (next_object S) (omega arith);
-      session = rows.servers.sessions_made (next_object S) (omega arith);
-      linked = rows.servers.linked_made (next_object S) (omega arith);
+      object = get_or_past S.references.objects (next_object S).0 None (omega arith);
+      thread = get_or_past S.references.threads (next_object S).0 None (omega arith);
+      count = zero_or (count_of S (next_object S)) (λ some. let made = (alive_not_gone S.references.objects (next_object S) (rows.lives.alive (next_object S) some)).1 in absurd (omega arith));
+      owner = rows.synchronization.locks.owners_made (next_object S) (omega arith);
+      waiters = rows.synchronization.locks.waiters_made (next_object S) (omega arith);
+      session = rows.serving.servers.sessions_made (next_object S) (omega arith);
+      linked = rows.serving.servers.linked_made (next_object S) (omega arith);
     }

@@ -22,17 +22,17 @@ pub record IsQuiet (effects : List Effect) : Type 0 where
   pub removals : (o : ObjNo) → removals effects o ≡ 0
 
 -- the objects and the owed sweeps stay
-pub lives-quiet : (S T : State) (effects : List Effect) → T.objects ≡ S.objects → IsQuiet effects → ((o : ObjNo) → count_of T o + minuses effects o ≡ count_of S o + pluses effects o) → ((o : ObjNo) → sweeps_of T o ≡ sweeps_of S o) → ((o : ObjNo) → 0 < pluses effects o → IsAlive (object_of S o)) → ((o : ObjNo) → 0 < finds effects o → o.0 < length S.objects) → LivesMove S T effects
+pub lives-quiet : (S T : State) (effects : List Effect) → T.references.objects ≡ S.references.objects → IsQuiet effects → ((o : ObjNo) → count_of T o + minuses effects o ≡ count_of S o + pluses effects o) → ((o : ObjNo) → sweeps_of T o ≡ sweeps_of S o) → ((o : ObjNo) → 0 < pluses effects o → IsAlive (object_of S o)) → ((o : ObjNo) → 0 < finds effects o → o.0 < length S.references.objects) → LivesMove S T effects
 lives-quiet S T effects objects quiet counts owed opens found =
-    let long : length T.objects ≡ length S.objects = ap length objects in
+    let long : length T.references.objects ≡ length S.references.objects = ap length objects in
     record {
       counts = counts;
-      deads = λ o. let a : gone T.objects o ≡ gone S.objects o = ap (λ (os : List (Option ObjectRow)). gone os o) objects in let b = quiet.deaths o in omega arith;
-      sweeps = λ o. let a : swept T.objects o ≡ swept S.objects o = ap (λ (os : List (Option ObjectRow)). swept os o) objects in let b = quiet.removals o in omega arith;
+      deads = λ o. let a : gone T.references.objects o ≡ gone S.references.objects o = ap (λ (os : List (Option ObjectRow)). gone os o) objects in let b = quiet.deaths o in omega arith;
+      sweeps = λ o. let a : swept T.references.objects o ≡ swept S.references.objects o = ap (λ (os : List (Option ObjectRow)). swept os o) objects in let b = quiet.removals o in omega arith;
       owed = λ o. let a = owed o in let b = quiet.deaths o in let c = quiet.removals o in omega arith;
       last = λ o h. let b = quiet.deaths o in absurd (omega arith);
       dies = λ o h c. let b = quiet.minuses o in absurd (omega arith);
-      opens = λ o h. let a = alive_not_gone S.objects o (opens o h) in (a.0, omega arith);
+      opens = λ o h. let a = alive_not_gone S.references.objects o (opens o h) in (a.0, omega arith);
       removes = λ o h. let b = quiet.removals o in absurd (omega arith);
       found = λ o h. let a = found o h in omega arith;
       made = omega arith;
@@ -40,11 +40,11 @@ lives-quiet S T effects objects quiet counts owed opens found =
     }
 
 -- nothing is told
-pub lives-none : (S T : State) → T.objects ≡ S.objects → ((o : ObjNo) → count_of T o ≡ count_of S o) → ((o : ObjNo) → sweeps_of T o ≡ sweeps_of S o) → LivesMove S T []
+pub lives-none : (S T : State) → T.references.objects ≡ S.references.objects → ((o : ObjNo) → count_of T o ≡ count_of S o) → ((o : ObjNo) → sweeps_of T o ≡ sweeps_of S o) → LivesMove S T []
 lives-none S T objects counts owed = lives-quiet S T [] objects (record { minuses = λ o. refl; deaths = λ o. refl; removals = λ o. refl }) (λ o. let a = counts o in omega arith) owed (λ o h. absurd (omega arith)) (λ o h. absurd (omega arith))
 
 -- a living object gets a reference
-pub lives-plus : (S T : State) (holder : Holder) (x : ObjNo) → T.objects ≡ S.objects → ((o : ObjNo) → count_of T o ≡ count_of S o + same x o) → ((o : ObjNo) → sweeps_of T o ≡ sweeps_of S o) → IsAlive (object_of S x) → LivesMove S T (Plus holder x ∷ [])
+pub lives-plus : (S T : State) (holder : Holder) (x : ObjNo) → T.references.objects ≡ S.references.objects → ((o : ObjNo) → count_of T o ≡ count_of S o + same x o) → ((o : ObjNo) → sweeps_of T o ≡ sweeps_of S o) → IsAlive (object_of S x) → LivesMove S T (Plus holder x ∷ [])
 lives-plus S T holder x objects counts owed alive = lives-quiet S T (Plus holder x ∷ []) objects (record { minuses = λ o. refl; deaths = λ o. refl; removals = λ o. refl })
     (λ o. let a = counts o in omega arith) owed (λ o h. subst (λ (y : ObjNo). IsAlive (object_of S y)) (same_is x o (omega arith)) alive) (λ o h. absurd (omega arith))
 
@@ -61,17 +61,17 @@ swept_push_at (x ∷ xs) zero row = refl
 swept_push_at (x ∷ xs) (suc i) row = swept_push_at xs i row
 
 -- an object is made, with its first reference
-pub lives-made : (S T : State) (row : ObjectRow) (holder : Holder) (x : ObjNo) → row.dead ≡ false → x.0 ≡ length S.objects → T.objects ≡ S.objects ++ Some row ∷ [] → ((o : ObjNo) → count_of T o ≡ count_of S o + same x o) → ((o : ObjNo) → sweeps_of T o ≡ sweeps_of S o) → LivesMove S T (Plus holder x ∷ [])
+pub lives-made : (S T : State) (row : ObjectRow) (holder : Holder) (x : ObjNo) → row.dead ≡ false → x.0 ≡ length S.references.objects → T.references.objects ≡ S.references.objects ++ Some row ∷ [] → ((o : ObjNo) → count_of T o ≡ count_of S o + same x o) → ((o : ObjNo) → sweeps_of T o ≡ sweeps_of S o) → LivesMove S T (Plus holder x ∷ [])
 lives-made S T row holder x living at objects counts owed =
-    let long : length T.objects ≡ length S.objects + 1 = ap length objects ∙ length_push S.objects (Some row) in
+    let long : length T.references.objects ≡ length S.references.objects + 1 = ap length objects ∙ length_push S.references.objects (Some row) in
     record {
       counts = λ o. let a = counts o in omega arith;
-      deads = λ o. let a : gone T.objects o ≡ gone S.objects o = ap (λ (os : List (Option ObjectRow)). gone os o) objects ∙ gone_push_at S.objects o.0 row living in omega arith;
-      sweeps = λ o. let a : swept T.objects o ≡ swept S.objects o = ap (λ (os : List (Option ObjectRow)). swept os o) objects ∙ swept_push_at S.objects o.0 row in omega arith;
+      deads = λ o. let a : gone T.references.objects o ≡ gone S.references.objects o = ap (λ (os : List (Option ObjectRow)). gone os o) objects ∙ gone_push_at S.references.objects o.0 row living in omega arith;
+      sweeps = λ o. let a : swept T.references.objects o ≡ swept S.references.objects o = ap (λ (os : List (Option ObjectRow)). swept os o) objects ∙ swept_push_at S.references.objects o.0 row in omega arith;
       owed = λ o. let a = owed o in omega arith;
       last = λ o h. absurd (omega arith);
       dies = λ o h c. absurd (omega arith);
-      opens = λ o h. let e : x.0 ≡ o.0 = ap (λ (y : ObjNo). y.0) (same_is x o (omega arith)) in (ap gone_bit (get_or_past S.objects o.0 unmade (omega arith)), omega arith);
+      opens = λ o h. let e : x.0 ≡ o.0 = ap (λ (y : ObjNo). y.0) (same_is x o (omega arith)) in (ap gone_bit (get_or_past S.references.objects o.0 unmade (omega arith)), omega arith);
       removes = λ o h. absurd (omega arith);
       found = λ o h. absurd (omega arith);
       made = omega arith;

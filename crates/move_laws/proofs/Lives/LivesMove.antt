@@ -16,19 +16,19 @@ pub record LivesMove (S T : State) (effects : List Effect) : Type 0 where
   -- references move as the effects say
   pub counts : (o : ObjNo) → count_of T o + minuses effects o ≡ count_of S o + pluses effects o
   -- an object is gone from its death on, and swept from its sweep on, which its death owes
-  pub deads : (o : ObjNo) → gone T.objects o ≡ gone S.objects o + deaths effects o
-  pub sweeps : (o : ObjNo) → swept T.objects o ≡ swept S.objects o + removals effects o
+  pub deads : (o : ObjNo) → gone T.references.objects o ≡ gone S.references.objects o + deaths effects o
+  pub sweeps : (o : ObjNo) → swept T.references.objects o ≡ swept S.references.objects o + removals effects o
   pub owed : (o : ObjNo) → sweeps_of T o + removals effects o ≡ sweeps_of S o + deaths effects o
   -- it dies exactly where its last reference is taken away
   pub last : (o : ObjNo) → 0 < deaths effects o → (0 < minuses effects o) × (count_of T o ≡ 0)
   pub dies : (o : ObjNo) → 0 < minuses effects o → count_of T o ≡ 0 → 0 < deaths effects o
   -- nothing opens an object that is gone, and only what is gone is swept
-  pub opens : (o : ObjNo) → 0 < pluses effects o → (gone S.objects o ≡ 0) × (o.0 < length T.objects)
-  pub removes : (o : ObjNo) → 0 < removals effects o → gone S.objects o ≡ 1
+  pub opens : (o : ObjNo) → 0 < pluses effects o → (gone S.references.objects o ≡ 0) × (o.0 < length T.references.objects)
+  pub removes : (o : ObjNo) → 0 < removals effects o → gone S.references.objects o ≡ 1
   -- only an object that was made is found; a new one has a reference until it is gone
-  pub found : (o : ObjNo) → 0 < finds effects o → o.0 < length T.objects
-  pub made : length S.objects ≤ length T.objects
-  pub born : (o : ObjNo) → length S.objects ≤ o.0 → o.0 < length T.objects → gone T.objects o ≡ 0 → 0 < count_of T o
+  pub found : (o : ObjNo) → 0 < finds effects o → o.0 < length T.references.objects
+  pub made : length S.references.objects ≤ length T.references.objects
+  pub born : (o : ObjNo) → length S.references.objects ≤ o.0 → o.0 < length T.references.objects → gone T.references.objects o ≡ 0 → 0 < count_of T o
 
 pub zero_or : (n : ℕ) → (0 < n → ⊥) → n ≡ 0
 zero_or n h = elim (cases_lt 0 n) [ inl lt ↦ absurd (h lt) | inr le ↦ omega arith ]
@@ -59,7 +59,7 @@ lives-then S T U es fs l m none = record {
   opens = λ o h.
       let p = pluses-append es fs o in
       let longer = m.made in
-      elim (cases_lt 0 (pluses es o)) as (λ _. (gone S.objects o ≡ 0) × (o.0 < length U.objects)) [
+      elim (cases_lt 0 (pluses es o)) as (λ _. (gone S.references.objects o ≡ 0) × (o.0 < length U.references.objects)) [
         | inl now ↦ let a = l.opens o now in (a.0, omega arith)
         | inr not ↦ let a = m.opens o (omega arith) in let b = l.deads o in (omega arith, a.1)
       ];
@@ -67,7 +67,7 @@ lives-then S T U es fs l m none = record {
   found = λ o h.
       let p = finds-append es fs o in
       let longer = m.made in
-      elim (cases_lt 0 (finds es o)) as (λ _. o.0 < length U.objects) [
+      elim (cases_lt 0 (finds es o)) as (λ _. o.0 < length U.references.objects) [
         | inl now ↦ let a = l.found o now in omega arith
         | inr not ↦ m.found o (omega arith)
       ];
@@ -76,7 +76,7 @@ lives-then S T U es fs l m none = record {
       let d = m.deads o in
       elim (cases_lt 0 (count_of U o)) as (λ _. 0 < count_of U o) [
         | inl some ↦ some
-        | inr zero ↦ elim (cases_lt o.0 (length T.objects)) as (λ _. 0 < count_of U o) [
+        | inr zero ↦ elim (cases_lt o.0 (length T.references.objects)) as (λ _. 0 < count_of U o) [
           | inl there ↦
               let a = l.born o past there (omega arith) in
               let b = m.counts o in
@@ -89,13 +89,13 @@ lives-then S T U es fs l m none = record {
 -- each object that is alive keeps a reference
 counted-kept : (S T : State) (effects : List Effect) → LivesMove S T effects → AreLives S → (o : ObjNo) → IsAlive (object_of T o) → 0 < count_of T o
 counted-kept S T effects l h o alive =
-    let now = alive_not_gone T.objects o alive in
+    let now = alive_not_gone T.references.objects o alive in
     let moved = l.deads o in
     elim (cases_lt 0 (count_of T o)) as (λ _. 0 < count_of T o) [
       | inl some ↦ some
-      | inr none ↦ elim (cases_lt o.0 (length S.objects)) as (λ _. 0 < count_of T o) [
+      | inr none ↦ elim (cases_lt o.0 (length S.references.objects)) as (λ _. 0 < count_of T o) [
         | inl inside ↦
-            let was = h.counted o (not_gone_alive S.objects o inside (omega arith)) in
+            let was = h.counted o (not_gone_alive S.references.objects o inside (omega arith)) in
             let refs = l.counts o in
             let dies = l.dies o (omega arith) (omega arith) in absurd (omega arith)
         | inr past ↦ l.born o past now.1 now.0
@@ -108,17 +108,17 @@ lives-kept S T effects l h = record {
   alive = λ o c.
       let longer = l.made in
       let unharmed : deaths effects o ≡ 0 = zero_or (deaths effects o) (λ d. let a = l.last o d in absurd (omega arith)) in
-      let was : (gone S.objects o ≡ 0) × (o.0 < length T.objects) = elim (cases_lt 0 (pluses effects o)) [
+      let was : (gone S.references.objects o ≡ 0) × (o.0 < length T.references.objects) = elim (cases_lt 0 (pluses effects o)) [
         | inl opened ↦ l.opens o opened
-        | inr not ↦ let a = l.counts o in let b = alive_not_gone S.objects o (h.alive o (omega arith)) in (b.0, omega arith)
+        | inr not ↦ let a = l.counts o in let b = alive_not_gone S.references.objects o (h.alive o (omega arith)) in (b.0, omega arith)
       ] in
-      let moved = l.deads o in not_gone_alive T.objects o was.1 (omega arith);
+      let moved = l.deads o in not_gone_alive T.references.objects o was.1 (omega arith);
   counted = counted-kept S T effects l h;
   sweeps = λ o.
       let a = l.owed o in
       let b = h.sweeps o in
       let c = l.deads o in
       let d = l.sweeps o in
-      let e = gone_is S.objects o in
-      let f = gone_is T.objects o in omega arith;
+      let e = gone_is S.references.objects o in
+      let f = gone_is T.references.objects o in omega arith;
 }

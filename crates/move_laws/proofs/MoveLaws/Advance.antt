@@ -27,13 +27,12 @@ use Rattle.move_laws.proofs.References.Counts.{count-with_row, kernel-with_row, 
 use Rattle.move_laws.proofs.References.Same.{if_zero}
 use Rattle.move_laws.proofs.RowLaws.Threads.{KeepsThread, length-with_row, threads-with_row}
 use Rattle.move_laws.proofs.RowLaws.Duties.{paid-with_row, duties-threads, duties-owing}
-use Rattle.move_laws.proofs.RowLaws.Synchronized.{IsHolding, synchronized-with_row}
-use Rattle.move_laws.proofs.RowLaws.Locks.{leaves-owing, leaves-then, leaves-with_row, locks-left}
-use Rattle.move_laws.proofs.RowLaws.Memories.{memories-with_row}
-use Rattle.move_laws.proofs.MoveLaws.RowMoves.{messaging-kept, serving-kept}
+use Rattle.move_laws.proofs.RowLaws.Synchronized.{IsHolding}
+use Rattle.move_laws.proofs.RowLaws.Locks.{leaves-owing}
+use Rattle.move_laws.proofs.MoveLaws.RowMoves.{serving-kept}
+use Rattle.move_laws.proofs.MoveLaws.Groups.{services-row, synchronization-kept, synchronization-left, synchronization-then}
 use Rattle.move_laws.proofs.MoveLaws.Sound.{Sound, sound-of}
 use Rattle.move_laws.proofs.RowLaws.Spent.{spent-kept}
-use Rattle.move_laws.proofs.RowLaws.Awaited.{awaited-kept}
 
 -- what the thread used is what it owes then
 use_owed : (u : ObjNo) (used : Option ObjNo) (o : ObjNo) → (total (owed_names o) (owed_use u used) ≡ option_names o used) × (total (owed_sweeps o) (owed_use u used) ≡ 0)
@@ -76,55 +75,48 @@ pub may_owe_use : (threads : List (Option ThreadRow)) (r : ServerRows) (accepted
 may_owe_use threads r accepted u None = tt
 may_owe_use threads r accepted u (Some o) = (refl, tt)
 
-sound-put : (script : Script) (S : State) (u : ObjNo) (f : ThreadRow → ThreadRow) → PutsDown f → ((row : ThreadRow) → thread_of S u ≡ Some row → IsThread script (length S.threads) row → KeepsThread script (length S.threads) row (f row)) → is_returning (part_of (option_map f (thread_of S u))) ≡ false
-    → total weight (owed_of S u) + 4 ≤ 12 → u.0 < length S.threads → AreRows script S → Sound script S (record S { threads = with_row S.threads u f; owed = owing S.owed u (owed_use u (use_of S u)) }) []
+sound-put : (script : Script) (S : State) (u : ObjNo) (f : ThreadRow → ThreadRow) → PutsDown f → ((row : ThreadRow) → thread_of S u ≡ Some row → IsThread script (length S.references.threads) row → KeepsThread script (length S.references.threads) row (f row)) → is_returning (part_of (option_map f (thread_of S u))) ≡ false
+    → total weight (owed_of S u) + 4 ≤ 12 → u.0 < length S.references.threads → AreRows script S → Sound script S (record S { references = record S.references { threads = with_row S.references.threads u f; owed = owing S.references.owed u (owed_use u (use_of S u)) } }) []
 sound-put script S u f puts thread going few inside rows =
     let used = use_of S u in
-    let other = with_row S.threads u f in
-    let T : State = record S { threads = other; owed = owing S.owed u (owed_use u used) } in
+    let other = with_row S.references.threads u f in
+    let T : State = record S { references = record S.references { threads = other; owed = owing S.references.owed u (owed_use u used) } } in
     let old = thread_of S u in
-    let here : u.0 < length S.owed = let a = rows.sized.duties in omega arith in
+    let here : u.0 < length S.references.owed = let a = rows.references.sized.duties in omega arith in
     let light = use_weight u used in
     let holds = λ (row : ThreadRow) (is : old ≡ Some row). ap stage_holds (puts.stage row) in
     let counts : (o : ObjNo) → count_of T o ≡ count_of S o = λ o.
-    let a = count-with_row S.threads u f o in
-    let b = kernel-with_row S.threads u f o holds in
+    let a = count-with_row S.references.threads u f o in
+    let b = kernel-with_row S.references.threads u f o holds in
     let c = put_names f old o puts in
-    let d = total-owing (owed_names o) S.owed u (owed_use u used) here in
+    let d = total-owing (owed_names o) S.references.owed u (owed_use u used) here in
     let e = (use_owed u used o).0 in omega arith in
     let sweeps : (o : ObjNo) → sweeps_of T o ≡ sweeps_of S o = λ o.
-    let d = total-owing (owed_sweeps o) S.owed u (owed_use u used) here in
+    let d = total-owing (owed_sweeps o) S.references.owed u (owed_use u used) here in
     let e = (use_owed u used o).1 in omega arith in
     let held : (g : Holder) (x : ObjNo) → held_in T g x ≡ held_in S g x = λ g x.
-    let a = rows-with_row S.handles S.threads S.mutexes u f g x holds in
+    let a = rows-with_row S.references.handles S.references.threads S.synchronization.mutexes u f g x holds in
     let n = put_holds f old x puts in
     let b : (if is_holder (Link u) g then link_names x (option_map f old) else 0) ≡ (if is_holder (Link u) g then link_names x old else 0) = ap (λ (y : ℕ). if is_holder (Link u) g then y else 0) n.1 in
     let c = if_zero (is_holder (Temp u) g) (use_names x (option_map f old)) n.0 in
     let k : (if is_holder (Temp u) g then use_names x old else 0) ≡ (if is_holder (Temp u) g then option_names x used else 0) = ap (λ (y : ℕ). if is_holder (Temp u) g then y else 0) n.2 in
-    let d = total-owing (owed_by g x) S.owed u (owed_use u used) here in
+    let d = total-owing (owed_by g x) S.references.owed u (owed_use u used) here in
     let e = use_owed_by u used g x in omega arith in
     sound-of script S T [] rows (record {
       handles_long = refl;
-      threads_long = length-with_row S.threads u f;
-      owed_long = length-set S.owed u.0 _;
-      objects_few = rows.sized.objects_few;
-      tables = rows.tables;
-      threads = threads-with_row script S.threads u f thread rows.threads;
-      duties = duties-owing other S.servers S.messages.accepted S.owed u (owed_use u used)
-          (may_owe_use other S.servers S.messages.accepted u used) (omega arith) (ap (λ (x : Option ThreadRow). is_returning (part_of x)) (row-here S.threads u f u.0 refl) ∙ going)
-          (duties-threads S.threads other S.servers S.messages.accepted S.owed (λ k. inr (paid-with_row S.threads u f puts.going k)) rows.duties);
-      nano = synchronized-with_row script S.threads u f S.nano puts.holds rows.nano;
-      deferred = rows.deferred;
-      requests = rows.requests;
-      locks = locks-left (length S.objects) (length S.objects) S.threads other S.mutexes S.owed (owing S.owed u (owed_use u used)) S.locks (omega arith)
-          (leaves-then S.threads other other S.owed S.owed (owing S.owed u (owed_use u used)) S.locks (leaves-with_row S.threads u f S.owed S.locks puts.waits)
-          (leaves-owing other S.owed u (owed_use u used) S.locks (use_unowned u used))) rows.locks;
-      memories = memories-with_row S.threads u f S.memories (λ row is. (thread row is (rows.threads.rows u.0 row is)).process) rows.memories;
-      logons = rows.logons;
-      spent = spent-kept S.objects S.handles S.threads u f (record { stage = puts.stage; unused = λ row e. puts.uses row; waits = λ row e. puts.waits row ∙ e; going = puts.going; link = λ row e. puts.link row ∙ e }) rows.spent;
-      awaited = awaited-kept S.threads u f S.requests S.logons puts.stage puts.waits rows.awaited;
-      servers = serving-kept script S u f puts.stage rows;
-      messages = messaging-kept script S u f (record { live = λ row live. sym (puts.stage row) ∙ live; waits = λ row live. puts.waits row; sends = puts.sends; left = puts.left }) rows;
+      threads_long = length-with_row S.references.threads u f;
+      owed_long = length-set S.references.owed u.0 _;
+      objects_few = rows.references.sized.objects_few;
+      tables = rows.references.tables;
+      threads = threads-with_row script S.references.threads u f thread rows.references.threads;
+      duties = duties-owing other S.serving.servers S.serving.messages.accepted S.references.owed u (owed_use u used)
+          (may_owe_use other S.serving.servers S.serving.messages.accepted u used) (omega arith) (ap (λ (x : Option ThreadRow). is_returning (part_of x)) (row-here S.references.threads u f u.0 refl) ∙ going)
+          (duties-threads S.references.threads other S.serving.servers S.serving.messages.accepted S.references.owed (λ k. inr (paid-with_row S.references.threads u f puts.going k)) rows.references.duties);
+      synchronization = synchronization-left script S (length S.references.objects) other (owing S.references.owed u (owed_use u used)) (omega arith)
+          (synchronization-then script S other S.references.owed (owing S.references.owed u (owed_use u used)) (synchronization-kept script S u f puts.holds puts.stage puts.waits rows) (leaves-owing other S.references.owed u (owed_use u used) S.synchronization.locks (use_unowned u used))) rows;
+      services = services-row S.references.threads u f S.services (λ row is. (thread row is (rows.references.threads.rows u.0 row is)).process) rows.services;
+      spent = spent-kept S.references.objects S.references.handles S.references.threads u f (record { stage = puts.stage; unused = λ row e. puts.uses row; waits = λ row e. puts.waits row ∙ e; going = puts.going; link = λ row e. puts.link row ∙ e }) rows.references.spent;
+      serving = serving-kept script S u f puts.stage (record { live = λ row live. sym (puts.stage row) ∙ live; waits = λ row live. puts.waits row; sends = puts.sends; left = puts.left }) rows;
     }) (lives-none S T refl counts sweeps) (holders-none S T held)
 
 going : (x : Option ThreadRow) → is_returning (part_of (option_map advanced x)) ≡ false
@@ -134,7 +126,7 @@ going (Some row) = refl
 some_row : (old row : ThreadRow) (x : Option ThreadRow) → x ≡ Some old → x ≡ Some row → old ≡ row
 some_row old row x a b = cc
 
-pub sound-advance : (script : Script) (S : State) (t u : ObjNo) → FitsMove script t (Advance u) S → total weight (owed_of S u) + 4 ≤ 12 → u.0 < length S.threads → AreRows script S → Sound script S (moved t (Advance u) S) (told (Advance u) S)
+pub sound-advance : (script : Script) (S : State) (t u : ObjNo) → FitsMove script t (Advance u) S → total weight (owed_of S u) + 4 ≤ 12 → u.0 < length S.references.threads → AreRows script S → Sound script S (moved t (Advance u) S) (told (Advance u) S)
 sound-advance script S t u fits few inside rows = sound-put script S u advanced (record { link = λ row. refl; uses = λ row. refl; stage = λ row. refl; waits = λ row. refl; going = λ row e. refl; sends = λ row. omega arith; left = λ row. let a = begun_one row.part in omega arith; holds = λ row h. h })
     (λ row is h. record {
       thread = record {
@@ -156,7 +148,7 @@ still_going : (x : Option ThreadRow) → is_returning (part_of x) ≡ false → 
 still_going None e = refl
 still_going (Some row) e = e
 
-pub sound-put_down : (script : Script) (S : State) (t u : ObjNo) → FitsMove script t (PutDown u) S → total weight (owed_of S u) + 4 ≤ 12 → u.0 < length S.threads → AreRows script S → Sound script S (moved t (PutDown u) S) (told (PutDown u) S)
+pub sound-put_down : (script : Script) (S : State) (t u : ObjNo) → FitsMove script t (PutDown u) S → total weight (owed_of S u) + 4 ≤ 12 → u.0 < length S.references.threads → AreRows script S → Sound script S (moved t (PutDown u) S) (told (PutDown u) S)
 sound-put_down script S t u fits few inside rows = sound-put script S u (with_use None) (record { link = λ row. refl; uses = λ row. refl; stage = λ row. refl; waits = λ row. refl; going = λ row e. e; sends = λ row. omega arith; left = λ row. omega arith; holds = λ row h. h })
     (λ row is h. record {
       thread = record { process = h.process; link = h.link; priority = h.priority; next_instruction = h.next_instruction; unused = λ e. refl; registers = h.registers; declared = h.declared; returns = h.returns };

@@ -25,9 +25,9 @@ use Rattle.machine.specs.References.{total, same, thread_names, owed_names, opti
 use Rattle.machine.specs.Holding.{is_holder, same_pair, link_names}
 use Rattle.machine.specs.HeldIn.{held_in, use_names, owed_by}
 use Rattle.machine.specs.Task.{is_returning}
-use Rattle.machine.specs.WellFormed.{IsAlive, AreTables, AreThreads, AreDuties, AreSynchronized, AreMemories, EachMayOwe, AreRows, IsUntold, weight, owed_sweeps, sweeps_of, part_of, AreSpent, AreAwaited, is_spent}
+use Rattle.machine.specs.WellFormed.{IsAlive, AreTables, AreThreads, AreDuties, AreServiceRows, AreServingRows, EachMayOwe, AreRows, IsUntold, weight, owed_sweeps, sweeps_of, part_of, AreSpent, is_spent}
 use Rattle.machine.specs.ServerMoves.{servers_closed}
-use Rattle.machine.specs.Serving.{AreMessages, AreServers, IsUnlinked, MayBeLinked, open_bit, session_bit, sessions_there, sessions_used}
+use Rattle.machine.specs.Serving.{AreServers, IsUnlinked, MayBeLinked, open_bit, session_bit, sessions_there, sessions_used}
 use Rattle.move_laws.proofs.Lives.Closes.{lives-closed}
 use Rattle.move_laws.proofs.Holders.HoldersMove.{holders-closed}
 use Rattle.move_laws.proofs.Holders.ThreadRows.{rows-with_row}
@@ -35,12 +35,10 @@ use Rattle.move_laws.proofs.References.Counts.{count-with_row, kernel-with_row, 
 use Rattle.move_laws.proofs.References.Same.{if_zero, same_self}
 use Rattle.move_laws.proofs.RowLaws.Threads.{length-with_row, threads-with_row, none-with_row}
 use Rattle.move_laws.proofs.RowLaws.Duties.{paid-with_row, duties-threads, duties-owing}
-use Rattle.move_laws.proofs.RowLaws.Synchronized.{synchronized-with_row}
-use Rattle.move_laws.proofs.RowLaws.Locks.{LeavesLocks, leaves-owing, leaves-then, leaves-with_row, locks-left}
-use Rattle.move_laws.proofs.RowLaws.Memories.{memories-with_row}
+use Rattle.move_laws.proofs.RowLaws.Locks.{leaves-owing}
+use Rattle.move_laws.proofs.MoveLaws.Groups.{LeavesSynchronization, services-row, synchronization-left, synchronization-row, synchronization-then}
 use Rattle.move_laws.proofs.MoveLaws.Sound.{Sound, sound-of}
 use Rattle.move_laws.proofs.RowLaws.Spent.{spent-died}
-use Rattle.move_laws.proofs.RowLaws.Awaited.{awaited-kept}
 use Rattle.move_laws.proofs.Holders.Serving.{holds-detached}
 use Rattle.move_laws.proofs.Lists.Mapped.{mapped-none, mapped-some}
 use Rattle.move_laws.proofs.Lists.Totals.{inside, total-with}
@@ -52,23 +50,20 @@ use Rattle.move_laws.proofs.RowLaws.ServersKept.{servers-kept, servers-more}
 
 -- the rows in the middle of a close of an object: a holder's reference to it isn't there any more
 pub record HasLost (script : Script) (S : State) (t : ObjNo) (h : Holder) (o : ObjNo) (handles : List (List HandleSlot)) (threads : List (Option ThreadRow)) (owed : List (List Owed)) (servers : ServerRows) (owned : List (List ObjNo)) : Type 0 where
-  pub counts : (p : ObjNo) → count_of (record S { handles = handles; threads = threads; owed = owed; servers = servers; owned = owned }) p + same o p ≡ count_of S p
-  pub held : (g : Holder) (x : ObjNo) → held_in (record S { handles = handles; threads = threads; owed = owed; servers = servers; owned = owned }) g x + same_pair h o g x ≡ held_in S g x
+  pub counts : (p : ObjNo) → count_of (record S { references = record S.references { handles = handles; threads = threads; owed = owed }; serving = record S.serving { servers = servers; owned = owned } }) p + same o p ≡ count_of S p
+  pub held : (g : Holder) (x : ObjNo) → held_in (record S { references = record S.references { handles = handles; threads = threads; owed = owed }; serving = record S.serving { servers = servers; owned = owned } }) g x + same_pair h o g x ≡ held_in S g x
   pub sweeps : (p : ObjNo) → total (total (owed_sweeps p)) owed ≡ sweeps_of S p
   pub link : link_or (link_of_row (get_or threads o.0 None)) (server_of servers o) ≡ link_of S o
-  pub handles_long : length handles ≡ length S.handles
-  pub threads_long : length threads ≡ length S.threads
-  pub owed_long : length owed ≡ length S.owed
+  pub handles_long : length handles ≡ length S.references.handles
+  pub threads_long : length threads ≡ length S.references.threads
+  pub owed_long : length owed ≡ length S.references.owed
   pub tables : AreTables handles
   pub threads_are : AreThreads script threads
-  pub duties : AreDuties threads servers S.messages.accepted owed
-  pub nano : AreSynchronized script threads S.nano
-  pub locks : LeavesLocks S.threads threads S.owed owed S.locks
-  pub memories : AreMemories threads S.memories
-  pub spent : AreSpent S.objects handles threads
-  pub awaited : AreAwaited threads S.requests S.logons
-  pub servers_are : AreServers (λ row. is_spent row.stage) (length S.objects) threads S.locks owned servers
-  pub messages : AreMessages (IsUntold S.requests S.logons) threads servers S.messages
+  pub duties : AreDuties threads servers S.serving.messages.accepted owed
+  pub synchronization : LeavesSynchronization script S threads owed
+  pub services : AreServiceRows threads S.services
+  pub spent : AreSpent S.references.objects handles threads
+  pub serving : AreServingRows (length S.references.objects) threads S.synchronization.locks (IsUntold S.synchronization.requests S.synchronization.logons) (record S.serving { servers = servers; owned = owned })
   pub going : is_returning (part_of (get_or threads t.0 None)) ≡ false
   pub few : total weight (get_or owed t.0 []) + total weight (owed_by_close (dies S o) o (link_of S o)) ≤ 12
 
@@ -156,32 +151,25 @@ detached_bits threads servers outstanding o =
     let c = open_detached (get_or servers.sessions o.0 None) in
     let d = c.0 in let e = c.1 in (omega arith, omega arith)
 
-pub sound-closed : (last : Bool) (script : Script) (S : State) (t : ObjNo) (h : Holder) (o : ObjNo) (handles : List (List HandleSlot)) (threads : List (Option ThreadRow)) (owed : List (List Owed)) (servers : ServerRows) (owned : List (List ObjNo)) → dies S o ≡ last → t.0 < length S.threads → HasLost script S t h o handles threads owed servers owned → AreRows script S
-    → Sound script S (record S { objects = objects_closed last o S.objects; handles = handles; threads = threads_closed last o threads; owed = owing owed t (owed_by_close last o (link_of S o)); servers = servers_closed last o servers; owned = owned }) (closed_effects last h o)
+pub sound-closed : (last : Bool) (script : Script) (S : State) (t : ObjNo) (h : Holder) (o : ObjNo) (handles : List (List HandleSlot)) (threads : List (Option ThreadRow)) (owed : List (List Owed)) (servers : ServerRows) (owned : List (List ObjNo)) → dies S o ≡ last → t.0 < length S.references.threads → HasLost script S t h o handles threads owed servers owned → AreRows script S
+    → Sound script S (record S { references = record S.references { objects = objects_closed last o S.references.objects; handles = handles; threads = threads_closed last o threads; owed = owing owed t (owed_by_close last o (link_of S o)) }; serving = record S.serving { servers = servers_closed last o servers; owned = owned } }) (closed_effects last h o)
 sound-closed false script S t h o handles threads owed servers owned e inside_t lost rows =
-    let T : State = record S { handles = handles; threads = threads; owed = owing owed t []; servers = servers; owned = owned } in
-    let here : t.0 < length owed = let a = rows.sized.duties in let b = lost.owed_long in omega arith in
+    let T : State = record S { references = record S.references { handles = handles; threads = threads; owed = owing owed t [] }; serving = record S.serving { servers = servers; owned = owned } } in
+    let here : t.0 < length owed = let a = rows.references.sized.duties in let b = lost.owed_long in omega arith in
     let few = lost.duties.few t.0 in
     let alive : IsAlive (object_of S o) = rows.lives.alive o (let a = lost.counts o in let b = same_self o in omega arith) in
     sound-of script S T (closed_effects false h o) rows (record {
       handles_long = lost.handles_long;
       threads_long = lost.threads_long;
       owed_long = length-set owed t.0 _ ∙ lost.owed_long;
-      objects_few = rows.sized.objects_few;
+      objects_few = rows.references.sized.objects_few;
       tables = lost.tables;
       threads = lost.threads_are;
-      duties = duties-owing threads servers S.messages.accepted owed t [] tt (omega arith) lost.going lost.duties;
-      nano = lost.nano;
-      deferred = rows.deferred;
-      requests = rows.requests;
-      locks = locks-left (length S.objects) (length S.objects) S.threads threads S.mutexes S.owed (owing owed t []) S.locks (omega arith)
-          (leaves-then S.threads threads threads S.owed owed (owing owed t []) S.locks lost.locks (leaves-owing threads owed t [] S.locks (λ u x. refl))) rows.locks;
-      memories = lost.memories;
-      logons = rows.logons;
+      duties = duties-owing threads servers S.serving.messages.accepted owed t [] tt (omega arith) lost.going lost.duties;
+      synchronization = synchronization-left script S (length S.references.objects) threads (owing owed t []) (omega arith) (synchronization-then script S threads owed (owing owed t []) lost.synchronization (leaves-owing threads owed t [] S.synchronization.locks (λ u x. refl))) rows;
+      services = lost.services;
       spent = lost.spent;
-      awaited = lost.awaited;
-      servers = lost.servers_are;
-      messages = lost.messages;
+      serving = lost.serving;
     })
     (lives-closed false S T h o e alive refl
     (λ p. let a = total-owing (owed_names p) owed t [] here in let b = lost.counts p in omega arith)
@@ -194,45 +182,42 @@ sound-closed true script S t h o handles threads owed servers owned e inside_t l
     let other = with_row threads o f in
     let new = after_detach servers o in
     let old = get_or threads o.0 None in
-    let objects = slice_set S.objects o.0 (dead_row (get_or S.objects o.0 None)) in
-    let T : State = record S { objects = objects; handles = handles; threads = other; owed = owing owed t more; servers = new; owned = owned } in
-    let here : t.0 < length owed = let a = rows.sized.duties in let b = lost.owed_long in omega arith in
+    let objects = slice_set S.references.objects o.0 (dead_row (get_or S.references.objects o.0 None)) in
+    let T : State = record S { references = record S.references { objects = objects; handles = handles; threads = other; owed = owing owed t more }; serving = record S.serving { servers = new; owned = owned } } in
+    let here : t.0 < length owed = let a = rows.references.sized.duties in let b = lost.owed_long in omega arith in
     let few : total weight (get_or owed t.0 []) + total weight more ≤ 12 = subst (λ (last : Bool). total weight (get_or owed t.0 []) + total weight (owed_by_close last o link) ≤ 12) e lost.few in
     let alive : IsAlive (object_of S o) = rows.lives.alive o (let a = lost.counts o in let b = same_self o in omega arith) in
     let named : (p : ObjNo) → option_names p (link_of_row old) + option_names p (server_of servers o) ≡ option_names p link = λ p.
-    let a = names_link (link_of_row old) (server_of servers o) p (one_link (length S.objects) threads S.locks owned servers o lost.servers_are) in
+    let a = names_link (link_of_row old) (server_of servers o) p (one_link (length S.references.objects) threads S.synchronization.locks owned servers o lost.serving.servers) in
     let b = ap (option_names p) lost.link in omega arith in
     let may : MayLink threads other servers new = record { long = length-with_row threads o f; threads_none = none-with_row threads o f; sessions_none = λ x none. mapped-none detached servers.sessions o.0 x.0 none; sessions_some = λ x is. mapped-some detached servers.sessions o.0 x.0 ∙ is } in
-    let bits = detached_bits other servers S.messages.outstanding o in
+    let bits = detached_bits other servers S.serving.messages.outstanding o in
     let used = bits.0 in let there = bits.1 in
-    let kept = messages-kept (IsUntold S.requests S.logons) threads servers S.messages o f (record { live = λ row live. live; waits = λ row live. refl; sends = λ row. omega arith; left = λ row. omega arith }) lost.messages in
+    let kept = messages-kept (IsUntold S.synchronization.requests S.synchronization.logons) threads servers S.serving.messages o f (record { live = λ row live. live; waits = λ row live. refl; sends = λ row. omega arith; left = λ row. omega arith }) lost.serving.messages in
     sound-of script S T (closed_effects true h o) rows (record {
       handles_long = lost.handles_long;
       threads_long = length-with_row threads o f ∙ lost.threads_long;
       owed_long = length-set owed t.0 _ ∙ lost.owed_long;
-      objects_few = let a = length-set S.objects o.0 (dead_row (get_or S.objects o.0 None)) in let b = rows.sized.objects_few in omega arith;
+      objects_few = let a = length-set S.references.objects o.0 (dead_row (get_or S.references.objects o.0 None)) in let b = rows.references.sized.objects_few in omega arith;
       tables = lost.tables;
       threads = threads-with_row script threads o f (λ row is r. record {
         thread = record { process = r.process; link = λ p linked. cc; priority = r.priority; next_instruction = r.next_instruction; unused = r.unused; registers = r.registers; declared = r.declared; returns = r.returns };
         process = refl;
         role = refl;
       }) lost.threads_are;
-      duties = duties-owing other new S.messages.accepted owed t more
-          (may_owe_link script (length S.objects) threads other S.locks owned servers new S.messages.accepted t o (link_of_row old) (server_of servers o) link refl refl lost.link lost.threads_are lost.servers_are may) few ((paid-with_row threads o f (λ row r. r) t.0).going lost.going)
-          (duties-servers other servers new S.messages.accepted S.messages.accepted owed (omega arith) (λ x _. may.sessions_none x) may.sessions_some
-          (duties-threads threads other servers S.messages.accepted owed (λ k. inr (paid-with_row threads o f (λ row r. r) k)) lost.duties));
-      nano = synchronized-with_row script threads o f S.nano (λ row r. r) lost.nano;
-      deferred = rows.deferred;
-      requests = rows.requests;
-      locks = locks-left (length S.objects) (length T.objects) S.threads other S.mutexes S.owed (owing owed t more) S.locks (let a = length-set S.objects o.0 (dead_row (get_or S.objects o.0 None)) in omega arith)
-          (leaves-then S.threads threads other S.owed owed (owing owed t more) S.locks lost.locks (leaves-then threads other other owed owed (owing owed t more) S.locks (leaves-with_row threads o f owed S.locks (λ row. refl)) (leaves-owing other owed t more S.locks (link_unowned o link)))) rows.locks;
-      memories = memories-with_row threads o f S.memories (λ row is. refl) lost.memories;
-      logons = rows.logons;
-      spent = spent-died S.objects handles threads o (dead_row (get_or S.objects o.0 None)) lost.spent;
-      awaited = awaited-kept threads o f S.requests S.logons (λ row. refl) (λ row. refl) lost.awaited;
-      servers = servers-more (λ row. is_spent row.stage) (length S.objects) (length objects) other S.locks owned new (let a = length-set S.objects o.0 (dead_row (get_or S.objects o.0 None)) in omega arith)
-          (servers-detach (λ row. is_spent row.stage) (length S.objects) other S.locks owned servers o (servers-kept (λ row. is_spent row.stage) (length S.objects) threads S.locks owned servers o f (λ row. refl) (λ row. refl) lost.servers_are));
-      messages = messages-sessions (IsUntold S.requests S.logons) other servers new S.messages may.sessions_some (let a = kept.few in omega arith) (let a = kept.numbered in omega arith) kept;
+      duties = duties-owing other new S.serving.messages.accepted owed t more
+          (may_owe_link script (length S.references.objects) threads other S.synchronization.locks owned servers new S.serving.messages.accepted t o (link_of_row old) (server_of servers o) link refl refl lost.link lost.threads_are lost.serving.servers may) few ((paid-with_row threads o f (λ row r. r) t.0).going lost.going)
+          (duties-servers other servers new S.serving.messages.accepted S.serving.messages.accepted owed (omega arith) (λ x _. may.sessions_none x) may.sessions_some
+          (duties-threads threads other servers S.serving.messages.accepted owed (λ k. inr (paid-with_row threads o f (λ row r. r) k)) lost.duties));
+      synchronization = synchronization-left script S (length T.references.objects) other (owing owed t more) (let a = length-set S.references.objects o.0 (dead_row (get_or S.references.objects o.0 None)) in omega arith)
+          (synchronization-then script S other owed (owing owed t more) (synchronization-row script S threads owed o f (λ row r. r) (λ row. refl) (λ row. refl) lost.synchronization) (leaves-owing other owed t more S.synchronization.locks (link_unowned o link))) rows;
+      services = services-row threads o f S.services (λ row is. refl) lost.services;
+      spent = spent-died S.references.objects handles threads o (dead_row (get_or S.references.objects o.0 None)) lost.spent;
+      serving = record {
+        servers = servers-more (λ row. is_spent row.stage) (length S.references.objects) (length objects) other S.synchronization.locks owned new (let a = length-set S.references.objects o.0 (dead_row (get_or S.references.objects o.0 None)) in omega arith)
+            (servers-detach (λ row. is_spent row.stage) (length S.references.objects) other S.synchronization.locks owned servers o (servers-kept (λ row. is_spent row.stage) (length S.references.objects) threads S.synchronization.locks owned servers o f (λ row. refl) (λ row. refl) lost.serving.servers));
+        messages = messages-sessions (IsUntold S.synchronization.requests S.synchronization.logons) other servers new S.serving.messages may.sessions_some (let a = kept.few in omega arith) (let a = kept.numbered in omega arith) kept;
+      };
     })
     (lives-closed true S T h o e alive refl
     (λ p.
@@ -246,12 +231,12 @@ sound-closed true script S t h o handles threads owed servers owned e inside_t l
     let j = lost.counts p in omega arith)
     (λ p. let a = total-owing (owed_sweeps p) owed t more here in let b = lost.sweeps p in let c = (link_owed o link p).1 in omega arith))
     (holders-closed true S T h o (λ g x.
-    let a = rows-with_row handles threads S.mutexes o f g x (λ row is. refl) in
+    let a = rows-with_row handles threads S.synchronization.mutexes o f g x (λ row is. refl) in
     let n = without_link old x in
     let b : (if is_holder (Temp o) g then use_names x (option_map f old) else 0) ≡ (if is_holder (Temp o) g then use_names x old else 0) = ap (λ (y : ℕ). if is_holder (Temp o) g then y else 0) n.1 in
     let c = if_zero (is_holder (Link o) g) (link_names x (option_map f old)) n.2 in
     let d : (if is_holder (Link o) g then link_names x old else 0) + (if is_holder (Link o) g then option_names x (server_of servers o) else 0) ≡ (if is_holder (Link o) g then option_names x link else 0) = if_both (is_holder (Link o) g) (link_names x old) (option_names x (server_of servers o)) (option_names x link) (let m = n.3 in let q = named x in omega arith) in
-    let s = holds-detached owned servers.sessions S.messages.outstanding o g x in
+    let s = holds-detached owned servers.sessions S.serving.messages.outstanding o g x in
     let i = total-owing (owed_by g x) owed t more here in
     let j = link_owed_by o link g x in
     let k = lost.held g x in omega arith))

@@ -34,7 +34,7 @@ use Rattle.machine.specs.declared.state.State.{State}
 use Rattle.move_laws.proofs.Holders.HoldersMove.{holders-none}
 use Rattle.move_laws.proofs.Holders.Serving.{holds-same}
 use Rattle.move_laws.proofs.Lives.Kinds.{lives-none}
-use Rattle.move_laws.proofs.MoveLaws.RowMoves.{silent, sound-rest}
+use Rattle.move_laws.proofs.MoveLaws.RowMoves.{sound-services}
 use Rattle.move_laws.proofs.MoveLaws.Sound.{Sound, sound-none, sound-of}
 use Rattle.move_laws.proofs.RowLaws.Memories.{memories-changed}
 use Rattle.move_laws.proofs.RowLaws.Messages.{edited-total, messages-edited}
@@ -55,64 +55,54 @@ memories-copied threads memories from to count within h =
     memories-changed threads memories to.process (overwritten to.at piece) (λ bytes long. let same = length-overwritten to.at piece bytes (omega arith) in omega arith) h
 
 -- the memories change, and the length of a message's argument
-sound-resized : (script : Script) (S : State) (memories : List (Option (List ℕ))) (m : MsgNo) (arg size : ℕ) → AreMemories S.threads memories → AreRows script S → Sound script S (record S { memories = memories; messages = after_set_length S.messages m arg size }) []
+sound-resized : (script : Script) (S : State) (memories : List (Option (List ℕ))) (m : MsgNo) (arg size : ℕ) → AreMemories S.references.threads memories → AreRows script S → Sound script S (record S { services = record S.services { memories = memories }; serving = record S.serving { messages = after_set_length S.serving.messages m arg size } }) []
 sound-resized script S memories m arg size kept rows =
-    let T : State = record S { memories = memories; messages = after_set_length S.messages m arg size } in
-    let stays : (f : Message → ℕ) → ((message : Message) → f (record message { row = resized arg size message.row }) ≡ f message) → total f T.messages.outstanding ≡ total f S.messages.outstanding = λ f keeps.
-    edited-total (IsUntold S.requests S.logons) S.threads S.servers S.messages m (resized arg size) (λ row. refl) (λ row. refl) (λ row. refl) f keeps in
+    let T : State = record S { services = record S.services { memories = memories }; serving = record S.serving { messages = after_set_length S.serving.messages m arg size } } in
+    let stays : (f : Message → ℕ) → ((message : Message) → f (record message { row = resized arg size message.row }) ≡ f message) → total f T.serving.messages.outstanding ≡ total f S.serving.messages.outstanding = λ f keeps.
+    edited-total (IsUntold S.synchronization.requests S.synchronization.logons) S.references.threads S.serving.servers S.serving.messages m (resized arg size) (λ row. refl) (λ row. refl) (λ row. refl) f keeps in
     sound-of script S T [] rows (record {
       handles_long = refl;
       threads_long = refl;
       owed_long = refl;
-      objects_few = rows.sized.objects_few;
-      tables = rows.tables;
-      threads = rows.threads;
-      duties = rows.duties;
-      nano = rows.nano;
-      deferred = rows.deferred;
-      requests = rows.requests;
-      locks = rows.locks;
-      memories = kept;
-      logons = rows.logons;
-      spent = rows.spent;
-      awaited = rows.awaited;
-      servers = rows.servers;
-      messages = messages-edited (IsUntold S.requests S.logons) S.threads S.servers S.messages m (resized arg size) (λ row. refl) (λ row. refl) (λ row. refl) rows.messages;
+      objects_few = rows.references.sized.objects_few;
+      tables = rows.references.tables;
+      threads = rows.references.threads;
+      duties = rows.references.duties;
+      synchronization = rows.synchronization;
+      services = record { memories = kept };
+      spent = rows.references.spent;
+      serving = record { servers = rows.serving.servers; messages = messages-edited (IsUntold S.synchronization.requests S.synchronization.logons) S.references.threads S.serving.servers S.serving.messages m (resized arg size) (λ row. refl) (λ row. refl) (λ row. refl) rows.serving.messages };
     })
     (lives-none S T refl (λ o. let a = stays (message_names o) (λ x. refl) in omega arith) (λ o. refl))
-    (holders-none S T (λ g x. let a = holds-same S.owned S.servers.sessions S.messages.outstanding T.messages.outstanding g x (λ n. stays (message_holds n x) (λ y. refl)) in omega arith))
-
--- the memories change alone
-sound-memories : (script : Script) (S : State) (memories : List (Option (List ℕ))) → AreMemories S.threads memories → AreRows script S → Sound script S (record S { memories = memories }) []
-sound-memories script S memories kept rows = sound-rest script S S.nano S.deferred S.requests S.logons memories [] (silent S) rows.nano rows.deferred rows.requests rows.logons kept rows.awaited rows.messages rows
+    (holders-none S T (λ g x. let a = holds-same S.serving.owned S.serving.servers.sessions S.serving.messages.outstanding T.serving.messages.outstanding g x (λ n. stays (message_holds n x) (λ y. refl)) in omega arith))
 
 pub sound-copies : (script : Script) (S : State) (t : ObjNo) (m : CopyMove) → FitsMove script t (Copies m) S → AreRows script S → Sound script S (moved t (Copies m) S) (told (Copies m) S)
 sound-copies script S t (Read job) fits rows = by (read_refusal ends job) refl
   where
     ends : Ends
-    ends = ends_of S.threads S.messages job
+    ends = ends_of S.references.threads S.serving.messages job
 
     after : List (Option (List ℕ))
-    after = copied S.memories (client_place ends job) (caller_place ends job) (piece_size (read_size ends job) job.done)
+    after = copied S.services.memories (client_place ends job) (caller_place ends job) (piece_size (read_size ends job) job.done)
 
-    by : (refusal : Option Piece) → read_refusal ends job ≡ refusal → Sound script S (record S { memories = unless_refused refusal S.memories after }) []
+    by : (refusal : Option Piece) → read_refusal ends job ≡ refusal → Sound script S (record S { services = record S.services { memories = unless_refused refusal S.services.memories after } }) []
     by (Some refusal) is = sound-none script S rows
-    by None is = sound-memories script S after (memories-copied S.threads S.memories (client_place ends job) (caller_place ends job) (piece_size (read_size ends job) job.done) (read_within ends job is fits.done) rows.memories) rows
+    by None is = sound-services script S (record S.services { memories = after }) (record { memories = memories-copied S.references.threads S.services.memories (client_place ends job) (caller_place ends job) (piece_size (read_size ends job) job.done) (read_within ends job is fits.done) rows.services.memories }) rows
 sound-copies script S t (Write job) fits rows = by (write_refusal ends job) refl
   where
     ends : Ends
-    ends = ends_of S.threads S.messages job
+    ends = ends_of S.references.threads S.serving.messages job
 
     after : List (Option (List ℕ))
-    after = copied S.memories (caller_place ends job) (client_place ends job) (piece_size (write_size job) job.done)
+    after = copied S.services.memories (caller_place ends job) (client_place ends job) (piece_size (write_size job) job.done)
 
-    last : (goes_on : Bool) → AreMemories S.threads after → Sound script S (record S { memories = after; messages = if goes_on then S.messages else after_set_length S.messages job.m job.arg (job.offset + job.len) }) []
-    last true kept = sound-memories script S after kept rows
+    last : (goes_on : Bool) → AreMemories S.references.threads after → Sound script S (record S { services = record S.services { memories = after }; serving = record S.serving { messages = if goes_on then S.serving.messages else after_set_length S.serving.messages job.m job.arg (job.offset + job.len) } }) []
+    last true kept = sound-services script S (record S.services { memories = after }) (record { memories = kept }) rows
     last false kept = sound-resized script S after job.m job.arg (job.offset + job.len) kept rows
 
-    by : (refusal : Option Piece) → write_refusal ends job ≡ refusal → Sound script S (record S { memories = unless_refused refusal S.memories after; messages = unless_refused refusal S.messages (with_length_set S.messages job) }) []
+    by : (refusal : Option Piece) → write_refusal ends job ≡ refusal → Sound script S (record S { services = record S.services { memories = unless_refused refusal S.services.memories after }; serving = record S.serving { messages = unless_refused refusal S.serving.messages (with_length_set S.serving.messages job) } }) []
     by (Some refusal) is = sound-none script S rows
-    by None is = last (nat_lt (done_after (write_size job) job.done) (write_size job)) (memories-copied S.threads S.memories (caller_place ends job) (client_place ends job) (piece_size (write_size job) job.done) (write_within ends job is fits.done) rows.memories)
+    by None is = last (nat_lt (done_after (write_size job) job.done) (write_size job)) (memories-copied S.references.threads S.services.memories (caller_place ends job) (client_place ends job) (piece_size (write_size job) job.done) (write_within ends job is fits.done) rows.services.memories)
 
 -- a piece accepts no message
 pub copy_accepts : (m : CopyMove) (threads : List (Option ThreadRow)) (r : MessageRows) → (messages_copied m threads r).accepted ≡ r.accepted

@@ -18,29 +18,29 @@ use Rattle.move_laws.proofs.RowLaws.Synchronized.{synchronized-counts, synchroni
 use Rattle.move_laws.proofs.MoveLaws.RowMoves.{IsSilent, silent, sound-rest}
 use Rattle.move_laws.proofs.MoveLaws.Sound.{Sound}
 
-in_sections : (script : Script) (S : State) (t : ObjNo) (n : ℕ) → AreSynchronized script S.threads S.nano → AreSynchronized script S.threads (record S.nano { sections = set S.nano.sections t.0 n })
-in_sections script S t n h = synchronized-counts script S.threads S.nano S.nano.signals S.nano.suspensions (set S.nano.sections t.0 n) refl (sound-sections S.nano _ (length-set S.nano.sections t.0 n) h.rows) h
+in_sections : (script : Script) (S : State) (t : ObjNo) (n : ℕ) → AreSynchronized script S.references.threads S.synchronization.nano → AreSynchronized script S.references.threads (record S.synchronization.nano { sections = set S.synchronization.nano.sections t.0 n })
+in_sections script S t n h = synchronized-counts script S.references.threads S.synchronization.nano S.synchronization.nano.signals S.synchronization.nano.suspensions (set S.synchronization.nano.sections t.0 n) refl (sound-sections S.synchronization.nano _ (length-set S.synchronization.nano.sections t.0 n) h.rows) h
 
-signalled : (script : Script) (S : State) (t : ObjNo) (n : ℕ) → AreSynchronized script S.threads S.nano → AreSynchronized script S.threads (record S.nano { signals = set S.nano.signals t.0 n })
+signalled : (script : Script) (S : State) (t : ObjNo) (n : ℕ) → AreSynchronized script S.references.threads S.synchronization.nano → AreSynchronized script S.references.threads (record S.synchronization.nano { signals = set S.synchronization.nano.signals t.0 n })
 signalled script S t n h =
-    let long = length-set S.nano.signals t.0 n in synchronized-counts script S.threads S.nano (set S.nano.signals t.0 n) S.nano.suspensions S.nano.sections long (sound-signals S.nano _ long h.rows) h
+    let long = length-set S.synchronization.nano.signals t.0 n in synchronized-counts script S.references.threads S.synchronization.nano (set S.synchronization.nano.signals t.0 n) S.synchronization.nano.suspensions S.synchronization.nano.sections long (sound-signals S.synchronization.nano _ long h.rows) h
 
 -- a move that fits keeps them
-synchronized-nano : (script : Script) (S : State) (m : NanoMove) → FitsNano m S → AreSynchronized script S.threads S.nano → AreSynchronized script S.threads (nano_moved m S.nano)
+synchronized-nano : (script : Script) (S : State) (m : NanoMove) → FitsNano m S → AreSynchronized script S.references.threads S.synchronization.nano → AreSynchronized script S.references.threads (nano_moved m S.synchronization.nano)
 synchronized-nano script S (Take t f) fits h =
     let may = fits.2 in
-    synchronized-take script S.threads S.nano t f may.row fits.0 fits.1 may.holds may.is may.live may.serves may.waits h
-synchronized-nano script S (Give t f) fits h = synchronized-give script S.threads S.nano t f h
-synchronized-nano script S (Want t None) fits h = synchronized-want script S.threads S.nano t None (λ f is. absurd (cc)) (λ f is. refl) h
-synchronized-nano script S (Want t (Some f)) fits h = synchronized-want script S.threads S.nano t (Some f) (λ g is. let same : f ≡ g = cc in let below = fits.0 in omega arith) (λ g is. absurd (held_none S.nano t g fits.1 is)) h
+    synchronized-take script S.references.threads S.synchronization.nano t f may.row fits.0 fits.1 may.holds may.is may.live may.serves may.waits h
+synchronized-nano script S (Give t f) fits h = synchronized-give script S.references.threads S.synchronization.nano t f h
+synchronized-nano script S (Want t None) fits h = synchronized-want script S.references.threads S.synchronization.nano t None (λ f is. absurd (cc)) (λ f is. refl) h
+synchronized-nano script S (Want t (Some f)) fits h = synchronized-want script S.references.threads S.synchronization.nano t (Some f) (λ g is. let same : f ≡ g = cc in let below = fits.0 in omega arith) (λ g is. absurd (held_none S.synchronization.nano t g fits.1 is)) h
 synchronized-nano script S (Enter t) fits h = in_sections script S t _ h
 synchronized-nano script S (Leave t) fits h = in_sections script S t _ h
 synchronized-nano script S (LeaveAll t) fits h = in_sections script S t _ h
-synchronized-nano script S (Suspend t) fits h = synchronized-counts script S.threads S.nano S.nano.signals _ S.nano.sections refl (sound-suspend S.nano t fits h.rows) h
-synchronized-nano script S (Resume t) fits h = synchronized-counts script S.threads S.nano S.nano.signals _ S.nano.sections refl (sound-resume S.nano t h.rows) h
+synchronized-nano script S (Suspend t) fits h = synchronized-counts script S.references.threads S.synchronization.nano S.synchronization.nano.signals _ S.synchronization.nano.sections refl (sound-suspend S.synchronization.nano t fits h.rows) h
+synchronized-nano script S (Resume t) fits h = synchronized-counts script S.references.threads S.synchronization.nano S.synchronization.nano.signals _ S.synchronization.nano.sections refl (sound-resume S.synchronization.nano t h.rows) h
 synchronized-nano script S (Release t) fits h =
-    let resumed = synchronized-counts script S.threads S.nano S.nano.signals _ S.nano.sections refl (sound-resume_all S.nano t h.rows) h in
-    synchronized-want script S.threads (after_resume_all S.nano t) t None (λ f is. absurd (cc)) (λ f is. refl) resumed
+    let resumed = synchronized-counts script S.references.threads S.synchronization.nano S.synchronization.nano.signals _ S.synchronization.nano.sections refl (sound-resume_all S.synchronization.nano t h.rows) h in
+    synchronized-want script S.references.threads (after_resume_all S.synchronization.nano t) t None (λ f is. absurd (cc)) (λ f is. refl) resumed
 synchronized-nano script S (Raise t) fits h = signalled script S t _ h
 synchronized-nano script S (Lower t) fits h = signalled script S t _ h
 
@@ -51,4 +51,13 @@ nano_silent S (Give t f) = record { quiet = record { minuses = λ p. refl; death
 nano_silent S _ = silent S
 
 pub sound-nano : (script : Script) (S : State) (t : ObjNo) (m : NanoMove) → FitsMove script t (Nano m) S → AreRows script S → Sound script S (moved t (Nano m) S) (told (Nano m) S)
-sound-nano script S t m fits rows = sound-rest script S (nano_moved m S.nano) S.deferred S.requests S.logons S.memories (nano_told m) (nano_silent S m) (synchronized-nano script S m fits.1 rows.nano) rows.deferred rows.requests rows.logons rows.memories rows.awaited rows.messages rows
+sound-nano script S t m fits rows =
+    let here = rows.synchronization in
+    sound-rest script S (record S.synchronization { nano = nano_moved m S.synchronization.nano }) S.services (nano_told m) (nano_silent S m) (record {
+      nano = synchronized-nano script S m fits.1 here.nano;
+      deferred = here.deferred;
+      requests = here.requests;
+      locks = here.locks;
+      logons = here.logons;
+      awaited = here.awaited;
+    }) rows.services rows.serving.messages rows

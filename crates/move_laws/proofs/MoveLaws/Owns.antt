@@ -25,10 +25,10 @@ use Rattle.move_laws.proofs.Holders.Serving.{holds-owned}
 use Rattle.move_laws.proofs.Lists.Totals.{inside, total_within}
 use Rattle.move_laws.proofs.Lives.Kinds.{lives-made}
 use Rattle.move_laws.proofs.Lives.Fresh.{next_fresh}
+use Rattle.move_laws.proofs.MoveLaws.Groups.{synchronization-left, synchronization-same}
 use Rattle.move_laws.proofs.MoveLaws.Sound.{Sound, sound-of}
 use Rattle.move_laws.proofs.References.Mutexes.{count-holding}
 use Rattle.move_laws.proofs.References.Same.{if_le}
-use Rattle.move_laws.proofs.RowLaws.Locks.{leaves-none, locks-left}
 use Rattle.move_laws.proofs.RowLaws.OwnedServers.{servers-owned}
 use Rattle.move_laws.proofs.RowLaws.Spent.{made-dead, spent-objects}
 
@@ -43,7 +43,7 @@ all_owed_by_le g x [] = omega arith
 all_owed_by_le g x (what ∷ rest) = let a = owed_by_le g x what in let b = all_owed_by_le g x rest in omega arith
 
 abbrev owning : State → Kind → List ℕ → ObjNo → State
-owning S kind name u = record S { objects = S.objects ++ Some (new_object kind name) ∷ []; owned = owned_gain (Own u) (next_object S) S.owned }
+owning S kind name u = record S { references = record S.references { objects = S.references.objects ++ Some (new_object kind name) ∷ [] }; serving = record S.serving { owned = owned_gain (Own u) (next_object S) S.serving.owned } }
 
 pub sound-owned : (script : Script) (S : State) (kind : Kind) (name : List ℕ) (u : ObjNo) → MayMake S kind name → MayOwnNext S u → AreRows script S → Sound script S (owning S kind name u) (Plus (Own u) (next_object S) ∷ [])
 sound-owned script S kind name u may own rows =
@@ -52,29 +52,26 @@ sound-owned script S kind name u may own rows =
       threads_long = refl;
       owed_long = refl;
       objects_few = let room = may.room in let l = long in omega arith;
-      tables = rows.tables;
-      threads = rows.threads;
-      duties = rows.duties;
-      nano = rows.nano;
-      deferred = rows.deferred;
-      requests = rows.requests;
-      locks = locks-left (length S.objects) (length T.objects) S.threads S.threads S.mutexes S.owed S.owed S.locks (let l = long in omega arith) (leaves-none S.threads S.owed S.locks) rows.locks;
-      memories = rows.memories;
-      logons = rows.logons;
-      spent = spent-objects S.objects T.objects S.handles S.threads (made-dead S.objects (new_object kind name) refl) rows.spent;
-      awaited = rows.awaited;
-      servers = servers-owned (λ row. is_spent row.stage) (length S.objects) (length T.objects) S.threads S.locks S.owned S.servers u o (let l = long in omega arith) (record {
-        server = record { row = record { owner = u; is_closing = false }; is = own.server; owner = refl };
-        live = λ row is. let same_row : own.owner.row ≡ row = (let a = own.owner.is in cc) in
-            let stage : row.stage ≡ Live = subst (λ (r : ThreadRow). r.stage ≡ Live) same_row own.owner.live in
-            (ap is_live stage, ap is_spent stage);
-        inside = inside_owned;
-        unowned = λ t. let none = (next_fresh script S rows).count in let within = total_within (mutex_names o) S.owned t.0 in omega arith;
-      }) rows.servers;
-      messages = rows.messages;
+      tables = rows.references.tables;
+      threads = rows.references.threads;
+      duties = rows.references.duties;
+      synchronization = synchronization-left script S (length T.references.objects) S.references.threads S.references.owed (let l = long in omega arith) (synchronization-same script S rows) rows;
+      services = rows.services;
+      spent = spent-objects S.references.objects T.references.objects S.references.handles S.references.threads (made-dead S.references.objects (new_object kind name) refl) rows.references.spent;
+      serving = record {
+        servers = servers-owned (λ row. is_spent row.stage) (length S.references.objects) (length T.references.objects) S.references.threads S.synchronization.locks S.serving.owned S.serving.servers u o (let l = long in omega arith) (record {
+          server = record { row = record { owner = u; is_closing = false }; is = own.server; owner = refl };
+          live = λ row is. let same_row : own.owner.row ≡ row = (let a = own.owner.is in cc) in
+              let stage : row.stage ≡ Live = subst (λ (r : ThreadRow). r.stage ≡ Live) same_row own.owner.live in
+              (ap is_live stage, ap is_spent stage);
+          inside = inside_owned;
+          unowned = λ t. let none = (next_fresh script S rows).count in let within = total_within (mutex_names o) S.serving.owned t.0 in omega arith;
+        }) rows.serving.servers;
+        messages = rows.serving.messages;
+      };
     })
-    (lives-made S T (new_object kind name) (Own u) o refl refl refl (λ p. let a = count-holding S.owned u o p inside_owned in omega arith) (λ p. refl))
-    (holders-plus S T (Own u) o unheld (λ g x. let a = holds-owned S.owned S.servers.sessions S.messages.outstanding u o inside_owned g x in omega arith))
+    (lives-made S T (new_object kind name) (Own u) o refl refl refl (λ p. let a = count-holding S.serving.owned u o p inside_owned in omega arith) (λ p. refl))
+    (holders-plus S T (Own u) o unheld (λ g x. let a = holds-owned S.serving.owned S.serving.servers.sessions S.serving.messages.outstanding u o inside_owned g x in omega arith))
   where
     o : ObjNo
     o = next_object S
@@ -82,15 +79,15 @@ sound-owned script S kind name u may own rows =
     T : State
     T = owning S kind name u
 
-    long : length T.objects ≡ length S.objects + 1
-    long = length_push S.objects (Some (new_object kind name))
+    long : length T.references.objects ≡ length S.references.objects + 1
+    long = length_push S.references.objects (Some (new_object kind name))
 
-    inside_owned : u.0 < length S.owned
-    inside_owned = let a = inside S.threads u.0 own.owner.row own.owner.is in let b = rows.servers.owned_sized in omega arith
+    inside_owned : u.0 < length S.serving.owned
+    inside_owned = let a = inside S.references.threads u.0 own.owner.row own.owner.is in let b = rows.serving.servers.owned_sized in omega arith
 
     unheld : held_in S (Own u) o ≡ 0
     unheld =
         let none = (next_fresh script S rows).count in
-        let a = total_within (mutex_names o) S.mutexes u.0 in
-        let b = all_owed_by_le (Own u) o S.owed in
-        let c = total_within (mutex_names o) S.owned u.0 in omega arith
+        let a = total_within (mutex_names o) S.synchronization.mutexes u.0 in
+        let b = all_owed_by_le (Own u) o S.references.owed in
+        let c = total_within (mutex_names o) S.serving.owned u.0 in omega arith

@@ -12,14 +12,13 @@ use Rattle.entry_log.specs.declared.effect.Effect.{Effect}
 use Rattle.entry_log.specs.declared.effect.Effect.TheVariants.{Seek, Missed}
 use Rattle.entry_log.specs.declared.step.Part.{Part}
 use Rattle.entry_log.specs.declared.step.Part.TheVariants.{Send}
-use Rattle.state_rows.specs.declared.deferred.DeferredRows.{DeferredRows}
-use Rattle.state_rows.specs.declared.nano.NanoRows.{NanoRows}
-use Rattle.state_rows.specs.declared.requests.RequestRows.{RequestRows}
 use Rattle.machine.specs.declared.moves.Move.TheVariants.{Find, Miss, GoOn, Keep, Write, WriteMessage, Wait, Wake, SetPriority, Fill}
 use Rattle.state_rows.specs.declared.thread.Waiting.{Waiting}
 use Rattle.state_rows.specs.declared.thread.Waiting.TheVariants as waiting
 use Rattle.state_rows.specs.declared.thread.ThreadRow.{ThreadRow}
+use Rattle.machine.specs.declared.services.Services.{Services}
 use Rattle.machine.specs.declared.state.State.{State}
+use Rattle.machine.specs.declared.synchronization.Synchronization.{Synchronization}
 use Rattle.machine.specs.Rows.{thread_of, with_row}
 use Rattle.machine.specs.Memory.{filled, with_memory}
 use Rattle.machine.specs.Moves.{moved, told, with_found, with_kept, with_message, with_part, with_register, with_waiting, with_priority}
@@ -31,7 +30,7 @@ use Rattle.machine.specs.Task.{instructions_of, is_returning}
 use Rattle.machine.specs.Fits.{FitsMove, IsAtInstruction, WaitsNowhere}
 use Rattle.machine.specs.FitsServers.{IsUncalled, MaySend}
 use Rattle.machine.specs.Serving.{AreMessages, AreServers, numbers_left, sending_bit, sessions_there, sessions_used}
-use Rattle.machine.specs.WellFormed.{IsThread, AreSynchronized, AreCalls, AreLogons, AreMemories, AreRequests, AreRows, part_of, AreSpent, AreAwaited, IsUntold, is_spent}
+use Rattle.machine.specs.WellFormed.{IsThread, AreSynchronized, AreSynchronizationRows, AreServiceRows, AreRows, AreServingRows, part_of, AreSpent, IsUntold, is_spent}
 use Rattle.move_laws.proofs.Lives.Kinds.{IsQuiet, lives-quiet}
 use Rattle.move_laws.proofs.Holders.ThreadRows.{row_holds, rows-with_row, row-other}
 use Rattle.move_laws.proofs.Lists.Totals.{total-with}
@@ -39,21 +38,22 @@ use Rattle.move_laws.proofs.References.Counts.{count-with_row, kernel-with_row}
 use Rattle.move_laws.proofs.References.Same.{same_is}
 use Rattle.move_laws.proofs.RowLaws.Threads.{KeepsThread, length-with_row, threads-with_row, none-with_row}
 use Rattle.move_laws.proofs.RowLaws.Duties.{IsPaidIn, paid-with_row, duties-threads}
-use Rattle.move_laws.proofs.RowLaws.Locks.{LeavesLocks, leaves-nowhere, leaves-with_row, locks-left}
-use Rattle.move_laws.proofs.RowLaws.Memories.{memories-filled, memories-with_row}
+use Rattle.move_laws.proofs.RowLaws.Locks.{leaves-nowhere}
+use Rattle.move_laws.proofs.RowLaws.Memories.{memories-filled}
 use Rattle.move_laws.proofs.RowLaws.MessagesKept.{KeepsMessages, messages-kept, messages-with_row, fewer-with_row}
 use Rattle.move_laws.proofs.RowLaws.ServersKept.{servers-kept}
 use Rattle.move_laws.proofs.RowLaws.Synchronized.{synchronized-with_row, synchronized-unheld}
+use Rattle.move_laws.proofs.MoveLaws.Groups.{LeavesSynchronization, services-row, synchronization-kept, synchronization-left}
 use Rattle.move_laws.proofs.MoveLaws.Sound.{Sound, sound-of}
 use Rattle.move_laws.proofs.RowLaws.Spent.{spent-going, spent-kept}
-use Rattle.move_laws.proofs.RowLaws.Awaited.{awaited-kept, awaited-with_row}
+use Rattle.move_laws.proofs.RowLaws.Awaited.{awaited-with_row}
 use Rattle.state_rows.specs.declared.thread.Stage.TheVariants.{Live}
 
 -- effects that tell of no reference and no death
 pub record IsSilent (S : State) (effects : List Effect) : Type 0 where
   pub quiet : IsQuiet effects
   pub pluses : (o : ObjNo) → pluses effects o ≡ 0
-  pub found : (o : ObjNo) → 0 < finds effects o → o.0 < length S.objects
+  pub found : (o : ObjNo) → 0 < finds effects o → o.0 < length S.references.objects
   pub fits : EachFitsHolders (held_in S) effects
   pub after : (g : Holder) (x : ObjNo) → held_after_all (held_in S) effects g x ≡ held_in S g x
 
@@ -71,44 +71,42 @@ names-map f None o h = (refl, refl, refl)
 names-map f (Some row) o h = let a = h.uses row in let b = h.link row in (cc, cc, cc)
 
 -- a change that leaves its stage leaves the rows of servers
-pub serving-kept : (script : Script) (S : State) (u : ObjNo) (f : ThreadRow → ThreadRow) → ((row : ThreadRow) → (f row).stage ≡ row.stage) → AreRows script S → AreServers (λ row. is_spent row.stage) (length S.objects) (with_row S.threads u f) S.locks S.owned S.servers
-serving-kept script S u f stage rows = servers-kept (λ row. is_spent row.stage) (length S.objects) S.threads S.locks S.owned S.servers u f stage (λ row. ap is_spent (stage row)) rows.servers
+pub servers-row : (script : Script) (S : State) (u : ObjNo) (f : ThreadRow → ThreadRow) → ((row : ThreadRow) → (f row).stage ≡ row.stage) → AreRows script S → AreServers (λ row. is_spent row.stage) (length S.references.objects) (with_row S.references.threads u f) S.synchronization.locks S.serving.owned S.serving.servers
+servers-row script S u f stage rows = servers-kept (λ row. is_spent row.stage) (length S.references.objects) S.references.threads S.synchronization.locks S.serving.owned S.serving.servers u f stage (λ row. ap is_spent (stage row)) rows.serving.servers
 
 -- and one that begins no sending leaves those of messages
-pub messaging-kept : (script : Script) (S : State) (u : ObjNo) (f : ThreadRow → ThreadRow) → KeepsMessages f → AreRows script S → AreMessages (IsUntold S.requests S.logons) (with_row S.threads u f) S.servers S.messages
-messaging-kept script S u f keeps rows = messages-kept (IsUntold S.requests S.logons) S.threads S.servers S.messages u f keeps rows.messages
+pub messages-row : (script : Script) (S : State) (u : ObjNo) (f : ThreadRow → ThreadRow) → KeepsMessages f → AreRows script S → AreMessages (IsUntold S.synchronization.requests S.synchronization.logons) (with_row S.references.threads u f) S.serving.servers S.serving.messages
+messages-row script S u f keeps rows = messages-kept (IsUntold S.synchronization.requests S.synchronization.logons) S.references.threads S.serving.servers S.serving.messages u f keeps rows.serving.messages
 
-pub sound-row : (script : Script) (S : State) (u : ObjNo) (f : ThreadRow → ThreadRow) (effects : List Effect) → KeepsReferences f → ((row : ThreadRow) → thread_of S u ≡ Some row → stage_holds (f row).stage ≡ stage_holds row.stage) → ((row : ThreadRow) → thread_of S u ≡ Some row → IsThread script (length S.threads) row → KeepsThread script (length S.threads) row (f row)) → ((k : ℕ) → (get_or S.owed k [] ≡ []) ⊎ IsPaidIn S.threads (with_row S.threads u f) k) → IsSilent S effects → AreSynchronized script (with_row S.threads u f) S.nano → LeavesLocks S.threads (with_row S.threads u f) S.owed S.owed S.locks → AreSpent S.objects S.handles (with_row S.threads u f) → AreAwaited (with_row S.threads u f) S.requests S.logons
-    → AreServers (λ row. is_spent row.stage) (length S.objects) (with_row S.threads u f) S.locks S.owned S.servers → AreMessages (IsUntold S.requests S.logons) (with_row S.threads u f) S.servers S.messages → AreRows script S → Sound script S (record S { threads = with_row S.threads u f }) effects
-sound-row script S u f effects keeps holds thread paid quiet nano leaves spent awaited servers messages rows =
-    let T : State = record S { threads = with_row S.threads u f } in
+-- and one that leaves its stage and begins no sending those of both
+pub serving-kept : (script : Script) (S : State) (u : ObjNo) (f : ThreadRow → ThreadRow) → ((row : ThreadRow) → (f row).stage ≡ row.stage) → KeepsMessages f → AreRows script S → AreServingRows (length S.references.objects) (with_row S.references.threads u f) S.synchronization.locks (IsUntold S.synchronization.requests S.synchronization.logons) S.serving
+serving-kept script S u f stage keeps rows = record { servers = servers-row script S u f stage rows; messages = messages-row script S u f keeps rows }
+
+pub sound-row : (script : Script) (S : State) (u : ObjNo) (f : ThreadRow → ThreadRow) (effects : List Effect) → KeepsReferences f → ((row : ThreadRow) → thread_of S u ≡ Some row → stage_holds (f row).stage ≡ stage_holds row.stage) → ((row : ThreadRow) → thread_of S u ≡ Some row → IsThread script (length S.references.threads) row → KeepsThread script (length S.references.threads) row (f row)) → ((k : ℕ) → (get_or S.references.owed k [] ≡ []) ⊎ IsPaidIn S.references.threads (with_row S.references.threads u f) k) → IsSilent S effects → LeavesSynchronization script S (with_row S.references.threads u f) S.references.owed → AreSpent S.references.objects S.references.handles (with_row S.references.threads u f) → AreServingRows (length S.references.objects) (with_row S.references.threads u f) S.synchronization.locks (IsUntold S.synchronization.requests S.synchronization.logons) S.serving
+    → AreRows script S → Sound script S (record S { references = record S.references { threads = with_row S.references.threads u f } }) effects
+sound-row script S u f effects keeps holds thread paid quiet leaves spent serving rows =
+    let T : State = record S { references = record S.references { threads = with_row S.references.threads u f } } in
     let old = thread_of S u in
     let counts : (o : ObjNo) → count_of T o ≡ count_of S o = λ o.
-    let a = count-with_row S.threads u f o in
-    let b = kernel-with_row S.threads u f o holds in
+    let a = count-with_row S.references.threads u f o in
+    let b = kernel-with_row S.references.threads u f o holds in
     let c = (names-map f old o keeps).2 in omega arith in
     let held : (g : Holder) (x : ObjNo) → held_in T g x ≡ held_in S g x = λ g x.
-    let a = rows-with_row S.handles S.threads S.mutexes u f g x holds in
+    let a = rows-with_row S.references.handles S.references.threads S.synchronization.mutexes u f g x holds in
     let n = names-map f old x keeps in
     let b : row_holds u (option_map f old) g x ≡ row_holds u old g x = ap (λ (y : ℕ). (if is_holder (Temp u) g then y else 0) + (if is_holder (Link u) g then link_names x (option_map f old) else 0)) n.0 ∙ ap (λ (y : ℕ). (if is_holder (Temp u) g then use_names x old else 0) + (if is_holder (Link u) g then y else 0)) n.1 in omega arith in
     sound-of script S T effects rows (record {
       handles_long = refl;
-      threads_long = length-with_row S.threads u f;
+      threads_long = length-with_row S.references.threads u f;
       owed_long = refl;
-      objects_few = rows.sized.objects_few;
-      tables = rows.tables;
-      threads = threads-with_row script S.threads u f thread rows.threads;
-      duties = duties-threads S.threads (with_row S.threads u f) S.servers S.messages.accepted S.owed paid rows.duties;
-      nano = nano;
-      deferred = rows.deferred;
-      requests = rows.requests;
-      locks = locks-left (length S.objects) (length S.objects) S.threads (with_row S.threads u f) S.mutexes S.owed S.owed S.locks (omega arith) leaves rows.locks;
-      memories = memories-with_row S.threads u f S.memories (λ row is. (thread row is (rows.threads.rows u.0 row is)).process) rows.memories;
-      logons = rows.logons;
+      objects_few = rows.references.sized.objects_few;
+      tables = rows.references.tables;
+      threads = threads-with_row script S.references.threads u f thread rows.references.threads;
+      duties = duties-threads S.references.threads (with_row S.references.threads u f) S.serving.servers S.serving.messages.accepted S.references.owed paid rows.references.duties;
+      synchronization = synchronization-left script S (length S.references.objects) (with_row S.references.threads u f) S.references.owed (omega arith) leaves rows;
+      services = services-row S.references.threads u f S.services (λ row is. (thread row is (rows.references.threads.rows u.0 row is)).process) rows.services;
       spent = spent;
-      awaited = awaited;
-      servers = servers;
-      messages = messages;
+      serving = serving;
     })
     (lives-quiet S T effects refl quiet.quiet (λ o. let a = counts o in let b = quiet.pluses o in let c = quiet.quiet.minuses o in omega arith) (λ o. refl) (λ o h. let b = quiet.pluses o in absurd (omega arith)) quiet.found)
     (record { fits = quiet.fits; moves = λ g x. quiet.after g x ∙ sym (held g x) })
@@ -116,29 +114,29 @@ sound-row script S u f effects keeps holds thread paid quiet nano leaves spent a
 pub sound-find : (script : Script) (S : State) (t u o : ObjNo) → FitsMove script t (Find u o) S → AreRows script S → Sound script S (moved t (Find u o) S) (told (Find u o) S)
 sound-find script S t u o fits rows = sound-row script S u (with_found o) (Seek o ∷ []) (record { link = λ row. refl; uses = λ row. refl }) (λ row is. refl)
     (λ row is h. record { thread = record { process = h.process; link = h.link; priority = h.priority; next_instruction = h.next_instruction; unused = h.unused; registers = h.registers; declared = h.declared; returns = h.returns }; process = refl; role = refl })
-    (λ k. inr (paid-with_row S.threads u (with_found o) (λ row h. h) k))
+    (λ k. inr (paid-with_row S.references.threads u (with_found o) (λ row h. h) k))
     (record {
       quiet = record { minuses = λ p. refl; deaths = λ p. refl; removals = λ p. refl };
       pluses = λ p. refl;
-      found = λ p h. subst (λ (y : ObjNo). y.0 < length S.objects) (same_is o p (omega arith)) fits;
+      found = λ p h. subst (λ (y : ObjNo). y.0 < length S.references.objects) (same_is o p (omega arith)) fits.0;
       fits = (tt, tt);
       after = λ g x. refl;
-    }) (synchronized-with_row script S.threads u (with_found o) S.nano (λ row h. h) rows.nano) (leaves-with_row S.threads u (with_found o) S.owed S.locks (λ row. refl)) (spent-kept S.objects S.handles S.threads u (with_found o) (record { stage = λ row. refl; unused = λ row e. e; waits = λ row e. e; going = λ row e. e; link = λ row e. e }) rows.spent) (awaited-kept S.threads u (with_found o) S.requests S.logons (λ row. refl) (λ row. refl) rows.awaited) (serving-kept script S u (with_found o) (λ row. refl) rows) (messaging-kept script S u (with_found o) (record { live = λ row live. live; waits = λ row live. refl; sends = λ row. omega arith; left = λ row. omega arith }) rows) rows
+    }) (synchronization-kept script S u (with_found o) (λ row h. h) (λ row. refl) (λ row. refl) rows) (spent-kept S.references.objects S.references.handles S.references.threads u (with_found o) (record { stage = λ row. refl; unused = λ row e. e; waits = λ row e. e; going = λ row e. e; link = λ row e. e }) rows.references.spent) (serving-kept script S u (with_found o) (λ row. refl) (record { live = λ row live. live; waits = λ row live. refl; sends = λ row. omega arith; left = λ row. omega arith }) rows) rows
 
 pub sound-write : (script : Script) (S : State) (t u : ObjNo) (x value : ℕ) → FitsMove script t (Write u x value) S → AreRows script S → Sound script S (moved t (Write u x value) S) (told (Write u x value) S)
 sound-write script S t u x value fits rows = sound-row script S u (with_register x value) [] (record { link = λ row. refl; uses = λ row. refl }) (λ row is. refl)
     (λ row is h. record { thread = record { process = h.process; link = h.link; priority = h.priority; next_instruction = h.next_instruction; unused = h.unused; registers = length-set row.registers x value ∙ h.registers; declared = h.declared; returns = h.returns }; process = refl; role = refl })
-    (λ k. inr (paid-with_row S.threads u (with_register x value) (λ row h. h) k)) (silent S) (synchronized-with_row script S.threads u (with_register x value) S.nano (λ row h. h) rows.nano) (leaves-with_row S.threads u (with_register x value) S.owed S.locks (λ row. refl)) (spent-kept S.objects S.handles S.threads u (with_register x value) (record { stage = λ row. refl; unused = λ row e. e; waits = λ row e. e; going = λ row e. e; link = λ row e. e }) rows.spent) (awaited-kept S.threads u (with_register x value) S.requests S.logons (λ row. refl) (λ row. refl) rows.awaited) (serving-kept script S u (with_register x value) (λ row. refl) rows) (messaging-kept script S u (with_register x value) (record { live = λ row live. live; waits = λ row live. refl; sends = λ row. omega arith; left = λ row. omega arith }) rows) rows
+    (λ k. inr (paid-with_row S.references.threads u (with_register x value) (λ row h. h) k)) (silent S) (synchronization-kept script S u (with_register x value) (λ row h. h) (λ row. refl) (λ row. refl) rows) (spent-kept S.references.objects S.references.handles S.references.threads u (with_register x value) (record { stage = λ row. refl; unused = λ row e. e; waits = λ row e. e; going = λ row e. e; link = λ row e. e }) rows.references.spent) (serving-kept script S u (with_register x value) (λ row. refl) (record { live = λ row live. live; waits = λ row live. refl; sends = λ row. omega arith; left = λ row. omega arith }) rows) rows
 
 pub sound-keep : (script : Script) (S : State) (t u : ObjNo) (number : ℕ) → AreRows script S → Sound script S (moved t (Keep u number) S) (told (Keep u number) S)
 sound-keep script S t u number rows = sound-row script S u (with_kept number) [] (record { link = λ row. refl; uses = λ row. refl }) (λ row is. refl)
     (λ row is h. record { thread = record { process = h.process; link = h.link; priority = h.priority; next_instruction = h.next_instruction; unused = h.unused; registers = h.registers; declared = h.declared; returns = h.returns }; process = refl; role = refl })
-    (λ k. inr (paid-with_row S.threads u (with_kept number) (λ row h. h) k)) (silent S) (synchronized-with_row script S.threads u (with_kept number) S.nano (λ row h. h) rows.nano) (leaves-with_row S.threads u (with_kept number) S.owed S.locks (λ row. refl)) (spent-kept S.objects S.handles S.threads u (with_kept number) (record { stage = λ row. refl; unused = λ row e. e; waits = λ row e. e; going = λ row e. e; link = λ row e. e }) rows.spent) (awaited-kept S.threads u (with_kept number) S.requests S.logons (λ row. refl) (λ row. refl) rows.awaited) (serving-kept script S u (with_kept number) (λ row. refl) rows) (messaging-kept script S u (with_kept number) (record { live = λ row live. live; waits = λ row live. refl; sends = λ row. omega arith; left = λ row. omega arith }) rows) rows
+    (λ k. inr (paid-with_row S.references.threads u (with_kept number) (λ row h. h) k)) (silent S) (synchronization-kept script S u (with_kept number) (λ row h. h) (λ row. refl) (λ row. refl) rows) (spent-kept S.references.objects S.references.handles S.references.threads u (with_kept number) (record { stage = λ row. refl; unused = λ row e. e; waits = λ row e. e; going = λ row e. e; link = λ row e. e }) rows.references.spent) (serving-kept script S u (with_kept number) (λ row. refl) (record { live = λ row live. live; waits = λ row live. refl; sends = λ row. omega arith; left = λ row. omega arith }) rows) rows
 
 pub sound-write_message : (script : Script) (S : State) (t u : ObjNo) (y number : ℕ) → AreRows script S → Sound script S (moved t (WriteMessage u y number) S) (told (WriteMessage u y number) S)
 sound-write_message script S t u y number rows = sound-row script S u (with_message y number) [] (record { link = λ row. refl; uses = λ row. refl }) (λ row is. refl)
     (λ row is h. record { thread = record { process = h.process; link = h.link; priority = h.priority; next_instruction = h.next_instruction; unused = h.unused; registers = h.registers; declared = h.declared; returns = h.returns }; process = refl; role = refl })
-    (λ k. inr (paid-with_row S.threads u (with_message y number) (λ row h. h) k)) (silent S) (synchronized-with_row script S.threads u (with_message y number) S.nano (λ row h. h) rows.nano) (leaves-with_row S.threads u (with_message y number) S.owed S.locks (λ row. refl)) (spent-kept S.objects S.handles S.threads u (with_message y number) (record { stage = λ row. refl; unused = λ row e. e; waits = λ row e. e; going = λ row e. e; link = λ row e. e }) rows.spent) (awaited-kept S.threads u (with_message y number) S.requests S.logons (λ row. refl) (λ row. refl) rows.awaited) (serving-kept script S u (with_message y number) (λ row. refl) rows) (messaging-kept script S u (with_message y number) (record { live = λ row live. live; waits = λ row live. refl; sends = λ row. omega arith; left = λ row. omega arith }) rows) rows
+    (λ k. inr (paid-with_row S.references.threads u (with_message y number) (λ row h. h) k)) (silent S) (synchronization-kept script S u (with_message y number) (λ row h. h) (λ row. refl) (λ row. refl) rows) (spent-kept S.references.objects S.references.handles S.references.threads u (with_message y number) (record { stage = λ row. refl; unused = λ row e. e; waits = λ row e. e; going = λ row e. e; link = λ row e. e }) rows.references.spent) (serving-kept script S u (with_message y number) (λ row. refl) (record { live = λ row live. live; waits = λ row live. refl; sends = λ row. omega arith; left = λ row. omega arith }) rows) rows
 
 -- a thread that goes on to a return is at its instruction
 returning_at : (script : Script) (S : State) (u : ObjNo) (row : ThreadRow) {returns : Bool} → thread_of S u ≡ Some row → (returns ≡ true → IsAtInstruction script S u) → returns ≡ true → row.next_instruction < length (instructions_of script row.role)
@@ -147,63 +145,83 @@ returning_at script S u row is at returns =
     let same : here.row ≡ row = let a = here.is in cc in subst (λ (r : ThreadRow). r.next_instruction < length (instructions_of script r.role)) same here.next
 
 -- so begins a sending at most
-begins_sending : (S : State) (u : ObjNo) (part : Part) → MaySend (Some part) S → sessions_used S.threads S.servers S.messages.outstanding ≤ sessions_there S.servers → sessions_used (with_row S.threads u (with_part part)) S.servers S.messages.outstanding ≤ sessions_there S.servers
+begins_sending : (S : State) (u : ObjNo) (part : Part) → MaySend (Some part) S → sessions_used S.references.threads S.serving.servers S.serving.messages.outstanding ≤ sessions_there S.serving.servers → sessions_used (with_row S.references.threads u (with_part part)) S.serving.servers S.serving.messages.outstanding ≤ sessions_there S.serving.servers
 begins_sending S u Send spare few =
-    let a = total-with sending_bit (option_map (with_part Send)) None S.threads u.0 refl in let b = one (thread_of S u) in omega arith
+    let a = total-with sending_bit (option_map (with_part Send)) None S.references.threads u.0 refl in let b = one (thread_of S u) in omega arith
   where
     one : (x : Option ThreadRow) → sending_bit (option_map (with_part Send) x) ≤ 1
     one None = omega arith
     one (Some row) = omega arith
-begins_sending S u part spare few = let a = fewer-with_row sending_bit S.threads u (with_part part) (λ row is. omega arith) in omega arith
+begins_sending S u part spare few = let a = fewer-with_row sending_bit S.references.threads u (with_part part) (λ row is. omega arith) in omega arith
 
 pub sound-go_on : (script : Script) (S : State) (t u : ObjNo) (part : Part) → FitsMove script t (GoOn u part) S → AreRows script S → Sound script S (moved t (GoOn u part) S) (told (GoOn u part) S)
 sound-go_on script S t u part fits rows =
     let f : ThreadRow → ThreadRow = λ row. record row { part = Some part } in
     sound-row script S u f [] (record { link = λ row. refl; uses = λ row. refl }) (λ row is. refl)
     (λ row is h. record { thread = record { process = h.process; link = h.link; priority = h.priority; next_instruction = h.next_instruction; unused = fits.0.unused row is; registers = h.registers; declared = h.declared; returns = returning_at script S u row is fits.0.at }; process = refl; role = refl })
-    (λ k. elim (cases_Bool (is_returning (Some part))) as (λ _. (get_or S.owed k [] ≡ []) ⊎ IsPaidIn S.threads (with_row S.threads u f) k) [
-      | inr going ↦ inr (paid-with_row S.threads u f (λ row h. going) k)
-      | inl returns ↦ elim (cases_eq u.0 k) as (λ _. (get_or S.owed k [] ≡ []) ⊎ IsPaidIn S.threads (with_row S.threads u f) k) [
-        | inl at ↦ inl (ap (λ (n : ℕ). get_or S.owed n []) (sym at) ∙ fits.0.paid returns)
+    (λ k. elim (cases_Bool (is_returning (Some part))) as (λ _. (get_or S.references.owed k [] ≡ []) ⊎ IsPaidIn S.references.threads (with_row S.references.threads u f) k) [
+      | inr going ↦ inr (paid-with_row S.references.threads u f (λ row h. going) k)
+      | inl returns ↦ elim (cases_eq u.0 k) as (λ _. (get_or S.references.owed k [] ≡ []) ⊎ IsPaidIn S.references.threads (with_row S.references.threads u f) k) [
+        | inl at ↦ inl (ap (λ (n : ℕ). get_or S.references.owed n []) (sym at) ∙ fits.0.paid returns)
         | inr apart ↦ inr (record {
-          long = length-with_row S.threads u f;
-          none = none-with_row S.threads u f;
-          going = λ h. ap (λ (y : Option ThreadRow). is_returning (part_of y)) (row-other S.threads u f k apart) ∙ h;
+          long = length-with_row S.references.threads u f;
+          none = none-with_row S.references.threads u f;
+          going = λ h. ap (λ (y : Option ThreadRow). is_returning (part_of y)) (row-other S.references.threads u f k apart) ∙ h;
         })
       ]
-    ]) (silent S) (synchronized-with_row script S.threads u f S.nano (λ row h. h) rows.nano) (leaves-with_row S.threads u f S.owed S.locks (λ row. refl)) (spent-going S.objects S.handles S.threads u f fits.0.unspent (λ row e. e) rows.spent) (awaited-kept S.threads u f S.requests S.logons (λ row. refl) (λ row. refl) rows.awaited)
-    (serving-kept script S u f (λ row. refl) rows) (messages-with_row (IsUntold S.requests S.logons) S.threads S.servers S.messages u f (λ row is called was live. was live) (begins_sending S u part fits.1 rows.messages.few)
-    (fewer-with_row numbers_left S.threads u f (λ row is. let a = fits.0.ends row is in omega arith)) rows.messages) rows
+    ]) (silent S) (synchronization-kept script S u f (λ row h. h) (λ row. refl) (λ row. refl) rows) (spent-going S.references.objects S.references.handles S.references.threads u f fits.0.unspent (λ row e. e) rows.references.spent) (record {
+      servers = servers-row script S u f (λ row. refl) rows;
+      messages = messages-with_row (IsUntold S.synchronization.requests S.synchronization.logons) S.references.threads S.serving.servers S.serving.messages u f (λ row is called was live. was live) (begins_sending S u part fits.1 rows.serving.messages.few)
+          (fewer-with_row numbers_left S.references.threads u f (λ row is. let a = fits.0.ends row is in omega arith)) rows.serving.messages;
+    }) rows
 
 -- a change of what a thread waits for that stands among no waiters
-sound-waiting : (script : Script) (S : State) (u : ObjNo) (what : Waiting) → WaitsNowhere S u → IsUncalled S u → AreSynchronized script (with_row S.threads u (with_waiting what)) S.nano → AreSpent S.objects S.handles (with_row S.threads u (with_waiting what)) → ((row : ThreadRow) (o : ObjNo) → thread_of S u ≡ Some row → what ≡ waiting.Lock o → row.stage ≡ Live) → AreRows script S → Sound script S (record S { threads = with_row S.threads u (with_waiting what) }) []
+sound-waiting : (script : Script) (S : State) (u : ObjNo) (what : Waiting) → WaitsNowhere S u → IsUncalled S u → AreSynchronized script (with_row S.references.threads u (with_waiting what)) S.synchronization.nano → AreSpent S.references.objects S.references.handles (with_row S.references.threads u (with_waiting what)) → ((row : ThreadRow) (o : ObjNo) → thread_of S u ≡ Some row → what ≡ waiting.Lock o → row.stage ≡ Live) → AreRows script S → Sound script S (record S { references = record S.references { threads = with_row S.references.threads u (with_waiting what) } }) []
 sound-waiting script S u what nowhere uncalled nano spent live rows = sound-row script S u (with_waiting what) [] (record { link = λ row. refl; uses = λ row. refl }) (λ row is. refl)
     (λ row is h. record { thread = record { process = h.process; link = h.link; priority = h.priority; next_instruction = h.next_instruction; unused = h.unused; registers = h.registers; declared = h.declared; returns = h.returns }; process = refl; role = refl })
-    (λ k. inr (paid-with_row S.threads u (with_waiting what) (λ row h. h) k)) (silent S) nano (leaves-nowhere S.threads u (with_waiting what) S.owed S.locks nowhere) spent (awaited-with_row S.threads u (with_waiting what) S.requests S.logons (λ row is live. live) (λ row o is was e. live row o is e) rows.awaited) (serving-kept script S u (with_waiting what) (λ row. refl) rows)
-    (messages-with_row (IsUntold S.requests S.logons) S.threads S.servers S.messages u (with_waiting what) (λ row is called was live. absurd (let none = uncalled row is live in omega arith))
-    (let a = fewer-with_row sending_bit S.threads u (with_waiting what) (λ row is. omega arith) in let b = rows.messages.few in omega arith) (fewer-with_row numbers_left S.threads u (with_waiting what) (λ row is. omega arith)) rows.messages) rows
+    (λ k. inr (paid-with_row S.references.threads u (with_waiting what) (λ row h. h) k)) (silent S) (record {
+      nano = nano;
+      locks = leaves-nowhere S.references.threads u (with_waiting what) S.references.owed S.synchronization.locks nowhere;
+      awaited = awaited-with_row S.references.threads u (with_waiting what) S.synchronization.requests S.synchronization.logons (λ row is live. live) (λ row o is was e. live row o is e) rows.synchronization.awaited;
+    }) spent (record {
+      servers = servers-row script S u (with_waiting what) (λ row. refl) rows;
+      messages = messages-with_row (IsUntold S.synchronization.requests S.synchronization.logons) S.references.threads S.serving.servers S.serving.messages u (with_waiting what) (λ row is called was live. absurd (let none = uncalled row is live in omega arith))
+          (let a = fewer-with_row sending_bit S.references.threads u (with_waiting what) (λ row is. omega arith) in let b = rows.serving.messages.few in omega arith) (fewer-with_row numbers_left S.references.threads u (with_waiting what) (λ row is. omega arith)) rows.serving.messages;
+    }) rows
 
 pub sound-wait : (script : Script) (S : State) (t u : ObjNo) (what : Waiting) → FitsMove script t (Wait u what) S → AreRows script S → Sound script S (moved t (Wait u what) S) (told (Wait u what) S)
-sound-wait script S t u what fits rows = sound-waiting script S u what fits.1 fits.3 (synchronized-unheld script S.threads u (with_waiting what) S.nano fits.0 rows.nano) (spent-going S.objects S.handles S.threads u (with_waiting what) (λ row is. ap is_spent (fits.2 row is)) (λ row e. e) rows.spent) (λ row o is e. fits.2 row is) rows
+sound-wait script S t u what fits rows = sound-waiting script S u what fits.1 fits.3 (synchronized-unheld script S.references.threads u (with_waiting what) S.synchronization.nano fits.0 rows.synchronization.nano) (spent-going S.references.objects S.references.handles S.references.threads u (with_waiting what) (λ row is. ap is_spent (fits.2 row is)) (λ row e. e) rows.references.spent) (λ row o is e. fits.2 row is) rows
 
 pub sound-wake : (script : Script) (S : State) (t u : ObjNo) → FitsMove script t (Wake u) S → AreRows script S → Sound script S (moved t (Wake u) S) (told (Wake u) S)
-sound-wake script S t u fits rows = sound-waiting script S u waiting.Nothing fits.0 fits.1 (synchronized-with_row script S.threads u (with_waiting waiting.Nothing) S.nano (λ row h. (refl, h.1, h.2)) rows.nano) (spent-kept S.objects S.handles S.threads u (with_waiting waiting.Nothing) (record { stage = λ row. refl; unused = λ row e. e; waits = λ row e. refl; going = λ row e. e; link = λ row e. e }) rows.spent) (λ row o is e. absurd (cc)) rows
+sound-wake script S t u fits rows = sound-waiting script S u waiting.Nothing fits.0 fits.1 (synchronized-with_row script S.references.threads u (with_waiting waiting.Nothing) S.synchronization.nano (λ row h. (refl, h.1, h.2)) rows.synchronization.nano) (spent-kept S.references.objects S.references.handles S.references.threads u (with_waiting waiting.Nothing) (record { stage = λ row. refl; unused = λ row e. e; waits = λ row e. refl; going = λ row e. e; link = λ row e. e }) rows.references.spent) (λ row o is e. absurd (cc)) rows
 
 pub sound-priority : (script : Script) (S : State) (t u : ObjNo) (priority : ℕ) → FitsMove script t (SetPriority u priority) S → AreRows script S → Sound script S (moved t (SetPriority u priority) S) (told (SetPriority u priority) S)
 sound-priority script S t u priority fits rows = sound-row script S u (with_priority priority) [] (record { link = λ row. refl; uses = λ row. refl }) (λ row is. refl)
     (λ row is h. record { thread = record { process = h.process; link = h.link; priority = fits; next_instruction = h.next_instruction; unused = h.unused; registers = h.registers; declared = h.declared; returns = h.returns }; process = refl; role = refl })
-    (λ k. inr (paid-with_row S.threads u (with_priority priority) (λ row h. h) k)) (silent S) (synchronized-with_row script S.threads u (with_priority priority) S.nano (λ row h. h) rows.nano) (leaves-with_row S.threads u (with_priority priority) S.owed S.locks (λ row. refl)) (spent-kept S.objects S.handles S.threads u (with_priority priority) (record { stage = λ row. refl; unused = λ row e. e; waits = λ row e. e; going = λ row e. e; link = λ row e. e }) rows.spent) (awaited-kept S.threads u (with_priority priority) S.requests S.logons (λ row. refl) (λ row. refl) rows.awaited) (serving-kept script S u (with_priority priority) (λ row. refl) rows) (messaging-kept script S u (with_priority priority) (record { live = λ row live. live; waits = λ row live. refl; sends = λ row. omega arith; left = λ row. omega arith }) rows) rows
+    (λ k. inr (paid-with_row S.references.threads u (with_priority priority) (λ row h. h) k)) (silent S) (synchronization-kept script S u (with_priority priority) (λ row h. h) (λ row. refl) (λ row. refl) rows) (spent-kept S.references.objects S.references.handles S.references.threads u (with_priority priority) (record { stage = λ row. refl; unused = λ row e. e; waits = λ row e. e; going = λ row e. e; link = λ row e. e }) rows.references.spent) (serving-kept script S u (with_priority priority) (λ row. refl) (record { live = λ row live. live; waits = λ row live. refl; sends = λ row. omega arith; left = λ row. omega arith }) rows) rows
 
--- a change of the rows of threads that synchronize, of deferred function calls, of requests and of memories leaves all else
-pub sound-rest : (script : Script) (S : State) (nano : NanoRows) (calls : DeferredRows) (requests : RequestRows) (logons : List (List (ObjNo × ℕ))) (memories : List (Option (List ℕ))) (effects : List Effect) → IsSilent S effects → AreSynchronized script S.threads nano → AreCalls script calls → AreRequests (length S.threads) requests → AreLogons (length S.threads) requests logons → AreMemories S.threads memories → AreAwaited S.threads requests logons → AreMessages (IsUntold requests logons) S.threads S.servers S.messages → AreRows script S → Sound script S (record S { nano = nano; deferred = calls; requests = requests; logons = logons; memories = memories }) effects
-sound-rest script S nano calls requests logons memories effects quiet sound called requested logged kept awaited messages rows =
-    let T : State = record S { nano = nano; deferred = calls; requests = requests; logons = logons; memories = memories } in
-    sound-of script S T effects rows (record { handles_long = refl; threads_long = refl; owed_long = refl; objects_few = rows.sized.objects_few; tables = rows.tables; threads = rows.threads; duties = rows.duties; nano = sound; deferred = called; requests = requested; locks = rows.locks; logons = logged; memories = kept; spent = rows.spent; awaited = awaited; servers = rows.servers; messages = messages })
+-- a state with other rows by which threads synchronize, but for locks and mutexes, and with other services
+abbrev pub with_rest : State → Synchronization → Services → State
+with_rest S new services = record S { synchronization = record new { locks = S.synchronization.locks; mutexes = S.synchronization.mutexes }; services = services }
+
+-- such a change leaves all else
+pub sound-rest : (script : Script) (S : State) (new : Synchronization) (services : Services) (effects : List Effect) → IsSilent S effects → AreSynchronizationRows script (length S.references.threads) (length S.references.objects) S.references.threads S.references.owed (with_rest S new services).synchronization → AreServiceRows S.references.threads services → AreMessages (IsUntold new.requests new.logons) S.references.threads S.serving.servers S.serving.messages → AreRows script S → Sound script S (with_rest S new services) effects
+sound-rest script S new services effects quiet synchronization kept messages rows =
+    let T : State = with_rest S new services in
+    sound-of script S T effects rows (record { handles_long = refl; threads_long = refl; owed_long = refl; objects_few = rows.references.sized.objects_few; tables = rows.references.tables; threads = rows.references.threads; duties = rows.references.duties; synchronization = synchronization; services = kept; spent = rows.references.spent; serving = record { servers = rows.serving.servers; messages = messages } })
     (lives-quiet S T effects refl quiet.quiet (λ o. let b = quiet.pluses o in let c = quiet.quiet.minuses o in omega arith) (λ o. refl) (λ o h. let b = quiet.pluses o in absurd (omega arith)) quiet.found)
     (record { fits = quiet.fits; moves = quiet.after })
 
+-- what is told while the rows stay
+pub sound-silent : (script : Script) (S : State) (effects : List Effect) → IsSilent S effects → AreRows script S → Sound script S S effects
+sound-silent script S effects quiet rows = sound-rest script S S.synchronization S.services effects quiet rows.synchronization rows.services rows.serving.messages rows
+
+-- services change alone
+pub sound-services : (script : Script) (S : State) (services : Services) → AreServiceRows S.references.threads services → AreRows script S → Sound script S (record S { services = services }) []
+sound-services script S services kept rows = sound-rest script S S.synchronization services [] (silent S) rows.synchronization kept rows.serving.messages rows
+
 pub sound-miss : (script : Script) (S : State) (t o : ObjNo) → AreRows script S → Sound script S (moved t (Miss o) S) (told (Miss o) S)
-sound-miss script S t o rows = sound-rest script S S.nano S.deferred S.requests S.logons S.memories (Missed o ∷ []) (record { quiet = record { minuses = λ p. refl; deaths = λ p. refl; removals = λ p. refl }; pluses = λ p. refl; found = λ p h. absurd (omega arith); fits = (tt, tt); after = λ g x. refl }) rows.nano rows.deferred rows.requests rows.logons rows.memories rows.awaited rows.messages rows
+sound-miss script S t o rows = sound-silent script S (Missed o ∷ []) (record { quiet = record { minuses = λ p. refl; deaths = λ p. refl; removals = λ p. refl }; pluses = λ p. refl; found = λ p h. absurd (omega arith); fits = (tt, tt); after = λ g x. refl }) rows
 
 pub sound-fill : (script : Script) (S : State) (t p : ObjNo) (at long byte : ℕ) → FitsMove script t (Fill p at long byte) S → AreRows script S → Sound script S (moved t (Fill p at long byte) S) (told (Fill p at long byte) S)
-sound-fill script S t p at long byte fits rows = sound-rest script S S.nano S.deferred S.requests S.logons (with_memory S.memories p (filled at long byte)) [] (silent S) rows.nano rows.deferred rows.requests rows.logons (memories-filled S.threads S.memories p at long byte fits rows.memories) rows.awaited rows.messages rows
+sound-fill script S t p at long byte fits rows = sound-services script S (record S.services { memories = with_memory S.services.memories p (filled at long byte) }) (record { memories = memories-filled S.references.threads S.services.memories p at long byte fits rows.services.memories }) rows

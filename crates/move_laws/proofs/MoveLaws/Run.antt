@@ -42,11 +42,11 @@ sound-move script S t (Miss o) fits few s = sound-miss script S t o s.rows
 sound-move script S t (GoOn u part) fits few s = sound-go_on script S t u part fits s.rows
 sound-move script S t (Keep u number) fits few s = sound-keep script S t u number s.rows
 sound-move script S t (WriteMessage u y number) fits few s = sound-write_message script S t u y number s.rows
-sound-move script S t (PutDown u) fits few s = sound-put_down script S t u fits (subst (λ (y : ObjNo). total weight (owed_of S y) + 4 ≤ 12) (sym fits.0) few) (subst (λ (y : ObjNo). y.0 < length S.threads) (sym fits.0) s.inside) s.rows
+sound-move script S t (PutDown u) fits few s = sound-put_down script S t u fits (subst (λ (y : ObjNo). total weight (owed_of S y) + 4 ≤ 12) (sym fits.0) few) (subst (λ (y : ObjNo). y.0 < length S.references.threads) (sym fits.0) s.inside) s.rows
 sound-move script S t (Servers m) fits few s = sound-servers script S t m fits s.rows
 sound-move script S t (Messages m) fits few s = sound-messages script S t m fits few s.rows
 sound-move script S t (Write u x value) fits few s = sound-write script S t u x value fits s.rows
-sound-move script S t (Advance u) fits few s = sound-advance script S t u fits (subst (λ (y : ObjNo). total weight (owed_of S y) + 4 ≤ 12) (sym fits.0) few) (subst (λ (y : ObjNo). y.0 < length S.threads) (sym fits.0) s.inside) s.rows
+sound-move script S t (Advance u) fits few s = sound-advance script S t u fits (subst (λ (y : ObjNo). total weight (owed_of S y) + 4 ≤ 12) (sym fits.0) few) (subst (λ (y : ObjNo). y.0 < length S.references.threads) (sym fits.0) s.inside) s.rows
 sound-move script S t (Wait u what) fits few s = sound-wait script S t u what fits s.rows
 sound-move script S t (Wake u) fits few s = sound-wake script S t u fits s.rows
 sound-move script S t (SetPriority u priority) fits few s = sound-priority script S t u priority fits s.rows
@@ -67,11 +67,11 @@ sound-pay script S t (Sweep o) rest e s = sound-pay_sweep script S t o rest e s.
 
 -- a move adds so much at most to the weight of what the thread owes
 pub weight-move : (script : Script) (S : State) (t : ObjNo) (m : Move) → FitsMove script t m S → total weight (owed_of (moved t m S) t) ≤ total weight (owed_of S t) + most_owed m
-weight-move script S t (Lose h o) fits = let a = weight-owing S.owed t (owed_by_close (dies S o) o (link_of S o)) in let b = close_weight (dies S o) o (link_of S o) in omega arith
+weight-move script S t (Lose h o) fits = let a = weight-owing S.references.owed t (owed_by_close (dies S o) o (link_of S o)) in let b = close_weight (dies S o) o (link_of S o) in omega arith
 weight-move script S t (Advance u) fits = subst (λ (y : ObjNo). total weight (owed_of (moved t (Advance u) S) y) ≤ total weight (owed_of S y) + 4) fits.0
-    (let a = weight-owing S.owed u (owed_use u (use_of S u)) in let b = use_weight u (use_of S u) in omega arith)
+    (let a = weight-owing S.references.owed u (owed_use u (use_of S u)) in let b = use_weight u (use_of S u) in omega arith)
 weight-move script S t (PutDown u) fits = subst (λ (y : ObjNo). total weight (owed_of (moved t (PutDown u) S) y) ≤ total weight (owed_of S y) + 4) fits.0
-    (let a = weight-owing S.owed u (owed_use u (use_of S u)) in let b = use_weight u (use_of S u) in omega arith)
+    (let a = weight-owing S.references.owed u (owed_use u (use_of S u)) in let b = use_weight u (use_of S u) in omega arith)
 weight-move script S t (Messages m) fits = message_weight S t m
 weight-move script S t (Locks m) fits = lock_weight script S t m fits
 weight-move script S t (Death m) fits = death_weight S t m

@@ -42,12 +42,12 @@ duties_le o [] = omega arith
 duties_le o (what ∷ rest) = let a = owed_le o what in let b = duties_le o rest in omega arith
 
 -- a thread holds a mutex once at most
-held_le : (script : Script) (S : State) → AreRows script S → (o : ObjNo) (k : ℕ) → total (mutex_names o) (slice_index_or S.mutexes k []) ≤ 1
-held_le script S rows o k = elim (cases_lt 0 (times_held S.mutexes (record { 0 = k }) o)) as (λ _. total (mutex_names o) (slice_index_or S.mutexes k []) ≤ 1) [
+held_le : (script : Script) (S : State) → AreRows script S → (o : ObjNo) (k : ℕ) → total (mutex_names o) (slice_index_or S.synchronization.mutexes k []) ≤ 1
+held_le script S rows o k = elim (cases_lt 0 (times_held S.synchronization.mutexes (record { 0 = k }) o)) as (λ _. total (mutex_names o) (slice_index_or S.synchronization.mutexes k []) ≤ 1) [
   | inl some ↦
-      let own = rows.locks.held (record { 0 = k }) o some in
-      let once = rows.locks.owned o own.owner own.is in
-      let same : times_held S.mutexes own.owner.thread o ≡ total (mutex_names o) (slice_index_or S.mutexes k []) = ap (λ (n : ℕ). total (mutex_names o) (slice_index_or S.mutexes n [])) own.thread in omega arith
+      let own = rows.synchronization.locks.held (record { 0 = k }) o some in
+      let once = rows.synchronization.locks.owned o own.owner own.is in
+      let same : times_held S.synchronization.mutexes own.owner.thread o ≡ total (mutex_names o) (slice_index_or S.synchronization.mutexes k []) = ap (λ (n : ℕ). total (mutex_names o) (slice_index_or S.synchronization.mutexes n [])) own.thread in omega arith
   | inr none ↦ omega arith
 ]
 
@@ -73,25 +73,25 @@ messages_le o (message ∷ rest) = let a = same_le message.row.session o in let 
 -- from a session and 2 from a message
 pub count_small : (script : Script) (S : State) → AreRows script S → (o : ObjNo) → count_of S o < 65536
 count_small script S rows o =
-    let handles : total (total (slot_names o)) S.handles ≤ 256 * length S.handles = total_at_most (total (slot_names o)) 256 S.handles [] (λ k inside.
-    let few : total (slot_names o) (slice_index_or S.handles k []) ≤ 1 * length (slice_index_or S.handles k []) = total_at_most (slot_names o) 1 (slice_index_or S.handles k []) fresh_slot (λ i _. option_le o _) in
-    let size : length (slice_index_or S.handles k []) ≡ 256 = (rows.tables k inside).size in
+    let handles : total (total (slot_names o)) S.references.handles ≤ 256 * length S.references.handles = total_at_most (total (slot_names o)) 256 S.references.handles [] (λ k inside.
+    let few : total (slot_names o) (slice_index_or S.references.handles k []) ≤ 1 * length (slice_index_or S.references.handles k []) = total_at_most (slot_names o) 1 (slice_index_or S.references.handles k []) fresh_slot (λ i _. option_le o _) in
+    let size : length (slice_index_or S.references.handles k []) ≡ 256 = (rows.references.tables k inside).size in
     omega arith) in
-    let threads : total (thread_names o) S.threads ≤ 2 * length S.threads = total_at_most (thread_names o) 2 S.threads None (λ k _. thread_le o _) in
-    let owed : total (total (owed_names o)) S.owed ≤ 12 * length S.owed = total_at_most (total (owed_names o)) 12 S.owed [] (λ k _.
-    let few = duties_le o (slice_index_or S.owed k []) in
-    let weighs : total weight (slice_index_or S.owed k []) ≤ 12 = rows.duties.few k in
+    let threads : total (thread_names o) S.references.threads ≤ 2 * length S.references.threads = total_at_most (thread_names o) 2 S.references.threads None (λ k _. thread_le o _) in
+    let owed : total (total (owed_names o)) S.references.owed ≤ 12 * length S.references.owed = total_at_most (total (owed_names o)) 12 S.references.owed [] (λ k _.
+    let few = duties_le o (slice_index_or S.references.owed k []) in
+    let weighs : total weight (slice_index_or S.references.owed k []) ≤ 12 = rows.references.duties.few k in
     omega arith) in
     let kernel : kernel_names S o ≤ 1 = holds_le (thread_of S o) in
-    let mutexes : total (total (mutex_names o)) S.mutexes ≤ 1 * length S.mutexes = total_at_most (total (mutex_names o)) 1 S.mutexes [] (λ k _. held_le script S rows o k) in
-    let owned : total (total (mutex_names o)) S.owned ≤ 1 * length S.owned = total_at_most (total (mutex_names o)) 1 S.owned [] (λ k _. rows.servers.once (record { 0 = k }) o) in
-    let sessions : total (session_names o) S.servers.sessions ≤ 1 * length S.servers.sessions = total_at_most (session_names o) 1 S.servers.sessions None (λ k _. session_le o _) in
-    let messages = messages_le o S.messages.outstanding in
-    let few = messages_few (IsUntold S.requests S.logons) (λ u s untold. untold.0.status) S.threads S.servers S.messages rows.messages rows.servers.sessions_sized in
-    let sessions_sized = rows.servers.sessions_sized in
-    let owned_sized = rows.servers.owned_sized in
-    let held = rows.locks.mutexes_sized in
-    let tables = rows.sized.tables in
-    let duties = rows.sized.duties in
-    let threads_few = rows.sized.threads_few in
+    let mutexes : total (total (mutex_names o)) S.synchronization.mutexes ≤ 1 * length S.synchronization.mutexes = total_at_most (total (mutex_names o)) 1 S.synchronization.mutexes [] (λ k _. held_le script S rows o k) in
+    let owned : total (total (mutex_names o)) S.serving.owned ≤ 1 * length S.serving.owned = total_at_most (total (mutex_names o)) 1 S.serving.owned [] (λ k _. rows.serving.servers.once (record { 0 = k }) o) in
+    let sessions : total (session_names o) S.serving.servers.sessions ≤ 1 * length S.serving.servers.sessions = total_at_most (session_names o) 1 S.serving.servers.sessions None (λ k _. session_le o _) in
+    let messages = messages_le o S.serving.messages.outstanding in
+    let few = messages_few (IsUntold S.synchronization.requests S.synchronization.logons) (λ u s untold. untold.0.status) S.references.threads S.serving.servers S.serving.messages rows.serving.messages rows.serving.servers.sessions_sized in
+    let sessions_sized = rows.serving.servers.sessions_sized in
+    let owned_sized = rows.serving.servers.owned_sized in
+    let held = rows.synchronization.locks.mutexes_sized in
+    let tables = rows.references.sized.tables in
+    let duties = rows.references.sized.duties in
+    let threads_few = rows.references.sized.threads_few in
     omega arith

@@ -78,7 +78,7 @@ told_few (Requests m) S = request_few m
 told_few (Locks m) S = lock_few m
 told_few (Death m) S = death_few m
 told_few (Servers m) S = server_few m
-told_few (Messages m) S = message_few m S.messages
+told_few (Messages m) S = message_few m S.serving.messages
 told_few _ S = omega arith
 
 pub tell_few : (t : ObjNo) (ms : List Move) (S : State) → length (tell t ms S) ≤ total most_told ms

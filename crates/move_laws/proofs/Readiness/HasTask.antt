@@ -47,6 +47,6 @@ some-task true None None stage has role call own = some-stage stage has role cal
 some-task false at (Some what) stage has role call own = refl
 some-task false at None stage has role call own = some-stage stage has role call own
 
-pub task_is : (script : Script) (S : State) (u : ObjNo) (row : Option ThreadRow) → is_some (task_of_row script S u row) ≡ has_task script S.deferred (first_owed S u) row
+pub task_is : (script : Script) (S : State) (u : ObjNo) (row : Option ThreadRow) → is_some (task_of_row script S u row) ≡ has_task script S.synchronization.deferred (first_owed S u) row
 task_is script S u None = refl
-task_is script S u (Some row) = some-task (is_returning row.part) (instruction script row) (first_owed S u) row.stage (holdings S u row) row.role (next_call S.deferred row.role) (work_or (held_servers S u) (step_or_end (is_protected S.nano u) (instruction script row)))
+task_is script S u (Some row) = some-task (is_returning row.part) (instruction script row) (first_owed S u) row.stage (holdings S u row) row.role (next_call S.synchronization.deferred row.role) (work_or (held_servers S u) (step_or_end (is_protected S.synchronization.nano u) (instruction script row)))

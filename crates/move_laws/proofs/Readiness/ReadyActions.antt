@@ -80,7 +80,7 @@ apart-taken_out (SetPriority v priority) qs h = apart-filter (λ q. not (q.0 == 
 apart-taken_out (Pay (Sweep o)) qs h = apart-filter (λ q. not (q.0 == o.0)) qs h
 apart-taken_out _ qs h = h
 
-complete-move : (script : Script) (S : State) (t : ObjNo) (m : Move) (qs : List ObjNo) → AreThreads script S.threads → JoinsOwnQueue m S → IsComplete script S qs → IsComplete script (moved t m S) (arrive script (moved t m S) (touched t m) (taken_out m qs))
+complete-move : (script : Script) (S : State) (t : ObjNo) (m : Move) (qs : List ObjNo) → AreThreads script S.references.threads → JoinsOwnQueue m S → IsComplete script S qs → IsComplete script (moved t m S) (arrive script (moved t m S) (touched t m) (taken_out m qs))
 complete-move script S t m qs threads joins h = record {
   listed = λ u ready. elim (cases_Bool (is_listed (touched t m) u)) as (λ _. is_listed (arrive script (moved t m S) (touched t m) (taken_out m qs)) u ≡ true) [
     | inl there ↦ arrive-has script (moved t m S) (touched t m) (taken_out m qs) u there ready
@@ -100,7 +100,7 @@ complete-moves script S t (m ∷ ms) qs fits few s h =
     let one = sound-move script S t m fits.0 (omega arith) s in
     let w = weight-move script S t m fits.0 in
     complete-moves script (moved t m S) t ms (arrive script (moved t m S) (touched t m) (taken_out m qs)) fits.1 (omega arith) (sane-after script S (moved t m S) t (told m S) s one)
-    (complete-move script S t m qs s.rows.threads (joins_own script S t m fits.0) h)
+    (complete-move script S t m qs s.rows.references.threads (joins_own script S t m fits.0) h)
 
 -- those of them that are ready are the ready ones
 ready-filter : (script : Script) (S : State) (qs : List ObjNo) → IsComplete script S qs → IsReadyList script S (filter (is_ready script S) qs)
@@ -122,7 +122,7 @@ pub ready-moves : (script : Script) (S : State) (t : ObjNo) (ms : List Move) (qs
 ready-moves script S t ms qs fits few s h = ready-filter script (perform t ms S) (arrivals script t ms S qs) (complete-moves script S t ms qs fits few s (complete-of script S qs h))
 
 -- so does a payment, and so does no move
-pub ready-pay : (script : Script) (S : State) (t : ObjNo) (what : Owed) (qs : List ObjNo) → AreThreads script S.threads → IsReadyList script S qs → IsReadyList script (perform t (Pay what ∷ []) S) (ready_after script t (Pay what ∷ []) S qs)
+pub ready-pay : (script : Script) (S : State) (t : ObjNo) (what : Owed) (qs : List ObjNo) → AreThreads script S.references.threads → IsReadyList script S qs → IsReadyList script (perform t (Pay what ∷ []) S) (ready_after script t (Pay what ∷ []) S qs)
 ready-pay script S t what qs threads h = ready-filter script (moved t (Pay what) S) (arrivals script t (Pay what ∷ []) S qs) (complete-move script S t (Pay what) qs threads tt (complete-of script S qs h))
 
 pub ready-none : (script : Script) (S : State) (t : ObjNo) (qs : List ObjNo) → IsReadyList script S qs → IsReadyList script S (ready_after script t [] S qs)

@@ -50,13 +50,13 @@ holds_some r f u is = by (held_by r u) refl
     by (Some g) some = refl
 
 -- the holder of a fast mutex waits for nothing, is protected from being stopped, and has a task
-pub holder_ready : (script : Script) (S : State) (f : ℕ) (u : ObjNo) → AreRows script S → holder_of S.nano f ≡ Some u → is_ready script S u ≡ true
+pub holder_ready : (script : Script) (S : State) (f : ℕ) (u : ObjNo) → AreRows script S → holder_of S.synchronization.nano f ≡ Some u → is_ready script S u ≡ true
 holder_ready script S f u rows is =
-    let held = rows.nano.holders f u is in
-    let protected : is_protected S.nano u ≡ true = or_left (is_some (held_by S.nano u)) (not (critical_count S.nano u == 0)) (holds_some S.nano f u is) in
+    let held = rows.synchronization.nano.holders f u is in
+    let protected : is_protected S.synchronization.nano u ≡ true = or_left (is_some (held_by S.synchronization.nano u)) (not (critical_count S.synchronization.nano u == 0)) (holds_some S.synchronization.nano f u is) in
     let waits : is_waiting S u ≡ false = ap is_waiting_row held.is ∙ ap is_wait held.waits in
-    let stopped : is_stopped S u ≡ false = and_right (not (suspend_count S.nano u == 0)) (not (is_protected S.nano u)) (not_from_true (is_protected S.nano u) protected) in
-    let task : is_some (task_of script S u) ≡ true = task_is script S u (thread_of S u) ∙ ap (has_task script S.deferred (first_owed S u)) held.is ∙ live_has_task script S.deferred (first_owed S u) held.row held.live held.serves in
+    let stopped : is_stopped S u ≡ false = and_right (not (suspend_count S.synchronization.nano u == 0)) (not (is_protected S.synchronization.nano u)) (not_from_true (is_protected S.synchronization.nano u) protected) in
+    let task : is_some (task_of script S u) ≡ true = task_is script S u (thread_of S u) ∙ ap (has_task script S.synchronization.deferred (first_owed S u)) held.is ∙ live_has_task script S.synchronization.deferred (first_owed S u) held.row held.live held.serves in
     and_from (not (is_waiting S u) && not (is_stopped S u)) (is_some (task_of script S u)) (and_from (not (is_waiting S u)) (not (is_stopped S u)) (not_from_false (is_waiting S u) waits) (not_from_false (is_stopped S u) stopped)) task
 
 -- a thread that is wanted to give a fast mutex up holds one
@@ -65,13 +65,13 @@ holds_wanted r None u e = absurd (cc)
 holds_wanted r (Some f) u e = (f, e)
 
 -- whoever acts in the place of a thread that is ready is able
-pub place_able : (script : Script) (S : State) (t : ObjNo) → AreRows script S → is_ready script S t ≡ true → is_able script S (in_place_of S.nano t) ≡ true
-place_able script S t rows ready = by (wanted_holder S.nano t) refl
+pub place_able : (script : Script) (S : State) (t : ObjNo) → AreRows script S → is_ready script S t ≡ true → is_able script S (in_place_of S.synchronization.nano t) ≡ true
+place_able script S t rows ready = by (wanted_holder S.synchronization.nano t) refl
   where
-    by : (holder : Option ObjNo) → wanted_holder S.nano t ≡ holder → is_able script S (or_self t holder) ≡ true
-    by None e = and_from (is_ready script S t) (is_none (wanted_holder S.nano t)) ready (ap is_none e)
+    by : (holder : Option ObjNo) → wanted_holder S.synchronization.nano t ≡ holder → is_able script S (or_self t holder) ≡ true
+    by None e = and_from (is_ready script S t) (is_none (wanted_holder S.synchronization.nano t)) ready (ap is_none e)
     by (Some u) e =
-        let holds = holds_wanted S.nano (want_of S.nano t) u e in
-        let held = rows.nano.holders holds.0 u holds.1 in
-        let wants : is_none (wanted_holder S.nano u) ≡ true = ap (λ (want : Option ℕ). is_none (option_and_then (holder_of S.nano) want)) held.wants in
-        and_from (is_ready script S u) (is_none (wanted_holder S.nano u)) (holder_ready script S holds.0 u rows holds.1) wants
+        let holds = holds_wanted S.synchronization.nano (want_of S.synchronization.nano t) u e in
+        let held = rows.synchronization.nano.holders holds.0 u holds.1 in
+        let wants : is_none (wanted_holder S.synchronization.nano u) ≡ true = ap (λ (want : Option ℕ). is_none (option_and_then (holder_of S.synchronization.nano) want)) held.wants in
+        and_from (is_ready script S u) (is_none (wanted_holder S.synchronization.nano u)) (holder_ready script S holds.0 u rows holds.1) wants

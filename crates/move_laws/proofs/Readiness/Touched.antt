@@ -51,10 +51,10 @@ ready_row script calls r u first row = not (is_waiting_row row) && not (not (sus
 
 -- and whether a thread of a state is
 abbrev ready_of : Script → State → ObjNo → Bool
-ready_of script S u = ready_row script S.deferred S.nano u (first_owed S u) (thread_of S u)
+ready_of script S u = ready_row script S.synchronization.deferred S.synchronization.nano u (first_owed S u) (thread_of S u)
 
 ready_is : (script : Script) (S : State) (u : ObjNo) → is_ready script S u ≡ ready_of script S u
-ready_is script S u = ap (λ (some : Bool). not (is_waiting_row (thread_of S u)) && not (not (suspend_count S.nano u == 0) && not (is_protected S.nano u)) && some) (task_is script S u (thread_of S u))
+ready_is script S u = ap (λ (some : Bool). not (is_waiting_row (thread_of S u)) && not (not (suspend_count S.synchronization.nano u == 0) && not (is_protected S.synchronization.nano u)) && some) (task_is script S u (thread_of S u))
 
 -- a change of a row that leaves what the thread waits for and where its instruction is
 record KeepsTask (f : ThreadRow → ThreadRow) : Type 0 where
@@ -104,8 +104,8 @@ owed-locks owed t (Free o v best) u none = owed-other owed v u _ (apart_of v u n
 owed-locks owed t _ u none = refl
 
 -- the same duties of a thread, and a row with which it is as ready
-ready-by : (script : Script) (S T : State) (u : ObjNo) → T.deferred ≡ S.deferred → T.nano ≡ S.nano → get_or T.owed u.0 [] ≡ get_or S.owed u.0 [] → ready_row script S.deferred S.nano u (first_owed S u) (thread_of T u) ≡ ready_row script S.deferred S.nano u (first_owed S u) (thread_of S u) → ready_of script T u ≡ ready_of script S u
-ready-by script S T u calls nano owed threads = ap (λ (c : DeferredRows). ready_row script c T.nano u (first_owed T u) (thread_of T u)) calls ∙ ap (λ (r : NanoRows). ready_row script S.deferred r u (first_owed T u) (thread_of T u)) nano ∙ ap (λ (what : List Owed). ready_row script S.deferred S.nano u (first_of what) (thread_of T u)) owed ∙ threads
+ready-by : (script : Script) (S T : State) (u : ObjNo) → T.synchronization.deferred ≡ S.synchronization.deferred → T.synchronization.nano ≡ S.synchronization.nano → get_or T.references.owed u.0 [] ≡ get_or S.references.owed u.0 [] → ready_row script S.synchronization.deferred S.synchronization.nano u (first_owed S u) (thread_of T u) ≡ ready_row script S.synchronization.deferred S.synchronization.nano u (first_owed S u) (thread_of S u) → ready_of script T u ≡ ready_of script S u
+ready-by script S T u calls nano owed threads = ap (λ (c : DeferredRows). ready_row script c T.synchronization.nano u (first_owed T u) (thread_of T u)) calls ∙ ap (λ (r : NanoRows). ready_row script S.synchronization.deferred r u (first_owed T u) (thread_of T u)) nano ∙ ap (λ (what : List Owed). ready_row script S.synchronization.deferred S.synchronization.nano u (first_of what) (thread_of T u)) owed ∙ threads
 
 -- what other threads hold, and how often they are suspended and in a critical section
 record SameRows (r new : NanoRows) (u : ObjNo) : Type 0 where
@@ -131,15 +131,15 @@ nano-other r (Resume t) u apart = record { suspensions = count-other r.suspensio
 nano-other r (Release t) u apart = record { suspensions = count-other r.suspensions t u _ apart; sections = refl; holds = refl }
 nano-other r _ u apart = record { suspensions = refl; sections = refl; holds = refl }
 
-ready-nano : (script : Script) (S : State) (m : NanoMove) (u : ObjNo) → u ≢ nano_thread m → ready_row script S.deferred (nano_moved m S.nano) u (first_owed S u) (thread_of S u) ≡ ready_row script S.deferred S.nano u (first_owed S u) (thread_of S u)
+ready-nano : (script : Script) (S : State) (m : NanoMove) (u : ObjNo) → u ≢ nano_thread m → ready_row script S.synchronization.deferred (nano_moved m S.synchronization.nano) u (first_owed S u) (thread_of S u) ≡ ready_row script S.synchronization.deferred S.synchronization.nano u (first_owed S u) (thread_of S u)
 ready-nano script S m u apart =
-    let same = nano-other S.nano m u apart in
-    let protected : is_protected (nano_moved m S.nano) u ≡ is_protected S.nano u = rw (same.holds, same.sections) refl in
+    let same = nano-other S.synchronization.nano m u apart in
+    let protected : is_protected (nano_moved m S.synchronization.nano) u ≡ is_protected S.synchronization.nano u = rw (same.holds, same.sections) refl in
     rw (same.suspensions, protected) refl
 
 -- a call joins its own queue
 abbrev pub JoinsOwnQueue : Move → State → Type 0
-JoinsOwnQueue (Deferred (Add dfc queue)) S = queue ≡ queue_of S.deferred dfc
+JoinsOwnQueue (Deferred (Add dfc queue)) S = queue ≡ queue_of S.synchronization.deferred dfc
 JoinsOwnQueue _ S = Unit {0}
 
 -- another queue, where one changes
@@ -148,74 +148,74 @@ queue-other queues i q x true apart = refl
 queue-other queues i q x false apart = get_or-set_other queues i q x [] apart
 
 -- the call that comes next in the queue of a thread that a move doesn't touch
-next-other : (S : State) (t : ObjNo) (m : DeferredMove) (u : ObjNo) (q : ℕ) → JoinsOwnQueue (Deferred m) S → u.0 ≡ 1 + q → is_listed (deferred_threads m) u ≡ false → next_of (deferred_moved m S.deferred) q ≡ next_of S.deferred q
+next-other : (S : State) (t : ObjNo) (m : DeferredMove) (u : ObjNo) (q : ℕ) → JoinsOwnQueue (Deferred m) S → u.0 ≡ 1 + q → is_listed (deferred_threads m) u ≡ false → next_of (deferred_moved m S.synchronization.deferred) q ≡ next_of S.synchronization.deferred q
 next-other S t (Add dfc queue) u q joins own none =
     let apart = apart_of (thread_of_queue queue) u none in
-    ap (first_of_greatest (priority_of S.deferred)) (queue-other S.deferred.queues (queue_of S.deferred dfc) q _ (is_queued S.deferred (item.Move dfc)) (λ e. apart (omega arith)))
+    ap (first_of_greatest (priority_of S.synchronization.deferred)) (queue-other S.synchronization.deferred.queues (queue_of S.synchronization.deferred dfc) q _ (is_queued S.synchronization.deferred (item.Move dfc)) (λ e. apart (omega arith)))
 next-other S t (TakeCall queue) u q joins own none =
     let apart = apart_of (thread_of_queue queue) u none in
-    ap (first_of_greatest (priority_of S.deferred)) (get_or-set_other S.deferred.queues queue q _ [] (λ e. apart (omega arith)))
+    ap (first_of_greatest (priority_of S.synchronization.deferred)) (get_or-set_other S.synchronization.deferred.queues queue q _ [] (λ e. apart (omega arith)))
 next-other S t _ u q joins own none = refl
 
-ready-deferred : (script : Script) (S : State) (t : ObjNo) (m : DeferredMove) (u : ObjNo) → AreThreads script S.threads → JoinsOwnQueue (Deferred m) S → is_listed (deferred_threads m) u ≡ false → ready_of script (moved t (Deferred m) S) u ≡ ready_of script S u
+ready-deferred : (script : Script) (S : State) (t : ObjNo) (m : DeferredMove) (u : ObjNo) → AreThreads script S.references.threads → JoinsOwnQueue (Deferred m) S → is_listed (deferred_threads m) u ≡ false → ready_of script (moved t (Deferred m) S) u ≡ ready_of script S u
 ready-deferred script S t m u threads joins none = by (thread_of S u) refl
   where
-    next : (served : Option ℕ) → ((q : ℕ) → served ≡ Some q → u.0 ≡ 1 + q) → option_and_then (next_of (deferred_moved m S.deferred)) served ≡ option_and_then (next_of S.deferred) served
+    next : (served : Option ℕ) → ((q : ℕ) → served ≡ Some q → u.0 ≡ 1 + q) → option_and_then (next_of (deferred_moved m S.synchronization.deferred)) served ≡ option_and_then (next_of S.synchronization.deferred) served
     next None own = refl
     next (Some q) own = next-other S t m u q joins (own q refl) none
 
-    by : (row : Option ThreadRow) → thread_of S u ≡ row → ready_row script (deferred_moved m S.deferred) S.nano u (first_owed S u) row ≡ ready_row script S.deferred S.nano u (first_owed S u) row
+    by : (row : Option ThreadRow) → thread_of S u ≡ row → ready_row script (deferred_moved m S.synchronization.deferred) S.synchronization.nano u (first_owed S u) row ≡ ready_row script S.synchronization.deferred S.synchronization.nano u (first_owed S u) row
     by None is = refl
     by (Some row) is =
-        let same : next_call (deferred_moved m S.deferred) row.role ≡ next_call S.deferred row.role = next (served_queue row.role) (λ q serves. threads.servers u.0 q row is serves) in
-        ap (λ (call : Option ℕ). not (is_waiting_row (Some row)) && not (not (suspend_count S.nano u == 0) && not (is_protected S.nano u)) && is_some (return_or (is_returning row.part) (instruction script row) (pay_or (first_owed S u) (by_stage row.stage [] (live_task row.role call End))))) same
+        let same : next_call (deferred_moved m S.synchronization.deferred) row.role ≡ next_call S.synchronization.deferred row.role = next (served_queue row.role) (λ q serves. threads.servers u.0 q row is serves) in
+        ap (λ (call : Option ℕ). not (is_waiting_row (Some row)) && not (not (suspend_count S.synchronization.nano u == 0) && not (is_protected S.synchronization.nano u)) && is_some (return_or (is_returning row.part) (instruction script row) (pay_or (first_owed S u) (by_stage row.stage [] (live_task row.role call End))))) same
 
-ready-untouched : (script : Script) (S : State) (t : ObjNo) (m : Move) (u : ObjNo) → AreThreads script S.threads → JoinsOwnQueue m S → is_listed (touched t m) u ≡ false → ready_of script (moved t m S) u ≡ ready_of script S u
-ready-untouched script S t (Make kind name h) u threads joins none = ready-gain script S.deferred S.nano (first_owed S u) S.threads h (next_object S) u
-ready-untouched script S t (Gain h o) u threads joins none = ready-gain script S.deferred S.nano (first_owed S u) S.threads h o u
+ready-untouched : (script : Script) (S : State) (t : ObjNo) (m : Move) (u : ObjNo) → AreThreads script S.references.threads → JoinsOwnQueue m S → is_listed (touched t m) u ≡ false → ready_of script (moved t m S) u ≡ ready_of script S u
+ready-untouched script S t (Make kind name h) u threads joins none = ready-gain script S.synchronization.deferred S.synchronization.nano (first_owed S u) S.references.threads h (next_object S) u
+ready-untouched script S t (Gain h o) u threads joins none = ready-gain script S.synchronization.deferred S.synchronization.nano (first_owed S u) S.references.threads h o u
 ready-untouched script S t (Lose h o) u threads joins none =
-    ready-by script S (moved t (Lose h o) S) u refl refl (owed-other S.owed t u _ (apart_of t u none))
-    (ready-closed script S.deferred S.nano (first_owed S u) (threads_lose h S.threads) (dies S o) o u ∙ ready-lose script S.deferred S.nano (first_owed S u) S.threads h u)
-ready-untouched script S t (Find v o) u threads joins none = ready-with_row script S.deferred S.nano (first_owed S u) S.threads v (with_found o) u (record { waiting = λ row. refl; task = λ script calls first row. refl })
+    ready-by script S (moved t (Lose h o) S) u refl refl (owed-other S.references.owed t u _ (apart_of t u none))
+    (ready-closed script S.synchronization.deferred S.synchronization.nano (first_owed S u) (threads_lose h S.references.threads) (dies S o) o u ∙ ready-lose script S.synchronization.deferred S.synchronization.nano (first_owed S u) S.references.threads h u)
+ready-untouched script S t (Find v o) u threads joins none = ready-with_row script S.synchronization.deferred S.synchronization.nano (first_owed S u) S.references.threads v (with_found o) u (record { waiting = λ row. refl; task = λ script calls first row. refl })
 ready-untouched script S t (Miss o) u threads joins none = refl
-ready-untouched script S t (GoOn v part) u threads joins none = ap (ready_row script S.deferred S.nano u (first_owed S u)) (row-other S.threads v (with_part part) u.0 (apart_of v u none))
-ready-untouched script S t (Keep v number) u threads joins none = ready-with_row script S.deferred S.nano (first_owed S u) S.threads v (with_kept number) u (record { waiting = λ row. refl; task = λ script calls first row. refl })
-ready-untouched script S t (WriteMessage v y number) u threads joins none = ready-with_row script S.deferred S.nano (first_owed S u) S.threads v (with_message y number) u (record { waiting = λ row. refl; task = λ script calls first row. refl })
+ready-untouched script S t (GoOn v part) u threads joins none = ap (ready_row script S.synchronization.deferred S.synchronization.nano u (first_owed S u)) (row-other S.references.threads v (with_part part) u.0 (apart_of v u none))
+ready-untouched script S t (Keep v number) u threads joins none = ready-with_row script S.synchronization.deferred S.synchronization.nano (first_owed S u) S.references.threads v (with_kept number) u (record { waiting = λ row. refl; task = λ script calls first row. refl })
+ready-untouched script S t (WriteMessage v y number) u threads joins none = ready-with_row script S.synchronization.deferred S.synchronization.nano (first_owed S u) S.references.threads v (with_message y number) u (record { waiting = λ row. refl; task = λ script calls first row. refl })
 ready-untouched script S t (PutDown v) u threads joins none =
-    ready-by script S (moved t (PutDown v) S) u refl refl (owed-other S.owed v u _ (apart_of v u none))
-    (ap (ready_row script S.deferred S.nano u (first_owed S u)) (row-other S.threads v (with_use None) u.0 (apart_of v u none)))
+    ready-by script S (moved t (PutDown v) S) u refl refl (owed-other S.references.owed v u _ (apart_of v u none))
+    (ap (ready_row script S.synchronization.deferred S.synchronization.nano u (first_owed S u)) (row-other S.references.threads v (with_use None) u.0 (apart_of v u none)))
 ready-untouched script S t (Servers m) u threads joins none = refl
-ready-untouched script S t (Messages (Finish m code)) u threads joins none = ready-by script S (moved t (Messages (Finish m code)) S) u refl refl (owed-other S.owed t u _ (apart_of t u none)) refl
+ready-untouched script S t (Messages (Finish m code)) u threads joins none = ready-by script S (moved t (Messages (Finish m code)) S) u refl refl (owed-other S.references.owed t u _ (apart_of t u none)) refl
 ready-untouched script S t (Messages m) u threads joins none = refl
-ready-untouched script S t (Write v x value) u threads joins none = ready-with_row script S.deferred S.nano (first_owed S u) S.threads v (with_register x value) u (record { waiting = λ row. refl; task = λ script calls first row. refl })
+ready-untouched script S t (Write v x value) u threads joins none = ready-with_row script S.synchronization.deferred S.synchronization.nano (first_owed S u) S.references.threads v (with_register x value) u (record { waiting = λ row. refl; task = λ script calls first row. refl })
 ready-untouched script S t (Advance v) u threads joins none =
-    ready-by script S (moved t (Advance v) S) u refl refl (owed-other S.owed v u _ (apart_of v u none))
-    (ap (ready_row script S.deferred S.nano u (first_owed S u)) (row-other S.threads v advanced u.0 (apart_of v u none)))
-ready-untouched script S t (Wait v what) u threads joins none = ap (ready_row script S.deferred S.nano u (first_owed S u)) (row-other S.threads v (with_waiting what) u.0 (apart_of v u none))
-ready-untouched script S t (Wake v) u threads joins none = ap (ready_row script S.deferred S.nano u (first_owed S u)) (row-other S.threads v (with_waiting waiting.Nothing) u.0 (apart_of v u none))
-ready-untouched script S t (SetPriority v priority) u threads joins none = ap (ready_row script S.deferred S.nano u (first_owed S u)) (row-other S.threads v (with_priority priority) u.0 (apart_of v u none))
+    ready-by script S (moved t (Advance v) S) u refl refl (owed-other S.references.owed v u _ (apart_of v u none))
+    (ap (ready_row script S.synchronization.deferred S.synchronization.nano u (first_owed S u)) (row-other S.references.threads v advanced u.0 (apart_of v u none)))
+ready-untouched script S t (Wait v what) u threads joins none = ap (ready_row script S.synchronization.deferred S.synchronization.nano u (first_owed S u)) (row-other S.references.threads v (with_waiting what) u.0 (apart_of v u none))
+ready-untouched script S t (Wake v) u threads joins none = ap (ready_row script S.synchronization.deferred S.synchronization.nano u (first_owed S u)) (row-other S.references.threads v (with_waiting waiting.Nothing) u.0 (apart_of v u none))
+ready-untouched script S t (SetPriority v priority) u threads joins none = ap (ready_row script S.synchronization.deferred S.synchronization.nano u (first_owed S u)) (row-other S.references.threads v (with_priority priority) u.0 (apart_of v u none))
 ready-untouched script S t (Nano m) u threads joins none = ready-nano script S m u (λ at. apart_of (nano_thread m) u none (ap (λ (v : ObjNo). v.0) (sym at)))
 ready-untouched script S t (Deferred m) u threads joins none = ready-deferred script S t m u threads joins none
 ready-untouched script S t (Requests m) u threads joins none = refl
-ready-untouched script S t (Locks m) u threads joins none = ready-by script S (moved t (Locks m) S) u refl refl (owed-locks S.owed t m u none) refl
+ready-untouched script S t (Locks m) u threads joins none = ready-by script S (moved t (Locks m) S) u refl refl (owed-locks S.references.owed t m u none) refl
 ready-untouched script S t (Logons m) u threads joins none = refl
 ready-untouched script S t (Death (Bury v)) u threads joins none =
     let parts = or_parts (t.0 == u.0) (is_listed (v ∷ []) u) none in
-    ready-by script S (moved t (Death (Bury v)) S) u refl refl (owed-other S.owed t u _ (eqb-false t.0 u.0 parts.0))
-    (ap (ready_row script S.deferred S.nano u (first_owed S u)) (row-other S.threads v (death_row (Bury v)) u.0 (apart_of v u parts.1)))
-ready-untouched script S t (Death (Note v exit)) u threads joins none = ap (ready_row script S.deferred S.nano u (first_owed S u)) (row-other S.threads v (death_row (Note v exit)) u.0 (apart_of v u none))
-ready-untouched script S t (Death (Doom v exit)) u threads joins none = ap (ready_row script S.deferred S.nano u (first_owed S u)) (row-other S.threads v (death_row (Doom v exit)) u.0 (apart_of v u none))
-ready-untouched script S t (Death (Clean v)) u threads joins none = ap (ready_row script S.deferred S.nano u (first_owed S u)) (row-other S.threads v (death_row (Clean v)) u.0 (apart_of v u none))
+    ready-by script S (moved t (Death (Bury v)) S) u refl refl (owed-other S.references.owed t u _ (eqb-false t.0 u.0 parts.0))
+    (ap (ready_row script S.synchronization.deferred S.synchronization.nano u (first_owed S u)) (row-other S.references.threads v (death_row (Bury v)) u.0 (apart_of v u parts.1)))
+ready-untouched script S t (Death (Note v exit)) u threads joins none = ap (ready_row script S.synchronization.deferred S.synchronization.nano u (first_owed S u)) (row-other S.references.threads v (death_row (Note v exit)) u.0 (apart_of v u none))
+ready-untouched script S t (Death (Doom v exit)) u threads joins none = ap (ready_row script S.synchronization.deferred S.synchronization.nano u (first_owed S u)) (row-other S.references.threads v (death_row (Doom v exit)) u.0 (apart_of v u none))
+ready-untouched script S t (Death (Clean v)) u threads joins none = ap (ready_row script S.synchronization.deferred S.synchronization.nano u (first_owed S u)) (row-other S.references.threads v (death_row (Clean v)) u.0 (apart_of v u none))
 ready-untouched script S t (Fill p at long byte) u threads joins none = refl
 ready-untouched script S t (Copies m) u threads joins none = refl
 ready-untouched script S t (Pay (Close h o)) u threads joins none =
     let apart = apart_of t u none in
-    ready-by script S (moved t (Pay (Close h o)) S) u refl refl (get_or-set_other _ t.0 u.0 _ [] (λ e. apart (sym e)) ∙ owed-other S.owed t u _ apart)
-    (ready-closed script S.deferred S.nano (first_owed S u) S.threads (dies S o) o u)
+    ready-by script S (moved t (Pay (Close h o)) S) u refl refl (get_or-set_other _ t.0 u.0 _ [] (λ e. apart (sym e)) ∙ owed-other S.references.owed t u _ apart)
+    (ready-closed script S.synchronization.deferred S.synchronization.nano (first_owed S u) S.references.threads (dies S o) o u)
 ready-untouched script S t (Pay (Sweep o)) u threads joins none =
     let parts = or_parts (t.0 == u.0) (is_listed (o ∷ []) u) none in
-    ready-by script S (moved t (Pay (Sweep o)) S) u refl refl (owed-other S.owed t u _ (eqb-false t.0 u.0 parts.0))
-    (ap (ready_row script S.deferred S.nano u (first_owed S u)) (get_or-set_other S.threads o.0 u.0 None None (λ e. apart_of o u parts.1 (sym e))))
+    ready-by script S (moved t (Pay (Sweep o)) S) u refl refl (owed-other S.references.owed t u _ (eqb-false t.0 u.0 parts.0))
+    (ap (ready_row script S.synchronization.deferred S.synchronization.nano u (first_owed S u)) (get_or-set_other S.references.threads o.0 u.0 None None (λ e. apart_of o u parts.1 (sym e))))
 
-pub untouched : (script : Script) (S : State) (t : ObjNo) (m : Move) (u : ObjNo) → AreThreads script S.threads → JoinsOwnQueue m S → is_listed (touched t m) u ≡ false → is_ready script (moved t m S) u ≡ is_ready script S u
+pub untouched : (script : Script) (S : State) (t : ObjNo) (m : Move) (u : ObjNo) → AreThreads script S.references.threads → JoinsOwnQueue m S → is_listed (touched t m) u ≡ false → is_ready script (moved t m S) u ≡ is_ready script S u
 untouched script S t m u threads joins none = ready_is script (moved t m S) u ∙ ready-untouched script S t m u threads joins none ∙ sym (ready_is script S u)

@@ -84,46 +84,46 @@ awaited-swept threads o r logons over h = record {
     there k row = set_item (λ (x : Option ThreadRow). x ≡ Some row → get_or threads k None ≡ Some row) threads o k None None (λ at e. absurd (cc)) (λ e. e)
 
 -- other requests, each of a live thread
-awaited-asked : (S : State) (r : RequestRows) → ((d : ℕ) (request : Request) → request_at r d ≡ Some request → IsLiveThread S.threads request.thread) → AreAwaited S.threads S.requests S.logons → AreAwaited S.threads r S.logons
+awaited-asked : (S : State) (r : RequestRows) → ((d : ℕ) (request : Request) → request_at r d ≡ Some request → IsLiveThread S.references.threads request.thread) → AreAwaited S.references.threads S.synchronization.requests S.synchronization.logons → AreAwaited S.references.threads r S.synchronization.logons
 awaited-asked S r each h = record { requests = each; logons = h.logons; waits = h.waits }
 
 -- a request begins
-awaited-begun : (S : State) (d : ℕ) (t : ObjNo) (s : ℕ) (had : Bool) → IsLiveThread S.threads t → AreAwaited S.threads S.requests S.logons → (e : ℕ) (request : Request) → get_or (if had then S.requests.devices else set S.requests.devices d (Some (of_status t s))) e None ≡ Some request → IsLiveThread S.threads request.thread
+awaited-begun : (S : State) (d : ℕ) (t : ObjNo) (s : ℕ) (had : Bool) → IsLiveThread S.references.threads t → AreAwaited S.references.threads S.synchronization.requests S.synchronization.logons → (e : ℕ) (request : Request) → get_or (if had then S.synchronization.requests.devices else set S.synchronization.requests.devices d (Some (of_status t s))) e None ≡ Some request → IsLiveThread S.references.threads request.thread
 awaited-begun S d t s true live h e request at = h.requests e request at
-awaited-begun S d t s false live h e request at = elim (device_is S.requests.devices d (Some (of_status t s)) e request at) as (λ _. IsLiveThread S.threads request.thread) [
-  | inl here ↦ let own : of_status t s ≡ request = (let same = here.1 in cc) in subst (λ (q : Request). IsLiveThread S.threads q.thread) own live
+awaited-begun S d t s false live h e request at = elim (device_is S.synchronization.requests.devices d (Some (of_status t s)) e request at) as (λ _. IsLiveThread S.references.threads request.thread) [
+  | inl here ↦ let own : of_status t s ≡ request = (let same = here.1 in cc) in subst (λ (q : Request). IsLiveThread S.references.threads q.thread) own live
   | inr had ↦ h.requests e request had
 ]
 
 -- a move in the rows of requests
-pub awaited-requests : (S : State) (m : RequestMove) → FitsRequests m S.requests S.logons → IsOfLive m S → AreAwaited S.threads S.requests S.logons → AreAwaited S.threads (request_moved m S.requests) S.logons
-awaited-requests S (Begin d t s) fits live h = awaited-asked S _ (awaited-begun S d t s (is_some (request_at S.requests d)) live h) h
-awaited-requests S (Complete d t s code) fits live h = awaited-asked S _ (λ e request at. h.requests e request (device_had S.requests.devices d e request fits.0 at).1) h
+pub awaited-requests : (S : State) (m : RequestMove) → FitsRequests m S.synchronization.requests S.synchronization.logons → IsOfLive m S → AreAwaited S.references.threads S.synchronization.requests S.synchronization.logons → AreAwaited S.references.threads (request_moved m S.synchronization.requests) S.synchronization.logons
+awaited-requests S (Begin d t s) fits live h = awaited-asked S _ (awaited-begun S d t s (is_some (request_at S.synchronization.requests d)) live h) h
+awaited-requests S (Complete d t s code) fits live h = awaited-asked S _ (λ e request at. h.requests e request (device_had S.synchronization.requests.devices d e request fits.0 at).1) h
 awaited-requests S (SetPending t s) fits live h = awaited-asked S _ h.requests h
 awaited-requests S (Signal t s code) fits live h = awaited-asked S _ h.requests h
-awaited-requests S (DropAll t) fits live h = awaited-asked S _ (λ d request at. h.requests d request (dropped t S.requests.devices d request at)) h
+awaited-requests S (DropAll t) fits live h = awaited-asked S _ (λ d request at. h.requests d request (dropped t S.synchronization.requests.devices d request at)) h
 awaited-requests S (TakeSignal t) fits live h = awaited-asked S _ h.requests h
 awaited-requests S (Reply t code) fits live h = awaited-asked S _ h.requests h
 
 -- fewer logons
-awaited-fewer : (S : State) (other : List (List (ObjNo × ℕ))) → ((u : ObjNo) (s : ℕ) → times_logged other u s ≤ times_logged S.logons u s) → AreAwaited S.threads S.requests S.logons → AreAwaited S.threads S.requests other
+awaited-fewer : (S : State) (other : List (List (ObjNo × ℕ))) → ((u : ObjNo) (s : ℕ) → times_logged other u s ≤ times_logged S.synchronization.logons u s) → AreAwaited S.references.threads S.synchronization.requests S.synchronization.logons → AreAwaited S.references.threads S.synchronization.requests other
 awaited-fewer S other fewer h = record { requests = h.requests; logons = λ u s some. h.logons u s (let le = fewer u s in omega arith); waits = h.waits }
 
 -- a move in the rows of logons
-pub awaited-logons : (S : State) (m : LogonMove) → FitsLogons m S → AreLogons (length S.threads) S.requests S.logons → AreAwaited S.threads S.requests S.logons → AreAwaited S.threads S.requests (logons_moved m S.logons)
+pub awaited-logons : (S : State) (m : LogonMove) → FitsLogons m S → AreLogons (length S.references.threads) S.synchronization.requests S.synchronization.logons → AreAwaited S.references.threads S.synchronization.requests S.synchronization.logons → AreAwaited S.references.threads S.synchronization.requests (logons_moved m S.synchronization.logons)
 awaited-logons S (logon.Add t u s) fits rows h = record {
   requests = h.requests;
   logons = λ v w some.
-      let a = logon-added S.logons t u s (let long = rows.sized in let inside = fits.0 in omega arith) v w in
-      elim (cases_lt 0 (logon_names v w (u, s))) as (λ _. IsLiveThread S.threads v) [
-        | inl one ↦ let own = the_logon v w u s one in subst (λ (x : ObjNo). IsLiveThread S.threads x) own.0 fits.4
+      let a = logon-added S.synchronization.logons t u s (let long = rows.sized in let inside = fits.0 in omega arith) v w in
+      elim (cases_lt 0 (logon_names v w (u, s))) as (λ _. IsLiveThread S.references.threads v) [
+        | inl one ↦ let own = the_logon v w u s one in subst (λ (x : ObjNo). IsLiveThread S.references.threads x) own.0 fits.4
         | inr no_name ↦ h.logons v w (omega arith)
       ];
   waits = h.waits;
 }
 awaited-logons S (logon.Remove t u s) fits rows h =
-    awaited-fewer S (set S.logons t.0 (without_logon u s (logons_on S.logons t))) (λ v w. total-at (logon_names v w) S.logons t.0 (without_logon u s (logons_on S.logons t)) (total-filter (logon_names v w) (λ (x : ObjNo × ℕ). not (is_logon u s x)) (logons_on S.logons t))) h
-awaited-logons S (logon.Drop u) fits rows h = awaited-fewer S (map (without_maker u) S.logons) (λ v w. filtered_each (logon_names v w) (λ (x : ObjNo × ℕ). not (is_made_by u x)) S.logons) h
+    awaited-fewer S (set S.synchronization.logons t.0 (without_logon u s (logons_on S.synchronization.logons t))) (λ v w. total-at (logon_names v w) S.synchronization.logons t.0 (without_logon u s (logons_on S.synchronization.logons t)) (total-filter (logon_names v w) (λ (x : ObjNo × ℕ). not (is_logon u s x)) (logons_on S.synchronization.logons t))) h
+awaited-logons S (logon.Drop u) fits rows h = awaited-fewer S (map (without_maker u) S.synchronization.logons) (λ v w. filtered_each (logon_names v w) (λ (x : ObjNo × ℕ). not (is_made_by u x)) S.synchronization.logons) h
 
 -- what is dropped of a thread isn't there any more
 pub dropped_none : (t : ObjNo) (devices : List (Option Request)) (d : ℕ) (request : Request) → get_or (map (without t) devices) d None ≡ Some request → request.thread.0 ≡ t.0 → ⊥

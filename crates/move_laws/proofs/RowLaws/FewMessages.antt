@@ -129,8 +129,8 @@ module _ (A : ObjNo → ℕ → Type 0) (below16 : (u : ObjNo) (s : ℕ) → A u
       let g = total_at_most session_bit 1 servers.sessions None (λ i inside. session_bit_le (get_or servers.sessions i None)) in omega arith
 
 -- fewer messages than that are outstanding where one more may be accepted
-pub room_for_message : (script : Script) (S : State) (slots : Slots) (row : MsgRow) → MayAccept S row → AreRows script S → length S.messages.outstanding < 5184
+pub room_for_message : (script : Script) (S : State) (slots : Slots) (row : MsgRow) → MayAccept S row → AreRows script S → length S.serving.messages.outstanding < 5184
 room_for_message script S slots row may rows =
-    let accepted = messages-accepted S slots row may rows.messages in
-    let few = messages_few (IsUntold S.requests S.logons) (λ u s untold. untold.0.status) S.threads S.servers (added S.messages slots row) accepted rows.servers.sessions_sized in
-    let more = length_push S.messages.outstanding (record { number = next_number S.messages; slots = slots; row = row }) in omega arith
+    let accepted = messages-accepted S slots row may rows.serving.messages in
+    let few = messages_few (IsUntold S.synchronization.requests S.synchronization.logons) (λ u s untold. untold.0.status) S.references.threads S.serving.servers (added S.serving.messages slots row) accepted rows.serving.servers.sessions_sized in
+    let more = length_push S.serving.messages.outstanding (record { number = next_number S.serving.messages; slots = slots; row = row }) in omega arith

@@ -74,29 +74,29 @@ logon-added logons t u s inside v w =
     let b = total-append (logon_names v w) (logons_on logons t) ((u, s) ∷ []) in omega arith
 
 -- a move in the rows of logons that fits keeps them
-pub logons-moved : (S : State) (m : LogonMove) → FitsLogons m S → AreLogons (length S.threads) S.requests S.logons → AreLogons (length S.threads) S.requests (logons_moved m S.logons)
+pub logons-moved : (S : State) (m : LogonMove) → FitsLogons m S → AreLogons (length S.references.threads) S.synchronization.requests S.synchronization.logons → AreLogons (length S.references.threads) S.synchronization.requests (logons_moved m S.synchronization.logons)
 logons-moved S (logon.Add t u s) fits h = record {
-  sized = length-set S.logons t.0 _ ∙ h.sized;
+  sized = length-set S.synchronization.logons t.0 _ ∙ h.sized;
   once = λ v w. let a = added v w in let b = h.once v w in let c = names_few v w (u, s) in
-      elim (cases_lt 0 (logon_names v w (u, s))) as (λ _. times_logged (logons_moved (logon.Add t u s) S.logons) v w ≤ 1) [
-        | inl one ↦ let own = the_logon v w u s one in let none : times_logged S.logons v w ≡ 0 = subst (λ (x : ObjNo). times_logged S.logons x w ≡ 0) own.0 (subst (λ (n : ℕ). times_logged S.logons u n ≡ 0) own.1 fits.2) in omega arith
+      elim (cases_lt 0 (logon_names v w (u, s))) as (λ _. times_logged (logons_moved (logon.Add t u s) S.synchronization.logons) v w ≤ 1) [
+        | inl one ↦ let own = the_logon v w u s one in let none : times_logged S.synchronization.logons v w ≡ 0 = subst (λ (x : ObjNo). times_logged S.synchronization.logons x w ≡ 0) own.0 (subst (λ (n : ℕ). times_logged S.synchronization.logons u n ≡ 0) own.1 fits.2) in omega arith
         | inr no_name ↦ omega arith
       ];
   waits = λ v w some. let a = added v w in
-      elim (cases_lt 0 (logon_names v w (u, s))) as (λ _. IsAwaited S.requests v w) [
-        | inl one ↦ let own = the_logon v w u s one in subst (λ (x : ObjNo). IsAwaited S.requests x w) own.0 (subst (λ (n : ℕ). IsAwaited S.requests u n) own.1 fits.1)
+      elim (cases_lt 0 (logon_names v w (u, s))) as (λ _. IsAwaited S.synchronization.requests v w) [
+        | inl one ↦ let own = the_logon v w u s one in subst (λ (x : ObjNo). IsAwaited S.synchronization.requests x w) own.0 (subst (λ (n : ℕ). IsAwaited S.synchronization.requests u n) own.1 fits.1)
         | inr no_name ↦ h.waits v w (omega arith)
       ];
 }
   where
-    added : (v : ObjNo) (w : ℕ) → times_logged (logons_moved (logon.Add t u s) S.logons) v w ≡ times_logged S.logons v w + logon_names v w (u, s)
-    added v w = logon-added S.logons t u s (let long = h.sized in let inside = fits.0 in omega arith) v w
+    added : (v : ObjNo) (w : ℕ) → times_logged (logons_moved (logon.Add t u s) S.synchronization.logons) v w ≡ times_logged S.synchronization.logons v w + logon_names v w (u, s)
+    added v w = logon-added S.synchronization.logons t u s (let long = h.sized in let inside = fits.0 in omega arith) v w
 logons-moved S (logon.Remove t u s) fits h =
-    logons-fewer (length S.threads) S.requests S.logons (set S.logons t.0 (without_logon u s (logons_on S.logons t))) (length-set S.logons t.0 _)
-    (λ v w. total-at (logon_names v w) S.logons t.0 (without_logon u s (logons_on S.logons t)) (total-filter (logon_names v w) (λ (x : ObjNo × ℕ). not (is_logon u s x)) (logons_on S.logons t))) h
+    logons-fewer (length S.references.threads) S.synchronization.requests S.synchronization.logons (set S.synchronization.logons t.0 (without_logon u s (logons_on S.synchronization.logons t))) (length-set S.synchronization.logons t.0 _)
+    (λ v w. total-at (logon_names v w) S.synchronization.logons t.0 (without_logon u s (logons_on S.synchronization.logons t)) (total-filter (logon_names v w) (λ (x : ObjNo × ℕ). not (is_logon u s x)) (logons_on S.synchronization.logons t))) h
 logons-moved S (logon.Drop u) fits h =
-    logons-fewer (length S.threads) S.requests S.logons (map (without_maker u) S.logons) (length-map S.logons (without_maker u))
-    (λ v w. filtered_each (logon_names v w) (λ (x : ObjNo × ℕ). not (is_made_by u x)) S.logons) h
+    logons-fewer (length S.references.threads) S.synchronization.requests S.synchronization.logons (map (without_maker u) S.synchronization.logons) (length-map S.synchronization.logons (without_maker u))
+    (λ v w. filtered_each (logon_names v w) (λ (x : ObjNo × ℕ). not (is_made_by u x)) S.synchronization.logons) h
 
 -- statuses that are awaited stay so where a request begins or is completed, and where another status is written
 abbrev pub Spares : RequestMove → ObjNo → ℕ → Type 0

@@ -49,43 +49,43 @@ called_is u client (Async status) some = absurd (omega arith)
 called_is u client Disconnect some = absurd (omega arith)
 
 -- a message that disconnects a session comes while one may be
-room_for : (S : State) (u : ObjNo) (way : Way) → FitsWay u way S → sessions_used S.threads S.servers S.messages.outstanding ≤ sessions_there S.servers → sessions_used S.threads S.servers S.messages.outstanding + disconnect_bit_of way ≤ sessions_there S.servers
+room_for : (S : State) (u : ObjNo) (way : Way) → FitsWay u way S → sessions_used S.references.threads S.serving.servers S.serving.messages.outstanding ≤ sessions_there S.serving.servers → sessions_used S.references.threads S.serving.servers S.serving.messages.outstanding + disconnect_bit_of way ≤ sessions_there S.serving.servers
 room_for S u (Async s) fits few = omega arith
 room_for S u Sync fits few = omega arith
 room_for S u Disconnect fits few = omega arith
 
 abbrev accepted_row : State → Slots → MsgRow → Message
-accepted_row S slots row = record { number = next_number S.messages; slots = slots; row = row }
+accepted_row S slots row = record { number = next_number S.serving.messages; slots = slots; row = row }
 
 -- a message is accepted
-pub messages-accepted : (S : State) (slots : Slots) (row : MsgRow) → MayAccept S row → AreMessages (IsUntold S.requests S.logons) S.threads S.servers S.messages → AreMessages (IsUntold S.requests S.logons) S.threads S.servers (added S.messages slots row)
+pub messages-accepted : (S : State) (slots : Slots) (row : MsgRow) → MayAccept S row → AreMessages (IsUntold S.synchronization.requests S.synchronization.logons) S.references.threads S.serving.servers S.serving.messages → AreMessages (IsUntold S.synchronization.requests S.synchronization.logons) S.references.threads S.serving.servers (added S.serving.messages slots row)
 messages-accepted S slots row may h = record {
   objects = h.objects;
-  rising = rising-push S.messages.outstanding new (λ x there. let a = h.given x there in omega arith) h.rising;
-  given = λ message there. elim (Contains-push_cases S.messages.outstanding new message there) as (λ _. message.number.0 ≤ S.messages.accepted + 1) [
+  rising = rising-push S.serving.messages.outstanding new (λ x there. let a = h.given x there in omega arith) h.rising;
+  given = λ message there. elim (Contains-push_cases S.serving.messages.outstanding new message there) as (λ _. message.number.0 ≤ S.serving.messages.accepted + 1) [
     | inl was ↦ let a = h.given message was in omega arith
-    | inr own ↦ let a : message.number.0 ≡ S.messages.accepted + 1 = ap (λ (z : Message). z.number.0) (sym own) in omega arith
+    | inr own ↦ let a : message.number.0 ≡ S.serving.messages.accepted + 1 = ap (λ (z : Message). z.number.0) (sym own) in omega arith
   ];
-  sessions = λ message there. elim (Contains-push_cases S.messages.outstanding new message there) as (λ _. IsSession S.servers message.row.session) [
+  sessions = λ message there. elim (Contains-push_cases S.serving.messages.outstanding new message there) as (λ _. IsSession S.serving.servers message.row.session) [
     | inl was ↦ h.sessions message was
-    | inr own ↦ subst (λ (z : Message). IsSession S.servers z.row.session) own may.known
+    | inr own ↦ subst (λ (z : Message). IsSession S.serving.servers z.row.session) own may.known
   ];
-  clients = λ message there. elim (Contains-push_cases S.messages.outstanding new message there) as (λ _. is_some (get_or S.threads message.row.client.0 None) ≡ true) [
+  clients = λ message there. elim (Contains-push_cases S.serving.messages.outstanding new message there) as (λ _. is_some (get_or S.references.threads message.row.client.0 None) ≡ true) [
     | inl was ↦ h.clients message was
-    | inr own ↦ subst (λ (z : Message). is_some (get_or S.threads z.row.client.0 None) ≡ true) own may.thread
+    | inr own ↦ subst (λ (z : Message). is_some (get_or S.references.threads z.row.client.0 None) ≡ true) own may.thread
   ];
   sent = λ u s. let a = sent_more u s in let b = h.sent u s in let c = if_le (is_sent u s row.client row.way) 1 in
-      elim (cases_lt 0 (sent_names u s new)) as (λ _. times_sent (added S.messages slots row).outstanding u s ≤ 1) [
+      elim (cases_lt 0 (sent_names u s new)) as (λ _. times_sent (added S.serving.messages slots row).outstanding u s ≤ 1) [
         | inl one ↦ let none = (fits_sent u s one).1 in omega arith
         | inr no_name ↦ omega arith
       ];
   awaited = λ u s some. let a = sent_more u s in
-      elim (cases_lt 0 (sent_names u s new)) as (λ _. IsUntold S.requests S.logons u s) [
+      elim (cases_lt 0 (sent_names u s new)) as (λ _. IsUntold S.synchronization.requests S.synchronization.logons u s) [
         | inl one ↦ (fits_sent u s one).0
         | inr no_name ↦ h.awaited u s (omega arith)
       ];
   called = λ u. let a = called_more u in let b = h.called u in let c = if_le (is_called u row.client row.way) 1 in
-      elim (cases_lt 0 (call_names u new)) as (λ _. times_called (added S.messages slots row).outstanding u ≤ 1) [
+      elim (cases_lt 0 (call_names u new)) as (λ _. times_called (added S.serving.messages slots row).outstanding u ≤ 1) [
         | inl one ↦ let none = (fits_called u one).0 in omega arith
         | inr no_name ↦ omega arith
       ];
@@ -94,7 +94,7 @@ messages-accepted S slots row may h = record {
         | inl one ↦ (fits_called u one).1 thread is
         | inr no_name ↦ h.replies u thread (omega arith) is live
       ];
-  few = let a = total-append disconnect_bit S.messages.outstanding (new ∷ []) in let b = room_for S row.client row.way may.way h.few in omega arith;
+  few = let a = total-append disconnect_bit S.serving.messages.outstanding (new ∷ []) in let b = room_for S row.client row.way may.way h.few in omega arith;
   threads_few = h.threads_few;
   numbered = let a = may.number in omega arith;
 }
@@ -102,16 +102,16 @@ messages-accepted S slots row may h = record {
     new : Message
     new = accepted_row S slots row
 
-    sent_more : (u : ObjNo) (s : ℕ) → times_sent (added S.messages slots row).outstanding u s ≡ times_sent S.messages.outstanding u s + sent_names u s new
-    sent_more u s = let a = total-append (sent_names u s) S.messages.outstanding (new ∷ []) in omega arith
+    sent_more : (u : ObjNo) (s : ℕ) → times_sent (added S.serving.messages slots row).outstanding u s ≡ times_sent S.serving.messages.outstanding u s + sent_names u s new
+    sent_more u s = let a = total-append (sent_names u s) S.serving.messages.outstanding (new ∷ []) in omega arith
 
-    called_more : (u : ObjNo) → times_called (added S.messages slots row).outstanding u ≡ times_called S.messages.outstanding u + call_names u new
-    called_more u = let a = total-append (call_names u) S.messages.outstanding (new ∷ []) in omega arith
+    called_more : (u : ObjNo) → times_called (added S.serving.messages slots row).outstanding u ≡ times_called S.serving.messages.outstanding u + call_names u new
+    called_more u = let a = total-append (call_names u) S.serving.messages.outstanding (new ∷ []) in omega arith
 
-    fits_sent : (u : ObjNo) (s : ℕ) → 0 < sent_names u s new → IsUntold S.requests S.logons u s × (times_sent S.messages.outstanding u s ≡ 0)
+    fits_sent : (u : ObjNo) (s : ℕ) → 0 < sent_names u s new → IsUntold S.synchronization.requests S.synchronization.logons u s × (times_sent S.serving.messages.outstanding u s ≡ 0)
     fits_sent u s one = let own = sent_is u s row.client row.way one in subst (λ (v : ObjNo). FitsWay v (Async s) S) own.0 (subst (λ (way : Way). FitsWay row.client way S) own.1 may.way)
 
-    fits_called : (u : ObjNo) → 0 < call_names u new → (times_called S.messages.outstanding u ≡ 0) × ((thread : ThreadRow) → thread_of S u ≡ Some thread → thread.waiting ≡ waiting.Reply)
+    fits_called : (u : ObjNo) → 0 < call_names u new → (times_called S.serving.messages.outstanding u ≡ 0) × ((thread : ThreadRow) → thread_of S u ≡ Some thread → thread.waiting ≡ waiting.Reply)
     fits_called u one = let own = called_is u row.client row.way one in subst (λ (v : ObjNo). FitsWay v Sync S) own.0 (subst (λ (way : Way). FitsWay row.client way S) own.1 may.way)
 
 -- a message changes, but for its session, its client and its way

@@ -1,4 +1,4 @@
-use Rattle.std.proofs.Common.{◌≡◌, ◌<◌, ◌≤◌, ◌∙◌, List, get_or, sym, ap, subst, length, arith, map, take, replicate, ℕ, Some, None}
+use Rattle.std.proofs.Common.{◌≡◌, ◌<◌, ◌≤◌, ◌∙◌, List, get_or, sym, ap, subst, length, arith, map, replicate, ℕ, None}
 use Rattle.std.specs.Prelude.{slice_index}
 use Rattle.sym_base.specs.declared.limits.TheConstants.Limits.{BOOT_OBJECTS}
 use Rattle.sym_base.specs.declared.number.ObjNo.{ObjNo}
@@ -14,11 +14,10 @@ use Rattle.machine.proofs.BornFew.{born_few}
 use Rattle.machine_laws.proofs.AtBoot.Born.{each_born}
 use Rattle.machine_laws.proofs.AtBoot.BootRows.{rows-boot}
 use Rattle.move_laws.proofs.Numbers.CountSmall.{count_small}
-use Rattle.kcore.specs.BootTable.{AreNew, FirstStand}
+use Rattle.kcore.specs.BootTable.{AreNew, AreTables, FirstStand}
 use Rattle.kernel_tables.specs.Counts.{Agrees}
-use Rattle.kernel_tables.specs.StateOf.{slots_of}
-use Rattle.kcore.proofs.BootFields.{fields_at_boot, no_locks_are, no_servers_are, threads_at_boot}
-use Rattle.kcore.proofs.BootTables.{new_at_boot, agrees_at_boot}
+use Rattle.kcore.proofs.BootGroups.{state_is_boot, threads_at_boot}
+use Rattle.kcore.proofs.BootTables.{new_at_boot, agrees_at_boot, all_stand}
 use Rattle.kcore.proofs.BootUses.{none_used}
 use Rattle.kcore.proofs.boot.tables_at_boot.Goals as goal
 
@@ -54,17 +53,18 @@ tables_of-requires-clause-few g c =
 pub tables_of-requires-clause-known : goal.tables_of-requires-clause-known
 tables_of-requires-clause-known g c =
     let script = c.args.script.now in
-    subst (λ (S : State). length S.threads ≤ BOOT_OBJECTS) (sym c.requires.boot) (rows-boot script c.requires.valid).sized.threads_few
+    subst (λ (S : State). length S.references.threads ≤ BOOT_OBJECTS) (sym c.requires.boot) (rows-boot script c.requires.valid).references.sized.threads_few
 
 pub returns-clause-state : goal.returns-clause-state
 returns-clause-state g c =
     let script = c.args.script.now in
     let tables = c.in_ok-tables.tables in
-    let made = c.in_ok-tables.ensures in
-    let all : c.as_slice-2.result.now ≡ c.as_slice.result.now = c.as_slice-2.ensures ∙ sym c.as_slice.ensures in
-    let rows = subst (λ (bs : List Born). tables.objects.rows ≡ take (length bs) (map (λ (b : Born). Some b.object) bs)) (sym all) (ap (λ o. o.rows) made.objects ∙ c.in_ok-objects.ensures.rows_are) in
-    fields_at_boot script c.as_slice-2.result.now c.args.state.now tables.objects.rows (slots_of tables.handles) tables.procs.threads tables.cleanup.duties tables.nano tables.deferred tables.requests tables.locks.rows tables.cleanup.mutexes tables.cleanup.logons tables.servers tables.cleanup.servers tables.messages tables.procs.processes
-    (c.as_slice-2.ensures ∙ c.in_ok-all.ensures) c.requires.boot rows made.handles (ap (λ p. p.threads) made.procs) made.owed made.nano made.deferred made.requests (no_locks_are tables.locks.rows made.locks) made.mutexes made.logons (no_servers_are tables.servers made.servers) made.owned made.messages (ap (λ p. p.processes) made.procs)
+    let objects = c.in_ok-objects.objects in
+    let born_are : c.as_slice-2.result.now ≡ born script = c.as_slice-2.ensures ∙ c.in_ok-all.ensures in
+    let made : AreTables script (born script) (boot script) objects tables = subst (λ (bs : List Born). AreTables script bs (boot script) objects tables) born_are (subst (λ (S : State). AreTables script c.as_slice-2.result.now S objects tables) c.requires.boot c.in_ok-tables.ensures) in
+    let all : c.as_slice.result.now ≡ born script = c.as_slice.ensures ∙ c.in_ok-all.ensures in
+    let stand = subst (λ (bs : List Born). FirstStand bs c.args.state.now objects.rows objects.counts (length bs)) all c.in_ok-objects.ensures in
+    state_is_boot script objects tables made (all_stand (born script) c.args.state.now objects.rows objects.counts stand)
 
 pub returns-clause-kept : goal.returns-clause-kept
 returns-clause-kept g c =
@@ -73,17 +73,18 @@ returns-clause-kept g c =
     let made = c.in_ok-tables.ensures in
     let objects = c.in_ok-objects.objects in
     let all : c.as_slice.result.now ≡ born script = c.as_slice.ensures ∙ c.in_ok-all.ensures in
-    let long : length c.as_slice-2.result.now ≡ length (born script) = ap length (c.as_slice-2.ensures ∙ c.in_ok-all.ensures) in
+    let born_are : c.as_slice-2.result.now ≡ born script = c.as_slice-2.ensures ∙ c.in_ok-all.ensures in
     let agree : Agrees objects.counts (boot script) = agrees_at_boot script c.requires.valid c.as_slice.result.now objects.rows objects.counts all (subst (λ (S : State). FirstStand c.as_slice.result.now S objects.rows objects.counts (length c.as_slice.result.now)) c.requires.boot c.in_ok-objects.ensures) in
-    let threads : tables.procs.threads ≡ map (λ (b : Born). b.thread) (born script) = ap (λ p. p.threads) made.procs ∙ (ap (λ (S : State). S.threads) c.requires.boot ∙ threads_at_boot script) in
+    let threads : tables.procs.threads ≡ map (λ (b : Born). b.thread) (born script) = ap (λ p. p.threads) made.threads.procs ∙ (ap (λ (S : State). S.references.threads) c.requires.boot ∙ threads_at_boot script) in
+    let uses : tables.cleanup.temporary ≡ replicate (length (born script)) None = ap (λ l. l.temporary) made.empty.cleanup ∙ ap (λ (bs : List Born). replicate (length bs) None) born_are in
     let state = returns-clause-state g c in
     record {
       counts = λ o. ap (λ (counts : List ℕ). slice_index counts o.0) (ap (λ t. t.counts) made.objects) ∙ (agree o ∙ sym (ap (λ (S : State). count_of S o) state));
       tied = record {
-        uses = made.uses ∙ (ap (λ (n : ℕ). replicate n None) long ∙ (none_used script (length (born script)) (born script) (each_born script (formed_is_shaped script c.requires.valid)) ∙ sym (ap (map use_of_row) threads)));
-        ranks = λ u. made.ranks u ∙ sym (ap (λ p. priority_of_row (get_or p.threads u.0 None)) made.procs);
-        listed = made.listed;
-        ranked = made.ranked;
+        uses = uses ∙ (none_used script (length (born script)) (born script) (each_born script (formed_is_shaped script c.requires.valid)) ∙ sym (ap (map use_of_row) threads));
+        ranks = λ u. made.threads.ranks u ∙ sym (ap (λ p. priority_of_row (get_or p.threads u.0 None)) made.threads.procs);
+        listed = ap (λ l. l.objects) made.empty.cleanup;
+        ranked = made.threads.ranked;
       };
-      numbered = let accepted = ap (λ (r : MessageRows). r.accepted) made.messages in omega arith;
+      numbered = let accepted = ap (λ (r : MessageRows). r.accepted) made.empty.messages in omega arith;
     }

@@ -1,18 +1,9 @@
-use Rattle.std.proofs.Common.{refl}
 use Rattle.kcore.proofs.boot.tables_over.Goals as goal
 
-pub returns : goal.returns
-returns g c = record {
-  objects = refl;
-  procs = refl;
-  locks = refl;
+pub returns-clause-empty : goal.returns-clause-empty
+returns-clause-empty g c = record {
   handles = c.in_ok-empty.ensures.handles;
-  owed = c.in_ok-empty.ensures.owed;
-  uses = c.in_ok-empty.ensures.uses;
-  mutexes = c.in_ok-empty.ensures.mutexes;
-  logons = c.in_ok-empty.ensures.logons;
-  owned = c.in_ok-empty.ensures.owned;
-  listed = c.in_ok-empty.ensures.objects;
+  cleanup = c.in_ok-empty.ensures.cleanup;
   nano = c.in_ok-calls.ensures.nano;
   deferred = c.in_ok-calls.ensures.deferred;
   requests = c.in_ok-calls.ensures.requests;

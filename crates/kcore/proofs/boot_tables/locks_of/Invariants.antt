@@ -2,4 +2,4 @@ use Rattle.kcore.proofs.BootProcs.{RankedTo}
 use Rattle.kcore.proofs.boot_tables.locks_of.Given as goal
 
 abbrev pub invariant-loop-number : goal.invariant-loop-number
-invariant-loop-number l = RankedTo l.locks l.state.threads l.number
+invariant-loop-number l = RankedTo l.locks l.state.references.threads l.number

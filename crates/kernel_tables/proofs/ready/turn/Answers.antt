@@ -10,4 +10,4 @@ returns-clause-size g c = rw c.tick.ensures (rotated_size c.args.ready.now _ ∙
 pub returns-clause-queues : goal.returns-clause-queues
 returns-clause-queues g c =
     let S = state_of c.args.tables.now in
-    rw c.tick.ensures (tick_follows S.nano (priority_of S) c.args.ready.now)
+    rw c.tick.ensures (tick_follows S.synchronization.nano (priority_of S) c.args.ready.now)

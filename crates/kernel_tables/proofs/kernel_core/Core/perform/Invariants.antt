@@ -3,11 +3,11 @@ use Rattle.sym_base.specs.declared.limits.TheConstants.Limits.{BOOT_OBJECTS}
 use Rattle.kernel_tables.specs.Noted.{AreKept}
 use Rattle.kernel_tables.specs.StateOf.{state_of}
 use Rattle.kernel_tables.proofs.Performing.{OnTheWay}
-use Rattle.kernel_tables.proofs.actions.perform.Given as goal
+use Rattle.kernel_tables.proofs.kernel_core.Core.perform.Given as goal
 
 abbrev pub invariant-loop-change : goal.invariant-loop-change
 invariant-loop-change g l = record {
-  way : OnTheWay l.script l.thread l.moves (state_of l.initial.tables) l.initial.ready l.initial.effects (drop l.change-index l.moves) (state_of l.tables) l.ready l.effects;
+  way : OnTheWay l.script l.thread l.change-items (state_of l.initial.tables) l.initial.ready l.initial.effects (drop l.change-index l.change-items) (state_of l.tables) l.ready l.effects;
   kept : AreKept l.tables;
   size : l.ready.threads ≡ BOOT_OBJECTS;
 }

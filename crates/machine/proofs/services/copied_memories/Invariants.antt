@@ -1,5 +1,5 @@
 use Rattle.std.proofs.Common.{◌≡◌, take}
-use Rattle.machine.proofs.state.copied_memories.Given as goal
+use Rattle.machine.proofs.services.copied_memories.Given as goal
 
 abbrev pub invariant-loop-memory : goal.invariant-loop-memory
 invariant-loop-memory l = l.copies.items ≡ take l.memory-index l.memories

@@ -1,0 +1,47 @@
+-- The tables at boot stand for the state at boot, group by group.
+use Rattle.std.proofs.Common.{◌≡◌, ℕ, List, [], ◌∷◌, map, refl, ap, Option, Some}
+use Rattle.script_types.specs.declared.script.Script.{Script}
+use Rattle.machine.specs.declared.boot.Born.{Born}
+use Rattle.machine.specs.declared.state.State.{State}
+use Rattle.machine.specs.declared.references.References.{References}
+use Rattle.machine.specs.declared.synchronization.Synchronization.{Synchronization}
+use Rattle.machine.specs.declared.serving.Serving.{Serving}
+use Rattle.machine.specs.declared.services.Services.{Services}
+use Rattle.machine.specs.Boot.{boot, boot_of, born, memory_of, memory_of_row}
+use Rattle.table_moves.specs.ObjectsView.{ObjectsView}
+use Rattle.kernel_tables.specs.declared.tables.Tables.{Tables}
+use Rattle.kernel_tables.specs.StateOf.{state_of}
+use Rattle.kcore.specs.BootTable.{AreTables, no_locks, no_servers}
+use Rattle.kcore.proofs.BootUses.{none_listed}
+
+pub threads_at_boot : (script : Script) → (boot script).references.threads ≡ map (λ (b : Born). b.thread) (born script)
+unfolding boot_of
+threads_at_boot script = refl
+
+memories_each : (bs : List Born) → map memory_of_row (map (λ (b : Born). b.thread) bs) ≡ map memory_of bs
+memories_each [] = refl
+memories_each (b ∷ bs) = ap (λ (l : List (Option (List ℕ))). memory_of b ∷ l) (memories_each bs)
+
+-- a state is its groups
+all_groups : (S : State) (r : References) (s : Synchronization) (v : Serving) (k : Services) → r ≡ S.references → s ≡ S.synchronization → v ≡ S.serving → k ≡ S.services → record { references = r; synchronization = s; serving = v; services = k } ≡ S
+all_groups S r s v k references synchronization serving services = rw (references, synchronization, serving, services) refl
+
+module _ {W N : Type 0} (script : Script) (made : ObjectsView) (tables : Tables W N) (h : AreTables script (born script) (boot script) made tables) where
+  references_are : made.rows ≡ map (λ (b : Born). Some b.object) (born script) → (state_of tables).references ≡ (boot script).references
+  unfolding boot_of
+  references_are rows = rw (h.objects, rows, h.empty.handles, h.threads.procs, h.empty.cleanup, none_listed (born script)) refl
+
+  synchronization_are : (state_of tables).synchronization ≡ (boot script).synchronization
+  unfolding boot_of no_locks
+  synchronization_are = rw (h.empty.nano, h.empty.deferred, h.empty.requests, h.threads.locks, h.empty.cleanup, none_listed (born script)) refl
+
+  serving_are : (state_of tables).serving ≡ (boot script).serving
+  unfolding boot_of no_servers
+  serving_are = rw (h.empty.servers, h.empty.cleanup, none_listed (born script), h.empty.messages) refl
+
+  services_are : (state_of tables).services ≡ (boot script).services
+  unfolding boot_of
+  services_are = rw (h.threads.procs, memories_each (born script)) refl
+
+  pub state_is_boot : made.rows ≡ map (λ (b : Born). Some b.object) (born script) → state_of tables ≡ boot script
+  state_is_boot rows = all_groups (boot script) (state_of tables).references (state_of tables).synchronization (state_of tables).serving (state_of tables).services (references_are rows) synchronization_are serving_are services_are

@@ -1,0 +1,34 @@
+//! The rows that references stand in, and the objects that live by them.
+ghost use Rattle.std.specs.Prelude.{◌≡◌, IfOk};
+
+use crate::lists::copied_lists;
+use state_rows::{HandleSlot, ObjectRow, Owed, ThreadRow};
+use std::alloc::{AllocError, Global};
+use sym_base::Items;
+
+/// Objects, handle tables, threads' rows and what threads owe: what a reference is taken in and given up from.
+#[derive(Drop)]
+pub struct References {
+    /// Each object that was made; None once it is swept.
+    pub objects: Items<Option<ObjectRow>>,
+    /// The handle table of each process and thread.
+    pub handles: Items<Items<HandleSlot>>,
+    /// Each thread; None at the number of a process, and once it is swept. The supervisor has a row too.
+    pub threads: Items<Option<ThreadRow>>,
+    /// What each thread owes, in order of owing.
+    pub owed: Items<Items<Owed>>,
+}
+
+impl References {
+    /// The same rows, a second time.
+    pub fn copied(&self, alloc: Global) -> Result<References, AllocError>
+        ensures { IfOk result (λ copy. copy ≡ self.now) }
+    {
+        Ok(References {
+            objects: self.objects.copied(alloc)?,
+            handles: copied_lists(alloc, self.handles.as_slice())?,
+            threads: self.threads.copied(alloc)?,
+            owed: copied_lists(alloc, self.owed.as_slice())?,
+        })
+    }
+}

@@ -1,0 +1,89 @@
+//! The rows by which threads wait for each other, for devices, and for the end of threads.
+ghost use Rattle.std.specs.Prelude.{◌≡◌, IfOk};
+
+use crate::lists::copied_lists;
+use state_rows::{DeferredRows, LockRows, NanoRows, RequestRows};
+use std::alloc::{AllocError, Global};
+use sym_base::{Items, ObjNo, ThreadNo};
+
+/// What threads synchronize by: the nanokernel's objects, deferred function calls, requests, locks and logons.
+#[derive(Drop)]
+pub struct Synchronization {
+    /// Fast semaphores, fast mutexes, critical sections and suspension.
+    pub nano: NanoRows,
+    /// The queues of deferred function calls.
+    pub deferred: DeferredRows,
+    /// Devices' requests, statuses and request semaphores.
+    pub requests: RequestRows,
+    /// Mutexes and semaphores, and who waits for them.
+    pub locks: LockRows,
+    /// The mutexes that each thread holds, in order of taking.
+    pub mutexes: Items<Items<ObjNo>>,
+    /// The logons on each thread, in order of making: the thread that made each, and its status, 0 to 15, which is going to tell
+    /// the death.
+    pub logons: Items<Items<(ThreadNo, u8)>>,
+}
+
+/// The same rows of threads that synchronize, a second time.
+fn copied_nano(alloc: Global, nano: &NanoRows) -> Result<NanoRows, AllocError>
+    ensures { IfOk result (λ copy. copy ≡ nano.now) }
+{
+    Ok(NanoRows {
+        signals: nano.signals.copied(alloc)?,
+        suspensions: nano.suspensions.copied(alloc)?,
+        sections: nano.sections.copied(alloc)?,
+        wants: nano.wants.copied(alloc)?,
+        holders: nano.holders.copied(alloc)?,
+    })
+}
+
+/// The same rows of deferred function calls, a second time.
+fn copied_deferred(alloc: Global, deferred: &DeferredRows) -> Result<DeferredRows, AllocError>
+    ensures { IfOk result (λ copy. copy ≡ deferred.now) }
+{
+    Ok(DeferredRows {
+        idfcs: deferred.idfcs,
+        places: deferred.places.copied(alloc)?,
+        immediate: deferred.immediate.copied(alloc)?,
+        queues: copied_lists(alloc, deferred.queues.as_slice())?,
+    })
+}
+
+/// The same rows of requests, a second time.
+fn copied_requests(alloc: Global, requests: &RequestRows) -> Result<RequestRows, AllocError>
+    ensures { IfOk result (λ copy. copy ≡ requests.now) }
+{
+    Ok(RequestRows {
+        devices: requests.devices.copied(alloc)?,
+        statuses: requests.statuses.copied(alloc)?,
+        signals: requests.signals.copied(alloc)?,
+        replies: requests.replies.copied(alloc)?,
+    })
+}
+
+/// The same rows of mutexes and semaphores, a second time.
+fn copied_locks(alloc: Global, locks: &LockRows) -> Result<LockRows, AllocError>
+    ensures { IfOk result (λ copy. copy ≡ locks.now) }
+{
+    Ok(LockRows {
+        owners: locks.owners.copied(alloc)?,
+        counts: locks.counts.copied(alloc)?,
+        waiters: copied_lists(alloc, locks.waiters.as_slice())?,
+    })
+}
+
+impl Synchronization {
+    /// The same rows, a second time.
+    pub fn copied(&self, alloc: Global) -> Result<Synchronization, AllocError>
+        ensures { IfOk result (λ copy. copy ≡ self.now) }
+    {
+        Ok(Synchronization {
+            nano: copied_nano(alloc, &self.nano)?,
+            deferred: copied_deferred(alloc, &self.deferred)?,
+            requests: copied_requests(alloc, &self.requests)?,
+            locks: copied_locks(alloc, &self.locks)?,
+            mutexes: copied_lists(alloc, self.mutexes.as_slice())?,
+            logons: copied_lists(alloc, self.logons.as_slice())?,
+        })
+    }
+}

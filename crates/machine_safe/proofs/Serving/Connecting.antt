@@ -1,0 +1,450 @@
+-- The handle that a `connect` keeps from the step that makes its session on is in the thread's own table, and of no server.
+use Rattle.state_rows.specs.declared.duty.Owed.TheVariants as duty
+use Rattle.machine.specs.Find.{found_object, is_open, miss, return_to, seek_object, find_object}
+use Rattle.machine.specs.Decide.{go_on, nothing}
+use Rattle.std.proofs.Common.{Bool, List, None, Option, Some, [], ap, arith, false, get_or, inl, inr, refl, subst, sym, true, ℕ, ℤ, ◌+◌, ◌*◌, ◌++◌, ◌<◌, ◌≤◌, ◌∙◌, ◌∷◌, ◌≡◌, ◌⊎◌, length, Float, get_or-set_other, lives, not, le-ltb, get_or-set_same, pos, take-take}
+use Rattle.std.proofs.lemmas.Bool.{cases_eq, or_cases}
+use Rattle.std.specs.Prelude.{◌==◌, if◌then◌else◌, is_some, slice_get, slice_set, option_map, pos}
+use Rattle.entry_log.specs.declared.effect.Holder.{Holder}
+use Rattle.script_types.specs.declared.instruction.Instr.{Instr}
+use Rattle.sym_base.specs.declared.number.ObjNo.{ObjNo}
+use Rattle.script_types.specs.declared.script.Script.{Script}
+use Rattle.state_rows.specs.declared.servers.ServerRow.{ServerRow}
+use Rattle.machine.specs.declared.state.State.{State}
+use Rattle.state_rows.specs.declared.thread.ThreadRow.{ThreadRow}
+use Rattle.state_rows.specs.HandleNumbers.{is_local, index_of}
+use Rattle.machine.specs.WellFormed.{AreRows, IsLiveThread}
+use Rattle.script_types.specs.Shape.{IsShaped}
+use Rattle.machine.specs.declared.moves.Move.{Move}
+use Rattle.entry_log.specs.declared.step.Part.{Part}
+use Rattle.state_rows.specs.declared.servers.ServerRows.{ServerRows}
+use Rattle.state_rows.proofs.SoundChanges.{set_item}
+use Rattle.machine.specs.Rows.{thread_of, with_row, table_of, object_of}
+use Rattle.machine.specs.Fits.{EachFits, FitsMove, IsAtStage, IsLive}
+use Rattle.state_rows.specs.ServerRows.{server_at, accepts, owner_of}
+use Rattle.state_rows.specs.HandleSlots.{slot_at, is_full, free_index, new_handle, new_instance, fresh_slot, look}
+use Rattle.state_rows.specs.declared.thread.Stage.TheVariants.{Live, Doomed, Cleaned, Buried}
+use Rattle.machine.specs.ServerMoves.{all_closing, servers_lose, owned_by}
+use Rattle.machine_laws.proofs.Fitting.Regular.{going_late, Kinds, advance_bit, going_bit, answer_bit, calling, kind_of, looking, kind_given, plain}
+use Rattle.move_laws.proofs.RowLaws.Threads.{map_some}
+use Rattle.machine.specs.Moves.{moved, next_object, perform, with_part, advanced, with_kept, with_use, with_found, no_number_left}
+use Rattle.machine.specs.References.{total}
+use Rattle.machine.specs.declared.decision.Decision.{Decision}
+use Rattle.state_rows.specs.ServerChanges.{after_closing, closing}
+use Rattle.machine_laws.proofs.Fitting.Living.{alive_inside, handle_is_alive}
+use Rattle.machine.specs.Task.{instruction}
+use Rattle.machine_safe.proofs.Serving.KeptRows.{objects-move}
+use Rattle.move_laws.proofs.Holders.ThreadRows.{row-here}
+use Rattle.machine_laws.proofs.Fitting.Actions.{FitsAction, each-action}
+use Rattle.move_laws.proofs.Lists.Mapped.{mapped-some}
+use Rattle.script_types.specs.declared.instruction.Instr.TheVariants as instr
+use Rattle.entry_log.specs.declared.step.Part.TheVariants as part
+use Rattle.machine.specs.declared.moves.Move.TheVariants.{Advance, Lose, Servers, Pay, GoOn, Wait, Messages, Gain}
+use Rattle.machine_safe.proofs.Serving.Others.{Carries, carries-each, midway-pay, at-each, same-instruction}
+use Rattle.entry_log.specs.declared.effect.Holder.TheVariants.{Link, InThread, Temp}
+use Rattle.state_rows.specs.declared.handle_slot.HandleSlot.{HandleSlot}
+use Rattle.move_laws.proofs.References.Same.{if_zero, same_object}
+use Rattle.machine.specs.declared.server_move.ServerMove.TheVariants.{Start, Join, Close, CloseAll, SetOpen}
+use Rattle.sym_base.specs.declared.kind.Slots.{Slots}
+use Rattle.machine.specs.SessionCalls.{make_session, connect_done, connect_send, connect_step, connect_to, send_connect, connect_make, session_made}
+use Rattle.move_laws.proofs.Lists.Totals.{inside}
+use Rattle.move_laws.proofs.RowLaws.Tables.{free_index_inside, object_of_is}
+use Rattle.machine.specs.Handles.{taken_slot}
+use Rattle.machine.specs.declared.holding.Holding.{Holding}
+use Rattle.state_rows.specs.declared.duty.Owed.{Owed}
+use Rattle.machine.specs.Steps.{decision_of, return_of, step_of}
+use Rattle.machine.specs.Decide.{nothing}
+use Rattle.machine.specs.Find.{seek_object, miss, found_object, is_open, find_object}
+use Rattle.sym_base.specs.declared.word.Word.TheVariants as word
+use Rattle.machine_laws.proofs.Fitting.Working.{IsGiven}
+use Rattle.move_laws.proofs.Lists.Cases.{if_cases}
+use Rattle.machine.specs.Messaging.{wake_receiver, open_server, reply_to, slots_of, connects, no_args}
+use Rattle.machine.specs.Reaping.{give_up}
+use Rattle.state_rows.specs.Nano.{held_by}
+use Rattle.machine.specs.declared.holding.Holding.TheVariants as holding
+use Rattle.sym_base.specs.declared.kind.Kind.TheVariants as kind
+use Rattle.machine.specs.ThreadCalls.{is_live}
+use Rattle.state_rows.specs.Requests.{reply_of}
+use Rattle.state_rows.specs.declared.thread.Waiting.TheVariants as waiting
+use Rattle.entry_log.specs.declared.step.Step.TheVariants.{Of}
+use Rattle.machine.specs.declared.message_move.MessageMove.TheVariants.{Accept}
+use Rattle.state_rows.specs.MessageChanges.{new_row}
+use Rattle.state_rows.specs.declared.messages.Way.TheVariants.{Sync}
+use Rattle.machine_laws.proofs.Fitting.Posting.{tame-wake}
+use Rattle.machine_safe.proofs.Serving.Doing.{Doing, doing}
+use Rattle.machine.specs.Transition.{act}
+use Rattle.entry_log.specs.declared.entry.Actor.TheVariants.{Thread, Irq, Idfc, Tick, Idle}
+use Rattle.entry_log.specs.declared.entry.Actor.{Actor}
+use Rattle.machine.specs.History.{next, IsNext}
+use Rattle.machine.specs.Interrupts.{immediate, interrupt, supervisor}
+use Rattle.machine_laws.proofs.Fitting.Interrupts.{light-interrupt, light-immediate}
+use Rattle.state_rows.specs.Deferred.{next_immediate}
+use Rattle.machine_safe.proofs.Deaths.Rows.{live-left, left-held, held-one, row_bit, stage_live}
+use Rattle.machine.specs.Boot.{born, boot, boot_of}
+use Rattle.machine_laws.proofs.AtBoot.Born.{born_row, each_born}
+use Rattle.state_rows.specs.declared.thread.Stage.{Stage}
+use Rattle.machine_safe.proofs.Deaths.Runs.{dies-next}
+use Rattle.std.specs.Ordering.{int_eq}
+
+-- whether a thread at this step of an instruction keeps the handle of the session that its `connect` made
+abbrev pub keeps_handle : Option Instr → Option Part → Bool
+keeps_handle (Some (instr.Connect name slots x)) (Some part.Return) = false
+keeps_handle (Some (instr.Connect name slots x)) (Some part.Make) = false
+keeps_handle (Some (instr.Connect name slots x)) (Some p) = true
+keeps_handle at p = false
+
+pub record KeepsHandle (S : State) (u : ObjNo) (row : ThreadRow) : Type 0 where
+  pub own : is_local row.found ≡ true
+  pub other : (s : ObjNo) → (slot_at (table_of S u) (index_of row.found)).object ≡ Some s → is_some (server_at S.serving.servers s) ≡ false
+
+-- each live thread that keeps one does so
+abbrev pub KeepHandles : Script → State → Type 0
+KeepHandles script S = (u : ObjNo) (row : ThreadRow) → thread_of S u ≡ Some row → row.stage ≡ Live → keeps_handle (instruction script row) row.part ≡ true → KeepsHandle S u row
+
+-- such a thread is at a later step
+kept-later : (at : Option Instr) (p : Option Part) → keeps_handle at p ≡ true → is_some p ≡ true
+kept-later (Some (instr.Connect name slots x)) None e = absurd (cc)
+kept-later at None e = absurd (cc)
+kept-later at (Some p) e = refl
+
+-- what is no server doesn't become one, once it is made
+server-set : (l : List (Option ServerRow)) (i j : ℕ) (x : Option ServerRow) → (i ≡ j → ⊥) → is_some (get_or l j None) ≡ false → is_some (get_or (slice_set l i x) j None) ≡ false
+server-set l i j x apart none = ap is_some (get_or-set_other l i j x None (λ at. apart (sym at))) ∙ none
+
+server-closing : (os : List ObjNo) (r : ServerRows) (s : ObjNo) → is_some (server_at r s) ≡ false → is_some (server_at (all_closing os r) s) ≡ false
+server-closing [] r s none = none
+server-closing (o ∷ os) r s none = server-closing os (after_closing r o) s (mapped-some closing r.servers o.0 s.0 ∙ none)
+
+server-lost : (h : Holder) (r : ServerRows) (s : ObjNo) → is_some (server_at r s) ≡ false → is_some (server_at (servers_lose h r) s) ≡ false
+server-lost (Link x) r s none = none
+server-lost _ r s none = none
+
+server-joined : (l : List (Option ServerRow)) (i j : ℕ) → is_some (get_or l j None) ≡ false → is_some (get_or (slice_set l i None) j None) ≡ false
+server-joined l i j none = set_item (λ (x : Option ServerRow). is_some x ≡ false) l i j None None (λ at. refl) none
+
+none-move : (script : Script) (S : State) (t : ObjNo) (m : Move) → FitsMove script t m S → (s : ObjNo) → s.0 < length S.references.objects → is_some (server_at S.serving.servers s) ≡ false → is_some (server_at (moved t m S).serving.servers s) ≡ false
+none-move script S t (Lose h o) fits s made none = server-lost h S.serving.servers s none
+none-move script S t (Servers (Start o u)) fits s made none = server-set S.serving.servers.servers o.0 s.0 _ (λ at. let next = ap (λ (x : ObjNo). x.0) fits.next in absurd (omega arith)) none
+none-move script S t (Servers (Join x o slots u)) fits s made none = server-joined S.serving.servers.servers x.0 s.0 none
+none-move script S t (Servers (Close o)) fits s made none = mapped-some closing S.serving.servers.servers o.0 s.0 ∙ none
+none-move script S t (Servers (CloseAll u)) fits s made none = server-closing (owned_by S.serving.owned u) S.serving.servers s none
+none-move script S t (Pay what) fits s made none = absurd fits
+none-move script S t m fits s made none = none
+
+none-each : (script : Script) (S : State) (t : ObjNo) (ms : List Move) → EachFits script t ms S → (s : ObjNo) → s.0 < length S.references.objects → is_some (server_at S.serving.servers s) ≡ false → is_some (server_at (perform t ms S).serving.servers s) ≡ false
+none-each script S t [] fits s made none = none
+none-each script S t (m ∷ ms) fits s made none =
+    let more = objects-move script S t m fits.0 in
+    none-each script (moved t m S) t ms fits.1 s (omega arith) (none-move script S t m fits.0 s made none)
+
+-- moves that carry a thread leave it with the handle
+kept-on : (script : Script) (S : State) (t : ObjNo) (ms : List Move) → EachFits script t ms S → (u : ObjNo) (row : ThreadRow) (c : Carries S (perform t ms S) u row) → ((s : ObjNo) → (slot_at (table_of S u) (index_of c.mid.old.found)).object ≡ Some s → s.0 < length S.references.objects) → KeepsHandle S u c.mid.old → KeepsHandle (perform t ms S) u row
+kept-on script S t ms fits u row c made was = record {
+  own = ap is_local (sym c.mid.found) ∙ was.own;
+  other = λ s slot.
+      let before : (slot_at (table_of S u) (index_of c.mid.old.found)).object ≡ Some s = ap (λ (n : ℕ). (slot_at (table_of S u) (index_of n)).object) c.mid.found ∙ (ap (λ (l : List HandleSlot). (slot_at l (index_of row.found)).object) (sym c.table) ∙ slot) in
+      none-each script S t ms fits s (made s before) (was.other s before);
+}
+
+slot_made : (script : Script) (S : State) (u : ObjNo) (i : ℕ) (s : ObjNo) → AreRows script S → (slot_at (table_of S u) i).object ≡ Some s → s.0 < length S.references.objects
+slot_made script S u i s rows slot = alive_inside S.references.objects s.0 (handle_is_alive S u i s rows.lives slot)
+
+kept-carried : (script : Script) (S : State) (t : ObjNo) (ms : List Move) → AreRows script S → EachFits script t ms S → KeepHandles script S → (u : ObjNo) (row : ThreadRow) → (t.0 ≡ u.0 → total going_bit ms ≡ 0) → thread_of (perform t ms S) u ≡ Some row → row.stage ≡ Live → keeps_handle (instruction script row) row.part ≡ true → KeepsHandle (perform t ms S) u row
+kept-carried script S t ms rows fits kept u row stays is live keeps =
+    let c = carries-each script S t ms fits u row stays (kept-later (instruction script row) row.part keeps) is in
+    let at : instruction script row ≡ instruction script c.mid.old = same-instruction script c.mid.old row c.mid.role (sym c.mid.place) in
+    let before : keeps_handle (instruction script c.mid.old) c.mid.old.part ≡ true = ap (keeps_handle (instruction script c.mid.old)) c.mid.part ∙ (ap (λ (i : Option Instr). keeps_handle i row.part) (sym at) ∙ keeps) in
+    kept-on script S t ms fits u row c (λ s slot. slot_made script S u (index_of c.mid.old.found) s rows slot) (kept u c.mid.old c.mid.was (c.mid.live live) before)
+
+-- behind the end of its instruction a thread is at no later step
+ended-each : (script : Script) (S : State) (t : ObjNo) (ms : List Move) → EachFits script t ms S → going_late ms ≡ 0 → 0 < total advance_bit ms → (row : ThreadRow) → thread_of (perform t ms S) t ≡ Some row → is_some row.part ≡ false
+ended-each script S t [] fits last some row is = absurd (omega arith)
+ended-each script S t (Advance u ∷ ms) fits last some row is = by (is_some row.part) refl
+  where
+    by : (b : Bool) → is_some row.part ≡ b → is_some row.part ≡ false
+    by false e = e
+    by true e =
+        let c = carries-each script (moved t (Advance u) S) t ms fits.1 t row (λ _. last) e is in
+        let was = map_some advanced (get_or S.references.threads u.0 None) c.mid.old (sym (row-here S.references.threads u advanced t.0 (ap (λ (x : ObjNo). x.0) fits.0.0)) ∙ c.mid.was) in
+        let none : None ≡ row.part = ap (λ (r : ThreadRow). r.part) was.2 ∙ c.mid.part in
+        let first = ap is_some none in absurd (cc)
+ended-each script S t (m ∷ ms) fits last some row is = ended-each script (moved t m S) t ms fits.1 last (omega arith) row is
+
+-- the row of a thread after changes of it
+part-two : (threads : List (Option ThreadRow)) (t : ObjNo) (f g : ThreadRow → ThreadRow) (p : Part) → ((r : ThreadRow) → (g (f r)).part ≡ Some p) → (row : ThreadRow) → get_or (with_row (with_row threads t f) t g) t.0 None ≡ Some row → row.part ≡ Some p
+part-two threads t f g p same row is =
+    let last = map_some g (get_or (with_row threads t f) t.0 None) row (sym (row-here (with_row threads t f) t g t.0 refl) ∙ is) in
+    let first = map_some f (get_or threads t.0 None) last.0 (sym (row-here threads t f t.0 refl) ∙ last.1) in
+    ap (λ (r : ThreadRow). r.part) (sym last.2) ∙ (ap (λ (r : ThreadRow). (g r).part) (sym first.2) ∙ same first.0)
+
+part-one : (threads : List (Option ThreadRow)) (t : ObjNo) (p : Part) (row : ThreadRow) → get_or (with_row threads t (with_part p)) t.0 None ≡ Some row → row.part ≡ Some p
+part-one threads t p row is = let last = map_some (with_part p) (get_or threads t.0 None) row (sym (row-here threads t (with_part p) t.0 refl) ∙ is) in ap (λ (r : ThreadRow). r.part) (sym last.2)
+
+-- neither the return nor the step that makes a session keeps a handle
+kept-return : (at : Option Instr) → keeps_handle at (Some part.Return) ≡ false
+kept-return (Some (instr.Connect name slots x)) = refl
+kept-return at = refl
+
+kept-make : (at : Option Instr) → keeps_handle at (Some part.Make) ≡ false
+kept-make (Some (instr.Connect name slots x)) = refl
+kept-make at = refl
+
+-- the number of a thread's handle
+local-number : (i n : ℕ) → is_local (i + 65536 * n + 1073741824) ≡ true
+local-number i n = ap not (le-ltb (i + 65536 * n + 1073741824) 1073741824 (omega arith))
+
+low-index : (i n : ℕ) → i < 65536 → index_of (i + 65536 * n + 1073741824) ≡ i
+low-index i n low = omega arith
+
+paid-none : (S : State) (t : ObjNo) (what : Owed) (s : ObjNo) → is_some (server_at S.serving.servers s) ≡ false → is_some (server_at (moved t (Pay what) S).serving.servers s) ≡ false
+paid-none S t (duty.Close h o) s none = none
+paid-none S t (duty.Sweep o) s none = none
+
+paid-slot : (S : State) (t : ObjNo) (what : Owed) (u : ObjNo) (i : ℕ) → (slot_at (table_of S u) i).object ≡ (slot_at (table_of (moved t (Pay what) S) u) i).object
+paid-slot S t (duty.Close h o) u i = refl
+paid-slot S t (duty.Sweep o) u i = refl
+
+-- what is owed is paid
+paid-kept : (script : Script) (S : State) (t : ObjNo) (what : Owed) → KeepHandles script S → (u : ObjNo) (row : ThreadRow) → thread_of (moved t (Pay what) S) u ≡ Some row → row.stage ≡ Live → keeps_handle (instruction script row) row.part ≡ true → KeepsHandle (moved t (Pay what) S) u row
+paid-kept script S t what kept u row is live keeps =
+    let mid = midway-pay S t what u.0 row is in
+    let at : instruction script row ≡ instruction script mid.old = same-instruction script mid.old row mid.role (sym mid.place) in
+    let was = kept u mid.old mid.was (mid.live live) (ap (keeps_handle (instruction script mid.old)) mid.part ∙ (ap (λ (i : Option Instr). keeps_handle i row.part) (sym at) ∙ keeps)) in
+    record {
+      own = ap is_local (sym mid.found) ∙ was.own;
+      other = λ s slot. paid-none S t what s (was.other s (ap (λ (n : ℕ). (slot_at (table_of S u) (index_of n)).object) mid.found ∙ (paid-slot S t what u (index_of row.found) ∙ slot)));
+    }
+
+module _ (script : Script) (S : State) (t : ObjNo) (shaped : IsShaped script) (rows : AreRows script S) (kept : KeepHandles script S) (unmade : is_some (server_at S.serving.servers (next_object S)) ≡ false) where
+  abbrev KeptThen : Decision → Type 0
+  KeptThen d = (row : ThreadRow) → thread_of (perform t d.moves S) t ≡ Some row → row.stage ≡ Live → keeps_handle (instruction script row) row.part ≡ true → KeepsHandle (perform t d.moves S) t row
+
+  -- who lives afterwards did before
+  abbrev LivedBefore : Decision → Type 0
+  LivedBefore d = (row : ThreadRow) → thread_of (perform t d.moves S) t ≡ Some row → row.stage ≡ Live → IsLiveThread S.references.threads t
+
+  answered-kept : {k : Kinds} (d : Decision) (code : ℤ) → d.answer ≡ Some code → FitsAction k script S t d → KeptThen d
+  answered-kept d code e fits row is live keeps =
+      let one = fits.regular.answers ∙ ap answer_bit e in
+      let ended = ended-each script S t d.moves fits.goes.each fits.regular.last (omega arith) row is in
+      let later = kept-later (instruction script row) row.part keeps in absurd (cc)
+
+  -- at another instruction no handle is kept
+  other-kept : {k : Kinds} (d : Decision) (old : ThreadRow) (i : Instr) → thread_of S t ≡ Some old → instruction script old ≡ Some i → ((p : Option Part) → keeps_handle (Some i) p ≡ false) → FitsAction k script S t d → KeptThen d
+  other-kept d old i here at other fits row is live keeps = by d.answer refl
+    where
+      by : (x : Option ℤ) → d.answer ≡ x → KeepsHandle (perform t d.moves S) t row
+      by (Some code) e = answered-kept d code e fits row is live keeps
+      by None e =
+          let w = at-each script S t d.moves fits.goes.each t.0 row is in
+          let none : total advance_bit d.moves ≡ 0 = fits.regular.answers ∙ ap answer_bit e in
+          let still = if_zero (t.0 == t.0) (total advance_bit d.moves) none in
+          let own : w.old ≡ old = (let a = w.was in cc) in
+          let now : instruction script row ≡ Some i = same-instruction script w.old row w.role (let p = w.place in omega arith) ∙ (ap (instruction script) own ∙ at) in
+          let no = other row.part in
+          let so : keeps_handle (Some i) row.part ≡ true = ap (λ (x : Option Instr). keeps_handle x row.part) (sym now) ∙ keeps in absurd (cc)
+
+  -- a step after which no handle is kept
+  early-kept : (d : Decision) (p : Part) → ((row : ThreadRow) → thread_of (perform t d.moves S) t ≡ Some row → row.part ≡ Some p) → ((at : Option Instr) → keeps_handle at (Some p) ≡ false) → KeptThen d
+  early-kept d p part early row is live keeps =
+      let no = early (instruction script row) in
+      let so : keeps_handle (instruction script row) (Some p) ≡ true = ap (keeps_handle (instruction script row)) (sym (part row is)) ∙ keeps in absurd (cc)
+
+  -- the session is made with its handle, and that is kept
+  made-kept_handle : (o : ObjNo) (slots : Slots) (full : Bool) → is_full (table_of S t) ≡ full → FitsAction calling script S t (make_session t o slots (next_object S) (if full then None else Some (record { holder = InThread t (free_index (table_of S t)); number = new_handle true (table_of S t) }))) → KeptThen (make_session t o slots (next_object S) (if full then None else Some (record { holder = InThread t (free_index (table_of S t)); number = new_handle true (table_of S t) })))
+  made-kept_handle o slots true e fits = answered-kept _ _ refl fits
+  made-kept_handle o slots false e fits = λ row is live keeps.
+      let table = table_of S t in
+      let i = free_index table in
+      let number = new_handle true table in
+      let threads = S.references.threads in
+      let third = map_some (with_part part.Send) (get_or (with_row (with_row threads t (with_kept number)) t (with_use None)) t.0 None) row (sym (row-here (with_row (with_row threads t (with_kept number)) t (with_use None)) t (with_part part.Send) t.0 refl) ∙ is) in
+      let second = map_some (with_use None) (get_or (with_row threads t (with_kept number)) t.0 None) third.0 (sym (row-here (with_row threads t (with_kept number)) t (with_use None) t.0 refl) ∙ third.1) in
+      let first = map_some (with_kept number) (get_or threads t.0 None) second.0 (sym (row-here threads t (with_kept number) t.0 refl) ∙ second.1) in
+      let found : row.found ≡ number = ap (λ (r : ThreadRow). r.found) (sym third.2) ∙ (ap (λ (r : ThreadRow). r.found) (sym second.2) ∙ ap (λ (r : ThreadRow). r.found) (sym first.2)) in
+      let within = inside threads t.0 first.0 first.1 in
+      let sized = rows.references.sized.tables in
+      let listed : t.0 < length S.references.handles = omega arith in
+      let size = (rows.references.tables t.0 listed).size in
+      let free = free_index_inside table e in
+      record {
+        own = ap is_local found ∙ local-number i (new_instance table);
+        other = λ s slot.
+            let index : index_of row.found ≡ i = ap index_of found ∙ low-index i (new_instance table) (omega arith) in
+            let here : table_of (perform t (make_session t o slots (next_object S) (Some (record { holder = InThread t i; number = number }))).moves S) t ≡ slice_set table i (taken_slot (next_object S) (slot_at table i)) = get_or-set_same S.references.handles t.0 _ [] listed in
+            let there : slot_at (slice_set table i (taken_slot (next_object S) (slot_at table i))) i ≡ taken_slot (next_object S) (slot_at table i) = get_or-set_same table i _ fresh_slot free in
+            let both : Some s ≡ Some (next_object S) = sym slot ∙ (ap (λ (l : List HandleSlot). (slot_at l (index_of row.found)).object) here ∙ (ap (λ (n : ℕ). (slot_at (slice_set table i (taken_slot (next_object S) (slot_at table i))) n).object) index ∙ ap (λ (x : HandleSlot). x.object) there)) in
+            let own : s ≡ next_object S = cc in
+            subst (λ (x : ObjNo). is_some (server_at (perform t (make_session t o slots (next_object S) (Some (record { holder = InThread t i; number = number }))).moves S).serving.servers x) ≡ false) (sym own)
+            (server-joined S.serving.servers.servers (next_object S).0 (next_object S).0 unmade);
+      }
+
+  idle-kept : KeptThen nothing
+  idle-kept row is live keeps = kept-carried script S t [] rows tt kept t row (λ _. refl) is live keeps
+
+  seek-kept : (found : Option ObjNo) → FitsAction looking script S t (seek_object t word.Connect found) → KeptThen (seek_object t word.Connect found)
+  seek-kept None fits = answered-kept (seek_object t word.Connect None) _ refl fits
+  seek-kept (Some o) fits = early-kept (seek_object t word.Connect (Some o)) part.Return (λ row is. part-two S.references.threads t (with_part part.Return) (with_found o) part.Return (λ r. refl) row is) kept-return
+
+  make-kept : (slots : Slots) (o : ObjNo) (server : Option ServerRow) → FitsAction calling script S t (connect_to S t slots o server) → KeptThen (connect_to S t slots o server)
+  make-kept slots o None fits = idle-kept
+  make-kept slots o (Some server) fits = if_cases (λ (d : Decision). FitsAction calling script S t d → KeptThen d) server.is_closing _ _ (λ _ f. answered-kept _ _ refl f)
+      (λ _ f. if_cases (λ (d : Decision). FitsAction calling script S t d → KeptThen d) (no_number_left S) _ _ (λ _ g. answered-kept _ _ refl g)
+      (λ _ g. made-kept_handle o slots (is_full (table_of S t)) refl g) f) fits
+
+  -- the message that connects is sent: the thread goes on, and is carried then
+  sent-kept : (old : ThreadRow) (s : ObjNo) (server : Option ObjNo) → thread_of S t ≡ Some old → KeepsHandle S t old → FitsAction calling script S t (send_connect S t old s server) → KeptThen (send_connect S t old s server)
+  sent-kept old s None here had fits = answered-kept _ _ refl fits
+  sent-kept old s (Some o) here had fits = λ row is live keeps.
+      let U = moved t (GoOn t part.Done) S in
+      let wakes = wake_receiver S o (owner_of S.serving.servers o) in
+      let rest : List Move = Servers (SetOpen s true) ∷ Wait t waiting.Reply ∷ Messages (Accept (slots_of S s) (new_row s o t connects no_args Sync)) ∷ wakes in
+      let none = (tame-wake {k = plain} S o (owner_of S.serving.servers o)).goes refl in
+      let all : total going_bit rest ≡ 0 = omega arith in
+      let c = carries-each script U t rest fits.goes.each.1 t row (λ _. all) (kept-later (instruction script row) row.part keeps) is in
+      let first = map_some (with_part part.Done) (thread_of S t) c.mid.old (sym (row-here S.references.threads t (with_part part.Done) t.0 refl) ∙ c.mid.was) in
+      let same : old ≡ first.0 = (let a = first.1 in cc) in
+      let now : KeepsHandle U t (with_part part.Done old) = record { own = had.own; other = had.other } in
+      kept-on script U t rest fits.goes.each.1 t row c (λ x slot. slot_made script S t (index_of c.mid.old.found) x rows slot)
+      (subst (KeepsHandle U t) (ap (with_part part.Done) same ∙ first.2) now)
+
+  send-kept : (old : ThreadRow) (session : Option ObjNo) → thread_of S t ≡ Some old → KeepsHandle S t old → FitsAction calling script S t (connect_send S t old session) → KeptThen (connect_send S t old session)
+  send-kept old None here had fits = idle-kept
+  send-kept old (Some s) here had fits = if_cases (λ (d : Decision). FitsAction calling script S t d → KeptThen d) (is_some (held_by S.synchronization.nano t)) _ _ (λ _ f. answered-kept _ _ refl f) (λ _ f. sent-kept old s (open_server S s) here had f) fits
+
+  done-kept : (old : ThreadRow) (x : ℕ) (session : Option ObjNo) → FitsAction calling script S t (connect_done S t old x session) → KeptThen (connect_done S t old x session)
+  done-kept old x None fits = idle-kept
+  done-kept old x (Some s) fits = if_cases (λ (d : Decision). FitsAction calling script S t d → KeptThen d) (int_eq (reply_of S.synchronization.requests t) (pos 0)) _ _ (λ _ f. answered-kept _ _ refl f) (λ _ f. answered-kept _ _ refl f) fits
+
+  connect-kept : (old : ThreadRow) (name : List ℕ) (slots : Slots) (x : ℕ) (p : Option Part) → thread_of S t ≡ Some old → (keeps_handle (Some (instr.Connect name slots x)) p ≡ true → KeepsHandle S t old) → FitsAction (kind_of (instr.Connect name slots x) p) script S t (connect_step S t old name slots x p) → KeptThen (connect_step S t old name slots x p)
+  connect-kept old name slots x None here had fits = if_cases (λ (d : Decision). FitsAction looking script S t d → KeptThen d) (is_some (held_by S.synchronization.nano t)) _ _ (λ _ f. answered-kept _ _ refl f) (λ _ f. seek-kept (find_object S kind.Server name) f) fits
+  connect-kept old name slots x (Some part.Make) here had fits = uses old.uses fits
+    where
+      uses : (o : Option ObjNo) → FitsAction calling script S t (connect_make S t slots o) → KeptThen (connect_make S t slots o)
+      uses None f = idle-kept
+      uses (Some o) f = make-kept slots o (server_at S.serving.servers o) f
+  connect-kept old name slots x (Some part.Send) here had fits = send-kept old (session_made S t old) here (had refl) fits
+  connect-kept old name slots x (Some p) here had fits = done-kept old x (session_made S t old) fits
+
+  step-kept : (old : ThreadRow) (i : Instr) (p : Option Part) → thread_of S t ≡ Some old → instruction script old ≡ Some i → (keeps_handle (Some i) p ≡ true → KeepsHandle S t old) → FitsAction (kind_of i p) script S t (step_of script S t old i p) → KeptThen (step_of script S t old i p)
+  step-kept old (instr.Connect name slots x) p here at had fits = connect-kept old name slots x p here had fits
+  step-kept old i p here at had fits = other-kept (step_of script S t old i p) old i here at (λ q. refl) fits
+
+  return-kept : (old : ThreadRow) (i : Instr) → thread_of S t ≡ Some old → instruction script old ≡ Some i → FitsAction looking script S t (return_of S t old i) → KeptThen (return_of S t old i)
+  return-kept old (instr.Connect name slots x) here at fits =
+      let o = found_object old in
+      if_cases (λ (d : Decision). FitsAction looking script S t d → KeptThen d) (is_open (object_of S o)) _ _
+      (λ _ f. early-kept (go_on t (Of word.Connect part.Return) (Gain (Temp t) o) part.Make) part.Make (λ row is. part-two S.references.threads t (with_part part.Make) (with_use (Some o)) part.Make (λ r. refl) row is) kept-make)
+      (λ _ f. missed (is_live old.stage) f) fits
+    where
+      missed : (live : Bool) → FitsAction looking script S t (miss t word.Connect part.Make (found_object old) live) → KeptThen (miss t word.Connect part.Make (found_object old) live)
+      missed true f = answered-kept (miss t word.Connect part.Make (found_object old) true) _ refl f
+      missed false f = early-kept (miss t word.Connect part.Make (found_object old) false) part.Make (λ row is. part-one S.references.threads t part.Make row is) kept-make
+  return-kept old i here at fits = other-kept (return_of S t old i) old i here at (λ q. refl) fits
+
+  -- a doomed thread lives on no more
+  dead-kept : (d : Decision) → IsAtStage S t Doomed → LivedBefore d → KeptThen d
+  dead-kept d at lived row is live keeps =
+      let before = lived row is live in
+      let same : before.row ≡ at.row = (let a = before.is in let b = at.is in cc) in
+      let both : Live ≡ Doomed = sym before.live ∙ (ap (λ (r : ThreadRow). r.stage) same ∙ at.at) in absurd (cc)
+
+  carried-kept : {k : Kinds} (d : Decision) → k.goes ≡ false → FitsAction k script S t d → KeptThen d
+  carried-kept d stays fits row is live keeps = kept-carried script S t d.moves rows fits.goes.each kept t row (λ _. fits.regular.goes stays) is live keeps
+
+  give-kept : (old : ThreadRow) (what : Holding) → IsGiven S t what → FitsAction (kind_given what) script S t (give_up S t old what) → LivedBefore (give_up S t old what) → KeptThen (give_up S t old what)
+  give-kept old (holding.Handle h o) given fits lived = dead-kept (give_up S t old (holding.Handle h o)) given.1 lived
+  give-kept old (holding.Use o) given fits lived = dead-kept (give_up S t old (holding.Use o)) given lived
+  give-kept old what given fits lived = carried-kept (give_up S t old what) refl fits
+
+  decision-kept : LivedBefore (decision_of script S t) → KeptThen (decision_of script S t)
+  decision-kept = each-action script S t (λ (d : Decision). LivedBefore d → KeptThen d) (record {
+    plainly = λ d fits lived. carried-kept d refl fits;
+    steps = λ old i is live going at fits lived. step-kept old i old.part is at (λ keeps. kept t old is live (ap (λ (x : Option Instr). keeps_handle x old.part) at ∙ keeps)) fits;
+    returns = λ old i is at fits lived. return-kept old i is at fits;
+    gives = λ old what given fits lived. give-kept old what given fits lived;
+    pays = λ what rest owes lived row is live keeps. paid-kept script S t what kept t row is live keeps;
+  }) shaped rows
+
+-- whoever lives afterwards did before
+abbrev Lived : State → State → Type 0
+Lived S T = (u : ObjNo) (row : ThreadRow) → thread_of T u ≡ Some row → row.stage ≡ Live → IsLiveThread S.references.threads u
+
+live-row : (threads : List (Option ThreadRow)) (u : ObjNo) (x : Option ThreadRow) → get_or threads u.0 None ≡ x → row_bit stage_live x ≡ 1 → IsLiveThread threads u
+live-row threads u None e one = absurd (omega arith)
+live-row threads u (Some row) e one = by row.stage refl one
+  where
+    by : (stage : Stage) → row.stage ≡ stage → stage_live stage ≡ 1 → IsLiveThread threads u
+    by Live at one = record { row = row; is = e; live = at }
+    by Doomed at one = absurd (omega arith)
+    by Cleaned at one = absurd (omega arith)
+    by Buried at one = absurd (omega arith)
+
+lived-next : (script : Script) (S : State) (actor : Actor) → IsShaped script → AreRows script S → Lived S (next script S actor)
+lived-next script S actor shaped rows u row is live =
+    let dies = (dies-next script S actor shaped rows).live u in
+    let one : row_bit stage_live (thread_of (next script S actor) u) ≡ 1 = ap (row_bit stage_live) is ∙ ap stage_live live in
+    let few = live-one (thread_of S u) in
+    live-row S.references.threads u (thread_of S u) refl (omega arith)
+  where
+    live-one : (x : Option ThreadRow) → row_bit stage_live x ≤ 1
+    live-one x = let a = live-left x in let b = left-held x in let c = held-one x in omega arith
+
+module _ (script : Script) (S : State) (shaped : IsShaped script) (rows : AreRows script S) (kept : KeepHandles script S) (unmade : is_some (server_at S.serving.servers (next_object S)) ≡ false) where
+  -- an action of a thread
+  kept-doing : (t : ObjNo) (ms : List Move) → Doing script S t ms → Lived S (perform t ms S) → (u : ObjNo) (row : ThreadRow) → (t.0 ≡ u.0 → ⊥) → thread_of (perform t ms S) u ≡ Some row → row.stage ≡ Live → keeps_handle (instruction script row) row.part ≡ true → KeepsHandle (perform t ms S) u row
+  kept-doing t ms does lived u row apart is live keeps = elim does as (λ _. KeepsHandle (perform t ms S) u row) [
+    | inl goes ↦ kept-carried script S t ms rows goes.each kept u row (λ at. absurd (apart at)) is live keeps
+    | inr other ↦ elim other as (λ _. KeepsHandle (perform t ms S) u row) [
+      | inl pays ↦ subst (λ (l : List Move). KeepsHandle (perform t l S) u row) (sym pays.moves) (paid-kept script S t pays.what kept u row (ap (λ (l : List Move). thread_of (perform t l S) u) (sym pays.moves) ∙ is) live keeps)
+      | inr none ↦ subst (λ (l : List Move). KeepsHandle (perform t l S) u row) (sym none) (kept u row (ap (λ (l : List Move). thread_of (perform t l S) u) (sym none) ∙ is) live keeps)
+    ]
+  ]
+
+  kept-decision : (t : ObjNo) → Lived S (perform t (decision_of script S t).moves S) → KeepHandles script (perform t (decision_of script S t).moves S)
+  kept-decision t lived u row is live keeps = elim (cases_eq t.0 u.0) as (λ _. KeepsHandle (perform t (decision_of script S t).moves S) u row) [
+    | inr apart ↦ kept-doing t (decision_of script S t).moves (doing script S t shaped rows) lived u row apart is live keeps
+    | inl at ↦
+        let same = same_object t u at in
+        subst (λ (x : ObjNo). KeepsHandle (perform t (decision_of script S t).moves S) x row) same
+        (decision-kept script S t shaped rows kept unmade (λ r there alive. lived t r there alive) row (ap (λ (n : ℕ). get_or (perform t (decision_of script S t).moves S).references.threads n None) at ∙ is) live keeps)
+  ]
+
+  kept-act : (t : ObjNo) → Lived S (act script S t).state → KeepHandles script (act script S t).state
+  unfolding act
+  kept-act t lived = kept-decision t lived
+
+  kept-interrupt : (k : ℕ) → KeepHandles script (interrupt script S k).state
+  unfolding interrupt
+  kept-interrupt k u row is live keeps = let light = light-interrupt script S k shaped rows in kept-carried script S supervisor _ rows light.each kept u row (λ _. light.calm.goes refl) is live keeps
+
+  kept-immediate : KeepHandles script (immediate script S).state
+  unfolding immediate
+  kept-immediate u row is live keeps = let light = light-immediate script S (next_immediate S.synchronization.deferred) shaped rows refl in kept-carried script S supervisor _ rows light.each kept u row (λ _. light.calm.goes refl) is live keeps
+
+  pub kept-next : (actor : Actor) → KeepHandles script (next script S actor)
+  kept-next (Thread t) = kept-act t (lived-next script S (Thread t) shaped rows)
+  kept-next (Irq k) = kept-interrupt k
+  kept-next Idfc = kept-immediate
+  kept-next Tick = kept
+  kept-next Idle = kept
+
+-- at boot nobody keeps one
+pub kept-boot : (script : Script) → IsShaped script → KeepHandles script (boot script)
+unfolding boot_of
+kept-boot script shaped u row is live keeps =
+    let none = (born_row script _ (born script) u.0 row (each_born script shaped) is).part in
+    let later = kept-later (instruction script row) row.part keeps in
+    let first = ap is_some none in absurd (cc)
+
+-- the session that a `connect` made is no server
+pub session-other : (S : State) (t : ObjNo) (row : ThreadRow) (s : ObjNo) → KeepsHandle S t row → session_made S t row ≡ Some s → server_at S.serving.servers s ≡ None
+session-other S t row s kept is = none-is (server_at S.serving.servers s) (kept.other s (by (is_local row.found) kept.own is))
+  where
+    by : (b : Bool) → b ≡ true → look b (table_of S (if b then t else row.process)) row.found ≡ Some s → (slot_at (table_of S t) (index_of row.found)).object ≡ Some s
+    by true e is = object_of_is true (slot_at (table_of S t) (index_of row.found)) row.found s is
+    by false e is = absurd (cc)
+
+    none-is : (x : Option ServerRow) → is_some x ≡ false → x ≡ None
+    none-is None e = refl
+    none-is (Some row) e = absurd (cc)
