@@ -99,42 +99,28 @@ pub fn make_move(
         Move::Find(other, object) => threads_find(&mut state.references.threads, other, object),
         Move::GoOn(other, part) => threads_go_on(&mut state.references.threads, other, part),
         Move::Keep(other, number) => threads_keep(&mut state.references.threads, other, number),
-        Move::Write(other, register, value) => threads_write(
-            &mut state.references.threads,
-            other,
-            register,
-            value,
-        ),
-        Move::WriteMessage(other, register, number) => threads_write_message(
-            &mut state.references.threads,
-            other,
-            register,
-            number,
-        ),
+        Move::Write(other, register, value) => {
+            threads_write(&mut state.references.threads, other, register, value);
+        }
+        Move::WriteMessage(other, register, number) => {
+            threads_write_message(&mut state.references.threads, other, register, number);
+        }
         Move::Wait(other, what) => threads_wait(&mut state.references.threads, other, what),
         Move::Wake(other) => threads_wait(&mut state.references.threads, other, Waiting::Nothing),
-        Move::SetPriority(other, priority) => threads_set_priority(
-            &mut state.references.threads,
-            other,
-            priority,
-        ),
+        Move::SetPriority(other, priority) => {
+            threads_set_priority(&mut state.references.threads, other, priority);
+        }
         Move::Nano(change) => make_nano_move(&mut state.synchronization.nano, change),
-        Move::Deferred(change) => return make_deferred_move(
-            alloc,
-            &mut state.synchronization.deferred,
-            change,
-        ),
-        Move::Requests(change) => return make_request_move(
-            alloc,
-            &mut state.synchronization.requests,
-            change,
-        ),
+        Move::Deferred(change) => {
+            return make_deferred_move(alloc, &mut state.synchronization.deferred, change);
+        }
+        Move::Requests(change) => {
+            return make_request_move(alloc, &mut state.synchronization.requests, change);
+        }
         Move::Locks(change) => return make_lock_move(alloc, state, thread, change),
-        Move::Logons(change) => return make_logon_move(
-            alloc,
-            &mut state.synchronization.logons,
-            change,
-        ),
+        Move::Logons(change) => {
+            return make_logon_move(alloc, &mut state.synchronization.logons, change);
+        }
         Move::Death(change) => return make_death_move(state, thread, &change),
         Move::Servers(change) => return make_server_move(state, thread, change),
         Move::Messages(change) => return make_message_move(alloc, state, thread, change),
