@@ -1,5 +1,6 @@
 -- The tables at boot stand for the state at boot, group by group.
 use Rattle.std.proofs.Common.{◌≡◌, ℕ, List, [], ◌∷◌, map, refl, ap, Option, Some}
+use Rattle.sym_base.specs.declared.number.ObjNo.{ObjNo}
 use Rattle.script_types.specs.declared.script.Script.{Script}
 use Rattle.machine.specs.declared.boot.Born.{Born}
 use Rattle.machine.specs.declared.state.State.{State}
@@ -33,7 +34,7 @@ module _ {W N : Type 0} (script : Script) (made : ObjectsView) (tables : Tables 
 
   synchronization_are : (state_of tables).synchronization ≡ (boot script).synchronization
   unfolding boot_of no_locks
-  synchronization_are = rw (h.empty.nano, h.empty.deferred, h.empty.requests, h.threads.locks, h.empty.cleanup, none_listed (born script)) refl
+  synchronization_are = rw (h.empty.nano, h.empty.deferred, h.empty.requests, h.threads.locks, h.empty.cleanup, none_listed {A = ObjNo} (born script), none_listed {A = ObjNo × ℕ} (born script)) refl
 
   serving_are : (state_of tables).serving ≡ (boot script).serving
   unfolding boot_of no_servers

@@ -2,16 +2,15 @@
 ghost use Rattle.std.specs.Prelude.{◌≡◌, []};
 ghost use Rattle.machine.specs.Dooms.{end};
 ghost use Rattle.machine.specs.Steps.{decision_of};
-ghost use Rattle.death.specs.Dying.{IfNothingLeft, IfStep, IsReapable, MayBury, MayEnd};
+ghost use Rattle.death.specs.Dying.{IsReapable, MayBury, MayEnd};
 ghost use Rattle.kernel_tables.specs.CoreView.{RunsScript};
-ghost use Rattle.kernel_tables.specs.Performed.{IsMade};
 ghost use Rattle.kcore.specs.Done.{CarriesOut};
 ghost use Rattle.kcore.specs.Told.{IsTold, told_in};
 
 use crate::plans::{carry_out, finish};
 use death::{Death, Reaped};
 use decisions::plain_exit;
-use entry_log::{Effects, Entry};
+use entry_log::Entry;
 use kernel_tables::Core;
 use ref_words::RefWords;
 use script_types::Script;
@@ -36,24 +35,8 @@ pub fn end<W: RefWords + Drop>(
     finish(script, core, thread, entry);
 }
 
-/// A doomed thread pays or gives up one thing, and where nothing is left, nothing changes but what was decided.
-fn reap_one<W: RefWords + Drop>(
-    script: &Script,
-    core: &mut Core<W>,
-    thread: ThreadNo,
-    effects: &mut Effects,
-) -> Reaped
-    requires runs { RunsScript script.now core.old }
-    requires dying { IsReapable script.now core.old.state thread }
-    requires empty { effects.old ≡ [] }
-    ensures made { IfStep result (IsMade script.now thread (decision_of script.now core.old.state thread) core.old core.new effects.new) }
-    ensures nothing { IfNothingLeft result ((core.new ≡ record core.old { decision = decision_of script.now core.old.state thread }) × (effects.new ≡ [])) }
-{
-    let mut death = Death { core };
-    death.reap_one(script, thread, effects)
-}
-
 /// A doomed thread pays or gives up one thing, or is cleaned, where nothing is left.
+#[tactic(auto, using(kernel_tables::proofs::GoingActions::action_goes))]
 pub fn reap<W: RefWords + Drop>(
     script: &Script,
     core: &mut Core<W>,
@@ -66,7 +49,8 @@ pub fn reap<W: RefWords + Drop>(
     ensures told { IsTold entry.old entry.new }
     ensures does { CarriesOut script.now thread core.old core.new (told_in entry.new) (decision_of script.now core.old.state thread) }
 {
-    match reap_one(script, core, thread, &mut entry.effects) {
+    let mut death = Death { core };
+    match death.reap_one(script, thread, &mut entry.effects) {
         Reaped::NothingLeft => carry_out(script, core, thread, entry),
         Reaped::Step => finish(script, core, thread, entry),
     }
