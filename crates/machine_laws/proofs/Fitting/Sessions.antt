@@ -63,7 +63,7 @@ use Rattle.machine_laws.proofs.Fitting.Stepping.{FitsDecision, IsStepping, at_in
 use Rattle.machine_laws.proofs.Fitting.Steps.{handle_named, room_left}
 use Rattle.machine_laws.proofs.Fitting.Uncalled.{not_sent, stepping_uncalled}
 use Rattle.machine_laws.proofs.Fitting.Waiters.{stepping_nowhere}
-use Rattle.machine_laws.proofs.Fitting.Regular.{kind_of, looking, serving, calling}
+use Rattle.machine_laws.proofs.Fitting.Regular.{kind_of, looking, calling}
 use Rattle.machine_laws.proofs.Fitting.Tame.{may_tell, regular-moves, tame-at, tame-both, tame-moves, tame-going, tame-calling}
 
 -- a session is made, where the server is one and isn't closing

@@ -1,10 +1,10 @@
 -- The handle that a `connect` keeps from the step that makes its session on is in the thread's own table, and of no server.
 use Rattle.state_rows.specs.declared.duty.Owed.TheVariants as duty
-use Rattle.machine.specs.Find.{found_object, is_open, miss, return_to, seek_object, find_object}
+use Rattle.machine.specs.Find.{found_object, is_open, miss, seek_object, find_object}
 use Rattle.machine.specs.Decide.{go_on, nothing}
-use Rattle.std.proofs.Common.{Bool, List, None, Option, Some, [], ap, arith, false, get_or, inl, inr, refl, subst, sym, true, ℕ, ℤ, ◌+◌, ◌*◌, ◌++◌, ◌<◌, ◌≤◌, ◌∙◌, ◌∷◌, ◌≡◌, ◌⊎◌, length, Float, get_or-set_other, lives, not, le-ltb, get_or-set_same, pos, take-take}
-use Rattle.std.proofs.lemmas.Bool.{cases_eq, or_cases}
-use Rattle.std.specs.Prelude.{◌==◌, if◌then◌else◌, is_some, slice_get, slice_set, option_map, pos}
+use Rattle.std.proofs.Common.{Bool, List, None, Option, Some, [], ap, arith, false, get_or, inl, inr, refl, subst, sym, true, ℕ, ℤ, ◌+◌, ◌*◌, ◌<◌, ◌≤◌, ◌∙◌, ◌∷◌, ◌≡◌, length, get_or-set_other, not, le-ltb, get_or-set_same, pos}
+use Rattle.std.proofs.lemmas.Bool.{cases_eq}
+use Rattle.std.specs.Prelude.{◌==◌, if◌then◌else◌, is_some, slice_set, pos}
 use Rattle.entry_log.specs.declared.effect.Holder.{Holder}
 use Rattle.script_types.specs.declared.instruction.Instr.{Instr}
 use Rattle.sym_base.specs.declared.number.ObjNo.{ObjNo}
@@ -20,8 +20,8 @@ use Rattle.entry_log.specs.declared.step.Part.{Part}
 use Rattle.state_rows.specs.declared.servers.ServerRows.{ServerRows}
 use Rattle.state_rows.proofs.SoundChanges.{set_item}
 use Rattle.machine.specs.Rows.{thread_of, with_row, table_of, object_of}
-use Rattle.machine.specs.Fits.{EachFits, FitsMove, IsAtStage, IsLive}
-use Rattle.state_rows.specs.ServerRows.{server_at, accepts, owner_of}
+use Rattle.machine.specs.Fits.{EachFits, FitsMove, IsAtStage}
+use Rattle.state_rows.specs.ServerRows.{server_at, owner_of}
 use Rattle.state_rows.specs.HandleSlots.{slot_at, is_full, free_index, new_handle, new_instance, fresh_slot, look}
 use Rattle.state_rows.specs.declared.thread.Stage.TheVariants.{Live, Doomed, Cleaned, Buried}
 use Rattle.machine.specs.ServerMoves.{all_closing, servers_lose, owned_by}
@@ -58,7 +58,7 @@ use Rattle.machine.specs.Find.{seek_object, miss, found_object, is_open, find_ob
 use Rattle.sym_base.specs.declared.word.Word.TheVariants as word
 use Rattle.machine_laws.proofs.Fitting.Working.{IsGiven}
 use Rattle.move_laws.proofs.Lists.Cases.{if_cases}
-use Rattle.machine.specs.Messaging.{wake_receiver, open_server, reply_to, slots_of, connects, no_args}
+use Rattle.machine.specs.Messaging.{wake_receiver, open_server, slots_of, connects, no_args}
 use Rattle.machine.specs.Reaping.{give_up}
 use Rattle.state_rows.specs.Nano.{held_by}
 use Rattle.machine.specs.declared.holding.Holding.TheVariants as holding
@@ -75,7 +75,7 @@ use Rattle.machine_safe.proofs.Serving.Doing.{Doing, doing}
 use Rattle.machine.specs.Transition.{act}
 use Rattle.entry_log.specs.declared.entry.Actor.TheVariants.{Thread, Irq, Idfc, Tick, Idle}
 use Rattle.entry_log.specs.declared.entry.Actor.{Actor}
-use Rattle.machine.specs.History.{next, IsNext}
+use Rattle.machine.specs.History.{next}
 use Rattle.machine.specs.Interrupts.{immediate, interrupt, supervisor}
 use Rattle.machine_laws.proofs.Fitting.Interrupts.{light-interrupt, light-immediate}
 use Rattle.state_rows.specs.Deferred.{next_immediate}
