@@ -29,7 +29,7 @@ use Rattle.machine_safe.proofs.Serving.Looked.{boot-looked, entry-looked}
 use Rattle.machine_safe.proofs.Serving.Connecting.{KeepHandles, kept-boot, kept-next}
 use Rattle.machine_safe.proofs.Serving.Served.{served-made}
 use Rattle.machine.specs.Moves.{next_object}
-use Rattle.state_rows.specs.ServerRows.{server_at, server_of}
+use Rattle.state_rows.specs.ServerRows.{server_at}
 use Rattle.machine_safe.proofs.Serving.Reading.{reading}
 use Rattle.machine.specs.declared.state.State.{State}
 use Rattle.std.specs.Prelude.{is_some}

@@ -15,6 +15,7 @@ pub mod Keeps
 pub mod Kept
 pub mod KeptRows
 pub mod KeptUses
+pub mod Later
 pub mod Letters
 pub mod Looked
 pub mod Making

@@ -40,7 +40,7 @@ use Rattle.machine_laws.proofs.Fitting.Servers.{taken_is}
 use Rattle.machine_laws.proofs.Fitting.Stepping.{FitsDecision, IsStepping, fits-answers, fits-nothing, fits-refuse, unspent}
 use Rattle.move_laws.proofs.Numbers.Registers.{read_small, write_small}
 use Rattle.machine_laws.proofs.Fitting.Regular.{looking, plain}
-use Rattle.machine_laws.proofs.Fitting.Tame.{may_tell, tame, tame-moves, regular-moves, tame-going}
+use Rattle.machine_laws.proofs.Fitting.Tame.{may_tell, tame-moves, regular-moves, tame-going}
 
 -- a piece, whatever it answers
 fits-piece : {script : Script} {S : State} {t : ObjNo} {row : ThreadRow} {instr : Instr} (told : Step) (named : may_tell plain told ≡ true) (copy : CopyMove) (piece : Piece) → IsStepping script S t row instr → begun row.part ≡ 0 → FitsCopies copy S → FitsDecision looking script t S (copy_piece t told copy piece)

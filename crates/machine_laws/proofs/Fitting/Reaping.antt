@@ -51,7 +51,7 @@ use Rattle.machine_laws.proofs.Fitting.Stepping.{FitsDecision, FitsStep, by_kind
 use Rattle.machine_laws.proofs.Fitting.Uncalled.{logged_unsent, waiter_uncalled}
 use Rattle.machine_laws.proofs.Fitting.Waiters.{struck_nowhere, waits_nowhere}
 use Rattle.machine_laws.proofs.Fitting.Working.{IsGiven, OfFirst, empty_left, empty_right, first-all, first-both, fits-work, no-items, none-owned}
-use Rattle.machine_laws.proofs.Fitting.Regular.{freeing, kind_given, plain, serving, calling, going}
+use Rattle.machine_laws.proofs.Fitting.Regular.{freeing, kind_given, plain, calling, going}
 use Rattle.machine_laws.proofs.Fitting.Tame.{regular-moves, tame, tame-at, tame-both, tame-moves, tame-going}
 
 -- a doomed thread that acts: it waits for nothing, and isn't between a find and its return

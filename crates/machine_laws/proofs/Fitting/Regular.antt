@@ -154,9 +154,9 @@ pub record IsCleaning (script : Script) (S : State) (t : ObjNo) (d : Decision) :
   pub nothing : holdings S t row ≡ []
   pub moves : d.moves ≡ (clean script S t row).moves
 
--- a decision answers where it ends an instruction, and goes on with nothing then, servers begin to close exactly of threads that it dooms, no server is made with a mutex,
--- it serves, sends and goes on only where its kind does, cleans only in that step, and its thread alone comes to use something, where its kind does and
--- nothing is answered
+-- a decision answers where it ends an instruction, and goes on with nothing behind that; servers begin to close exactly of threads that it dooms; no
+-- server is made with a mutex; it serves, sends and goes on only where its kind does, and cleans only in that step; and its thread alone comes to use
+-- something, where its kind does and nothing is answered
 pub record IsRegular (k : Kinds) (script : Script) (S : State) (t : ObjNo) (d : Decision) : Type 0 where
   pub answers : total advance_bit d.moves ≡ answer_bit d.answer
   pub dooms : (v : ObjNo) → total (closed_bit v) d.moves ≡ total (doomed_bit v) d.moves

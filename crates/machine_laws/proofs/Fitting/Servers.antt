@@ -56,10 +56,10 @@ owes_more h going = record { thread = ap is_some h.is; going = ap (λ (r : Optio
 pub fits-server : {script : Script} {S : State} {t : ObjNo} {row : ThreadRow} (name : List ℕ) (x : ℕ) → IsStepping script S t row (instr.Server name x) → is_returning row.part ≡ false → FitsDecision calling script t S (server_do S t name x)
 fits-server {script = script} {S = S} {t = t} {row = row} name x h going =
     if_cases (FitsDecision calling script t S) (is_taken kind.Server name S.references.objects) _ _ (λ _. fits-refuse (Of word.Server part.Do) refl error.AlreadyExists h)
-    (λ new. if_cases (FitsDecision calling script t S) (length S.references.objects == OBJECTS) _ _ (λ _. fits-refuse (Of word.Server part.Do) refl error.Overflow h)
+    (λ new. if_cases (FitsDecision calling script t S) (no_number_left S) _ _ (λ _. fits-refuse (Of word.Server part.Do) refl error.Overflow h)
     (λ room. of_thread_handle (λ handle. FitsDecision calling script t S (make_server t (next_object S) name x handle)) h (fits-refuse (Of word.Server part.Do) refl error.Overflow h) (made new (room_left h room))))
   where
-    made : is_taken kind.Server name S.references.objects ≡ false → length S.references.objects < OBJECTS → (i number : ℕ) → IsFree S (InThread t i) → FitsDecision calling script t S (make_server t (next_object S) name x (Some (record { holder = InThread t i; number = number })))
+    made : is_taken kind.Server name S.references.objects ≡ false → (next_object S).0 < OBJECTS → (i number : ℕ) → IsFree S (InThread t i) → FitsDecision calling script t S (make_server t (next_object S) name x (Some (record { holder = InThread t i; number = number })))
     made new room i number free =
         let o = next_object S in
         let started = moved t (move.Servers (Start o t)) S in

@@ -63,7 +63,7 @@ use Rattle.machine_laws.proofs.Fitting.Stepping.{FitsDecision, IsStepping, at_in
 use Rattle.machine_laws.proofs.Fitting.Steps.{handle_named, room_left}
 use Rattle.machine_laws.proofs.Fitting.Uncalled.{not_sent, stepping_uncalled}
 use Rattle.machine_laws.proofs.Fitting.Waiters.{stepping_nowhere}
-use Rattle.machine_laws.proofs.Fitting.Regular.{kind_of, looking, serving, calling}
+use Rattle.machine_laws.proofs.Fitting.Regular.{kind_of, looking, calling}
 use Rattle.machine_laws.proofs.Fitting.Tame.{may_tell, regular-moves, tame-at, tame-both, tame-moves, tame-going, tame-calling}
 
 -- a session is made, where the server is one and isn't closing
@@ -150,7 +150,7 @@ fits-connect_make {script = script} {S = S} {t = t} {row = row} {instr = instr} 
     by None is = fits-nothing script S t
     by (Some server) is =
         if_cases (FitsDecision calling script t S) server.is_closing _ _ (λ _. fits-refuse (Of word.Connect part.Make) refl error.ServerTerminated h)
-        (λ accepts. if_cases (FitsDecision calling script t S) (length S.references.objects == OBJECTS) _ _ (λ _. fits-refuse (Of word.Connect part.Make) refl error.Overflow h)
+        (λ accepts. if_cases (FitsDecision calling script t S) (no_number_left S) _ _ (λ _. fits-refuse (Of word.Connect part.Make) refl error.Overflow h)
         (λ room. of_thread_handle (λ handle. FitsDecision calling script t S (make_session t o slots (next_object S) handle)) h (fits-refuse (Of word.Connect part.Make) refl error.Overflow h)
         (fits-made script S t row instr o slots h (ap is_returning at) server is accepts (room_left h room) (use_is_alive S t row o h.rows.lives h.is e) (ap begun at))))
 

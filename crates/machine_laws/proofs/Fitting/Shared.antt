@@ -30,7 +30,7 @@ use Rattle.machine.specs.WellFormed.{IsAlive, is_before_use, is_spent}
 use Rattle.move_laws.proofs.Lists.Cases.{if_cases}
 use Rattle.move_laws.proofs.RowLaws.Tables.{free_index_inside, object_of_is}
 use Rattle.machine_laws.proofs.Fitting.Regular.{IsTame, Kinds, plain}
-use Rattle.machine_laws.proofs.Fitting.Tame.{may_tell, tame, tame-moves, regular-moves, tame-going}
+use Rattle.machine_laws.proofs.Fitting.Tame.{may_tell, tame, regular-moves, tame-going}
 use Rattle.machine_laws.proofs.Fitting.Living.{handle_is_alive, open_is_alive, found_inside}
 use Rattle.machine_laws.proofs.Fitting.Stepping.{FitsDecision, IsStepping, fits-refuse, fits-use, fits-handle, may_go_on, at_instruction, unspent}
 use Rattle.state_rows.specs.declared.thread.Stage.{Stage}

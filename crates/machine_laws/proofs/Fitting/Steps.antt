@@ -83,7 +83,7 @@ fits-create {script = script} {S = S} {t = t} {row = row} kind name start x name
     made new room i number free =
         let told = start_told start in
         let owed = start_owed start in
-        fits-handle (Of word.Create part.Do) refl (Make kind name (InProcess row.process i) ∷ start_moves start) x number (tame-both (Make kind name (InProcess row.process i) ∷ []) (start_moves start) (tame-going _ refl refl refl) (tame-in (begins i).calm)) h register ((record { room = room; new = new }, free, named, tt), (begins i).each) (begins i).references.threads (omega arith) (omega arith)
+        fits-handle (Of word.Create part.Do) refl (Make kind name (InProcess row.process i) ∷ start_moves start) x number (tame-both (Make kind name (InProcess row.process i) ∷ []) (start_moves start) (tame-going _ refl refl refl) (tame-in (begins i).calm)) h register ((record { room = room; new = new }, free, named, tt), (begins i).each) (begins i).threads (omega arith) (omega arith)
 
 pub fits-create_mutex : {script : Script} {S : State} {t : ObjNo} {row : ThreadRow} (name : List ℕ) (x : ℕ) → IsStepping script S t row (instr.CreateMutex name x) → FitsDecision looking script t S (create_mutex_do S t row name x)
 fits-create_mutex name x h = fits-create Mutex name None x (λ e. absurd (cc)) h h.registers (λ i. record { each = tt; threads = refl; calm = tame-moves [] refl refl })

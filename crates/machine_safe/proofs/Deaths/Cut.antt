@@ -1,13 +1,11 @@
 -- A legal history, cut at an entry.
 use Rattle.std.proofs.Common.{◌≡◌, ℕ, ◌+◌, List, [], ◌∷◌, ◌++◌, refl, sym, ap, subst, ◌∙◌, Option, Some, None}
-use Rattle.std.proofs.lemmas.List.{append_assoc}
 use Rattle.sym_base.specs.declared.number.ObjNo.{ObjNo}
 use Rattle.script_types.specs.declared.script.Script.{Script}
 use Rattle.script_types.specs.Source.{IsWellFormed}
 use Rattle.script_types.proofs.ShapeLaws.{formed_is_shaped}
 use Rattle.entry_log.specs.declared.effect.LockNo.{LockNo}
 use Rattle.entry_log.specs.declared.effect.LockNo.TheVariants.{Object, Fast}
-use Rattle.entry_log.specs.declared.effect.Effect.{Effect}
 use Rattle.entry_log.specs.declared.entry.Entry.{Entry}
 use Rattle.state_rows.specs.declared.thread.ThreadRow.{ThreadRow}
 use Rattle.machine.specs.declared.state.State.{State}

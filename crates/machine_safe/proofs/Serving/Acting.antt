@@ -31,7 +31,7 @@ use Rattle.script_types.specs.declared.script.Script.{Script}
 use Rattle.state_rows.specs.HandleNumbers.{is_local}
 use Rattle.state_rows.specs.MessageRows.{message_of}
 use Rattle.state_rows.specs.ObjectRows.{is_taken}
-use Rattle.state_rows.specs.ServerRows.{closes, owner_of, server_at, session_at, was_opened}
+use Rattle.state_rows.specs.ServerRows.{owner_of, server_at, session_at, was_opened}
 use Rattle.state_rows.specs.declared.messages.Way.TheVariants.{Disconnect}
 use Rattle.state_rows.specs.declared.servers.ServerRow.{ServerRow}
 use Rattle.state_rows.specs.declared.thread.ThreadRow.{ThreadRow}

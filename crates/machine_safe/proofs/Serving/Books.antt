@@ -41,11 +41,9 @@ use Rattle.machine_safe.proofs.Serving.Turns.{at-instruction, Book, IsTurn, entr
 use Rattle.machine_safe.specs.CountAfter.{effects_of, is_by}
 use Rattle.machine_safe.specs.SafeDeaths.{dooms}
 use Rattle.machine_safe.specs.Sent.{instruction_in}
-use Rattle.machine_safe.specs.Served.{handles_lost}
 use Rattle.move_laws.proofs.Lists.Contents.{none_contained}
 use Rattle.move_laws.proofs.Lists.Copies.{copy_at}
 use Rattle.move_laws.proofs.MoveLaws.RowMoves.{silent}
-use Rattle.move_laws.proofs.References.Same.{if_zero}
 use Rattle.script_types.specs.Shape.{IsShaped}
 use Rattle.script_types.specs.declared.script.Script.{Script}
 use Rattle.state_rows.specs.Deferred.{next_immediate}

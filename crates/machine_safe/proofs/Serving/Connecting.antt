@@ -1,10 +1,10 @@
 -- The handle that a `connect` keeps from the step that makes its session on is in the thread's own table, and of no server.
+use Rattle.machine_safe.proofs.Serving.Later.{Facts, FactThen, IsFact, StepsGive, answered-fact, boot-fact, early-fact, idle-fact, next-fact, other-fact, part-one, part-two}
 use Rattle.state_rows.specs.declared.duty.Owed.TheVariants as duty
-use Rattle.machine.specs.Find.{found_object, is_open, miss, return_to, seek_object, find_object}
+use Rattle.machine.specs.Find.{found_object, is_open, miss, seek_object, find_object}
 use Rattle.machine.specs.Decide.{go_on, nothing}
-use Rattle.std.proofs.Common.{Bool, List, None, Option, Some, [], ap, arith, false, get_or, inl, inr, refl, subst, sym, true, ℕ, ℤ, ◌+◌, ◌*◌, ◌++◌, ◌<◌, ◌≤◌, ◌∙◌, ◌∷◌, ◌≡◌, ◌⊎◌, length, Float, get_or-set_other, lives, not, le-ltb, get_or-set_same, pos, take-take}
-use Rattle.std.proofs.lemmas.Bool.{cases_eq, or_cases}
-use Rattle.std.specs.Prelude.{◌==◌, if◌then◌else◌, is_some, slice_get, slice_set, option_map, pos}
+use Rattle.std.proofs.Common.{Bool, List, None, Option, Some, [], ap, arith, false, get_or, refl, subst, sym, true, ℕ, ℤ, ◌+◌, ◌*◌, ◌<◌, ◌∙◌, ◌∷◌, ◌≡◌, length, get_or-set_other, not, le-ltb, get_or-set_same, pos}
+use Rattle.std.specs.Prelude.{if◌then◌else◌, is_some, slice_set, pos}
 use Rattle.entry_log.specs.declared.effect.Holder.{Holder}
 use Rattle.script_types.specs.declared.instruction.Instr.{Instr}
 use Rattle.sym_base.specs.declared.number.ObjNo.{ObjNo}
@@ -13,21 +13,20 @@ use Rattle.state_rows.specs.declared.servers.ServerRow.{ServerRow}
 use Rattle.machine.specs.declared.state.State.{State}
 use Rattle.state_rows.specs.declared.thread.ThreadRow.{ThreadRow}
 use Rattle.state_rows.specs.HandleNumbers.{is_local, index_of}
-use Rattle.machine.specs.WellFormed.{AreRows, IsLiveThread}
+use Rattle.machine.specs.WellFormed.{AreRows}
 use Rattle.script_types.specs.Shape.{IsShaped}
 use Rattle.machine.specs.declared.moves.Move.{Move}
 use Rattle.entry_log.specs.declared.step.Part.{Part}
 use Rattle.state_rows.specs.declared.servers.ServerRows.{ServerRows}
 use Rattle.state_rows.proofs.SoundChanges.{set_item}
 use Rattle.machine.specs.Rows.{thread_of, with_row, table_of, object_of}
-use Rattle.machine.specs.Fits.{EachFits, FitsMove, IsAtStage, IsLive}
-use Rattle.state_rows.specs.ServerRows.{server_at, accepts, owner_of}
+use Rattle.machine.specs.Fits.{EachFits, FitsMove}
+use Rattle.state_rows.specs.ServerRows.{server_at, owner_of}
 use Rattle.state_rows.specs.HandleSlots.{slot_at, is_full, free_index, new_handle, new_instance, fresh_slot, look}
-use Rattle.state_rows.specs.declared.thread.Stage.TheVariants.{Live, Doomed, Cleaned, Buried}
 use Rattle.machine.specs.ServerMoves.{all_closing, servers_lose, owned_by}
-use Rattle.machine_laws.proofs.Fitting.Regular.{going_late, Kinds, advance_bit, going_bit, answer_bit, calling, kind_of, looking, kind_given, plain}
+use Rattle.machine_laws.proofs.Fitting.Regular.{Kinds, going_bit, calling, kind_of, looking, plain}
 use Rattle.move_laws.proofs.RowLaws.Threads.{map_some}
-use Rattle.machine.specs.Moves.{moved, next_object, perform, with_part, advanced, with_kept, with_use, with_found, no_number_left}
+use Rattle.machine.specs.Moves.{moved, next_object, perform, with_part, with_kept, with_use, with_found, no_number_left}
 use Rattle.machine.specs.References.{total}
 use Rattle.machine.specs.declared.decision.Decision.{Decision}
 use Rattle.state_rows.specs.ServerChanges.{after_closing, closing}
@@ -35,33 +34,28 @@ use Rattle.machine_laws.proofs.Fitting.Living.{alive_inside, handle_is_alive}
 use Rattle.machine.specs.Task.{instruction}
 use Rattle.machine_safe.proofs.Serving.KeptRows.{objects-move}
 use Rattle.move_laws.proofs.Holders.ThreadRows.{row-here}
-use Rattle.machine_laws.proofs.Fitting.Actions.{FitsAction, each-action}
+use Rattle.machine_laws.proofs.Fitting.Actions.{FitsAction}
 use Rattle.move_laws.proofs.Lists.Mapped.{mapped-some}
 use Rattle.script_types.specs.declared.instruction.Instr.TheVariants as instr
 use Rattle.entry_log.specs.declared.step.Part.TheVariants as part
-use Rattle.machine.specs.declared.moves.Move.TheVariants.{Advance, Lose, Servers, Pay, GoOn, Wait, Messages, Gain}
-use Rattle.machine_safe.proofs.Serving.Others.{Carries, carries-each, midway-pay, at-each, same-instruction}
+use Rattle.machine.specs.declared.moves.Move.TheVariants.{Lose, Servers, Pay, GoOn, Wait, Messages, Gain}
+use Rattle.machine_safe.proofs.Serving.Others.{Carries, carries-each}
 use Rattle.entry_log.specs.declared.effect.Holder.TheVariants.{Link, InThread, Temp}
 use Rattle.state_rows.specs.declared.handle_slot.HandleSlot.{HandleSlot}
-use Rattle.move_laws.proofs.References.Same.{if_zero, same_object}
 use Rattle.machine.specs.declared.server_move.ServerMove.TheVariants.{Start, Join, Close, CloseAll, SetOpen}
 use Rattle.sym_base.specs.declared.kind.Slots.{Slots}
 use Rattle.machine.specs.SessionCalls.{make_session, connect_done, connect_send, connect_step, connect_to, send_connect, connect_make, session_made}
 use Rattle.move_laws.proofs.Lists.Totals.{inside}
 use Rattle.move_laws.proofs.RowLaws.Tables.{free_index_inside, object_of_is}
 use Rattle.machine.specs.Handles.{taken_slot}
-use Rattle.machine.specs.declared.holding.Holding.{Holding}
 use Rattle.state_rows.specs.declared.duty.Owed.{Owed}
-use Rattle.machine.specs.Steps.{decision_of, return_of, step_of}
+use Rattle.machine.specs.Steps.{return_of, step_of}
 use Rattle.machine.specs.Decide.{nothing}
 use Rattle.machine.specs.Find.{seek_object, miss, found_object, is_open, find_object}
 use Rattle.sym_base.specs.declared.word.Word.TheVariants as word
-use Rattle.machine_laws.proofs.Fitting.Working.{IsGiven}
 use Rattle.move_laws.proofs.Lists.Cases.{if_cases}
-use Rattle.machine.specs.Messaging.{wake_receiver, open_server, reply_to, slots_of, connects, no_args}
-use Rattle.machine.specs.Reaping.{give_up}
+use Rattle.machine.specs.Messaging.{wake_receiver, open_server, slots_of, connects, no_args}
 use Rattle.state_rows.specs.Nano.{held_by}
-use Rattle.machine.specs.declared.holding.Holding.TheVariants as holding
 use Rattle.sym_base.specs.declared.kind.Kind.TheVariants as kind
 use Rattle.machine.specs.ThreadCalls.{is_live}
 use Rattle.state_rows.specs.Requests.{reply_of}
@@ -71,19 +65,9 @@ use Rattle.machine.specs.declared.message_move.MessageMove.TheVariants.{Accept}
 use Rattle.state_rows.specs.MessageChanges.{new_row}
 use Rattle.state_rows.specs.declared.messages.Way.TheVariants.{Sync}
 use Rattle.machine_laws.proofs.Fitting.Posting.{tame-wake}
-use Rattle.machine_safe.proofs.Serving.Doing.{Doing, doing}
-use Rattle.machine.specs.Transition.{act}
-use Rattle.entry_log.specs.declared.entry.Actor.TheVariants.{Thread, Irq, Idfc, Tick, Idle}
 use Rattle.entry_log.specs.declared.entry.Actor.{Actor}
-use Rattle.machine.specs.History.{next, IsNext}
-use Rattle.machine.specs.Interrupts.{immediate, interrupt, supervisor}
-use Rattle.machine_laws.proofs.Fitting.Interrupts.{light-interrupt, light-immediate}
-use Rattle.state_rows.specs.Deferred.{next_immediate}
-use Rattle.machine_safe.proofs.Deaths.Rows.{live-left, left-held, held-one, row_bit, stage_live}
-use Rattle.machine.specs.Boot.{born, boot, boot_of}
-use Rattle.machine_laws.proofs.AtBoot.Born.{born_row, each_born}
-use Rattle.state_rows.specs.declared.thread.Stage.{Stage}
-use Rattle.machine_safe.proofs.Deaths.Runs.{dies-next}
+use Rattle.machine.specs.History.{next}
+use Rattle.machine.specs.Boot.{boot}
 use Rattle.std.specs.Ordering.{int_eq}
 
 -- whether a thread at this step of an instruction keeps the handle of the session that its `connect` made
@@ -99,7 +83,7 @@ pub record KeepsHandle (S : State) (u : ObjNo) (row : ThreadRow) : Type 0 where
 
 -- each live thread that keeps one does so
 abbrev pub KeepHandles : Script → State → Type 0
-KeepHandles script S = (u : ObjNo) (row : ThreadRow) → thread_of S u ≡ Some row → row.stage ≡ Live → keeps_handle (instruction script row) row.part ≡ true → KeepsHandle S u row
+KeepHandles script S = Facts script keeps_handle KeepsHandle S
 
 -- such a thread is at a later step
 kept-later : (at : Option Instr) (p : Option Part) → keeps_handle at p ≡ true → is_some p ≡ true
@@ -149,37 +133,6 @@ kept-on script S t ms fits u row c made was = record {
 slot_made : (script : Script) (S : State) (u : ObjNo) (i : ℕ) (s : ObjNo) → AreRows script S → (slot_at (table_of S u) i).object ≡ Some s → s.0 < length S.references.objects
 slot_made script S u i s rows slot = alive_inside S.references.objects s.0 (handle_is_alive S u i s rows.lives slot)
 
-kept-carried : (script : Script) (S : State) (t : ObjNo) (ms : List Move) → AreRows script S → EachFits script t ms S → KeepHandles script S → (u : ObjNo) (row : ThreadRow) → (t.0 ≡ u.0 → total going_bit ms ≡ 0) → thread_of (perform t ms S) u ≡ Some row → row.stage ≡ Live → keeps_handle (instruction script row) row.part ≡ true → KeepsHandle (perform t ms S) u row
-kept-carried script S t ms rows fits kept u row stays is live keeps =
-    let c = carries-each script S t ms fits u row stays (kept-later (instruction script row) row.part keeps) is in
-    let at : instruction script row ≡ instruction script c.mid.old = same-instruction script c.mid.old row c.mid.role (sym c.mid.place) in
-    let before : keeps_handle (instruction script c.mid.old) c.mid.old.part ≡ true = ap (keeps_handle (instruction script c.mid.old)) c.mid.part ∙ (ap (λ (i : Option Instr). keeps_handle i row.part) (sym at) ∙ keeps) in
-    kept-on script S t ms fits u row c (λ s slot. slot_made script S u (index_of c.mid.old.found) s rows slot) (kept u c.mid.old c.mid.was (c.mid.live live) before)
-
--- behind the end of its instruction a thread is at no later step
-ended-each : (script : Script) (S : State) (t : ObjNo) (ms : List Move) → EachFits script t ms S → going_late ms ≡ 0 → 0 < total advance_bit ms → (row : ThreadRow) → thread_of (perform t ms S) t ≡ Some row → is_some row.part ≡ false
-ended-each script S t [] fits last some row is = absurd (omega arith)
-ended-each script S t (Advance u ∷ ms) fits last some row is = by (is_some row.part) refl
-  where
-    by : (b : Bool) → is_some row.part ≡ b → is_some row.part ≡ false
-    by false e = e
-    by true e =
-        let c = carries-each script (moved t (Advance u) S) t ms fits.1 t row (λ _. last) e is in
-        let was = map_some advanced (get_or S.references.threads u.0 None) c.mid.old (sym (row-here S.references.threads u advanced t.0 (ap (λ (x : ObjNo). x.0) fits.0.0)) ∙ c.mid.was) in
-        let none : None ≡ row.part = ap (λ (r : ThreadRow). r.part) was.2 ∙ c.mid.part in
-        let first = ap is_some none in absurd (cc)
-ended-each script S t (m ∷ ms) fits last some row is = ended-each script (moved t m S) t ms fits.1 last (omega arith) row is
-
--- the row of a thread after changes of it
-part-two : (threads : List (Option ThreadRow)) (t : ObjNo) (f g : ThreadRow → ThreadRow) (p : Part) → ((r : ThreadRow) → (g (f r)).part ≡ Some p) → (row : ThreadRow) → get_or (with_row (with_row threads t f) t g) t.0 None ≡ Some row → row.part ≡ Some p
-part-two threads t f g p same row is =
-    let last = map_some g (get_or (with_row threads t f) t.0 None) row (sym (row-here (with_row threads t f) t g t.0 refl) ∙ is) in
-    let first = map_some f (get_or threads t.0 None) last.0 (sym (row-here threads t f t.0 refl) ∙ last.1) in
-    ap (λ (r : ThreadRow). r.part) (sym last.2) ∙ (ap (λ (r : ThreadRow). (g r).part) (sym first.2) ∙ same first.0)
-
-part-one : (threads : List (Option ThreadRow)) (t : ObjNo) (p : Part) (row : ThreadRow) → get_or (with_row threads t (with_part p)) t.0 None ≡ Some row → row.part ≡ Some p
-part-one threads t p row is = let last = map_some (with_part p) (get_or threads t.0 None) row (sym (row-here threads t (with_part p) t.0 refl) ∙ is) in ap (λ (r : ThreadRow). r.part) (sym last.2)
-
 -- neither the return nor the step that makes a session keeps a handle
 kept-return : (at : Option Instr) → keeps_handle at (Some part.Return) ≡ false
 kept-return (Some (instr.Connect name slots x)) = refl
@@ -204,51 +157,28 @@ paid-slot : (S : State) (t : ObjNo) (what : Owed) (u : ObjNo) (i : ℕ) → (slo
 paid-slot S t (duty.Close h o) u i = refl
 paid-slot S t (duty.Sweep o) u i = refl
 
--- what is owed is paid
-paid-kept : (script : Script) (S : State) (t : ObjNo) (what : Owed) → KeepHandles script S → (u : ObjNo) (row : ThreadRow) → thread_of (moved t (Pay what) S) u ≡ Some row → row.stage ≡ Live → keeps_handle (instruction script row) row.part ≡ true → KeepsHandle (moved t (Pay what) S) u row
-paid-kept script S t what kept u row is live keeps =
-    let mid = midway-pay S t what u.0 row is in
-    let at : instruction script row ≡ instruction script mid.old = same-instruction script mid.old row mid.role (sym mid.place) in
-    let was = kept u mid.old mid.was (mid.live live) (ap (keeps_handle (instruction script mid.old)) mid.part ∙ (ap (λ (i : Option Instr). keeps_handle i row.part) (sym at) ∙ keeps)) in
-    record {
-      own = ap is_local (sym mid.found) ∙ was.own;
-      other = λ s slot. paid-none S t what s (was.other s (ap (λ (n : ℕ). (slot_at (table_of S u) (index_of n)).object) mid.found ∙ (paid-slot S t what u (index_of row.found) ∙ slot)));
-    }
+kept-fact : (script : Script) → IsFact script keeps_handle KeepsHandle
+kept-fact script = record {
+  later = kept-later;
+  carried = λ S t ms rows fits u row c was. kept-on script S t ms fits u row c (λ s slot. slot_made script S u (index_of c.mid.old.found) s rows slot) was;
+  paid = λ S t what u row mid was. record {
+    own = ap is_local (sym mid.found) ∙ was.own;
+    other = λ s slot. paid-none S t what s (was.other s (ap (λ (n : ℕ). (slot_at (table_of S u) (index_of n)).object) mid.found ∙ (paid-slot S t what u (index_of row.found) ∙ slot)));
+  };
+}
 
-module _ (script : Script) (S : State) (t : ObjNo) (shaped : IsShaped script) (rows : AreRows script S) (kept : KeepHandles script S) (unmade : is_some (server_at S.serving.servers (next_object S)) ≡ false) where
+module _ (script : Script) (S : State) (t : ObjNo) (rows : AreRows script S) (kept : KeepHandles script S) (unmade : is_some (server_at S.serving.servers (next_object S)) ≡ false) where
   abbrev KeptThen : Decision → Type 0
-  KeptThen d = (row : ThreadRow) → thread_of (perform t d.moves S) t ≡ Some row → row.stage ≡ Live → keeps_handle (instruction script row) row.part ≡ true → KeepsHandle (perform t d.moves S) t row
-
-  -- who lives afterwards did before
-  abbrev LivedBefore : Decision → Type 0
-  LivedBefore d = (row : ThreadRow) → thread_of (perform t d.moves S) t ≡ Some row → row.stage ≡ Live → IsLiveThread S.references.threads t
+  KeptThen d = FactThen script keeps_handle KeepsHandle S t d
 
   answered-kept : {k : Kinds} (d : Decision) (code : ℤ) → d.answer ≡ Some code → FitsAction k script S t d → KeptThen d
-  answered-kept d code e fits row is live keeps =
-      let one = fits.regular.answers ∙ ap answer_bit e in
-      let ended = ended-each script S t d.moves fits.goes.each fits.regular.last (omega arith) row is in
-      let later = kept-later (instruction script row) row.part keeps in absurd (cc)
+  answered-kept d code e fits = answered-fact script keeps_handle KeepsHandle (kept-fact script) S rows kept t d code e fits
 
-  -- at another instruction no handle is kept
   other-kept : {k : Kinds} (d : Decision) (old : ThreadRow) (i : Instr) → thread_of S t ≡ Some old → instruction script old ≡ Some i → ((p : Option Part) → keeps_handle (Some i) p ≡ false) → FitsAction k script S t d → KeptThen d
-  other-kept d old i here at other fits row is live keeps = by d.answer refl
-    where
-      by : (x : Option ℤ) → d.answer ≡ x → KeepsHandle (perform t d.moves S) t row
-      by (Some code) e = answered-kept d code e fits row is live keeps
-      by None e =
-          let w = at-each script S t d.moves fits.goes.each t.0 row is in
-          let none : total advance_bit d.moves ≡ 0 = fits.regular.answers ∙ ap answer_bit e in
-          let still = if_zero (t.0 == t.0) (total advance_bit d.moves) none in
-          let own : w.old ≡ old = (let a = w.was in cc) in
-          let now : instruction script row ≡ Some i = same-instruction script w.old row w.role (let p = w.place in omega arith) ∙ (ap (instruction script) own ∙ at) in
-          let no = other row.part in
-          let so : keeps_handle (Some i) row.part ≡ true = ap (λ (x : Option Instr). keeps_handle x row.part) (sym now) ∙ keeps in absurd (cc)
+  other-kept d old i here at other fits = other-fact script keeps_handle KeepsHandle (kept-fact script) S rows kept t d old i here at other fits
 
-  -- a step after which no handle is kept
   early-kept : (d : Decision) (p : Part) → ((row : ThreadRow) → thread_of (perform t d.moves S) t ≡ Some row → row.part ≡ Some p) → ((at : Option Instr) → keeps_handle at (Some p) ≡ false) → KeptThen d
-  early-kept d p part early row is live keeps =
-      let no = early (instruction script row) in
-      let so : keeps_handle (instruction script row) (Some p) ≡ true = ap (keeps_handle (instruction script row)) (sym (part row is)) ∙ keeps in absurd (cc)
+  early-kept d p part early = early-fact script keeps_handle KeepsHandle (kept-fact script) S rows kept t d p part early
 
   -- the session is made with its handle, and that is kept
   made-kept_handle : (o : ObjNo) (slots : Slots) (full : Bool) → is_full (table_of S t) ≡ full → FitsAction calling script S t (make_session t o slots (next_object S) (if full then None else Some (record { holder = InThread t (free_index (table_of S t)); number = new_handle true (table_of S t) }))) → KeptThen (make_session t o slots (next_object S) (if full then None else Some (record { holder = InThread t (free_index (table_of S t)); number = new_handle true (table_of S t) })))
@@ -280,7 +210,7 @@ module _ (script : Script) (S : State) (t : ObjNo) (shaped : IsShaped script) (r
       }
 
   idle-kept : KeptThen nothing
-  idle-kept row is live keeps = kept-carried script S t [] rows tt kept t row (λ _. refl) is live keeps
+  idle-kept = idle-fact script keeps_handle KeepsHandle (kept-fact script) S rows kept t
 
   seek-kept : (found : Option ObjNo) → FitsAction looking script S t (seek_object t word.Connect found) → KeptThen (seek_object t word.Connect found)
   seek-kept None fits = answered-kept (seek_object t word.Connect None) _ refl fits
@@ -342,100 +272,15 @@ module _ (script : Script) (S : State) (t : ObjNo) (shaped : IsShaped script) (r
       missed false f = early-kept (miss t word.Connect part.Make (found_object old) false) part.Make (λ row is. part-one S.references.threads t part.Make row is) kept-make
   return-kept old i here at fits = other-kept (return_of S t old i) old i here at (λ q. refl) fits
 
-  -- a doomed thread lives on no more
-  dead-kept : (d : Decision) → IsAtStage S t Doomed → LivedBefore d → KeptThen d
-  dead-kept d at lived row is live keeps =
-      let before = lived row is live in
-      let same : before.row ≡ at.row = (let a = before.is in let b = at.is in cc) in
-      let both : Live ≡ Doomed = sym before.live ∙ (ap (λ (r : ThreadRow). r.stage) same ∙ at.at) in absurd (cc)
+  kept-gives : StepsGive script keeps_handle KeepsHandle S t
+  kept-gives = record { steps = step-kept; returns = return-kept }
 
-  carried-kept : {k : Kinds} (d : Decision) → k.goes ≡ false → FitsAction k script S t d → KeptThen d
-  carried-kept d stays fits row is live keeps = kept-carried script S t d.moves rows fits.goes.each kept t row (λ _. fits.regular.goes stays) is live keeps
+-- each action leaves them, and at boot there are none
+pub kept-next : (script : Script) (S : State) → IsShaped script → AreRows script S → KeepHandles script S → is_some (server_at S.serving.servers (next_object S)) ≡ false → (actor : Actor) → KeepHandles script (next script S actor)
+kept-next script S shaped rows kept unmade actor = next-fact script keeps_handle KeepsHandle (kept-fact script) S rows kept shaped (λ t. kept-gives script S t rows kept unmade) actor
 
-  give-kept : (old : ThreadRow) (what : Holding) → IsGiven S t what → FitsAction (kind_given what) script S t (give_up S t old what) → LivedBefore (give_up S t old what) → KeptThen (give_up S t old what)
-  give-kept old (holding.Handle h o) given fits lived = dead-kept (give_up S t old (holding.Handle h o)) given.1 lived
-  give-kept old (holding.Use o) given fits lived = dead-kept (give_up S t old (holding.Use o)) given lived
-  give-kept old what given fits lived = carried-kept (give_up S t old what) refl fits
-
-  decision-kept : LivedBefore (decision_of script S t) → KeptThen (decision_of script S t)
-  decision-kept = each-action script S t (λ (d : Decision). LivedBefore d → KeptThen d) (record {
-    plainly = λ d fits lived. carried-kept d refl fits;
-    steps = λ old i is live going at fits lived. step-kept old i old.part is at (λ keeps. kept t old is live (ap (λ (x : Option Instr). keeps_handle x old.part) at ∙ keeps)) fits;
-    returns = λ old i is at fits lived. return-kept old i is at fits;
-    gives = λ old what given fits lived. give-kept old what given fits lived;
-    pays = λ what rest owes lived row is live keeps. paid-kept script S t what kept t row is live keeps;
-  }) shaped rows
-
--- whoever lives afterwards did before
-abbrev Lived : State → State → Type 0
-Lived S T = (u : ObjNo) (row : ThreadRow) → thread_of T u ≡ Some row → row.stage ≡ Live → IsLiveThread S.references.threads u
-
-live-row : (threads : List (Option ThreadRow)) (u : ObjNo) (x : Option ThreadRow) → get_or threads u.0 None ≡ x → row_bit stage_live x ≡ 1 → IsLiveThread threads u
-live-row threads u None e one = absurd (omega arith)
-live-row threads u (Some row) e one = by row.stage refl one
-  where
-    by : (stage : Stage) → row.stage ≡ stage → stage_live stage ≡ 1 → IsLiveThread threads u
-    by Live at one = record { row = row; is = e; live = at }
-    by Doomed at one = absurd (omega arith)
-    by Cleaned at one = absurd (omega arith)
-    by Buried at one = absurd (omega arith)
-
-lived-next : (script : Script) (S : State) (actor : Actor) → IsShaped script → AreRows script S → Lived S (next script S actor)
-lived-next script S actor shaped rows u row is live =
-    let dies = (dies-next script S actor shaped rows).live u in
-    let one : row_bit stage_live (thread_of (next script S actor) u) ≡ 1 = ap (row_bit stage_live) is ∙ ap stage_live live in
-    let few = live-one (thread_of S u) in
-    live-row S.references.threads u (thread_of S u) refl (omega arith)
-  where
-    live-one : (x : Option ThreadRow) → row_bit stage_live x ≤ 1
-    live-one x = let a = live-left x in let b = left-held x in let c = held-one x in omega arith
-
-module _ (script : Script) (S : State) (shaped : IsShaped script) (rows : AreRows script S) (kept : KeepHandles script S) (unmade : is_some (server_at S.serving.servers (next_object S)) ≡ false) where
-  -- an action of a thread
-  kept-doing : (t : ObjNo) (ms : List Move) → Doing script S t ms → Lived S (perform t ms S) → (u : ObjNo) (row : ThreadRow) → (t.0 ≡ u.0 → ⊥) → thread_of (perform t ms S) u ≡ Some row → row.stage ≡ Live → keeps_handle (instruction script row) row.part ≡ true → KeepsHandle (perform t ms S) u row
-  kept-doing t ms does lived u row apart is live keeps = elim does as (λ _. KeepsHandle (perform t ms S) u row) [
-    | inl goes ↦ kept-carried script S t ms rows goes.each kept u row (λ at. absurd (apart at)) is live keeps
-    | inr other ↦ elim other as (λ _. KeepsHandle (perform t ms S) u row) [
-      | inl pays ↦ subst (λ (l : List Move). KeepsHandle (perform t l S) u row) (sym pays.moves) (paid-kept script S t pays.what kept u row (ap (λ (l : List Move). thread_of (perform t l S) u) (sym pays.moves) ∙ is) live keeps)
-      | inr none ↦ subst (λ (l : List Move). KeepsHandle (perform t l S) u row) (sym none) (kept u row (ap (λ (l : List Move). thread_of (perform t l S) u) (sym none) ∙ is) live keeps)
-    ]
-  ]
-
-  kept-decision : (t : ObjNo) → Lived S (perform t (decision_of script S t).moves S) → KeepHandles script (perform t (decision_of script S t).moves S)
-  kept-decision t lived u row is live keeps = elim (cases_eq t.0 u.0) as (λ _. KeepsHandle (perform t (decision_of script S t).moves S) u row) [
-    | inr apart ↦ kept-doing t (decision_of script S t).moves (doing script S t shaped rows) lived u row apart is live keeps
-    | inl at ↦
-        let same = same_object t u at in
-        subst (λ (x : ObjNo). KeepsHandle (perform t (decision_of script S t).moves S) x row) same
-        (decision-kept script S t shaped rows kept unmade (λ r there alive. lived t r there alive) row (ap (λ (n : ℕ). get_or (perform t (decision_of script S t).moves S).references.threads n None) at ∙ is) live keeps)
-  ]
-
-  kept-act : (t : ObjNo) → Lived S (act script S t).state → KeepHandles script (act script S t).state
-  unfolding act
-  kept-act t lived = kept-decision t lived
-
-  kept-interrupt : (k : ℕ) → KeepHandles script (interrupt script S k).state
-  unfolding interrupt
-  kept-interrupt k u row is live keeps = let light = light-interrupt script S k shaped rows in kept-carried script S supervisor _ rows light.each kept u row (λ _. light.calm.goes refl) is live keeps
-
-  kept-immediate : KeepHandles script (immediate script S).state
-  unfolding immediate
-  kept-immediate u row is live keeps = let light = light-immediate script S (next_immediate S.synchronization.deferred) shaped rows refl in kept-carried script S supervisor _ rows light.each kept u row (λ _. light.calm.goes refl) is live keeps
-
-  pub kept-next : (actor : Actor) → KeepHandles script (next script S actor)
-  kept-next (Thread t) = kept-act t (lived-next script S (Thread t) shaped rows)
-  kept-next (Irq k) = kept-interrupt k
-  kept-next Idfc = kept-immediate
-  kept-next Tick = kept
-  kept-next Idle = kept
-
--- at boot nobody keeps one
 pub kept-boot : (script : Script) → IsShaped script → KeepHandles script (boot script)
-unfolding boot_of
-kept-boot script shaped u row is live keeps =
-    let none = (born_row script _ (born script) u.0 row (each_born script shaped) is).part in
-    let later = kept-later (instruction script row) row.part keeps in
-    let first = ap is_some none in absurd (cc)
+kept-boot script shaped = boot-fact script keeps_handle KeepsHandle (kept-fact script) shaped
 
 -- the session that a `connect` made is no server
 pub session-other : (S : State) (t : ObjNo) (row : ThreadRow) (s : ObjNo) → KeepsHandle S t row → session_made S t row ≡ Some s → server_at S.serving.servers s ≡ None

@@ -29,7 +29,7 @@ use Rattle.machine_safe.proofs.Serving.Served.{Served, served-keeps, served-made
 use Rattle.machine_safe.proofs.Serving.Turns.{Book, IsTurn, entry_for, unserving, counts}
 use Rattle.machine_safe.specs.CountAfter.{effects_of}
 use Rattle.machine_safe.specs.SafeDeaths.{dooms}
-use Rattle.machine_safe.specs.Served.{ends, handles_lost, one_if, or_before, owner_in, owner_told, server_told}
+use Rattle.machine_safe.specs.Served.{ends, one_if, or_before, owner_in, owner_told, server_told}
 use Rattle.script_types.specs.declared.script.Script.{Script}
 use Rattle.std.proofs.Common.{Bool, true, false, refl, List, None, [], ap, arith, subst, sym, ℕ, ◌++◌, ◌+◌, ◌∙◌, ◌∷◌, ◌≡◌, Option, Some, get_or}
 use Rattle.std.specs.Prelude.{if◌then◌else◌, ◌==◌}

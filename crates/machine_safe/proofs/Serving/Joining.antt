@@ -25,7 +25,7 @@ use Rattle.machine_safe.proofs.Serving.Quiet.{IsQuiet, Post, post_of, posts, los
 use Rattle.machine_safe.proofs.Serving.Reading.{IsSame, Reading, further, reading, same-both, same-entry, same-then}
 use Rattle.machine_safe.proofs.Serving.Served.{Served, served-keeps, served-made, served-same}
 use Rattle.machine_safe.proofs.Serving.Turns.{Book, IsTurn, counts, entry_for, unserving}
-use Rattle.machine_safe.specs.Served.{ends, handles_lost, one_if, or_before, server_told}
+use Rattle.machine_safe.specs.Served.{ends, one_if, or_before, server_told}
 use Rattle.move_laws.proofs.Lists.Contents.{contains_map}
 use Rattle.move_laws.proofs.Lives.Fresh.{next_fresh}
 use Rattle.move_laws.proofs.References.Same.{eqb_apart, if_zero}
@@ -34,7 +34,7 @@ use Rattle.state_rows.specs.ServerRows.{server_at, session_at}
 use Rattle.state_rows.specs.declared.messages.Message.{Message}
 use Rattle.state_rows.specs.declared.servers.ServerRow.{ServerRow}
 use Rattle.std.proofs.Common.{Bool, List, None, Option, Some, [], arith, length, refl, sym, true, ℕ, ◌++◌, ◌+◌, ◌∙◌, ◌∷◌, ◌≡◌, ◌≤◌, subst, ap, get_or, get_or-set_other, get_or-set_same, inl, inr, ◌<◌}
-use Rattle.std.specs.Prelude.{Contains, if◌then◌else◌, is_some, ◌==◌}
+use Rattle.std.specs.Prelude.{Contains, is_some, ◌==◌}
 use Rattle.sym_base.specs.declared.number.ObjNo.{ObjNo}
 use Rattle.machine_safe.proofs.Serving.Since.{fresh-on}
 use Rattle.machine_safe.proofs.Serving.Slots.{link-made, links-told, slots-joined, slots-kept}

@@ -3,7 +3,7 @@ use Rattle.entry_log.specs.declared.effect.Effect.TheVariants as effect
 use Rattle.entry_log.specs.declared.effect.Holder.TheVariants as holder
 use Rattle.entry_log.specs.declared.effect.Effect.{Effect}
 use Rattle.entry_log.specs.declared.entry.Entry.{Entry}
-use Rattle.machine.specs.Dooms.{end, doom}
+use Rattle.machine.specs.Dooms.{end}
 use Rattle.machine.specs.declared.state.State.{State}
 use Rattle.machine_safe.proofs.Serving.Deeds.{status_of_way}
 use Rattle.machine_safe.proofs.Serving.EffectSums.{accepts-append, ends-append, finishes-append, server_told-append}

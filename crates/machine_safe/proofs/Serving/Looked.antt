@@ -1,7 +1,7 @@
 -- The session that a thread's `send` uses is the one that its look found.
 use Rattle.std.proofs.Common.{Bool, List, None, Option, Some, [], ap, arith, false, get_or, inl, inr, refl, subst, sym, true, ℕ, ℤ, ◌++◌, ◌<◌, ◌∙◌, ◌∷◌, ◌≡◌, ◌⊎◌}
 use Rattle.std.proofs.lemmas.Bool.{cases_eq, eq-eqb}
-use Rattle.std.specs.Prelude.{if◌then◌else◌, slice_get, slice_index, ◌&&◌, ◌==◌}
+use Rattle.std.specs.Prelude.{if◌then◌else◌, slice_index, ◌&&◌, ◌==◌}
 use Rattle.sym_base.specs.declared.kind.Kind.TheVariants as kind
 use Rattle.sym_base.specs.declared.number.ObjNo.{ObjNo}
 use Rattle.sym_base.specs.declared.word.Word.TheVariants as word
@@ -18,7 +18,6 @@ use Rattle.entry_log.specs.declared.step.Part.{Part}
 use Rattle.state_rows.specs.Deferred.{next_immediate}
 use Rattle.state_rows.specs.Requests.{is_pending}
 use Rattle.state_rows.specs.declared.duty.Owed.{Owed}
-use Rattle.state_rows.specs.declared.thread.Role.{Role}
 use Rattle.state_rows.specs.declared.thread.ThreadRow.{ThreadRow}
 use Rattle.machine.specs.declared.decision.Decision.{Decision}
 use Rattle.machine.specs.declared.holding.Holding.{Holding}
@@ -37,7 +36,7 @@ use Rattle.machine.specs.References.{total}
 use Rattle.machine.specs.Rows.{owed_of, thread_of, with_row}
 use Rattle.machine.specs.SessionCalls.{send_step}
 use Rattle.machine.specs.Steps.{decision_of, pay, return_of, step_of}
-use Rattle.machine.specs.Task.{instruction, instructions_of}
+use Rattle.machine.specs.Task.{instruction}
 use Rattle.machine.specs.Transition.{act}
 use Rattle.machine.specs.WellFormed.{AreRows}
 use Rattle.move_laws.proofs.Holders.ThreadRows.{row-here}
@@ -50,8 +49,8 @@ use Rattle.machine_laws.proofs.Fitting.Interrupts.{light-immediate, light-interr
 use Rattle.machine_laws.proofs.Fitting.Regular.{Kinds, advance_bit, answer_bit, kind_given, kind_of, looking, use_bit}
 use Rattle.machine_safe.proofs.Serving.Deeds.{Looked, at_send}
 use Rattle.machine_safe.proofs.Serving.EffectSums.{or-none, or-three, used_told-append}
-use Rattle.machine_safe.proofs.Serving.Keeps.{WasAt, steps-then, steps_of}
-use Rattle.machine_safe.proofs.Serving.KeptRows.{at-move, at-pay, at-same}
+use Rattle.machine_safe.proofs.Serving.Keeps.{steps_of}
+use Rattle.machine_safe.proofs.Serving.KeptRows.{at-move, at-pay}
 use Rattle.machine_safe.proofs.Serving.KeptUses.{unused-move, unused-pay, uses-move, using-pay}
 use Rattle.machine_safe.proofs.Serving.Turns.{entry_for}
 use Rattle.machine_safe.specs.CountAfter.{is_by}

@@ -17,7 +17,7 @@ use Rattle.machine_safe.proofs.Serving.Keeps.{closing-row}
 use Rattle.machine_safe.proofs.Serving.Reading.{Reading, closing_by, further}
 use Rattle.machine_safe.proofs.Serving.Served.{IsServed, Served, closing-count}
 use Rattle.machine_safe.specs.SafeDeaths.{dooms}
-use Rattle.machine_safe.specs.Served.{ends, handles_lost, one_if, or_before, owner_told, server_told}
+use Rattle.machine_safe.specs.Served.{ends, one_if, or_before, owner_told, server_told}
 use Rattle.move_laws.proofs.References.Mutexes.{held-holding}
 use Rattle.move_laws.proofs.References.Same.{eqb_apart, if_is, if_not, if_zero}
 use Rattle.script_types.specs.declared.script.Script.{Script}

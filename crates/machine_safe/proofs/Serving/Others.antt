@@ -19,7 +19,7 @@ use Rattle.script_types.specs.declared.script.Script.{Script}
 use Rattle.state_rows.specs.declared.handle_slot.HandleSlot.{HandleSlot}
 use Rattle.state_rows.specs.declared.thread.ThreadRow.{ThreadRow}
 use Rattle.state_rows.specs.declared.thread.Waiting.TheVariants as waiting
-use Rattle.std.proofs.Common.{Bool, List, None, Option, Some, [], ap, false, get_or, get_or-set_other, refl, sym, true, ℕ, ◌∙◌, ◌∷◌, ◌≡◌, arith, lives, inl, inr}
+use Rattle.std.proofs.Common.{Bool, List, None, Option, Some, [], ap, false, get_or, get_or-set_other, refl, sym, true, ℕ, ◌∙◌, ◌∷◌, ◌≡◌, arith, inl, inr}
 use Rattle.std.specs.Prelude.{is_some, slice_get, ◌==◌}
 use Rattle.sym_base.specs.declared.number.ObjNo.{ObjNo}
 use Rattle.std.proofs.lemmas.Bool.{cases_eq}

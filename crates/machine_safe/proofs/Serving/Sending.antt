@@ -35,7 +35,7 @@ use Rattle.state_rows.specs.declared.messages.Way.{Way}
 use Rattle.state_rows.specs.declared.messages.Way.TheVariants.{Async, Sync}
 use Rattle.state_rows.specs.declared.servers.ServerRow.{ServerRow}
 use Rattle.state_rows.specs.declared.thread.ThreadRow.{ThreadRow}
-use Rattle.std.proofs.Common.{Bool, None, Some, [], ap, arith, false, length, pos, refl, subst, sym, true, ℕ, ℤ, ◌++◌, ◌∷◌, ◌≡◌, List, Option, inl, inr, ◌<◌, ◌≤◌}
+use Rattle.std.proofs.Common.{Bool, None, Some, [], ap, arith, false, pos, refl, subst, sym, true, ℕ, ℤ, ◌++◌, ◌∷◌, ◌≡◌, List, Option, inl, inr, ◌<◌, ◌≤◌}
 use Rattle.std.proofs.lemmas.List.{append-nil}
 use Rattle.std.specs.Ordering.{int_eq}
 use Rattle.std.specs.Prelude.{if◌then◌else◌, is_some, not}

@@ -15,7 +15,6 @@ use Rattle.machine_safe.proofs.Serving.Reading.{IsSame, Reading, closing_by, fur
 use Rattle.machine_safe.specs.SafeDeaths.{dooms}
 use Rattle.machine_safe.specs.Served.{ends, handles_lost, is_doomed, or_before, owner_told, server_told}
 use Rattle.move_laws.proofs.Lives.LivesMove.{zero_or}
-use Rattle.move_laws.proofs.References.Same.{if_zero}
 use Rattle.script_types.specs.declared.script.Script.{Script}
 use Rattle.state_rows.specs.ServerRows.{is_closing, server_at, server_of}
 use Rattle.state_rows.specs.declared.servers.ServerRow.{ServerRow}

@@ -32,7 +32,7 @@ use Rattle.machine_safe.proofs.Serving.Turns.{closing-told-by, Book, IsTurn, cou
 use Rattle.machine_safe.specs.CountAfter.{effects_of}
 use Rattle.machine_safe.specs.SafeMessages.{NothingLeft}
 use Rattle.machine_safe.specs.Sent.{finishes}
-use Rattle.machine_safe.specs.Served.{ends, handles_lost, or_before, server_told}
+use Rattle.machine_safe.specs.Served.{ends, or_before, server_told}
 use Rattle.move_laws.proofs.Lists.Contents.{contains_behind, contains_cases, contains_first, contains_map, none_contained}
 use Rattle.move_laws.proofs.References.Same.{eqb_apart, if_not, if_zero, same_is, same_self}
 use Rattle.move_laws.proofs.Lives.LivesMove.{zero_or}
