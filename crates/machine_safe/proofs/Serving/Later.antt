@@ -30,7 +30,6 @@ use Rattle.move_laws.proofs.References.Same.{if_zero, same_object}
 use Rattle.machine.specs.declared.holding.Holding.{Holding}
 use Rattle.state_rows.specs.declared.duty.Owed.{Owed}
 use Rattle.machine.specs.Steps.{decision_of, return_of, step_of}
-use Rattle.machine.specs.Decide.{nothing}
 use Rattle.machine_laws.proofs.Fitting.Working.{IsGiven}
 use Rattle.machine.specs.Reaping.{give_up}
 use Rattle.machine.specs.declared.holding.Holding.TheVariants as holding
