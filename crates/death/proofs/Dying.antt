@@ -1,6 +1,6 @@
 -- What a dying thread does next, and that its moves go through.
 use Rattle.std.proofs.Common.{◌≡◌, ◌∙◌, ℕ, true, false, List, [], ◌∷◌, Option, Some, None, ap, arith, refl, sym}
-use Rattle.std.specs.Prelude.{Bool, IsTrue}
+use Rattle.std.specs.Prelude.{◌||◌, Bool, IsTrue}
 use Rattle.sym_base.specs.declared.number.ObjNo.{ObjNo}
 use Rattle.sym_base.specs.declared.kind.Exit.{Exit}
 use Rattle.script_types.specs.declared.script.Script.{Script}
@@ -19,7 +19,8 @@ use Rattle.machine.specs.Holdings.{holdings, held_servers}
 use Rattle.machine.specs.Reaping.{bury}
 use Rattle.machine.specs.Rows.{first_owed, thread_of}
 use Rattle.machine.specs.Steps.{decision_of, decision_of_row, decision_where, pay}
-use Rattle.machine.specs.Task.{by_stage, dying_task, instruction, is_able, is_returning, pay_or, return_or, task_of, task_of_row, live_task, next_call, step_or_end, work_or}
+use Rattle.machine.specs.Task.{by_stage, dying_task, instruction, is_able, pay_or, return_or, task_of, task_of_row, live_task, next_call, step_or_end, work_or}
+use Rattle.machine.specs.Out.{is_out, is_returning}
 use Rattle.machine.specs.WellFormed.{AreRows}
 use Rattle.machine_laws.proofs.Fitting.Bodies.{Goes}
 use Rattle.machine_laws.proofs.Fitting.Dooms.{after-doom, may_die, unprotected_unheld}
@@ -33,7 +34,7 @@ use Rattle.death.specs.Dying.{IsReapable, MayBury, MayEnd}
 -- what an able thread decides is what its task does
 task_decides : (script : Script) (S : State) (t : ObjNo) (what : Option Task) → IsTrue (is_able script S t) → task_of script S t ≡ what → decision_of script S t ≡ decision_of_row script S t (thread_of S t) what
 task_decides script S t what able is =
-    ap (λ (able : Bool). decision_where script able S t (task_of script S t)) able ∙ ap (λ (what : Option Task). decision_where script true S t what) is
+    ap (λ (able : Bool). decision_where script (able || is_out S t) S t (task_of script S t)) able ∙ ap (λ (what : Option Task). decision_where script true S t what) is
 
 -- whoever isn't at a return does something else
 apart_other : (returning : Bool) (instr : Option Instr) (other : Option Task) → return_or returning instr None ≡ None → return_or returning instr other ≡ other
@@ -79,12 +80,12 @@ pub buries : (script : Script) (S : State) (t : ObjNo) (dfc : ℕ) → MayBury s
 buries script S t dfc h = sym (task_decides script S t (Some (Bury dfc)) h.able h.next ∙ burial_decided script S t dfc (thread_of S t) h.next)
 
 -- the moves of a doom go through
-pub doom_goes : (script : Script) (S : State) (t : ObjNo) (exit : Exit) → IsShaped script → AreRows script S → MayEnd S t → ActionGoes script t (doom t exit) S
-doom_goes script S t exit shaped rows h =
+pub doom_goes : (script : Script) (S : State) (t : ObjNo) (exit : Exit) → IsShaped script → AreRows script S → S.mode.shared ≡ false → MayEnd S t → ActionGoes script t (doom t exit) S
+doom_goes script S t exit shaped rows alone h =
     let after = after-doom script S t t exit (may_die script S t h.row rows h.is h.live (unprotected_unheld S.synchronization.nano t h.free)) in
     let goes : Goes script t S (doom t exit) = record {
       each = after.each;
       few = let a = rows.references.duties.few t.0 in let none = after.light in omega arith;
       told = let few = after.told in let most = tell_few t (doom t exit) S in omega arith;
     } in
-    fitting_goes script S t (doom t exit) shaped (record { rows = rows; inside = inside S.references.threads t.0 h.row h.is }) goes
+    fitting_goes script S t (doom t exit) shaped (record { rows = rows; inside = inside S.references.threads t.0 h.row h.is }) alone goes

@@ -64,17 +64,26 @@ end
 /// disconnections, and two calls.
 const LOADED: &str = "slots 260 entries 260 accepted 10 finished 10 objects 2\n";
 
-const BRIEFLY: Case<'static> = Case {
+/// The case of a script that is run in brief.
+pub const BRIEFLY: Case<'static> = Case {
     words: &["brief"],
     written: BRIEF,
     ..WELL
 };
 
-const MAKE: Case<'static> = Case {
+/// The case of a script that is made.
+pub const MAKE: Case<'static> = Case {
     words: &["make", "18446744073709551615", "1"],
     script: "",
     written: MADE,
     ..WELL
+};
+
+/// The case of a made script that is loaded.
+pub const LOAD: Case<'static> = Case {
+    words: &["load", "7", "1"],
+    written: LOADED,
+    ..MAKE
 };
 
 #[test]
@@ -110,17 +119,12 @@ fn a_script_is_made(rt: HostRuntime) -> Result<(), Fail> {
 
 #[test]
 fn a_made_script_is_loaded(rt: HostRuntime) -> Result<(), Fail> {
-    let loaded = Case {
-        words: &["load", "7", "1"],
-        written: LOADED,
-        ..MAKE
-    };
-    expect_case(&rt, rt.alloc(), &loaded)?;
+    expect_case(&rt, rt.alloc(), &LOAD)?;
     let unwritten = Case {
         failing_writes: &[1],
         status: Status::WriteFault,
         written: "",
-        ..loaded
+        ..LOAD
     };
     expect_case(&rt, rt.alloc(), &unwritten)
 }

@@ -11,6 +11,8 @@ mod copy_tests;
 #[cfg(test)]
 mod death_tests;
 #[cfg(test)]
+mod fault_tests;
+#[cfg(test)]
 mod server_tests;
 mod status;
 #[cfg(test)]

@@ -1,4 +1,5 @@
 mod ActionsDone
+pub mod Alone
 mod BootGroups
 mod BootNano
 mod BootProcs

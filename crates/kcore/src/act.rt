@@ -1,5 +1,5 @@
 //! Actions: of a thread, of an interrupt or of the immediate queue, or the end of a time slice.
-ghost use Rattle.std.specs.Prelude.{◌≡◌, [], None, IsTrue};
+ghost use Rattle.std.specs.Prelude.{◌≡◌, [], None, IsTrue, false};
 ghost use Rattle.machine.specs.Choice.{priority_of};
 ghost use Rattle.machine.specs.History.{CanAct};
 ghost use Rattle.machine.specs.Steps.{decision_of};
@@ -91,6 +91,7 @@ pub fn transition<W: RefWords + Drop>(
     entry: &mut Entry,
 )
     requires runs { RunsScript script.now core.old }
+    requires alone { core.old.state.mode.shared ≡ false }
     requires can { CanAct script.now core.old.state actor }
     requires empty { entry.old.effects ≡ [] }
     ensures told { IsTold entry.old entry.new }

@@ -1,5 +1,5 @@
 //! Deaths: a thread ends, is reaped or buries another, told by its entry.
-ghost use Rattle.std.specs.Prelude.{◌≡◌, []};
+ghost use Rattle.std.specs.Prelude.{◌≡◌, [], false};
 ghost use Rattle.machine.specs.Dooms.{end};
 ghost use Rattle.machine.specs.Steps.{decision_of};
 ghost use Rattle.death.specs.Dying.{IsReapable, MayBury, MayEnd};
@@ -44,6 +44,7 @@ pub fn reap<W: RefWords + Drop>(
     entry: &mut Entry,
 )
     requires runs { RunsScript script.now core.old }
+    requires alone { core.old.state.mode.shared ≡ false }
     requires dying { IsReapable script.now core.old.state thread }
     requires empty { entry.old.effects ≡ [] }
     ensures told { IsTold entry.old entry.new }

@@ -1,5 +1,5 @@
 //! Actions of which no thread is the actor: those of interrupts and of the immediate queue.
-ghost use Rattle.std.specs.Prelude.{◌≡◌, []};
+ghost use Rattle.std.specs.Prelude.{◌≡◌, [], false};
 ghost use Rattle.state_rows.specs.Deferred.{next_immediate};
 ghost use Rattle.machine.specs.declared.plan.Body.TheVariants.{Interrupt};
 ghost use Rattle.machine.specs.declared.plan.Plan.TheVariants.{Runs};
@@ -30,6 +30,7 @@ pub fn interrupt<W: RefWords + Drop>(
     entry: &mut Entry,
 )
     requires runs { RunsScript script.now core.old }
+    requires alone { core.old.state.mode.shared ≡ false }
     requires empty { entry.old.effects ≡ [] }
     ensures told { IsTold entry.old entry.new }
     ensures does { CarriesOut script.now supervisor core.old core.new (told_in entry.new) (decision_by script.now supervisor core.old.state (Runs (Interrupt number))) }

@@ -24,6 +24,7 @@ use crate::act::transition;
 use crate::boot;
 use entry_log::{Actor, Effects, Entry, FinalRow, Step};
 use kernel_tables::{Core, Tables};
+use next_actions::declares_interrupt;
 use procs::Procs;
 use readings::is_able;
 use ref_words::{PlainWords, RefWords};
@@ -62,14 +63,6 @@ fn slot_actor<W: RefWords + Drop>(core: &Core<W>, slot: Slot) -> Actor
         Slot::Irq(number) => Actor::Irq(number),
         Slot::Tick => Actor::Tick,
     }
-}
-
-/// Whether a script declares an interrupt of this number.
-fn declares_interrupt(script: &Script, number: u8) -> bool
-    ensures { result ≡ declares_interrupt script.now number }
-{
-    let irqs = script.irqs.as_slice();
-    irqs.iter().any(|irq| irq.number == number)
 }
 
 /// An entry of an actor at a place, which tells nothing yet.

@@ -110,6 +110,9 @@ module _ (script : Script) (S : State) (rows : AreRows script S) (known : AreKno
   alive_made : (o : ObjNo) → IsAlive (object_of S o) → o.0 < length S.references.objects
   alive_made o alive = (alive_not_gone S.references.objects o alive).1
 
+  counted_made : (o : ObjNo) → 0 < count_of S o → o.0 < length S.references.objects
+  counted_made o some = alive_made o (rows.lives.alive o some)
+
   owes_in : (u : ObjNo) → is_some (thread_of S u) ≡ true → u.0 < length S.references.owed
   owes_in u there = let a = thread_inside S.references.threads u.0 there in let b = rows.references.sized.duties in omega arith
 
@@ -129,13 +132,13 @@ module _ (script : Script) (S : State) (rows : AreRows script S) (known : AreKno
   locks_may o u Again may = tt
   locks_may o u Waits may = tt
   locks_may o u Taken may =
-      let made = alive_made o may.alive in
+      let made = counted_made o may.counted in
       let free = taken_free (owner_at S.synchronization.locks o) u may.answer in
       record {
         thread = owes_in u may.thread;
         object = small o made;
         free = none_has o S.synchronization.mutexes (none_held (length S.references.objects) S.references.threads (parts S) rows.synchronization.locks rows.references.sized.objects_few o made free);
-        referred = referred o (rows.lives.counted o may.alive);
+        referred = referred o may.counted;
       }
 
   -- an unlock that gives it up
@@ -176,7 +179,7 @@ module _ (script : Script) (S : State) (rows : AreRows script S) (known : AreKno
 
   pub can_lock : (t : ObjNo) (m : LockMove) → FitsLocks t m S → CanLock m S
   can_lock t (Start o count) fits = (placed o fits.object, fits.few, fits.free, fits.alone)
-  can_lock t (Lock o u locked) fits = (joins o u _ (alive_made o fits.alive) fits.joins, fits.answer, locks_may o u locked fits)
+  can_lock t (Lock o u locked) fits = (joins o u _ (counted_made o fits.counted) fits.joins, fits.answer, locks_may o u locked fits)
   can_lock t (Unlock o u unlocked) fits = (placed o fits.1.object, fits.1.answer, unlocks_may o u unlocked fits.1)
   can_lock t (Free o u best) fits = (placed o fits.1.object, is_owned (owner_at S.synchronization.locks o) fits.1.owns.owner fits.1.owns.is, fits.1.chosen, frees_may o u best fits.1)
   can_lock t (Leave u) fits = let a = thread_inside S.references.threads u.0 fits in let b = rows.references.sized.threads_few in omega arith

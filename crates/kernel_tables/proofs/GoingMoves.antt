@@ -15,7 +15,8 @@ use Rattle.state_rows.specs.declared.object.ObjectRow.{ObjectRow}
 use Rattle.state_rows.specs.ObjectRows.{is_dead_row, is_session}
 use Rattle.objects.specs.Rows.{kept_name}
 use Rattle.machine.specs.declared.moves.Move.{Move}
-use Rattle.machine.specs.declared.moves.Move.TheVariants.{Make, Gain, Lose, Find, Miss, GoOn, Keep, Write, WriteMessage, PutDown, Advance, Wait, Wake, SetPriority, Nano, Deferred, Requests, Locks, Logons, Death, Servers, Messages, Fill, Copies, Pay}
+use Rattle.machine.specs.declared.moves.Move.TheVariants.{Make, Gain, Lose, Find, Open, Miss, GoOn, Keep, Write, WriteMessage, PutDown, Advance, Wait, Wake, SetPriority, Nano, Deferred, Requests, Locks, Logons, Death, Servers, Messages, Fill, Copies, Pay}
+use Rattle.machine.specs.declared.mode.Mode.{Mode}
 use Rattle.machine.specs.declared.nano_move.NanoMove.{NanoMove}
 use Rattle.machine.specs.declared.nano_move.NanoMove.TheVariants as nano
 use Rattle.machine.specs.declared.request_move.RequestMove.{RequestMove}
@@ -27,21 +28,24 @@ use Rattle.state_rows.specs.declared.thread.ThreadRow.{ThreadRow}
 use Rattle.machine.specs.Choice.{priority_of, priority_of_row}
 use Rattle.machine.specs.DeathMoves.{death_row, death_thread}
 use Rattle.machine.specs.NanoMoves.{nano_thread}
-use Rattle.machine.specs.Fits.{FitsNano, FitsRequests, HasName, FitsMove, EachFits, Sane, most_owed}
-use Rattle.machine.specs.Moves.{moved, told, closed_effects, threads_lose, with_found, with_kept, with_message, with_use, with_part, with_register, with_waiting, with_priority, advanced, next_object, use_of_row}
+use Rattle.machine.specs.Fits.{ComesBack, FitsNano, FitsRequests, HasName, FitsMove, EachFits, Sane, most_owed}
+use Rattle.machine.specs.Moves.{moved, told, closed_effects, threads_lose, with_found, with_opened, with_missed, with_kept, with_message, with_use, with_part, with_register, with_waiting, with_priority, advanced, next_object, use_of_row}
+use Rattle.machine.specs.Out.{outs_of}
 use Rattle.machine.specs.References.{total, same, count_of, pluses, minuses, RefsMove}
 use Rattle.machine.specs.Rows.{object_of, thread_of, owed_of}
 use Rattle.machine.specs.WellFormed.{IsAlive, AreRows, AreRequests, is_dead, dead_bit, owed_sweeps, weight}
 use Rattle.move_laws.proofs.Holders.ThreadRows.{row-other}
 use Rattle.move_laws.proofs.Lists.Totals.{inside, total_at_least}
 use Rattle.move_laws.proofs.MoveLaws.Pays.{sweep-over}
+use Rattle.move_laws.proofs.MoveLaws.RowMoves.{returning_before}
 use Rattle.move_laws.proofs.MoveLaws.Run.{sound-move, sound-pay, sane-after, refs-of, weight-move}
 use Rattle.move_laws.proofs.Numbers.CountSmall.{count_small}
 use Rattle.move_laws.proofs.Numbers.Instructions.{few_instructions}
 use Rattle.move_laws.proofs.Readiness.ReadyActions.{joins_own}
 use Rattle.move_laws.proofs.Readiness.Touched.{untouched}
 use Rattle.move_laws.proofs.References.Same.{same_self}
-use Rattle.kernel_tables.specs.Moved.{CanMove, AreKnown, MoveGoes, MovesGo, is_set}
+use Rattle.machine_laws.proofs.Reached.Modes.{mode-moved}
+use Rattle.kernel_tables.specs.Moved.{CanMove, AreKnown, MoveGoes, MovesGo, UsesNothing, is_set}
 use Rattle.kernel_tables.specs.Referred.{IsReferred}
 use Rattle.kernel_tables.proofs.GoingHolders.{few_places, one_place, may_gain, takes_least, may_make, makes_least, may_lose}
 use Rattle.kernel_tables.proofs.GoingLocks.{can_lock}
@@ -160,36 +164,47 @@ named kind name none = elim (cases_Bool (is_session kind)) [
   | inr other ↦ rw other refl
 ]
 
+-- where one caller alone calls the kernel, something refers to each object that is alive
+known_alone : (S : State) (o : ObjNo) → S.mode.shared ≡ false → 0 < count_of S o + outs_of S o → 0 < count_of S o
+known_alone S o alone counted =
+    let none : outs_of S o ≡ 0 = rw alone refl in
+    omega arith
+
+-- who comes back uses nothing yet
+back_unused : (script : Script) (S : State) (u o : ObjNo) → AreRows script S → ComesBack S u o → UsesNothing (thread_of S u)
+back_unused script S u o rows back = record { row = back.row; is = back.is; unused = (rows.references.threads.rows u.0 back.row back.is).unused (returning_before back.row.part back.returns) }
+
 -- when a move that fits can be made
-can_move : (script : Script) (S : State) (t : ObjNo) (m : Move) → IsShaped script → FitsMove script t m S → S.serving.messages.accepted < 4294967295 → RefsMove S (moved t m S) (told m S) → Sane script t S → CanMove t m S
-can_move script S t (Make kind name h) shaped fits numbers refs s = (named kind name fits.2, fits.0.new, record { room = fits.0.room; fresh = next_fresh script S s.rows }, may_make S h fits.1, makes_least S h fits.1)
-can_move script S t (Gain h o) shaped fits numbers refs s = (referred script S o s.rows (s.rows.lives.counted o fits.1), may_gain S h fits.0, takes_least S h fits.0)
-can_move script S t (Lose h o) shaped fits numbers refs s = (referred script S o s.rows (was_held S (moved t (Lose h o) S) _ h o refs), few_places script S t s.rows, may_lose script S h o s.rows fits.1)
-can_move script S t (Find u o) shaped fits numbers refs s = tt
-can_move script S t (Miss o) shaped fits numbers refs s = tt
-can_move script S t (GoOn u part) shaped fits numbers refs s = tt
-can_move script S t (Keep u number) shaped fits numbers refs s = tt
-can_move script S t (Write u x value) shaped fits numbers refs s = fits
-can_move script S t (WriteMessage u y number) shaped fits numbers refs s = fits
-can_move script S t (PutDown u) shaped fits numbers refs s = one_place script S u s.rows
-can_move script S t (Advance u) shaped fits numbers refs s = (
+can_move : (script : Script) (S : State) (t : ObjNo) (m : Move) → IsShaped script → FitsMove script t m S → S.serving.messages.accepted < 4294967295 → RefsMove S (moved t m S) (told m S) → Sane script t S → S.mode.shared ≡ false → CanMove t m S
+can_move script S t (Make kind name h) shaped fits numbers refs s alone = (named kind name fits.2, fits.0.new, record { room = fits.0.room; fresh = next_fresh script S s.rows }, may_make S h fits.1, makes_least S h fits.1)
+can_move script S t (Gain h o) shaped fits numbers refs s alone = (referred script S o s.rows fits.1, may_gain S h fits.0, takes_least S h fits.0)
+can_move script S t (Lose h o) shaped fits numbers refs s alone = (referred script S o s.rows (was_held S (moved t (Lose h o) S) _ h o refs), few_places script S t s.rows, may_lose script S h o s.rows fits.1)
+can_move script S t (Find u o) shaped fits numbers refs s alone = tt
+can_move script S t (Open u o part) shaped fits numbers refs s alone = (referred script S o s.rows (known_alone S o alone (s.rows.lives.counted o fits.0.alive)), back_unused script S u o s.rows fits.0.back, tt)
+can_move script S t (Miss u o) shaped fits numbers refs s alone = tt
+can_move script S t (GoOn u part) shaped fits numbers refs s alone = tt
+can_move script S t (Keep u number) shaped fits numbers refs s alone = tt
+can_move script S t (Write u x value) shaped fits numbers refs s alone = fits
+can_move script S t (WriteMessage u y number) shaped fits numbers refs s alone = fits
+can_move script S t (PutDown u) shaped fits numbers refs s alone = one_place script S u s.rows
+can_move script S t (Advance u) shaped fits numbers refs s alone = (
   λ k row is. let next = (s.rows.references.threads.rows k row is).next_instruction in let few = few_instructions script row.role shaped in omega arith,
   one_place script S u s.rows,
 )
-can_move script S t (Wait u what) shaped fits numbers refs s = tt
-can_move script S t (Wake u) shaped fits numbers refs s = tt
-can_move script S t (SetPriority u priority) shaped fits numbers refs s = known script S s.rows
-can_move script S t (Nano m) shaped fits numbers refs s = can_nano script S m s.rows fits.0 fits.1
-can_move script S t (Deferred m) shaped fits numbers refs s = fits
-can_move script S t (Requests m) shaped fits numbers refs s = can_request (length S.references.threads) S.synchronization.requests m S.synchronization.logons s.rows.synchronization.requests fits.0
-can_move script S t (Locks m) shaped fits numbers refs s = can_lock script S s.rows (known script S s.rows) (λ o. referred script S o s.rows) (λ u. few_places script S u s.rows) t m fits
-can_move script S t (Logons m) shaped fits numbers refs s = can_logon script S m s.rows fits
-can_move script S t (Death m) shaped fits numbers refs s = one_place script S t s.rows
-can_move script S t (Servers m) shaped fits numbers refs s = can_serve script S s.rows (λ o. referred script S o s.rows) m fits
-can_move script S t (Messages m) shaped fits numbers refs s = can_message script S s.rows (λ o. referred script S o s.rows) t m (few_places script S t s.rows) fits.0 fits.2 numbers
-can_move script S t (Fill p at size byte) shaped fits numbers refs s = fits
-can_move script S t (Copies m) shaped fits numbers refs s = fits
-can_move script S t (Pay what) shaped fits numbers refs s = absurd fits
+can_move script S t (Wait u what) shaped fits numbers refs s alone = tt
+can_move script S t (Wake u) shaped fits numbers refs s alone = tt
+can_move script S t (SetPriority u priority) shaped fits numbers refs s alone = known script S s.rows
+can_move script S t (Nano m) shaped fits numbers refs s alone = can_nano script S m s.rows fits.0 fits.1
+can_move script S t (Deferred m) shaped fits numbers refs s alone = fits
+can_move script S t (Requests m) shaped fits numbers refs s alone = can_request (length S.references.threads) S.synchronization.requests m S.synchronization.logons s.rows.synchronization.requests fits.0
+can_move script S t (Locks m) shaped fits numbers refs s alone = can_lock script S s.rows (known script S s.rows) (λ o. referred script S o s.rows) (λ u. few_places script S u s.rows) t m fits
+can_move script S t (Logons m) shaped fits numbers refs s alone = can_logon script S m s.rows fits
+can_move script S t (Death m) shaped fits numbers refs s alone = one_place script S t s.rows
+can_move script S t (Servers m) shaped fits numbers refs s alone = can_serve script S s.rows (λ o. referred script S o s.rows) m fits
+can_move script S t (Messages m) shaped fits numbers refs s alone = can_message script S s.rows (λ o. referred script S o s.rows) t m (few_places script S t s.rows) fits.0 fits.2 numbers
+can_move script S t (Fill p at size byte) shaped fits numbers refs s alone = fits
+can_move script S t (Copies m) shaped fits numbers refs s alone = fits
+can_move script S t (Pay what) shaped fits numbers refs s alone = absurd fits
 
 -- priorities stay that aren't set
 set_other : (u v : ObjNo) → (u.0 == v.0) ≡ false → v.0 ≡ u.0 → ⊥
@@ -211,7 +226,8 @@ ranks_move script S t (Make kind name h) u fits unset = rank-gain S.references.t
 ranks_move script S t (Gain h o) u fits unset = rank-gain S.references.threads h o u
 ranks_move script S t (Lose h o) u fits unset = rank-closed (threads_lose h S.references.threads) _ o u ∙ rank-lose S.references.threads h u
 ranks_move script S t (Find v o) u fits unset = rank-with_row S.references.threads v (with_found o) u (λ r. refl)
-ranks_move script S t (Miss o) u fits unset = refl
+ranks_move script S t (Open v o part) u fits unset = rank-with_row S.references.threads v (with_opened o part) u (λ r. refl)
+ranks_move script S t (Miss v o) u fits unset = rank-with_row S.references.threads v with_missed u (λ r. refl)
 ranks_move script S t (GoOn v part) u fits unset = rank-with_row S.references.threads v (with_part part) u (λ r. refl)
 ranks_move script S t (Keep v number) u fits unset = rank-with_row S.references.threads v (with_kept number) u (λ r. refl)
 ranks_move script S t (WriteMessage v y number) u fits unset = rank-with_row S.references.threads v (with_message y number) u (λ r. refl)
@@ -223,9 +239,9 @@ ranks_move script S t (Advance v) u fits unset = rank-with_row S.references.thre
 ranks_move script S t (Pay what) u fits unset = absurd fits
 
 -- each of the moves that fit goes through
-pub each_goes : (script : Script) (S : State) (t : ObjNo) (ms : List Move) → IsShaped script → EachFits script t ms S → total weight (owed_of S t) + total most_owed ms ≤ 12 → Sane script t S → MovesGo script t ms S
-each_goes script S t [] shaped fits few s = tt
-each_goes script S t (m ∷ ms) shaped fits few s =
+pub each_goes : (script : Script) (S : State) (t : ObjNo) (ms : List Move) → IsShaped script → EachFits script t ms S → total weight (owed_of S t) + total most_owed ms ≤ 12 → Sane script t S → S.mode.shared ≡ false → MovesGo script t ms S
+each_goes script S t [] shaped fits few s alone = tt
+each_goes script S t (m ∷ ms) shaped fits few s alone =
     let T = moved t m S in
     let sound = sound-move script S t m fits.0 (omega arith) s in
     let refs = refs-of script S T (told m S) sound in
@@ -233,14 +249,14 @@ each_goes script S t (m ∷ ms) shaped fits few s =
     let before = s.rows.serving.messages.numbered in
     let after = sound.rows.serving.messages.numbered in
     let goes : MoveGoes script t m S = record {
-      can = can_move script S t m shaped fits.0 (omega arith) refs s;
+      can = can_move script S t m shaped fits.0 (omega arith) refs s alone;
       refs = refs;
       known = known script T sound.rows;
       numbered = omega arith;
       ranks = λ u unset. ranks_move script S t m u fits.0 unset;
       apart = λ u none. untouched script S t m u s.rows.references.threads (joins_own script S t m fits.0) none;
     } in
-    (goes, each_goes script T t ms shaped fits.1 (omega arith) (sane-after script S T t (told m S) s sound))
+    (goes, each_goes script T t ms shaped fits.1 (omega arith) (sane-after script S T t (told m S) s sound) (ap (λ (mode : Mode). mode.shared) (mode-moved S t m) ∙ alone))
 
 -- so does the payment of what is owed
 can_pay : (script : Script) (S : State) (t : ObjNo) (what : Owed) (rest : List Owed) → owed_of S t ≡ what ∷ rest → RefsMove S (moved t (Pay what) S) (told (Pay what) S) → Sane script t S → CanMove t (Pay what) S

@@ -87,7 +87,7 @@ module _ (script : Script) (S : State) (rows : AreRows script S) (referred : (o 
       let sized = rows.serving.servers.servers_sized in
       let few = rows.references.sized.objects_few in
       let made = fits.made in
-      (omega arith, fits.alone, fits.server, fits.accepts, referred o (rows.lives.counted o fits.alive))
+      (omega arith, fits.alone, fits.server, fits.accepts, referred o fits.counted)
   can_serve (Closing o) fits = fits
   can_serve (CloseAll u) fits = λ k d inside.
       let o = get_or (owned_by S.serving.owned u) k d in
@@ -104,8 +104,8 @@ module _ (script : Script) (S : State) (rows : AreRows script S) (referred : (o 
   accepts slots row fits left numbers = record {
     server = let sized = rows.serving.messages.objects in let small = fits.server in omega arith;
     untaken = fits.untaken;
-    session = referred row.session (rows.lives.counted row.session fits.session);
-    client = referred row.client (rows.lives.counted row.client fits.client);
+    session = referred row.session fits.session;
+    client = referred row.client fits.client;
     room = room_for_message script S slots row fits rows;
     slot = left;
     number = numbers;

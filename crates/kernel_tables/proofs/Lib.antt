@@ -7,6 +7,7 @@ mod GoingLocks
 mod GoingLogons
 mod GoingMoves
 mod GoingServers
+mod LastClose
 mod LockRows
 mod Noting
 mod Owning

@@ -6,12 +6,13 @@ use Rattle.std.proofs.Math.Seq.{map-set_same}
 use Rattle.sym_base.specs.declared.number.ObjNo.{ObjNo}
 use Rattle.entry_log.specs.declared.effect.Holder.{Holder}
 use Rattle.entry_log.specs.declared.effect.Holder.TheVariants.{InProcess, InThread, Temp, Own, Link, Message, Kernel}
+use Rattle.entry_log.specs.declared.step.Part.{Part}
 use Rattle.cleanup.specs.Lists.{Lists}
 use Rattle.machine.specs.declared.state.State.{State}
 use Rattle.state_rows.specs.declared.thread.ThreadRow.{ThreadRow}
-use Rattle.machine.specs.Moves.{use_of_row, with_use as row_with_use, threads_gain, threads_lose, threads_closed, unlinked, advanced}
-use Rattle.machine.specs.Rows.{with_row}
-use Rattle.kernel_tables.specs.Moved.{MayGain}
+use Rattle.machine.specs.Moves.{use_of_row, with_use as row_with_use, threads_gain, threads_lose, threads_closed, unlinked, with_opened, advanced}
+use Rattle.machine.specs.Rows.{thread_of, with_row}
+use Rattle.kernel_tables.specs.Moved.{MayGain, UsesNothing}
 use Rattle.table_moves.proofs.Noting.{noted_at}
 use Rattle.table_moves.specs.Noted.{with_use, use_gained, use_lost, MayUse, AreNoted}
 
@@ -66,6 +67,11 @@ noted_gained s S (Own t) o may noted = noted
 noted_gained s S (Link x) o may noted = noted
 noted_gained s S (Message m) o may noted = noted
 noted_gained s S Kernel o may noted = noted
+
+-- who comes back uses what it opens
+pub noted_opened : (s : Lists) (S : State) (t o : ObjNo) (part : Part) → UsesNothing (thread_of S t) → AreNoted s S.references.threads → AreNoted (use_gained (Temp t) o s) (with_row S.references.threads t (with_opened o part))
+noted_opened s S t o part may noted =
+    noted_set s S.references.threads t (option_map (with_opened o part) (get_or S.references.threads t.0 None)) (Some o) (ap (λ (x : Option ThreadRow). use_of_row (option_map (with_opened o part) x)) may.is) noted
 
 pub noted_lost : (s : Lists) (threads : List (Option ThreadRow)) (h : Holder) → AreNoted s threads → AreNoted (use_lost h s) (threads_lose h threads)
 noted_lost s threads (Temp t) noted = noted_set s threads t (option_map (row_with_use None) (get_or threads t.0 None)) None (unused_row (get_or threads t.0 None)) noted

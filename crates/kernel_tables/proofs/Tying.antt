@@ -6,17 +6,18 @@ use Rattle.std.proofs.lemmas.List.{get_or-set_same, get_or-set_other, get_or_pas
 use Rattle.sym_base.specs.declared.number.ObjNo.{ObjNo}
 use Rattle.entry_log.specs.declared.effect.Holder.{Holder}
 use Rattle.entry_log.specs.declared.effect.Holder.TheVariants.{InProcess, InThread, Temp, Own, Link, Message, Kernel}
+use Rattle.entry_log.specs.declared.step.Part.{Part}
 use Rattle.cleanup.specs.Lists.{Lists}
 use Rattle.state_rows.specs.declared.thread.ThreadRow.{ThreadRow}
 use Rattle.machine.specs.declared.state.State.{State}
 use Rattle.machine.specs.Choice.{priority_of_row}
-use Rattle.machine.specs.Moves.{threads_gain, threads_lose, threads_closed, advanced, use_of_row, with_priority}
-use Rattle.machine.specs.Rows.{with_row}
+use Rattle.machine.specs.Moves.{threads_gain, threads_lose, threads_closed, advanced, use_of_row, with_opened, with_priority}
+use Rattle.machine.specs.Rows.{thread_of, with_row}
 use Rattle.move_laws.proofs.Holders.ThreadRows.{row-here, row-other}
-use Rattle.kernel_tables.specs.Moved.{MayGain}
+use Rattle.kernel_tables.specs.Moved.{MayGain, UsesNothing}
 use Rattle.table_moves.specs.Noted.{use_gained, use_lost, with_use}
 use Rattle.kernel_tables.specs.Noted.{AreTied}
-use Rattle.kernel_tables.proofs.Noting.{noted_row, noted_closed, noted_swept, noted_gained, noted_lost, noted_ended}
+use Rattle.kernel_tables.proofs.Noting.{noted_row, noted_closed, noted_swept, noted_gained, noted_opened, noted_lost, noted_ended}
 use Rattle.kernel_tables.proofs.Ranks.{rank-with_row, rank-gain, rank-lose, rank-closed, rank-other}
 
 -- the lists are of the same objects where uses change
@@ -82,6 +83,15 @@ module _ (s : Lists) (priorities : List ℕ) where
     uses = noted_gained s S h o may tied.uses;
     ranks = λ u. tied.ranks u ∙ sym (rank-gain S.references.threads h o u);
     listed = objects_gained s h o ∙ tied.listed;
+    ranked = tied.ranked;
+  }
+
+  -- a thread comes back and opens an object
+  pub tied_opened : (S : State) (t o : ObjNo) (part : Part) → UsesNothing (thread_of S t) → AreTied s.temporary s.objects priorities S.references.threads → let u = use_gained (Temp t) o s in AreTied u.temporary u.objects priorities (with_row S.references.threads t (with_opened o part))
+  tied_opened S t o part may tied = record {
+    uses = noted_opened s S t o part may tied.uses;
+    ranks = λ u. tied.ranks u ∙ sym (rank-with_row S.references.threads t (with_opened o part) u (λ r. refl));
+    listed = tied.listed;
     ranked = tied.ranked;
   }
 

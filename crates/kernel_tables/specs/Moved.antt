@@ -12,7 +12,7 @@ use Rattle.state_rows.specs.HandleSlots.{free_index}
 use Rattle.state_rows.specs.ObjectRows.{is_taken, is_dead_row}
 use Rattle.objects.specs.Rows.{kept_name}
 use Rattle.machine.specs.declared.moves.Move.{Move}
-use Rattle.machine.specs.declared.moves.Move.TheVariants.{Make, Gain, Lose, Find, Miss, GoOn, Keep, Write, WriteMessage, PutDown, Advance, Wait, Wake, SetPriority, Nano, Deferred, Requests, Locks, Logons, Death, Servers, Messages, Fill, Copies, Pay}
+use Rattle.machine.specs.declared.moves.Move.TheVariants.{Make, Gain, Lose, Find, Open, Miss, GoOn, Keep, Write, WriteMessage, PutDown, Advance, Wait, Wake, SetPriority, Nano, Deferred, Requests, Locks, Logons, Death, Servers, Messages, Fill, Copies, Pay}
 use Rattle.machine.specs.declared.state.State.{State}
 use Rattle.state_rows.specs.declared.thread.ThreadRow.{ThreadRow}
 use Rattle.script_types.specs.declared.script.Script.{Script}
@@ -89,7 +89,8 @@ CanMove t (Make kind name h) S = CanMake kind name h S
 CanMove t (Gain h o) S = CanGain h o S
 CanMove t (Lose h o) S = IsReferred S o × HasPlaces 2 S t × MayLose h o
 CanMove t (Find u o) S = Unit {0}
-CanMove t (Miss o) S = Unit {0}
+CanMove t (Open u o part) S = CanGain (Temp u) o S
+CanMove t (Miss u o) S = Unit {0}
 CanMove t (GoOn u part) S = Unit {0}
 CanMove t (Keep u number) S = Unit {0}
 CanMove t (Write u x value) S = x < 8

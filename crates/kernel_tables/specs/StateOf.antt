@@ -1,5 +1,5 @@
 -- The definitions' state that the kernel's tables stand for.
-use Rattle.std.specs.Prelude.{List, map}
+use Rattle.std.specs.Prelude.{false, List, map}
 use Rattle.state_rows.specs.declared.handle_slot.HandleSlot.{HandleSlot}
 use Rattle.handles.specs.HandleTable.{HandleTable}
 use Rattle.machine.specs.declared.state.State.{State}
@@ -9,9 +9,10 @@ use Rattle.kernel_tables.specs.declared.tables.Tables.{Tables}
 abbrev pub slots_of : List HandleTable → List (List HandleSlot)
 slots_of tables = map (λ (t : HandleTable). t.slots) tables
 
--- each field of the state is the value of one table
+-- each field of the state is the value of one table; and one caller alone calls the kernel, so nothing is kept
 abbrev pub state_of : {W N : Type 0} → Tables W N → State
 state_of tables = record {
+  mode = record { shared = false; keep = false };
   references = record {
     objects = tables.objects.rows;
     handles = slots_of tables.handles;

@@ -20,7 +20,7 @@ use crate::death_moves::move_death;
 use crate::lock_moves::move_lock;
 use crate::server_moves::{move_message, move_server};
 use crate::tables::Tables;
-use entry_log::Holder;
+use entry_log::{Holder, Part};
 use handles::Handles;
 use kern_sync::KernSync;
 use machine::{Move, Owed, Waiting};
@@ -31,7 +31,8 @@ use table_moves::{
     drop_first_owed, fill, move_logon, move_nano, move_request, note_end, note_gain, note_lost,
     owe_close, owe_use, owned_gain, owned_lose, server_of, servers_closed, servers_lose,
     threads_advance, threads_closed, threads_find, threads_gain, threads_go_on, threads_keep,
-    threads_lose, threads_set_priority, threads_wait, threads_write, threads_write_message, use_of,
+    threads_lose, threads_miss, threads_open, threads_set_priority, threads_wait, threads_write,
+    threads_write_message, use_of,
 };
 
 /// The least free place of a handle table takes an object.
@@ -102,6 +103,22 @@ fn gain<W: RefWords + Drop>(tables: &mut Tables<W>, holder: Holder, object: ObjN
     gain_slot(&mut tables.handles, holder, object);
     note_gain(&mut tables.cleanup, holder, object);
     threads_gain(&mut tables.procs, holder, object);
+}
+
+/// A thread comes back and opens an object, and goes on to this step.
+fn open_found<W: RefWords + Drop>(
+    tables: &mut Tables<W>,
+    thread: ThreadNo,
+    object: ObjNo,
+    part: Part,
+)
+    requires can { CanGain (Holder.Temp thread) object (state_of tables.old) }
+    requires kept { AreKept tables.old }
+    ensures { (t : ObjNo) → IsMoved t (Move.Open thread object part) tables.old tables.new }
+{
+    tables.objects.add_ref(object);
+    note_gain(&mut tables.cleanup, Holder::Temp(thread), object);
+    threads_open(&mut tables.procs, thread, object, part);
 }
 
 /// A reference to an object with this link of its own goes. With the last one the object dies, and the thread
@@ -254,7 +271,8 @@ pub fn make_move<W: RefWords + Drop>(tables: &mut Tables<W>, thread: ThreadNo, c
         Move::Gain(holder, object) => gain(tables, holder, object),
         Move::Lose(holder, object) => lose(tables, thread, holder, object),
         Move::Find(other, object) => threads_find(&mut tables.procs, other, object),
-        Move::Miss(_) => {}
+        Move::Open(other, object, part) => open_found(tables, other, object, part),
+        Move::Miss(other, _) => threads_miss(&mut tables.procs, other),
         Move::GoOn(other, part) => threads_go_on(&mut tables.procs, other, part),
         Move::Keep(other, number) => threads_keep(&mut tables.procs, other, number),
         Move::Write(other, register, value) => {

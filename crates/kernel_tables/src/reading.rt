@@ -79,6 +79,10 @@ impl<W: RefWords + Drop> Reads for Tables<W> {
         self.objects.find(kind, name)
     }
 
+    fn is_shared(&self) -> bool {
+        false
+    }
+
     fn dies(&self, object: ObjNo) -> bool {
         self.objects.count(object) == 1
     }

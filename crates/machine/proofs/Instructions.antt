@@ -24,7 +24,8 @@ use Rattle.machine.specs.declared.task.Task.{Task}
 use Rattle.machine.specs.declared.task.Task.TheVariants.{Bury, RunDfc, Step}
 use Rattle.machine.specs.Holdings.{holdings, held_servers}
 use Rattle.machine.specs.Rows.{first_owed}
-use Rattle.machine.specs.Task.{declared_of, instructions_in, instruction, is_returning, next_call, by_stage, call_task, dying_task, live_task, pay_or, return_or, step_or_end, task_of_row, work_or}
+use Rattle.machine.specs.Task.{declared_of, instructions_in, instruction, next_call, by_stage, call_task, dying_task, live_task, pay_or, return_or, step_or_end, task_of_row, work_or}
+use Rattle.machine.specs.Out.{is_returning}
 
 -- what each of a list passes, the one at a place does
 pub all_at : {A : Type 0} (test : A → Bool) (xs : List A) (k : ℕ) (x : A) → list_all test xs ≡ true → slice_get xs k ≡ Some x → test x ≡ true

@@ -3,3 +3,4 @@ pub mod Capped
 pub mod DoomedHandles
 pub mod HandleNumbers
 pub mod Instructions
+pub mod Sought

@@ -8,7 +8,7 @@ use Rattle.script_types.specs.declared.script.Script.{Script}
 use Rattle.state_rows.specs.declared.duty.Owed.TheVariants.{Close, Sweep}
 use Rattle.machine.specs.declared.touches.TouchedThreads.{TouchedThreads}
 use Rattle.machine.specs.declared.moves.Move.{Move}
-use Rattle.machine.specs.declared.moves.Move.TheVariants.{GoOn, Advance, Wait, Wake, PutDown, SetPriority, Nano, Deferred, Locks, Death, Messages, Lose, Pay}
+use Rattle.machine.specs.declared.moves.Move.TheVariants.{Find, Open, Miss, GoOn, Advance, Wait, Wake, PutDown, SetPriority, Nano, Deferred, Locks, Death, Messages, Lose, Pay}
 use Rattle.machine.specs.declared.lock_move.LockMove.TheVariants.{Unlock, Free}
 use Rattle.machine.specs.declared.message_move.MessageMove.TheVariants.{Finish}
 use Rattle.machine.specs.declared.state.State.{State}
@@ -30,6 +30,9 @@ unlisted t qs = filter (λ q. not (q.0 == t.0)) qs
 -- the threads whose readiness a move in an action of thread t may change
 abbrev pub touched : ObjNo → Move → List ObjNo
 touched t (Lose h o) = t ∷ []
+touched t (Find u o) = u ∷ []
+touched t (Open u o part) = u ∷ []
+touched t (Miss u o) = u ∷ []
 touched t (GoOn u part) = u ∷ []
 touched t (Advance u) = u ∷ []
 touched t (Wait u what) = u ∷ []

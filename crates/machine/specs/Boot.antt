@@ -108,6 +108,7 @@ memory_of b = memory_of_row b.thread
 -- message
 unfoldable pub boot_of : ℕ → ℕ → DeferredRows → List Born → State
 boot_of pool fast calls bs = record {
+  mode = record { shared = false; keep = false };
   references = record {
     objects = map (λ b. Some b.object) bs;
     handles = map (λ _. replicate HANDLES fresh_slot) bs;
@@ -132,8 +133,12 @@ boot_of pool fast calls bs = record {
   };
 }
 
+-- the state at boot, where callers share the kernel or don't
+abbrev pub boot_in : Bool → Script → State
+boot_in shared script = record (boot_of script.pool script.fast (calls_of script) (born script)) { mode = record { shared = shared; keep = false } }
+
 abbrev pub boot : Script → State
-boot script = boot_of script.pool script.fast (calls_of script) (born script)
+boot script = boot_in false script
 
 -- the ready list at boot
 abbrev pub ready_at_boot : Script → List ObjNo

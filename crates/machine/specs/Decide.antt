@@ -31,6 +31,10 @@ answer t step moves code = record { step = step; moves = moves ++ Advance t ∷ 
 abbrev pub refuse : ObjNo → Step → Error → Decision
 refuse t step error = answer t step [] (error_code error)
 
+-- this move alone, by which the instruction goes on
+abbrev pub one_move : Step → Move → Decision
+one_move step move = record { step = step; moves = move ∷ []; answer = None }
+
 -- the instruction goes on to another step, with this move
 abbrev pub go_on : ObjNo → Step → Move → Part → Decision
 go_on t step move part = record { step = step; moves = GoOn t part ∷ move ∷ []; answer = None }

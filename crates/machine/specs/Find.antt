@@ -1,25 +1,25 @@
 -- The first two steps of the instructions that find an object by its kind and name: the find, and the return,
 -- which opens what was found. The object may die in between.
-use Rattle.std.specs.Prelude.{ℕ, ◌%◌, nat_lt, ◌||◌, Bool, true, false, not, if◌then◌else◌, List, [], ◌∷◌, Option, Some, None}
+use Rattle.std.specs.Prelude.{ℕ, nat_lt, ◌||◌, Bool, true, false, not, if◌then◌else◌, List, [], ◌∷◌, Option, Some, None}
 use Rattle.sym_base.specs.declared.error.Error.TheVariants.{NotFound}
 use Rattle.sym_base.specs.declared.kind.Kind.{Kind}
 use Rattle.sym_base.specs.declared.number.ObjNo.{ObjNo}
 use Rattle.sym_base.specs.declared.word.Word.{Word}
 use Rattle.sym_base.specs.ErrorCode.{error_code}
-use Rattle.entry_log.specs.declared.effect.Holder.TheVariants.{Temp}
 use Rattle.entry_log.specs.declared.step.Step.TheVariants.{Of}
 use Rattle.entry_log.specs.declared.step.Part.{Part}
 use Rattle.entry_log.specs.declared.step.Part.TheVariants.{Seek, Return}
 use Rattle.state_rows.specs.declared.object.ObjectRow.{ObjectRow}
 use Rattle.state_rows.specs.ObjectRows.{is_dead_row, is_session, named}
 use Rattle.machine.specs.declared.decision.Decision.{Decision}
-use Rattle.machine.specs.declared.moves.Move.TheVariants.{Find, Miss, Gain}
+use Rattle.machine.specs.declared.moves.Move.TheVariants.{Find, Miss, Open}
 use Rattle.state_rows.specs.declared.thread.ThreadRow.{ThreadRow}
 use Rattle.machine.specs.declared.state.State.{State}
 use Rattle.machine.specs.Rows.{object_of}
 use Rattle.machine.specs.References.{count_of}
 use Rattle.machine.specs.ThreadCalls.{is_live}
-use Rattle.machine.specs.Decide.{answer, refuse, go_on}
+use Rattle.machine.specs.Decide.{answer, one_move, refuse}
+use Rattle.machine.specs.Out.{found_object}
 
 -- an object that isn't dead and has no reference isn't found
 abbrev pub findable : State → Option ObjNo → Option ObjNo
@@ -33,15 +33,11 @@ find_object S kind name = if is_session kind then None else findable S (named ki
 -- no such object: it isn't found; else the return comes next
 abbrev pub seek_object : ObjNo → Word → Option ObjNo → Decision
 seek_object t word None = refuse t (Of word Seek) NotFound
-seek_object t word (Some o) = go_on t (Of word Seek) (Find t o) Return
+seek_object t word (Some o) = one_move (Of word Seek) (Find t o)
 
 -- the find of an object of a kind and name
 abbrev pub seek : State → ObjNo → Word → Kind → List ℕ → Decision
 seek S t word kind name = seek_object t word (find_object S kind name)
-
--- the object that a thread's find found; a number of an object has 16 bits
-abbrev pub found_object : ThreadRow → ObjNo
-found_object row = record { 0 = row.found % 65536 }
 
 -- whether an object may be opened: it is there and isn't dead
 abbrev pub is_open : Option ObjectRow → Bool
@@ -50,11 +46,11 @@ is_open (Some row) = not row.dead
 
 -- the object died: it is missed, and isn't found; else the thread uses it from now on, and another step comes. A doomed thread
 -- comes back without an answer
-abbrev pub miss : ObjNo → Word → Part → ObjNo → Bool → Decision
-miss t word part o true = answer t (Of word Return) (Miss o ∷ []) (error_code NotFound)
-miss t word part o false = go_on t (Of word Return) (Miss o) part
+abbrev pub miss : ObjNo → Word → ObjNo → Bool → Decision
+miss t word o true = answer t (Of word Return) (Miss t o ∷ []) (error_code NotFound)
+miss t word o false = one_move (Of word Return) (Miss t o)
 
 abbrev pub return_to : State → ObjNo → ThreadRow → Word → Part → Decision
 return_to S t row word part =
-    if is_open (object_of S (found_object row)) then go_on t (Of word Return) (Gain (Temp t) (found_object row)) part
-    else miss t word part (found_object row) (is_live row.stage)
+    if is_open (object_of S (found_object row)) then one_move (Of word Return) (Open t (found_object row) part)
+    else miss t word (found_object row) (is_live row.stage)

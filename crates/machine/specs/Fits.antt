@@ -9,7 +9,7 @@ use Rattle.entry_log.specs.declared.effect.Holder.{Holder}
 use Rattle.entry_log.specs.declared.effect.Holder.TheVariants.{InProcess, InThread, Temp, Own, Link}
 use Rattle.entry_log.specs.declared.step.Part.{Part}
 use Rattle.machine.specs.declared.moves.Move.{Move}
-use Rattle.machine.specs.declared.moves.Move.TheVariants.{Make, Gain, Lose, Find, Miss, GoOn, Keep, Write, WriteMessage, PutDown, Advance, Wait, Wake, SetPriority, Nano, Deferred, Requests, Locks, Logons, Death, Servers, Messages, Fill, Copies, Pay}
+use Rattle.machine.specs.declared.moves.Move.TheVariants.{Make, Gain, Lose, Find, Open, Miss, GoOn, Keep, Write, WriteMessage, PutDown, Advance, Wait, Wake, SetPriority, Nano, Deferred, Requests, Locks, Logons, Death, Servers, Messages, Fill, Copies, Pay}
 use Rattle.machine.specs.declared.death_move.DeathMove.{DeathMove}
 use Rattle.machine.specs.declared.death_move.DeathMove.TheVariants.{Note, Doom, Clean, Bury}
 use Rattle.machine.specs.declared.nano_move.NanoMove.{NanoMove}
@@ -32,7 +32,7 @@ use Rattle.state_rows.specs.declared.thread.ThreadRow.{ThreadRow}
 use Rattle.machine.specs.declared.state.State.{State}
 use Rattle.machine.specs.Rows.{object_of, table_of, thread_of, owed_of}
 use Rattle.state_rows.specs.HandleSlots.{slot_at, free_index}
-use Rattle.machine.specs.References.{total}
+use Rattle.machine.specs.References.{count_of, total}
 use Rattle.machine.specs.Holdings.{left_of, process_handles}
 use Rattle.machine.specs.Moves.{next_object, moved, tell}
 use Rattle.machine.specs.FitsCopies.{FitsCopies}
@@ -44,9 +44,10 @@ use Rattle.machine.specs.declared.server_move.ServerMove.TheVariants.{Join, End}
 use Rattle.machine.specs.declared.message_move.MessageMove.{MessageMove}
 use Rattle.machine.specs.declared.message_move.MessageMove.TheVariants.{Accept, Finish}
 use Rattle.state_rows.specs.ServerRows.{server_at, server_of, is_closing}
-use Rattle.machine.specs.Task.{instructions_of, is_returning, served_queue}
+use Rattle.machine.specs.Task.{instructions_of, served_queue}
+use Rattle.machine.specs.Out.{found_object, is_returning, part_of}
 use Rattle.machine.specs.HeldIn.{owed_by}
-use Rattle.machine.specs.WellFormed.{IsAlive, IsAwaited, IsLiveThread, AreRows, Awaits, IsOwnerOf, times_logged, is_before_use, part_of, weight, IsSpent, is_spent}
+use Rattle.machine.specs.WellFormed.{IsAlive, IsAwaited, IsLiveThread, AreRows, Awaits, IsOwnerOf, times_logged, is_before_use, weight, IsSpent, is_spent}
 use Rattle.machine.specs.Choice.{priority_of}
 use Rattle.state_rows.specs.declared.locks.Locked.{Locked}
 use Rattle.state_rows.specs.declared.locks.Locked.TheVariants.{Waits}
@@ -118,14 +119,49 @@ pub record IsAtInstruction (script : Script) (S : State) (t : ObjNo) : Type 0 wh
   pub is : thread_of S t ≡ Some row
   pub next : row.next_instruction < length (instructions_of script row.role)
 
--- a thread that isn't cleaned may go on to a step: what comes before the use of anything comes while it uses nothing, and a return
--- comes at an instruction and while it owes nothing; and behind the last step of its instruction comes no other
-pub record MayGoOn (script : Script) (S : State) (t : ObjNo) (part : Option Part) : Type 0 where
+-- a thread isn't between a find and its return
+abbrev pub IsBack : State → ObjNo → Type 0
+IsBack S t = is_returning (part_of (thread_of S t)) ≡ false
+
+-- a thread that isn't cleaned and isn't between a find and its return may go on to a step: what comes before the use of anything comes
+-- while it uses nothing; behind the last step of its instruction comes no other; and only a find leads to a return
+pub record MayGoOn (S : State) (t : ObjNo) (part : Option Part) : Type 0 where
   pub unused : (row : ThreadRow) → thread_of S t ≡ Some row → is_before_use part ≡ true → row.uses ≡ None
-  pub paid : is_returning part ≡ true → owed_of S t ≡ []
+  pub going : IsBack S t
   pub unspent : IsUnspent S t
-  pub at : is_returning part ≡ true → IsAtInstruction script S t
+  pub other : is_returning part ≡ false
   pub ends : (row : ThreadRow) → thread_of S t ≡ Some row → begun row.part ≤ begun part
+
+-- a thread that may find an object: it is at an instruction, isn't cleaned, uses, owes and holds nothing, and isn't between another find and
+-- its return
+pub record MayFind (script : Script) (S : State) (t o : ObjNo) : Type 0 where
+  pub object : o.0 < length S.references.objects
+  pub row : ThreadRow
+  pub is : thread_of S t ≡ Some row
+  pub at : row.next_instruction < length (instructions_of script row.role)
+  pub unused : row.uses ≡ None
+  pub going : is_returning row.part ≡ false
+  pub begins : begun row.part ≡ 0
+  pub unspent : is_spent row.stage ≡ false
+  pub paid : owed_of S t ≡ []
+  pub holds : held_by S.synchronization.nano t ≡ None
+
+-- a thread that may come back from the find of this object
+pub record ComesBack (S : State) (t o : ObjNo) : Type 0 where
+  pub row : ThreadRow
+  pub is : thread_of S t ≡ Some row
+  pub returns : is_returning row.part ≡ true
+  pub found : found_object row ≡ o
+
+-- it opens an object that is alive, and goes on to a step in which it uses that; or misses one that isn't
+pub record MayOpen (S : State) (t o : ObjNo) (part : Option Part) : Type 0 where
+  pub back : ComesBack S t o
+  pub alive : IsAlive (object_of S o)
+  pub later : is_before_use part ≡ false
+  pub sends : MaySend part S
+
+abbrev pub MayMiss : State → ObjNo → ObjNo → Type 0
+MayMiss S t o = ComesBack S t o × (IsAlive (object_of S o) → ⊥)
 
 -- an object may be made of this kind and name: there is room, and its name isn't taken
 pub record MayMake (S : State) (kind : Kind) (name : List ℕ) : Type 0 where
@@ -136,13 +172,14 @@ pub record MayMake (S : State) (kind : Kind) (name : List ℕ) : Type 0 where
 abbrev pub HasName : Kind → List ℕ → Type 0
 HasName kind name = is_session kind ≡ true → name ≡ []
 
--- a thread that may take a fast mutex: it is live, serves no queue, waits for nothing, and holds none
+-- a thread that may take a fast mutex: it is live, serves no queue, waits for nothing, isn't between a find and its return, and holds none
 pub record MayTake (S : State) (t : ObjNo) : Type 0 where
   pub row : ThreadRow
   pub is : thread_of S t ≡ Some row
   pub live : row.stage ≡ Live
   pub serves : served_queue row.role ≡ None
   pub waits : row.waiting ≡ waiting.Nothing
+  pub going : is_returning row.part ≡ false
   pub holds : held_by S.synchronization.nano t ≡ None
 
 -- A move in the rows of threads that synchronize fits them: a fast mutex is taken that is free, and given up by its
@@ -213,9 +250,10 @@ pub record MayJoin (S : State) (o t : ObjNo) : Type 0 where
   pub nowhere : WaitsNowhere S t
   pub paid : owed_of S t ≡ []
 
--- a thread that may lock an object, with the answer that the object's owner gives: it is live and owes nothing, and the object is no server
+-- a thread that may lock an object to which something refers, with the answer that the object's owner gives: it is live and owes nothing,
+-- and the object is no server
 pub record MayLock (S : State) (o t : ObjNo) (locked : Locked) : Type 0 where
-  pub alive : IsAlive (object_of S o)
+  pub counted : 0 < count_of S o
   pub thread : is_some (thread_of S t) ≡ true
   pub live : IsLive S t
   pub paid : owed_of S t ≡ []
@@ -229,7 +267,7 @@ pub record MayUnlock (S : State) (o t : ObjNo) (unlocked : Unlocked) : Type 0 wh
   pub object : o.0 < length S.references.objects
   pub thread : is_some (thread_of S t) ≡ true
   pub nowhere : WaitsNowhere S t
-  pub going : is_returning (part_of (thread_of S t)) ≡ false
+  pub going : IsBack S t
   pub answer : unlocked ≡ unlock_answer (owner_at S.synchronization.locks o) t (best_waiter (priority_of S) S.synchronization.locks o)
 
 -- a thread that may give a mutex up with all its levels, to this waiter where there is one: it owns it, stands among no waiters, and isn't
@@ -238,7 +276,7 @@ pub record MayFree (S : State) (o t : ObjNo) (best : Option ObjNo) : Type 0 wher
   pub object : o.0 < length S.references.objects
   pub thread : is_some (thread_of S t) ≡ true
   pub nowhere : WaitsNowhere S t
-  pub going : is_returning (part_of (thread_of S t)) ≡ false
+  pub going : IsBack S t
   pub owns : IsOwnerOf S.synchronization.locks t o
   pub chosen : best ≡ best_waiter (priority_of S) S.synchronization.locks o
 
@@ -288,7 +326,7 @@ pub record IsAtStage (S : State) (u : ObjNo) (stage : Stage) : Type 0 where
 -- a thread that acts and may come to owe something: it is there, and isn't between a find and its return
 pub record MayOweMore (S : State) (t : ObjNo) : Type 0 where
   pub thread : is_some (thread_of S t) ≡ true
-  pub going : is_returning (part_of (thread_of S t)) ≡ false
+  pub going : IsBack S t
 
 -- A move in the row of a thread that dies, in an action of thread t, fits the state: who is doomed is live, stands among no waiters and holds no
 -- fast mutex, and awaits nothing; who is cleaned is the doomed thread itself, and has given up all; who is buried is cleaned.
@@ -304,19 +342,21 @@ IsOwn t (InThread u i) = u ≡ t
 IsOwn t (Temp u) = u ≡ t
 IsOwn t _ = Unit {0}
 
--- A move in an action of thread t fits the state: it finds, goes on and keeps a number itself. What is owed is paid by an action of its own.
+-- A move in an action of thread t fits the state: it finds, comes back, goes on and keeps a number itself. Whoever gets a reference gets it to
+-- an object that something refers to, or makes it, or comes back to it. What is owed is paid by an action of its own.
 abbrev pub FitsMove : Script → ObjNo → Move → State → Type 0
 FitsMove script t (Make kind name h) S = MayMake S kind name × MayMakeWith S h × HasName kind name × IsOwn t h
-FitsMove script t (Gain h o) S = IsFree S h × IsAlive (object_of S o) × IsOwn t h
-FitsMove script t (Lose h o) S = (is_returning (part_of (thread_of S t)) ≡ false) × Holds S h o × IsOwn t h
-FitsMove script t (Find u o) S = (o.0 < length S.references.objects) × (u ≡ t)
-FitsMove script t (Miss o) S = Unit {0}
-FitsMove script t (GoOn u part) S = MayGoOn script S u (Some part) × MaySend (Some part) S × (u ≡ t)
-FitsMove script t (Keep u number) S = u ≡ t
+FitsMove script t (Gain h o) S = IsFree S h × (0 < count_of S o) × IsOwn t h
+FitsMove script t (Lose h o) S = IsBack S t × Holds S h o × IsOwn t h
+FitsMove script t (Find u o) S = MayFind script S u o × (u ≡ t)
+FitsMove script t (Open u o part) S = MayOpen S u o (Some part) × (u ≡ t)
+FitsMove script t (Miss u o) S = MayMiss S u o × (u ≡ t)
+FitsMove script t (GoOn u part) S = MayGoOn S u (Some part) × MaySend (Some part) S × (u ≡ t)
+FitsMove script t (Keep u number) S = IsBack S u × (u ≡ t)
 FitsMove script t (Write u x value) S = x < 8
 FitsMove script t (WriteMessage u y number) S = y < 8
 FitsMove script t (PutDown u) S = (u ≡ t) × MayOweMore S u
-FitsMove script t (Advance u) S = (u ≡ t) × IsAtInstruction script S u
+FitsMove script t (Advance u) S = (u ≡ t) × IsBack S u × IsAtInstruction script S u
 FitsMove script t (Wait u what) S = (held_by S.synchronization.nano u ≡ None) × WaitsNowhere S u × IsLive S u × IsUncalled S u
 FitsMove script t (Wake u) S = WaitsNowhere S u × IsUncalled S u
 FitsMove script t (SetPriority u priority) S = priority ≤ 63

@@ -19,10 +19,10 @@ use Rattle.machine.specs.declared.server_move.ServerMove.{ServerMove}
 use Rattle.machine.specs.declared.server_move.ServerMove.TheVariants.{Start, Join, Close, CloseAll, SetOpen, End}
 use Rattle.machine.specs.declared.state.State.{State}
 use Rattle.machine.specs.Moves.{next_object}
-use Rattle.machine.specs.References.{total, owed_names, server_names}
-use Rattle.machine.specs.Rows.{object_of, thread_of}
+use Rattle.machine.specs.References.{count_of, total, owed_names, server_names}
+use Rattle.machine.specs.Rows.{thread_of}
 use Rattle.machine.specs.Serving.{times_sent, times_called, sessions_used, sessions_there, numbers_used}
-use Rattle.machine.specs.WellFormed.{IsAlive, IsLiveThread, IsUntold}
+use Rattle.machine.specs.WellFormed.{IsLiveThread, IsUntold}
 
 -- a further session may be disconnected, open or about to be
 abbrev pub HasSpare : State → Type 0
@@ -47,7 +47,7 @@ pub record MayStartServer (S : State) (o u : ObjNo) : Type 0 where
   pub owner : IsLiveThread S.references.threads u
 
 -- an object that may become a session at a server: it was made, after all threads, is no session yet, and no server, session, message or duty
--- refers to it; and the server is another object, is alive and isn't closing
+-- refers to it; and the server is another object, is referred to and isn't closing
 pub record MayJoinServer (S : State) (s o : ObjNo) : Type 0 where
   pub made : s.0 < length S.references.objects
   pub later : length S.references.threads ≤ s.0
@@ -58,7 +58,7 @@ pub record MayJoinServer (S : State) (s o : ObjNo) : Type 0 where
   pub unowed : total (total (owed_names s)) S.references.owed ≡ 0
   pub server : IsServer S.serving.servers o
   pub accepts : is_closing S.serving.servers o ≡ false
-  pub alive : IsAlive (object_of S o)
+  pub counted : 0 < count_of S o
 
 -- a server that may end: it is closing, and no message and no session of it is left
 pub record MayEnd (S : State) (o : ObjNo) : Type 0 where
@@ -83,12 +83,12 @@ FitsWay u (Async s) S = IsUntold S.synchronization.requests S.synchronization.lo
 FitsWay u Sync S = (times_called S.serving.messages.outstanding u ≡ 0) × ((row : ThreadRow) → thread_of S u ≡ Some row → row.waiting ≡ waiting.Reply)
 FitsWay u Disconnect S = HasSpare S
 
--- a message that may be accepted: its session and its client are alive, they are a session and a thread, its server is an object, and a number
+-- a message that may be accepted: something refers to its session and its client, they are a session and a thread, its server is an object, and a number
 -- is left for it
 pub record MayAccept (S : State) (row : MsgRow) : Type 0 where
-  pub session : IsAlive (object_of S row.session)
+  pub session : 0 < count_of S row.session
   pub known : IsSession S.serving.servers row.session
-  pub client : IsAlive (object_of S row.client)
+  pub client : 0 < count_of S row.client
   pub thread : is_some (thread_of S row.client) ≡ true
   pub server : row.server.0 < OBJECTS
   pub args : length row.args ≡ 4

@@ -30,6 +30,7 @@ pub mod History
 pub mod Holding
 pub mod Holdings
 pub mod Interrupts
+pub mod Kept
 pub mod LockMoves
 pub mod LogonCalls
 pub mod LogonMoves
@@ -42,6 +43,7 @@ pub mod Moves
 pub mod MutexCalls
 pub mod NanoMoves
 pub mod Open
+pub mod Out
 pub mod Queueing
 pub mod Reaping
 pub mod References
@@ -55,6 +57,7 @@ pub mod ServerCalls
 pub mod ServerMoves
 pub mod Serving
 pub mod SessionCalls
+pub mod SharedRun
 pub mod Slots
 pub mod Steps
 pub mod Task

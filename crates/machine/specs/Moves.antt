@@ -10,12 +10,13 @@ use Rattle.entry_log.specs.declared.effect.Holder.TheVariants.{InProcess, InThre
 use Rattle.entry_log.specs.declared.effect.Effect.{Effect}
 use Rattle.entry_log.specs.declared.effect.Effect.TheVariants.{Plus, Minus, Dead, Swept, Seek, Missed}
 use Rattle.entry_log.specs.declared.step.Part.{Part}
+use Rattle.entry_log.specs.declared.step.Part.TheVariants.{Return}
 use Rattle.state_rows.specs.declared.duty.Owed.{Owed}
 use Rattle.state_rows.specs.declared.duty.Owed.TheVariants.{Close, Sweep}
 use Rattle.state_rows.specs.declared.object.ObjectRow.{ObjectRow}
 use Rattle.state_rows.specs.ObjectRows.{dead_row}
 use Rattle.machine.specs.declared.moves.Move.{Move}
-use Rattle.machine.specs.declared.moves.Move.TheVariants.{Make, Gain, Lose, Find, Miss, GoOn, Write, Advance, Wait, Wake, SetPriority, Nano, Keep, WriteMessage, PutDown, Deferred, Requests, Locks, Logons, Death, Servers, Messages, Fill, Copies, Pay}
+use Rattle.machine.specs.declared.moves.Move.TheVariants.{Make, Gain, Lose, Find, Open, Miss, GoOn, Write, Advance, Wait, Wake, SetPriority, Nano, Keep, WriteMessage, PutDown, Deferred, Requests, Locks, Logons, Death, Servers, Messages, Fill, Copies, Pay}
 use Rattle.state_rows.specs.declared.thread.Waiting.{Waiting}
 use Rattle.state_rows.specs.declared.thread.Waiting.TheVariants as waiting
 use Rattle.state_rows.specs.declared.handle_slot.HandleSlot.{HandleSlot}
@@ -23,7 +24,7 @@ use Rattle.state_rows.specs.declared.thread.ThreadRow.{ThreadRow}
 use Rattle.machine.specs.declared.state.State.{State}
 use Rattle.machine.specs.Rows.{thread_of, with_row, owing, without_first}
 use Rattle.machine.specs.Handles.{with_slot, taken_slot, freed_slot}
-use Rattle.machine.specs.References.{dies}
+use Rattle.machine.specs.Kept.{dies}
 use Rattle.machine.specs.NanoMoves.{nano_moved, nano_told}
 use Rattle.machine.specs.DeferredMoves.{deferred_moved}
 use Rattle.machine.specs.RequestMoves.{request_moved, request_told}
@@ -48,8 +49,9 @@ no_number_left S = (next_object S).0 == OBJECTS
 abbrev pub new_object : Kind → List ℕ → ObjectRow
 new_object kind name = record { kind = kind; name = name; dead = false }
 
--- a thread's row with another use, without its link, with what it found, with a number that it found, with another next step, with a
--- value in a register, with the number of a message in one, at its next instruction, with what it waits for, and with another priority
+-- a thread's row with another use, without its link, with what it found and comes back for, with what it opened, with what it missed,
+-- with a number that it found, with another next step, with a value in a register, with the number of a message in one, at its next
+-- instruction, with what it waits for, and with another priority
 abbrev pub with_use : Option ObjNo → ThreadRow → ThreadRow
 with_use uses row = record row { uses = uses }
 
@@ -57,7 +59,13 @@ abbrev pub unlinked : ThreadRow → ThreadRow
 unlinked row = record row { link = None }
 
 abbrev pub with_found : ObjNo → ThreadRow → ThreadRow
-with_found o row = record row { found = o.0 }
+with_found o row = record row { found = o.0; part = Some Return }
+
+abbrev pub with_opened : ObjNo → Part → ThreadRow → ThreadRow
+with_opened o part row = record row { uses = Some o; part = Some part }
+
+abbrev pub with_missed : ThreadRow → ThreadRow
+with_missed row = record row { part = None }
 
 abbrev pub with_kept : ℕ → ThreadRow → ThreadRow
 with_kept number row = record row { found = number }
@@ -173,7 +181,8 @@ moved t (Lose h o) S = record S {
   };
 }
 moved t (Find u o) S = record S { references = record S.references { threads = with_row S.references.threads u (with_found o) } }
-moved t (Miss o) S = S
+moved t (Open u o part) S = record S { references = record S.references { threads = with_row S.references.threads u (with_opened o part) } }
+moved t (Miss u o) S = record S { references = record S.references { threads = with_row S.references.threads u with_missed } }
 moved t (GoOn u part) S = record S { references = record S.references { threads = with_row S.references.threads u (with_part part) } }
 moved t (Keep u number) S = record S { references = record S.references { threads = with_row S.references.threads u (with_kept number) } }
 moved t (Write u x value) S = record S { references = record S.references { threads = with_row S.references.threads u (with_register x value) } }
@@ -231,7 +240,8 @@ told (Make kind name h) S = Plus h (next_object S) ∷ []
 told (Gain h o) S = Plus h o ∷ []
 told (Lose h o) S = closed_effects (dies S o) h o
 told (Find t o) S = Seek o ∷ []
-told (Miss o) S = Missed o ∷ []
+told (Open t o part) S = Plus (Temp t) o ∷ []
+told (Miss t o) S = Missed o ∷ []
 told (GoOn t part) S = []
 told (Keep t number) S = []
 told (Write t x value) S = []

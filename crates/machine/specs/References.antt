@@ -75,11 +75,6 @@ server_names S o = total (total (mutex_names o)) S.serving.owned + total (sessio
 abbrev pub count_of : State → ObjNo → ℕ
 count_of S o = total (total (slot_names o)) S.references.handles + total (thread_names o) S.references.threads + kernel_names S o + total (total (owed_names o)) S.references.owed + total (total (mutex_names o)) S.synchronization.mutexes + server_names S o
 
--- whether an object dies as one of its references is given up: it has no other. Each move and each effect of a close asks
--- this alone
-abbrev pub dies : State → ObjNo → Bool
-dies S o = count_of S o == 1
-
 -- how often effects add a reference to an object
 abbrev pub pluses : List Effect → ObjNo → ℕ
 pluses [] o = 0

@@ -41,7 +41,7 @@ use Rattle.machine.specs.Reaping.{give_up, clean, bury}
 use Rattle.sym_base.specs.declared.kind.ExitKind.TheVariants as kind
 use Rattle.sym_base.specs.declared.word.Word.TheVariants as word
 use Rattle.machine.specs.declared.plan.Body.TheVariants.{Deferred}
-use Rattle.machine.specs.Task.{task_of, is_able}
+use Rattle.machine.specs.Task.{task_of, may_act}
 
 -- an instruction's step, by the part that is next, None being its first
 abbrev pub step_of : Script → State → ObjNo → ThreadRow → Instr → Option Part → Decision
@@ -119,10 +119,10 @@ abbrev pub decision_of_row : Script → State → ObjNo → Option ThreadRow →
 decision_of_row script S t (Some row) (Some what) = decision_of_task script S t row what
 decision_of_row script S t _ _ = nothing
 
--- what a thread does in its next action; one that isn't able does nothing
+-- what a thread does in its next action; one that may not act does nothing
 abbrev pub decision_where : Script → Bool → State → ObjNo → Option Task → Decision
 decision_where script false S t task = nothing
 decision_where script true S t task = decision_of_row script S t (thread_of S t) task
 
 abbrev pub decision_of : Script → State → ObjNo → Decision
-decision_of script S t = decision_where script (is_able script S t) S t (task_of script S t)
+decision_of script S t = decision_where script (may_act script S t) S t (task_of script S t)

@@ -1,11 +1,9 @@
 -- What a thread does next.
-use Rattle.std.specs.Prelude.{ℕ, nat_lt, Bool, true, false, not, ◌&&◌, ◌==◌, is_some, is_none, if◌then◌else◌, List, [], ◌∷◌, Option, Some, None, option_and_then, option_map, slice_get}
+use Rattle.std.specs.Prelude.{ℕ, nat_lt, Bool, true, false, not, ◌&&◌, ◌||◌, ◌==◌, is_some, is_none, if◌then◌else◌, List, [], ◌∷◌, Option, Some, None, option_and_then, option_map, slice_get}
 use Rattle.sym_base.specs.declared.number.ObjNo.{ObjNo}
 use Rattle.script_types.specs.declared.script.Script.{Script}
 use Rattle.script_types.specs.declared.declaration.ThreadDecl.{ThreadDecl}
 use Rattle.script_types.specs.declared.instruction.Instr.{Instr}
-use Rattle.entry_log.specs.declared.step.Part.{Part}
-use Rattle.entry_log.specs.declared.step.Part.TheVariants as part
 use Rattle.state_rows.specs.Deferred.{next_of}
 use Rattle.state_rows.specs.declared.deferred.DeferredRows.{DeferredRows}
 use Rattle.state_rows.specs.Nano.{suspend_count, is_protected, wanted_holder}
@@ -22,6 +20,7 @@ use Rattle.state_rows.specs.declared.thread.ThreadRow.{ThreadRow}
 use Rattle.machine.specs.declared.state.State.{State}
 use Rattle.machine.specs.declared.holding.Holding.{Holding}
 use Rattle.machine.specs.Holdings.{holdings, held_servers}
+use Rattle.machine.specs.Out.{is_out, is_returning}
 use Rattle.machine.specs.Rows.{thread_of, first_owed}
 
 -- the declaration of a thread: the supervisor and the thread of a queue have none
@@ -42,11 +41,6 @@ instructions_of script role = instructions_in (declared_of script role)
 -- the instruction that a thread is at, None at its list's end
 abbrev pub instruction : Script → ThreadRow → Option Instr
 instruction script row = slice_get (instructions_of script row.role) row.next_instruction
-
--- whether a thread is between a find and its return
-abbrev pub is_returning : Option Part → Bool
-is_returning (Some part.Return) = true
-is_returning _ = false
 
 -- at its list's end a thread gives up what protects it, if it is protected, and else it ends
 abbrev pub end_task : Bool → Task
@@ -119,12 +113,13 @@ abbrev pub is_wait : Waiting → Bool
 is_wait Nothing = false
 is_wait _ = true
 
-abbrev pub is_waiting_row : Option ThreadRow → Bool
-is_waiting_row None = false
-is_waiting_row (Some row) = is_wait row.waiting
+-- whether it waits, or is out where callers share the kernel
+abbrev pub is_waiting_row : Bool → Option ThreadRow → Bool
+is_waiting_row shared None = false
+is_waiting_row shared (Some row) = is_wait row.waiting || (shared && is_returning row.part)
 
 abbrev pub is_waiting : State → ObjNo → Bool
-is_waiting S t = is_waiting_row (thread_of S t)
+is_waiting S t = is_waiting_row S.mode.shared (thread_of S t)
 
 -- whether a thread is stopped: it is suspended, and nothing protects it from that
 abbrev pub is_stopped : State → ObjNo → Bool
@@ -137,3 +132,7 @@ is_ready script S t = not (is_waiting S t) && not (is_stopped S t) && is_some (t
 -- a thread is able to act where it is ready and doesn't want a fast mutex that is held
 abbrev pub is_able : Script → State → ObjNo → Bool
 is_able script S t = is_ready script S t && is_none (wanted_holder S.synchronization.nano t)
+
+-- a thread may act where it is able, and where it is out: it may come back at any time, also where it was suspended or doomed meanwhile
+abbrev pub may_act : Script → State → ObjNo → Bool
+may_act script S t = is_able script S t || is_out S t

@@ -41,7 +41,8 @@ use Rattle.state_rows.specs.declared.locks.LockRows.{LockRows}
 use Rattle.state_rows.specs.Locks.{owner_at, count_at, waiters_at, is_among}
 use Rattle.machine.specs.References.{total, same, mutex_names, count_of}
 use Rattle.machine.specs.HeldIn.{owed_by}
-use Rattle.machine.specs.Task.{instructions_of, served_queue, is_ready, is_returning}
+use Rattle.machine.specs.Task.{instructions_of, served_queue, is_ready}
+use Rattle.machine.specs.Out.{is_returning, outs_of, part_of}
 use Rattle.machine.specs.LogonMoves.{is_logon}
 use Rattle.machine.specs.Arrivals.{is_listed}
 use Rattle.state_rows.specs.DeclaredCalls.{calls_of}
@@ -97,11 +98,6 @@ weight (Close (Link x) o) = 2
 weight (Close _ o) = 4
 weight (Sweep o) = 1
 
--- the next step of a thread, None also where there is no thread
-abbrev pub part_of : Option ThreadRow → Option Part
-part_of None = None
-part_of (Some row) = row.part
-
 -- whose closes a thread may owe: its own temporary reference's and ownership's, the link's of a thread or a session, to what has no link
 -- itself, that of a message which was accepted, and the kernel's
 abbrev pub MayOwe : List (Option ThreadRow) → ServerRows → ℕ → ℕ → Holder → ObjNo → Type 0
@@ -124,13 +120,14 @@ pub record AreDuties (threads : List (Option ThreadRow)) (servers : ServerRows) 
   pub few : (k : ℕ) → total weight (slice_index_or owed k []) ≤ 12
   pub returns : (k : ℕ) → is_returning (part_of (slice_index_or threads k None)) ≡ true → slice_index_or owed k [] ≡ []
 
--- a thread that holds a fast mutex is live, serves no queue, waits for nothing and wants no other
+-- a thread that holds a fast mutex is live, serves no queue, waits for nothing, isn't between a find and its return, and wants no other
 pub record IsHolder (threads : List (Option ThreadRow)) (r : NanoRows) (u : ObjNo) : Type 0 where
   pub row : ThreadRow
   pub is : slice_index_or threads u.0 None ≡ Some row
   pub live : row.stage ≡ Live
   pub serves : served_queue row.role ≡ None
   pub waits : row.waiting ≡ waiting.Nothing
+  pub going : is_returning row.part ≡ false
   pub wants : want_of r u ≡ None
 
 -- the rows of threads that synchronize: one for each thread, and a holder or none for each fast mutex of the script
@@ -269,11 +266,11 @@ owed_sweeps o (Sweep x) = same x o
 abbrev pub sweeps_of : State → ObjNo → ℕ
 sweeps_of S o = total (total (owed_sweeps o)) S.references.owed
 
--- objects live by their references: one that is referred to is alive, one that is alive is referred to, and
--- exactly a dead one's sweep is owed, once
+-- objects live by their references and by who is out on them: one that is referred to is alive, one that is alive is referred to or somebody is
+-- out on it, and exactly a dead one's sweep is owed, once
 pub record AreLives (S : State) : Type 0 where
   pub alive : (o : ObjNo) → 0 < count_of S o → IsAlive (object_of S o)
-  pub counted : (o : ObjNo) → IsAlive (object_of S o) → 0 < count_of S o
+  pub counted : (o : ObjNo) → IsAlive (object_of S o) → 0 < count_of S o + outs_of S o
   pub sweeps : (o : ObjNo) → sweeps_of S o ≡ is_dead (object_of S o)
 
 -- no thread stands in the list again behind its place

@@ -14,7 +14,7 @@ use crate::boot_lists::{
     empty_lists, fresh_tables, memories_of, objects_of, ready_from, threads_of,
 };
 use crate::boot_rows::{nano_of, no_locks, no_messages, no_requests, no_servers};
-use crate::{DeferredRows, References, Services, Serving, State, Synchronization};
+use crate::{DeferredRows, Mode, References, Services, Serving, State, Synchronization};
 use script_types::Script;
 use state_rows::calls_of;
 use std::alloc::Global;
@@ -101,6 +101,10 @@ pub fn boot_of(
     let serving = serving_of(alloc, pool, all)?;
     let services = services_of(alloc, all)?;
     Ok(State {
+        mode: Mode {
+            shared: false,
+            keep: false,
+        },
         references,
         synchronization,
         serving,
@@ -109,7 +113,7 @@ pub fn boot_of(
 }
 
 /// The state at boot.
-#[tactic(auto, using(crate::proofs::BornFew::born_few))]
+#[tactic(auto, using(crate::proofs::BornFew::born_few), unfolding(crate::specs::Boot::boot_of))]
 pub fn state_at_boot(alloc: Global, script: &Script) -> Result<State, NoMemory>
     requires { IsShaped script.now }
     ensures { IfOk result (λ state. state ≡ boot script.now) }

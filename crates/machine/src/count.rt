@@ -1,8 +1,10 @@
 //! Counting references by going over all the rows that hold one. Counts stand still at the end of their
 //! type, which no state that a history leaves comes near.
 ghost use Rattle.std.specs.Prelude.{◌≡◌, ◌-◌, ◌^◌, ◌<◌, ◌≤◌, min, nat_lt};
-ghost use Rattle.machine.specs.References.{total, same, option_names, slot_names, thread_names, owed_names, mutex_names, session_names, message_names, server_names, kernel_names, stage_holds, count_of, dies};
+ghost use Rattle.machine.specs.References.{total, same, option_names, slot_names, thread_names, owed_names, mutex_names, session_names, message_names, server_names, kernel_names, stage_holds, count_of};
+ghost use Rattle.machine.specs.Kept.{is_kept, dies};
 
+use crate::returning::is_sought;
 use crate::rows::thread_of;
 use crate::{HandleSlot, Owed, State, ThreadRow};
 use state_rows::{Message, SessionRow, Stage};
@@ -225,10 +227,17 @@ pub fn is_counted(state: &State, object: ObjNo) -> bool
     capped_count(state, object) > 0
 }
 
-/// Whether an object dies as one of its references is given up: it has no other.
+/// Whether an object on which somebody is out is kept as its last reference is given up.
+fn is_kept(state: &State, object: ObjNo) -> bool
+    ensures { result ≡ is_kept state.now object }
+{
+    state.mode.keep && is_sought(state, object)
+}
+
+/// Whether an object dies as one of its references is given up: it has no other, and isn't kept.
 #[tactic(auto, using(crate::proofs::Capped::capped_is_one))]
 pub fn dies(state: &State, object: ObjNo) -> bool
     ensures { result ≡ dies state.now object }
 {
-    capped_count(state, object) == 1
+    capped_count(state, object) == 1 && !is_kept(state, object)
 }

@@ -22,10 +22,12 @@ pub enum Move {
     /// The holder gives its reference to the object up. Whoever gives the last one up owes the close of the
     /// object's own link, and then its sweep.
     Lose(Holder, ObjNo),
-    /// The thread found the object by its name. That is no reference.
+    /// The thread found the object by its name, and comes back next. That is no reference.
     Find(ThreadNo, ObjNo),
-    /// The thread came to open the object that it had found, and it was dead.
-    Miss(ObjNo),
+    /// The thread comes back and opens the object that it had found, which it uses from then on, and goes on to this step.
+    Open(ThreadNo, ObjNo, Part),
+    /// The thread comes back to the object that it had found, and that was dead.
+    Miss(ThreadNo, ObjNo),
     /// The thread goes on to this step of its instruction.
     GoOn(ThreadNo, Part),
     /// The thread keeps a number that a step of its instruction found, for the steps to come.
@@ -72,7 +74,7 @@ pub enum Move {
 impl Default for Move {
     /// Some move: the unused places of `Moves` hold it.
     fn default() -> Self {
-        Move::Miss(ObjNo(0))
+        Move::Advance(ObjNo(0))
     }
 }
 

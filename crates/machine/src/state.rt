@@ -1,12 +1,14 @@
 //! The kernel's state as plain lists of rows, indexed by number, in groups.
 ghost use Rattle.std.specs.Prelude.{◌≡◌, IfOk};
 
-use crate::{References, Services, Serving, Synchronization};
+use crate::{Mode, References, Services, Serving, Synchronization};
 use std::alloc::{AllocError, Global};
 
 /// The whole state. Each list is indexed by object number. The ready list stands beside it: no action reads it.
 #[derive(Drop)]
 pub struct State {
+    /// How the kernel is called, and what the present action chooses.
+    pub mode: Mode,
     /// Objects, handle tables, threads' rows and what threads owe.
     pub references: References,
     /// What threads synchronize by.
@@ -23,6 +25,7 @@ impl State {
         ensures { IfOk result (λ copy. copy ≡ self.now) }
     {
         Ok(State {
+            mode: self.mode,
             references: self.references.copied(alloc)?,
             synchronization: self.synchronization.copied(alloc)?,
             serving: self.serving.copied(alloc)?,

@@ -39,7 +39,10 @@ pub fn touched(thread: ThreadNo, change: &Move) -> TouchedThreads
         Move::Lose(_, _)
         | Move::Pay(Owed::Close(_, _))
         | Move::Messages(MessageMove::Finish(_, _)) => one(thread),
-        Move::GoOn(other, _)
+        Move::Find(other, _)
+        | Move::Open(other, _, _)
+        | Move::Miss(other, _)
+        | Move::GoOn(other, _)
         | Move::Advance(other)
         | Move::Wait(other, _)
         | Move::Wake(other)

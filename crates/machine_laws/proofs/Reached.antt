@@ -1,6 +1,8 @@
 -- The states that actions and histories leave.
 pub mod AfterHistory
+pub mod Choices
 pub mod Histories
 pub mod Idleness
 pub mod LeftRows
+pub mod Modes
 pub mod NextState

@@ -14,9 +14,9 @@ use Rattle.entry_log.specs.declared.effect.Effect.TheVariants.{Plus, Minus}
 use Rattle.entry_log.specs.declared.entry.Entry.{Entry}
 use Rattle.machine.specs.declared.state.State.{State}
 use Rattle.state_rows.specs.declared.thread.ThreadRow.{ThreadRow}
-use Rattle.machine.specs.Boot.{boot}
+use Rattle.machine.specs.Boot.{boot, boot_in}
 use Rattle.machine.specs.HeldIn.{held_in}
-use Rattle.machine.specs.History.{next, after, after_from, IsLegal}
+use Rattle.machine.specs.History.{after_from, after_in, next_by, IsLegalIn}
 use Rattle.machine.specs.Holding.{is_holder, held_after, held_after_all, FitsHolders, EachFitsHolders, held_at_boot, link_names}
 use Rattle.machine.specs.References.{same, option_names}
 use Rattle.machine.specs.Rows.{thread_of}
@@ -25,23 +25,23 @@ use Rattle.move_laws.proofs.References.Effects.{after_all-append, after_all-same
 use Rattle.move_laws.proofs.References.Same.{same_object, same_le, same_is}
 use Rattle.machine_safe.specs.CountAfter.{effects_of}
 use Rattle.machine_safe.proofs.Runs.{IsSoundRun}
-use Rattle.machine_safe.proofs.SafeHistories.{legal_run, legal_safe}
+use Rattle.machine_safe.proofs.SafeHistories.{legal_run, run-holders}
 use Rattle.move_laws.proofs.Numbers.CountSmall.{holds_le}
 
 run-held : (script : Script) (S : State) (es : List Entry) (g : Holder) (x : ObjNo) → IsSoundRun script S es → held_after_all (held_in S) (effects_of es) g x ≡ held_in (after_from script S es) g x
 run-held script S [] g x h = refl
 run-held script S (e ∷ es) g x h =
-    let T = next script S e.actor in
+    let T = next_by script S e in
     after_all-append (held_in S) e.effects (effects_of es) g x
     ∙ after_all-same (held_after_all (held_in S) e.effects) (held_in T) (effects_of es) h.0.holders.moves g x
     ∙ run-held script T es g x h.1
 
 -- after each legal history a holder has the references that it had at boot, with those that its effects add and without
 -- those that they take away
-pub held_as_told : (script : Script) (history : List Entry) → IsWellFormed script → IsLegal script history → (g : Holder) (x : ObjNo) → held_in (after script history) g x ≡ held_after_all (held_at_boot script) (effects_of history) g x
-held_as_told script history valid legal g x =
-    sym (run-held script (boot script) history g x (legal_run script history valid legal))
-    ∙ after_all-same (held_in (boot script)) (held_at_boot script) (effects_of history) (held-boot script (formed_is_shaped script valid)) g x
+pub held_as_told : (shared : Bool) (script : Script) (history : List Entry) → IsWellFormed script → IsLegalIn shared script history → (g : Holder) (x : ObjNo) → held_in (after_in shared script history) g x ≡ held_after_all (held_at_boot script) (effects_of history) g x
+held_as_told shared script history valid legal g x =
+    sym (run-held script (boot_in shared script) history g x (legal_run shared script history valid legal))
+    ∙ after_all-same (held_in (boot_in shared script)) (held_at_boot script) (effects_of history) (held-boot script (formed_is_shaped script valid)) g x
 
 same_message : (m n : MsgNo) → m.0 ≡ n.0 → m ≡ n
 same_message m n e = let named : ℕ → MsgNo = λ k. record { 0 = k } in ap named e
@@ -93,7 +93,7 @@ once_at_boot script Kernel x = holds_le (thread_of (boot script) x)
 once_at_boot script _ x = omega arith
 
 -- a holder has one reference to an object at most
-pub held_once : (script : Script) (history : List Entry) → IsWellFormed script → IsLegal script history → (g : Holder) (x : ObjNo) → held_in (after script history) g x ≤ 1
-held_once script history valid legal g x =
-    let told = held_as_told script history valid legal g x in
-    let few = once_all (held_at_boot script) (effects_of history) (legal_safe script history valid legal).holders (once_at_boot script) g x in omega arith
+pub held_once : (shared : Bool) (script : Script) (history : List Entry) → IsWellFormed script → IsLegalIn shared script history → (g : Holder) (x : ObjNo) → held_in (after_in shared script history) g x ≤ 1
+held_once shared script history valid legal g x =
+    let told = held_as_told shared script history valid legal g x in
+    let few = once_all (held_at_boot script) (effects_of history) (run-holders shared script history (formed_is_shaped script valid) (legal_run shared script history valid legal)) (once_at_boot script) g x in omega arith

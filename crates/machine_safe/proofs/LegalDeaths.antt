@@ -1,19 +1,19 @@
 -- In every legal history of a well-formed script threads die safely.
-use Rattle.std.proofs.Common.{List}
+use Rattle.std.proofs.Common.{Bool, List}
 use Rattle.script_types.specs.declared.script.Script.{Script}
 use Rattle.script_types.specs.Source.{IsWellFormed}
 use Rattle.entry_log.specs.declared.entry.Entry.{Entry}
-use Rattle.machine.specs.History.{IsLegal}
+use Rattle.machine.specs.History.{IsLegalIn}
 use Rattle.machine_safe.specs.SafeDeaths.{IsSafeDeaths}
 use Rattle.machine_safe.proofs.Deaths.Dead.{stays-dead}
 use Rattle.machine_safe.proofs.Deaths.Dooms.{doom-ends}
 use Rattle.machine_safe.proofs.Deaths.InOrder.{dies-in-order}
 use Rattle.machine_safe.proofs.Deaths.Leaves.{clean-leaves}
 
-pub legal_deaths : (script : Script) (history : List Entry) → IsWellFormed script → IsLegal script history → IsSafeDeaths script history
-legal_deaths script history valid legal = record {
-  order = λ t. dies-in-order script history t valid legal;
-  doom = λ t. doom-ends script history t valid legal;
-  clean = λ t. clean-leaves script history t valid legal;
-  dead = λ t. stays-dead script history t valid legal;
+pub legal_deaths : (shared : Bool) (script : Script) (history : List Entry) → IsWellFormed script → IsLegalIn shared script history → IsSafeDeaths shared script history
+legal_deaths shared script history valid legal = record {
+  order = λ t. dies-in-order shared script history t valid legal;
+  doom = λ t. doom-ends shared script history t valid legal;
+  clean = λ t. clean-leaves shared script history t valid legal;
+  dead = λ t. stays-dead shared script history t valid legal;
 }

@@ -1,7 +1,7 @@
 -- In every legal history messages and servers are safe.
 use Rattle.entry_log.specs.declared.entry.Entry.{Entry}
-use Rattle.machine.specs.Boot.{boot, boot_of, born}
-use Rattle.machine.specs.History.{IsLegal, after}
+use Rattle.machine.specs.Boot.{boot_in, boot_of, born}
+use Rattle.machine.specs.History.{after_in, choosing, is_deathless, keeping, IsLegalIn}
 use Rattle.machine.specs.References.{mutex_names, total}
 use Rattle.machine_laws.proofs.AtBoot.Born.{born_row, each_born}
 use Rattle.machine_laws.proofs.Reached.Histories.{after_from-push}
@@ -19,10 +19,12 @@ use Rattle.machine_safe.specs.Sent.{finishes}
 use Rattle.machine_safe.specs.Served.{ends, ends_in, owner_in}
 use Rattle.script_types.proofs.ShapeLaws.{formed_is_shaped}
 use Rattle.script_types.specs.declared.script.Script.{Script}
-use Rattle.std.proofs.Common.{List, Some, [], ap, append_assoc, arith, inl, inr, refl, subst, sym, ◌++◌, ◌<◌, ◌∙◌, ◌∷◌, ◌≡◌, false, Option, None}
+use Rattle.std.proofs.Common.{Bool, List, Some, [], ap, append_assoc, arith, inl, inr, refl, subst, sym, ◌++◌, ◌<◌, ◌∙◌, ◌∷◌, ◌≡◌, false, Option, None}
+use Rattle.std.specs.Prelude.{◌&&◌}
 use Rattle.std.proofs.lemmas.List.{append-nil}
 use Rattle.sym_base.specs.declared.number.ObjNo.{ObjNo}
 use Rattle.script_types.specs.Source.{IsWellFormed}
+use Rattle.machine.specs.declared.state.State.{State}
 use Rattle.machine_safe.specs.SafeBusy.{IsSafeBusy}
 use Rattle.machine_safe.proofs.Serving.Deeds.{Looked}
 use Rattle.machine_safe.proofs.Serving.Looked.{boot-looked, entry-looked}
@@ -36,10 +38,10 @@ use Rattle.std.specs.Prelude.{is_some}
 use Rattle.state_rows.specs.declared.servers.ServerRow.{ServerRow}
 
 -- a thread that is there is live, or was doomed once
-fated : (script : Script) (before : List Entry) → IsWellFormed script → IsLegal script before → IsFated before (after script before)
+fated : (shared : Bool) (script : Script) (before : List Entry) → IsWellFormed script → IsLegalIn shared script before → IsFated before (after_in shared script before)
 unfolding boot_of
-fated script before valid legal u row is =
-    let front = dies-history script before valid legal in
+fated shared script before valid legal u row is =
+    let front = dies-history shared script before valid legal in
     let was = front.were u.0 row is in
     let live = front.live u in
     let now = ap (row_bit stage_live) is in
@@ -54,50 +56,90 @@ unmade-next script before S book = by (server_at S.serving.servers (next_object 
     by None e = refl
     by (Some row) e = let made = served-made script (reading before) S book.served (next_object S) row e in absurd (omega arith)
 
+-- what a history tells of servers and messages is asked of no choice
+book-keeping : (script : Script) (before : List Entry) (S : State) (keep : Bool) → Book script before S → Book script before (keeping keep S)
+book-keeping script before S keep h = record {
+  served = record {
+    rows = λ o row is. let row_is = h.served.rows o row is in record { made = row_is.made; owner = row_is.owner; closing = row_is.closing; owned = row_is.owned };
+    links = h.served.links;
+    ended = h.served.ended;
+    over = h.served.over;
+    made = h.served.made;
+    unmade = h.served.unmade;
+    places = h.served.places;
+    told_made = h.served.told_made;
+    told_linked = h.served.told_linked;
+  };
+  letters = record {
+    accepted = h.letters.accepted;
+    known = h.letters.known;
+    all = λ m a. elim (h.letters.all m a) [
+      | inl over ↦ inl over
+      | inr out ↦ inr (record { post = out.post; among = out.among; number = out.number; over = out.over; at = out.at })
+    ];
+    later = h.letters.later;
+    sends = h.letters.sends;
+  };
+  slotted = record { sessions = h.slotted.sessions; pool = h.slotted.pool; servers = h.slotted.servers };
+  fresh = h.fresh;
+}
+
+-- nor is whether a thread keeps the handle of the session that it made
+handles-keeping : (script : Script) (S : State) (keep : Bool) → KeepHandles script S → KeepHandles script (keeping keep S)
+handles-keeping script S keep h u row is live due = let had = h u row is live due in record { own = had.own; there = had.there; other = had.other }
+
+-- what holds after the first entries
+abbrev BookAt : Bool → Script → List Entry → Type 0
+BookAt shared script xs = Book script xs (after_in shared script xs) × Looked script xs (after_in shared script xs) × KeepHandles script (after_in shared script xs)
+
 -- after each entry
-pub book-after : (script : Script) (before later : List Entry) → IsWellFormed script → IsLegal script (before ++ later) → Book script before (after script before) × Looked script before (after script before) × KeepHandles script (after script before)
-book-after script before later valid legal = by [] before refl (book-boot script (formed_is_shaped script valid), boot-looked script (formed_is_shaped script valid), kept-boot script (formed_is_shaped script valid))
+pub book-after : (shared : Bool) (script : Script) (before later : List Entry) → IsWellFormed script → IsLegalIn shared script (before ++ later) → BookAt shared script before
+book-after shared script before later valid legal = by [] before refl (book-boot shared script (formed_is_shaped script valid), boot-looked script (formed_is_shaped script valid), kept-boot shared script (formed_is_shaped script valid))
   where
-    by : (xs ys : List Entry) → before ≡ xs ++ ys → Book script xs (after script xs) × Looked script xs (after script xs) × KeepHandles script (after script xs) → Book script before (after script before) × Looked script before (after script before) × KeepHandles script (after script before)
-    by xs [] e h = subst (λ (l : List Entry). Book script l (after script l) × Looked script l (after script l) × KeepHandles script (after script l)) (sym (e ∙ append-nil xs)) h
+    by : (xs ys : List Entry) → before ≡ xs ++ ys → BookAt shared script xs → BookAt shared script before
+    by xs [] e h = subst (BookAt shared script) (sym (e ∙ append-nil xs)) h
     by xs (y ∷ ys) e h =
-        let cuts = cut script (before ++ later) xs y (ys ++ later) valid legal (ap (λ (l : List Entry). l ++ later) e ∙ append_assoc xs (y ∷ ys) later) in
-        let S = after script xs in
+        let cuts = cut shared script (before ++ later) xs y (ys ++ later) valid legal (ap (λ (l : List Entry). l ++ later) e ∙ append_assoc xs (y ∷ ys) later) in
+        let S = after_in shared script xs in
         let shaped = formed_is_shaped script valid in
-        let turn = turn-entry script xs S cuts.place shaped cuts.rows h.0 h.1 h.2 (fated script xs valid cuts.legal_before) y cuts.here in
-        let looked = entry-looked script xs S cuts.place shaped cuts.rows h.1 y cuts.here in
-        let kept = kept-next script S shaped cuts.rows h.2 (unmade-next script xs S h.0) y.actor in
-        let same = sym (after_from-push script (boot script) xs y) in
+        let keep = S.mode.shared && is_deathless y.effects in
+        let handles = handles-keeping script S keep h.2 in
+        let turn = turn-entry script xs (choosing y S) cuts.place shaped cuts.rows_done (book-keeping script xs S keep h.0) h.1 handles (fated shared script xs valid cuts.legal_before) y cuts.done in
+        let looked = entry-looked script xs (choosing y S) cuts.place shaped cuts.rows_done h.1 y cuts.done in
+        let kept = kept-next script (choosing y S) shaped cuts.rows_done handles (unmade-next script xs S h.0) y.actor in
+        let same = sym (after_from-push script (boot_in shared script) xs y) in
         by (xs ++ y ∷ []) ys (e ∙ sym (append_assoc xs (y ∷ []) ys)) (subst (Book script (xs ++ y ∷ [])) same turn.book, subst (Looked script (xs ++ y ∷ [])) same looked, subst (KeepHandles script) same kept)
 
 -- each entry is lawful
-lawful : (script : Script) (history before : List Entry) (e : Entry) (later : List Entry) → IsWellFormed script → IsLegal script history → StandsAt history before e later → IsLawful script before e
-lawful script history before e later valid legal is =
-    let c = cut script history before e later valid legal is in
+lawful : (shared : Bool) (script : Script) (history before : List Entry) (e : Entry) (later : List Entry) → IsWellFormed script → IsLegalIn shared script history → StandsAt history before e later → IsLawful script before e
+lawful shared script history before e later valid legal is =
+    let c = cut shared script history before e later valid legal is in
     let shaped = formed_is_shaped script valid in
-    let book = book-after script before (e ∷ later) valid (subst (IsLegal script) is legal) in
-    (turn-entry script before (after script before) c.place shaped c.rows book.0 book.1 book.2 (fated script before valid c.legal_before) e c.here).lawful
+    let book = book-after shared script before (e ∷ later) valid (subst (IsLegalIn shared script) is legal) in
+    let S = after_in shared script before in
+    let keep = S.mode.shared && is_deathless e.effects in
+    (turn-entry script before (choosing e S) c.place shaped c.rows_done (book-keeping script before S keep book.0) book.1 (handles-keeping script S keep book.2) (fated shared script before valid c.legal_before) e c.done).lawful
 
-pub legal_busy : (script : Script) (history : List Entry) → IsWellFormed script → IsLegal script history → IsSafeBusy script history
-legal_busy script history valid legal = record { answers = λ before e later is sends. (lawful script history before e later valid legal is).send sends }
+pub legal_busy : (shared : Bool) (script : Script) (history : List Entry) → IsWellFormed script → IsLegalIn shared script history → IsSafeBusy script history
+legal_busy shared script history valid legal = record { answers = λ before e later is sends. (lawful shared script history before e later valid legal is).send sends }
 
-pub legal_messages : (script : Script) (history : List Entry) → IsWellFormed script → IsLegal script history → IsSafeMessages script history
-legal_messages script history valid legal = record {
-  acceptances = λ before e later is some. (lawful script history before e later valid legal is).acceptance some;
-  finished = λ before e later m is some. (lawful script history before e later valid legal is).finish m some;
-  ended = λ before e later v is some. (lawful script history before e later valid legal is).end v some;
+pub legal_messages : (shared : Bool) (script : Script) (history : List Entry) → IsWellFormed script → IsLegalIn shared script history → IsSafeMessages script history
+legal_messages shared script history valid legal = record {
+  acceptances = λ before e later is some. (lawful shared script history before e later valid legal is).acceptance some;
+  finished = λ before e later m is some. (lawful shared script history before e later valid legal is).finish m some;
+  ended = λ before e later v is some. (lawful shared script history before e later valid legal is).end v some;
 }
 
 -- a thread that is cleaned made servers that ended, and nothing is left of these
-module _ (script : Script) (history before : List Entry) (e : Entry) (later : List Entry) (t v : ObjNo) (valid : IsWellFormed script) (legal : IsLegal script history) (is : StandsAt history before e later) (cleaned : 0 < cleanings (e ∷ []) t) (owns : owner_in before v ≡ Some t) where
-  book : Book script before (after script before)
-  book = (book-after script before (e ∷ later) valid (subst (IsLegal script) is legal)).0
+module _ (shared : Bool) (script : Script) (history before : List Entry) (e : Entry) (later : List Entry) (t v : ObjNo) (valid : IsWellFormed script) (legal : IsLegalIn shared script history) (is : StandsAt history before e later) (cleaned : 0 < cleanings (e ∷ []) t) (owns : owner_in before v ≡ Some t) where
+  book : Book script before (after_in shared script before)
+  book = (book-after shared script before (e ∷ later) valid (subst (IsLegalIn shared script) is legal)).0
 
   server-ended : 0 < ends (effects_of before) v
   server-ended = elim (book.served.made t v owns) as (λ _. 0 < ends (effects_of before) v) [
     | inl owned ↦
-        let c = cut script history before e later valid legal is in
-        let empty = empty-cleaning script (after script before) e t c.rows (cleans-here script before e later t (formed_is_shaped script valid) c cleaned) in
+        let c = cut shared script history before e later valid legal is in
+        let empty = empty-cleaning script (choosing e (after_in shared script before)) e t c.rows_done (cleans-here shared script before e later t (formed_is_shaped script valid) c cleaned) in
         let none = ap (total (mutex_names v)) empty.owned in absurd (omega arith)
     | inr over ↦ over
   ]
@@ -117,8 +159,8 @@ module _ (script : Script) (history before : List Entry) (e : Entry) (later : Li
         let over = server-ended in absurd (omega arith)
   ]
 
-pub legal_servers : (script : Script) (history : List Entry) → IsWellFormed script → IsLegal script history → IsSafeServers history
-legal_servers script history valid legal = record {
-  ended = λ before e later t v is cleaned owns. server-over script history before e later t v valid legal is cleaned owns;
-  finished = λ before e later t v is cleaned owns. nothing-left script history before e later t v valid legal is cleaned owns;
+pub legal_servers : (shared : Bool) (script : Script) (history : List Entry) → IsWellFormed script → IsLegalIn shared script history → IsSafeServers history
+legal_servers shared script history valid legal = record {
+  ended = λ before e later t v is cleaned owns. server-over shared script history before e later t v valid legal is cleaned owns;
+  finished = λ before e later t v is cleaned owns. nothing-left shared script history before e later t v valid legal is cleaned owns;
 }

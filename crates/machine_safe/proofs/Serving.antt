@@ -30,3 +30,10 @@ pub mod Slots
 pub mod Stopping
 pub mod Told
 pub mod Turns
+pub mod Acts
+pub mod Course
+pub mod CourseBlocks
+pub mod Courses
+pub mod Lacking
+pub mod Straight
+pub mod Using

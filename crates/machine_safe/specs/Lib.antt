@@ -1,6 +1,9 @@
 pub mod CountAfter
+pub mod FindsAndReturns
 pub mod IdleChoice
 pub mod Laws
+pub mod LeftOut
+pub mod Losses
 pub mod ReadyHolders
 pub mod Safe
 pub mod SafeBusy
@@ -10,4 +13,5 @@ pub mod SafeReferences
 pub mod SafeServers
 pub mod Sent
 pub mod Served
+pub mod SharedReading
 pub mod Slotted

@@ -1,5 +1,6 @@
--- What is promised of every legal history: its references are safe, and so are its deaths, its messages, the ends of its servers, and its busy answers.
-use Rattle.std.specs.Prelude.{List}
+-- What is promised of every legal history, as one caller makes it or as callers make it who share the kernel: its references are safe, and so are
+-- its deaths, its messages, the ends of its servers, and its busy answers.
+use Rattle.std.specs.Prelude.{Bool, false, List}
 use Rattle.script_types.specs.declared.script.Script.{Script}
 use Rattle.entry_log.specs.declared.entry.Entry.{Entry}
 use Rattle.machine_safe.specs.SafeBusy.{IsSafeBusy}
@@ -8,9 +9,12 @@ use Rattle.machine_safe.specs.SafeMessages.{IsSafeMessages}
 use Rattle.machine_safe.specs.SafeReferences.{IsSafeReferences}
 use Rattle.machine_safe.specs.SafeServers.{IsSafeServers}
 
-pub record IsSafe (script : Script) (history : List Entry) : Type 0 where
-  pub references : IsSafeReferences script history
-  pub deaths : IsSafeDeaths script history
+pub record IsSafeIn (shared : Bool) (script : Script) (history : List Entry) : Type 0 where
+  pub references : IsSafeReferences shared script history
+  pub deaths : IsSafeDeaths shared script history
   pub messages : IsSafeMessages script history
   pub servers : IsSafeServers history
   pub busy : IsSafeBusy script history
+
+abbrev pub IsSafe : Script → List Entry → Type 0
+IsSafe script history = IsSafeIn false script history

@@ -12,7 +12,7 @@ use Rattle.entry_log.specs.declared.effect.LockNo.TheVariants.{Object, Fast}
 use Rattle.entry_log.specs.declared.entry.Entry.{Entry}
 use Rattle.state_rows.specs.declared.thread.ThreadRow.{ThreadRow}
 use Rattle.machine.specs.Boot.{boot}
-use Rattle.machine.specs.History.{after}
+use Rattle.machine.specs.History.{after_in}
 use Rattle.machine.specs.Holding.{held_after_all, held_at_boot}
 use Rattle.machine.specs.Holdings.{holdings}
 use Rattle.machine.specs.References.{same}
@@ -112,17 +112,17 @@ pub record HasNone (S : State) (t : ObjNo) : Type 0 where
 
 -- From then on it doesn't act, gets no reference of its own, nor does its process's table where all others of that are cleaned too, and it
 -- has nothing left.
-pub record StaysDead (script : Script) (history : List Entry) (t : ObjNo) : Type 0 where
+pub record StaysDead (shared : Bool) (script : Script) (history : List Entry) (t : ObjNo) : Type 0 where
   pub acts : (before : List Entry) (e : Entry) (later : List Entry) → StandsAt history before e later → 0 < cleanings before t → is_by t e.actor ≡ false
   pub gains : (before : List Entry) (e : Entry) (later : List Entry) (h : Holder) (o : ObjNo) → StandsAt history before e later → 0 < cleanings before t → is_own t h ≡ true → pluses_by e.effects h o ≡ 0
   pub shares : (before : List Entry) (e : Entry) (later : List Entry) (row : ThreadRow) (i : ℕ) (o : ObjNo) → StandsAt history before e later → 0 < cleanings before t → thread_of (boot script) t ≡ Some row →
       OthersAreCleaned script before row.process t → pluses_by e.effects (InProcess row.process i) o ≡ 0
-  pub owes : (before later : List Entry) → history ≡ before ++ later → 0 < cleanings before t → owed_of (after script before) t ≡ []
-  pub has : (before later : List Entry) (row : ThreadRow) → history ≡ before ++ later → 0 < cleanings before t → thread_of (after script before) t ≡ Some row → holdings (after script before) t row ≡ []
-  pub none : (before later : List Entry) → history ≡ before ++ later → 0 < cleanings before t → HasNone (after script before) t
+  pub owes : (before later : List Entry) → history ≡ before ++ later → 0 < cleanings before t → owed_of (after_in shared script before) t ≡ []
+  pub has : (before later : List Entry) (row : ThreadRow) → history ≡ before ++ later → 0 < cleanings before t → thread_of (after_in shared script before) t ≡ Some row → holdings (after_in shared script before) t row ≡ []
+  pub none : (before later : List Entry) → history ≡ before ++ later → 0 < cleanings before t → HasNone (after_in shared script before) t
 
-pub record IsSafeDeaths (script : Script) (history : List Entry) : Type 0 where
+pub record IsSafeDeaths (shared : Bool) (script : Script) (history : List Entry) : Type 0 where
   pub order : (t : ObjNo) → DiesInOrder history t
   pub doom : (t : ObjNo) → DoomEnds history t
   pub clean : (t : ObjNo) → CleanLeaves script history t
-  pub dead : (t : ObjNo) → StaysDead script history t
+  pub dead : (t : ObjNo) → StaysDead shared script history t

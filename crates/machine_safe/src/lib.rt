@@ -4,8 +4,12 @@
 
 mod ready_holders;
 mod safe_references;
+mod shared_histories;
+mod shared_reading;
 mod told;
 
 pub use ready_holders::{holders_are_ready, idle_is_chosen};
-pub use safe_references::legal_is_safe;
+pub use safe_references::{legal_is_safe, shared_is_safe};
+pub use shared_histories::{finds_and_returns_count, one_reference_goes, whole_run_is_shared};
+pub use shared_reading::legal_is_shared;
 pub use told::{holders_are_told, state_is_well_formed, zero_counts_are_told};

@@ -1,7 +1,8 @@
 //! What a history tells of the state that it leaves.
+ghost use Rattle.std.specs.Prelude.{Bool};
 ghost use Rattle.script_types.specs.Source.{IsWellFormed as IsWellFormedScript};
-ghost use Rattle.machine.specs.Arrived.{arrived};
-ghost use Rattle.machine.specs.History.{after, IsLegal};
+ghost use Rattle.machine.specs.Arrived.{arrived_in};
+ghost use Rattle.machine.specs.History.{after_in, IsLegal, IsLegalIn};
 ghost use Rattle.machine.specs.WellFormed.{IsWellFormed};
 ghost use Rattle.machine_safe.specs.Laws.{HoldersAreTold, HoldersAreUnique, TellsZero};
 
@@ -9,26 +10,24 @@ use entry_log::Entry;
 use script_types::Script;
 
 /// Every history of a well-formed script leaves a well-formed state: handle tables, threads and duties keep their
-/// bounds, an object is alive exactly where something refers to it, the sweep of each dead one is owed
-/// once, and the ready list has exactly the threads that are ready, each once. This call only states it, and
-/// changes nothing.
+/// bounds, an object is alive exactly where something refers to it or somebody is out on it, the sweep of each dead
+/// one is owed once, and the ready list has exactly the threads that are ready, each once. This call only states it,
+/// and changes nothing.
 pub fn state_is_well_formed(script: &Script, history: &[Entry])
     requires valid { IsWellFormedScript script.now }
-    ensures formed { IsWellFormed script.now (after script.now history.now) (arrived script.now history.now) }
+    ensures formed { (shared : Bool) → IsWellFormed script.now (after_in shared script.now history.now) (arrived_in shared script.now history.now) }
 {}
 
-/// After every legal history of a well-formed script each holder holds what the effects tell, and no
-/// reference twice. This call only states it, and changes nothing.
+/// After every legal history of a well-formed script each holder holds what the effects tell, and no reference twice.
+/// This call only states it, and changes nothing.
 pub fn holders_are_told(script: &Script, history: &[Entry])
     requires valid { IsWellFormedScript script.now }
-    requires legal { IsLegal script.now history.now }
-    ensures told { HoldersAreTold script.now history.now }
-    ensures unique { HoldersAreUnique script.now history.now }
+    ensures told { (shared : Bool) → IsLegalIn shared script.now history.now → HoldersAreTold shared script.now history.now }
+    ensures unique { (shared : Bool) → IsLegalIn shared script.now history.now → HoldersAreUnique shared script.now history.now }
 {}
 
-/// Within every legal history of a well-formed script the count of an object that the history tells is 0
-/// exactly where no reference to the object stands in the state. This call only states it, and changes
-/// nothing.
+/// Within every legal history of a well-formed script the count of an object that the history tells is 0 exactly
+/// where no reference to the object stands in the state. This call only states it, and changes nothing.
 pub fn zero_counts_are_told(script: &Script, history: &[Entry])
     requires valid { IsWellFormedScript script.now }
     requires legal { IsLegal script.now history.now }

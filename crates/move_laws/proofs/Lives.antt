@@ -1,5 +1,6 @@
 -- The lives of objects: made, dead with the last reference, and swept.
 pub mod Bits
+pub mod Outs
 pub mod LivesMove
 pub mod Kinds
 pub mod Closes

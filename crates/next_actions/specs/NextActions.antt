@@ -15,7 +15,8 @@ use Rattle.machine.specs.Dooms.{end}
 use Rattle.machine.specs.Holdings.{holdings}
 use Rattle.machine.specs.Reaping.{bury}
 use Rattle.machine.specs.Steps.{decision_of_row}
-use Rattle.machine.specs.Task.{dying_task, instruction, is_returning, return_or}
+use Rattle.machine.specs.Task.{dying_task, instruction, return_or}
+use Rattle.machine.specs.Out.{is_returning}
 use Rattle.next_actions.specs.declared.tasks.NextAction.{NextAction}
 use Rattle.next_actions.specs.declared.tasks.NextAction.TheVariants.{Decided, Runs, Steps, Dies, Ends, Buries}
 

@@ -2,6 +2,7 @@
 //! that the earlier ones left (Symbian OS Internals, the chapter on interrupts).
 ghost use Rattle.std.specs.Prelude.{◌≡◌, ◌==◌, ◌<◌, ◌≤◌, length, option_copied, position, IfSome};
 ghost use Rattle.machine.specs.Bodies.{add_call, queue_immediate, queue_to_move, queue_call, signal_row, signal_object, complete, op_moves, irq_of, ops_of_irq, ops_of, step_of_body, leave_queue};
+ghost use Rattle.machine.specs.Slots.{declares_interrupt};
 ghost use Rattle.script_types.specs.Shape.{IsShaped};
 ghost use Rattle.script_types.specs.declared.declaration.IrqBody.{IrqBody};
 
@@ -102,6 +103,14 @@ pub fn op_moves<R: Reads>(moves: &mut Moves, script: &Script, reads: &R, op: &Op
         }
         Op::Queue(name) => queue_call(moves, reads, dfc_named(script, name)),
     }
+}
+
+/// Whether a script declares an interrupt of this number.
+pub fn declares_interrupt(script: &Script, number: u8) -> bool
+    ensures { result ≡ declares_interrupt script.now number }
+{
+    let irqs = script.irqs.as_slice();
+    irqs.iter().any(|irq| irq.number == number)
 }
 
 /// The place of the interrupt of a number among the declared ones.

@@ -8,7 +8,7 @@ mod immediate;
 mod reaping;
 mod tasks;
 
-pub use bodies::{leave_queue, op_moves, ops_of, step_of_body};
+pub use bodies::{declares_interrupt, leave_queue, op_moves, ops_of, step_of_body};
 pub use immediate::immediate_action;
 pub use reaping::{bury, reap};
 pub use tasks::{NextAction, decide_action, next_action, pay};

@@ -8,7 +8,7 @@ ghost use Rattle.machine.specs.CriticalSection.{flush};
 ghost use Rattle.machine.specs.Dooms.{end};
 ghost use Rattle.machine.specs.Rows.{first_owed, thread_of};
 ghost use Rattle.machine.specs.Steps.{pay_step, pay, decision_of_task, decision_of_row, decision_of};
-ghost use Rattle.machine.specs.Task.{call_task, end_task, task_of_row, task_of, is_able};
+ghost use Rattle.machine.specs.Task.{call_task, end_task, task_of_row, task_of, may_act};
 ghost use Rattle.next_actions.specs.NextActions.{IsStepOf, Suits, SuitsRow, decided_by};
 ghost use Rattle.next_actions.specs.Planned.{planned};
 ghost use Rattle.next_actions.specs.TaskParts.{own_task, task_alive, task_at_stage, task_behind_return};
@@ -21,8 +21,8 @@ ghost use Rattle.state_rows.specs.declared.thread.ThreadRow.{ThreadRow};
 use crate::reaping::{bury, give_up, reap};
 use decisions::{decide_step, end, flush, nothing, return_of};
 use entry_log::Step;
-use machine::{Body, Decision, Move, Owed, ThreadRow};
-use readings::{Reads, instruction, is_able, is_returning, next_call, serves_queue};
+use machine::{Body, Decision, Move, Owed, ThreadRow, is_returning};
+use readings::{Reads, instruction, may_act, next_call, serves_queue};
 use script_types::{Instr, Script};
 use state_rows::Stage;
 use sym_base::ThreadNo;
@@ -30,7 +30,7 @@ use sym_base::ThreadNo;
 /// The number of the first call that is a burial.
 const FIRST_BURIAL: u8 = 64;
 
-/// What an able thread does next.
+/// What a thread that may act does next.
 pub enum NextAction<'a> {
     /// What was decided: a return, a payment, the work of a closing server, or what protects it and is given up at its list's end.
     Decided,
@@ -212,7 +212,7 @@ fn action_of_row<'a, R: Reads>(
     }
 }
 
-/// What an able thread does next: what was decided, a body that runs, the next step of its instruction, which
+/// What a thread that may act does next: what was decided, a body that runs, the next step of its instruction, which
 /// `decide_step` decides, or its death, which `reap` and `end` decide, or a burial, which `bury` does.
 pub fn next_action<'a, R: Reads>(
     decision: &mut Decision,
@@ -221,7 +221,7 @@ pub fn next_action<'a, R: Reads>(
     thread: ThreadNo,
 ) -> NextAction<'a>
     requires readable { R.is_readable reads.now }
-    requires able { IsTrue (is_able script.now (R.state reads.now) thread) }
+    requires able { IsTrue (may_act script.now (R.state reads.now) thread) }
     ensures decided { let S = R.state reads.now in decided_by script.now thread S (thread_of S thread) decision.new result ≡ decision_of script.now S thread }
     ensures step { let S = R.state reads.now in IsStepOf (task_of script.now S thread) result }
     ensures suits { let S = R.state reads.now in Suits script.now S thread (thread_of S thread) result }
@@ -235,9 +235,9 @@ pub fn next_action<'a, R: Reads>(
     }
 }
 
-/// What an able thread does next, with its instruction's step decided.
+/// What a thread that may act does next, with its instruction's step decided.
 #[tactic(auto, using(machine::proofs::Instructions::task_has_registers, machine::proofs::Instructions::task_has_ranges))]
-fn decide_able<R: Reads>(
+fn decide_actor<R: Reads>(
     decision: &mut Decision,
     script: &Script,
     reads: &R,
@@ -245,7 +245,7 @@ fn decide_able<R: Reads>(
 ) -> Option<Body>
     requires shaped { IsShaped script.now }
     requires readable { R.is_readable reads.now }
-    requires able { IsTrue (is_able script.now (R.state reads.now) thread) }
+    requires able { IsTrue (may_act script.now (R.state reads.now) thread) }
     ensures { let S = R.state reads.now in decision_by script.now thread S (planned decision.new result) ≡ decision_of script.now S thread }
 {
     match next_action(decision, script, reads, thread) {
@@ -270,7 +270,7 @@ fn decide_able<R: Reads>(
     }
 }
 
-/// What a thread does in its next action: a body that runs, or what was decided. Nothing, where it isn't able to act.
+/// What a thread does in its next action: a body that runs, or what was decided. Nothing, where it may not act.
 pub fn decide_action<R: Reads>(
     decision: &mut Decision,
     script: &Script,
@@ -281,9 +281,9 @@ pub fn decide_action<R: Reads>(
     requires readable { R.is_readable reads.now }
     ensures { let S = R.state reads.now in decision_by script.now thread S (planned decision.new result) ≡ decision_of script.now S thread }
 {
-    if !is_able(script, reads, thread) {
+    if !may_act(script, reads, thread) {
         nothing(decision);
         return None;
     }
-    decide_able(decision, script, reads, thread)
+    decide_actor(decision, script, reads, thread)
 }

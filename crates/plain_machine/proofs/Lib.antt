@@ -1,3 +1,4 @@
+pub mod Deathless
 pub mod KernelThreadRuns
 pub mod Performing
 pub mod Rooms

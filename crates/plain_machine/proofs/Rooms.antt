@@ -11,7 +11,7 @@ use Rattle.state_rows.specs.ObjectRows.{dead_row}
 use Rattle.machine.specs.declared.death_move.DeathMove.{DeathMove}
 use Rattle.machine.specs.declared.death_move.DeathMove.TheVariants.{Note, Doom, Clean, Bury}
 use Rattle.machine.specs.declared.moves.Move.{Move}
-use Rattle.machine.specs.declared.moves.Move.TheVariants.{Make, Gain, Lose, Find, Miss, GoOn, Keep, Write, WriteMessage, PutDown, Advance, Wait, Wake, SetPriority, Nano, Deferred, Requests, Locks, Logons, Death, Servers, Messages, Copies, Fill, Pay}
+use Rattle.machine.specs.declared.moves.Move.TheVariants.{Make, Gain, Lose, Find, Open, Miss, GoOn, Keep, Write, WriteMessage, PutDown, Advance, Wait, Wake, SetPriority, Nano, Deferred, Requests, Locks, Logons, Death, Servers, Messages, Copies, Fill, Pay}
 use Rattle.state_rows.specs.declared.handle_slot.HandleSlot.{HandleSlot}
 use Rattle.state_rows.specs.declared.thread.Waiting.TheVariants.{Nothing}
 use Rattle.state_rows.specs.declared.thread.ThreadRow.{ThreadRow}
@@ -25,8 +25,8 @@ use Rattle.machine.specs.declared.message_move.MessageMove.TheVariants.{Accept, 
 use Rattle.machine.specs.MessageMoves.{messages_moved}
 use Rattle.machine.specs.DeathMoves.{death_row, death_thread}
 use Rattle.machine.specs.Handles.{with_slot, taken_slot, freed_slot}
-use Rattle.machine.specs.Moves.{moved, with_use, unlinked, with_found, with_kept, with_part, with_register, with_message, advanced, with_waiting, with_priority, tables_gain, tables_lose, threads_gain, threads_lose, threads_closed, objects_closed, next_object, new_object}
-use Rattle.machine.specs.References.{dies}
+use Rattle.machine.specs.Moves.{moved, with_use, unlinked, with_found, with_opened, with_missed, with_kept, with_part, with_register, with_message, advanced, with_waiting, with_priority, tables_gain, tables_lose, threads_gain, threads_lose, threads_closed, objects_closed, next_object, new_object}
+use Rattle.machine.specs.Kept.{dies}
 use Rattle.machine.specs.Room.{HasRoom, IsSmallTable, AreSmallTables, MayAdvance}
 use Rattle.machine.specs.Rows.{with_row}
 use Rattle.move_laws.proofs.Lists.Sets.{set_keeps}
@@ -142,7 +142,8 @@ threads_long t (Make kind name h) S = long_gained h (next_object S) S.references
 threads_long t (Gain h o) S = long_gained h o S.references.threads
 threads_long t (Lose h o) S = long_closed (dies S o) o (threads_lose h S.references.threads) ∙ long_lost h S.references.threads
 threads_long t (Find u o) S = long_row S.references.threads u (with_found o)
-threads_long t (Miss o) S = refl
+threads_long t (Open u o part) S = long_row S.references.threads u (with_opened o part)
+threads_long t (Miss u o) S = long_row S.references.threads u with_missed
 threads_long t (GoOn u part) S = long_row S.references.threads u (with_part part)
 threads_long t (Keep u number) S = long_row S.references.threads u (with_kept number)
 threads_long t (Write u x value) S = long_row S.references.threads u (with_register x value)
@@ -226,7 +227,8 @@ room_moved t (Lose h o) n S room = record {
   messages = let few = room.messages in omega arith;
 }
 room_moved t (Find u o) n S room = with_threads n S (moved t (Find u o) S) refl refl (omega arith) (threads_long t (Find u o) S) (row_goes (with_found o) (λ row. omega arith) n S.references.threads u room.instructions) room
-room_moved t (Miss o) n S room = room_less n (n + 1) S (omega arith) room
+room_moved t (Open u o part) n S room = with_threads n S (moved t (Open u o part) S) refl refl (omega arith) (threads_long t (Open u o part) S) (row_goes (with_opened o part) (λ row. omega arith) n S.references.threads u room.instructions) room
+room_moved t (Miss u o) n S room = with_threads n S (moved t (Miss u o) S) refl refl (omega arith) (threads_long t (Miss u o) S) (row_goes with_missed (λ row. omega arith) n S.references.threads u room.instructions) room
 room_moved t (GoOn u part) n S room = with_threads n S (moved t (GoOn u part) S) refl refl (omega arith) (threads_long t (GoOn u part) S) (row_goes (with_part part) (λ row. omega arith) n S.references.threads u room.instructions) room
 room_moved t (Keep u number) n S room = with_threads n S (moved t (Keep u number) S) refl refl (omega arith) (threads_long t (Keep u number) S) (row_goes (with_kept number) (λ row. omega arith) n S.references.threads u room.instructions) room
 room_moved t (Write u x value) n S room = with_threads n S (moved t (Write u x value) S) refl refl (omega arith) (threads_long t (Write u x value) S) (row_goes (with_register x value) (λ row. omega arith) n S.references.threads u room.instructions) room

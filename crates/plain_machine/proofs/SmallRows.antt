@@ -31,7 +31,7 @@ use Rattle.machine.specs.MessageMoves.{messages_moved}
 use Rattle.machine.specs.Room.{HasRoom}
 use Rattle.plain_machine.specs.Allowed.{IsSmall}
 use Rattle.machine.specs.declared.moves.Move.{Move}
-use Rattle.machine.specs.declared.moves.Move.TheVariants.{Make, Gain, Lose, Find, Miss, GoOn, Keep, Write, WriteMessage, PutDown, Advance, Wait, Wake, SetPriority, Nano, Deferred, Requests, Locks, Logons, Death, Servers, Messages, Copies, Fill, Pay}
+use Rattle.machine.specs.declared.moves.Move.TheVariants.{Make, Gain, Lose, Find, Open, Miss, GoOn, Keep, Write, WriteMessage, PutDown, Advance, Wait, Wake, SetPriority, Nano, Deferred, Requests, Locks, Logons, Death, Servers, Messages, Copies, Fill, Pay}
 use Rattle.machine.specs.declared.nano_move.NanoMove.{NanoMove}
 use Rattle.machine.specs.declared.nano_move.NanoMove.TheVariants.{Take, Give, Want, Enter, Leave, LeaveAll, Suspend, Resume, Release, Raise, Lower}
 use Rattle.machine.specs.declared.state.State.{State}
@@ -122,7 +122,8 @@ small_moved t (Make kind name h) n S room small = same_rows S (moved t (Make kin
 small_moved t (Gain h o) n S room small = same_rows S (moved t (Gain h o) S) refl refl small
 small_moved t (Lose h o) n S room small = same_rows S (moved t (Lose h o) S) refl refl small
 small_moved t (Find u o) n S room small = same_rows S (moved t (Find u o) S) refl refl small
-small_moved t (Miss o) n S room small = same_rows S (moved t (Miss o) S) refl refl small
+small_moved t (Open u o part) n S room small = same_rows S (moved t (Open u o part) S) refl refl small
+small_moved t (Miss u o) n S room small = same_rows S (moved t (Miss u o) S) refl refl small
 small_moved t (GoOn u part) n S room small = same_rows S (moved t (GoOn u part) S) refl refl small
 small_moved t (Keep u number) n S room small = same_rows S (moved t (Keep u number) S) refl refl small
 small_moved t (Write u x value) n S room small = same_rows S (moved t (Write u x value) S) refl refl small

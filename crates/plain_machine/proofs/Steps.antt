@@ -1,22 +1,27 @@
 -- The plain machine after one more entry.
-use Rattle.std.proofs.Common.{◌≡◌, ℕ, ◌+◌, ◌≤◌, List, [], ◌∷◌, ◌++◌, length, get_or, arith, ap, subst, sym, ◌∙◌, inl, inr, refl}
+use Rattle.std.proofs.Common.{◌≡◌, ℕ, ◌+◌, ◌≤◌, Bool, true, false, List, [], ◌∷◌, ◌++◌, length, get_or, arith, ap, subst, sym, ◌∙◌, inl, inr, refl}
 use Rattle.std.proofs.lemmas.Bool.{cases_lt}
-use Rattle.std.specs.Prelude.{Contains}
+use Rattle.std.specs.Prelude.{Contains, IsTrue, nat_eq, ◌||◌}
 use Rattle.std.proofs.lemmas.List.{get_or_past}
 use Rattle.std.proofs.lemmas.List.Elements.{All-weaker, All-contains_itself}
 use Rattle.sym_base.specs.declared.number.ObjNo.{ObjNo}
 use Rattle.script_types.specs.declared.script.Script.{Script}
 use Rattle.script_types.specs.declared.script.Slot.{Slot}
 use Rattle.script_types.specs.Shape.{IsShaped}
+use Rattle.script_types.specs.Source.{IsWellFormed as IsWellFormedScript}
+use Rattle.script_types.proofs.ShapeLaws.{formed_is_shaped}
+use Rattle.entry_log.specs.declared.entry.Actor.{Actor}
 use Rattle.entry_log.specs.declared.entry.Entry.{Entry}
 use Rattle.readings.specs.Readable.{AreSmallRows}
 use Rattle.machine.specs.declared.decision.Decision.{Decision}
+use Rattle.machine.specs.declared.mode.Mode.{Mode}
 use Rattle.machine.specs.declared.moves.Move.{Move}
 use Rattle.machine.specs.declared.moves.Move.TheVariants.{Pay}
 use Rattle.state_rows.specs.declared.handle_slot.HandleSlot.{HandleSlot}
 use Rattle.machine.specs.declared.state.State.{State}
-use Rattle.machine.specs.Arrived.{arrived_next}
-use Rattle.machine.specs.History.{after, next, entry_by, IsNext}
+use Rattle.machine.specs.Arrived.{arrived_by_entry, arrived_in, arrived_next}
+use Rattle.machine.specs.Boot.{boot, boot_in, ready_at_boot}
+use Rattle.machine.specs.History.{after_in, choosing, entry_by, is_deathless, keeping, next, next_by, CanAct, IsLegalIn, IsNext}
 use Rattle.plain_machine.specs.PlainView.{IsPlain}
 use Rattle.plain_machine.specs.Allowed.{IsSmall, TellsFew, AllowsAction}
 use Rattle.state_rows.specs.Deferred.{next_immediate}
@@ -36,8 +41,10 @@ use Rattle.machine_laws.proofs.Fitting.Bodies.{Goes}
 use Rattle.machine_laws.proofs.Fitting.Interrupts.{goes-immediate, goes-interrupt}
 use Rattle.move_laws.proofs.Numbers.Instructions.{few_instructions}
 use Rattle.move_laws.proofs.Numbers.FewEffects.{tell_few}
-use Rattle.machine_laws.proofs.Reached.AfterHistory.{well_formed-after}
+use Rattle.machine_laws.proofs.Reached.AfterHistory.{well_formed-after, well_formed-keeping}
+use Rattle.machine_laws.proofs.Reached.Choices.{tells-choice}
 use Rattle.machine_laws.proofs.Reached.Histories.{after-push, arrived-push, legal-push, slot_can}
+use Rattle.machine_laws.proofs.Reached.Modes.{able-keeping, able-kept, choosing-alone, choosing-shared, mode-next, shared-after, shared-by, unkept-after}
 
 -- a table of a well-formed state is small, also the one that isn't there
 small_table : (tables : List (List HandleSlot)) → AreTables tables → (k : ℕ) → IsSmallTable (get_or tables k [])
@@ -92,32 +99,128 @@ allows_action script S shaped rows = record {
 
 -- the state of a machine and its ready list are well-formed
 pub formed_plain : (script : Script) (history : List Entry) (S : State) (qs : List ObjNo) → IsPlain script history S qs → IsWellFormed script S qs
-formed_plain script history S qs plain = subst (λ (s : State). IsWellFormed script s qs) (sym plain.state) (subst (IsWellFormed script (after script history)) (sym plain.ready) (well_formed-after script history plain.valid))
+formed_plain script history S qs plain =
+    let shared = S.mode.shared in
+    subst (λ (s : State). IsWellFormed script s qs) (sym plain.state) (subst (IsWellFormed script (after_in shared script history)) (sym plain.ready) (well_formed-after shared script history plain.valid))
 
--- the machine goes on by what the actor of a slot does
-plain_goes_on : (script : Script) (history : List Entry) (S : State) (qs : List ObjNo) (slot : Slot) → IsDeclared script slot → IsPlain script history S qs
-    → IsPlain script (history ++ entry_by script S (length history + 1) (slot_actor S qs slot) ∷ []) (next script S (slot_actor S qs slot)) (arrived_next script S (slot_actor S qs slot) qs)
-plain_goes_on script history S qs slot declared plain =
-    let actor = slot_actor S qs slot in
-    let place = length history + 1 in
-    let e = entry_by script S place actor in
-    let told : IsNext script S place e = record { able = slot_can script S qs slot declared (formed_plain script history S qs plain); told = refl } in
+-- the machine after an entry that may stand behind its history
+plain_pushed : (shared : Bool) (script : Script) (history new : List Entry) (T : State) (list : List ObjNo) (e : Entry) → IsWellFormedScript script → IsLegalIn shared script history → IsNext script (after_in shared script history) (length history + 1) e
+    → T ≡ next_by script (after_in shared script history) e → list ≡ arrived_by_entry script (after_in shared script history) e (arrived_in shared script history) → new ≡ history ++ e ∷ [] → IsPlain script new T list
+plain_pushed shared script history new T list e valid legal next did left pushed =
+    let mode : T.mode.shared ≡ shared = ap (λ (s : State). s.mode.shared) did ∙ (shared-by script (after_in shared script history) e ∙ shared-after script (boot_in shared script) history) in
     record {
-      valid = plain.valid;
-      legal = legal-push script history e plain.legal (subst (λ (s : State). IsNext script s place e) plain.state told);
-      state = ap (λ (s : State). next script s actor) plain.state ∙ sym (after-push script history e);
-      ready = ap (λ (s : State). arrived_next script s actor qs) plain.state ∙ (ap (arrived_next script (after script history) actor) plain.ready ∙ sym (arrived-push script history e));
+      valid = valid;
+      legal = subst (λ (b : Bool). IsLegalIn b script new) (sym mode) (subst (λ (h : List Entry). IsLegalIn shared script h) (sym pushed) (legal-push shared script history e legal next));
+      state = subst (λ (b : Bool). T ≡ after_in b script new) (sym mode) (did ∙ (sym (after-push shared script history e) ∙ ap (λ (h : List Entry). after_in shared script h) (sym pushed)));
+      ready = subst (λ (b : Bool). list ≡ arrived_in b script new) (sym mode) (left ∙ (sym (arrived-push shared script history e) ∙ ap (λ (h : List Entry). arrived_in shared script h) (sym pushed)));
     }
 
--- the same of what is made in between
-pub plain_goes_on_by : (script : Script) (history new : List Entry) (S T : State) (qs list : List ObjNo) (slot : Slot) (place : ℕ) (e : Entry)
-    → IsDeclared script slot → IsPlain script history S qs → place ≡ length history + 1
+-- a machine on which callers don't share the kernel: what it has is what one caller alone makes
+pub record IsAlone (script : Script) (history : List Entry) (S : State) (qs : List ObjNo) : Type 0 where
+  pub legal : IsLegalIn false script history
+  pub state : S ≡ after_in false script history
+  pub ready : qs ≡ arrived_in false script history
+
+pub alone_plain : (script : Script) (history : List Entry) (S : State) (qs : List ObjNo) → IsPlain script history S qs → S.mode.shared ≡ false → IsAlone script history S qs
+alone_plain script history S qs plain alone = record {
+  legal = subst (λ (b : Bool). IsLegalIn b script history) alone plain.legal;
+  state = plain.state ∙ ap (λ (b : Bool). after_in b script history) alone;
+  ready = plain.ready ∙ ap (λ (b : Bool). arrived_in b script history) alone;
+}
+
+-- it goes on by what the actor of a slot does
+pub plain_goes_on : (script : Script) (history new : List Entry) (S T : State) (qs list : List ObjNo) (slot : Slot) (place : ℕ) (e : Entry)
+    → IsDeclared script slot → IsPlain script history S qs → S.mode.shared ≡ false → place ≡ length history + 1
     → T ≡ next script S (slot_actor S qs slot) → list ≡ arrived_next script S (slot_actor S qs slot) qs → e ≡ entry_by script S place (slot_actor S qs slot) → new ≡ history ++ e ∷ []
     → IsPlain script new T list
-plain_goes_on_by script history new S T qs list slot place e declared plain at did left told pushed =
-    let actor = slot_actor S qs slot in
-    let told_so : e ≡ entry_by script S (length history + 1) actor = told ∙ ap (λ (n : ℕ). entry_by script S n actor) at in
-    let new_so : new ≡ history ++ entry_by script S (length history + 1) actor ∷ [] = pushed ∙ ap (λ (x : Entry). history ++ x ∷ []) told_so in
-    subst (λ (s : State). IsPlain script new s list) (sym did)
-    (subst (λ (l : List ObjNo). IsPlain script new (next script S actor) l) (sym left)
-    (subst (λ (h : List Entry). IsPlain script h (next script S actor) (arrived_next script S actor qs)) (sym new_so) (plain_goes_on script history S qs slot declared plain)))
+plain_goes_on script history new S T qs list slot place e declared plain whole at did left told pushed =
+    let alone = alone_plain script history S qs plain whole in
+    let A = after_in false script history in
+    let Q = arrived_in false script history in
+    let actor = slot_actor A Q slot in
+    let first = entry_by script A (length history + 1) actor in
+    let acts : slot_actor S qs slot ≡ actor = ap (λ (s : State). slot_actor s qs slot) alone.state ∙ ap (λ (l : List ObjNo). slot_actor A l slot) alone.ready in
+    let same : choosing first A ≡ A = choosing-alone A first (shared-after script (boot_in false script) history) (unkept-after script (boot_in false script) history refl refl) in
+    let is : e ≡ first = told ∙ (ap (λ (n : ℕ). entry_by script S n (slot_actor S qs slot)) at ∙ (ap (λ (s : State). entry_by script s (length history + 1) (slot_actor S qs slot)) alone.state ∙ ap (entry_by script A (length history + 1)) acts)) in
+    plain_pushed false script history new T list first plain.valid alone.legal (record {
+      able = slot_can script A Q slot declared (well_formed-after false script history plain.valid);
+      told = ap (λ (s : State). entry_by script s (length history + 1) actor) (sym same);
+    })
+    (did ∙ (ap (λ (s : State). next script s (slot_actor S qs slot)) alone.state ∙ (ap (next script A) acts ∙ ap (λ (s : State). next script s actor) (sym same))))
+    (left ∙ (ap (λ (s : State). arrived_next script s (slot_actor S qs slot) qs) alone.state ∙ (ap (λ (a : Actor). arrived_next script A a qs) acts ∙ (ap (arrived_next script A actor) alone.ready ∙ ap (λ (s : State). arrived_next script s actor Q) (sym same)))))
+    (pushed ∙ ap (λ (x : Entry). history ++ x ∷ []) is)
+
+-- a machine on which callers may share the kernel, in a state with a choice
+abbrev pub choice_made : Bool → State → State
+choice_made keep S = record S { mode = record { shared = true; keep = keep } }
+
+pub record IsSplit (script : Script) (history : List Entry) (S : State) (qs : List ObjNo) : Type 0 where
+  pub legal : IsLegalIn true script history
+  pub state : (keep : Bool) → choice_made keep S ≡ keeping keep (after_in true script history)
+  pub ready : qs ≡ arrived_in true script history
+
+split_plain : (shared : Bool) (script : Script) (history : List Entry) (S : State) (qs : List ObjNo) → IsPlain script history S qs → S.mode.shared ≡ shared → IsTrue (shared || nat_eq (length history) 0) → IsSplit script history S qs
+split_plain true script history S qs plain mode split =
+    let A = after_in true script history in
+    let same : S ≡ A = plain.state ∙ ap (λ (b : Bool). after_in b script history) mode in
+    record {
+      legal = subst (λ (b : Bool). IsLegalIn b script history) mode plain.legal;
+      state = λ keep. ap (choice_made keep) same ∙ ap (λ (b : Bool). record A { mode = record { shared = b; keep = keep } }) (sym (shared-after script (boot_in true script) history));
+      ready = plain.ready ∙ ap (λ (b : Bool). arrived_in b script history) mode;
+    }
+split_plain false script [] S qs plain mode split = record { legal = tt; state = λ keep. ap (choice_made keep) plain.state; ready = plain.ready }
+split_plain false script (x ∷ xs) S qs plain mode split = absurd (cc)
+
+pub split_of : (script : Script) (history : List Entry) (S : State) (qs : List ObjNo) → IsPlain script history S qs → IsTrue (S.mode.shared || nat_eq (length history) 0) → IsSplit script history S qs
+split_of script history S qs plain split = split_plain S.mode.shared script history S qs plain refl split
+
+-- such a state is well-formed with the ready list
+pub formed_split : (script : Script) (history : List Entry) (S : State) (qs : List ObjNo) (keep : Bool) → IsWellFormedScript script → IsSplit script history S qs → IsWellFormed script (choice_made keep S) qs
+formed_split script history S qs keep valid split =
+    let formed = well_formed-keeping script (after_in true script history) (arrived_in true script history) keep (well_formed-after true script history valid) in
+    subst (λ (s : State). IsWellFormed script s qs) (sym (split.state keep)) (subst (IsWellFormed script (keeping keep (after_in true script history))) (sym split.ready) formed)
+
+-- who may act there may act after the history, and the other way round
+pub able_split : (script : Script) (history : List Entry) (S : State) (qs : List ObjNo) (keep : Bool) (actor : Actor) → IsSplit script history S qs → CanAct script (choice_made keep S) actor → CanAct script (after_in true script history) actor
+able_split script history S qs keep actor split able = able-kept script (after_in true script history) keep actor (subst (λ (s : State). CanAct script s actor) (split.state keep) able)
+
+pub split_able : (script : Script) (history : List Entry) (S : State) (qs : List ObjNo) (keep : Bool) (actor : Actor) → IsSplit script history S qs → CanAct script (after_in true script history) actor → CanAct script (choice_made keep S) actor
+split_able script history S qs keep actor split able = subst (λ (s : State). CanAct script s actor) (sym (split.state keep)) (able-keeping script (after_in true script history) keep actor able)
+
+-- the entry is the definitions', with the choice
+pub shares_told : (script : Script) (history : List Entry) (S : State) (qs : List ObjNo) (actor : Actor) (keep : Bool) (place : ℕ) (e : Entry) → IsSplit script history S qs → place ≡ length history + 1 → e ≡ entry_by script (choice_made keep S) place actor
+    → e ≡ entry_by script (keeping keep (after_in true script history)) (length history + 1) actor
+shares_told script history S qs actor keep place e split at told = told ∙ (ap (λ (n : ℕ). entry_by script (choice_made keep S) n actor) at ∙ ap (λ (s : State). entry_by script s (length history + 1) actor) (split.state keep))
+
+-- it goes on by what an actor does that may act
+pub plain_shares : (script : Script) (history new : List Entry) (S T : State) (qs list : List ObjNo) (actor : Actor) (keep : Bool) (place : ℕ) (e : Entry)
+    → IsWellFormedScript script → IsSplit script history S qs → CanAct script (choice_made keep S) actor → place ≡ length history + 1
+    → T ≡ next script (choice_made keep S) actor → list ≡ arrived_next script (choice_made keep S) actor qs → e ≡ entry_by script (choice_made keep S) place actor → new ≡ history ++ e ∷ []
+    → IsPlain script new (keeping (is_deathless e.effects) T) list
+plain_shares script history new S T qs list actor keep place e valid split able at did left told pushed =
+    let A = after_in true script history in
+    let Q = arrived_in true script history in
+    let first = entry_by script (keeping keep A) (length history + 1) actor in
+    let is : e ≡ first = shares_told script history S qs actor keep place e split at told in
+    let tells = tells-choice script A (length history + 1) actor keep (formed_is_shaped script valid) (well_formed-after true script history valid).rows in
+    let same : choosing first A ≡ keeping (is_deathless first.effects) A = choosing-shared A first (shared-after script (boot_in true script) history) in
+    plain_pushed true script history new (keeping (is_deathless e.effects) T) list first valid split.legal (record {
+      able = able_split script history S qs keep actor split able;
+      told = tells.entry ∙ ap (λ (s : State). entry_by script s (length history + 1) actor) (sym same);
+    })
+    (ap (λ (x : Entry). keeping (is_deathless x.effects) T) is ∙ (ap (keeping (is_deathless first.effects)) (did ∙ ap (λ (s : State). next script s actor) (split.state keep)) ∙ (tells.state ∙ ap (λ (s : State). next script s actor) (sym same))))
+    (left ∙ (ap (λ (s : State). arrived_next script s actor qs) (split.state keep) ∙ (ap (arrived_next script (keeping keep A) actor) split.ready ∙ (tells.ready Q ∙ ap (λ (s : State). arrived_next script s actor Q) (sym same)))))
+    (pushed ∙ ap (λ (x : Entry). history ++ x ∷ []) is)
+
+-- and callers share the kernel from then on
+pub shares_mode : (script : Script) (S T : State) (actor : Actor) (keep : Bool) → T ≡ next script (choice_made keep S) actor → T.mode.shared ≡ true
+shares_mode script S T actor keep did = ap (λ (s : State). s.mode.shared) did ∙ ap (λ (m : Mode). m.shared) (mode-next script (choice_made keep S) actor)
+
+-- at boot nothing has happened, and callers don't share the kernel
+pub plain_boot : (script : Script) (S : State) (qs : List ObjNo) → IsWellFormedScript script → S ≡ boot script → qs ≡ ready_at_boot script → IsPlain script [] S qs
+plain_boot script S qs valid state ready = record {
+  valid = valid;
+  legal = tt;
+  state = subst (λ (b : Bool). S ≡ boot_in b script) (sym (ap (λ (s : State). s.mode.shared) state)) state;
+  ready = ready;
+}

@@ -1,4 +1,6 @@
 pub mod Allowed
+pub mod Answered
 pub mod Courses
+pub mod Deaths
 pub mod KernelThreadScripts
 pub mod PlainView

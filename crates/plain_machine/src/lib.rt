@@ -10,7 +10,9 @@ mod final_rows;
 mod perform;
 mod plain;
 mod slots;
+mod stepped;
 mod tick;
 mod transition;
 
 pub use plain::Plain;
+pub use stepped::Stepped;

@@ -11,8 +11,8 @@ use machine::{Move, State, Waiting, thread_in};
 use plain_rows::{
     fill_memory, make_death_move, make_deferred_move, make_lock_move, make_logon_move,
     make_nano_move, make_request_move, owe_use, threads_advance, threads_find, threads_gain,
-    threads_go_on, threads_keep, threads_lose, threads_set_priority, threads_wait, threads_write,
-    threads_write_message,
+    threads_go_on, threads_keep, threads_lose, threads_miss, threads_open, threads_set_priority,
+    threads_wait, threads_write, threads_write_message,
 };
 use plain_servers::{make_copy, make_message_move, make_server_move, owned_gain};
 use state_rows::ObjectRow;
@@ -95,7 +95,10 @@ pub fn make_move(
         Move::Advance(other) => return advance(state, thread, other),
         Move::Pay(what) => return pay(alloc, state, thread, what),
         Move::Gain(holder, object) => gain(state, thread, holder, object),
-        Move::Miss(_) => {}
+        Move::Open(other, object, part) => {
+            threads_open(&mut state.references.threads, other, object, part);
+        }
+        Move::Miss(other, _) => threads_miss(&mut state.references.threads, other),
         Move::Find(other, object) => threads_find(&mut state.references.threads, other, object),
         Move::GoOn(other, part) => threads_go_on(&mut state.references.threads, other, part),
         Move::Keep(other, number) => threads_keep(&mut state.references.threads, other, number),

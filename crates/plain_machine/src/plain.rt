@@ -1,27 +1,29 @@
 //! The plain machine: the definitions, run over plain lists.
-ghost use Rattle.std.specs.Prelude.{◌≡◌, ◌+◌, ◌<◌, ◌++◌, [], ◌∷◌, List, length, IfOk, OnOk, OnErr};
+ghost use Rattle.std.specs.Prelude.{◌≡◌, ◌+◌, ◌<◌, ◌++◌, ◌||◌, nat_eq, true, false, IsTrue, [], ◌∷◌, List, length, IfOk, OnOk, OnErr};
 ghost use Rattle.sym_base.specs.declared.number.ObjNo.{ObjNo};
 ghost use Rattle.script_types.specs.Source.{IsWellFormed};
 ghost use Rattle.machine.specs.FinalRows.{rows_from, IsNextRow};
 ghost use Rattle.script_types.specs.Shape.{IsShaped};
 ghost use Rattle.machine.specs.Arrived.{arrived, arrived_next};
-ghost use Rattle.machine.specs.History.{after, next, entry_by, IsLegal};
+ghost use Rattle.machine.specs.History.{after, after_in, next, entry_by, keeping, CanAct, IsLegalIn, IsShared};
 ghost use Rattle.machine.specs.Run.{slot_actor};
 ghost use Rattle.machine.specs.Slots.{IsDeclared};
 ghost use Rattle.plain_machine.specs.Allowed.{AllowsAction};
+ghost use Rattle.plain_machine.specs.Answered.{IfEntry, IfNotLegal};
 
 use crate::choice::chosen;
 use crate::final_rows;
+use crate::stepped::{Stepped, can_act, copied, is_deathless};
 use crate::transition::transition;
 use entry_log::{Actor, Entry, FinalRow};
-use machine::{State, entry_of, ready_at_boot, state_at_boot};
+use machine::{Mode, State, entry_of, ready_at_boot, state_at_boot};
 use script_types::{Script, Slot};
 use std::alloc::Global;
 use std::marker::Model;
 use sym_base::{Items, NoMemory, ThreadNo};
 
-/// A machine that runs a script as the definitions say, over plain lists. A contract sees its script
-/// and what happened so far.
+/// A machine that runs a script as the definitions say, over plain lists. A contract sees its script, what happened so
+/// far, and whether callers shared the kernel in it.
 #[derive(Drop)]
 pub struct Plain {
     alloc: Global,
@@ -36,7 +38,7 @@ impl Model for Plain {
 
     ghost Value = { PlainView };
 
-    ghost view = { λ p. record { script = p.script; history = p.history } };
+    ghost view = { λ p. record { script = p.script; history = p.history; shared = p.state.mode.shared } };
 
     ghost invariant = { λ p. IsPlain p.script p.history p.state p.ready };
 }
@@ -61,21 +63,20 @@ fn set_state(state: &mut State, ready: &mut Items<ThreadNo>, other: State, list:
     *ready = list;
 }
 
-/// What a slot's actor does, made on copies of the state and its ready list: both after it, and the entry at this place.
+/// What an actor does in a state, with a copy of its ready list: both after it, and the entry at this place.
 fn acted(
     alloc: Global,
     script: &Script,
-    state: &State,
+    state: State,
     ready: &Items<ThreadNo>,
     place: u32,
-    slot: Slot,
+    actor: Actor,
 ) -> Result<(State, Items<ThreadNo>, Entry), NoMemory>
     requires shaped { IsShaped script.now }
-    requires allowed { AllowsAction script.now state.now }
-    ensures { let actor = slot_actor state.now ready.now slot in IfOk result (λ (made : State × List ObjNo × Entry). made ≡ (next script.now state.now actor, arrived_next script.now state.now actor ready.now, entry_by script.now state.now place actor)) }
+    requires allowed { AllowsAction script.now state }
+    ensures { IfOk result (λ (made : State × List ObjNo × Entry). made ≡ (next script.now state actor, arrived_next script.now state actor ready.now, entry_by script.now state place actor)) }
 {
-    let actor = slot_actor(state, ready.as_slice(), slot);
-    let mut after = state.copied(alloc)?;
+    let mut after = state;
     let mut list = ready.copied(alloc)?;
     let outcome = transition(alloc, script, &mut after, &mut list, actor)?;
     Ok((after, list, entry_of(place, actor, outcome)))
@@ -85,7 +86,7 @@ impl Plain {
     /// The machine at boot.
     pub fn boot(alloc: Global, script: Script) -> Result<Plain, NoMemory>
         requires { IsWellFormed script }
-        ensures { IfOk result (λ plain. plain ≡ record { script = script; history = [] }) }
+        ensures { IfOk result (λ plain. plain ≡ record { script = script; history = []; shared = false }) }
     {
         let state = state_at_boot(alloc, &script)?;
         let ready = ready_at_boot(alloc, &script)?;
@@ -101,30 +102,68 @@ impl Plain {
     /// One atomic action of the actor that the slot lets act, told by one entry more. The action is made
     /// on a copy of the state, so that at `Err` the machine is as before.
     pub fn slot(&mut self, slot: Slot) -> Result<(), NoMemory>
+        requires whole { self.old.shared ≡ false }
         requires declared { IsDeclared self.old.script slot }
         requires few { length self.old.history < 4294967295 }
         ensures script { self.new.script ≡ self.old.script }
+        ensures whole { self.new.shared ≡ false }
         ensures ok { let S = after self.old.script self.old.history in let qs = arrived self.old.script self.old.history in OnOk result (self.new.history ≡ self.old.history ++ entry_by self.old.script S (length self.old.history + 1) (slot_actor S qs slot) ∷ []) }
         ensures err { OnErr result (self.new ≡ self.old) }
     {
         let place = self.history.len() as u32 + 1;
+        let actor = slot_actor(&self.state, self.ready.as_slice(), slot);
+        let before = self.state.copied(self.alloc)?;
         let (state, ready, entry) = acted(
             self.alloc,
             &self.script,
-            &self.state,
+            before,
             &self.ready,
             place,
-            slot,
+            actor,
         )?;
         self.history.push(entry)?;
         set_state(&mut self.state, &mut self.ready, state, ready);
         Ok(())
     }
 
-    /// What happened so far, in order. It is a legal history of the script.
+    /// One atomic action of this actor where callers share the kernel, told by one entry more, which is answered too: one that
+    /// keeps what it closes where somebody is out on that, or one that doesn't. A thread that is out comes back. Where the
+    /// actor may not act nothing changes. The action is made on a copy of the state, so that at `Err` the machine is as before.
+    pub fn shared(&mut self, actor: Actor, keep: bool) -> Result<Stepped, NoMemory>
+        requires split { IsTrue (self.old.shared || nat_eq (length self.old.history) 0) }
+        requires few { length self.old.history < 4294967295 }
+        ensures script { self.new.script ≡ self.old.script }
+        ensures entry { IfOk result (IfEntry (λ entry. (self.new.history ≡ self.old.history ++ entry ∷ []) × (self.new.shared ≡ true) × (entry ≡ entry_by self.old.script (keeping keep (after_in true self.old.script self.old.history)) (length self.old.history + 1) actor))) }
+        ensures legal { IfOk result (IfEntry (λ entry. IsShared self.new.script self.new.history)) }
+        ensures refused { IfOk result (IfNotLegal (self.new ≡ self.old × (CanAct self.old.script (after_in true self.old.script self.old.history) actor → ⊥))) }
+        ensures err { OnErr result (self.new ≡ self.old) }
+    {
+        let place = self.history.len() as u32 + 1;
+        let mut before = self.state.copied(self.alloc)?;
+        before.mode = Mode { shared: true, keep };
+        if !can_act(&self.script, &before, self.ready.as_slice(), actor) {
+            return Ok(Stepped::NotLegal);
+        }
+        let (mut state, ready, entry) = acted(
+            self.alloc,
+            &self.script,
+            before,
+            &self.ready,
+            place,
+            actor,
+        )?;
+        state.mode.keep = is_deathless(entry.effects.as_slice());
+        let told = copied(&entry);
+        self.history.push(entry)?;
+        set_state(&mut self.state, &mut self.ready, state, ready);
+        Ok(Stepped::Entry(told))
+    }
+
+    /// What happened so far, in order. It is a legal history of the script, as callers make it who share the kernel or as one makes
+    /// it alone.
     pub fn history(&self) -> &[Entry]
         ensures entries { result.now ≡ self.now.history }
-        ensures legal { IsLegal self.now.script self.now.history }
+        ensures legal { IsLegalIn self.now.shared self.now.script self.now.history }
     {
         self.history.as_slice()
     }
@@ -132,7 +171,7 @@ impl Plain {
     /// The first object that is left of the numbers from `from` on, with its count. None where there is
     /// none.
     pub fn next_row(&self, from: u16) -> Option<FinalRow>
-        ensures { IsNextRow (rows_from (after self.now.script self.now.history)) from result }
+        ensures { IsNextRow (rows_from (after_in self.now.shared self.now.script self.now.history)) from result }
     {
         final_rows::next_row(&self.state, from)
     }

@@ -25,5 +25,6 @@ pub use nano::make_nano_move;
 pub use requests::make_request_move;
 pub use thread_rows::{
     threads_advance, threads_closed, threads_find, threads_gain, threads_go_on, threads_keep,
-    threads_lose, threads_set_priority, threads_wait, threads_write, threads_write_message,
+    threads_lose, threads_miss, threads_open, threads_set_priority, threads_wait, threads_write,
+    threads_write_message,
 };

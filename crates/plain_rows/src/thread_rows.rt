@@ -1,7 +1,7 @@
 //! Changes of threads' rows. A number without a row stays without one.
 ghost use Rattle.std.specs.Prelude.{◌≡◌, ◌<◌, Some, option_map, slice_set};
 ghost use Rattle.std.specs.List.{slice_index_or};
-ghost use Rattle.machine.specs.Moves.{with_use, unlinked, with_found, with_kept, with_part, with_register, with_message, advanced, with_waiting, with_priority, threads_gain, threads_lose, threads_closed};
+ghost use Rattle.machine.specs.Moves.{with_use, unlinked, with_found, with_opened, with_missed, with_kept, with_part, with_register, with_message, advanced, with_waiting, with_priority, threads_gain, threads_lose, threads_closed};
 ghost use Rattle.machine.specs.Room.{MayAdvance};
 ghost use Rattle.machine.specs.Rows.{with_row};
 ghost use Rattle.state_rows.specs.declared.thread.ThreadRow.{ThreadRow};
@@ -28,12 +28,32 @@ fn unlinked(row: &mut Option<ThreadRow>)
     }
 }
 
-/// The row has what was found.
+/// The row has what was found, and the return comes next.
 fn with_found(row: &mut Option<ThreadRow>, object: ObjNo)
     ensures { row.new ≡ option_map (with_found object) row.old }
 {
     if let Some(row) = row {
         row.found = u32::from(object.0);
+        row.part = Some(Part::Return);
+    }
+}
+
+/// The row uses what was opened, and goes on to this step.
+fn with_opened(row: &mut Option<ThreadRow>, object: ObjNo, part: Part)
+    ensures { row.new ≡ option_map (with_opened object part) row.old }
+{
+    if let Some(row) = row {
+        row.uses = Some(object);
+        row.part = Some(part);
+    }
+}
+
+/// The row is back from what it missed.
+fn with_missed(row: &mut Option<ThreadRow>)
+    ensures { row.new ≡ option_map with_missed row.old }
+{
+    if let Some(row) = row {
+        row.part = None;
     }
 }
 
@@ -150,13 +170,38 @@ pub fn threads_closed(threads: &mut Items<Option<ThreadRow>>, dying: bool, objec
     }
 }
 
-/// The thread found an object.
+/// The thread found an object, and comes back next.
 pub fn threads_find(threads: &mut Items<Option<ThreadRow>>, thread: ThreadNo, object: ObjNo)
     ensures { threads.new ≡ with_row threads.old thread (with_found object) }
 {
     let at = thread.0 as usize;
     if at < threads.len() {
         with_found(threads.get_mut(at), object);
+    }
+}
+
+/// The thread comes back and opens an object, and goes on to this step.
+pub fn threads_open(
+    threads: &mut Items<Option<ThreadRow>>,
+    thread: ThreadNo,
+    object: ObjNo,
+    part: Part,
+)
+    ensures { threads.new ≡ with_row threads.old thread (with_opened object part) }
+{
+    let at = thread.0 as usize;
+    if at < threads.len() {
+        with_opened(threads.get_mut(at), object, part);
+    }
+}
+
+/// The thread comes back to an object that was dead.
+pub fn threads_miss(threads: &mut Items<Option<ThreadRow>>, thread: ThreadNo)
+    ensures { threads.new ≡ with_row threads.old thread with_missed }
+{
+    let at = thread.0 as usize;
+    if at < threads.len() {
+        with_missed(threads.get_mut(at));
     }
 }
 

@@ -13,6 +13,4 @@ pub use plain_reads::{
     is_queued,
 };
 pub use reads::Reads;
-pub use task::{
-    instruction, is_able, is_ready, is_returning, next_call, serves_queue, wanted_holder,
-};
+pub use task::{instruction, is_able, is_ready, may_act, next_call, serves_queue, wanted_holder};

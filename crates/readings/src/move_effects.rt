@@ -185,7 +185,10 @@ pub fn tell<R: Reads>(effects: &mut Effects, reads: &R, change: &Move)
         Move::Gain(holder, object) => effects.push(Effect::Plus(holder, object)),
         Move::Lose(holder, object) => tell_loss(effects, reads, holder, object),
         Move::Find(_, object) => effects.push(Effect::Seek(object)),
-        Move::Miss(object) => effects.push(Effect::Missed(object)),
+        Move::Open(thread, object, _) => {
+            effects.push(Effect::Plus(Holder::Temp(thread), object));
+        }
+        Move::Miss(_, object) => effects.push(Effect::Missed(object)),
         Move::Nano(change) => tell_nano(effects, change),
         Move::Requests(change) => tell_request(effects, change),
         Move::Locks(change) => tell_lock(effects, change),

@@ -58,6 +58,10 @@ impl Reads for State {
         find_object(self, kind, name)
     }
 
+    fn is_shared(&self) -> bool {
+        self.mode.shared
+    }
+
     fn dies(&self, object: ObjNo) -> bool {
         dies(self, object)
     }

@@ -3,12 +3,12 @@ ghost use Rattle.std.specs.Prelude.{◌≡◌, List, Some, is_some, option_copie
 ghost use Rattle.machine.specs.declared.holding.Holding.{Holding};
 ghost use Rattle.machine.specs.declared.task.Task.{Task};
 ghost use Rattle.machine.specs.Rows.{first_owed};
-ghost use Rattle.machine.specs.Task.{instruction, is_returning, served_queue, next_call, task_of_row, by_stage, live_task, is_wait, is_stopped, is_ready, is_able, declared_of};
+ghost use Rattle.machine.specs.Task.{instruction, served_queue, next_call, task_of_row, by_stage, live_task, is_wait, is_waiting_row, is_stopped, is_ready, is_able, may_act, declared_of};
+ghost use Rattle.machine.specs.Out.{is_out};
 ghost use Rattle.state_rows.specs.Nano.{is_protected, wanted_holder};
 
 use crate::Reads;
-use entry_log::Part;
-use machine::{Role, ThreadRow, Waiting};
+use machine::{Role, ThreadRow, Waiting, is_returning};
 use script_types::{Instr, Script, ThreadDecl};
 use state_rows::Stage;
 use sym_base::ThreadNo;
@@ -30,13 +30,6 @@ pub fn instruction<'a>(script: &'a Script, row: &ThreadRow) -> Option<&'a Instr>
     let declared = declared_of(script, row.role)?;
     let at = row.next_instruction as usize;
     declared.instrs.as_slice().get(at)
-}
-
-/// Whether a thread is between a find and its return.
-pub fn is_returning(part: Option<Part>) -> bool
-    ensures { result ≡ is_returning part }
-{
-    matches!(part, Some(Part::Return))
 }
 
 /// The queue of deferred function calls that a thread of this role serves.
@@ -104,6 +97,13 @@ fn is_wait(waiting: Waiting) -> bool
     }
 }
 
+/// Whether the thread of this row waits, or is out where callers share the kernel.
+fn is_waiting_row(shared: bool, row: &ThreadRow) -> bool
+    ensures { result ≡ is_waiting_row shared (Some row.now) }
+{
+    is_wait(row.waiting) || shared && is_returning(row.part)
+}
+
 /// Whether a thread is stopped: it is suspended, and nothing protects it from that.
 fn is_stopped<R: Reads>(reads: &R, thread: ThreadNo) -> bool
     ensures { result ≡ is_stopped (R.state reads.now) thread }
@@ -118,7 +118,7 @@ pub fn is_ready<R: Reads>(script: &Script, reads: &R, thread: ThreadNo) -> bool
     let Some(row) = reads.thread(thread) else {
         return false;
     };
-    if is_wait(row.waiting) || is_stopped(reads, thread) {
+    if is_waiting_row(reads.is_shared(), row) || is_stopped(reads, thread) {
         return false;
     }
     has_task(script, reads, thread, row)
@@ -137,4 +137,21 @@ pub fn is_able<R: Reads>(script: &Script, reads: &R, thread: ThreadNo) -> bool
     ensures { result ≡ is_able script.now (R.state reads.now) thread }
 {
     is_ready(script, reads, thread) && wanted_holder(reads, thread).is_none()
+}
+
+/// Whether a thread is out.
+fn is_out<R: Reads>(reads: &R, thread: ThreadNo) -> bool
+    ensures { result ≡ is_out (R.state reads.now) thread }
+{
+    match reads.thread(thread) {
+        Some(row) => reads.is_shared() && is_returning(row.part),
+        None => false,
+    }
+}
+
+/// A thread may act where it is able, and where it is out.
+pub fn may_act<R: Reads>(script: &Script, reads: &R, thread: ThreadNo) -> bool
+    ensures { result ≡ may_act script.now (R.state reads.now) thread }
+{
+    is_able(script, reads, thread) || is_out(reads, thread)
 }

@@ -1,5 +1,5 @@
 -- The rows of the objects that are left.
-use Rattle.std.proofs.Common.{◌≡◌, ℕ, ◌+◌, ◌<◌, ◌≤◌, List, [], ◌∷◌, length, drop, suc, arith, ap, Option, Some, None}
+use Rattle.std.proofs.Common.{false, ◌≡◌, ℕ, ◌+◌, ◌<◌, ◌≤◌, List, [], ◌∷◌, length, drop, suc, arith, ap, Option, Some, None}
 use Rattle.std.proofs.lemmas.List.{length-drop}
 use Rattle.entry_log.specs.declared.entry.Entry.{Entry}
 use Rattle.entry_log.specs.declared.entry.FinalRow.{FinalRow}
@@ -31,7 +31,7 @@ row_among S n (Some object ∷ objects) row rest e =
 pub row_number : (script : Script) (history : List Entry) (n : ℕ) (row : FinalRow) (rest : List FinalRow) → IsWellFormed script → rows_from (after script history) n ≡ row ∷ rest → row.object.0 < 4096
 row_number script history n row rest valid e =
     let among = row_among (after script history) n (drop n (after script history).references.objects) row rest e in
-    let few = (well_formed-after script history valid).rows.references.sized.objects_few in
+    let few = (well_formed-after false script history valid).rows.references.sized.objects_few in
     omega (arith, length-drop n (after script history).references.objects)
 
 -- and there are at most so many of them
@@ -41,4 +41,4 @@ length-rows S n (None ∷ objects) = omega (arith, length-rows S (n + 1) objects
 length-rows S n (Some object ∷ objects) = omega (arith, length-rows S (n + 1) objects)
 
 pub few_rows : (script : Script) (history : List Entry) → IsWellFormed script → length (final_rows (after script history)) ≤ 4096
-few_rows script history valid = omega (arith, length-rows (after script history) 0 (after script history).references.objects, (well_formed-after script history valid).rows.references.sized.objects_few)
+few_rows script history valid = omega (arith, length-rows (after script history) 0 (after script history).references.objects, (well_formed-after false script history valid).rows.references.sized.objects_few)

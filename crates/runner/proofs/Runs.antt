@@ -3,12 +3,12 @@ use Rattle.std.proofs.Common.{◌≡◌, ℕ, suc, ◌+◌, ◌<◌, ◌≤◌, 
 use Rattle.std.proofs.lemmas.List.{drop_more, length-append}
 use Rattle.sym_base.specs.declared.number.ObjNo.{ObjNo}
 use Rattle.entry_log.specs.declared.entry.Entry.{Entry}
-use Rattle.machine_laws.proofs.Reached.Histories.{after-push, arrived-push}
 use Rattle.machine.specs.Arrived.{arrived, arrived_next}
 use Rattle.machine.specs.Boot.{boot, ready_at_boot}
 use Rattle.machine.specs.History.{after, next, entry_by}
 use Rattle.machine.specs.declared.state.State.{State}
 use Rattle.machine_laws.proofs.ValidSlots.{valid_slots_few}
+use Rattle.kcore.proofs.Alone.{after_longer, arrived_longer}
 use Rattle.script_types.specs.Source.{IsWellFormed}
 use Rattle.machine.specs.Run.{run, run_from, slot_actor}
 use Rattle.script_types.specs.declared.script.Script.{Script}
@@ -23,7 +23,7 @@ next_entry script history slot = entry_by script (after script history) (length 
 pub run_next : (script : Script) (history : List Entry) (slot : Slot) (rest : List Slot) (whole : List Entry) → history ++ run_from script (after script history) (arrived script history) (length history + 1) (slot ∷ rest) ≡ whole → let longer = history ++ next_entry script history slot ∷ [] in longer ++ run_from script (after script longer) (arrived script longer) (length longer + 1) rest ≡ whole
 run_next script history slot rest whole h =
     let e = next_entry script history slot in
-    rw (append_assoc, after-push script history e, arrived-push script history e, length-append {A = Entry}) h
+    rw (append_assoc, after_longer script history e, arrived_longer script history e, length-append {A = Entry}) h
 
 -- one slot of the schedule was taken
 pub run_step : (script : Script) (history new : List Entry) (i : ℕ) (whole : List Entry) → i < length script.slots → new ≡ history ++ next_entry script history (get_or script.slots i Go) ∷ [] → history ++ run_from script (after script history) (arrived script history) (length history + 1) (drop i script.slots) ≡ whole → new ++ run_from script (after script new) (arrived script new) (length new + 1) (drop (i + 1) script.slots) ≡ whole

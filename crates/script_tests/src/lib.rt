@@ -6,6 +6,8 @@ mod every_form;
 #[cfg(test)]
 mod form_tests;
 #[cfg(test)]
+mod mutation_tests;
+#[cfg(test)]
 mod nano_tests;
 #[cfg(test)]
 mod number_tests;

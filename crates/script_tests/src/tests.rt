@@ -7,7 +7,7 @@ use std::test::Fail;
 use sym_base::Kind;
 
 /// A whole script.
-const SCRIPT: &str =
+pub const SCRIPT: &str =
     "eka2 1\nprocess p\nthread a 10\ncreate mutex m r0\ndup r0 r1\nclose r0\nclose r1\nclose r1\nschedule\ngo 10\nend\n";
 
 /// The same script with comments, empty lines and more spaces, and without its last line feed.
@@ -15,7 +15,7 @@ const SPACED_SCRIPT: &str =
     "# a script\n\neka2   1\n process p \n   \nthread a 10\n create mutex m r0\ndup  r0  r1\nclose r0\nclose r1\n  # twice\nclose r1\nschedule\ngo 4\ngo 6\nend\n#";
 
 /// A script in which a mutex dies between its search and its opening.
-const TWO_THREADS: &str =
+pub const TWO_THREADS: &str =
     "eka2 1\nprocess p\nthread a 10\ncreate mutex m r0\nclose r0\nthread b 10\nopen mutex m r1\nschedule\ngo 1\ntick\ngo 1\ntick\ngo 1\ntick\ngo 1\ntick\ngo 1\nend\n";
 
 /// A text, and its first bad line.
@@ -25,8 +25,8 @@ struct BadText {
     reason: Reason,
 }
 
-/// A text for each reason.
-const BAD_TEXTS: [BadText; 12] = [
+/// A text for each reason; then the worked script, cut in its first two lines; and a line and a slot past their limits.
+const BAD_TEXTS: [BadText; 18] = [
     BadText {
         text: "eka2 1\n# a\tb\nend\n",
         line: 2,
@@ -86,6 +86,36 @@ const BAD_TEXTS: [BadText; 12] = [
         text: "eka2 1\nprocess p\n",
         line: 3,
         reason: Reason::End,
+    },
+    BadText {
+        text: "",
+        line: 1,
+        reason: Reason::End,
+    },
+    BadText {
+        text: "eka",
+        line: 1,
+        reason: Reason::Word,
+    },
+    BadText {
+        text: "eka2",
+        line: 1,
+        reason: Reason::Count,
+    },
+    BadText {
+        text: "eka2 1",
+        line: 2,
+        reason: Reason::End,
+    },
+    BadText {
+        text: "eka2 1\n                                                                                                                                                                                                        x\nend\n",
+        line: 2,
+        reason: Reason::Long,
+    },
+    BadText {
+        text: "eka2 1\nschedule\ngo 65536\ngo 1\nend\n",
+        line: 4,
+        reason: Reason::Limit,
     },
 ];
 

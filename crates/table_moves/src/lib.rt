@@ -24,6 +24,7 @@ pub use servers::{
 };
 pub use threads::{
     fill, threads_advance, threads_closed, threads_find, threads_gain, threads_go_on, threads_keep,
-    threads_lose, threads_set_priority, threads_wait, threads_write, threads_write_message,
+    threads_lose, threads_miss, threads_open, threads_set_priority, threads_wait, threads_write,
+    threads_write_message,
 };
 pub use uses::{note_end, note_gain, note_lost, use_of};

@@ -1,6 +1,6 @@
 //! Rows of threads: one change of a thread's row each, and none where there is no such thread.
 ghost use Rattle.std.specs.Prelude.{◌≡◌, ◌+◌, ◌<◌, ◌≤◌, None, Some, slice_set};
-ghost use Rattle.machine.specs.Moves.{with_use, unlinked, with_found, with_kept, with_message, with_part, with_register, advanced, with_waiting, with_priority, threads_gain, threads_lose, threads_closed};
+ghost use Rattle.machine.specs.Moves.{with_use, unlinked, with_found, with_opened, with_missed, with_kept, with_message, with_part, with_register, advanced, with_waiting, with_priority, threads_gain, threads_lose, threads_closed};
 ghost use Rattle.machine.specs.Memory.{filled, with_memory};
 ghost use Rattle.machine.specs.Room.{MayAdvance};
 ghost use Rattle.machine.specs.Rows.{with_row};
@@ -47,12 +47,28 @@ pub fn threads_closed(procs: &mut Procs, last: bool, object: ObjNo)
     }
 }
 
-/// A thread found an object.
+/// A thread found an object, and comes back next.
 pub fn threads_find(procs: &mut Procs, thread: ThreadNo, object: ObjNo)
     ensures { procs.new ≡ with_threads procs.old (with_row procs.old.threads thread (with_found object)) }
 {
+    threads_keep(procs, thread, u32::from(object.0));
+    threads_go_on(procs, thread, Part::Return);
+}
+
+/// A thread comes back and opens an object, and goes on to a step of its instruction.
+pub fn threads_open(procs: &mut Procs, thread: ThreadNo, object: ObjNo, part: Part)
+    ensures { procs.new ≡ with_threads procs.old (with_row procs.old.threads thread (with_opened object part)) }
+{
+    set_use(procs, thread, Some(object));
+    threads_go_on(procs, thread, part);
+}
+
+/// A thread comes back to an object that was dead.
+pub fn threads_miss(procs: &mut Procs, thread: ThreadNo)
+    ensures { procs.new ≡ with_threads procs.old (with_row procs.old.threads thread with_missed) }
+{
     if procs.is_thread(thread) {
-        procs.set_found(thread, u32::from(object.0));
+        procs.set_part(thread, None);
     }
 }
 

@@ -3,7 +3,7 @@
 ghost use Rattle.std.specs.Prelude.{◌≡◌, ◌<◌, [], ◌∷◌, length, if◌then◌else◌, is_some, IfSome};
 ghost use Rattle.state_rows.specs.Nano.{held_by};
 ghost use Rattle.sym_base.specs.declared.error.Error.TheVariants.{InUse};
-ghost use Rattle.machine.specs.Decide.{nothing, answer, refuse, go_on, wait_for, wait_at, answer_handle, give_handle};
+ghost use Rattle.machine.specs.Decide.{nothing, answer, refuse, one_move, go_on, wait_for, wait_at, answer_handle, give_handle};
 
 use entry_log::{Part, Step};
 use machine::{Decision, LockMove, Move, NewHandle, Waiting};
@@ -51,6 +51,16 @@ pub fn refuse(decision: &mut Decision, thread: ThreadNo, step: Step, error: Erro
     ensures { decision.new ≡ refuse thread step error }
 {
     answer_at_once(decision, thread, step, error.code());
+}
+
+/// This move alone, by which the instruction goes on.
+pub fn one_move(decision: &mut Decision, step: Step, change: Move)
+    ensures { decision.new ≡ one_move step change }
+{
+    decision.step = step;
+    decision.moves.clear();
+    decision.moves.push(change);
+    decision.answer = None;
 }
 
 /// The instruction goes on to another step, with this move.

@@ -1,11 +1,11 @@
 //! The first two steps of the instructions that find an object by its kind and name: the find, and the
 //! return, which opens what was found.
 ghost use Rattle.std.specs.Prelude.{◌≡◌};
-ghost use Rattle.machine.specs.Find.{seek_object, seek, found_object, is_open, return_to};
+ghost use Rattle.machine.specs.Find.{seek_object, seek, is_open, return_to};
 
-use crate::decide::{answer_after, go_on, refuse};
-use entry_log::{Holder, Part, Step, Word};
-use machine::{Decision, Move, ThreadRow};
+use crate::decide::{answer_after, one_move, refuse};
+use entry_log::{Part, Step, Word};
+use machine::{Decision, Move, ThreadRow, found_object};
 use readings::Reads;
 use state_rows::{ObjectRow, Stage};
 use sym_base::{Error, Kind, Name, ObjNo, ThreadNo};
@@ -16,13 +16,7 @@ fn seek_object(decision: &mut Decision, thread: ThreadNo, word: Word, found: Opt
 {
     let step = Step::Of(word, Part::Seek);
     match found {
-        Some(object) => go_on(
-            decision,
-            thread,
-            step,
-            Move::Find(thread, object),
-            Part::Return,
-        ),
+        Some(object) => one_move(decision, step, Move::Find(thread, object)),
         None => refuse(decision, thread, step, Error::NotFound),
     }
 }
@@ -40,13 +34,6 @@ pub fn seek<R: Reads>(
     ensures { decision.new ≡ seek (R.state reads.now) thread word kind name.now }
 {
     seek_object(decision, thread, word, reads.find(kind, name))
-}
-
-/// The object that a thread's find found.
-fn found_object(row: &ThreadRow) -> ObjNo
-    ensures { result ≡ found_object row.now }
-{
-    ObjNo((row.found % 65_536) as u16)
 }
 
 /// Whether an object may be opened: it is there and isn't dead.
@@ -73,17 +60,11 @@ pub fn return_to<R: Reads>(
     let step = Step::Of(word, Part::Return);
     let object = found_object(row);
     if is_open(reads.object(object)) {
-        let gain = Move::Gain(Holder::Temp(thread), object);
-        return go_on(decision, thread, step, gain, next);
+        return one_move(decision, step, Move::Open(thread, object, next));
     }
+    let missed = Move::Miss(thread, object);
     if row.stage != Stage::Live {
-        return go_on(decision, thread, step, Move::Miss(object), next);
+        return one_move(decision, step, missed);
     }
-    answer_after(
-        decision,
-        thread,
-        step,
-        Move::Miss(object),
-        Error::NotFound.code(),
-    )
+    answer_after(decision, thread, step, missed, Error::NotFound.code())
 }

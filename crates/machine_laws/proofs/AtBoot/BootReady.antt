@@ -10,9 +10,9 @@ use Rattle.machine.specs.declared.boot.Born.{Born}
 use Rattle.state_rows.specs.declared.thread.ThreadRow.{ThreadRow}
 use Rattle.machine.specs.Arrivals.{is_listed}
 use Rattle.state_rows.specs.DeclaredCalls.{calls_of}
-use Rattle.machine.specs.Boot.{boot, boot_of, born, ready_at_boot, ready_from}
+use Rattle.machine.specs.Boot.{boot_in, boot_of, born, ready_at_boot, ready_from}
 use Rattle.machine.specs.Rows.{first_of, thread_of}
-use Rattle.machine.specs.Task.{task_of, is_wait, is_waiting, is_waiting_row, is_stopped}
+use Rattle.machine.specs.Task.{task_of, is_waiting, is_waiting_row, is_stopped}
 use Rattle.machine.specs.WellFormed.{AreApart, IsReadyList}
 use Rattle.machine_laws.proofs.AtBoot.Born.{IsNewThread, EachBorn, each_born}
 use Rattle.machine_laws.proofs.AtBoot.BootNano.{is_held_at, stopped-boot}
@@ -50,14 +50,18 @@ works_is script n (b ∷ bs) zero h = h.0.works
 works_is script n (b ∷ bs) (suc i) h = works_is script n bs i h.1
 
 -- nobody waits
-row_goes_on : (n : ℕ) (thread : Option ThreadRow) → ((row : ThreadRow) → thread ≡ Some row → IsNewThread n row) → is_waiting_row thread ≡ false
-row_goes_on n None rows = refl
-row_goes_on n (Some row) rows = ap is_wait (rows row refl).waiting
+row_goes_on : (shared : Bool) (n : ℕ) (thread : Option ThreadRow) → ((row : ThreadRow) → thread ≡ Some row → IsNewThread n row) → is_waiting_row shared thread ≡ false
+row_goes_on shared n None rows = refl
+row_goes_on shared n (Some row) rows = let new = rows row refl in rw (new.waiting, new.part) (out shared)
+  where
+    out : (b : Bool) → (b && false) ≡ false
+    out true = refl
+    out false = refl
 
-goes_on : (script : Script) (n : ℕ) (bs : List Born) (i : ℕ) → EachBorn script n bs → is_waiting_row (get_or (map (λ b. b.thread) bs) i None) ≡ false
-goes_on script n [] i h = refl
-goes_on script n (b ∷ bs) zero h = row_goes_on n b.thread h.0.row
-goes_on script n (b ∷ bs) (suc i) h = goes_on script n bs i h.1
+goes_on : (shared : Bool) (script : Script) (n : ℕ) (bs : List Born) (i : ℕ) → EachBorn script n bs → is_waiting_row shared (get_or (map (λ b. b.thread) bs) i None) ≡ false
+goes_on shared script n [] i h = refl
+goes_on shared script n (b ∷ bs) zero h = row_goes_on shared n b.thread h.0.row
+goes_on shared script n (b ∷ bs) (suc i) h = goes_on shared script n bs i h.1
 
 owes_nothing : (bs : List Born) (i : ℕ) → ◌≡◌ {A = Option Owed} None (first_of (get_or (map (λ _. []) bs) i []))
 owes_nothing [] i = refl
@@ -72,25 +76,25 @@ ready_apart : (n : ℕ) (bs : List Born) → AreApart (ready_from n bs)
 ready_apart n [] = tt
 ready_apart n (b ∷ bs) = apart_step n (ready_from (n + 1) bs) b.works (listed_below (n + 1) bs (record { 0 = n }) (omega arith)) (ready_apart (n + 1) bs)
 
-task-boot : (script : Script) (u : ObjNo) → ◌≡◌ {A = Bool} (is_some (task_of script (boot script) u)) (has_task script (calls_of script) None (get_or (map (λ b. b.thread) (born script)) u.0 None))
+task-boot : (shared : Bool) (script : Script) (u : ObjNo) → ◌≡◌ {A = Bool} (is_some (task_of script (boot_in shared script) u)) (has_task script (calls_of script) None (get_or (map (λ b. b.thread) (born script)) u.0 None))
 unfolding boot_of
-task-boot script u =
+task-boot shared script u =
     let bs = born script in
-    task_is script (boot script) u (thread_of (boot script) u)
+    task_is script (boot_in shared script) u (thread_of (boot_in shared script) u)
     ∙ ap (λ (first : Option Owed). has_task script (calls_of script) first (get_or (map (λ b. b.thread) bs) u.0 None)) (sym (owes_nothing bs u.0))
 
 ready_is : (waits stopped task held work : Bool) → waits ≡ false → stopped ≡ held → task ≡ work → (not waits && not stopped && task) ≡ (not held && work)
 ready_is waits stopped task held work a b c = ap (λ x. not x && not stopped && task) a ∙ (ap (λ x. not x && task) b ∙ ap (λ x. not held && x) c)
 
 -- exactly the threads that have something to do and aren't held are listed, once
-pub ready-boot : (script : Script) → IsShaped script → IsReadyList script (boot script) (ready_at_boot script)
+pub ready-boot : (shared : Bool) (script : Script) → IsShaped script → IsReadyList script (boot_in shared script) (ready_at_boot script)
 unfolding boot_of
-ready-boot script shaped =
+ready-boot shared script shaped =
     let bs = born script in
     let each = each_born script shaped in
     record {
       exact = λ u. listed_at 0 bs u.0 u (omega arith) ∙ works_is script (length bs) bs u.0 each
-          ∙ sym (ready_is (is_waiting (boot script) u) (is_stopped (boot script) u) (is_some (task_of script (boot script) u)) (is_held_at bs u.0) _
-          (goes_on script (length bs) bs u.0 each) (stopped-boot script.pool script.fast (calls_of script) bs u) (task-boot script u));
+          ∙ sym (ready_is (is_waiting (boot_in shared script) u) (is_stopped (boot_in shared script) u) (is_some (task_of script (boot_in shared script) u)) (is_held_at bs u.0) _
+          (goes_on shared script (length bs) bs u.0 each) (stopped-boot script.pool script.fast (calls_of script) bs u) (task-boot shared script u));
       once = ready_apart 0 bs;
     }

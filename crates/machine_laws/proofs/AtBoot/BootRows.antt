@@ -1,5 +1,5 @@
 -- The state at boot is well-formed.
-use Rattle.std.proofs.Common.{◌≡◌, ◌⊎◌, inl, inr, ℕ, suc, zero, ◌+◌, ◌<◌, ◌≤◌, List, [], ◌∷◌, length, get_or, arith, refl, sym, subst, ap, ◌∙◌, Option, Some, None, map, replicate, false}
+use Rattle.std.proofs.Common.{Bool, ◌≡◌, ◌⊎◌, inl, inr, ℕ, suc, zero, ◌+◌, ◌<◌, ◌≤◌, List, [], ◌∷◌, length, get_or, arith, refl, sym, subst, ap, ◌∙◌, Option, Some, None, map, replicate, false}
 use Rattle.std.proofs.lemmas.List.{length-map, length-replicate, get_or_past}
 use Rattle.std.proofs.lemmas.Bool.{cases_lt}
 use Rattle.sym_base.specs.declared.number.ObjNo.{ObjNo}
@@ -15,7 +15,7 @@ use Rattle.state_rows.specs.declared.duty.Owed.{Owed}
 use Rattle.machine.specs.declared.boot.Born.{Born}
 use Rattle.state_rows.specs.declared.handle_slot.HandleSlot.{HandleSlot}
 use Rattle.state_rows.specs.declared.thread.ThreadRow.{ThreadRow}
-use Rattle.machine.specs.Boot.{boot, boot_of, born, ready_at_boot}
+use Rattle.machine.specs.Boot.{boot, boot_in, boot_of, born, ready_at_boot}
 use Rattle.state_rows.specs.HandleSlots.{fresh_slot, slot_at}
 use Rattle.machine.specs.References.{total, option_names, slot_names, thread_names, kernel_names, owed_names, mutex_names, count_of, kernel_holds}
 use Rattle.machine.specs.Rows.{thread_of}
@@ -96,9 +96,9 @@ fresh_instances (suc n) (suc i) = fresh_instances n i
 fresh_table : IsTable (replicate 256 fresh_slot)
 fresh_table = record { size = length-replicate 256 fresh_slot; instances = fresh_instances 256; counted = λ i o is. let none = copy_at fresh_slot 256 i in let object = ap (λ (slot : HandleSlot). slot.object) none in absurd (cc) }
 
-pub rows-boot : (script : Script) → IsWellFormedScript script → AreRows script (boot script)
+pub rows-boot : (shared : Bool) (script : Script) → IsWellFormedScript script → AreRows script (boot_in shared script)
 unfolding boot_of
-rows-boot script valid =
+rows-boot shared script valid =
     let shaped = formed_is_shaped script valid in
     let bs = born script in
     let few = born_few script shaped in
@@ -167,10 +167,10 @@ rows-boot script valid =
           | inl lt ↦ born_alive script (length bs) bs o.0 each lt
           | inr le ↦ let z = boot_count_inside script shaped o le in absurd (omega arith)
         ];
-        counted = counted-boot script valid;
+        counted = λ o alive. let some = counted-boot script valid o alive in omega arith;
         sweeps = λ o. total-const (total (owed_sweeps o)) [] bs refl ∙ sym (born_dead script (length bs) bs o.0 each);
       };
     }
 
-pub well_formed-boot : (script : Script) → IsWellFormedScript script → IsWellFormed script (boot script) (ready_at_boot script)
-well_formed-boot script valid = record { rows = rows-boot script valid; ready = ready-boot script (formed_is_shaped script valid) }
+pub well_formed-boot : (shared : Bool) (script : Script) → IsWellFormedScript script → IsWellFormed script (boot_in shared script) (ready_at_boot script)
+well_formed-boot shared script valid = record { rows = rows-boot shared script valid; ready = ready-boot shared script (formed_is_shaped script valid) }

@@ -1,6 +1,6 @@
 -- What a thread does in an action: moves that fit, or it pays the oldest of what it owes.
 use Rattle.std.proofs.Common.{◌≡◌, ◌⊎◌, inl, inr, ℕ, zero, suc, ◌<◌, List, [], ◌∷◌, length, arith, refl, sym, subst, ap, ◌∙◌, Option, Some, None, Bool, true, false}
-use Rattle.std.specs.Prelude.{not, ◌&&◌, if◌then◌else◌, is_some, is_none, nat_lt, option_map, slice_get}
+use Rattle.std.specs.Prelude.{not, ◌&&◌, if◌then◌else◌, is_some, is_none, nat_lt, option_map, slice_get, ◌||◌}
 use Rattle.std.proofs.lemmas.Bool.{cases_lt}
 use Rattle.std.proofs.lemmas.List.{append-nil, get_or_past}
 use Rattle.std.proofs.lemmas.Option.{slice_get_past}
@@ -37,9 +37,10 @@ use Rattle.machine.specs.Bodies.{run_body, run_dfc}
 use Rattle.machine.specs.Decide.{nothing}
 use Rattle.script_types.specs.declared.declaration.DfcDecl.{DfcDecl}
 use Rattle.machine.specs.Steps.{pay, step_of, return_of, decision_of_row, decision_of_task, decision_where, decision_of}
-use Rattle.machine.specs.Task.{instruction, instructions_of, is_returning, call_task, dying_task, end_task, live_task, next_call, by_stage, pay_or, return_or, step_or_end, work_or, task_of_row, task_of, is_wait, is_waiting_row, is_waiting, is_stopped, is_ready, is_able}
+use Rattle.machine.specs.Task.{instruction, instructions_of, call_task, dying_task, end_task, live_task, next_call, by_stage, pay_or, return_or, step_or_end, work_or, task_of_row, task_of, is_wait, is_waiting_row, is_waiting, is_stopped, is_ready, is_able, may_act}
+use Rattle.machine.specs.Out.{is_out, is_returning, part_of}
 use Rattle.machine.specs.Fits.{Fits, Sane}
-use Rattle.machine.specs.WellFormed.{AreRows, part_of, weight}
+use Rattle.machine.specs.WellFormed.{AreRows, weight}
 use Rattle.move_laws.proofs.Numbers.Instructions.{few_instructions}
 use Rattle.move_laws.proofs.Lists.Totals.{inside}
 use Rattle.move_laws.proofs.Numbers.Registers.{has_registers, has_names, has_ranges}
@@ -49,11 +50,11 @@ use Rattle.machine_laws.proofs.Fitting.Stepping.{FitsDecision, FitsStep, IsStepp
 use Rattle.machine_laws.proofs.Fitting.Working.{IsGiven, fits-work}
 use Rattle.machine_laws.proofs.Fitting.KernelThreads.{none_is}
 use Rattle.machine_laws.proofs.Fitting.Bodies.{Goes, goes-light, light-body}
-use Rattle.machine_laws.proofs.Fitting.Regular.{IsRegular, Kinds, kind_given, kind_of, looking, plain}
+use Rattle.machine_laws.proofs.Fitting.Regular.{acts, IsRegular, Kinds, kind_given, kind_of, looking, plain}
 use Rattle.machine_laws.proofs.Fitting.Tame.{may_tell, regular-moves, regular-pay, tame}
 use Rattle.machine_laws.proofs.Fitting.Dooms.{fits-end, fits-flush}
 use Rattle.machine_laws.proofs.Fitting.Reaping.{IsDying, fits-bury, fits-clean, fits-give_up}
-use Rattle.machine_laws.proofs.Fitting.Instructions.{few, fits-returning, fits-step, returning_before}
+use Rattle.machine_laws.proofs.Fitting.Instructions.{few, fits-returning, fits-step}
 
 -- the thread pays the oldest of what it owes, and does nothing else
 pub record Pays (S : State) (t : ObjNo) (ms : List Move) : Type 0 where
@@ -67,11 +68,18 @@ pub record FitsAction (k : Kinds) (script : Script) (S : State) (t : ObjNo) (d :
   pub goes : Goes script t S d.moves
   pub regular : IsRegular k script S t d
 
+-- what a thread does that is no step of an instruction: something, a declared call of its queue, or nothing, where it may not act or has no task
+pub data Plainly (script : Script) (S : State) (t : ObjNo) (d : Decision) : Type 0 where
+  does : acts d.step ≡ true → Plainly script S t d
+  calls : (row : ThreadRow) (dfc : ℕ) → thread_of S t ≡ Some row → next_call S.synchronization.deferred row.role ≡ Some dfc → nat_lt dfc 64 ≡ true → d.step ≡ run_dfc (slice_get script.dfcs dfc) → Plainly script S t d
+  stops : may_act script S t ≡ false → Plainly script S t d
+  rests : task_of script S t ≡ None → Plainly script S t d
+
 -- whatever holds of each action of a thread: the step of an instruction, its return, what is given up, what is paid, and what is plain
 pub record OfAction (script : Script) (S : State) (t : ObjNo) (P : Decision → Type 0) : Type 0 where
-  pub plainly : (d : Decision) → FitsAction plain script S t d → P d
+  pub plainly : (d : Decision) → Plainly script S t d → FitsAction plain script S t d → P d
   pub steps : (row : ThreadRow) (instr : Instr) → thread_of S t ≡ Some row → row.stage ≡ Live → is_returning row.part ≡ false → instruction script row ≡ Some instr → FitsAction (kind_of instr row.part) script S t (step_of script S t row instr row.part) → P (step_of script S t row instr row.part)
-  pub returns : (row : ThreadRow) (instr : Instr) → thread_of S t ≡ Some row → instruction script row ≡ Some instr → FitsAction looking script S t (return_of S t row instr) → P (return_of S t row instr)
+  pub returns : (row : ThreadRow) (instr : Instr) → thread_of S t ≡ Some row → is_returning row.part ≡ true → instruction script row ≡ Some instr → FitsAction looking script S t (return_of S t row instr) → P (return_of S t row instr)
   pub gives : (row : ThreadRow) (what : Holding) → IsGiven S t what → FitsAction (kind_given what) script S t (give_up S t row what) → P (give_up S t row what)
   pub pays : (what : Owed) (rest : List Owed) → owed_of S t ≡ what ∷ rest → P (pay what)
 
@@ -93,9 +101,9 @@ record IsAble (S : State) (t : ObjNo) (row : ThreadRow) : Type 0 where
   pub waits : row.waiting ≡ waiting.Nothing
   pub free : wanted_holder S.synchronization.nano t ≡ None
 
-waits_not : (what : Waiting) → not (is_wait what) ≡ true → what ≡ waiting.Nothing
-waits_not waiting.Nothing e = refl
-waits_not _ e = absurd (cc)
+waits_not : (what : Waiting) (out : Bool) → not (is_wait what || out) ≡ true → what ≡ waiting.Nothing
+waits_not waiting.Nothing out e = refl
+waits_not _ out e = absurd (cc)
 
 able_is : (script : Script) (S : State) (t : ObjNo) (row : ThreadRow) → thread_of S t ≡ Some row → is_able script S t ≡ true → IsAble S t row
 able_is script S t row is able =
@@ -103,20 +111,31 @@ able_is script S t row is able =
     let ready = both (not (is_waiting S t) && not (is_stopped S t)) (is_some (task_of script S t)) parts.0 in
     let still = both (not (is_waiting S t)) (not (is_stopped S t)) ready.0 in
     record {
-      waits = waits_not row.waiting (sym (ap (λ (r : Option ThreadRow). not (is_waiting_row r)) is) ∙ still.0);
+      waits = waits_not row.waiting (S.mode.shared && is_returning row.part) (sym (ap (λ (r : Option ThreadRow). not (is_waiting_row S.mode.shared r)) is) ∙ still.0);
       free = none_is (wanted_holder S.synchronization.nano t) parts.1;
     }
 
-stepping : (script : Script) (S : State) (t : ObjNo) (row : ThreadRow) (instr : Instr) → IsShaped script → AreRows script S → thread_of S t ≡ Some row → (is_returning row.part ≡ false → row.stage ≡ Live) → IsAble S t row → instruction script row ≡ Some instr → owed_of S t ≡ [] → IsStepping script S t row instr
-stepping script S t row instr shaped rows is live able at nothing = record {
+-- and of one that may act and isn't between a find and its return: it is able
+able_by : (able out shared returns : Bool) → (able || out) ≡ true → out ≡ (shared && returns) → returns ≡ false → able ≡ true
+able_by true out shared returns may is back = refl
+able_by false out true returns may is back = absurd (cc)
+able_by false out false returns may is back = absurd (cc)
+
+may_is : (script : Script) (S : State) (t : ObjNo) (row : ThreadRow) → thread_of S t ≡ Some row → may_act script S t ≡ true → is_returning row.part ≡ false → IsAble S t row
+may_is script S t row is may back = able_is script S t row is (able_by (is_able script S t) (is_out S t) S.mode.shared (is_returning row.part) may (ap (λ (r : Option ThreadRow). S.mode.shared && is_returning (part_of r)) is) back)
+
+stepping : (script : Script) (S : State) (t : ObjNo) (row : ThreadRow) (instr : Instr) → IsShaped script → AreRows script S → thread_of S t ≡ Some row → row.stage ≡ Live → is_returning row.part ≡ false → IsAble S t row → instruction script row ≡ Some instr → owed_of S t ≡ [] → IsStepping script S t row instr
+stepping script S t row instr shaped rows is live going able at nothing = record {
   rows = rows;
   is = is;
   next = slice_get_inside (instructions_of script row.role) row.next_instruction instr at;
+  at = at;
   paid = nothing;
   registers = has_registers script row instr shaped at;
   names = has_names script row instr shaped at;
   ranges = has_ranges script row instr shaped at;
   live = live;
+  going = going;
   waits = able.waits;
   free = able.free;
   early =
@@ -152,33 +171,33 @@ nothing_past (x ∷ xs) zero within e = cc
 nothing_past (x ∷ xs) (suc i) within e = nothing_past xs i (omega arith) e
 
 module _ (script : Script) (S : State) (t : ObjNo) (P : Decision → Type 0) (each : OfAction script S t P) where
-  plain-by : (d : Decision) → owed_of S t ≡ [] → FitsDecision plain script t S d → P d
-  plain-by d paid fits = each.plainly d (goes_by script S t d paid (few fits))
+  plain-by : (d : Decision) → acts d.step ≡ true → owed_of S t ≡ [] → FitsDecision plain script t S d → P d
+  plain-by d told paid fits = each.plainly d (does told) (goes_by script S t d paid (few fits))
 
-  idle-acts : AreRows script S → P nothing
-  idle-acts rows = each.plainly nothing (idles script S t rows)
+  idle-acts : AreRows script S → Plainly script S t nothing → P nothing
+  idle-acts rows why = each.plainly nothing why (idles script S t rows)
 
   -- a live thread at its list's end gives up what protects it, or ends
   end-acts : (row : ThreadRow) (protected : Bool) → IsActing script S t row → row.stage ≡ Live → is_protected S.synchronization.nano t ≡ protected → P (decision_of_task script S t row (end_task protected))
-  end-acts row true h live e = plain-by (flush S t) h.paid (fits-flush script S t row h.rows h.is live)
-  end-acts row false h live e = plain-by (end t) h.paid (fits-end script S t row h.rows h.is live e)
+  end-acts row true h live e = plain-by (flush S t) refl h.paid (fits-flush script S t row h.rows h.is live)
+  end-acts row false h live e = plain-by (end t) refl h.paid (fits-end script S t row h.rows h.is live e)
 
   -- the calls of a queue, and burials
-  call-acts : (row : ThreadRow) (call : Option ℕ) → IsActing script S t row → P (decision_of_row script S t (Some row) (option_map call_task call))
-  call-acts row None h = idle-acts h.rows
-  call-acts row (Some dfc) h = by (nat_lt dfc 64)
+  call-acts : (row : ThreadRow) (call : Option ℕ) → IsActing script S t row → next_call S.synchronization.deferred row.role ≡ call → task_of script S t ≡ option_map call_task call → P (decision_of_row script S t (Some row) (option_map call_task call))
+  call-acts row None h called task = idle-acts h.rows (rests task)
+  call-acts row (Some dfc) h called task = by (nat_lt dfc 64) refl
     where
-      by : (declared : Bool) → P (decision_of_row script S t (Some row) (Some (if declared then RunDfc dfc else Bury dfc)))
-      by true =
+      by : (declared : Bool) → nat_lt dfc 64 ≡ declared → P (decision_of_row script S t (Some row) (Some (if declared then RunDfc dfc else Bury dfc)))
+      by true few =
           let light = light-body script S t (Deferred dfc) h.shaped (sane-of script S t row h.rows h.is) in
-          each.plainly _ (record { goes = goes-light script S t _ h.rows light; regular = regular-moves (run_body script t S (Deferred dfc)) (run-named (slice_get script.dfcs dfc)) refl light.calm })
-      by false = plain-by (bury script S dfc) h.paid (fits-bury script S t dfc h.rows (record { thread = ap is_some h.is; going = ap (λ (r : Option ThreadRow). is_returning (part_of r)) h.is ∙ h.going }))
+          each.plainly _ (calls row dfc h.is called few refl) (record { goes = goes-light script S t _ h.rows light; regular = regular-moves (run_body script t S (Deferred dfc)) (run-named (slice_get script.dfcs dfc)) refl light.calm })
+      by false few = plain-by (bury script S dfc) refl h.paid (fits-bury script S t dfc h.rows (record { thread = ap is_some h.is; going = ap (λ (r : Option ThreadRow). is_returning (part_of r)) h.is ∙ h.going }))
 
   -- what a live thread does of its own
   own-acts : (row : ThreadRow) (at : Option Instr) → row.stage ≡ Live → instruction script row ≡ at → IsActing script S t row → P (decision_of_task script S t row (step_or_end (is_protected S.synchronization.nano t) at))
   own-acts row None live e h = end-acts row (is_protected S.synchronization.nano t) h live refl
   own-acts row (Some instr) live e h =
-      each.steps row instr h.is live h.going e (goes_by script S t (step_of script S t row instr row.part) h.paid (fits-step script S t row instr row.part (stepping script S t row instr h.shaped h.rows h.is (λ _. live) h.able e h.paid) h.going refl))
+      each.steps row instr h.is live h.going e (goes_by script S t (step_of script S t row instr row.part) h.paid (fits-step script S t row instr row.part (stepping script S t row instr h.shaped h.rows h.is live h.going h.able e h.paid) h.going refl))
 
   -- the work of its closing servers comes first
   work-acts : (row : ThreadRow) (work : List Holding) → row.stage ≡ Live → held_servers S t ≡ work → IsActing script S t row → P (decision_of_task script S t row (work_or work (step_or_end (is_protected S.synchronization.nano t) (instruction script row))))
@@ -187,14 +206,15 @@ module _ (script : Script) (S : State) (t : ObjNo) (P : Decision → Type 0) (ea
       let work = fits-work what rest (record { rows = h.rows; is = h.is; going = h.going }) e in
       each.gives row what work.1 (goes_by script S t (give_up S t row what) h.paid (few work.0))
 
-  live-acts : (row : ThreadRow) (role : Role) (call : Option ℕ) → row.stage ≡ Live → IsActing script S t row → P (decision_of_row script S t (Some row) (live_task role call (work_or (held_servers S t) (step_or_end (is_protected S.synchronization.nano t) (instruction script row)))))
-  live-acts row Supervisor call live h = call-acts row call h
-  live-acts row (Queue queue) call live h = call-acts row call h
-  live-acts row (Declared k) call live h = work-acts row (held_servers S t) live refl h
+  live-acts : (row : ThreadRow) (role : Role) (call : Option ℕ) → row.stage ≡ Live → IsActing script S t row → next_call S.synchronization.deferred row.role ≡ call
+      → task_of script S t ≡ live_task role call (work_or (held_servers S t) (step_or_end (is_protected S.synchronization.nano t) (instruction script row))) → P (decision_of_row script S t (Some row) (live_task role call (work_or (held_servers S t) (step_or_end (is_protected S.synchronization.nano t) (instruction script row)))))
+  live-acts row Supervisor call live h called task = call-acts row call h called task
+  live-acts row (Queue queue) call live h called task = call-acts row call h called task
+  live-acts row (Declared k) call live h called task = work-acts row (held_servers S t) live refl h
 
   -- what a doomed one does
   dying-acts : (row : ThreadRow) (has : List Holding) → row.stage ≡ Doomed → holdings S t row ≡ has → IsActing script S t row → P (decision_of_task script S t row (dying_task has))
-  dying-acts row [] doomed e h = plain-by (clean script S t row) h.paid (fits-clean (is_dying script S t row doomed h) e h.paid)
+  dying-acts row [] doomed e h = plain-by (clean script S t row) refl h.paid (fits-clean (is_dying script S t row doomed h) e h.paid)
   dying-acts row (what ∷ rest) doomed e h =
       let given = fits-give_up what rest (is_dying script S t row doomed h) e in
       each.gives row what given.1 (goes_by script S t (give_up S t row what) h.paid given.0)
@@ -203,42 +223,42 @@ module _ (script : Script) (S : State) (t : ObjNo) (P : Decision → Type 0) (ea
   abbrev own_task : ThreadRow → Option Task
   own_task row = live_task row.role (next_call S.synchronization.deferred row.role) (work_or (held_servers S t) (step_or_end (is_protected S.synchronization.nano t) (instruction script row)))
 
-  stage-acts : (row : ThreadRow) (stage : Stage) → row.stage ≡ stage → IsActing script S t row → P (decision_of_row script S t (Some row) (by_stage stage (holdings S t row) (own_task row)))
-  stage-acts row Live live h = live-acts row row.role (next_call S.synchronization.deferred row.role) live h
-  stage-acts row Doomed doomed h = dying-acts row (holdings S t row) doomed refl h
-  stage-acts row Cleaned at h = idle-acts h.rows
-  stage-acts row Buried at h = idle-acts h.rows
+  stage-acts : (row : ThreadRow) (stage : Stage) → row.stage ≡ stage → IsActing script S t row → task_of script S t ≡ by_stage stage (holdings S t row) (own_task row) → P (decision_of_row script S t (Some row) (by_stage stage (holdings S t row) (own_task row)))
+  stage-acts row Live live h task = live-acts row row.role (next_call S.synchronization.deferred row.role) live h refl task
+  stage-acts row Doomed doomed h task = dying-acts row (holdings S t row) doomed refl h
+  stage-acts row Cleaned at h task = idle-acts h.rows (rests task)
+  stage-acts row Buried at h task = idle-acts h.rows (rests task)
 
   -- a thread that comes back from a find is at an instruction
-  row-acts : (row : ThreadRow) (returns : Bool) (at : Option Instr) (owed : List Owed) → IsShaped script → AreRows script S → thread_of S t ≡ Some row → IsAble S t row → is_returning row.part ≡ returns → instruction script row ≡ at → owed_of S t ≡ owed
-      → P (decision_of_row script S t (Some row) (return_or returns at (pay_or (first_of owed) (by_stage row.stage (holdings S t row) (own_task row)))))
-  row-acts row true (Some instr) owed shaped rows is able r e o =
+  row-acts : (row : ThreadRow) (returns : Bool) (at : Option Instr) (owed : List Owed) → IsShaped script → AreRows script S → thread_of S t ≡ Some row → (is_returning row.part ≡ false → IsAble S t row) → is_returning row.part ≡ returns → instruction script row ≡ at → owed_of S t ≡ owed
+      → task_of script S t ≡ return_or returns at (pay_or (first_of owed) (by_stage row.stage (holdings S t row) (own_task row))) → P (decision_of_row script S t (Some row) (return_or returns at (pay_or (first_of owed) (by_stage row.stage (holdings S t row) (own_task row)))))
+  row-acts row true (Some instr) owed shaped rows is able r e o task =
       let nothing = rows.references.duties.returns t.0 (ap (λ (x : Option ThreadRow). is_returning (part_of x)) is ∙ r) in
-      each.returns row instr is e (goes_by script S t (return_of S t row instr) nothing (few (fits-returning script S t row instr (stepping script S t row instr shaped rows is (λ going. absurd (cc)) able e nothing) (returning_before row.part r))))
-  row-acts row true None owed shaped rows is able r e o = absurd (nothing_past (instructions_of script row.role) row.next_instruction ((rows.references.threads.rows t.0 row is).returns r) e)
-  row-acts row false at (what ∷ rest) shaped rows is able r e o = each.pays what rest o
-  row-acts row false at [] shaped rows is able r e o = stage-acts row row.stage refl (record { shaped = shaped; rows = rows; is = is; able = able; going = r; paid = o })
+      each.returns row instr is r e (goes_by script S t (return_of S t row instr) nothing (few (fits-returning script S t row instr rows is r)))
+  row-acts row true None owed shaped rows is able r e o task = absurd (nothing_past (instructions_of script row.role) row.next_instruction ((rows.references.threads.rows t.0 row is).returns r) e)
+  row-acts row false at (what ∷ rest) shaped rows is able r e o task = each.pays what rest o
+  row-acts row false at [] shaped rows is able r e o task = stage-acts row row.stage refl (record { shaped = shaped; rows = rows; is = is; able = able r; going = r; paid = o }) task
 
   -- the thread of this row, if there is one
-  able-acts : (row : Option ThreadRow) → IsShaped script → AreRows script S → thread_of S t ≡ row → is_able script S t ≡ true → P (decision_of_row script S t row (task_of_row script S t row))
-  able-acts None shaped rows is able = idle-acts rows
-  able-acts (Some row) shaped rows is able = row-acts row (is_returning row.part) (instruction script row) (owed_of S t) shaped rows is (able_is script S t row is able) refl refl refl
+  able-acts : (row : Option ThreadRow) → IsShaped script → AreRows script S → thread_of S t ≡ row → may_act script S t ≡ true → P (decision_of_row script S t row (task_of_row script S t row))
+  able-acts None shaped rows is able = idle-acts rows (rests (ap (task_of_row script S t) is))
+  able-acts (Some row) shaped rows is able = row-acts row (is_returning row.part) (instruction script row) (owed_of S t) shaped rows is (may_is script S t row is able) refl refl refl (ap (task_of_row script S t) is)
 
-  -- one that isn't able does nothing
-  acts : (able : Bool) → IsShaped script → AreRows script S → is_able script S t ≡ able → P (decision_where script able S t (task_of script S t))
-  acts false shaped rows able = idle-acts rows
-  acts true shaped rows able = able-acts (thread_of S t) shaped rows refl able
+  -- one that may not act does nothing
+  each-able : (able : Bool) → IsShaped script → AreRows script S → may_act script S t ≡ able → P (decision_where script able S t (task_of script S t))
+  each-able false shaped rows able = idle-acts rows (stops able)
+  each-able true shaped rows able = able-acts (thread_of S t) shaped rows refl able
 
   -- what a thread does in its next action, by what it is
   pub each-action : IsShaped script → AreRows script S → P (decision_of script S t)
-  each-action shaped rows = acts (is_able script S t) shaped rows refl
+  each-action shaped rows = each-able (may_act script S t) shaped rows refl
 
 -- each is regular for some kind
 pub regular-action : (script : Script) (S : State) (t : ObjNo) → IsShaped script → AreRows script S → (k : Kinds) × IsRegular k script S t (decision_of script S t)
 regular-action script S t shaped rows = each-action script S t (λ (d : Decision). (k : Kinds) × IsRegular k script S t d) (record {
-  plainly = λ d fits. (plain, fits.regular);
+  plainly = λ d why fits. (plain, fits.regular);
   steps = λ row instr is live going at fits. (kind_of instr row.part, fits.regular);
-  returns = λ row instr is at fits. (looking, fits.regular);
+  returns = λ row instr is back at fits. (looking, fits.regular);
   gives = λ row what given fits. (kind_given what, fits.regular);
   pays = λ what rest owes. (plain, regular-pay what);
 }) shaped rows
@@ -250,13 +270,13 @@ of_action script S t P shaped rows goes pays none = elim (cases_lt t.0 (length S
   | inl within ↦
       let sane : Sane script t S = record { rows = rows; inside = within } in
       each-action script S t (λ (d : Decision). P d.moves) (record {
-        plainly = λ d fits. goes d.moves sane fits.goes;
+        plainly = λ d why fits. goes d.moves sane fits.goes;
         steps = λ row instr is live going at fits. goes (step_of script S t row instr row.part).moves sane fits.goes;
-        returns = λ row instr is at fits. goes (return_of S t row instr).moves sane fits.goes;
+        returns = λ row instr is back at fits. goes (return_of S t row instr).moves sane fits.goes;
         gives = λ row what given fits. goes (give_up S t row what).moves sane fits.goes;
         pays = λ what rest owes. pays what rest sane owes;
       }) shaped rows
-  | inr past ↦ subst P (sym (no_thread script S t (get_or_past S.references.threads t.0 None past) (is_able script S t))) none
+  | inr past ↦ subst P (sym (no_thread script S t (get_or_past S.references.threads t.0 None past) (may_act script S t))) none
 ]
   where
     no_thread : (script : Script) (S : State) (t : ObjNo) → thread_of S t ≡ None → (able : Bool) → (decision_where script able S t (task_of script S t)).moves ≡ []
@@ -270,9 +290,9 @@ fits_goes script S t ms goes = record { each = goes.each; few = goes.few; told =
 -- what a thread does in its next action: moves that fit, or it pays the oldest of what it owes
 pub fits-action : (script : Script) (S : State) (t : ObjNo) → IsShaped script → AreRows script S → Fits script t (decision_of script S t).moves S ⊎ Pays S t (decision_of script S t).moves
 fits-action script S t shaped rows = each-action script S t (λ (d : Decision). Fits script t d.moves S ⊎ Pays S t d.moves) (record {
-  plainly = λ d fits. inl (fits_goes script S t d.moves fits.goes);
+  plainly = λ d why fits. inl (fits_goes script S t d.moves fits.goes);
   steps = λ row instr is live going at fits. inl (fits_goes script S t (step_of script S t row instr row.part).moves fits.goes);
-  returns = λ row instr is at fits. inl (fits_goes script S t (return_of S t row instr).moves fits.goes);
+  returns = λ row instr is back at fits. inl (fits_goes script S t (return_of S t row instr).moves fits.goes);
   gives = λ row what given fits. inl (fits_goes script S t (give_up S t row what).moves fits.goes);
   pays = λ what rest owes. inr (record { what = what; rest = rest; moves = refl; owes = owes });
 }) shaped rows

@@ -45,7 +45,7 @@ use Rattle.move_laws.proofs.RowLaws.Declared.{dfc_inside, idfc_inside, queue_ins
 use Rattle.machine_laws.proofs.Fitting.Stepping.{fits-both}
 use Rattle.machine_laws.proofs.Fitting.Uncalled.{is_uncalled}
 use Rattle.machine_laws.proofs.Fitting.Waiters.{waits_nowhere}
-use Rattle.machine_laws.proofs.Fitting.Regular.{IsTame, Kinds, plain}
+use Rattle.machine_laws.proofs.Fitting.Regular.{IsTame, Kinds, loss_bit, plain}
 use Rattle.machine_laws.proofs.Fitting.Tame.{tame-both, tame-moves}
 
 -- the moves fit one by one, what they may owe has room, and they tell at most four effects
@@ -60,6 +60,15 @@ pub record OwesNothing (k : Kinds) (script : Script) (t : ObjNo) (S : State) (ms
   pub told : total most_told ms ≤ most
   pub light : total most_owed ms ≡ 0
   pub calm : IsTame k 0 ms
+
+-- so none of them gives a reference up
+losses-owe : (ms : List Move) → total loss_bit ms ≤ total most_owed ms
+losses-owe [] = omega arith
+losses-owe (move.Lose h o ∷ ms) = let rest = losses-owe ms in omega arith
+losses-owe (m ∷ ms) = let rest = losses-owe ms in omega arith
+
+pub light_loses : {k : Kinds} {script : Script} {t : ObjNo} {S : State} {ms : List Move} {most : ℕ} → OwesNothing k script t S ms most → total loss_bit ms ≡ 0
+light_loses {ms = ms} h = let few = losses-owe ms in let none = h.light in omega arith
 
 -- there is room for what they owe
 pub light_few : (script : Script) (S : State) (t : ObjNo) (ms : List Move) → AreRows script S → total most_owed ms ≡ 0 → total weight (owed_of S t) + total most_owed ms ≤ 12
@@ -77,7 +86,7 @@ light-then script S t xs ys n m most fits h more =
     let too = more.told in
     let light = h.light in
     let lighter = more.light in
-    record { each = fits-both script S t xs ys h.each more.each; told = omega arith; light = omega arith; calm = tame-both xs ys h.calm more.calm }
+    record { each = fits-both script S t xs ys h.each more.each; told = omega arith; light = omega arith; calm = tame-both xs ys (let none = light_loses h in let few = more.calm.loses in omega arith) h.calm more.calm }
 
 -- the thread that acts is there still, and the rows are rows
 pub sane-light : {k : Kinds} (script : Script) (S : State) (t : ObjNo) (ms : List Move) (n : ℕ) → OwesNothing k script t S ms n → Sane script t S → Sane script t (perform t ms S)

@@ -1,6 +1,6 @@
 -- What closing a handle does fits: a server begins to close, an open session is disconnected, and the handle goes.
 use Rattle.std.proofs.Common.{◌≡◌, ℕ, ◌+◌, ◌<◌, ◌≤◌, List, [], ◌∷◌, ◌++◌, length, get_or, arith, refl, sym, ap, subst, ◌∙◌, Option, Some, None, Bool, true, false}
-use Rattle.std.specs.Prelude.{is_some, option_map, if◌then◌else◌}
+use Rattle.std.specs.Prelude.{is_some, not, option_map, if◌then◌else◌, ◌&&◌, ◌==◌}
 use Rattle.std.proofs.lemmas.List.{length-append}
 use Rattle.sym_base.specs.declared.number.ObjNo.{ObjNo}
 use Rattle.script_types.specs.declared.script.Script.{Script}
@@ -29,18 +29,19 @@ use Rattle.machine.specs.Fits.{IsOwn, EachFits, FitsMove, Holds, most_owed}
 use Rattle.machine.specs.FitsServers.{HasNumber, HasSpare}
 use Rattle.machine.specs.Messaging.{disconnects, no_args, open_server, slots_of}
 use Rattle.machine.specs.Moves.{closed_effects, moved, tell, told, with_waiting}
-use Rattle.machine.specs.References.{count_of, dies, kernel_holds, message_names, option_names, same, slot_names, total}
+use Rattle.machine.specs.References.{count_of, kernel_holds, message_names, option_names, same, slot_names, total}
+use Rattle.machine.specs.Kept.{dies, is_kept}
 use Rattle.machine.specs.Rows.{table_of, thread_of}
 use Rattle.machine.specs.Serving.{open_bit, session_bit}
-use Rattle.machine.specs.Task.{is_returning}
-use Rattle.machine.specs.WellFormed.{AreRows, part_of}
+use Rattle.machine.specs.Out.{is_returning, part_of}
+use Rattle.machine.specs.WellFormed.{AreRows}
 use Rattle.move_laws.proofs.Lists.Mapped.{mapped-some, mapped-value, none_of}
 use Rattle.move_laws.proofs.Lists.Totals.{total-append, total-with, total_at_least}
 use Rattle.move_laws.proofs.Numbers.FewEffects.{tell_few}
 use Rattle.move_laws.proofs.References.Same.{eqb_apart, same_self}
 use Rattle.move_laws.proofs.RowLaws.Declared.{all-both}
 use Rattle.move_laws.proofs.RowLaws.Tables.{slot_inside, table_inside}
-use Rattle.machine_laws.proofs.Fitting.Living.{handle_is_alive}
+use Rattle.machine_laws.proofs.Fitting.Living.{handle_is_counted, thread_is_counted}
 use Rattle.machine_laws.proofs.Fitting.Posting.{MayPost, accepted_fits, of_wake, open_session, posted, stay-post, woken_fits}
 use Rattle.machine_laws.proofs.Fitting.Staying.{AllStay, Stays, stays-lose, stays-servers}
 use Rattle.machine_laws.proofs.Fitting.Regular.{IsTame, calling}
@@ -82,6 +83,10 @@ pub record MayClose (script : Script) (S : State) (t : ObjNo) : Type 0 where
 part_going : {script : Script} {S : State} {t : ObjNo} → MayClose script S t → is_returning (part_of (thread_of S t)) ≡ false
 part_going h = ap (λ (r : Option ThreadRow). is_returning (part_of r)) h.is ∙ h.going
 
+stays_with : (one kept : Bool) → one ≡ false → (one && not kept) ≡ false
+stays_with true kept e = absurd (cc)
+stays_with false kept e = refl
+
 -- an object with a handle and a message has two references
 two_references : (S : State) (owner o : ObjNo) (i : ℕ) → (slot_at (table_of S owner) i).object ≡ Some o → 0 < total (message_names o) S.serving.messages.outstanding → dies S o ≡ false
 two_references S owner o i is message =
@@ -90,7 +95,7 @@ two_references S owner o i is message =
     let self = same_self o in
     let inner = total_at_least (slot_names o) (table_of S owner) i fresh_slot within in
     let outer = total_at_least (total (slot_names o)) S.references.handles owner.0 [] (table_inside S.references.handles owner.0 i within) in
-    eqb_apart (count_of S o) 1 (λ one. absurd (omega arith))
+    stays_with (count_of S o == 1) (is_kept S o) (eqb_apart (count_of S o) 1 (λ one. absurd (omega arith)))
 
 -- what moves tell, by their first
 told_then : (t : ObjNo) (m : Move) (ms : List Move) (S : State) (n k : ℕ) → length (told m S) ≤ n → length (tell t ms (moved t m S)) ≤ k → length (tell t (m ∷ ms) S) ≤ n + k
@@ -151,7 +156,8 @@ module _ (script : Script) (S : State) (t : ObjNo) (h : Holder) (o : ObjNo) (may
     waits = may.waits;
     held = may.held;
     accepts = accepts;
-    alive = handle_is_alive S handle.owner handle.index o may.rows.lives handle.slot;
+    counted = handle_is_counted closing handle.owner handle.index o handle.slot;
+    client = thread_is_counted closing t may.row may.is may.held;
     objects = refl;
     locks = refl;
     messages = refl;

@@ -1,5 +1,5 @@
 -- The steps of `read` and `write`.
-use Rattle.std.proofs.Common.{◌≡◌, ℕ, ◌≤◌, [], ◌∷◌, arith, refl, sym, subst, ap, ◌∙◌, Option, Some, None, Bool, true, false}
+use Rattle.std.proofs.Common.{◌≡◌, ℕ, ◌≤◌, [], ◌∷◌, arith, refl, sym, ap, ◌∙◌, Option, Some, None, Bool, true, false}
 use Rattle.std.specs.Prelude.{◌&&◌, if◌then◌else◌, option_map, slice_index, IsTrue}
 use Rattle.std.proofs.lemmas.Bool.{and_parts}
 use Rattle.sym_base.specs.declared.error.Error.TheVariants as error
@@ -37,7 +37,7 @@ use Rattle.machine.specs.declared.moves.Move.TheVariants.{Copies}
 use Rattle.machine.specs.declared.state.State.{State}
 use Rattle.machine_laws.proofs.Fitting.Finishing.{at_number}
 use Rattle.machine_laws.proofs.Fitting.Servers.{taken_is}
-use Rattle.machine_laws.proofs.Fitting.Stepping.{FitsDecision, IsStepping, fits-answers, fits-nothing, fits-refuse, unspent}
+use Rattle.machine_laws.proofs.Fitting.Stepping.{goes-back, is_there, same_row, FitsDecision, IsStepping, fits-answers, fits-nothing, fits-refuse, unspent, ends_in}
 use Rattle.move_laws.proofs.Numbers.Registers.{read_small, write_small}
 use Rattle.machine_laws.proofs.Fitting.Regular.{looking, plain}
 use Rattle.machine_laws.proofs.Fitting.Tame.{may_tell, tame-moves, regular-moves, tame-going}
@@ -45,12 +45,12 @@ use Rattle.machine_laws.proofs.Fitting.Tame.{may_tell, tame-moves, regular-moves
 -- a piece, whatever it answers
 fits-piece : {script : Script} {S : State} {t : ObjNo} {row : ThreadRow} {instr : Instr} (told : Step) (named : may_tell plain told ≡ true) (copy : CopyMove) (piece : Piece) → IsStepping script S t row instr → begun row.part ≡ 0 → FitsCopies copy S → FitsDecision looking script t S (copy_piece t told copy piece)
 fits-piece {row = row} told named copy (More done) h early fits = record {
-  each = (fits, ((record { unused = λ r is e. absurd (cc); paid = λ e. absurd (cc); unspent = unspent h; at = λ e. absurd (cc); ends = λ r is. let same_row : row ≡ r = let a = h.is in cc in subst (λ (x : ThreadRow). begun x.part ≤ 0) same_row (omega arith) }, tt, refl), (refl, tt)));
+  each = (fits, ((record { unused = λ r is e. absurd (cc); going = is_there h; unspent = unspent h; other = refl; ends = same_row h (λ x. begun x.part ≤ 0) (omega arith) }, tt, refl), ((goes-back h part.Piece refl, refl), tt)));
   told = omega arith;
   light = omega arith;
   regular = regular-moves _ named refl (tame-going _ refl refl refl);
 }
-fits-piece {row = row} told named copy (Whole size) h early fits = fits-answers told named (Copies copy ∷ []) (whole_answer copy size) (tame-moves _ refl refl) (fits, tt) (record { row = row; is = h.is; next = h.next }) (omega arith) (omega arith)
+fits-piece {row = row} told named copy (Whole size) h early fits = fits-answers told named (Copies copy ∷ []) (whole_answer copy size) (tame-moves _ refl refl) (fits, tt) (ends_in h refl) (omega arith) (omega arith)
 fits-piece told named copy BadDescriptor h early fits = fits-refuse told named error.BadDescriptor h
 fits-piece told named copy Argument h early fits = fits-refuse told named error.Argument h
 fits-piece told named copy Overflow h early fits = fits-refuse told named error.Overflow h

@@ -38,7 +38,7 @@ use Rattle.machine.specs.Fits.{FitsMove, most_owed, most_told}
 use Rattle.machine.specs.LogonCalls.{logon_do, logon_move, logon_row, logon_step, reason_of}
 use Rattle.machine.specs.Moves.{moved}
 use Rattle.machine.specs.Rows.{thread_of}
-use Rattle.machine.specs.Task.{is_returning}
+use Rattle.machine.specs.Out.{is_returning}
 use Rattle.machine.specs.ThreadCalls.{refusal_of, refusal_of_role, unless_live}
 use Rattle.machine.specs.WellFormed.{AreLogons, AreRequests, AreRows, IsAwaited, is_before_use, is_spent, times_logged}
 use Rattle.move_laws.proofs.Lists.Cases.{if_cases}
@@ -47,7 +47,7 @@ use Rattle.move_laws.proofs.Numbers.Registers.{logon_small}
 use Rattle.machine_laws.proofs.Fitting.Dooms.{GoOnAfter, after-doom, fits-after, may_die, unprotected_unheld}
 use Rattle.machine_laws.proofs.Fitting.KernelThreads.{fits-answer, fits-look_kind}
 use Rattle.machine_laws.proofs.Fitting.Uncalled.{not_sent}
-use Rattle.machine_laws.proofs.Fitting.Stepping.{FitsDecision, IsStepping, at-with_row, fits-answers, fits-nothing, fits-refuse, has_signals, live_thread}
+use Rattle.machine_laws.proofs.Fitting.Stepping.{FitsDecision, IsStepping, at-with_row, fits-answers, fits-nothing, fits-refuse, has_signals, live_thread, ends_in}
 use Rattle.machine_laws.proofs.Fitting.Regular.{IsTame, looking, plain}
 use Rattle.machine_laws.proofs.Fitting.Tame.{may_tell, regular-moves, tame-both, tame-in, tame-moves}
 
@@ -70,7 +70,7 @@ after-doom_or_note script S t u row exit rows is live =
     if_cases (GoOnAfter script S t) (is_protected S.synchronization.nano u) _ _
     (λ _. record {
       each = (tt, tt);
-      at = at-with_row script S (moved t (move.Death (Note u exit)) S) t u (death_row (Note u exit)) (record { role = λ r. refl; next = λ r. refl }) refl;
+      at = at-with_row script S (moved t (move.Death (Note u exit)) S) t u (death_row (Note u exit)) (record { role = λ r. refl; next = λ r. refl; going = λ r e. e }) refl;
       told = omega arith;
       light = refl;
       calm = tame-moves _ refl refl;
@@ -108,7 +108,7 @@ pub fits-exit : {script : Script} {S : State} {t : ObjNo} {row : ThreadRow} {ins
 fits-exit {script = script} {S = S} {t = t} {row = row} reason h going =
     if_cases (FitsDecision looking script t S) (is_protected S.synchronization.nano t) _ _ (λ _. fits-refuse (step.Of word.Exit part.Do) refl error.InUse h)
     (λ free.
-    let after = after-doom script S t t (killed reason) (may_die script S t row h.rows h.is (h.live going) (unprotected_unheld S.synchronization.nano t free)) in
+    let after = after-doom script S t t (killed reason) (may_die script S t row h.rows h.is h.live (unprotected_unheld S.synchronization.nano t free)) in
     record { each = after.each; told = let few = after.told in omega arith; light = let none = after.light in omega arith; regular = regular-moves _ refl refl (tame-in after.calm) })
 
 -- a status that comes to be pending is awaited, and no logon has it
@@ -142,14 +142,14 @@ fits-logon_do {script = script} {S = S} {t = t} {row = row} s u r h going small 
     unlogged = not_logged (length S.references.threads) S.synchronization.requests S.synchronization.logons t s h.rows.synchronization.logons done
 
     with : (m : Move) → FitsMove script t m (moved t (move.Requests (SetPending t s)) S) → (moved t m (moved t (move.Requests (SetPending t s)) S)).references.threads ≡ S.references.threads → most_told m ≤ 1 → most_owed m ≡ 0 → IsTame plain 0 (m ∷ []) → FitsDecision looking script t S (answer t (step.Of word.Logon part.Do) (move.Requests (SetPending t s) ∷ m ∷ []) (pos 0))
-    with m fits same few light calm = fits-answers (step.Of word.Logon part.Do) refl (move.Requests (SetPending t s) ∷ m ∷ []) (pos 0) (tame-both (move.Requests (SetPending t s) ∷ []) (m ∷ []) (tame-moves _ refl refl) (tame-in calm)) (((has_signals h, small), tt), (fits, tt))
-        (record { row = row; is = ap (λ (threads : List (Option ThreadRow)). get_or threads t.0 None) same ∙ h.is; next = h.next }) (omega arith) (omega arith)
+    with m fits same few light calm = fits-answers (step.Of word.Logon part.Do) refl (move.Requests (SetPending t s) ∷ m ∷ []) (pos 0) (tame-both (move.Requests (SetPending t s) ∷ []) (m ∷ []) (let few = calm.loses in omega arith) (tame-moves _ refl refl) (tame-in calm)) (((has_signals h, small), tt), (fits, tt))
+        (ends_in h same) (omega arith) (omega arith)
 
     added : is_spent r.stage ≡ false → FitsDecision looking script t S (answer t (step.Of word.Logon part.Do) (move.Requests (SetPending t s) ∷ move.Logons (Add u t s) ∷ []) (pos 0))
-    added unspent = with (move.Logons (Add u t s)) (inside S.references.threads u.0 r is, awaited, unlogged, not_sent script S t s h.rows done, live_thread h going, λ x at. let same : r ≡ x = (let a = is in cc) in subst (λ (y : ThreadRow). is_spent y.stage ≡ false) same unspent, ap is_some is) refl (omega arith) refl (tame-moves _ refl refl)
+    added unspent = with (move.Logons (Add u t s)) (inside S.references.threads u.0 r is, awaited, unlogged, not_sent script S t s h.rows done, live_thread h, λ x at. let same : r ≡ x = (let a = is in cc) in subst (λ (y : ThreadRow). is_spent y.stage ≡ false) same unspent, ap is_some is) refl (omega arith) refl (tame-moves _ refl refl)
 
     signalled : FitsDecision looking script t S (answer t (step.Of word.Logon part.Do) (move.Requests (SetPending t s) ∷ move.Requests (Signal t s (reason_of r.exit)) ∷ []) (pos 0))
-    signalled = with (move.Requests (Signal t s (reason_of r.exit))) ((awaited, unlogged), (live_thread h going, not_sent script S t s h.rows done)) refl (omega arith) refl (tame-moves _ refl refl)
+    signalled = with (move.Requests (Signal t s (reason_of r.exit))) ((awaited, unlogged), (live_thread h, not_sent script S t s h.rows done)) refl (omega arith) refl (tame-moves _ refl refl)
 
     by : (stage : Stage) → r.stage ≡ stage → FitsDecision looking script t S (answer t (step.Of word.Logon part.Do) (move.Requests (SetPending t s) ∷ logon_move t u s r.exit stage ∷ []) (pos 0))
     by Live at = added (ap is_spent at)

@@ -32,21 +32,21 @@ use Rattle.machine.specs.DeathMoves.{death_row}
 use Rattle.machine.specs.Decide.{answer}
 use Rattle.machine.specs.Dooms.{doom, doom_noted, doom_where, end, killed, noted_of}
 use Rattle.machine.specs.FastMutex.{funlock_do}
-use Rattle.machine.specs.Fits.{EachFits, FitsMove, IsAtInstruction, most_owed, most_told}
+use Rattle.machine.specs.Fits.{EachFits, FitsMove, most_owed, most_told}
 use Rattle.machine.specs.Moves.{moved, perform}
 use Rattle.machine.specs.References.{total}
 use Rattle.machine.specs.Rows.{thread_of}
 use Rattle.machine.specs.ServerMoves.{owned_by}
 use Rattle.machine.specs.Serving.{times_owned}
 use Rattle.state_rows.specs.ServerRows.{IsServer}
-use Rattle.machine.specs.Task.{is_returning}
+use Rattle.machine.specs.Out.{is_returning}
 use Rattle.machine.specs.WellFormed.{AreRows}
 use Rattle.move_laws.proofs.Lists.Cases.{if_cases}
 use Rattle.move_laws.proofs.Lists.Totals.{inside}
 use Rattle.move_laws.proofs.Numbers.FewEffects.{nano-tells}
 use Rattle.machine_laws.proofs.Fitting.ClosingServers.{closed_all, owned_server}
 use Rattle.machine_laws.proofs.Fitting.KernelThreads.{held_holder, mutex_inside, none_is, none_of}
-use Rattle.machine_laws.proofs.Fitting.Stepping.{FitsDecision, IsStepping, at_instruction, at-with_row, fits-answers, fits-refuse, has_signals}
+use Rattle.machine_laws.proofs.Fitting.Stepping.{FitsDecision, IsStepping, at-with_row, fits-answers, fits-refuse, has_signals, MayEndStep, ends_here, ends_in}
 use Rattle.machine_laws.proofs.Fitting.Waiters.{without_apart}
 use Rattle.move_laws.proofs.RowLaws.Awaited.{dropped_none, undropped}
 use Rattle.machine_laws.proofs.Fitting.Regular.{IsRegular, IsTame, looking, plain}
@@ -85,13 +85,13 @@ each-doom script S t u exit h =
     (there, ((there, tt), ((h.signals, tt), (within, (tt, ((record { row = h.row; is = h.is; at = h.live }, h.unheld, λ o. left_nowhere S.synchronization.locks.waiters u o.0, record { requests = λ d request is at. dropped_none u S.synchronization.requests.devices d request is at; logons = λ s. undropped u s S.synchronization.logons }, λ o some. closed_all (owned_by S.serving.owned u) S.serving.servers o (h.servers o some) some), tt))))))
 
 -- and leave a thread at its instruction
-doomed_at : (script : Script) (S : State) (t u : ObjNo) (exit : Exit) → IsAtInstruction script S t → IsAtInstruction script (perform t (doom u exit) S) t
-doomed_at script S t u exit at = at-with_row script S (perform t (doom u exit) S) t u (death_row (Doom u exit)) (record { role = λ r. refl; next = λ r. refl }) refl at
+doomed_at : (script : Script) (S : State) (t u : ObjNo) (exit : Exit) → MayEndStep script S t → MayEndStep script (perform t (doom u exit) S) t
+doomed_at script S t u exit at = at-with_row script S (perform t (doom u exit) S) t u (death_row (Doom u exit)) (record { role = λ r. refl; next = λ r. refl; going = λ r e. e }) refl at
 
 -- moves that fit, leave a thread at its instruction, tell one effect at most, owe nothing and are tame
 pub record GoOnAfter (script : Script) (S : State) (t : ObjNo) (ms : List Move) : Type 0 where
   pub each : EachFits script t ms S
-  pub at : IsAtInstruction script S t → IsAtInstruction script (perform t ms S) t
+  pub at : MayEndStep script S t → MayEndStep script (perform t ms S) t
   pub told : total most_told ms ≤ 1
   pub light : total most_owed ms ≡ 0
   pub calm : IsTame plain 0 ms
@@ -112,7 +112,7 @@ after-where script S t unprotected noted h = if_cases (GoOnAfter script S t) unp
 
 -- an answer after such moves
 pub fits-after : {script : Script} {S : State} {t : ObjNo} {row : ThreadRow} {instr : Instr} (told : Step) (named : may_tell plain told ≡ true) (ms : List Move) → IsStepping script S t row instr → GoOnAfter script S t ms → FitsDecision looking script t S (answer t told ms (pos 0))
-fits-after told named ms h after = fits-answers told named ms (pos 0) (tame-in after.calm) after.each (after.at (at_instruction h)) (let few = after.told in omega arith) (let none = after.light in omega arith)
+fits-after told named ms h after = fits-answers told named ms (pos 0) (tame-in after.calm) after.each (after.at (ends_here h)) (let few = after.told in omega arith) (let none = after.light in omega arith)
 
 -- an answer after a change of the rows of threads that synchronize, and the doom that may follow it
 fits-then_dies : {script : Script} {S : State} {t : ObjNo} {row : ThreadRow} {instr : Instr} (told : Step) (named : may_tell plain told ≡ true) (m : NanoMove) (unprotected : Bool) → IsStepping script S t row instr → FitsMove script t (move.Nano m) S → (unprotected ≡ true → MayDie (moved t (move.Nano m) S) t)
@@ -122,7 +122,7 @@ fits-then_dies {script = script} {S = S} {t = t} {row = row} told named m unprot
     let one = nano-tells m in
     let few = after.told in
     let none = after.light in
-    fits-answers told named (move.Nano m ∷ doom_where unprotected t (noted_of S t)) (pos 0) (tame-both (move.Nano m ∷ []) (doom_where unprotected t (noted_of S t)) (tame-moves _ refl refl) (tame-in after.calm)) (fits, after.each) (after.at (record { row = row; is = h.is; next = h.next })) (omega arith) (omega arith)
+    fits-answers told named (move.Nano m ∷ doom_where unprotected t (noted_of S t)) (pos 0) (tame-both (move.Nano m ∷ []) (doom_where unprotected t (noted_of S t)) (let few = after.calm.loses in omega arith) (tame-moves _ refl refl) (tame-in after.calm)) (fits, after.each) (after.at (ends_in h refl)) (omega arith) (omega arith)
 
 -- whoever gives a fast mutex up holds none then
 gives_unheld : (script : Script) (S : State) (t : ObjNo) (f : ℕ) → AreRows script S → f < length S.synchronization.nano.holders → holder_of S.synchronization.nano f ≡ Some t → held_by (after_give S.synchronization.nano t f) t ≡ None
@@ -140,7 +140,7 @@ fits-funlock {script = script} {S = S} {t = t} {row = row} f h going =
     given : f < length S.synchronization.nano.holders → holder_of S.synchronization.nano f ≡ Some t → FitsDecision looking script t S (answer t (step.Of word.Funlock part.Do) (move.Nano (nano.Give t f) ∷ doom_where (critical_count S.synchronization.nano t == 0) t (noted_of S t)) (pos 0))
     given known holds =
         fits-then_dies (step.Of word.Funlock part.Do) refl (nano.Give t f) (critical_count S.synchronization.nano t == 0) h (ap is_some h.is, (known, holds))
-        (λ _. record { row = row; is = h.is; live = h.live going; signals = has_signals h; unheld = gives_unheld script S t f h.rows known holds; servers = owned_server script S t h.rows })
+        (λ _. record { row = row; is = h.is; live = h.live; signals = has_signals h; unheld = gives_unheld script S t f h.rows known holds; servers = owned_server script S t h.rows })
 
 -- `leave`
 pub fits-leave : {script : Script} {S : State} {t : ObjNo} {row : ThreadRow} {instr : Instr} → IsStepping script S t row instr → is_returning row.part ≡ false → FitsDecision looking script t S (leave_do S t)
@@ -148,7 +148,7 @@ fits-leave {script = script} {S = S} {t = t} {row = row} h going =
     if_cases (FitsDecision looking script t S) (critical_count S.synchronization.nano t == 0) _ _
     (λ _. fits-refuse (step.Of word.Leave part.Do) refl error.General h)
     (λ _. fits-then_dies (step.Of word.Leave part.Do) refl (nano.Leave t) (is_unprotected S t) h (ap is_some h.is, tt)
-    (λ free. record { row = row; is = h.is; live = h.live going; signals = has_signals h; unheld = none_is (held_by S.synchronization.nano t) (and_parts (critical_count S.synchronization.nano t == 1) (is_none (held_by S.synchronization.nano t)) free).1; servers = owned_server script S t h.rows }))
+    (λ free. record { row = row; is = h.is; live = h.live; signals = has_signals h; unheld = none_is (held_by S.synchronization.nano t) (and_parts (critical_count S.synchronization.nano t == 1) (is_none (held_by S.synchronization.nano t)) free).1; servers = owned_server script S t h.rows }))
 
 -- at its list's end a thread gives up what protects it
 pub fits-flush : (script : Script) (S : State) (t : ObjNo) (row : ThreadRow) → AreRows script S → thread_of S t ≡ Some row → row.stage ≡ Live → FitsDecision plain script t S (flush S t)
@@ -161,8 +161,8 @@ fits-flush script S t row rows is live = given (held_by S.synchronization.nano t
     within = let lt = inside S.references.threads t.0 row is in let long = rows.synchronization.requests.sized in omega arith
 
     flushed : (held : Option ℕ) → IsTame plain 0 (doom_noted t (noted_of S t)) → IsRegular plain script S t (record { step = step.Flush; moves = give_held t held ++ move.Nano (nano.LeaveAll t) ∷ doom_noted t (noted_of S t); answer = None })
-    flushed None calm = regular-moves _ refl refl (tame-both (move.Nano (nano.LeaveAll t) ∷ []) (doom_noted t (noted_of S t)) (tame-moves _ refl refl) calm)
-    flushed (Some f) calm = regular-moves _ refl refl (tame-both (move.Nano (nano.Give t f) ∷ move.Nano (nano.LeaveAll t) ∷ []) (doom_noted t (noted_of S t)) (tame-moves _ refl refl) calm)
+    flushed None calm = regular-moves _ refl refl (tame-both (move.Nano (nano.LeaveAll t) ∷ []) (doom_noted t (noted_of S t)) (let few = calm.loses in omega arith) (tame-moves _ refl refl) calm)
+    flushed (Some f) calm = regular-moves _ refl refl (tame-both (move.Nano (nano.Give t f) ∷ move.Nano (nano.LeaveAll t) ∷ []) (doom_noted t (noted_of S t)) (let few = calm.loses in omega arith) (tame-moves _ refl refl) calm)
 
     given : (held : Option ℕ) → held_by S.synchronization.nano t ≡ held → FitsDecision plain script t S (record { step = step.Flush; moves = give_held t held ++ move.Nano (nano.LeaveAll t) ∷ doom_noted t (noted_of S t); answer = None })
     given None e =

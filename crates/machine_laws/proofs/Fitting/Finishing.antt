@@ -35,7 +35,7 @@ use Rattle.move_laws.proofs.Lists.Totals.{inside}
 use Rattle.move_laws.proofs.RowLaws.Rising.{one_goes}
 use Rattle.machine_laws.proofs.Fitting.Bodies.{OwesNothing, light-end, light-then, no_moves}
 use Rattle.machine_laws.proofs.Fitting.Waiters.{waits_nowhere}
-use Rattle.machine_laws.proofs.Fitting.Regular.{IsTame, Kinds, serving}
+use Rattle.machine_laws.proofs.Fitting.Regular.{IsTame, Kinds, plain, serving}
 use Rattle.machine_laws.proofs.Fitting.Tame.{tame-at, tame-both, tame-moves}
 use Rattle.machine.specs.Bodies.{end_wait, ends_wait}
 
@@ -61,7 +61,7 @@ tame-end S u s None = tame-moves [] refl refl
 tame-end {k = k} S u s (Some row) = if_cases (IsTame k 0) (ends_wait S u s row.waiting) _ _ (λ _. tame-moves _ refl refl) (λ _. tame-moves [] refl refl)
 
 tame-reply : {k : Kinds} (S : State) (u : ObjNo) (row : ThreadRow) (code : ℤ) (way : Way) → IsTame k 0 (reply S u row code way)
-tame-reply S u row code (Async s) = tame-both (Requests (Signal u s code) ∷ []) (end_wait S u s (Some row)) (tame-moves _ refl refl) (tame-end S u s (Some row))
+tame-reply S u row code (Async s) = tame-both (Requests (Signal u s code) ∷ []) (end_wait S u s (Some row)) (let few = (tame-end {k = plain} S u s (Some row)).loses in omega arith) (tame-moves _ refl refl) (tame-end S u s (Some row))
 tame-reply S u row code Sync = tame-moves _ refl refl
 tame-reply S u row code Disconnect = tame-moves [] refl refl
 
@@ -160,5 +160,5 @@ finishes script S t m message code rows may at =
       each = ((ap is_some found, may, tt), more.each);
       told = let few = more.told in omega arith;
       light = let none = more.light in omega arith;
-      calm = tame-both (Messages (Finish message.number code) ∷ []) _ (tame-at serving _ refl refl) more.calm;
+      calm = tame-both (Messages (Finish message.number code) ∷ []) _ (let few = more.calm.loses in omega arith) (tame-at serving _ refl refl) more.calm;
     }

@@ -1,5 +1,5 @@
 -- The steps of each instruction fit, and so do its returns.
-use Rattle.std.proofs.Common.{◌≡◌, length, refl, Option, Some, None, true, false}
+use Rattle.std.proofs.Common.{◌≡◌, length, refl, Option, Some, true, false}
 use Rattle.sym_base.specs.declared.kind.ExitKind.TheVariants as kind
 use Rattle.sym_base.specs.declared.word.Word.TheVariants as word
 use Rattle.sym_base.specs.declared.number.ObjNo.{ObjNo}
@@ -13,10 +13,12 @@ use Rattle.state_rows.specs.declared.thread.ThreadRow.{ThreadRow}
 use Rattle.machine.specs.declared.state.State.{State}
 use Rattle.machine.specs.Dooms.{plain_exit}
 use Rattle.machine.specs.Steps.{step_of, return_of}
-use Rattle.machine.specs.Task.{is_returning}
-use Rattle.machine.specs.WellFormed.{is_before_use}
+use Rattle.machine.specs.Out.{is_returning}
+use Rattle.machine.specs.Rows.{thread_of}
+use Rattle.machine.specs.WellFormed.{AreRows}
 use Rattle.machine_laws.proofs.Fitting.Servers.{fits-complete, fits-function, fits-receive, fits-server}
-use Rattle.machine_laws.proofs.Fitting.Sessions.{fits-call, fits-connect, fits-connect_return, fits-send}
+use Rattle.machine_laws.proofs.Fitting.Sessions.{fits-call, fits-connect, fits-send}
+use Rattle.machine_laws.proofs.Fitting.Shared.{fits-return}
 use Rattle.machine_laws.proofs.Fitting.Stepping.{FitsDecision, FitsStep, IsStepping, by_kinds, fits-nothing}
 use Rattle.machine_laws.proofs.Fitting.KernelThreads.{fits-flock, fits-fswait, fits-fssignal, fits-enter, fits-suspend, fits-resume, fits-priority}
 use Rattle.machine_laws.proofs.Fitting.Regular.{Kinds, kind_of, looking}
@@ -26,7 +28,7 @@ use Rattle.machine_laws.proofs.Fitting.Requests.{fits-queue, fits-request, fits-
 use Rattle.machine_laws.proofs.Fitting.Locks.{fits-lock, fits-unlock, fits-wait, fits-signal}
 use Rattle.machine_laws.proofs.Fitting.Copying.{fits-read, fits-write}
 use Rattle.machine_laws.proofs.Fitting.MemoryCalls.{fits-fill, fits-peek}
-use Rattle.machine_laws.proofs.Fitting.Steps.{fits-create_mutex, fits-create_semaphore, fits-dup, fits-duplocal, fits-open, fits-open_return, fits-close}
+use Rattle.machine_laws.proofs.Fitting.Steps.{fits-create_mutex, fits-create_semaphore, fits-dup, fits-duplocal, fits-open, fits-close}
 
 -- what the kinds of moves say
 pub few : {k : Kinds} {script : Script} {S : State} {t : ObjNo} {d : Decision} → FitsDecision k script t S d → FitsStep k script t S d
@@ -78,12 +80,7 @@ fits-step script S t row (instr.Read y arg offset size from) p h going at = few 
 fits-step script S t row (instr.Write y arg offset size from) p h going at = few (fits-write y arg offset size from p h at)
 
 -- and so do their returns
-pub fits-returning : (script : Script) (S : State) (t : ObjNo) (row : ThreadRow) (instr : Instr) → IsStepping script S t row instr → is_before_use row.part ≡ true → FitsDecision looking script t S (return_of S t row instr)
-fits-returning script S t row (instr.Open kind name x) h before = fits-open_return h before
-fits-returning script S t row (instr.Connect name slots x) h before = fits-connect_return h before
-fits-returning script S t row _ h before = fits-nothing script S t
-
-pub returning_before : (p : Option Part) → is_returning p ≡ true → is_before_use p ≡ true
-returning_before None e = refl
-returning_before (Some part.Return) e = refl
-returning_before (Some _) e = cc
+pub fits-returning : (script : Script) (S : State) (t : ObjNo) (row : ThreadRow) (instr : Instr) → AreRows script S → thread_of S t ≡ Some row → is_returning row.part ≡ true → FitsDecision looking script t S (return_of S t row instr)
+fits-returning script S t row (instr.Open kind name x) rows is returns = fits-return script S t row word.Open part.Do refl refl rows is returns refl tt
+fits-returning script S t row (instr.Connect name slots x) rows is returns = fits-return script S t row word.Connect part.Make refl refl rows is returns refl tt
+fits-returning script S t row _ rows is returns = fits-nothing script S t

@@ -20,7 +20,6 @@ use Rattle.entry_log.specs.declared.step.Step.TheVariants as step
 use Rattle.state_rows.specs.declared.nano.NanoRows.{NanoRows}
 use Rattle.state_rows.specs.Nano.{suspend_count, signal_count, want_of, holder_of, is_thread, is_free, held_by}
 use Rattle.state_rows.proofs.Soundness.{is_thread-true}
-use Rattle.move_laws.proofs.RowLaws.MessagesKept.{begun_one}
 use Rattle.machine.specs.declared.decision.Decision.{Decision}
 use Rattle.machine.specs.declared.moves.Move.{Move}
 use Rattle.machine.specs.declared.moves.Move.TheVariants as move
@@ -41,17 +40,17 @@ use Rattle.machine.specs.FastMutex.{flock_done, flock_step}
 use Rattle.machine.specs.FastSemaphore.{fswait_step, signal_move, signal_thread, signal_found, fssignal_do}
 use Rattle.machine.specs.CriticalSection.{enter_do}
 use Rattle.machine.specs.ThreadCalls.{is_live, unless_live, refusal_of_role, refusal_of, suspend_move, resume_move, move_or_refuse, unless_refused, call_on, suspend_step, resume_step, priority_step}
-use Rattle.machine.specs.Fits.{FitsMove, FitsNano, MayTake, IsAtInstruction}
+use Rattle.machine.specs.Fits.{FitsMove, FitsNano, MayTake}
 use Rattle.machine.specs.WellFormed.{AreRows, is_before_use}
-use Rattle.machine.specs.Task.{is_returning}
+use Rattle.machine.specs.Out.{is_returning}
 use Rattle.move_laws.proofs.Numbers.FewEffects.{nano-tells}
 use Rattle.move_laws.proofs.Lists.Cases.{if_cases}
 use Rattle.move_laws.proofs.Numbers.Registers.{priority_small}
 use Rattle.move_laws.proofs.Holders.ThreadRows.{row-here}
 use Rattle.move_laws.proofs.RowLaws.Tables.{object_of_is}
-use Rattle.machine_laws.proofs.Fitting.Living.{handle_is_alive}
+use Rattle.machine_laws.proofs.Fitting.Living.{handle_is_counted}
 use Rattle.machine_laws.proofs.Fitting.Shared.{IsCheap}
-use Rattle.machine_laws.proofs.Fitting.Stepping.{FitsDecision, IsStepping, fits-nothing, fits-refuse, fits-use, at_instruction, at-with_row, serves_none, live-changed, stepping_live, unspent}
+use Rattle.machine_laws.proofs.Fitting.Stepping.{at_instruction, is_there, FitsDecision, IsStepping, fits-nothing, fits-refuse, fits-use, at-with_row, serves_none, live-changed, stepping_live, MayEndStep, ends_here, last_step, ends_in}
 use Rattle.machine_laws.proofs.Fitting.Uncalled.{is_uncalled, stepping_uncalled}
 use Rattle.machine_laws.proofs.Fitting.Waiters.{waits_nowhere, stepping_nowhere}
 use Rattle.machine_laws.proofs.Fitting.Regular.{Kinds, looking, plain}
@@ -79,12 +78,12 @@ wants_holds_none script S t f rows wants = held (held_by S.synchronization.nano 
 
 -- an answer after no move
 pub fits-answer : {k : Kinds} {script : Script} {S : State} {t : ObjNo} {row : ThreadRow} {instr : Instr} (told : Step) (named : may_tell k told ≡ true) (code : ℤ) → IsStepping script S t row instr → FitsDecision k script t S (answer t told [] code)
-fits-answer told named code h = record { each = ((refl, at_instruction h), tt); told = omega arith; light = omega arith; regular = tame _ named }
+fits-answer told named code h = record { each = ((refl, is_there h, at_instruction h), tt); told = omega arith; light = omega arith; regular = tame _ named }
 
 -- an answer after one move that fits and leaves the thread at its instruction
-pub fits-move : {k : Kinds} {script : Script} {S : State} {t : ObjNo} {row : ThreadRow} {instr : Instr} (told : Step) (named : may_tell k told ≡ true) (m : Move) (code : ℤ) → IsStepping script S t row instr → IsCheap m → FitsMove script t m S → IsAtInstruction script (moved t m S) t → FitsDecision k script t S (answer t told (m ∷ []) code)
+pub fits-move : {k : Kinds} {script : Script} {S : State} {t : ObjNo} {row : ThreadRow} {instr : Instr} (told : Step) (named : may_tell k told ≡ true) (m : Move) (code : ℤ) → IsStepping script S t row instr → IsCheap m → FitsMove script t m S → MayEndStep script (moved t m S) t → FitsDecision k script t S (answer t told (m ∷ []) code)
 fits-move told named m code h cheap fits at = record {
-  each = (fits, ((refl, at), tt));
+  each = (fits, ((refl, at.back, at.at), tt));
   told = let a = cheap.told in omega arith;
   light = let a = cheap.light in omega arith;
   regular = regular-answer told (m ∷ []) code named (tame-in cheap.calm);
@@ -95,7 +94,7 @@ cheap_nano m = record { told = let few = nano-tells m in omega arith; light = re
 
 -- where that is a change of the rows of threads that synchronize
 fits-nano : {k : Kinds} {script : Script} {S : State} {t : ObjNo} {row : ThreadRow} {instr : Instr} (told : Step) (named : may_tell k told ≡ true) (m : NanoMove) (code : ℤ) → IsStepping script S t row instr → is_some (thread_of S (nano_thread m)) ≡ true → FitsNano m S → FitsDecision k script t S (answer t told (move.Nano m ∷ []) code)
-fits-nano {row = row} told named m code h there fits = fits-move told named (move.Nano m) code h (cheap_nano m) (there, fits) (record { row = row; is = h.is; next = h.next })
+fits-nano {row = row} told named m code h there fits = fits-move told named (move.Nano m) code h (cheap_nano m) (there, fits) (ends_in h refl)
 
 own_row : {script : Script} {S : State} {t : ObjNo} {row : ThreadRow} {instr : Instr} → IsStepping script S t row instr → is_some (thread_of S t) ≡ true
 own_row h = ap is_some h.is
@@ -103,10 +102,10 @@ own_row h = ap is_some h.is
 -- the last step comes next, with a move that fits then
 pub fits-later : {k : Kinds} {script : Script} {S : State} {t : ObjNo} {row : ThreadRow} {instr : Instr} (told : Step) (named : may_tell k told ≡ true) (m : Move) → k.goes ≡ true → IsStepping script S t row instr → IsCheap m → FitsMove script t m (moved t (move.GoOn t part.Done) S) → FitsDecision k script t S (go_on t told m part.Done)
 fits-later told named m goes h cheap fits = record {
-  each = ((record { unused = λ r is e. absurd (cc); paid = λ e. absurd (cc); unspent = unspent h; at = λ e. absurd (cc); ends = λ r is. begun_one r.part }, tt, refl), (fits, tt));
+  each = ((last_step h, tt, refl), (fits, tt));
   told = let a = cheap.told in omega arith;
   light = let a = cheap.light in omega arith;
-  regular = regular-moves _ named refl (tame-both (move.GoOn _ part.Done ∷ []) (m ∷ []) (tame-going _ goes refl refl) (tame-in cheap.calm));
+  regular = regular-moves _ named refl (tame-both (move.GoOn _ part.Done ∷ []) (m ∷ []) (let few = cheap.calm.loses in omega arith) (tame-going _ goes refl refl) (tame-in cheap.calm));
 }
 
 -- what is refused to a thread that holds a fast mutex
@@ -115,7 +114,7 @@ fits-unless {k = k} {script = script} {S = S} {t = t} told named d h fits =
     if_cases (FitsDecision k script t S) (is_some (held_by S.synchronization.nano t)) _ _ (λ _. fits-refuse told named error.InUse h) (λ e. fits (none_of (held_by S.synchronization.nano t) e))
 
 may_take : {script : Script} {S : State} {t : ObjNo} {row : ThreadRow} {instr : Instr} → IsStepping script S t row instr → is_returning row.part ≡ false → held_by S.synchronization.nano t ≡ None → MayTake S t
-may_take {script = script} {row = row} h going none = record { row = row; is = h.is; live = h.live going; serves = serves_none script row.role row.next_instruction h.next; waits = h.waits; holds = none }
+may_take {script = script} {row = row} h going none = record { row = row; is = h.is; live = h.live; serves = serves_none script row.role row.next_instruction h.next; waits = h.waits; going = going; holds = none }
 
 -- the number of a fast mutex that an instruction names is one of the script's
 pub mutex_inside : (script : Script) (S : State) (f : ℕ) → AreRows script S → nat_lt f script.fast ≡ true → f < length S.synchronization.nano.holders
@@ -145,7 +144,7 @@ pub fits-fswait : {script : Script} {S : State} {t : ObjNo} {row : ThreadRow} {i
 fits-fswait {script = script} {S = S} {t = t} None h going =
     fits-unless (step.Of word.Fswait part.Do) refl _ h (λ none.
     if_cases (FitsDecision looking script t S) (signal_count S.synchronization.nano t == 0) _ _
-    (λ _. fits-later (step.Of word.Fswait part.Do) refl (move.Wait t waiting.Fast) refl h (record { told = omega arith; light = refl; calm = tame-moves _ refl refl }) (none, stepping_nowhere h, live-changed S (moved t (move.GoOn t part.Done) S) t (with_part part.Done) (λ r. refl) refl (stepping_live h going), λ r at live. stepping_uncalled h going))
+    (λ _. fits-later (step.Of word.Fswait part.Do) refl (move.Wait t waiting.Fast) refl h (record { told = omega arith; light = refl; calm = tame-moves _ refl refl }) (none, stepping_nowhere h, live-changed S (moved t (move.GoOn t part.Done) S) t (with_part part.Done) (λ r. refl) refl (stepping_live h), λ r at live. stepping_uncalled h going))
     (λ _. fits-nano (step.Of word.Fswait part.Do) refl (nano.Lower t) (pos 0) h (own_row h) tt))
 fits-fswait (Some p) h going = fits-answer (step.Of word.Fswait part.Done) refl (pos 0) h
 
@@ -153,7 +152,7 @@ fits-fswait (Some p) h going = fits-answer (step.Of word.Fswait part.Done) refl 
 signalled : {script : Script} {S : State} {t : ObjNo} {row : ThreadRow} {instr : Instr} (u : ObjNo) (r : ThreadRow) (what : Waiting) → IsStepping script S t row instr → thread_of S u ≡ Some r → r.waiting ≡ what → FitsDecision looking script t S (answer t (step.Of word.Fssignal part.Do) (signal_move u what ∷ []) (pos 0))
 signalled {script = script} {S = S} {t = t} u r waiting.Fast h is waits =
     fits-move (step.Of word.Fssignal part.Do) refl (move.Wake u) (pos 0) h (record { told = omega arith; light = refl; calm = tame-moves _ refl refl }) (waits_nowhere script S u r h.rows is (λ o e. absurd (cc)), is_uncalled script S u r h.rows is (λ e. absurd (cc)))
-    (at-with_row script S (moved t (move.Wake u) S) t u (with_waiting waiting.Nothing) (record { role = λ r. refl; next = λ r. refl }) refl (at_instruction h))
+    (at-with_row script S (moved t (move.Wake u) S) t u (with_waiting waiting.Nothing) (record { role = λ r. refl; next = λ r. refl; going = λ r e. e }) refl (ends_here h))
 signalled u r _ h is waits = fits-nano (step.Of word.Fssignal part.Do) refl (nano.Raise u) (pos 0) h (ap is_some is) tt
 
 pub fits-fssignal : {script : Script} {S : State} {t : ObjNo} {row : ThreadRow} {instr : Instr} (name : List ℕ) → IsStepping script S t row instr → FitsDecision looking script t S (fssignal_do S t name)
@@ -186,12 +185,12 @@ fits-look_kind {k = k} {script = script} {S = S} {t = t} {row = row} kind word x
   where
     found : (named : Option ObjNo) → of_kind S kind (object_at S t row (slice_index row.registers x)) ≡ named → FitsDecision k script t S (look_at t word named)
     found None e = fits-refuse (step.Of word part.Look) refl error.BadHandle h
-    found (Some o) e = fits-use (step.Of word part.Look) refl o part.Do uses goes h before refl tt (handle_is_alive S _ _ o h.rows.lives (object_of_is _ _ _ o (of_kind_is S kind _ o e)))
+    found (Some o) e = fits-use (step.Of word part.Look) refl o part.Do uses goes h before refl tt (handle_is_counted S _ _ o (object_of_is _ _ _ o (of_kind_is S kind _ o e)))
 
 -- a move of a call on a thread that is there
 pub record FitsCall (script : Script) (S : State) (t : ObjNo) (m : Move) : Type 0 where
   pub fits : FitsMove script t m S
-  pub at : IsAtInstruction script (moved t m S) t
+  pub at : MayEndStep script (moved t m S) t
   pub cheap : IsCheap m
 
 -- the second step of such a call
@@ -214,7 +213,7 @@ fits-call {script = script} {S = S} {t = t} word named failure call (Some u) h f
 
 -- a call that changes the rows of threads that synchronize
 call_nano : {script : Script} {S : State} {t : ObjNo} {row : ThreadRow} {instr : Instr} (m : NanoMove) → IsStepping script S t row instr → is_some (thread_of S (nano_thread m)) ≡ true → FitsNano m S → FitsCall script S t (move.Nano m)
-call_nano {row = row} m h there fits = record { fits = (there, fits); at = record { row = row; is = h.is; next = h.next }; cheap = cheap_nano m }
+call_nano {row = row} m h there fits = record { fits = (there, fits); at = ends_in h refl; cheap = cheap_nano m }
 
 -- what is there of a choice was chosen
 chosen_some : {A : Type 0} (b : Bool) (x y : A) → (if b then None else Some x) ≡ Some y → (b ≡ false) × (x ≡ y)
@@ -246,6 +245,6 @@ fits-priority {script = script} {S = S} {t = t} {row = row} x priority (Some p) 
     let same : move.SetPriority u priority ≡ m = cc in
     subst (FitsCall script S t) same (record {
       fits = priority_small x priority h.ranges;
-      at = at-with_row script S (moved t (move.SetPriority u priority) S) t u (with_priority priority) (record { role = λ r. refl; next = λ r. refl }) refl (at_instruction h);
+      at = at-with_row script S (moved t (move.SetPriority u priority) S) t u (with_priority priority) (record { role = λ r. refl; next = λ r. refl; going = λ r e. e }) refl (ends_here h);
       cheap = record { told = omega arith; light = refl; calm = tame-moves _ refl refl };
     }))

@@ -25,7 +25,6 @@ use Rattle.state_rows.specs.ServerRows.{server_at}
 use Rattle.state_rows.specs.declared.servers.ServerRow.{ServerRow}
 use Rattle.state_rows.specs.declared.thread.Waiting.TheVariants as waiting
 use Rattle.state_rows.specs.declared.thread.ThreadRow.{ThreadRow}
-use Rattle.move_laws.proofs.RowLaws.MessagesKept.{begun_one}
 use Rattle.machine.specs.declared.lock_move.LockMove.{LockMove}
 use Rattle.machine.specs.declared.lock_move.LockMove.TheVariants.{Lock, Unlock, WaitOn, Signal}
 use Rattle.machine.specs.declared.moves.Move.TheVariants as move
@@ -38,15 +37,15 @@ use Rattle.machine.specs.Moves.{moved, with_part, with_waiting}
 use Rattle.machine.specs.MutexCalls.{lock_by, lock_do, lock_step, unless_server, unlock_by, unlock_do, unlock_step}
 use Rattle.machine.specs.Rows.{object_of, thread_of}
 use Rattle.machine.specs.SemaphoreCalls.{wait_on, wait_do, wait_step, signal_by, signal_do, signal_step}
-use Rattle.machine.specs.Task.{is_returning}
-use Rattle.machine.specs.WellFormed.{IsAlive, is_before_use, part_of}
+use Rattle.machine.specs.Out.{is_returning, part_of}
+use Rattle.machine.specs.WellFormed.{IsAlive, is_before_use}
 use Rattle.move_laws.proofs.Numbers.FewEffects.{lock-tells, lock-owes}
 use Rattle.move_laws.proofs.Holders.ThreadRows.{row-here}
 use Rattle.move_laws.proofs.Lists.Cases.{if_cases}
 use Rattle.move_laws.proofs.Readiness.FirstReady.{greatest_listed}
 use Rattle.machine_laws.proofs.Fitting.KernelThreads.{fits-answer, fits-look_kind, fits-unless}
-use Rattle.machine_laws.proofs.Fitting.Living.{alive_inside, use_is_alive}
-use Rattle.machine_laws.proofs.Fitting.Stepping.{FitsDecision, IsStepping, fits-answers, fits-nothing, fits-refuse, at_instruction, at-with_row, live-changed, stepping_live, unspent}
+use Rattle.machine_laws.proofs.Fitting.Living.{alive_inside, use_is_alive, use_is_counted}
+use Rattle.machine_laws.proofs.Fitting.Stepping.{FitsDecision, IsStepping, fits-answers, fits-nothing, fits-refuse, at-with_row, live-changed, stepping_live, ends_here, last_step, ends_in}
 use Rattle.machine_laws.proofs.Fitting.Uncalled.{stepping_uncalled, waiter_uncalled}
 use Rattle.machine_laws.proofs.Fitting.Waiters.{passed_is, stepping_nowhere, struck_nowhere, woke_is}
 use Rattle.machine_laws.proofs.Fitting.Regular.{IsTame, Kinds, locking, looking}
@@ -54,11 +53,11 @@ use Rattle.machine_laws.proofs.Fitting.Tame.{may_tell, regular-moves, tame-at, t
 
 -- an answer after a move in the rows of mutexes and semaphores, and where a waiter goes on after it
 fits-locked : {k : Kinds} {script : Script} {S : State} {t : ObjNo} {row : ThreadRow} {instr : Instr} (told : Step) (named : may_tell k told ≡ true) (m : LockMove) → IsTame k 0 (move.Locks m ∷ []) → IsStepping script S t row instr → FitsLocks t m S → FitsDecision k script t S (answer t told (move.Locks m ∷ []) (pos 0))
-fits-locked {row = row} told named m calm h fits = fits-answers told named (move.Locks m ∷ []) (pos 0) calm (fits, tt) (record { row = row; is = h.is; next = h.next }) (let few = lock-tells m in omega arith) (let few = lock-owes m in omega arith)
+fits-locked {row = row} told named m calm h fits = fits-answers told named (move.Locks m ∷ []) (pos 0) calm (fits, tt) (ends_in h refl) (let few = lock-tells m in omega arith) (let few = lock-owes m in omega arith)
 
 fits-woken : {k : Kinds} {script : Script} {S : State} {t : ObjNo} {row : ThreadRow} {instr : Instr} (told : Step) (named : may_tell k told ≡ true) (m : LockMove) (w : ObjNo) → IsTame k 0 (move.Locks m ∷ []) → IsStepping script S t row instr → FitsLocks t m S → WaitsNowhere (moved t (move.Locks m) S) w → IsUncalled S w → FitsDecision k script t S (answer t told (move.Locks m ∷ move.Wake w ∷ []) (pos 0))
-fits-woken {script = script} {S = S} {t = t} told named m w calm h fits nowhere calls = fits-answers told named (move.Locks m ∷ move.Wake w ∷ []) (pos 0) (tame-both (move.Locks m ∷ []) (move.Wake w ∷ []) calm (tame-moves _ refl refl)) (fits, ((nowhere, calls), tt))
-    (at-with_row script S _ t w (with_waiting waiting.Nothing) (record { role = λ r. refl; next = λ r. refl }) refl (at_instruction h)) (let few = lock-tells m in omega arith) (let few = lock-owes m in omega arith)
+fits-woken {script = script} {S = S} {t = t} told named m w calm h fits nowhere calls = fits-answers told named (move.Locks m ∷ move.Wake w ∷ []) (pos 0) (tame-both (move.Locks m ∷ []) (move.Wake w ∷ []) (let few = calm.loses in omega arith) calm (tame-moves _ refl refl)) (fits, ((nowhere, calls), tt))
+    (at-with_row script S _ t w (with_waiting waiting.Nothing) (record { role = λ r. refl; next = λ r. refl; going = λ r e. e }) refl (ends_here h)) (let few = lock-tells m in omega arith) (let few = lock-owes m in omega arith)
 
 -- the state in which the thread waits for an object, and comes to stand among its waiters
 abbrev waiting_at : State → ObjNo → ObjNo → State
@@ -73,31 +72,31 @@ waits_there {S = S} {t = t} o h =
 waiting_live : {script : Script} {S : State} {t : ObjNo} {row : ThreadRow} {instr : Instr} (o : ObjNo) → IsStepping script S t row instr → is_returning row.part ≡ false → IsLive (waiting_at S t o) t
 waiting_live {S = S} {t = t} o h going =
     live-changed (moved t (move.GoOn t part.Done) S) (waiting_at S t o) t (with_waiting (waiting.Lock o)) (λ r. refl) refl
-    (live-changed S (moved t (move.GoOn t part.Done) S) t (with_part part.Done) (λ r. refl) refl (stepping_live h going))
+    (live-changed S (moved t (move.GoOn t part.Done) S) t (with_part part.Done) (λ r. refl) refl (stepping_live h))
 
 fits-wait_at : {k : Kinds} {script : Script} {S : State} {t : ObjNo} {row : ThreadRow} {instr : Instr} (told : Step) (named : may_tell k told ≡ true) (o : ObjNo) (m : LockMove) → k.goes ≡ true → IsTame k 0 (move.Locks m ∷ []) → IsStepping script S t row instr → is_returning row.part ≡ false → held_by S.synchronization.nano t ≡ None → (MayJoin (waiting_at S t o) o t → FitsLocks t m (waiting_at S t o)) → FitsDecision k script t S (wait_at t told o m)
 fits-wait_at {S = S} {t = t} {row = row} told named o m goes calm h going none fits = record {
   each = (
-    (record { unused = λ r is e. absurd (cc); paid = λ e. absurd (cc); unspent = unspent h; at = λ e. absurd (cc); ends = λ r is. begun_one r.part }, tt, refl),
-    ((none, stepping_nowhere h, live-changed S (moved t (move.GoOn t part.Done) S) t (with_part part.Done) (λ r. refl) refl (stepping_live h going), λ r at live. stepping_uncalled h going), (fits (record { waits = record { row = with_waiting (waiting.Lock o) (with_part part.Done row); is = waits_there o h; waits = refl }; nowhere = stepping_nowhere h; paid = h.paid }), tt)),
+    (last_step h, tt, refl),
+    ((none, stepping_nowhere h, live-changed S (moved t (move.GoOn t part.Done) S) t (with_part part.Done) (λ r. refl) refl (stepping_live h), λ r at live. stepping_uncalled h going), (fits (record { waits = record { row = with_waiting (waiting.Lock o) (with_part part.Done row); is = waits_there o h; waits = refl }; nowhere = stepping_nowhere h; paid = h.paid }), tt)),
   );
   told = let few = lock-tells m in omega arith;
   light = let few = lock-owes m in omega arith;
-  regular = regular-moves _ named refl (tame-both (move.GoOn t part.Done ∷ move.Wait t (waiting.Lock o) ∷ []) (move.Locks m ∷ []) (tame-going _ goes refl refl) calm);
+  regular = regular-moves _ named refl (tame-both (move.GoOn t part.Done ∷ move.Wait t (waiting.Lock o) ∷ []) (move.Locks m ∷ []) (let few = calm.loses in omega arith) (tame-going _ goes refl refl) calm);
 }
 
 -- `lock`
-fits-lock_by : {script : Script} {S : State} {t : ObjNo} {row : ThreadRow} {instr : Instr} (o : ObjNo) (locked : Locked) → IsStepping script S t row instr → is_returning row.part ≡ false → held_by S.synchronization.nano t ≡ None → IsAlive (object_of S o) → server_at S.serving.servers o ≡ None → locked ≡ lock_answer (owner_at S.synchronization.locks o) t → FitsDecision locking script t S (lock_by t o locked)
-fits-lock_by o Waits h going none alive other e = fits-wait_at (Of word.Lock part.Do) refl o (Lock o _ Waits) refl (tame-at locking _ refl refl) h going none (λ joins. record { alive = alive; thread = ap is_some joins.waits.is; live = waiting_live o h going; paid = h.paid; other = other; answer = e; joins = λ _. joins })
-fits-lock_by o Taken h going none alive other e = fits-locked (Of word.Lock part.Do) refl (Lock o _ Taken) (tame-at locking _ refl refl) h (record { alive = alive; thread = ap is_some h.is; live = stepping_live h going; paid = h.paid; other = other; answer = e; joins = λ e. absurd (cc) })
-fits-lock_by o Again h going none alive other e = fits-locked (Of word.Lock part.Do) refl (Lock o _ Again) (tame-at locking _ refl refl) h (record { alive = alive; thread = ap is_some h.is; live = stepping_live h going; paid = h.paid; other = other; answer = e; joins = λ e. absurd (cc) })
+fits-lock_by : {script : Script} {S : State} {t : ObjNo} {row : ThreadRow} {instr : Instr} (o : ObjNo) (locked : Locked) → IsStepping script S t row instr → is_returning row.part ≡ false → held_by S.synchronization.nano t ≡ None → row.uses ≡ Some o → server_at S.serving.servers o ≡ None → locked ≡ lock_answer (owner_at S.synchronization.locks o) t → FitsDecision locking script t S (lock_by t o locked)
+fits-lock_by {S = S} {t = t} {row = row} o Waits h going none uses other e = fits-wait_at (Of word.Lock part.Do) refl o (Lock o _ Waits) refl (tame-at locking _ refl refl) h going none (λ joins. record { counted = use_is_counted (waiting_at S t o) t (with_waiting (waiting.Lock o) (with_part part.Done row)) o (waits_there o h) uses; thread = ap is_some joins.waits.is; live = waiting_live o h going; paid = h.paid; other = other; answer = e; joins = λ _. joins })
+fits-lock_by {S = S} {t = t} {row = row} o Taken h going none uses other e = fits-locked (Of word.Lock part.Do) refl (Lock o _ Taken) (tame-at locking _ refl refl) h (record { counted = use_is_counted S t row o h.is uses; thread = ap is_some h.is; live = stepping_live h; paid = h.paid; other = other; answer = e; joins = λ e. absurd (cc) })
+fits-lock_by {S = S} {t = t} {row = row} o Again h going none uses other e = fits-locked (Of word.Lock part.Do) refl (Lock o _ Again) (tame-at locking _ refl refl) h (record { counted = use_is_counted S t row o h.is uses; thread = ap is_some h.is; live = stepping_live h; paid = h.paid; other = other; answer = e; joins = λ e. absurd (cc) })
 
 fits-lock_do : {script : Script} {S : State} {t : ObjNo} {row : ThreadRow} {instr : Instr} (uses : Option ObjNo) → IsStepping script S t row instr → is_returning row.part ≡ false → row.uses ≡ uses → FitsDecision locking script t S (lock_do S t uses)
 fits-lock_do {script = script} {S = S} {t = t} None h going e = fits-nothing script S t
 fits-lock_do {script = script} {S = S} {t = t} {row = row} (Some o) h going e = fits-unless (Of word.Lock part.Do) refl _ h (λ none. unserved none (server_at S.serving.servers o) refl)
   where
     unserved : held_by S.synchronization.nano t ≡ None → (server : Option ServerRow) → server_at S.serving.servers o ≡ server → FitsDecision locking script t S (unless_server server (lock_by t o (lock_answer (owner_at S.synchronization.locks o) t)))
-    unserved none None other = fits-lock_by o _ h going none (use_is_alive S t row o h.rows.lives h.is e) other refl
+    unserved none None other = fits-lock_by o _ h going none e other refl
     unserved none (Some server) other = fits-nothing script S t
 
 pub fits-lock : {script : Script} {S : State} {t : ObjNo} {row : ThreadRow} {instr : Instr} (x : ℕ) (p : Option Part) → IsStepping script S t row instr → is_returning row.part ≡ false → row.part ≡ p → FitsDecision locking script t S (lock_step S t row x p)

@@ -16,7 +16,7 @@ use Rattle.machine.specs.Memory.{byte_of}
 use Rattle.machine.specs.MemoryCalls.{fill_do, peek_do}
 use Rattle.move_laws.proofs.Lists.Cases.{if_cases}
 use Rattle.machine_laws.proofs.Fitting.KernelThreads.{fits-answer}
-use Rattle.machine_laws.proofs.Fitting.Stepping.{FitsDecision, IsStepping, fits-answers, fits-refuse}
+use Rattle.machine_laws.proofs.Fitting.Stepping.{FitsDecision, IsStepping, fits-answers, fits-refuse, ends_in}
 use Rattle.machine_laws.proofs.Fitting.Regular.{looking}
 use Rattle.machine_laws.proofs.Fitting.Tame.{tame-moves}
 
@@ -24,7 +24,7 @@ use Rattle.machine_laws.proofs.Fitting.Tame.{tame-moves}
 pub fits-fill : {script : Script} {S : State} {t : ObjNo} {row : ThreadRow} {instr : Instr} (at length byte : ℕ) → IsStepping script S t row instr → FitsDecision looking script t S (fill_do t row at length byte)
 fits-fill {script = script} {S = S} {t = t} {row = row} at length byte h =
     if_cases (FitsDecision looking script t S) (nat_lt 1024 (at + length)) _ _ (λ _. fits-refuse (Of word.Fill part.Do) refl Argument h)
-    (λ within. fits-answers (Of word.Fill part.Do) refl (Fill row.process at length byte ∷ []) (pos 0) (tame-moves _ refl refl) (ltb-false 1024 (at + length) within, tt) (record { row = row; is = h.is; next = h.next }) (omega arith) (omega arith))
+    (λ within. fits-answers (Of word.Fill part.Do) refl (Fill row.process at length byte ∷ []) (pos 0) (tame-moves _ refl refl) (ltb-false 1024 (at + length) within, tt) (ends_in h refl) (omega arith) (omega arith))
 
 -- `peek`
 pub fits-peek : {script : Script} {S : State} {t : ObjNo} {row : ThreadRow} {instr : Instr} (at : ℕ) → IsStepping script S t row instr → FitsDecision looking script t S (peek_do S t row at)

@@ -1,5 +1,5 @@
 -- A message that is sent fits, and so does the end of a wait of the server's owner for it.
-use Rattle.std.proofs.Common.{◌≡◌, ℕ, ℤ, ◌<◌, List, [], ◌∷◌, length, get_or, arith, refl, sym, ap, subst, ◌∙◌, Option, Some, None, Bool, true, false}
+use Rattle.std.proofs.Common.{◌≡◌, ℕ, ℤ, ◌<◌, List, [], ◌∷◌, length, get_or, arith, refl, sym, ap, ◌∙◌, Option, Some, None, Bool, true, false}
 use Rattle.std.specs.Prelude.{is_some, ◌&&◌, if◌then◌else◌}
 use Rattle.sym_base.specs.declared.kind.Arg.{Arg}
 use Rattle.sym_base.specs.declared.limits.TheConstants.Limits.{OBJECTS}
@@ -14,7 +14,6 @@ use Rattle.state_rows.specs.declared.messages.Message.{Message}
 use Rattle.state_rows.specs.declared.messages.MessageRows.{MessageRows}
 use Rattle.state_rows.specs.declared.messages.Way.{Way}
 use Rattle.state_rows.specs.declared.messages.Way.TheVariants.{Sync}
-use Rattle.state_rows.specs.declared.object.ObjectRow.{ObjectRow}
 use Rattle.state_rows.specs.declared.servers.SessionRow.{SessionRow}
 use Rattle.state_rows.specs.declared.thread.Waiting.{Waiting}
 use Rattle.state_rows.specs.declared.thread.Waiting.TheVariants as waiting
@@ -27,10 +26,10 @@ use Rattle.machine.specs.Fits.{FitsMove, MayOweMore, WaitsNowhere}
 use Rattle.machine.specs.FitsServers.{FitsWay, HasNumber, IsUncalled}
 use Rattle.machine.specs.Messaging.{is_receiving, open_server, post, slots_of, wake_receiver, wake_row}
 use Rattle.machine.specs.Moves.{moved}
-use Rattle.machine.specs.References.{kernel_holds}
-use Rattle.machine.specs.Rows.{object_of, thread_of}
+use Rattle.machine.specs.References.{count_of, kernel_holds}
+use Rattle.machine.specs.Rows.{thread_of}
 use Rattle.machine.specs.Serving.{call_names, is_called, times_called}
-use Rattle.machine.specs.WellFormed.{AreRows, IsAlive}
+use Rattle.machine.specs.WellFormed.{AreRows}
 use Rattle.move_laws.proofs.Lists.Totals.{inside, total-append}
 use Rattle.move_laws.proofs.References.Same.{eqb_apart}
 use Rattle.machine_laws.proofs.Fitting.Bodies.{OwesNothing}
@@ -65,10 +64,6 @@ server_inside script S s o rows e =
     let sized = rows.serving.servers.servers_sized in
     let within = some_inside S.serving.servers.servers o.0 _ refl is in omega arith
 
--- the object of a thread that isn't buried is alive
-pub thread_is_alive : (script : Script) (S : State) (t : ObjNo) (row : ThreadRow) → AreRows script S → thread_of S t ≡ Some row → kernel_holds (Some row) ≡ 1 → IsAlive (object_of S t)
-thread_is_alive script S t row rows is held = let one : kernel_holds (thread_of S t) ≡ 1 = ap kernel_holds is ∙ held in rows.lives.alive t (omega arith)
-
 -- the owner of a server is woken where it waits for a message of it
 receives : (o : ObjNo) (what : Waiting) → is_receiving o what ≡ true → (x : ObjNo) × (what ≡ waiting.Receive x)
 receives o (waiting.Receive x) e = (x, refl)
@@ -99,7 +94,8 @@ pub record MayPost (script : Script) (S T : State) (t s o : ObjNo) (way : Way) :
   pub waits : row.waiting ≡ waiting.Nothing
   pub held : kernel_holds (Some row) ≡ 1
   pub accepts : open_server S s ≡ Some o
-  pub alive : IsAlive (object_of S s)
+  pub counted : 0 < count_of T s
+  pub client : 0 < count_of T t
   pub objects : T.references.objects ≡ S.references.objects
   pub locks : T.synchronization.locks ≡ S.synchronization.locks
   pub messages : T.serving.messages ≡ S.serving.messages
@@ -122,9 +118,9 @@ posted S T t s o function args way = moved t (Messages (Accept (slots_of S s) (n
 pub accepted_fits : (script : Script) (S T : State) (t s o : ObjNo) (function : ℤ) (args : List Arg) (way : Way) → length args ≡ 4 → MayPost script S T t s o way → FitsMove script t (Messages (Accept (slots_of S s) (new_row s o t function args way))) T
 accepted_fits script S T t s o function args way four h = (
   record {
-    session = subst (λ (objects : List (Option ObjectRow)). IsAlive (get_or objects s.0 None)) (sym h.objects) h.alive;
+    session = h.counted;
     known = h.session;
-    client = subst (λ (objects : List (Option ObjectRow)). IsAlive (get_or objects t.0 None)) (sym h.objects) (thread_is_alive script S t h.row h.rows h.is h.held);
+    client = h.client;
     thread = h.owes.thread;
     server = server_inside script S s o h.rows h.accepts;
     args = four;

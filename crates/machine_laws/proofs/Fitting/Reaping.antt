@@ -36,9 +36,9 @@ use Rattle.machine.specs.Reaping.{buried_by, bury, bury_found, clean, free_mutex
 use Rattle.machine.specs.References.{mutex_names, stage_holds, total}
 use Rattle.machine.specs.Rows.{owed_of, table_of, thread_of}
 use Rattle.machine.specs.ServerMoves.{owned_by}
-use Rattle.machine.specs.Task.{is_returning}
+use Rattle.machine.specs.Out.{is_returning, part_of}
 use Rattle.machine.specs.ThreadCalls.{is_live}
-use Rattle.machine.specs.WellFormed.{AreRows, IsSpent, logon_names, part_of, times_held, times_logged}
+use Rattle.machine.specs.WellFormed.{AreRows, IsSpent, logon_names, times_held, times_logged}
 use Rattle.move_laws.proofs.Lists.Cases.{if_cases}
 use Rattle.move_laws.proofs.Lists.Totals.{inside, total-set, total_at_least}
 use Rattle.move_laws.proofs.Readiness.FirstReady.{greatest_listed}
@@ -131,7 +131,7 @@ gives-logon {script = script} {S = S} {t = t} {row = row} u s h some =
       each = ((within, omega arith, awaited.status), (((awaited, unlogged script S t u s h.rows within some), (h.rows.synchronization.awaited.logons u s (omega arith), logged_unsent script S u s h.rows (omega arith))), wakes.each));
       told = let few = wakes.told in omega arith;
       light = let none = wakes.light in omega arith;
-      regular = regular-moves _ refl refl (tame-both (move.Logons (Remove t u s) ∷ move.Requests (Signal u s (reason_of row.exit)) ∷ []) _ (tame-moves _ refl refl) wakes.calm);
+      regular = regular-moves _ refl refl (tame-both (move.Logons (Remove t u s) ∷ move.Requests (Signal u s (reason_of row.exit)) ∷ []) _ (let few = wakes.calm.loses in omega arith) (tame-moves _ refl refl) wakes.calm);
     }
 
 -- each of what it has is given up
@@ -258,7 +258,7 @@ fits-clean {script = script} {S = S} {t = t} {row = row} h nothing paid = record
   each = ((record { row = row; is = h.is; at = h.doomed }, (dying_unheld h, λ r is. let same_row : row ≡ r = (let one = h.is in cc) in subst (IsSpent S.references.handles t.0) same_row spent, λ r is. let same_row : row ≡ r = (let one = h.is in cc) in subst (λ (x : ThreadRow). process_handles S t x.process ≡ []) same_row has.process, owns), refl), ((burial_inside script S.synchronization.deferred row.role h.rows.synchronization.deferred (h.rows.references.threads.rows t.0 row h.is).declared, refl), tt));
   told = omega arith;
   light = omega arith;
-  regular = record { answers = refl; dooms = λ v. refl; calm = λ _. refl; making = λ e. absurd (cc); sends = λ _. refl; goes = λ _. refl; last = refl; cleans = λ e. absurd (cc); uses = λ u _. refl; known = λ _. record { row = row; is = h.is; doomed = h.doomed; paid = paid; nothing = nothing; moves = refl } };
+  regular = record { loses = omega arith; comes = refl; returns = λ e. absurd (cc); finds = λ o some. absurd (omega arith); answers = refl; dooms = λ v. refl; calm = λ _. refl; making = λ e. absurd (cc); sends = λ _. refl; goes = λ _. refl; last = refl; cleans = λ e. absurd (cc); uses = λ u _. refl; known = λ _. record { row = row; is = h.is; doomed = h.doomed; paid = paid; nothing = nothing; moves = refl } };
 }
   where
     has : HasNothing S t row

@@ -37,10 +37,10 @@ use Rattle.move_laws.proofs.Numbers.Registers.{request_small}
 use Rattle.move_laws.proofs.References.Same.{same_object}
 use Rattle.move_laws.proofs.RowLaws.Declared.{dfc_inside}
 use Rattle.machine_laws.proofs.Fitting.KernelThreads.{none_of, fits-answer, fits-move, fits-later, fits-unless}
-use Rattle.machine_laws.proofs.Fitting.Stepping.{FitsDecision, IsStepping, fits-nothing, has_signals, fits-refuse, live-changed, live_thread, stepping_live}
+use Rattle.machine_laws.proofs.Fitting.Stepping.{FitsDecision, IsStepping, fits-nothing, has_signals, fits-refuse, live-changed, live_thread, stepping_live, ends_in}
 use Rattle.machine_laws.proofs.Fitting.Uncalled.{stepping_uncalled}
 use Rattle.machine_laws.proofs.Fitting.Waiters.{stepping_nowhere}
-use Rattle.machine.specs.Task.{is_returning}
+use Rattle.machine.specs.Out.{is_returning}
 use Rattle.machine.specs.Moves.{moved, with_part}
 use Rattle.machine_laws.proofs.Fitting.Regular.{looking, plain}
 use Rattle.machine_laws.proofs.Fitting.Tame.{may_tell, tame-moves}
@@ -53,11 +53,11 @@ fits-queue {script = script} {S = S} {t = t} {row = row} name h = named (dfc_nam
     named None e = fits-nothing script S t
     named (Some dfc) e =
         if_cases (FitsDecision looking script t S) (is_queued S.synchronization.deferred (MoveOf dfc)) _ _ (λ _. fits-answer (step.Of word.Queue part.Do) refl (pos 0) h)
-        (λ _. fits-move (step.Of word.Queue part.Do) refl (add_call S dfc) (pos 1) h (record { told = omega arith; light = refl; calm = tame-moves _ refl refl }) (dfc_inside script S.synchronization.deferred name dfc h.rows.synchronization.deferred e, refl) (record { row = row; is = h.is; next = h.next }))
+        (λ _. fits-move (step.Of word.Queue part.Do) refl (add_call S dfc) (pos 1) h (record { told = omega arith; light = refl; calm = tame-moves _ refl refl }) (dfc_inside script S.synchronization.deferred name dfc h.rows.synchronization.deferred e, refl) (ends_in h refl))
 
 -- an answer after a change of the rows of requests
 fits-changed : {script : Script} {S : State} {t : ObjNo} {row : ThreadRow} {instr : Instr} (told : Step) (named : may_tell plain told ≡ true) (m : RequestMove) (code : ℤ) → IsStepping script S t row instr → FitsRequests m S.synchronization.requests S.synchronization.logons → IsOfLive m S → FitsDecision looking script t S (answer t told (move.Requests m ∷ []) code)
-fits-changed {row = row} told named m code h fits live = fits-move told named (move.Requests m) code h (record { told = let few = request-tells m in omega arith; light = refl; calm = tame-moves _ refl refl }) (fits, live) (record { row = row; is = h.is; next = h.next })
+fits-changed {row = row} told named m code h fits live = fits-move told named (move.Requests m) code h (record { told = let few = request-tells m in omega arith; light = refl; calm = tame-moves _ refl refl }) (fits, live) (ends_in h refl)
 
 -- `request`
 pub fits-request : {script : Script} {S : State} {t : ObjNo} {row : ThreadRow} (d s : ℕ) → IsStepping script S t row (instr.Request d s) → is_returning row.part ≡ false → FitsDecision looking script t S (request_do S t d s)
@@ -72,7 +72,7 @@ fits-request {script = script} {S = S} {t = t} d s h going =
       status = omega arith;
       free = none_of (request_at S.synchronization.requests d) (or_false_right (is_pending S.synchronization.requests t s) (is_some (request_at S.synchronization.requests d)) e);
       done = or_false_left (is_pending S.synchronization.requests t s) (is_some (request_at S.synchronization.requests d)) e;
-    }) (live_thread h going))
+    }) (live_thread h))
 
 -- `cancel`
 status_is : (t : ObjNo) (request : Option Request) (s : ℕ) → status_of t request ≡ Some s → request ≡ Some (record { thread = t; status = s })
@@ -97,7 +97,7 @@ fits-cancel {script = script} {S = S} {t = t} d h = found (status_of t (request_
 fits-waits : {script : Script} {S : State} {t : ObjNo} {row : ThreadRow} {instr : Instr} (told : Step) (named : may_tell plain told ≡ true) (waits : Bool) (what : Waiting) (code : ℤ) → IsStepping script S t row instr → is_returning row.part ≡ false → FitsDecision looking script t S (unless_holding S t told (if waits then wait_for t told what else answer t told (move.Requests (TakeSignal t) ∷ []) code))
 fits-waits {script = script} {S = S} {t = t} told named waits what code h going =
     fits-unless told named _ h (λ none. if_cases (FitsDecision looking script t S) waits _ _
-    (λ _. fits-later told named (move.Wait t what) refl h (record { told = omega arith; light = refl; calm = tame-moves _ refl refl }) (none, stepping_nowhere h, live-changed S (moved t (move.GoOn t part.Done) S) t (with_part part.Done) (λ r. refl) refl (stepping_live h going), λ r at live. stepping_uncalled h going))
+    (λ _. fits-later told named (move.Wait t what) refl h (record { told = omega arith; light = refl; calm = tame-moves _ refl refl }) (none, stepping_nowhere h, live-changed S (moved t (move.GoOn t part.Done) S) t (with_part part.Done) (λ r. refl) refl (stepping_live h), λ r at live. stepping_uncalled h going))
     (λ _. fits-changed told named (TakeSignal t) code h (has_signals h) tt))
 
 -- `waitany` and `waitfor`

@@ -1,7 +1,7 @@
 -- The steps of `server`, `receive`, `complete` and `function`.
-use Rattle.std.proofs.Common.{◌≡◌, ℕ, ℤ, ◌<◌, List, [], ◌∷◌, arith, refl, sym, subst, ap, ◌∙◌, Option, Some, None, Bool, true, false}
+use Rattle.std.proofs.Common.{◌≡◌, ℕ, ℤ, ◌<◌, List, [], ◌∷◌, length, arith, refl, ap, ◌∙◌, Option, Some, None, Bool, true, false}
 use Rattle.std.specs.Prelude.{pos, ◌&&◌, is_some, if◌then◌else◌, slice_index}
-use Rattle.std.proofs.lemmas.List.{get_or-set_same, get_or_push}
+use Rattle.std.proofs.lemmas.List.{get_or-set_same}
 use Rattle.sym_base.specs.declared.error.Error.TheVariants as error
 use Rattle.sym_base.specs.declared.kind.Kind.TheVariants as kind
 use Rattle.sym_base.specs.declared.limits.TheConstants.Limits.{OBJECTS}
@@ -30,18 +30,22 @@ use Rattle.machine.specs.declared.server_move.ServerMove.TheVariants.{Start}
 use Rattle.machine.specs.declared.state.State.{State}
 use Rattle.machine.specs.Fits.{IsFree, MayOweMore}
 use Rattle.machine.specs.Messaging.{finish}
-use Rattle.machine.specs.Moves.{moved, new_object, next_object, no_number_left, with_message, with_part}
+use Rattle.machine.specs.Moves.{moved, next_object, no_number_left, with_message, with_part}
 use Rattle.machine.specs.Rows.{object_of}
 use Rattle.machine.specs.ServerCalls.{complete_do, complete_message, function_do, function_of, is_owner, make_server, message_at, receive_came, receive_do, receive_done, receive_next, receive_step, server_do, take_message, taken_by}
-use Rattle.machine.specs.Task.{is_returning}
-use Rattle.machine.specs.WellFormed.{IsAlive, is_before_use, part_of}
+use Rattle.machine.specs.Out.{is_returning, part_of}
+use Rattle.machine.specs.WellFormed.{IsAlive, is_before_use}
 use Rattle.move_laws.proofs.Lists.Cases.{if_cases}
+use Rattle.move_laws.proofs.References.Mutexes.{count-holding}
+use Rattle.move_laws.proofs.References.Same.{same_self}
+use Rattle.move_laws.proofs.Lists.Totals.{inside}
+use Rattle.machine.specs.References.{count_of}
 use Rattle.machine_laws.proofs.Fitting.Finishing.{finishes}
 use Rattle.machine_laws.proofs.Fitting.KernelThreads.{fits-answer, fits-later, fits-look_kind, fits-unless}
 use Rattle.machine_laws.proofs.Fitting.Living.{alive_inside, use_is_alive}
 use Rattle.machine_laws.proofs.Fitting.Shared.{of_thread_handle}
 use Rattle.machine_laws.proofs.Fitting.Staying.{stay-finish, stay-perform}
-use Rattle.machine_laws.proofs.Fitting.Stepping.{FitsDecision, IsStepping, at-with_row, at_instruction, fits-answers, fits-handle, fits-nothing, fits-refuse, live-changed, live_thread, stepping_live}
+use Rattle.machine_laws.proofs.Fitting.Stepping.{FitsDecision, IsStepping, at-with_row, fits-answers, fits-handle, fits-nothing, fits-refuse, live-changed, live_thread, stepping_live, ends_here}
 use Rattle.machine_laws.proofs.Fitting.Steps.{room_left}
 use Rattle.machine_laws.proofs.Fitting.Uncalled.{stepping_uncalled}
 use Rattle.machine_laws.proofs.Fitting.Waiters.{stepping_nowhere}
@@ -64,12 +68,13 @@ fits-server {script = script} {S = S} {t = t} {row = row} name x h going =
         let o = next_object S in
         let started = moved t (move.Servers (Start o t)) S in
         let sized = h.rows.serving.servers.servers_sized in
-        let alive : IsAlive (object_of (moved t (move.Make kind.Server name (Own t)) started) o) = subst IsAlive (sym (get_or_push S.references.objects (Some (new_object kind.Server name)) None o.0 refl)) refl in
+        let inside_owned : t.0 < length S.serving.owned = let a = inside S.references.threads t.0 row h.is in let b = h.rows.serving.servers.owned_sized in omega arith in
+        let counted : 0 < count_of (moved t (move.Make kind.Server name (Own t)) started) o = let a = count-holding S.serving.owned t o o inside_owned in let b = same_self o in omega arith in
         fits-handle (Of word.Server part.Do) refl (move.Servers (Start o t) ∷ move.Make kind.Server name (Own t) ∷ move.Gain (InThread t i) o ∷ []) x number (tame-at calling _ refl refl) h h.registers (
-          record { next = refl; room = room; owner = live_thread h going },
+          record { next = refl; room = room; owner = live_thread h },
           (
-            (record { room = room; new = new }, record { owner = live_thread h going; server = get_or-set_same S.serving.servers.servers o.0 _ None (omega arith) }, λ e. absurd (cc), tt),
-            (((free.0, record { inside = free.1.inside; least = free.1.least }, free.2), alive, refl), tt),
+            (record { room = room; new = new }, record { owner = live_thread h; server = get_or-set_same S.serving.servers.servers o.0 _ None (omega arith) }, λ e. absurd (cc), tt),
+            (((free.0, record { inside = free.1.inside; least = free.1.least }, free.2), counted, refl), tt),
           ),
         ) refl (omega arith) (omega arith)
 
@@ -79,7 +84,7 @@ fits-take {script = script} {S = S} {t = t} {row = row} told named o y m h going
     let made = alive_inside S.references.objects o.0 alive in
     let few = h.rows.references.sized.objects_few in
     fits-answers told named (move.Messages (Take o) ∷ move.WriteMessage t y m.0 ∷ []) (pos m.0) (tame-moves _ refl refl) ((omega arith, owes_more h going, tt), (register, tt))
-    (at-with_row script S (moved t (move.WriteMessage t y m.0) (moved t (move.Messages (Take o)) S)) t t (with_message y m.0) (record { role = λ r. refl; next = λ r. refl }) refl (at_instruction h)) (omega arith) (omega arith)
+    (at-with_row script S (moved t (move.WriteMessage t y m.0) (moved t (move.Messages (Take o)) S)) t t (with_message y m.0) (record { role = λ r. refl; next = λ r. refl; going = λ r e. e }) refl (ends_here h)) (omega arith) (omega arith)
 
 -- `receive`
 fits-receive_do : {script : Script} {S : State} {t : ObjNo} {row : ThreadRow} {instr : Instr} (y : ℕ) (uses : Option ObjNo) → IsStepping script S t row instr → is_returning row.part ≡ false → y < 8 → row.uses ≡ uses → FitsDecision looking script t S (receive_do S t y uses)
@@ -88,7 +93,7 @@ fits-receive_do {script = script} {S = S} {t = t} {row = row} y (Some o) h going
   where
     by : held_by S.synchronization.nano t ≡ None → (next : Option MsgNo) → FitsDecision looking script t S (receive_next t o y next)
     by none None = fits-later (Of word.Receive part.Do) refl (move.Wait t (waiting.Receive o)) refl h (record { told = omega arith; light = refl; calm = tame-moves _ refl refl })
-        (none, stepping_nowhere h, live-changed S (moved t (move.GoOn t part.Done) S) t (with_part part.Done) (λ r. refl) refl (stepping_live h going), λ r at live. stepping_uncalled h going)
+        (none, stepping_nowhere h, live-changed S (moved t (move.GoOn t part.Done) S) t (with_part part.Done) (λ r. refl) refl (stepping_live h), λ r at live. stepping_uncalled h going)
     by none (Some m) = fits-take (Of word.Receive part.Do) refl o y m h going register (use_is_alive S t row o h.rows.lives h.is e)
 
 fits-receive_done : {script : Script} {S : State} {t : ObjNo} {row : ThreadRow} {instr : Instr} (y : ℕ) (uses : Option ObjNo) → IsStepping script S t row instr → is_returning row.part ≡ false → y < 8 → row.uses ≡ uses → FitsDecision looking script t S (receive_done S t y uses)
@@ -121,7 +126,7 @@ fits-complete {script = script} {S = S} {t = t} {row = row} y code h going = by 
     by None e = fits-refuse (Of word.Complete part.Do) refl error.BadHandle h
     by (Some message) e =
         let done = finishes script S t _ message code h.rows (owes_more h going) (taken_is S t (message_of S.serving.messages (record { 0 = slice_index row.messages y })) message e) in
-        fits-answers (Of word.Complete part.Do) refl (finish S message code) (pos 0) done.calm done.each (stay-perform script t (finish S message code) S (stay-finish script S t message code) (at_instruction h)) (let few = done.told in omega arith) (let few = done.light in omega arith)
+        fits-answers (Of word.Complete part.Do) refl (finish S message code) (pos 0) done.calm done.each (stay-perform script t (finish S message code) S (stay-finish script S t message code) (ends_here h)) (let few = done.told in omega arith) (let few = done.light in omega arith)
 
 -- `function`
 pub fits-function : {script : Script} {S : State} {t : ObjNo} {row : ThreadRow} {instr : Instr} (y : ℕ) → IsStepping script S t row instr → FitsDecision looking script t S (function_do S t row y)

@@ -1,5 +1,5 @@
 -- Moves that leave a thread at its instruction.
-use Rattle.std.proofs.Common.{◌≡◌, ℕ, List, [], ◌∷◌, get_or, refl, ap, ◌∙◌, Option, Some, None, Bool, true, false}
+use Rattle.std.proofs.Common.{◌≡◌, ℕ, List, [], ◌∷◌, refl, Option, Some, None, Bool, true, false}
 use Rattle.std.specs.List.{AllByRecursion}
 use Rattle.sym_base.specs.declared.number.ObjNo.{ObjNo}
 use Rattle.script_types.specs.declared.script.Script.{Script}
@@ -18,52 +18,52 @@ use Rattle.state_rows.specs.declared.messages.Way.TheVariants.{Async, Sync, Disc
 use Rattle.state_rows.specs.declared.thread.Waiting.TheVariants as waiting
 use Rattle.state_rows.specs.declared.thread.ThreadRow.{ThreadRow}
 use Rattle.machine.specs.Bodies.{end_wait, ends_wait}
-use Rattle.machine.specs.Fits.{IsAtInstruction}
 use Rattle.machine.specs.Messaging.{close_refused, finish, is_refused, reply, reply_to}
 use Rattle.machine.specs.Moves.{moved, perform, threads_closed, threads_lose, unlinked, with_use, with_waiting, with_part}
-use Rattle.machine.specs.References.{dies}
+use Rattle.machine.specs.Kept.{dies}
+use Rattle.machine.specs.Out.{is_returning}
 use Rattle.machine.specs.Rows.{thread_of}
 use Rattle.machine.specs.ThreadCalls.{is_live}
 use Rattle.std.proofs.Common.{ℤ}
 use Rattle.move_laws.proofs.Lists.Cases.{if_cases}
 use Rattle.move_laws.proofs.RowLaws.Declared.{all-both}
-use Rattle.machine_laws.proofs.Fitting.Stepping.{at-with_row}
+use Rattle.machine_laws.proofs.Fitting.Stepping.{ends-same, at-with_row, MayEndStep}
 
 -- moves that do, in an action of thread t
 pub record Stays (script : Script) (t : ObjNo) (m : Move) : Type 0 where
-  pub at : (S : State) → IsAtInstruction script S t → IsAtInstruction script (moved t m S) t
+  pub at : (S : State) → MayEndStep script S t → MayEndStep script (moved t m S) t
 
 abbrev pub AllStay : Script → ObjNo → List Move → Type 0
 AllStay script t ms = AllByRecursion (Stays script t) ms
 
-pub stay-perform : (script : Script) (t : ObjNo) (ms : List Move) (S : State) → AllStay script t ms → IsAtInstruction script S t → IsAtInstruction script (perform t ms S) t
+pub stay-perform : (script : Script) (t : ObjNo) (ms : List Move) (S : State) → AllStay script t ms → MayEndStep script S t → MayEndStep script (perform t ms S) t
 stay-perform script t [] S all at = at
 stay-perform script t (m ∷ ms) S all at = stay-perform script t ms (moved t m S) all.1 (all.0.at S at)
 
 -- changes of other rows, and the end of a wait
 pub stays-servers : (script : Script) (t : ObjNo) (m : ServerMove) → Stays script t (move.Servers m)
-stays-servers script t m = record { at = λ S at. record { row = at.row; is = at.is; next = at.next } }
+stays-servers script t m = record { at = λ S at. ends-same script S (moved t (move.Servers m) S) t refl at }
 
 pub stays-messages : (script : Script) (t : ObjNo) (m : MessageMove) → Stays script t (move.Messages m)
-stays-messages script t m = record { at = λ S at. record { row = at.row; is = at.is; next = at.next } }
+stays-messages script t m = record { at = λ S at. ends-same script S (moved t (move.Messages m) S) t refl at }
 
 pub stays-requests : (script : Script) (t : ObjNo) (m : RequestMove) → Stays script t (move.Requests m)
-stays-requests script t m = record { at = λ S at. record { row = at.row; is = at.is; next = at.next } }
+stays-requests script t m = record { at = λ S at. ends-same script S (moved t (move.Requests m) S) t refl at }
 
-pub stays-go_on : (script : Script) (t u : ObjNo) (part : Part) → Stays script t (move.GoOn u part)
-stays-go_on script t u part = record { at = λ S at. at-with_row script S (moved t (move.GoOn u part) S) t u (with_part part) (record { role = λ r. refl; next = λ r. refl }) refl at }
+pub stays-go_on : (script : Script) (t u : ObjNo) (part : Part) → is_returning (Some part) ≡ false → Stays script t (move.GoOn u part)
+stays-go_on script t u part other = record { at = λ S at. at-with_row script S (moved t (move.GoOn u part) S) t u (with_part part) (record { role = λ r. refl; next = λ r. refl; going = λ r e. other }) refl at }
 
 pub stays-wake : (script : Script) (t u : ObjNo) → Stays script t (move.Wake u)
-stays-wake script t u = record { at = λ S at. at-with_row script S (moved t (move.Wake u) S) t u (with_waiting waiting.Nothing) (record { role = λ r. refl; next = λ r. refl }) refl at }
+stays-wake script t u = record { at = λ S at. at-with_row script S (moved t (move.Wake u) S) t u (with_waiting waiting.Nothing) (record { role = λ r. refl; next = λ r. refl; going = λ r e. e }) refl at }
 
 -- the loss of a reference
-stays-unlinked : (script : Script) (S T : State) (t o : ObjNo) (last : Bool) → T.references.threads ≡ threads_closed last o S.references.threads → IsAtInstruction script S t → IsAtInstruction script T t
-stays-unlinked script S T t o true same at = at-with_row script S T t o unlinked (record { role = λ r. refl; next = λ r. refl }) same at
-stays-unlinked script S T t o false same at = record { row = at.row; is = ap (λ (threads : List (Option ThreadRow)). get_or threads t.0 None) same ∙ at.is; next = at.next }
+stays-unlinked : (script : Script) (S T : State) (t o : ObjNo) (last : Bool) → T.references.threads ≡ threads_closed last o S.references.threads → MayEndStep script S t → MayEndStep script T t
+stays-unlinked script S T t o true same at = at-with_row script S T t o unlinked (record { role = λ r. refl; next = λ r. refl; going = λ r e. e }) same at
+stays-unlinked script S T t o false same at = ends-same script S T t same at
 
-stays-lost : (script : Script) (S T : State) (t : ObjNo) (h : Holder) → T.references.threads ≡ threads_lose h S.references.threads → IsAtInstruction script S t → IsAtInstruction script T t
-stays-lost script S T t (Temp u) same at = at-with_row script S T t u (with_use None) (record { role = λ r. refl; next = λ r. refl }) same at
-stays-lost script S T t _ same at = record { row = at.row; is = ap (λ (threads : List (Option ThreadRow)). get_or threads t.0 None) same ∙ at.is; next = at.next }
+stays-lost : (script : Script) (S T : State) (t : ObjNo) (h : Holder) → T.references.threads ≡ threads_lose h S.references.threads → MayEndStep script S t → MayEndStep script T t
+stays-lost script S T t (Temp u) same at = at-with_row script S T t u (with_use None) (record { role = λ r. refl; next = λ r. refl; going = λ r e. e }) same at
+stays-lost script S T t _ same at = ends-same script S T t same at
 
 pub stays-lose : (script : Script) (t : ObjNo) (h : Holder) (o : ObjNo) → Stays script t (move.Lose h o)
 stays-lose script t h o = record { at = λ S at. stays-unlinked script (record S { references = record S.references { threads = threads_lose h S.references.threads } }) (moved t (move.Lose h o) S) t o (dies S o) refl (stays-lost script S (record S { references = record S.references { threads = threads_lose h S.references.threads } }) t h refl at) }

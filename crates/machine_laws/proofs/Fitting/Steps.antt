@@ -31,25 +31,25 @@ use Rattle.state_rows.specs.HandleNumbers.{index_of, is_local}
 use Rattle.machine.specs.Closing.{close_moves}
 use Rattle.machine.specs.Moves.{moved, perform, next_object, new_object, no_number_left}
 use Rattle.move_laws.proofs.Lives.Fresh.{next_fresh}
-use Rattle.machine.specs.References.{stage_holds, total}
+use Rattle.machine.specs.References.{count_of, stage_holds, total}
 use Rattle.machine.specs.Close.{close_do, close_handle}
 use Rattle.machine.specs.Create.{start_moves, create_do, create_mutex_do, create_semaphore_do, make_with_handle}
 use Rattle.machine.specs.Decide.{give_handle}
 use Rattle.machine.specs.Dup.{dup_do, dup_step, duplocal_step, stays_with_thread}
-use Rattle.machine.specs.Open.{open_do, open_step, open_return}
-use Rattle.machine.specs.Task.{is_returning}
+use Rattle.machine.specs.Open.{open_do, open_step}
+use Rattle.machine.specs.Out.{is_returning}
 use Rattle.machine.specs.Fits.{EachFits, HasName, IsFree, most_told, most_owed}
-use Rattle.machine.specs.WellFormed.{IsAlive, is_before_use}
+use Rattle.machine.specs.WellFormed.{is_before_use}
 use Rattle.move_laws.proofs.Numbers.FewEffects.{lock-tells, lock-owes}
 use Rattle.move_laws.proofs.Lists.Cases.{if_cases}
 use Rattle.move_laws.proofs.Numbers.Registers.{count_few}
 use Rattle.move_laws.proofs.RowLaws.Tables.{object_of_is}
 use Rattle.machine_laws.proofs.Fitting.Closing.{IsHandle, MayClose, closes, handle_of_process, handle_of_thread, stay-close}
-use Rattle.machine_laws.proofs.Fitting.Living.{use_is_alive}
+use Rattle.machine_laws.proofs.Fitting.Living.{use_is_counted}
 use Rattle.machine_laws.proofs.Fitting.KernelThreads.{fits-unless}
-use Rattle.machine_laws.proofs.Fitting.Stepping.{FitsDecision, FitsStep, IsStepping, answers_step, at_instruction, by_kinds, fits-handle, fits-nothing, fits-refuse}
+use Rattle.machine_laws.proofs.Fitting.Stepping.{FitsDecision, FitsStep, IsStepping, answers_step, by_kinds, fits-handle, fits-nothing, fits-refuse, ends_here}
 use Rattle.machine_laws.proofs.Fitting.Staying.{stay-perform}
-use Rattle.machine_laws.proofs.Fitting.Shared.{fits-look, fits-seek, fits-return, fits-give, fits-give_own, of_process_handle}
+use Rattle.machine_laws.proofs.Fitting.Shared.{fits-look, fits-seek, fits-give, fits-give_own, of_process_handle}
 use Rattle.machine_laws.proofs.Fitting.Regular.{IsTame, looking, plain, calling}
 use Rattle.machine_laws.proofs.Fitting.Tame.{may_tell, tame-both, tame-in, tame-moves, tame-going}
 
@@ -83,7 +83,7 @@ fits-create {script = script} {S = S} {t = t} {row = row} kind name start x name
     made new room i number free =
         let told = start_told start in
         let owed = start_owed start in
-        fits-handle (Of word.Create part.Do) refl (Make kind name (InProcess row.process i) ∷ start_moves start) x number (tame-both (Make kind name (InProcess row.process i) ∷ []) (start_moves start) (tame-going _ refl refl refl) (tame-in (begins i).calm)) h register ((record { room = room; new = new }, free, named, tt), (begins i).each) (begins i).threads (omega arith) (omega arith)
+        fits-handle (Of word.Create part.Do) refl (Make kind name (InProcess row.process i) ∷ start_moves start) x number (tame-both (Make kind name (InProcess row.process i) ∷ []) (start_moves start) (let few = (begins i).calm.loses in omega arith) (tame-going _ refl refl refl) (tame-in (begins i).calm)) h register ((record { room = room; new = new }, free, named, tt), (begins i).each) (begins i).threads (omega arith) (omega arith)
 
 pub fits-create_mutex : {script : Script} {S : State} {t : ObjNo} {row : ThreadRow} (name : List ℕ) (x : ℕ) → IsStepping script S t row (instr.CreateMutex name x) → FitsDecision looking script t S (create_mutex_do S t row name x)
 fits-create_mutex name x h = fits-create Mutex name None x (λ e. absurd (cc)) h h.registers (λ i. record { each = tt; threads = refl; calm = tame-moves [] refl refl })
@@ -105,31 +105,28 @@ fits-create_semaphore {script = script} {S = S} name count x h = fits-create Sem
 
 -- `dup` and `duplocal`
 fits-dup_do : {script : Script} {S : State} {t : ObjNo} {row : ThreadRow} {instr : Instr} (word : Word) (named : may_tell plain (Of word part.Do) ≡ true) (y : ℕ) (handle : Option NewHandle) (uses : Option ObjNo) → IsStepping script S t row instr → row.uses ≡ uses
-    → ((o : ObjNo) → IsAlive (object_of S o) → FitsDecision looking script t S (give_handle t (Of word part.Do) o y handle)) → FitsDecision looking script t S (dup_do S t word y handle uses)
+    → ((o : ObjNo) → 0 < count_of S o → FitsDecision looking script t S (give_handle t (Of word part.Do) o y handle)) → FitsDecision looking script t S (dup_do S t word y handle uses)
 fits-dup_do {script = script} {S = S} {t = t} word named y handle None h e given = fits-nothing script S t
 fits-dup_do {script = script} {S = S} {t = t} {row = row} word named y handle (Some o) h e given =
     if_cases (FitsDecision looking script t S) (stays_with_thread (object_of S o)) _ _ (λ _. fits-refuse (Of word part.Do) named PermissionDenied h)
-    (λ _. given o (use_is_alive S t row o h.rows.lives h.is e))
+    (λ _. given o (use_is_counted S t row o h.is e))
 
 pub fits-dup : {script : Script} {S : State} {t : ObjNo} {row : ThreadRow} {instr : Instr} (x y : ℕ) (p : Option Part) → IsStepping script S t row instr → y < 8 → row.part ≡ p → FitsDecision looking script t S (dup_step S t row x y p)
 fits-dup x y None h register at = fits-look word.Dup x refl refl h (ap is_before_use at)
-fits-dup {row = row} x y (Some p) h register at = fits-dup_do word.Dup refl y _ row.uses h refl (λ o alive. fits-give (Of word.Dup part.Do) refl o y refl h register alive)
+fits-dup {row = row} x y (Some p) h register at = fits-dup_do word.Dup refl y _ row.uses h refl (λ o counted. fits-give (Of word.Dup part.Do) refl o y refl h register counted)
 
 pub fits-duplocal : {script : Script} {S : State} {t : ObjNo} {row : ThreadRow} {instr : Instr} (x y : ℕ) (p : Option Part) → IsStepping script S t row instr → y < 8 → row.part ≡ p → FitsDecision looking script t S (duplocal_step S t row x y p)
 fits-duplocal x y None h register at = fits-look word.Duplocal x refl refl h (ap is_before_use at)
-fits-duplocal {row = row} x y (Some p) h register at = fits-dup_do word.Duplocal refl y _ row.uses h refl (λ o alive. fits-give_own (Of word.Duplocal part.Do) refl o y refl h register alive)
+fits-duplocal {row = row} x y (Some p) h register at = fits-dup_do word.Duplocal refl y _ row.uses h refl (λ o counted. fits-give_own (Of word.Duplocal part.Do) refl o y refl h register counted)
 
 -- `open`
 fits-open_do : {script : Script} {S : State} {t : ObjNo} {row : ThreadRow} {instr : Instr} (x : ℕ) (uses : Option ObjNo) → IsStepping script S t row instr → x < 8 → row.uses ≡ uses → FitsDecision looking script t S (open_do S t row x uses)
 fits-open_do {script = script} {S = S} {t = t} x None h register e = fits-nothing script S t
-fits-open_do {S = S} {t = t} {row = row} x (Some o) h register e = fits-give (Of word.Open part.Do) refl o x refl h register (use_is_alive S t row o h.rows.lives h.is e)
+fits-open_do {S = S} {t = t} {row = row} x (Some o) h register e = fits-give (Of word.Open part.Do) refl o x refl h register (use_is_counted S t row o h.is e)
 
-pub fits-open : {script : Script} {S : State} {t : ObjNo} {row : ThreadRow} {instr : Instr} (kind : Kind) (name : List ℕ) (x : ℕ) (p : Option Part) → IsStepping script S t row instr → x < 8 → row.part ≡ p → FitsDecision looking script t S (open_step S t row kind name x p)
-fits-open kind name x None h register at = fits-unless (Of word.Open part.Seek) refl _ h (λ _. fits-seek word.Open kind name refl h (ap is_before_use at))
+pub fits-open : {script : Script} {S : State} {t : ObjNo} {row : ThreadRow} (kind : Kind) (name : List ℕ) (x : ℕ) (p : Option Part) → IsStepping script S t row (instr.Open kind name x) → x < 8 → row.part ≡ p → FitsDecision looking script t S (open_step S t row kind name x p)
+fits-open kind name x None h register at = fits-unless (Of word.Open part.Seek) refl _ h (λ none. fits-seek word.Open kind name refl h refl (ap is_before_use at) none)
 fits-open {row = row} kind name x (Some p) h register at = fits-open_do x row.uses h register refl
-
-pub fits-open_return : {script : Script} {S : State} {t : ObjNo} {row : ThreadRow} {instr : Instr} → IsStepping script S t row instr → is_before_use row.part ≡ true → FitsDecision looking script t S (open_return S t row)
-fits-open_return h before = fits-return word.Open part.Do refl refl h before refl tt
 
 -- the handle of an object stands in the table of the thread or of its process
 handle_by : {script : Script} {S : State} {t : ObjNo} {row : ThreadRow} {instr : Instr} (local : Bool) (i : ℕ) (o : ObjNo) → IsStepping script S t row instr → (slot_at (table_of S (if local then t else row.process)) i).object ≡ Some o → IsHandle S t (if local then InThread t i else InProcess row.process i) o
@@ -144,11 +141,11 @@ pub fits-close : {script : Script} {S : State} {t : ObjNo} {row : ThreadRow} {in
 fits-close {script = script} {S = S} {t = t} {row = row} x h going = closed (slice_index row.registers x) (object_at S t row (slice_index row.registers x)) refl
   where
     may_close : MayClose script S t
-    may_close = record { rows = h.rows; row = row; is = h.is; waits = h.waits; held = ap stage_holds (h.live going); going = going }
+    may_close = record { rows = h.rows; row = row; is = h.is; waits = h.waits; held = ap stage_holds (h.live); going = going }
 
     closed : (handle : ℕ) (named : Option ObjNo) → object_at S t row handle ≡ named → FitsStep calling script t S (close_handle S t row handle named)
     closed handle None e = by_kinds script S t _ (fits-refuse (Of word.Close part.Do) refl BadHandle h)
     closed handle (Some o) e =
         let holder = holder_of t row handle in
         let done = closes script S t holder o may_close (handle_named handle o h e) in
-        answers_step (Of word.Close part.Do) refl (close_moves S t holder o) (pos 0) done.calm done.each (stay-perform script t (close_moves S t holder o) S (stay-close script S t holder o) (at_instruction h)) done.told (let few = done.light in omega arith)
+        answers_step (Of word.Close part.Do) refl (close_moves S t holder o) (pos 0) done.calm done.each (stay-perform script t (close_moves S t holder o) S (stay-close script S t holder o) (ends_here h)) done.told (let few = done.light in omega arith)

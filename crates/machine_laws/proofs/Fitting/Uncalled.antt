@@ -12,7 +12,7 @@ use Rattle.machine.specs.declared.state.State.{State}
 use Rattle.machine.specs.FitsServers.{IsUncalled}
 use Rattle.machine.specs.Rows.{thread_of}
 use Rattle.machine.specs.Serving.{times_called, times_sent}
-use Rattle.machine.specs.Task.{is_returning}
+use Rattle.machine.specs.Out.{is_returning}
 use Rattle.machine.specs.WellFormed.{AreRows, times_logged}
 use Rattle.move_laws.proofs.Lives.LivesMove.{zero_or}
 use Rattle.machine_laws.proofs.Fitting.Stepping.{IsStepping}
@@ -27,7 +27,7 @@ is_uncalled script S u row rows is other = λ r at live.
     uncalled script S u row rows is other (ap (λ (x : ThreadRow). x.stage) same_row ∙ live)
 
 pub stepping_uncalled : {script : Script} {S : State} {t : ObjNo} {row : ThreadRow} {instr : Instr} → IsStepping script S t row instr → is_returning row.part ≡ false → times_called S.serving.messages.outstanding t ≡ 0
-stepping_uncalled {script = script} {S = S} {t = t} {row = row} h going = uncalled script S t row h.rows h.is (λ e. let nothing = h.waits in absurd (cc)) (h.live going)
+stepping_uncalled {script = script} {S = S} {t = t} {row = row} h going = uncalled script S t row h.rows h.is (λ e. let nothing = h.waits in absurd (cc)) (h.live)
 
 -- no message has a status that isn't pending, nor one that a logon has
 pub not_sent : (script : Script) (S : State) (t : ObjNo) (s : ℕ) → AreRows script S → is_pending S.synchronization.requests t s ≡ false → times_sent S.serving.messages.outstanding t s ≡ 0

@@ -22,8 +22,8 @@ use Rattle.machine.specs.References.{mutex_names, total}
 use Rattle.machine.specs.Rows.{thread_of}
 use Rattle.machine.specs.ServerMoves.{owned_by}
 use Rattle.machine.specs.Serving.{times_owned}
-use Rattle.machine.specs.Task.{is_returning}
-use Rattle.machine.specs.WellFormed.{AreRows, part_of}
+use Rattle.machine.specs.Out.{is_returning, part_of}
+use Rattle.machine.specs.WellFormed.{AreRows}
 use Rattle.move_laws.proofs.Lists.Cases.{if_cases}
 use Rattle.move_laws.proofs.References.Same.{same_object, same_self}
 use Rattle.machine_laws.proofs.Fitting.Finishing.{finishes}
@@ -72,7 +72,7 @@ pub record IsGiving (script : Script) (S : State) (t : ObjNo) (row : ThreadRow) 
 
 -- what is given up of closing servers: a message to one of the thread's own, a session of one; and a handle is one, which a doomed thread gives up, as it does a use
 abbrev pub IsGiven : State → ObjNo → Holding → Type 0
-IsGiven S t (OfMessage m) = (message : Message) → message_of S.serving.messages m ≡ Some message → (owner_of S.serving.servers message.row.server ≡ Some t) × (is_closing S.serving.servers message.row.server ≡ true)
+IsGiven S t (OfMessage m) = (is_some (message_of S.serving.messages m) ≡ true) × ((message : Message) → message_of S.serving.messages m ≡ Some message → (owner_of S.serving.servers message.row.server ≡ Some t) × (is_closing S.serving.servers message.row.server ≡ true))
 IsGiven S t (OfLink s o) = is_closing S.serving.servers o ≡ true
 IsGiven S t (Use o) = IsAtStage S t Doomed
 IsGiven S t (Handle h o) = (is_handle h ≡ true) × IsAtStage S t Doomed
@@ -112,13 +112,14 @@ module _ (script : Script) (S : State) (t : ObjNo) (row : ThreadRow) (h : IsGivi
   gives-message : (o : ObjNo) → is_closing S.serving.servers o ≡ true → 0 < times_owned S.serving.owned t o → (first : Message) → Contains (messages_at S.serving.messages o) first → Gives (OfMessage first.number)
   gives-message o closing owned first there = (
     fits-message first.number,
+    (ap is_some (found_one S.serving.messages.outstanding first h.rows.serving.messages.rising (contains_filter (is_at o.0) S.serving.messages.outstanding first there)),
     λ message is.
         let among = contains_filter (is_at o.0) S.serving.messages.outstanding first there in
         let found : message_of S.serving.messages first.number ≡ Some first = found_one S.serving.messages.outstanding first h.rows.serving.messages.rising among in
         let both : Some message ≡ Some first = sym is ∙ found in
         let own : message ≡ first = cc in
         let at : message.row.server ≡ o = ap (λ (z : Message). z.row.server) own ∙ same_object first.row.server o (message-at o S.serving.messages.outstanding first there) in
-        (ap (owner_of S.serving.servers) at ∙ owner-of o owned, ap (is_closing S.serving.servers) at ∙ closing),
+        (ap (owner_of S.serving.servers) at ∙ owner-of o owned, ap (is_closing S.serving.servers) at ∙ closing)),
   )
 
   all-messages : (o : ObjNo) → is_closing S.serving.servers o ≡ true → 0 < times_owned S.serving.owned t o → (messages : List Message) → ((m : Message) → Contains messages m → Contains (messages_at S.serving.messages o) m) → AllByRecursion Gives (map (λ (m : Message). OfMessage m.number) messages)

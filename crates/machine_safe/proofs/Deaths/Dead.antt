@@ -16,15 +16,15 @@ use Rattle.state_rows.specs.declared.thread.ThreadRow.{ThreadRow}
 use Rattle.machine.specs.declared.holding.Holding.{Holding}
 use Rattle.machine.specs.declared.holding.Holding.TheVariants.{Mutex, Logon}
 use Rattle.machine.specs.declared.state.State.{State}
-use Rattle.machine.specs.Boot.{boot, boot_of, born}
-use Rattle.machine.specs.History.{after, after_from, next, IsLegal, IsLegalFrom}
+use Rattle.machine.specs.Boot.{boot, boot_in, boot_of, born}
+use Rattle.machine.specs.History.{after_from, after_in, choosing, next_by, IsLegalFrom, IsLegalIn}
 use Rattle.machine.specs.Holdings.{closing_holdings, held_handles, held_logons, held_mutexes, held_servers, held_slot, held_use, holdings, left_of, process_handles, stage_left}
 use Rattle.machine.specs.References.{mutex_names, option_names, total}
 use Rattle.machine.specs.Rows.{table_of, thread_of}
 use Rattle.machine.specs.WellFormed.{AreRows, IsSpent}
 use Rattle.machine_laws.proofs.AtBoot.BootRows.{const_either, rows-boot}
 use Rattle.machine_laws.proofs.Reached.AfterHistory.{well_formed-after}
-use Rattle.machine_laws.proofs.Reached.NextState.{sound-next}
+use Rattle.machine_safe.proofs.Done.{rows-by, rows-choosing}
 use Rattle.move_laws.proofs.Lists.Copies.{copy_at}
 use Rattle.move_laws.proofs.References.Same.{same_self}
 use Rattle.machine_safe.specs.SafeDeaths.{HasNone, StaysDead, cleanings}
@@ -53,8 +53,8 @@ emptied-boot script p none left i = elim (const_either (replicate 256 fresh_slot
 emptied-run : (script : Script) (S : State) (place : ℕ) (es : List Entry) → IsShaped script → AreRows script S → IsLegalFrom script S place es → AreEmptied S → AreEmptied (after_from script S es)
 emptied-run script S place [] shaped rows legal h = h
 emptied-run script S place (e ∷ es) shaped rows legal h =
-    emptied-run script (next script S e.actor) (place + 1) es shaped (sound-next script S e.actor shaped rows).rows legal.1
-    (kept-next script AreEmptied (emptied-move script) (emptied-pay script) S e.actor shaped rows h)
+    emptied-run script (next_by script S e) (place + 1) es shaped (rows-by script S e shaped rows) legal.1
+    (kept-next script AreEmptied (emptied-move script) (emptied-pay script) (choosing e S) e.actor shaped (rows-choosing script S e rows) h)
 
 -- nothing is held of what names nothing
 no-mutexes : (xs : List ObjNo) → ((o : ObjNo) → total (mutex_names o) xs ≡ 0) → xs ≡ []
@@ -107,10 +107,10 @@ none-left script S t rows h empty = record {
         let none = unheld script S t f rows (let le = live-left (thread_of S t) in let left = h.left in omega arith) in
         let one : option_names t (holder_of S.synchronization.nano f) ≡ 1 = ap (option_names t) (held_holder S.synchronization.nano t f e).1 ∙ same_self t in absurd (omega arith)
 
-no-process : (script : Script) (before : List Entry) (t : ObjNo) → IsWellFormed script → Dies (boot script) (after script before) (effects_of before) → 0 < row_bit stage_left (thread_of (boot script) t) → total (left_of t) (after script before).references.threads ≡ 0
-no-process script before t valid front was = total-none (left_of t) (after script before).references.threads None (λ j. by j (get_or (after script before).references.threads j None) refl)
+no-process : (shared : Bool) (script : Script) (before : List Entry) (t : ObjNo) → IsWellFormed script → Dies (boot_in shared script) (after_in shared script before) (effects_of before) → 0 < row_bit stage_left (thread_of (boot_in shared script) t) → total (left_of t) (after_in shared script before).references.threads ≡ 0
+no-process shared script before t valid front was = total-none (left_of t) (after_in shared script before).references.threads None (λ j. by j (get_or (after_in shared script before).references.threads j None) refl)
   where
-    by : (j : ℕ) (x : Option ThreadRow) → get_or (after script before).references.threads j None ≡ x → left_of t x ≡ 0
+    by : (j : ℕ) (x : Option ThreadRow) → get_or (after_in shared script before).references.threads j None ≡ x → left_of t x ≡ 0
     by j None is = refl
     by j (Some row) is = test (row.process.0 == t.0) refl
       where
@@ -118,42 +118,42 @@ no-process script before t valid front was = total-none (left_of t) (after scrip
         test false e = refl
         test true e =
             let old = front.were j row is in
-            let none = (rows-boot script valid).references.threads.processes j old.old old.was in
+            let none = (rows-boot shared script valid).references.threads.processes j old.old old.was in
             let same : old.old.process.0 ≡ t.0 = ap (λ (p : ObjNo). p.0) old.process ∙ eqb-true row.process.0 t.0 e in
-            let gone : row_bit stage_left (thread_of (boot script) t) ≡ 0 = ap (row_bit stage_left) (ap (λ (n : ℕ). get_or (boot script).references.threads n None) (sym same) ∙ none) in absurd (omega arith)
+            let gone : row_bit stage_left (thread_of (boot_in shared script) t) ≡ 0 = ap (row_bit stage_left) (ap (λ (n : ℕ). get_or (boot_in shared script).references.threads n None) (sym same) ∙ none) in absurd (omega arith)
 
-own-empty : (script : Script) (before : List Entry) (t : ObjNo) → IsWellFormed script → IsLegal script before → AreEmptied (after script before) → IsGone (after script before) t → 0 < cleanings before t → IsEmptyTable (after script before).references.handles t
-own-empty script before t valid legal emptied h some = by (thread_of (after script before) t) refl
+own-empty : (shared : Bool) (script : Script) (before : List Entry) (t : ObjNo) → IsWellFormed script → IsLegalIn shared script before → AreEmptied (after_in shared script before) → IsGone (after_in shared script before) t → 0 < cleanings before t → IsEmptyTable (after_in shared script before).references.handles t
+own-empty shared script before t valid legal emptied h some = by (thread_of (after_in shared script before) t) refl
   where
-    by : (x : Option ThreadRow) → thread_of (after script before) t ≡ x → IsEmptyTable (after script before).references.handles t
-    by (Some row) is = ((well_formed-after script before valid).rows.references.spent.rows t.0 row is (not-left row.stage (sym (ap (row_bit stage_left) is) ∙ h.left))).empty
+    by : (x : Option ThreadRow) → thread_of (after_in shared script before) t ≡ x → IsEmptyTable (after_in shared script before).references.handles t
+    by (Some row) is = ((well_formed-after shared script before valid).rows.references.spent.rows t.0 row is (not-left row.stage (sym (ap (row_bit stage_left) is) ∙ h.left))).empty
     by None is =
-        let run = exact-run script (boot script) 1 before t (formed_is_shaped script valid) (rows-boot script valid) legal in
-        emptied t is (no-process script before t valid (dies-history script before valid legal) (omega arith))
+        let run = exact-run script (boot_in shared script) 1 before t (formed_is_shaped script valid) (rows-boot shared script valid) legal in
+        emptied t is (no-process shared script before t valid (dies-history shared script before valid legal) (omega arith))
 
-pub stays-dead : (script : Script) (history : List Entry) (t : ObjNo) → IsWellFormed script → IsLegal script history → StaysDead script history t
-stays-dead script history t valid legal = record {
-  acts = λ before e later is some. let c = cut script history before e later valid legal is in no-action script (after script before) t e.actor c.rows (gone before c.legal_before some) c.here.able;
-  gains = λ before e later h o is some own. let c = cut script history before e later valid legal is in c.step.gains_none h o (own-barred (after script before) t h (gone before c.legal_before some).left own);
+pub stays-dead : (shared : Bool) (script : Script) (history : List Entry) (t : ObjNo) → IsWellFormed script → IsLegalIn shared script history → StaysDead shared script history t
+stays-dead shared script history t valid legal = record {
+  acts = λ before e later is some. let c = cut shared script history before e later valid legal is in no-action script (after_in shared script before) t e.actor c.rows (gone before c.legal_before some) c.here.able;
+  gains = λ before e later h o is some own. let c = cut shared script history before e later valid legal is in c.step.gains_none h o (own-barred (after_in shared script before) t h (gone before c.legal_before some).left own);
   shares = λ before e later row i o is some at others.
-      let c = cut script history before e later valid legal is in
-      let none = left-none row.process (thread_of (after script before) t) (gone before c.legal_before some).left in
-      c.step.gains_none (InProcess row.process i) o (alone script before t row valid c.legal_before c.front others ∙ none);
+      let c = cut shared script history before e later valid legal is in
+      let none = left-none row.process (thread_of (after_in shared script before) t) (gone before c.legal_before some).left in
+      c.step.gains_none (InProcess row.process i) o (alone shared script before t row valid c.legal_before c.front others ∙ none);
   owes = λ before later is some. (gone before (front before later is) some).paid;
   none = λ before later is some.
       let first = front before later is in
-      none-left script (after script before) t (well_formed-after script before valid).rows (gone before first some) (own-empty script before t valid first (emptied before first) (gone before first some) some);
-  has = λ before later row is some at. has-none script (after script before) t row (well_formed-after script before valid).rows (gone before (front before later is) some) (emptied before (front before later is)) at;
+      none-left script (after_in shared script before) t (well_formed-after shared script before valid).rows (gone before first some) (own-empty shared script before t valid first (emptied before first) (gone before first some) some);
+  has = λ before later row is some at. has-none script (after_in shared script before) t row (well_formed-after shared script before valid).rows (gone before (front before later is) some) (emptied before (front before later is)) at;
 }
   where
     shaped : IsShaped script
     shaped = formed_is_shaped script valid
 
-    front : (before later : List Entry) → history ≡ before ++ later → IsLegal script before
-    front before later is = legal-front script (boot script) 1 before later (subst (IsLegal script) is legal)
+    front : (before later : List Entry) → history ≡ before ++ later → IsLegalIn shared script before
+    front before later is = legal-front script (boot_in shared script) 1 before later (subst (IsLegalIn shared script) is legal)
 
-    gone : (before : List Entry) → IsLegal script before → 0 < cleanings before t → IsGone (after script before) t
-    gone before first some = gone-after script (boot script) 1 before t shaped (rows-boot script valid) first some
+    gone : (before : List Entry) → IsLegalIn shared script before → 0 < cleanings before t → IsGone (after_in shared script before) t
+    gone before first some = gone-after script (boot_in shared script) 1 before t shaped (rows-boot shared script valid) first some
 
-    emptied : (before : List Entry) → IsLegal script before → AreEmptied (after script before)
-    emptied before first = emptied-run script (boot script) 1 before shaped (rows-boot script valid) first (emptied-boot script)
+    emptied : (before : List Entry) → IsLegalIn shared script before → AreEmptied (after_in shared script before)
+    emptied before first = emptied-run script (boot_in shared script) 1 before shaped (rows-boot shared script valid) first (emptied-boot script)

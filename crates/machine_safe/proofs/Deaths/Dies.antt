@@ -7,6 +7,7 @@ use Rattle.entry_log.specs.declared.effect.LockNo.{LockNo}
 use Rattle.entry_log.specs.declared.effect.LockNo.TheVariants.{Object, Fast}
 use Rattle.state_rows.specs.declared.thread.ThreadRow.{ThreadRow}
 use Rattle.machine.specs.declared.state.State.{State}
+use Rattle.machine.specs.History.{keeping}
 use Rattle.machine.specs.Holdings.{stage_left}
 use Rattle.machine.specs.References.{option_names, stage_holds}
 use Rattle.machine.specs.Rows.{thread_of}
@@ -37,6 +38,13 @@ IsBarred S _ = ⊥
 
 abbrev pub GainsNone : State → List Effect → Type 0
 GainsNone S effects = (h : Holder) (o : ObjNo) → IsBarred S h → pluses_by effects h o ≡ 0
+
+pub gains-keeping : (S : State) (keep : Bool) (effects : List Effect) → GainsNone (keeping keep S) effects → GainsNone S effects
+gains-keeping S keep effects h (InProcess p i) o none = h (InProcess p i) o none
+gains-keeping S keep effects h (InThread t i) o none = h (InThread t i) o none
+gains-keeping S keep effects h (Temp t) o none = h (Temp t) o none
+gains-keeping S keep effects h (Own t) o none = h (Own t) o none
+gains-keeping S keep effects h _ o none = absurd none
 
 pub own-barred : (S : State) (t : ObjNo) (h : Holder) → row_bit stage_left (thread_of S t) ≡ 0 → is_own t h ≡ true → IsBarred S h
 own-barred S t (InThread u i) none own = ap (λ (x : ObjNo). row_bit stage_left (thread_of S x)) (same_object u t (eqb-true u.0 t.0 own)) ∙ none

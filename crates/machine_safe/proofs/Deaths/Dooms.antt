@@ -1,5 +1,5 @@
 -- After its doom a thread takes no lock and gets no signal, and at its doom it holds no fast mutex.
-use Rattle.std.proofs.Common.{◌≡◌, ℕ, ◌+◌, ◌<◌, List, [], ◌∷◌, ◌++◌, arith, refl, ap, Option, Some, None}
+use Rattle.std.proofs.Common.{◌≡◌, ℕ, ◌+◌, ◌<◌, List, [], ◌∷◌, ◌++◌, arith, refl, ap, Bool, Option, Some, None}
 use Rattle.sym_base.specs.declared.number.ObjNo.{ObjNo}
 use Rattle.script_types.specs.declared.script.Script.{Script}
 use Rattle.script_types.specs.Source.{IsWellFormed}
@@ -9,7 +9,7 @@ use Rattle.entry_log.specs.declared.effect.LockNo.TheVariants.{Fast}
 use Rattle.entry_log.specs.declared.entry.Entry.{Entry}
 use Rattle.state_rows.specs.Nano.{holder_of}
 use Rattle.machine.specs.declared.state.State.{State}
-use Rattle.machine.specs.History.{after, next, IsLegal}
+use Rattle.machine.specs.History.{after_in, next_by, IsLegalIn}
 use Rattle.machine.specs.References.{option_names}
 use Rattle.machine.specs.Rows.{thread_of}
 use Rattle.machine.specs.WellFormed.{AreRows}
@@ -22,9 +22,9 @@ use Rattle.machine_safe.proofs.Deaths.LockMoves.{only-live}
 use Rattle.machine_safe.proofs.Deaths.Rows.{held-one, left-held, live-left, row_bit, stage_live}
 
 -- a thread that is doomed in an entry isn't live after it
-pub doomed-after : (script : Script) (before : List Entry) (e : Entry) (later : List Entry) (t : ObjNo) → IsCut script before e later → 0 < dooms e.effects t → row_bit stage_live (thread_of (next script (after script before) e.actor) t) ≡ 0
-doomed-after script before e later t c doomed =
-    let S = after script before in
+pub doomed-after : (shared : Bool) (script : Script) (before : List Entry) (e : Entry) (later : List Entry) (t : ObjNo) → IsCut shared script before e later → 0 < dooms e.effects t → row_bit stage_live (thread_of (next_by script (after_in shared script before) e) t) ≡ 0
+doomed-after shared script before e later t c doomed =
+    let S = after_in shared script before in
     let l = c.step.live t in
     let a = live-left (thread_of S t) in
     let b = left-held (thread_of S t) in
@@ -51,14 +51,14 @@ gives-last before e t lock =
     let a = gives-append (effects_of before) (effects_of (e ∷ [])) t lock in
     let b = gives-append e.effects [] t lock in omega arith
 
-pub doom-ends : (script : Script) (history : List Entry) (t : ObjNo) → IsWellFormed script → IsLegal script history → DoomEnds history t
-doom-ends script history t valid legal = record {
-  takes_none = λ before e later lock is doomed. let c = cut script history before e later valid legal is in c.rest.takes_none t lock (doomed-after script before e later t c doomed);
-  signals_none = λ before e later is doomed. let c = cut script history before e later valid legal is in c.rest.signals_none t (doomed-after script before e later t c doomed);
+pub doom-ends : (shared : Bool) (script : Script) (history : List Entry) (t : ObjNo) → IsWellFormed script → IsLegalIn shared script history → DoomEnds history t
+doom-ends shared script history t valid legal = record {
+  takes_none = λ before e later lock is doomed. let c = cut shared script history before e later valid legal is in c.rest.takes_none t lock (doomed-after shared script before e later t c doomed);
+  signals_none = λ before e later is doomed. let c = cut shared script history before e later valid legal is in c.rest.signals_none t (doomed-after shared script before e later t c doomed);
   fast = λ before e later f is doomed.
-      let c = cut script history before e later valid legal is in
-      let T = next script (after script before) e.actor in
-      let none = unheld script T t f c.rows_next (doomed-after script before e later t c doomed) in
+      let c = cut shared script history before e later valid legal is in
+      let T = next_by script (after_in shared script before) e in
+      let none = unheld script T t f c.rows_next (doomed-after shared script before e later t c doomed) in
       let start = unlocked-boot script t (Fast f) in
       let a = c.front.locks t (Fast f) in
       let b = c.step.locks t (Fast f) in

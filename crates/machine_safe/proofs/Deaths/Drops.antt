@@ -23,7 +23,8 @@ use Rattle.machine.specs.Fits.{EachFits, Sane}
 use Rattle.machine.specs.Holdings.{stage_left}
 use Rattle.machine.specs.Interrupts.{immediate, immediate_plan, interrupt, supervisor}
 use Rattle.machine.specs.Moves.{moved, perform}
-use Rattle.machine.specs.References.{dies, stage_holds, total}
+use Rattle.machine.specs.References.{stage_holds, total}
+use Rattle.machine.specs.Kept.{dies}
 use Rattle.machine.specs.Rows.{owed_of, thread_of}
 use Rattle.machine.specs.Steps.{decision_of}
 use Rattle.machine.specs.Transition.{act}

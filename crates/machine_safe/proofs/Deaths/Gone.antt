@@ -1,6 +1,6 @@
 -- A thread that is cleaned owes nothing from then on, and doesn't act.
 use Rattle.std.proofs.Common.{◌≡◌, ◌⊎◌, inl, inr, ℕ, ◌+◌, ◌<◌, List, [], ◌∷◌, length, get_or, arith, refl, sym, ap, subst, ◌∙◌, Option, Some, None, Bool, true, false}
-use Rattle.std.specs.Prelude.{◌&&◌, ◌==◌, if◌then◌else◌, is_none, is_some, not}
+use Rattle.std.specs.Prelude.{◌&&◌, ◌||◌, ◌==◌, if◌then◌else◌, is_none, is_some, not}
 use Rattle.std.proofs.lemmas.Bool.{eq-eqb, eqb-true}
 use Rattle.std.proofs.lemmas.List.{get_or-set_other}
 use Rattle.sym_base.specs.declared.number.ObjNo.{ObjNo}
@@ -36,19 +36,20 @@ use Rattle.machine.specs.declared.state.State.{State}
 use Rattle.machine.specs.declared.task.Task.{Task}
 use Rattle.machine.specs.Bodies.{decision_by, leave_queue, ops_of, run_body}
 use Rattle.machine.specs.Fits.{EachFits, FitsMove, most_owed}
-use Rattle.machine.specs.History.{after_from, next, CanAct, IsLegalFrom}
+use Rattle.machine.specs.History.{after_from, choosing, is_deathless, keeping, next, next_by, CanAct, IsLegalFrom, IsNext}
 use Rattle.machine.specs.Holdings.{holdings, stage_left}
 use Rattle.machine.specs.Interrupts.{immediate, immediate_plan, interrupt, supervisor}
 use Rattle.machine.specs.Moves.{moved, perform}
 use Rattle.machine.specs.References.{total}
 use Rattle.machine.specs.Rows.{first_of, owed_of, thread_of, without_first}
-use Rattle.machine.specs.Task.{by_stage, instruction, is_able, is_ready, is_returning, is_stopped, is_waiting, pay_or, return_or, task_of, task_of_row}
+use Rattle.machine.specs.Task.{by_stage, instruction, is_able, is_ready, is_stopped, is_waiting, may_act, pay_or, return_or, task_of, task_of_row}
+use Rattle.machine.specs.Out.{is_out, is_returning, part_of}
 use Rattle.machine.specs.Transition.{act}
 use Rattle.machine.specs.WellFormed.{AreRows, is_spent}
 use Rattle.machine_laws.proofs.Fitting.Actions.{of_action}
 use Rattle.machine_laws.proofs.Fitting.Bodies.{light-leave, light-ops, light-then, sane-light, short_body}
 use Rattle.machine_laws.proofs.Fitting.Interrupts.{sane-supervisor}
-use Rattle.machine_laws.proofs.Reached.NextState.{sound-next}
+use Rattle.machine_safe.proofs.Done.{IsDone, done-next, rows-by, rows-choosing}
 use Rattle.move_laws.proofs.References.Same.{same_object}
 use Rattle.machine_safe.specs.CountAfter.{is_by}
 use Rattle.machine_safe.specs.SafeDeaths.{cleanings}
@@ -163,6 +164,10 @@ not-left Doomed e = absurd (omega arith)
 not-left Cleaned e = refl
 not-left Buried e = refl
 
+both-false : (a b : Bool) → b ≡ false → (a && b) ≡ false
+both-false true b e = e
+both-false false b e = refl
+
 -- such a thread has nothing to do
 idle-by : (returns : Bool) (at : Option Instr) (owed : List Owed) (stage : Stage) (has : List Holding) (own : Option Task) → returns ≡ false → owed ≡ [] → is_spent stage ≡ true → is_some (return_or returns at (pay_or (first_of owed) (by_stage stage has own))) ≡ false
 idle-by true at owed stage has own going paid spent = absurd (cc)
@@ -181,6 +186,19 @@ no-task script S t rows h = by (thread_of S t) refl h.left
         let spent = not-left row.stage left in
         idle-by (is_returning row.part) (instruction script row) (owed_of S t) row.stage (holdings S t row) _ (rows.references.spent.rows t.0 row is spent).going h.paid spent
 
+-- nor is it out
+not-out : (script : Script) (S : State) (t : ObjNo) → AreRows script S → IsGone S t → is_out S t ≡ false
+not-out script S t rows h = by (thread_of S t) refl h.left
+  where
+    by : (x : Option ThreadRow) → thread_of S t ≡ x → row_bit stage_left x ≡ 0 → (S.mode.shared && is_returning (part_of x)) ≡ false
+    by None is left = both-false S.mode.shared false refl
+    by (Some row) is left = both-false S.mode.shared (is_returning row.part) (rows.references.spent.rows t.0 row is (not-left row.stage left)).going
+
+able_or : (a b : Bool) → b ≡ false → (a || b) ≡ true → a ≡ true
+able_or true b none may = refl
+able_or false true none may = cc
+able_or false false none may = may
+
 pub no-action : (script : Script) (S : State) (t : ObjNo) (actor : Actor) → AreRows script S → IsGone S t → CanAct script S actor → is_by t actor ≡ false
 no-action script S t (Thread u) rows h able = by (u.0 == t.0) refl
   where
@@ -188,7 +206,8 @@ no-action script S t (Thread u) rows h able = by (u.0 == t.0) refl
     by false e = refl
     by true e =
         let same : u ≡ t = same_object u t (eqb-true u.0 t.0 e) in
-        let parts = both (is_ready script S t) (is_none (wanted_holder S.synchronization.nano t)) (subst (λ (x : ObjNo). is_able script S x ≡ true) same able) in
+        let may : may_act script S t ≡ true = subst (λ (x : ObjNo). may_act script S x ≡ true) same able in
+        let parts = both (is_ready script S t) (is_none (wanted_holder S.synchronization.nano t)) (able_or (is_able script S t) (is_out S t) (not-out script S t rows h) may) in
         let ready = both (not (is_waiting S t) && not (is_stopped S t)) (is_some (task_of script S t)) parts.0 in
         let none = no-task script S t rows h in
         let some = ready.1 in absurd (cc)
@@ -198,16 +217,23 @@ no-action script S t Tick rows h able = refl
 no-action script S t Idle rows h able = refl
 
 -- it stays so
-gone-entry : (script : Script) (S : State) (place : ℕ) (e : Entry) (es : List Entry) (t : ObjNo) → IsShaped script → AreRows script S → IsLegalFrom script S place (e ∷ es) → IsGone S t → IsGone (next script S e.actor) t
-gone-entry script S place e es t shaped rows legal h = record {
-  left = let le = (dies-entry script S place e es shaped rows legal).left t in let none = h.left in omega arith;
-  paid = owed-next script S e.actor t shaped rows (no-action script S t e.actor rows h legal.0.able) ∙ h.paid;
+gone-entry : (script : Script) (S : State) (place : ℕ) (e : Entry) (t : ObjNo) → IsShaped script → AreRows script S → IsDone script S place e → IsGone S t → IsGone (next script S e.actor) t
+gone-entry script S place e t shaped rows done h = record {
+  left = let le = (dies-entry script S place e shaped rows done).left t in let none = h.left in omega arith;
+  paid = owed-next script S e.actor t shaped rows (no-action script S t e.actor rows h done.able) ∙ h.paid;
   bare = bare-next script t S e.actor shaped rows h.bare;
 }
 
+gone-keeping : (S : State) (keep : Bool) (t : ObjNo) → IsGone S t → IsGone (keeping keep S) t
+gone-keeping S keep t h = record { left = h.left; paid = h.paid; bare = record { left = h.bare.left; held = h.bare.held; logged = h.bare.logged; owned = h.bare.owned } }
+
+gone-by : (script : Script) (S : State) (place : ℕ) (e : Entry) (t : ObjNo) → IsShaped script → AreRows script S → IsNext script S place e → IsGone S t → IsGone (next_by script S e) t
+gone-by script S place e t shaped rows here h =
+    gone-entry script (choosing e S) place e t shaped (rows-choosing script S e rows) (done-next script S place e here) (gone-keeping S (S.mode.shared && is_deathless e.effects) t h)
+
 pub gone-run : (script : Script) (S : State) (place : ℕ) (es : List Entry) (t : ObjNo) → IsShaped script → AreRows script S → IsLegalFrom script S place es → IsGone S t → IsGone (after_from script S es) t
 gone-run script S place [] t shaped rows legal h = h
-gone-run script S place (e ∷ es) t shaped rows legal h = gone-run script (next script S e.actor) (place + 1) es t shaped (sound-next script S e.actor shaped rows).rows legal.1 (gone-entry script S place e es t shaped rows legal h)
+gone-run script S place (e ∷ es) t shaped rows legal h = gone-run script (next_by script S e) (place + 1) es t shaped (rows-by script S e shaped rows) legal.1 (gone-by script S place e t shaped rows legal.0 h)
 
 -- and is so from its cleaning on
 gone-cleaned : (script : Script) (S : State) (e : Entry) (t : ObjNo) → AreRows script S → Cleans script S e t → IsGone (next script S e.actor) t
@@ -219,11 +245,11 @@ gone-cleaned script S e t rows c = record {
 
 pub gone-after : (script : Script) (S : State) (place : ℕ) (es : List Entry) (t : ObjNo) → IsShaped script → AreRows script S → IsLegalFrom script S place es → 0 < cleanings es t → IsGone (after_from script S es) t
 gone-after script S place [] t shaped rows legal some = absurd (omega arith)
-gone-after script S place (e ∷ es) t shaped rows legal some = by (is_by t e.actor && is_clean e.step) refl some (gone-after script (next script S e.actor) (place + 1) es t shaped (sound-next script S e.actor shaped rows).rows legal.1)
+gone-after script S place (e ∷ es) t shaped rows legal some = by (is_by t e.actor && is_clean e.step) refl some (gone-after script (next_by script S e) (place + 1) es t shaped rows_next legal.1)
   where
-    rows_next : AreRows script (next script S e.actor)
-    rows_next = (sound-next script S e.actor shaped rows).rows
+    rows_next : AreRows script (next_by script S e)
+    rows_next = rows-by script S e shaped rows
 
-    by : (b : Bool) → (is_by t e.actor && is_clean e.step) ≡ b → 0 < (if b then 1 else 0) + cleanings es t → (0 < cleanings es t → IsGone (after_from script (next script S e.actor) es) t) → IsGone (after_from script (next script S e.actor) es) t
-    by true is some more = gone-run script (next script S e.actor) (place + 1) es t shaped rows_next legal.1 (gone-cleaned script S e t rows (cleans script S place e t shaped rows legal.0 is))
+    by : (b : Bool) → (is_by t e.actor && is_clean e.step) ≡ b → 0 < (if b then 1 else 0) + cleanings es t → (0 < cleanings es t → IsGone (after_from script (next_by script S e) es) t) → IsGone (after_from script (next_by script S e) es) t
+    by true is some more = gone-run script (next_by script S e) (place + 1) es t shaped rows_next legal.1 (gone-cleaned script (choosing e S) e t (rows-choosing script S e rows) (cleans script (choosing e S) place e t shaped (rows-choosing script S e rows) (done-next script S place e legal.0) is))
     by false is some more = more (omega arith)

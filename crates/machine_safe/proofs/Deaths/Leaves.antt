@@ -14,9 +14,9 @@ use Rattle.state_rows.specs.declared.handle_slot.HandleSlot.{HandleSlot}
 use Rattle.state_rows.specs.HandleSlots.{slot_at}
 use Rattle.state_rows.specs.declared.thread.ThreadRow.{ThreadRow}
 use Rattle.machine.specs.declared.state.State.{State}
-use Rattle.machine.specs.Boot.{boot}
+use Rattle.machine.specs.Boot.{boot_in}
 use Rattle.machine.specs.HeldIn.{held_in, own_slot, owed_by, use_names}
-use Rattle.machine.specs.History.{after, IsLegal}
+use Rattle.machine.specs.History.{after_in, choosing, IsLegalIn}
 use Rattle.machine.specs.Holdings.{held_handles, left_of, process_handles, stage_left}
 use Rattle.machine.specs.References.{mutex_names, option_names, total}
 use Rattle.machine.specs.Rows.{owed_of, table_of, thread_of}
@@ -103,18 +103,18 @@ total-only f (x ∷ xs) (suc i) d none others =
     let rest = total-only f xs i d none (λ j apart. others (suc j) (λ e. apart (omega arith))) in omega arith
 
 -- no other thread of its process is left, where the others were cleaned
-pub alone : (script : Script) (before : List Entry) (t : ObjNo) (row : ThreadRow) → IsWellFormed script → IsLegal script before → Dies (boot script) (after script before) (effects_of before) → OthersAreCleaned script before row.process t → total (left_of row.process) (after script before).references.threads ≡ left_of row.process (thread_of (after script before) t)
-alone script before t row valid legal front others = total-only (left_of row.process) S.references.threads t.0 None refl (λ j apart. by j apart (get_or S.references.threads j None) refl)
+pub alone : (shared : Bool) (script : Script) (before : List Entry) (t : ObjNo) (row : ThreadRow) → IsWellFormed script → IsLegalIn shared script before → Dies (boot_in shared script) (after_in shared script before) (effects_of before) → OthersAreCleaned script before row.process t → total (left_of row.process) (after_in shared script before).references.threads ≡ left_of row.process (thread_of (after_in shared script before) t)
+alone shared script before t row valid legal front others = total-only (left_of row.process) S.references.threads t.0 None refl (λ j apart. by j apart (get_or S.references.threads j None) refl)
   where
     S : State
-    S = after script before
+    S = after_in shared script before
 
     gone : (j : ℕ) (r : ThreadRow) → (j ≡ t.0 → ⊥) → get_or S.references.threads j None ≡ Some r → r.process.0 ≡ row.process.0 → stage_left r.stage ≡ 0
     gone j r apart is at =
         let u : ObjNo = record { 0 = j } in
         let was = front.were j r is in
         let some = others u was.old was.was (ap (λ (p : ObjNo). p.0) was.process ∙ at) apart in
-        let few = cleaned-left script before u valid legal in
+        let few = cleaned-left shared script before u valid legal in
         let own : row_bit stage_left (thread_of S u) ≡ stage_left r.stage = ap (row_bit stage_left) is in omega arith
 
     by : (j : ℕ) → (j ≡ t.0 → ⊥) → (x : Option ThreadRow) → get_or S.references.threads j None ≡ x → left_of row.process x ≡ 0
@@ -138,26 +138,26 @@ table-free S p i o none rows =
     let slot = no-slot-names (is_some (thread_of S p)) o (slot_at (table_of S p) i) none in
     let owed = none_owed S.references.threads S.serving.servers S.serving.messages.accepted S.references.owed (InProcess p i) o rows.references.duties (λ k y own. own) in omega arith
 
-pub clean-leaves : (script : Script) (history : List Entry) (t : ObjNo) → IsWellFormed script → IsLegal script history → CleanLeaves script history t
-clean-leaves script history t valid legal = record {
+pub clean-leaves : (shared : Bool) (script : Script) (history : List Entry) (t : ObjNo) → IsWellFormed script → IsLegalIn shared script history → CleanLeaves script history t
+clean-leaves shared script history t valid legal = record {
   locks = λ before e later lock is some.
-      let c = cut script history before e later valid legal is in
-      let S = after script before in
-      let free = unlocked script S t lock c.rows (empty-cleaning script S e t c.rows (cleans-here script before e later t (formed_is_shaped script valid) c some)) in
+      let c = cut shared script history before e later valid legal is in
+      let S = choosing e (after_in shared script before) in
+      let free : lock_bit (after_in shared script before).synchronization.nano.holders (after_in shared script before).synchronization.mutexes t lock ≡ 0 = unlocked script S t lock c.rows_done (empty-cleaning script S e t c.rows_done (cleans-here shared script before e later t (formed_is_shaped script valid) c some)) in
       let start = unlocked-boot script t lock in
       let moves = c.front.locks t lock in omega arith;
   own = λ before e later h o is some own.
-      let c = cut script history before e later valid legal is in
-      let S = after script before in
-      sym (held_as_told script before valid c.legal_before h o) ∙ unheld-own script S t h o c.rows (empty-cleaning script S e t c.rows (cleans-here script before e later t (formed_is_shaped script valid) c some)) own;
+      let c = cut shared script history before e later valid legal is in
+      let S = choosing e (after_in shared script before) in
+      sym (held_as_told shared script before valid c.legal_before h o) ∙ unheld-own script S t h o c.rows_done (empty-cleaning script S e t c.rows_done (cleans-here shared script before e later t (formed_is_shaped script valid) c some)) own;
   handles = λ before e later row i o is some at others.
-      let c = cut script history before e later valid legal is in
-      let S = after script before in
-      let h = empty-cleaning script S e t c.rows (cleans-here script before e later t (formed_is_shaped script valid) c some) in
+      let c = cut shared script history before e later valid legal is in
+      let S = choosing e (after_in shared script before) in
+      let h = empty-cleaning script S e t c.rows_done (cleans-here shared script before e later t (formed_is_shaped script valid) c some) in
       let was = c.front.were t.0 h.row h.is in
       let same_row : was.old ≡ row = (let a = was.was in cc) in
       let process : h.row.process ≡ row.process = sym was.process ∙ ap (λ (r : ThreadRow). r.process) same_row in
-      let only = alone script before t row valid c.legal_before c.front others in
+      let only = alone shared script before t row valid c.legal_before c.front others in
       let none = handles-none S t row.process only (subst (λ (p : ObjNo). process_handles S t p ≡ []) process h.has.process) i in
-      sym (held_as_told script before valid c.legal_before (InProcess row.process i) o) ∙ table-free S row.process i o none c.rows;
+      sym (held_as_told shared script before valid c.legal_before (InProcess row.process i) o) ∙ table-free S row.process i o none c.rows_done;
 }

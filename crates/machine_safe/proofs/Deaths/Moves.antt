@@ -8,6 +8,7 @@ use Rattle.entry_log.specs.declared.effect.Effect.TheVariants as effect
 use Rattle.entry_log.specs.declared.effect.Holder.{Holder}
 use Rattle.entry_log.specs.declared.effect.Holder.TheVariants.{InProcess, InThread, Temp, Own, Link, Message}
 use Rattle.entry_log.specs.declared.effect.StatusNo.{StatusNo}
+use Rattle.entry_log.specs.declared.step.Part.{Part}
 use Rattle.entry_log.specs.declared.effect.StatusNo.TheVariants.{Async, Sync}
 use Rattle.state_rows.specs.declared.duty.Owed.{Owed}
 use Rattle.state_rows.specs.declared.duty.Owed.TheVariants.{Close, Sweep}
@@ -20,19 +21,21 @@ use Rattle.machine.specs.declared.death_move.DeathMove.TheVariants.{Note, Doom, 
 use Rattle.machine.specs.declared.message_move.MessageMove.{MessageMove}
 use Rattle.machine.specs.declared.message_move.MessageMove.TheVariants.{Accept, Finish}
 use Rattle.machine.specs.declared.moves.Move.{Move}
-use Rattle.machine.specs.declared.moves.Move.TheVariants.{Make, Gain, Lose, Find, Miss, GoOn, Keep, Write, WriteMessage, PutDown, Advance, Wait, Wake, SetPriority, Nano, Requests, Locks, Death, Servers, Messages, Pay}
+use Rattle.machine.specs.declared.moves.Move.TheVariants.{Make, Gain, Lose, Find, Open, Miss, GoOn, Keep, Write, WriteMessage, PutDown, Advance, Wait, Wake, SetPriority, Nano, Requests, Locks, Death, Servers, Messages, Pay}
 use Rattle.machine.specs.declared.request_move.RequestMove.{RequestMove}
 use Rattle.machine.specs.declared.request_move.RequestMove.TheVariants.{Complete, Signal, Reply}
 use Rattle.machine.specs.declared.server_move.ServerMove.{ServerMove}
 use Rattle.machine.specs.declared.server_move.ServerMove.TheVariants.{Join, End}
 use Rattle.machine.specs.declared.state.State.{State}
 use Rattle.machine.specs.DeathMoves.{death_row, death_told}
-use Rattle.machine.specs.Fits.{FitsMove, IsFree, MayMakeWith}
+use Rattle.machine.specs.Fits.{FitsMove, IsFree, MayMakeWith, MayOpen}
 use Rattle.machine.specs.Holding.{is_holder, same_pair}
 use Rattle.machine.specs.Holdings.{stage_left}
 use Rattle.machine.specs.MessageMoves.{message_told}
-use Rattle.machine.specs.Moves.{advanced, closed_effects, moved, next_object, threads_closed, threads_gain, threads_lose, told, unlinked, with_found, with_kept, with_message, with_part, with_priority, with_register, with_use, with_waiting}
-use Rattle.machine.specs.References.{dies, same, stage_holds}
+use Rattle.machine.specs.Moves.{advanced, closed_effects, moved, next_object, threads_closed, threads_gain, threads_lose, told, unlinked, with_found, with_kept, with_message, with_missed, with_opened, with_part, with_priority, with_register, with_use, with_waiting}
+use Rattle.machine.specs.References.{same, stage_holds}
+use Rattle.machine.specs.Kept.{dies}
+use Rattle.machine.specs.Out.{is_returning}
 use Rattle.machine.specs.RequestMoves.{request_moved, request_told}
 use Rattle.machine.specs.Rows.{owed_of, thread_of}
 use Rattle.machine.specs.ServerMoves.{server_told}
@@ -70,6 +73,8 @@ keeps-move script S t (Make kind name h) fits other = keeps-gain h (next_object 
 keeps-move script S t (Gain h o) fits other = keeps-gain h o S.references.threads
 keeps-move script S t (Lose h o) fits other = keeps-then S.references.threads (threads_lose h S.references.threads) (threads_closed (dies S o) o (threads_lose h S.references.threads)) (keeps-lose h S.references.threads) (keeps-closed (dies S o) o (threads_lose h S.references.threads))
 keeps-move script S t (Find u o) fits other = keeps-with_row S.references.threads u (with_found o) (λ row. refl) (λ row. refl)
+keeps-move script S t (Open u o part) fits other = keeps-with_row S.references.threads u (with_opened o part) (λ row. refl) (λ row. refl)
+keeps-move script S t (Miss u o) fits other = keeps-with_row S.references.threads u with_missed (λ row. refl) (λ row. refl)
 keeps-move script S t (GoOn u part) fits other = keeps-with_row S.references.threads u (with_part part) (λ row. refl) (λ row. refl)
 keeps-move script S t (Keep u number) fits other = keeps-with_row S.references.threads u (with_kept number) (λ row. refl) (λ row. refl)
 keeps-move script S t (Write u x value) fits other = keeps-with_row S.references.threads u (with_register x value) (λ row. refl) (λ row. refl)
@@ -144,6 +149,20 @@ plus-gains S g o free h x none = let a = foreign S g h o x (free-apart S g free)
 make-gains : (S : State) (g : Holder) (o : ObjNo) → MayMakeWith S g → GainsNone S (effect.Plus g o ∷ [])
 make-gains S (Own u) o may h x none = let a = gains-own S u o may.owner h x none in omega arith
 make-gains S g o may h x none = plus-gains S g o may h x none
+
+-- who comes back isn't cleaned
+open-gains : (script : Script) (S : State) (u o : ObjNo) (part : Part) → AreRows script S → MayOpen S u o (Some part) → GainsNone S (effect.Plus (Temp u) o ∷ [])
+open-gains script S u o part rows may h x none = let a = foreign S (Temp u) h o x (is-left (thread_of S u) (ap is_some may.back.is) unspent) none in omega arith
+  where
+    unspent : (row : ThreadRow) → thread_of S u ≡ Some row → is_spent row.stage ≡ false
+    unspent row is = by (is_spent row.stage) refl
+      where
+        same_row : may.back.row ≡ row
+        same_row = let a = may.back.is in cc
+
+        by : (b : Bool) → is_spent row.stage ≡ b → b ≡ false
+        by false e = refl
+        by true e = let back = (rows.references.spent.rows u.0 row is e).going in let out = may.back.returns in let same = ap (λ (r : ThreadRow). is_returning r.part) same_row in cc
 
 -- rows change that tell of nothing
 dies-row : (S T : State) → KeepsRows S.references.threads T.references.threads → T.synchronization.nano.holders ≡ S.synchronization.nano.holders → T.synchronization.mutexes ≡ S.synchronization.mutexes → Dies S T []
@@ -230,7 +249,8 @@ dies-move script S t (Make kind name h) rows fits = dies-calm S _ _ (keeps-move 
 dies-move script S t (Gain h o) rows fits = dies-calm S _ _ (keeps-move script S t (Gain h o) fits refl) refl refl (calm-plus h o) (plus-gains S h o fits.0)
 dies-move script S t (Lose h o) rows fits = dies-calm S _ _ (keeps-move script S t (Lose h o) fits refl) refl refl (calm-close (dies S o) h o) (close-gains S (dies S o) h o)
 dies-move script S t (Find u o) rows fits = dies-calm S _ _ (keeps-move script S t (Find u o) fits refl) refl refl (calm-found o) (λ h x none. refl)
-dies-move script S t (Miss o) rows fits = dies-calm S _ _ (keeps-same S.references.threads) refl refl (calm-missed o) (λ h x none. refl)
+dies-move script S t (Open u o part) rows fits = dies-calm S _ _ (keeps-move script S t (Open u o part) fits refl) refl refl (calm-plus (Temp u) o) (open-gains script S u o part rows fits.0)
+dies-move script S t (Miss u o) rows fits = dies-calm S _ _ (keeps-move script S t (Miss u o) fits refl) refl refl (calm-missed o) (λ h x none. refl)
 dies-move script S t (Nano m) rows fits = dies-nano script S t m fits
 dies-move script S t (Requests m) rows fits = dies-request script S t m rows fits
 dies-move script S t (Locks m) rows fits = dies-locks script S t m rows fits

@@ -1,5 +1,6 @@
 -- What an action tells of deaths, and what a history does.
-use Rattle.std.proofs.Common.{◌≡◌, ℕ, ◌+◌, ◌<◌, ◌≤◌, List, [], ◌∷◌, arith, refl, sym, ap, subst, length}
+use Rattle.std.proofs.Common.{◌≡◌, ℕ, ◌+◌, ◌<◌, ◌≤◌, Bool, List, [], ◌∷◌, arith, refl, sym, ap, subst, length}
+use Rattle.std.specs.Prelude.{◌&&◌}
 use Rattle.std.proofs.lemmas.List.{append-nil}
 use Rattle.sym_base.specs.declared.number.ObjNo.{ObjNo}
 use Rattle.script_types.specs.declared.script.Script.{Script}
@@ -17,7 +18,7 @@ use Rattle.machine.specs.declared.plan.Plan.TheVariants.{Runs}
 use Rattle.machine.specs.declared.state.State.{State}
 use Rattle.machine.specs.Bodies.{decision_by}
 use Rattle.machine.specs.Fits.{EachFits, FitsMove, Sane, most_owed}
-use Rattle.machine.specs.History.{after_from, next, transition, IsLegalFrom}
+use Rattle.machine.specs.History.{after_from, choosing, is_deathless, keeping, next, next_by, transition, IsLegalFrom, IsNext}
 use Rattle.machine.specs.Interrupts.{done_by, immediate, immediate_plan, interrupt, supervisor}
 use Rattle.machine.specs.Moves.{moved, perform, tell, told}
 use Rattle.machine.specs.References.{total}
@@ -27,10 +28,10 @@ use Rattle.machine.specs.WellFormed.{AreRows, weight}
 use Rattle.machine_laws.proofs.Fitting.Actions.{of_action}
 use Rattle.machine_laws.proofs.Fitting.Bodies.{Goes}
 use Rattle.machine_laws.proofs.Fitting.Interrupts.{goes-immediate, goes-interrupt, sane-supervisor}
-use Rattle.machine_laws.proofs.Reached.NextState.{sound-next}
 use Rattle.move_laws.proofs.MoveLaws.Run.{sane-after, sound-move, weight-move}
 use Rattle.machine_safe.specs.CountAfter.{effects_of}
-use Rattle.machine_safe.proofs.Deaths.Dies.{Dies, dies-then}
+use Rattle.machine_safe.proofs.Done.{IsDone, done-next, rows-by, rows-choosing}
+use Rattle.machine_safe.proofs.Deaths.Dies.{Dies, dies-then, gains-keeping}
 use Rattle.machine_safe.proofs.Deaths.Moves.{dies-move, dies-none, dies-pay}
 use Rattle.state_rows.specs.declared.duty.Owed.{Owed}
 
@@ -69,18 +70,36 @@ dies-next script S Idfc shaped rows = dies-immediate script S shaped rows
 dies-next script S Tick shaped rows = dies-none S
 dies-next script S Idle shaped rows = dies-none S
 
--- and what an entry of a legal history does
-pub dies-entry : (script : Script) (S : State) (place : ℕ) (e : Entry) (es : List Entry) → IsShaped script → AreRows script S → IsLegalFrom script S place (e ∷ es) → Dies S (next script S e.actor) e.effects
-dies-entry script S place e es shaped rows legal =
-    let told : e.effects ≡ (transition script S e.actor).outcome.effects = ap (λ (x : Entry). x.effects) legal.0.told in
+-- and what an entry does
+pub dies-entry : (script : Script) (S : State) (place : ℕ) (e : Entry) → IsShaped script → AreRows script S → IsDone script S place e → Dies S (next script S e.actor) e.effects
+dies-entry script S place e shaped rows done =
+    let told : e.effects ≡ (transition script S e.actor).outcome.effects = ap (λ (x : Entry). x.effects) done.told in
     subst (λ (effects : List Effect). Dies S (next script S e.actor) effects) (sym told) (dies-next script S e.actor shaped rows)
 
--- the entries of a legal history
+-- what is told of deaths is asked of no choice
+dies-keeping : (S T : State) (keep : Bool) (effects : List Effect) → Dies (keeping keep S) T effects → Dies S T effects
+dies-keeping S T keep effects h = record {
+  live = h.live;
+  left = h.left;
+  held = h.held;
+  locks = h.locks;
+  takes_none = h.takes_none;
+  signals_none = h.signals_none;
+  gains_none = gains-keeping S keep effects h.gains_none;
+  were = h.were;
+}
+
+-- an entry of a legal history
+pub dies-by : (script : Script) (S : State) (place : ℕ) (e : Entry) → IsShaped script → AreRows script S → IsNext script S place e → Dies S (next_by script S e) e.effects
+dies-by script S place e shaped rows here =
+    dies-keeping S (next_by script S e) (S.mode.shared && is_deathless e.effects) e.effects (dies-entry script (choosing e S) place e shaped (rows-choosing script S e rows) (done-next script S place e here))
+
+-- and all of them
 pub dies-run : (script : Script) (S : State) (place : ℕ) (es : List Entry) → IsShaped script → AreRows script S → IsLegalFrom script S place es → Dies S (after_from script S es) (effects_of es)
 dies-run script S place [] shaped rows legal = dies-none S
 dies-run script S place (e ∷ es) shaped rows legal =
-    let T = next script S e.actor in
-    dies-then S T (after_from script T es) e.effects (effects_of es) (dies-entry script S place e es shaped rows legal) (dies-run script T (place + 1) es shaped (sound-next script S e.actor shaped rows).rows legal.1)
+    let T = next_by script S e in
+    dies-then S T (after_from script T es) e.effects (effects_of es) (dies-by script S place e shaped rows legal.0) (dies-run script T (place + 1) es shaped (rows-by script S e shaped rows) legal.1)
 
 -- What each move keeps that fits, and each payment, is kept by an action.
 each-kept : (script : Script) (P : State → Type 0) → ((S : State) (t : ObjNo) (m : Move) → AreRows script S → FitsMove script t m S → P S → P (moved t m S)) → (S : State) (t : ObjNo) (ms : List Move) → EachFits script t ms S → total weight (owed_of S t) + total most_owed ms ≤ 12 → Sane script t S → P S → P (perform t ms S)

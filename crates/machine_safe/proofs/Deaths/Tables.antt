@@ -24,7 +24,8 @@ use Rattle.machine.specs.Fits.{FitsMove, IsAtStage, IsFree, MayMakeWith}
 use Rattle.machine.specs.Handles.{freed_slot, taken_slot, with_slot}
 use Rattle.machine.specs.Holdings.{left_of, process_handles, stage_left}
 use Rattle.machine.specs.Moves.{moved, next_object, tables_gain, tables_lose, threads_closed}
-use Rattle.machine.specs.References.{dies, stage_holds, total}
+use Rattle.machine.specs.References.{stage_holds, total}
+use Rattle.machine.specs.Kept.{dies}
 use Rattle.machine.specs.Rows.{owed_of, thread_of, with_row}
 use Rattle.machine.specs.WellFormed.{AreRows}
 use Rattle.move_laws.proofs.Holders.ThreadRows.{row-here, row-other}

@@ -50,7 +50,7 @@ use Rattle.machine_laws.proofs.Fitting.Regular.{IsRegular, kind_of, plain}
 use Rattle.machine_laws.proofs.Fitting.Posting.{tame-wake}
 use Rattle.state_rows.specs.declared.thread.Stage.TheVariants.{Live}
 use Rattle.machine_safe.proofs.Serving.Connecting.{keeps_handle, KeepsHandle, session-other}
-use Rattle.machine.specs.Task.{is_returning}
+use Rattle.machine.specs.Out.{is_returning}
 
 -- a server is made
 deed-made_server : (S : State) (t : ObjNo) (at : Option Instr) (P : Decision → Type 0) (name : List ℕ) (x : ℕ) (handle : Option NewHandle) → OfEach S t at P → P (make_server t (next_object S) name x handle)

@@ -3,9 +3,10 @@ use Rattle.entry_log.specs.declared.entry.Actor.{Actor}
 use Rattle.entry_log.specs.declared.entry.Actor.TheVariants.{Idfc, Idle, Irq, Thread, Tick}
 use Rattle.entry_log.specs.declared.entry.Entry.{Entry}
 use Rattle.machine.specs.Bodies.{decision_by, run_idfc}
-use Rattle.machine.specs.Boot.{boot, boot_of, born}
+use Rattle.machine.specs.Boot.{boot_in, boot_of, born}
 use Rattle.machine.specs.Decide.{answer}
-use Rattle.machine.specs.History.{IsNext, entry_by, entry_of, next}
+use Rattle.machine.specs.History.{entry_by, entry_of, next}
+use Rattle.machine_safe.proofs.Done.{IsDone}
 use Rattle.machine.specs.Interrupts.{done_by, immediate, immediate_plan, interrupt, supervisor, step_of_move}
 use Rattle.machine.specs.Moves.{perform, tell}
 use Rattle.machine.specs.References.{total}
@@ -164,13 +165,13 @@ module _ (script : Script) (before : List Entry) (S : State) (place : ℕ) (shap
   turn-next Idle = turn-idle
 
   -- and of whichever actor
-  pub turn-entry : (e : Entry) → IsNext script S place e → IsTurn script before e (next script S e.actor)
+  pub turn-entry : (e : Entry) → IsDone script S place e → IsTurn script before e (next script S e.actor)
   turn-entry e here = subst (λ (x : Entry). IsTurn script before x (next script S e.actor)) (sym here.told) (turn-next e.actor)
 
 -- at boot nothing was told
-pub book-boot : (script : Script) → IsShaped script → Book script [] (boot script)
+pub book-boot : (shared : Bool) (script : Script) → IsShaped script → Book script [] (boot_in shared script)
 unfolding boot_of
-book-boot script shaped = record {
+book-boot shared script shaped = record {
   served = record {
     rows = λ o row is. let none = copy_at {A = Option ServerRow} None OBJECTS o.0 in absurd (cc);
     links = λ s o is. let none = ap link_of (no_session OBJECTS s) in absurd (cc);

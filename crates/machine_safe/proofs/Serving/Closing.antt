@@ -6,7 +6,8 @@ use Rattle.entry_log.specs.declared.effect.Holder.TheVariants.{Own}
 use Rattle.entry_log.specs.declared.step.Step.{Step}
 use Rattle.machine.specs.FitsServers.{MayEnd}
 use Rattle.machine.specs.Moves.{closed_effects, moved, told}
-use Rattle.machine.specs.References.{dies, same}
+use Rattle.machine.specs.References.{same}
+use Rattle.machine.specs.Kept.{dies}
 use Rattle.machine.specs.Serving.{times_owned}
 use Rattle.machine.specs.declared.moves.Move.TheVariants.{Lose, Servers}
 use Rattle.machine.specs.declared.server_move.ServerMove.TheVariants.{End, Close}

@@ -1,9 +1,10 @@
 -- The handle that a `connect` keeps from the step that makes its session on is in the thread's own table, and of no server.
-use Rattle.machine_safe.proofs.Serving.Later.{Facts, FactThen, IsFact, StepsGive, answered-fact, boot-fact, early-fact, idle-fact, next-fact, other-fact, part-one, part-two}
+use Rattle.machine_safe.proofs.Serving.Later.{Facts, FactThen, IsFact, StepsGive, answered-fact, boot-fact, early-fact, idle-fact, next-fact, other-fact, part-after}
 use Rattle.state_rows.specs.declared.duty.Owed.TheVariants as duty
-use Rattle.machine.specs.Find.{found_object, is_open, miss, seek_object, find_object}
-use Rattle.machine.specs.Decide.{go_on, nothing}
-use Rattle.std.proofs.Common.{Bool, List, None, Option, Some, [], ap, arith, false, get_or, refl, subst, sym, true, ℕ, ℤ, ◌+◌, ◌*◌, ◌<◌, ◌∙◌, ◌∷◌, ◌≡◌, length, get_or-set_other, not, le-ltb, get_or-set_same, pos}
+use Rattle.machine.specs.Find.{is_open, miss, seek_object, find_object}
+use Rattle.machine.specs.Out.{found_object}
+use Rattle.machine.specs.Decide.{nothing, one_move}
+use Rattle.std.proofs.Common.{eq-eqb, Bool, List, None, Option, Some, [], ap, arith, false, get_or, refl, subst, sym, true, ℕ, ℤ, ◌+◌, ◌*◌, ◌<◌, ◌∙◌, ◌∷◌, ◌≡◌, length, get_or-set_other, not, le-ltb, get_or-set_same, pos}
 use Rattle.std.specs.Prelude.{if◌then◌else◌, is_some, slice_set, pos}
 use Rattle.entry_log.specs.declared.effect.Holder.{Holder}
 use Rattle.script_types.specs.declared.instruction.Instr.{Instr}
@@ -12,7 +13,8 @@ use Rattle.script_types.specs.declared.script.Script.{Script}
 use Rattle.state_rows.specs.declared.servers.ServerRow.{ServerRow}
 use Rattle.machine.specs.declared.state.State.{State}
 use Rattle.state_rows.specs.declared.thread.ThreadRow.{ThreadRow}
-use Rattle.state_rows.specs.HandleNumbers.{is_local, index_of}
+use Rattle.state_rows.specs.HandleNumbers.{handle_number, is_local, index_of}
+use Rattle.state_rows.specs.HandleSlots as place
 use Rattle.machine.specs.WellFormed.{AreRows}
 use Rattle.script_types.specs.Shape.{IsShaped}
 use Rattle.machine.specs.declared.moves.Move.{Move}
@@ -26,11 +28,11 @@ use Rattle.state_rows.specs.HandleSlots.{slot_at, is_full, free_index, new_handl
 use Rattle.machine.specs.ServerMoves.{all_closing, servers_lose, owned_by}
 use Rattle.machine_laws.proofs.Fitting.Regular.{Kinds, going_bit, calling, kind_of, looking, plain}
 use Rattle.move_laws.proofs.RowLaws.Threads.{map_some}
-use Rattle.machine.specs.Moves.{moved, next_object, perform, with_part, with_kept, with_use, with_found, no_number_left}
+use Rattle.machine.specs.Moves.{moved, next_object, perform, with_part, with_kept, with_use, with_found, with_missed, with_opened, no_number_left}
 use Rattle.machine.specs.References.{total}
 use Rattle.machine.specs.declared.decision.Decision.{Decision}
 use Rattle.state_rows.specs.ServerChanges.{after_closing, closing}
-use Rattle.machine_laws.proofs.Fitting.Living.{alive_inside, handle_is_alive}
+use Rattle.machine_laws.proofs.Fitting.Living.{alive_inside, handle_is_counted}
 use Rattle.machine.specs.Task.{instruction}
 use Rattle.machine_safe.proofs.Serving.KeptRows.{objects-move}
 use Rattle.move_laws.proofs.Holders.ThreadRows.{row-here}
@@ -38,9 +40,9 @@ use Rattle.machine_laws.proofs.Fitting.Actions.{FitsAction}
 use Rattle.move_laws.proofs.Lists.Mapped.{mapped-some}
 use Rattle.script_types.specs.declared.instruction.Instr.TheVariants as instr
 use Rattle.entry_log.specs.declared.step.Part.TheVariants as part
-use Rattle.machine.specs.declared.moves.Move.TheVariants.{Lose, Servers, Pay, GoOn, Wait, Messages, Gain}
+use Rattle.machine.specs.declared.moves.Move.TheVariants.{Lose, Servers, Pay, GoOn, Wait, Messages, Open}
 use Rattle.machine_safe.proofs.Serving.Others.{Carries, carries-each}
-use Rattle.entry_log.specs.declared.effect.Holder.TheVariants.{Link, InThread, Temp}
+use Rattle.entry_log.specs.declared.effect.Holder.TheVariants.{Link, InThread}
 use Rattle.state_rows.specs.declared.handle_slot.HandleSlot.{HandleSlot}
 use Rattle.machine.specs.declared.server_move.ServerMove.TheVariants.{Start, Join, Close, CloseAll, SetOpen}
 use Rattle.sym_base.specs.declared.kind.Slots.{Slots}
@@ -51,7 +53,6 @@ use Rattle.machine.specs.Handles.{taken_slot}
 use Rattle.state_rows.specs.declared.duty.Owed.{Owed}
 use Rattle.machine.specs.Steps.{return_of, step_of}
 use Rattle.machine.specs.Decide.{nothing}
-use Rattle.machine.specs.Find.{seek_object, miss, found_object, is_open, find_object}
 use Rattle.sym_base.specs.declared.word.Word.TheVariants as word
 use Rattle.move_laws.proofs.Lists.Cases.{if_cases}
 use Rattle.machine.specs.Messaging.{wake_receiver, open_server, slots_of, connects, no_args}
@@ -67,7 +68,7 @@ use Rattle.state_rows.specs.declared.messages.Way.TheVariants.{Sync}
 use Rattle.machine_laws.proofs.Fitting.Posting.{tame-wake}
 use Rattle.entry_log.specs.declared.entry.Actor.{Actor}
 use Rattle.machine.specs.History.{next}
-use Rattle.machine.specs.Boot.{boot}
+use Rattle.machine.specs.Boot.{boot_in}
 use Rattle.std.specs.Ordering.{int_eq}
 
 -- whether a thread at this step of an instruction keeps the handle of the session that its `connect` made
@@ -79,6 +80,7 @@ keeps_handle at p = false
 
 pub record KeepsHandle (S : State) (u : ObjNo) (row : ThreadRow) : Type 0 where
   pub own : is_local row.found ≡ true
+  pub there : is_some (look true (table_of S u) row.found) ≡ true
   pub other : (s : ObjNo) → (slot_at (table_of S u) (index_of row.found)).object ≡ Some s → is_some (server_at S.serving.servers s) ≡ false
 
 -- each live thread that keeps one does so
@@ -125,18 +127,23 @@ none-each script S t (m ∷ ms) fits s made none =
 kept-on : (script : Script) (S : State) (t : ObjNo) (ms : List Move) → EachFits script t ms S → (u : ObjNo) (row : ThreadRow) (c : Carries S (perform t ms S) u row) → ((s : ObjNo) → (slot_at (table_of S u) (index_of c.mid.old.found)).object ≡ Some s → s.0 < length S.references.objects) → KeepsHandle S u c.mid.old → KeepsHandle (perform t ms S) u row
 kept-on script S t ms fits u row c made was = record {
   own = ap is_local (sym c.mid.found) ∙ was.own;
+  there = ap (λ (l : List HandleSlot). is_some (look true l row.found)) c.table ∙ (ap (λ (n : ℕ). is_some (look true (table_of S u) n)) (sym c.mid.found) ∙ was.there);
   other = λ s slot.
       let before : (slot_at (table_of S u) (index_of c.mid.old.found)).object ≡ Some s = ap (λ (n : ℕ). (slot_at (table_of S u) (index_of n)).object) c.mid.found ∙ (ap (λ (l : List HandleSlot). (slot_at l (index_of row.found)).object) (sym c.table) ∙ slot) in
       none-each script S t ms fits s (made s before) (was.other s before);
 }
 
 slot_made : (script : Script) (S : State) (u : ObjNo) (i : ℕ) (s : ObjNo) → AreRows script S → (slot_at (table_of S u) i).object ≡ Some s → s.0 < length S.references.objects
-slot_made script S u i s rows slot = alive_inside S.references.objects s.0 (handle_is_alive S u i s rows.lives slot)
+slot_made script S u i s rows slot = alive_inside S.references.objects s.0 (rows.lives.alive s (handle_is_counted S u i s slot))
 
 -- neither the return nor the step that makes a session keeps a handle
 kept-return : (at : Option Instr) → keeps_handle at (Some part.Return) ≡ false
 kept-return (Some (instr.Connect name slots x)) = refl
 kept-return at = refl
+
+kept-none : (at : Option Instr) → keeps_handle at None ≡ false
+kept-none (Some (instr.Connect name slots x)) = refl
+kept-none at = refl
 
 kept-make : (at : Option Instr) → keeps_handle at (Some part.Make) ≡ false
 kept-make (Some (instr.Connect name slots x)) = refl
@@ -157,12 +164,23 @@ paid-slot : (S : State) (t : ObjNo) (what : Owed) (u : ObjNo) (i : ℕ) → (slo
 paid-slot S t (duty.Close h o) u i = refl
 paid-slot S t (duty.Sweep o) u i = refl
 
+paid-table : (S : State) (t : ObjNo) (what : Owed) (u : ObjNo) → table_of (moved t (Pay what) S) u ≡ table_of S u
+paid-table S t (duty.Close h o) u = refl
+paid-table S t (duty.Sweep o) u = refl
+
+-- a handle's number names what its place has now
+named-by : (o : ObjNo) (slot : HandleSlot) (i n handle : ℕ) → handle ≡ i + 65536 * n + 1073741824 → index_of handle ≡ i → slot.instance ≡ n → slot.object ≡ Some o → is_some (place.object_of true slot handle) ≡ true
+named-by o slot i n handle number index instance object =
+    let same : handle_number true (index_of handle) slot.instance ≡ handle = ap (λ (k : ℕ). handle_number true k slot.instance) index ∙ (ap (handle_number true i) instance ∙ sym number) in
+    ap (λ (b : Bool). is_some (if b then slot.object else None)) (eq-eqb (handle_number true (index_of handle) slot.instance) handle same) ∙ ap is_some object
+
 kept-fact : (script : Script) → IsFact script keeps_handle KeepsHandle
 kept-fact script = record {
   later = kept-later;
   carried = λ S t ms rows fits u row c was. kept-on script S t ms fits u row c (λ s slot. slot_made script S u (index_of c.mid.old.found) s rows slot) was;
   paid = λ S t what u row mid was. record {
     own = ap is_local (sym mid.found) ∙ was.own;
+    there = ap (λ (l : List HandleSlot). is_some (look true l row.found)) (paid-table S t what u) ∙ (ap (λ (n : ℕ). is_some (look true (table_of S u) n)) (sym mid.found) ∙ was.there);
     other = λ s slot. paid-none S t what s (was.other s (ap (λ (n : ℕ). (slot_at (table_of S u) (index_of n)).object) mid.found ∙ (paid-slot S t what u (index_of row.found) ∙ slot)));
   };
 }
@@ -177,7 +195,7 @@ module _ (script : Script) (S : State) (t : ObjNo) (rows : AreRows script S) (ke
   other-kept : {k : Kinds} (d : Decision) (old : ThreadRow) (i : Instr) → thread_of S t ≡ Some old → instruction script old ≡ Some i → ((p : Option Part) → keeps_handle (Some i) p ≡ false) → FitsAction k script S t d → KeptThen d
   other-kept d old i here at other fits = other-fact script keeps_handle KeepsHandle (kept-fact script) S rows kept t d old i here at other fits
 
-  early-kept : (d : Decision) (p : Part) → ((row : ThreadRow) → thread_of (perform t d.moves S) t ≡ Some row → row.part ≡ Some p) → ((at : Option Instr) → keeps_handle at (Some p) ≡ false) → KeptThen d
+  early-kept : (d : Decision) (p : Option Part) → ((row : ThreadRow) → thread_of (perform t d.moves S) t ≡ Some row → row.part ≡ p) → ((at : Option Instr) → keeps_handle at p ≡ false) → KeptThen d
   early-kept d p part early = early-fact script keeps_handle KeepsHandle (kept-fact script) S rows kept t d p part early
 
   -- the session is made with its handle, and that is kept
@@ -197,10 +215,15 @@ module _ (script : Script) (S : State) (t : ObjNo) (rows : AreRows script S) (ke
       let listed : t.0 < length S.references.handles = omega arith in
       let size = (rows.references.tables t.0 listed).size in
       let free = free_index_inside table e in
+      let index : index_of row.found ≡ i = ap index_of found ∙ low-index i (new_instance table) (omega arith) in
+      let after = slice_set table i (taken_slot (next_object S) (slot_at table i)) in
+      let placed : slot_at after i ≡ taken_slot (next_object S) (slot_at table i) = get_or-set_same table i _ fresh_slot free in
+      let kept_slot : slot_at after (index_of row.found) ≡ taken_slot (next_object S) (slot_at table i) = ap (slot_at after) index ∙ placed in
+      let held : table_of (perform t (make_session t o slots (next_object S) (Some (record { holder = InThread t i; number = number }))).moves S) t ≡ after = get_or-set_same S.references.handles t.0 _ [] listed in
       record {
         own = ap is_local found ∙ local-number i (new_instance table);
+        there = ap (λ (l : List HandleSlot). is_some (look true l row.found)) held ∙ named-by (next_object S) (slot_at after (index_of row.found)) i (new_instance table) row.found found index (ap (λ (x : HandleSlot). x.instance) kept_slot) (ap (λ (x : HandleSlot). x.object) kept_slot);
         other = λ s slot.
-            let index : index_of row.found ≡ i = ap index_of found ∙ low-index i (new_instance table) (omega arith) in
             let here : table_of (perform t (make_session t o slots (next_object S) (Some (record { holder = InThread t i; number = number }))).moves S) t ≡ slice_set table i (taken_slot (next_object S) (slot_at table i)) = get_or-set_same S.references.handles t.0 _ [] listed in
             let there : slot_at (slice_set table i (taken_slot (next_object S) (slot_at table i))) i ≡ taken_slot (next_object S) (slot_at table i) = get_or-set_same table i _ fresh_slot free in
             let both : Some s ≡ Some (next_object S) = sym slot ∙ (ap (λ (l : List HandleSlot). (slot_at l (index_of row.found)).object) here ∙ (ap (λ (n : ℕ). (slot_at (slice_set table i (taken_slot (next_object S) (slot_at table i))) n).object) index ∙ ap (λ (x : HandleSlot). x.object) there)) in
@@ -214,7 +237,7 @@ module _ (script : Script) (S : State) (t : ObjNo) (rows : AreRows script S) (ke
 
   seek-kept : (found : Option ObjNo) → FitsAction looking script S t (seek_object t word.Connect found) → KeptThen (seek_object t word.Connect found)
   seek-kept None fits = answered-kept (seek_object t word.Connect None) _ refl fits
-  seek-kept (Some o) fits = early-kept (seek_object t word.Connect (Some o)) part.Return (λ row is. part-two S.references.threads t (with_part part.Return) (with_found o) part.Return (λ r. refl) row is) kept-return
+  seek-kept (Some o) fits = early-kept (seek_object t word.Connect (Some o)) (Some part.Return) (λ row is. part-after S.references.threads t (with_found o) (Some part.Return) (λ r. refl) row is) kept-return
 
   make-kept : (slots : Slots) (o : ObjNo) (server : Option ServerRow) → FitsAction calling script S t (connect_to S t slots o server) → KeptThen (connect_to S t slots o server)
   make-kept slots o None fits = idle-kept
@@ -234,7 +257,7 @@ module _ (script : Script) (S : State) (t : ObjNo) (rows : AreRows script S) (ke
       let c = carries-each script U t rest fits.goes.each.1 t row (λ _. all) (kept-later (instruction script row) row.part keeps) is in
       let first = map_some (with_part part.Done) (thread_of S t) c.mid.old (sym (row-here S.references.threads t (with_part part.Done) t.0 refl) ∙ c.mid.was) in
       let same : old ≡ first.0 = (let a = first.1 in cc) in
-      let now : KeepsHandle U t (with_part part.Done old) = record { own = had.own; other = had.other } in
+      let now : KeepsHandle U t (with_part part.Done old) = record { own = had.own; there = had.there; other = had.other } in
       kept-on script U t rest fits.goes.each.1 t row c (λ x slot. slot_made script S t (index_of c.mid.old.found) x rows slot)
       (subst (KeepsHandle U t) (ap (with_part part.Done) same ∙ first.2) now)
 
@@ -264,23 +287,23 @@ module _ (script : Script) (S : State) (t : ObjNo) (rows : AreRows script S) (ke
   return-kept old (instr.Connect name slots x) here at fits =
       let o = found_object old in
       if_cases (λ (d : Decision). FitsAction looking script S t d → KeptThen d) (is_open (object_of S o)) _ _
-      (λ _ f. early-kept (go_on t (Of word.Connect part.Return) (Gain (Temp t) o) part.Make) part.Make (λ row is. part-two S.references.threads t (with_part part.Make) (with_use (Some o)) part.Make (λ r. refl) row is) kept-make)
+      (λ _ f. early-kept (one_move (Of word.Connect part.Return) (Open t o part.Make)) (Some part.Make) (λ row is. part-after S.references.threads t (with_opened o part.Make) (Some part.Make) (λ r. refl) row is) kept-make)
       (λ _ f. missed (is_live old.stage) f) fits
     where
-      missed : (live : Bool) → FitsAction looking script S t (miss t word.Connect part.Make (found_object old) live) → KeptThen (miss t word.Connect part.Make (found_object old) live)
-      missed true f = answered-kept (miss t word.Connect part.Make (found_object old) true) _ refl f
-      missed false f = early-kept (miss t word.Connect part.Make (found_object old) false) part.Make (λ row is. part-one S.references.threads t part.Make row is) kept-make
+      missed : (live : Bool) → FitsAction looking script S t (miss t word.Connect (found_object old) live) → KeptThen (miss t word.Connect (found_object old) live)
+      missed true f = answered-kept (miss t word.Connect (found_object old) true) _ refl f
+      missed false f = early-kept (miss t word.Connect (found_object old) false) None (λ row is. part-after S.references.threads t with_missed None (λ r. refl) row is) kept-none
   return-kept old i here at fits = other-kept (return_of S t old i) old i here at (λ q. refl) fits
 
   kept-gives : StepsGive script keeps_handle KeepsHandle S t
-  kept-gives = record { steps = step-kept; returns = return-kept }
+  kept-gives = record { steps = λ old i here live going at was fits. step-kept old i old.part here at was fits; returns = λ old i here live back at was fits. return-kept old i here at fits }
 
 -- each action leaves them, and at boot there are none
 pub kept-next : (script : Script) (S : State) → IsShaped script → AreRows script S → KeepHandles script S → is_some (server_at S.serving.servers (next_object S)) ≡ false → (actor : Actor) → KeepHandles script (next script S actor)
 kept-next script S shaped rows kept unmade actor = next-fact script keeps_handle KeepsHandle (kept-fact script) S rows kept shaped (λ t. kept-gives script S t rows kept unmade) actor
 
-pub kept-boot : (script : Script) → IsShaped script → KeepHandles script (boot script)
-kept-boot script shaped = boot-fact script keeps_handle KeepsHandle (kept-fact script) shaped
+pub kept-boot : (shared : Bool) (script : Script) → IsShaped script → KeepHandles script (boot_in shared script)
+kept-boot shared script shaped = boot-fact shared script keeps_handle KeepsHandle (kept-fact script) shaped
 
 -- the session that a `connect` made is no server
 pub session-other : (S : State) (t : ObjNo) (row : ThreadRow) (s : ObjNo) → KeepsHandle S t row → session_made S t row ≡ Some s → server_at S.serving.servers s ≡ None

@@ -6,7 +6,8 @@ use Rattle.machine.specs.DeathMoves.{death_told}
 use Rattle.machine.specs.LockMoves.{lock_told}
 use Rattle.machine.specs.Moves.{closed_effects, moved, tell, told}
 use Rattle.machine.specs.NanoMoves.{nano_told}
-use Rattle.machine.specs.References.{dies, total}
+use Rattle.machine.specs.References.{total}
+use Rattle.machine.specs.Kept.{dies}
 use Rattle.machine.specs.RequestMoves.{request_told}
 use Rattle.machine.specs.ServerMoves.{server_told}
 use Rattle.machine.specs.declared.death_move.DeathMove.{DeathMove}

@@ -39,7 +39,7 @@ module _ (script : Script) (S : State) (t : ObjNo) (at : Option Instr) (P : Deci
   deed-finish : (m : MsgNo) (message : Option Message) → IsGiven S t (OfMessage m) → message_of S.serving.messages m ≡ message → P (finish_message S message)
   deed-finish m None given e = calm each _ refl refl
   deed-finish m (Some message) given e =
-      let is = given message e in
+      let is = given.1 message e in
       each.finishes _ (record {
         message = message;
         code = error_code ServerTerminated;
@@ -67,9 +67,9 @@ module _ (script : Script) (S : State) (t : ObjNo) (at : Option Instr) (P : Deci
   -- what the thread does
   pub deed-of : IsShaped script → AreRows script S → KeepHandles script S → ((row : ThreadRow) → thread_of S t ≡ Some row → at ≡ instruction script row) → P (decision_of script S t)
   deed-of shaped rows kept here = each-action script S t P (record {
-    plainly = λ d fits. calm each d (fits.regular.calm refl) (fits.regular.sends refl);
+    plainly = λ d why fits. calm each d (fits.regular.calm refl) (fits.regular.sends refl);
     steps = λ row i is live going e fits. deed-step script S t at P row i row.part fits.regular is live going (λ keeps. kept t row is live (ap (λ (x : Option Instr). keeps_handle x row.part) e ∙ keeps)) (here row is ∙ e) each;
-    returns = λ row i is e fits. calm each _ (fits.regular.calm refl) (fits.regular.sends refl);
+    returns = λ row i is back e fits. calm each _ (fits.regular.calm refl) (fits.regular.sends refl);
     gives = λ row what given fits. deed-give row what given fits.regular;
     pays = λ what rest owes. let regular = regular-pay {script = script} {S = S} {t = t} what in calm each _ (regular.calm refl) (regular.sends refl);
   }) shaped rows

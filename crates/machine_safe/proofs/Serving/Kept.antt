@@ -3,13 +3,14 @@ use Rattle.entry_log.specs.declared.effect.Effect.{Effect}
 use Rattle.entry_log.specs.declared.effect.Holder.TheVariants.{InProcess, InThread}
 use Rattle.machine.specs.Fits.{EachFits, FitsMove, Sane, most_owed}
 use Rattle.machine.specs.Moves.{moved, perform, tell, told}
-use Rattle.machine.specs.References.{dies, same, total}
+use Rattle.machine.specs.References.{same, total}
+use Rattle.machine.specs.Kept.{dies}
 use Rattle.machine.specs.Rows.{owed_of, table_of}
 use Rattle.machine.specs.WellFormed.{AreRows, weight, IsAlive}
 use Rattle.machine.specs.declared.moves.Move.{Move}
 use Rattle.machine.specs.declared.moves.Move.TheVariants.{Lose, Pay, Death}
 use Rattle.machine.specs.declared.state.State.{State}
-use Rattle.machine_laws.proofs.Fitting.Living.{alive_inside, handle_is_alive}
+use Rattle.machine_laws.proofs.Fitting.Living.{alive_inside, handle_is_counted}
 use Rattle.machine_safe.proofs.Serving.Keeps.{Keeps, changing_bit, keeps-none, keeps-then, StillLinked}
 use Rattle.machine_safe.proofs.Serving.KeptRows.{at-pay, at-move, at-steps, closed-long, link-closed, link-move, objects-move, owned-move, server-move, server-same, there-move}
 use Rattle.machine_safe.proofs.Serving.Quiet.{lost-move, pay-lost}
@@ -41,7 +42,7 @@ AreMade S = (o : ObjNo) (row : ServerRow) → server_at S.serving.servers o ≡ 
 slot-made : (script : Script) (S : State) (owner o v : ObjNo) (i n : ℕ) → AreRows script S → (slot_at (table_of S owner) i).object ≡ Some o → length S.references.objects ≤ v.0 → n ≤ same o v → n ≡ 0
 slot-made script S owner o v i n rows is past most = zero_or n (λ some.
     let own = same_is o v (omega arith) in
-    let inside = alive_inside S.references.objects o.0 (handle_is_alive S owner i o rows.lives is) in
+    let inside = alive_inside S.references.objects o.0 (rows.lives.alive o (handle_is_counted S owner i o is)) in
     let at : o.0 ≡ v.0 = ap (λ (x : ObjNo). x.0) own in absurd (omega arith))
 
 handle-made : (script : Script) (S : State) (t : ObjNo) (m : Move) → AreRows script S → FitsMove script t m S → (v : ObjNo) → length S.references.objects ≤ v.0 → handles_lost (told m S) v ≡ 0

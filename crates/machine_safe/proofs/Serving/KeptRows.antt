@@ -4,15 +4,16 @@ use Rattle.entry_log.specs.declared.effect.Holder.{Holder}
 use Rattle.entry_log.specs.declared.effect.Holder.TheVariants.{Link, Own, Temp}
 use Rattle.machine.specs.DeathMoves.{death_row, death_thread}
 use Rattle.machine.specs.Fits.{FitsMove}
-use Rattle.machine.specs.Moves.{advanced, moved, new_object, next_object, objects_closed, threads_closed, threads_gain, threads_lose, unlinked, with_found, with_kept, with_message, with_part, with_priority, with_register, with_use, with_waiting}
-use Rattle.machine.specs.References.{dies, mutex_names, total}
+use Rattle.machine.specs.Moves.{advanced, moved, new_object, next_object, objects_closed, threads_closed, threads_gain, threads_lose, unlinked, with_found, with_kept, with_message, with_missed, with_opened, with_part, with_priority, with_register, with_use, with_waiting}
+use Rattle.machine.specs.References.{mutex_names, total}
+use Rattle.machine.specs.Kept.{dies}
 use Rattle.machine.specs.Rows.{with_row}
 use Rattle.machine.specs.ServerMoves.{all_closing, owned_by, servers_closed, servers_lose}
 use Rattle.machine.specs.WellFormed.{AreRows}
 use Rattle.machine.specs.declared.death_move.DeathMove.{DeathMove}
 use Rattle.machine.specs.declared.death_move.DeathMove.TheVariants.{Bury, Clean, Doom, Note}
 use Rattle.machine.specs.declared.moves.Move.{Move}
-use Rattle.machine.specs.declared.moves.Move.TheVariants.{Advance, Death, Find, Gain, GoOn, Keep, Lose, Make, Pay, PutDown, Servers, SetPriority, Wait, Wake, Write, WriteMessage}
+use Rattle.machine.specs.declared.moves.Move.TheVariants.{Advance, Death, Find, Open, Miss, Gain, GoOn, Keep, Lose, Make, Pay, PutDown, Servers, SetPriority, Wait, Wake, Write, WriteMessage}
 use Rattle.machine.specs.declared.server_move.ServerMove.TheVariants.{CloseAll, SetOpen}
 use Rattle.machine.specs.declared.state.State.{State}
 use Rattle.machine_laws.proofs.Fitting.Regular.{advance_bit}
@@ -192,6 +193,8 @@ at-move script S t (Lose h o) fits k row is =
     let two = at-lost h S.references.threads k one.old one.was in
     at-steps S.references.threads t (Lose h o ∷ []) k row refl (record { old = two.old; was = two.was; role = two.role ∙ one.role; place = let a = one.place in let b = two.place in omega arith })
 at-move script S t (Find u o) fits k row is = at-steps S.references.threads t (Find u o ∷ []) k row refl (at-with S.references.threads u (with_found o) (λ r. refl) (λ r. refl) k row is)
+at-move script S t (Open u o part) fits k row is = at-steps S.references.threads t (Open u o part ∷ []) k row refl (at-with S.references.threads u (with_opened o part) (λ r. refl) (λ r. refl) k row is)
+at-move script S t (Miss u o) fits k row is = at-steps S.references.threads t (Miss u o ∷ []) k row refl (at-with S.references.threads u with_missed (λ r. refl) (λ r. refl) k row is)
 at-move script S t (GoOn u part) fits k row is = at-steps S.references.threads t (GoOn u part ∷ []) k row refl (at-with S.references.threads u (with_part part) (λ r. refl) (λ r. refl) k row is)
 at-move script S t (Keep u number) fits k row is = at-steps S.references.threads t (Keep u number ∷ []) k row refl (at-with S.references.threads u (with_kept number) (λ r. refl) (λ r. refl) k row is)
 at-move script S t (Write u x value) fits k row is = at-steps S.references.threads t (Write u x value ∷ []) k row refl (at-with S.references.threads u (with_register x value) (λ r. refl) (λ r. refl) k row is)

@@ -12,9 +12,10 @@ use Rattle.machine.specs.DeathMoves.{death_row, death_thread, death_told}
 use Rattle.machine.specs.Fits.{FitsMove, Holds}
 use Rattle.machine.specs.LockMoves.{lock_told}
 use Rattle.machine.specs.MessageMoves.{message_told}
-use Rattle.machine.specs.Moves.{advanced, closed_effects, moved, new_object, next_object, objects_closed, threads_closed, threads_gain, threads_lose, told, unlinked, with_found, with_kept, with_message, with_part, with_priority, with_register, with_use, with_waiting}
+use Rattle.machine.specs.Moves.{advanced, closed_effects, moved, new_object, next_object, objects_closed, threads_closed, threads_gain, threads_lose, told, unlinked, with_found, with_kept, with_message, with_missed, with_opened, with_part, with_priority, with_register, with_use, with_waiting}
 use Rattle.machine.specs.NanoMoves.{nano_told}
-use Rattle.machine.specs.References.{dies, same, total}
+use Rattle.machine.specs.References.{same, total}
+use Rattle.machine.specs.Kept.{dies}
 use Rattle.machine.specs.RequestMoves.{request_told}
 use Rattle.machine.specs.Rows.{object_of, with_row}
 use Rattle.machine.specs.WellFormed.{IsAlive}
@@ -24,7 +25,7 @@ use Rattle.machine.specs.declared.lock_move.LockMove.TheVariants.{Free, Lock, Un
 use Rattle.machine.specs.declared.message_move.MessageMove.{MessageMove}
 use Rattle.machine.specs.declared.message_move.MessageMove.TheVariants.{Accept, Finish}
 use Rattle.machine.specs.declared.moves.Move.{Move}
-use Rattle.machine.specs.declared.moves.Move.TheVariants.{Advance, Death, Find, Gain, GoOn, Keep, Locks, Lose, Make, Messages, Nano, Pay, PutDown, Requests, Servers, SetPriority, Wait, Wake, Write, WriteMessage}
+use Rattle.machine.specs.declared.moves.Move.TheVariants.{Advance, Death, Find, Open, Miss, Gain, GoOn, Keep, Locks, Lose, Make, Messages, Nano, Pay, PutDown, Requests, Servers, SetPriority, Wait, Wake, Write, WriteMessage}
 use Rattle.machine.specs.declared.nano_move.NanoMove.{NanoMove}
 use Rattle.machine.specs.declared.request_move.RequestMove.{RequestMove}
 use Rattle.machine.specs.declared.server_move.ServerMove.{ServerMove}
@@ -77,14 +78,18 @@ using-less threads v f u o row none is uses = elim (cases_eq v.0 u.0) as (λ _. 
   | inr apart ↦ record { old = row; was = sym (row-other threads v f u.0 apart) ∙ is; uses = uses }
 ]
 
-using-gained : (h : Holder) (x : ObjNo) (threads : List (Option ThreadRow)) (u o : ObjNo) (row : ThreadRow) → get_or (threads_gain h x threads) u.0 None ≡ Some row → row.uses ≡ Some o → UsesTold threads (effect.Plus h x ∷ []) u o
-using-gained (Temp v) x threads u o row is uses = elim (cases_eq v.0 u.0) as (λ _. UsesTold threads (effect.Plus (Temp v) x ∷ []) u o) [
+-- one that comes to use this object
+using-begun : (threads : List (Option ThreadRow)) (v x : ObjNo) (f : ThreadRow → ThreadRow) (u o : ObjNo) (row : ThreadRow) → ((r : ThreadRow) → (f r).uses ≡ Some x) → get_or (with_row threads v f) u.0 None ≡ Some row → row.uses ≡ Some o → UsesTold threads (effect.Plus (Temp v) x ∷ []) u o
+using-begun threads v x f u o row begins is uses = elim (cases_eq v.0 u.0) as (λ _. UsesTold threads (effect.Plus (Temp v) x ∷ []) u o) [
   | inl at ↦
-      let was = map_some (with_use (Some x)) (get_or threads v.0 None) row (sym (row-here threads v (with_use (Some x)) u.0 at) ∙ is) in
-      let new : Some x ≡ Some o = ap (λ (z : ThreadRow). z.uses) was.2 ∙ uses in
+      let was = map_some f (get_or threads v.0 None) row (sym (row-here threads v f u.0 at) ∙ is) in
+      let new : Some x ≡ Some o = sym (begins was.0) ∙ (ap (λ (z : ThreadRow). z.uses) was.2 ∙ uses) in
       inl (ap (λ (b : Bool). one_if b x) (eq-eqb v.0 u.0 at) ∙ new)
-  | inr apart ↦ inr (ap (λ (b : Bool). one_if b x) (eqb_apart v.0 u.0 apart), record { old = row; was = sym (row-other threads v (with_use (Some x)) u.0 apart) ∙ is; uses = uses })
+  | inr apart ↦ inr (ap (λ (b : Bool). one_if b x) (eqb_apart v.0 u.0 apart), record { old = row; was = sym (row-other threads v f u.0 apart) ∙ is; uses = uses })
 ]
+
+using-gained : (h : Holder) (x : ObjNo) (threads : List (Option ThreadRow)) (u o : ObjNo) (row : ThreadRow) → get_or (threads_gain h x threads) u.0 None ≡ Some row → row.uses ≡ Some o → UsesTold threads (effect.Plus h x ∷ []) u o
+using-gained (Temp v) x threads u o row is uses = using-begun threads v x (with_use (Some x)) u o row (λ r. refl) is uses
 using-gained _ x threads u o row is uses = inr (refl, using-same threads u o row is uses)
 
 using-lost : (h : Holder) (threads : List (Option ThreadRow)) (u o : ObjNo) (row : ThreadRow) → get_or (threads_lose h threads) u.0 None ≡ Some row → row.uses ≡ Some o → WasUsing threads u o
@@ -148,6 +153,8 @@ uses-move script S t (Lose h x) fits u o row is uses =
     let one = using-closed (dies S x) x (threads_lose h S.references.threads) u o row is uses in
     inr (unused-close (dies S x) h x u, using-lost h S.references.threads u o one.old one.was one.uses)
 uses-move script S t (Find v x) fits u o row is uses = inr (refl, using-with S.references.threads v (with_found x) u o row (λ r. refl) is uses)
+uses-move script S t (Open v x part) fits u o row is uses = using-begun S.references.threads v x (with_opened x part) u o row (λ r. refl) is uses
+uses-move script S t (Miss v x) fits u o row is uses = inr (refl, using-with S.references.threads v with_missed u o row (λ r. refl) is uses)
 uses-move script S t (GoOn v part) fits u o row is uses = inr (refl, using-with S.references.threads v (with_part part) u o row (λ r. refl) is uses)
 uses-move script S t (Keep v number) fits u o row is uses = inr (refl, using-with S.references.threads v (with_kept number) u o row (λ r. refl) is uses)
 uses-move script S t (Write v x value) fits u o row is uses = inr (refl, using-with S.references.threads v (with_register x value) u o row (λ r. refl) is uses)
@@ -179,6 +186,7 @@ pub unused-move : (script : Script) (S : State) (t : ObjNo) (m : Move) → FitsM
 unused-move script S t (Make kind name h) fits u none = unused-plus h (next_object S) u none
 unused-move script S t (Gain h x) fits u none = unused-plus h x u none
 unused-move script S t (Lose h x) fits u none = unused-close (dies S x) h x u
+unused-move script S t (Open v x part) fits u none = unused-plus (Temp v) x u none
 unused-move script S t (Nano m) fits u none = unused-nano m u
 unused-move script S t (Requests m) fits u none = unused-request m u
 unused-move script S t (Locks m) fits u none = unused-lock m u

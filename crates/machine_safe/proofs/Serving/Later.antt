@@ -18,9 +18,10 @@ use Rattle.machine.specs.Fits.{EachFits, IsAtStage}
 use Rattle.state_rows.specs.declared.thread.Stage.TheVariants.{Live, Doomed, Cleaned, Buried}
 use Rattle.machine_laws.proofs.Fitting.Regular.{going_late, Kinds, advance_bit, going_bit, answer_bit, kind_of, looking, kind_given}
 use Rattle.move_laws.proofs.RowLaws.Threads.{map_some}
-use Rattle.machine.specs.Moves.{moved, perform, with_part, advanced}
+use Rattle.machine.specs.Moves.{moved, perform, advanced}
 use Rattle.machine.specs.References.{total}
 use Rattle.machine.specs.declared.decision.Decision.{Decision}
+use Rattle.machine.specs.Out.{is_returning}
 use Rattle.machine.specs.Task.{instruction}
 use Rattle.move_laws.proofs.Holders.ThreadRows.{row-here}
 use Rattle.machine_laws.proofs.Fitting.Actions.{FitsAction, each-action}
@@ -42,7 +43,7 @@ use Rattle.machine.specs.Interrupts.{immediate, interrupt, supervisor}
 use Rattle.machine_laws.proofs.Fitting.Interrupts.{light-interrupt, light-immediate}
 use Rattle.state_rows.specs.Deferred.{next_immediate}
 use Rattle.machine_safe.proofs.Deaths.Rows.{live-left, left-held, held-one, row_bit, stage_live}
-use Rattle.machine.specs.Boot.{born, boot, boot_of}
+use Rattle.machine.specs.Boot.{born, boot_in, boot_of}
 use Rattle.machine_laws.proofs.AtBoot.Born.{born_row, each_born}
 use Rattle.state_rows.specs.declared.thread.Stage.{Stage}
 use Rattle.machine_safe.proofs.Deaths.Runs.{dies-next}
@@ -71,15 +72,11 @@ ended-each script S t (Advance u ∷ ms) fits last some row is = by (is_some row
         let first = ap is_some none in absurd (cc)
 ended-each script S t (m ∷ ms) fits last some row is = ended-each script (moved t m S) t ms fits.1 last (omega arith) row is
 
--- the row of a thread after changes of it
-pub part-two : (threads : List (Option ThreadRow)) (t : ObjNo) (f g : ThreadRow → ThreadRow) (p : Part) → ((r : ThreadRow) → (g (f r)).part ≡ Some p) → (row : ThreadRow) → get_or (with_row (with_row threads t f) t g) t.0 None ≡ Some row → row.part ≡ Some p
-part-two threads t f g p same row is =
-    let last = map_some g (get_or (with_row threads t f) t.0 None) row (sym (row-here (with_row threads t f) t g t.0 refl) ∙ is) in
-    let first = map_some f (get_or threads t.0 None) last.0 (sym (row-here threads t f t.0 refl) ∙ last.1) in
-    ap (λ (r : ThreadRow). r.part) (sym last.2) ∙ (ap (λ (r : ThreadRow). (g r).part) (sym first.2) ∙ same first.0)
-
-pub part-one : (threads : List (Option ThreadRow)) (t : ObjNo) (p : Part) (row : ThreadRow) → get_or (with_row threads t (with_part p)) t.0 None ≡ Some row → row.part ≡ Some p
-part-one threads t p row is = let last = map_some (with_part p) (get_or threads t.0 None) row (sym (row-here threads t (with_part p) t.0 refl) ∙ is) in ap (λ (r : ThreadRow). r.part) (sym last.2)
+-- the step of a thread whose row is changed
+pub part-after : (threads : List (Option ThreadRow)) (t : ObjNo) (f : ThreadRow → ThreadRow) (p : Option Part) → ((r : ThreadRow) → (f r).part ≡ p) → (row : ThreadRow) → get_or (with_row threads t f) t.0 None ≡ Some row → row.part ≡ p
+part-after threads t f p same row is =
+    let last = map_some f (get_or threads t.0 None) row (sym (row-here threads t f t.0 refl) ∙ is) in
+    ap (λ (r : ThreadRow). r.part) (sym last.2) ∙ same last.0
 
 -- whoever lives afterwards did before
 abbrev Lived : State → State → Type 0
@@ -111,11 +108,11 @@ FactThen script due F S t d = (row : ThreadRow) → thread_of (perform t d.moves
 
 -- the steps of instructions and their returns give it, where they go on
 pub record StepsGive (script : Script) (due : Option Instr → Option Part → Bool) (F : State → ObjNo → ThreadRow → Type 0) (S : State) (t : ObjNo) : Type 0 where
-  pub steps : (old : ThreadRow) (i : Instr) (p : Option Part) → thread_of S t ≡ Some old → instruction script old ≡ Some i → (due (Some i) p ≡ true → F S t old) → FitsAction (kind_of i p) script S t (step_of script S t old i p) → FactThen script due F S t (step_of script S t old i p)
-  pub returns : (old : ThreadRow) (i : Instr) → thread_of S t ≡ Some old → instruction script old ≡ Some i → FitsAction looking script S t (return_of S t old i) → FactThen script due F S t (return_of S t old i)
+  pub steps : (old : ThreadRow) (i : Instr) → thread_of S t ≡ Some old → old.stage ≡ Live → is_returning old.part ≡ false → instruction script old ≡ Some i → (due (Some i) old.part ≡ true → F S t old) → FitsAction (kind_of i old.part) script S t (step_of script S t old i old.part) → FactThen script due F S t (step_of script S t old i old.part)
+  pub returns : (old : ThreadRow) (i : Instr) → thread_of S t ≡ Some old → old.stage ≡ Live → is_returning old.part ≡ true → instruction script old ≡ Some i → (due (Some i) old.part ≡ true → F S t old) → FitsAction looking script S t (return_of S t old i) → FactThen script due F S t (return_of S t old i)
 
 module _ (script : Script) (due : Option Instr → Option Part → Bool) (F : State → ObjNo → ThreadRow → Type 0) (fact : IsFact script due F) (S : State) (rows : AreRows script S) (has : Facts script due F S) where
-  fact-carried : (t : ObjNo) (ms : List Move) → EachFits script t ms S → (u : ObjNo) (row : ThreadRow) → (t.0 ≡ u.0 → total going_bit ms ≡ 0) → thread_of (perform t ms S) u ≡ Some row → row.stage ≡ Live → due (instruction script row) row.part ≡ true → F (perform t ms S) u row
+  pub fact-carried : (t : ObjNo) (ms : List Move) → EachFits script t ms S → (u : ObjNo) (row : ThreadRow) → (t.0 ≡ u.0 → total going_bit ms ≡ 0) → thread_of (perform t ms S) u ≡ Some row → row.stage ≡ Live → due (instruction script row) row.part ≡ true → F (perform t ms S) u row
   fact-carried t ms fits u row stays is live owes =
       let c = carries-each script S t ms fits u row stays (fact.later (instruction script row) row.part owes) is in
       let at : instruction script row ≡ instruction script c.mid.old = same-instruction script c.mid.old row c.mid.role (sym c.mid.place) in
@@ -159,10 +156,10 @@ module _ (script : Script) (due : Option Instr → Option Part → Bool) (F : St
           let so : due (Some i) row.part ≡ true = ap (λ (x : Option Instr). due x row.part) (sym now) ∙ owes in absurd (cc)
 
   -- nor at a step of which it isn't at any instruction
-  pub early-fact : (t : ObjNo) (d : Decision) (p : Part) → ((row : ThreadRow) → thread_of (perform t d.moves S) t ≡ Some row → row.part ≡ Some p) → ((at : Option Instr) → due at (Some p) ≡ false) → Then t d
+  pub early-fact : (t : ObjNo) (d : Decision) (p : Option Part) → ((row : ThreadRow) → thread_of (perform t d.moves S) t ≡ Some row → row.part ≡ p) → ((at : Option Instr) → due at p ≡ false) → Then t d
   early-fact t d p part early row is live owes =
       let no = early (instruction script row) in
-      let so : due (instruction script row) (Some p) ≡ true = ap (due (instruction script row)) (sym (part row is)) ∙ owes in absurd (cc)
+      let so : due (instruction script row) p ≡ true = ap (due (instruction script row)) (sym (part row is)) ∙ owes in absurd (cc)
 
   pub idle-fact : (t : ObjNo) → Then t nothing
   idle-fact t row is live owes = fact-carried t [] tt t row (λ _. refl) is live owes
@@ -182,11 +179,17 @@ module _ (script : Script) (due : Option Instr → Option Part → Bool) (F : St
   give-fact t old (holding.Use o) given fits lived = dead-fact t (give_up S t old (holding.Use o)) given lived
   give-fact t old what given fits lived = staying-fact t (give_up S t old what) refl fits
 
+  -- the row of one that lived
+  live-before : (t : ObjNo) (old : ThreadRow) → thread_of S t ≡ Some old → IsLiveThread S.references.threads t → old.stage ≡ Live
+  live-before t old is before =
+      let same : before.row ≡ old = (let a = before.is in cc) in
+      ap (λ (r : ThreadRow). r.stage) (sym same) ∙ before.live
+
   own-fact : (t : ObjNo) → IsShaped script → StepsGive script due F S t → LivedBefore t (decision_of script S t) → Then t (decision_of script S t)
   own-fact t shaped gives = each-action script S t (λ (d : Decision). LivedBefore t d → Then t d) (record {
-    plainly = λ d fits lived. staying-fact t d refl fits;
-    steps = λ old i is live going at fits lived. gives.steps old i old.part is at (λ owes. has t old is live (ap (λ (x : Option Instr). due x old.part) at ∙ owes)) fits;
-    returns = λ old i is at fits lived. gives.returns old i is at fits;
+    plainly = λ d why fits lived. staying-fact t d refl fits;
+    steps = λ old i is live going at fits lived. gives.steps old i is live going at (λ owes. has t old is live (ap (λ (x : Option Instr). due x old.part) at ∙ owes)) fits;
+    returns = λ old i is back at fits lived row there live owes. let lives = live-before t old is (lived row there live) in gives.returns old i is lives back at (λ needs. has t old is lives (ap (λ (x : Option Instr). due x old.part) at ∙ needs)) fits row there live owes;
     gives = λ old what given fits lived. give-fact t old what given fits lived;
     pays = λ what rest owed lived row is live owes. fact-paid t what t row is live owes;
   }) shaped rows
@@ -231,9 +234,9 @@ module _ (script : Script) (due : Option Instr → Option Part → Bool) (F : St
   next-fact shaped gives Idle = has
 
 -- at boot it isn't due
-pub boot-fact : (script : Script) (due : Option Instr → Option Part → Bool) (F : State → ObjNo → ThreadRow → Type 0) → IsFact script due F → IsShaped script → Facts script due F (boot script)
+pub boot-fact : (shared : Bool) (script : Script) (due : Option Instr → Option Part → Bool) (F : State → ObjNo → ThreadRow → Type 0) → IsFact script due F → IsShaped script → Facts script due F (boot_in shared script)
 unfolding boot_of
-boot-fact script due F fact shaped u row is live owes =
+boot-fact shared script due F fact shaped u row is live owes =
     let none = (born_row script _ (born script) u.0 row (each_born script shaped) is).part in
     let later = fact.later (instruction script row) row.part owes in
     let first = ap is_some none in absurd (cc)

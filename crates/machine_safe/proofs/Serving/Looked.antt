@@ -28,7 +28,8 @@ use Rattle.machine.specs.declared.state.State.{State}
 use Rattle.machine.specs.Boot.{boot, boot_of, born}
 use Rattle.machine.specs.Fits.{EachFits, FitsMove}
 use Rattle.machine.specs.Handles.{object_at}
-use Rattle.machine.specs.History.{entry_by, next, IsNext}
+use Rattle.machine.specs.History.{entry_by, next}
+use Rattle.machine_safe.proofs.Done.{IsDone}
 use Rattle.machine.specs.Interrupts.{immediate, interrupt, supervisor}
 use Rattle.machine.specs.Look.{look_at, of_kind}
 use Rattle.machine.specs.Moves.{advanced, moved, perform, tell, told, with_part, with_use}
@@ -202,9 +203,9 @@ module _ (script : Script) (before : List Entry) (S : State) (place : ℕ) (t : 
 
   decision-looked : IsShaped script → AreRows script S → LookedThen (decision_of script S t)
   decision-looked shaped rows = each-action script S t LookedThen (record {
-    plainly = λ d fits. unused-looked d fits (inl refl);
+    plainly = λ d why fits. unused-looked d fits (inl refl);
     steps = λ row i is live going at fits. step-looked row i row.part is at fits;
-    returns = λ row i is at fits. return-looked row i is at fits;
+    returns = λ row i is back at fits. return-looked row i is at fits;
     gives = λ row what given fits. unused-looked _ fits (inl (given-unused what));
     pays = pay-looked;
   }) shaped rows
@@ -229,7 +230,7 @@ module _ (script : Script) (before : List Entry) (S : State) (place : ℕ) (shap
   next-looked Tick = λ u o row is sends uses. looked-same before (entry_by script S place Tick) u refl ∙ looked u o row is sends uses
   next-looked Idle = λ u o row is sends uses. looked-same before (entry_by script S place Idle) u refl ∙ looked u o row is sends uses
 
-  pub entry-looked : (e : Entry) → IsNext script S place e → Looked script (before ++ e ∷ []) (next script S e.actor)
+  pub entry-looked : (e : Entry) → IsDone script S place e → Looked script (before ++ e ∷ []) (next script S e.actor)
   entry-looked e here = subst (λ (x : Entry). Looked script (before ++ x ∷ []) (next script S e.actor)) (sym here.told) (next-looked e.actor)
 
 -- at boot nobody uses anything

@@ -4,14 +4,15 @@ use Rattle.entry_log.specs.declared.effect.Holder.{Holder}
 use Rattle.entry_log.specs.declared.effect.Holder.TheVariants.{InProcess, InThread, Own, Temp}
 use Rattle.machine.specs.DeathMoves.{death_row, death_thread}
 use Rattle.machine.specs.Fits.{EachFits, FitsMove, Holds, IsFree, IsOwn}
-use Rattle.machine.specs.Moves.{advanced, moved, next_object, perform, tables_gain, tables_lose, threads_closed, threads_gain, threads_lose, unlinked, with_found, with_kept, with_message, with_part, with_priority, with_register, with_use, with_waiting}
-use Rattle.machine.specs.References.{dies, total}
+use Rattle.machine.specs.Moves.{advanced, moved, next_object, perform, tables_gain, tables_lose, threads_closed, threads_gain, threads_lose, unlinked, with_found, with_kept, with_message, with_missed, with_opened, with_part, with_priority, with_register, with_use, with_waiting}
+use Rattle.machine.specs.Kept.{dies}
+use Rattle.machine.specs.References.{total}
 use Rattle.machine.specs.Handles.{freed_slot, taken_slot, with_slot}
 use Rattle.machine.specs.Rows.{table_of, thread_of, with_row}
 use Rattle.machine.specs.declared.death_move.DeathMove.{DeathMove}
 use Rattle.machine.specs.declared.death_move.DeathMove.TheVariants.{Bury, Clean, Doom, Note}
 use Rattle.machine.specs.declared.moves.Move.{Move}
-use Rattle.machine.specs.declared.moves.Move.TheVariants.{Advance, Death, Find, Gain, GoOn, Keep, Lose, Make, Pay, PutDown, SetPriority, Wait, Wake, Write, WriteMessage}
+use Rattle.machine.specs.declared.moves.Move.TheVariants.{Advance, Death, Find, Gain, GoOn, Keep, Lose, Make, Miss, Open, Pay, PutDown, SetPriority, Wait, Wake, Write, WriteMessage}
 use Rattle.machine.specs.declared.state.State.{State}
 use Rattle.move_laws.proofs.Holders.ThreadRows.{row-other, row-here}
 use Rattle.move_laws.proofs.RowLaws.Threads.{was_row, map_some}
@@ -106,8 +107,10 @@ midway-move script S t (Lose h o) fits k row stays later is =
     let one = midway-closed (dies S o) o (threads_lose h S.references.threads) k row is in
     midway-then S.references.threads (threads_lose h S.references.threads) k row one (midway-lost h o S.references.threads t k one.old fits.2 stays one.was)
 midway-move script S t (Find u o) fits k row stays later is = midway-own S.references.threads t u (with_found o) k row fits.1 (goes-apart t k stays) is
+midway-move script S t (Open u o part) fits k row stays later is = midway-own S.references.threads t u (with_opened o part) k row fits.1 (goes-apart t k stays) is
+midway-move script S t (Miss u o) fits k row stays later is = midway-own S.references.threads t u with_missed k row fits.1 (goes-apart t k stays) is
 midway-move script S t (GoOn u part) fits k row stays later is = midway-own S.references.threads t u (with_part part) k row fits.2 (goes-apart t k stays) is
-midway-move script S t (Keep u number) fits k row stays later is = midway-own S.references.threads t u (with_kept number) k row fits (goes-apart t k stays) is
+midway-move script S t (Keep u number) fits k row stays later is = midway-own S.references.threads t u (with_kept number) k row fits.1 (goes-apart t k stays) is
 midway-move script S t (Write u x value) fits k row stays later is = midway-with S.references.threads u (with_register x value) (record { role = λ r. refl; place = λ r. refl; part = λ r. refl; found = λ r. refl; uses = λ r. refl; live = λ r e. e }) k row is
 midway-move script S t (WriteMessage u y number) fits k row stays later is = midway-with S.references.threads u (with_message y number) (record { role = λ r. refl; place = λ r. refl; part = λ r. refl; found = λ r. refl; uses = λ r. refl; live = λ r e. e }) k row is
 midway-move script S t (PutDown u) fits k row stays later is = midway-own S.references.threads t u (with_use None) k row fits.0 (goes-apart t k stays) is

@@ -12,7 +12,8 @@ use Rattle.entry_log.specs.declared.effect.Holder.TheVariants.{InProcess, InThre
 use Rattle.machine.specs.CopyMoves.{messages_copied}
 use Rattle.machine.specs.Fits.{EachFits, FitsMove}
 use Rattle.machine.specs.Moves.{closed_effects, moved, perform, tell, told}
-use Rattle.machine.specs.References.{dies, same, total}
+use Rattle.machine.specs.References.{same, total}
+use Rattle.machine.specs.Kept.{dies}
 use Rattle.machine.specs.Rows.{owed_of}
 use Rattle.machine.specs.ServerMoves.{server_told}
 use Rattle.machine.specs.WellFormed.{AreRows, EachMayOwe, MayOwe}

@@ -57,7 +57,7 @@ use Rattle.machine.specs.EntryWords.{is_send, is_handle}
 use Rattle.entry_log.specs.declared.effect.StatusNo.TheVariants as status
 use Rattle.machine.specs.WellFormed.{IsLiveThread}
 use Rattle.machine_safe.proofs.Serving.Connecting.{keeps_handle}
-use Rattle.machine.specs.Task.{is_returning}
+use Rattle.machine.specs.Out.{is_returning}
 use Rattle.move_laws.proofs.References.Same.{same_is}
 
 -- the server that accepts is the session's, and isn't closing

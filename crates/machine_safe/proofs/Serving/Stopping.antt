@@ -5,7 +5,8 @@ use Rattle.entry_log.specs.declared.effect.Holder.TheVariants.{Own}
 use Rattle.entry_log.specs.declared.entry.Entry.{Entry}
 use Rattle.machine.specs.FitsServers.{MayEnd}
 use Rattle.machine.specs.Moves.{closed_effects, moved, perform, tell, told}
-use Rattle.machine.specs.References.{dies, total}
+use Rattle.machine.specs.References.{total}
+use Rattle.machine.specs.Kept.{dies}
 use Rattle.machine.specs.Serving.{times_owned}
 use Rattle.machine.specs.WellFormed.{AreRows}
 use Rattle.machine.specs.declared.decision.Decision.{Decision}

@@ -28,7 +28,8 @@ use Rattle.machine.specs.Fits.{FitsMove}
 use Rattle.machine.specs.LockMoves.{lock_told}
 use Rattle.machine.specs.Moves.{closed_effects, next_object, told}
 use Rattle.machine.specs.NanoMoves.{nano_told}
-use Rattle.machine.specs.References.{dies, same}
+use Rattle.machine.specs.References.{same}
+use Rattle.machine.specs.Kept.{dies}
 use Rattle.machine.specs.RequestMoves.{request_told}
 use Rattle.machine_safe.specs.Sent.{accepts, finishes}
 use Rattle.machine_safe.specs.Served.{ends, handles_lost, owner_told, server_told}

@@ -16,11 +16,13 @@ use Rattle.machine.specs.Moves.{moved, told, advanced, owed_use, use_of, use_of_
 use Rattle.machine.specs.References.{total, thread_names, owed_names, count_of, option_names, stage_holds}
 use Rattle.machine.specs.Holding.{is_holder, link_names}
 use Rattle.machine.specs.HeldIn.{held_in, use_names, owed_by}
-use Rattle.machine.specs.Task.{is_returning, instructions_of}
-use Rattle.machine.specs.Fits.{FitsMove}
+use Rattle.machine.specs.Task.{instructions_of}
+use Rattle.machine.specs.Out.{is_returning, part_of}
+use Rattle.machine.specs.Fits.{FitsMove, IsBack}
 use Rattle.machine.specs.Serving.{is_sending, numbers_left}
-use Rattle.machine.specs.WellFormed.{EachMayOwe, IsThread, AreRows, weight, owed_sweeps, sweeps_of, part_of}
+use Rattle.machine.specs.WellFormed.{EachMayOwe, IsThread, AreRows, weight, owed_sweeps, sweeps_of}
 use Rattle.move_laws.proofs.Lives.Kinds.{lives-none}
+use Rattle.move_laws.proofs.Lives.Outs.{outs-same, seeks-back, seeks-with_row}
 use Rattle.move_laws.proofs.Holders.HoldersMove.{holders-none}
 use Rattle.move_laws.proofs.Holders.ThreadRows.{rows-with_row, row-here}
 use Rattle.move_laws.proofs.References.Counts.{count-with_row, kernel-with_row, total-owing}
@@ -29,7 +31,7 @@ use Rattle.move_laws.proofs.RowLaws.Threads.{KeepsThread, length-with_row, threa
 use Rattle.move_laws.proofs.RowLaws.Duties.{paid-with_row, duties-threads, duties-owing}
 use Rattle.move_laws.proofs.RowLaws.Synchronized.{IsHolding}
 use Rattle.move_laws.proofs.RowLaws.Locks.{leaves-owing}
-use Rattle.move_laws.proofs.MoveLaws.RowMoves.{serving-kept}
+use Rattle.move_laws.proofs.MoveLaws.RowMoves.{is_back, serving-kept}
 use Rattle.move_laws.proofs.MoveLaws.Groups.{services-row, synchronization-kept, synchronization-left, synchronization-then}
 use Rattle.move_laws.proofs.MoveLaws.Sound.{Sound, sound-of}
 use Rattle.move_laws.proofs.RowLaws.Spent.{spent-kept}
@@ -75,9 +77,9 @@ pub may_owe_use : (threads : List (Option ThreadRow)) (r : ServerRows) (accepted
 may_owe_use threads r accepted u None = tt
 may_owe_use threads r accepted u (Some o) = (refl, tt)
 
-sound-put : (script : Script) (S : State) (u : ObjNo) (f : ThreadRow → ThreadRow) → PutsDown f → ((row : ThreadRow) → thread_of S u ≡ Some row → IsThread script (length S.references.threads) row → KeepsThread script (length S.references.threads) row (f row)) → is_returning (part_of (option_map f (thread_of S u))) ≡ false
+sound-put : (script : Script) (S : State) (u : ObjNo) (f : ThreadRow → ThreadRow) → PutsDown f → ((row : ThreadRow) → thread_of S u ≡ Some row → IsThread script (length S.references.threads) row → KeepsThread script (length S.references.threads) row (f row)) → IsBack S u → is_returning (part_of (option_map f (thread_of S u))) ≡ false
     → total weight (owed_of S u) + 4 ≤ 12 → u.0 < length S.references.threads → AreRows script S → Sound script S (record S { references = record S.references { threads = with_row S.references.threads u f; owed = owing S.references.owed u (owed_use u (use_of S u)) } }) []
-sound-put script S u f puts thread going few inside rows =
+sound-put script S u f puts thread back going few inside rows =
     let used = use_of S u in
     let other = with_row S.references.threads u f in
     let T : State = record S { references = record S.references { threads = other; owed = owing S.references.owed u (owed_use u used) } } in
@@ -117,7 +119,7 @@ sound-put script S u f puts thread going few inside rows =
       services = services-row S.references.threads u f S.services (λ row is. (thread row is (rows.references.threads.rows u.0 row is)).process) rows.services;
       spent = spent-kept S.references.objects S.references.handles S.references.threads u f (record { stage = puts.stage; unused = λ row e. puts.uses row; waits = λ row e. puts.waits row ∙ e; going = puts.going; link = λ row e. puts.link row ∙ e }) rows.references.spent;
       serving = serving-kept script S u f puts.stage (record { live = λ row live. sym (puts.stage row) ∙ live; waits = λ row live. puts.waits row; sends = puts.sends; left = puts.left }) rows;
-    }) (lives-none S T refl counts sweeps) (holders-none S T held)
+    }) (lives-none S T refl counts sweeps (outs-same S other (seeks-with_row S.references.threads u f (λ row is. let before = is_back S u row is back in seeks-back f row before (puts.going row before))))) (holders-none S T held)
 
 going : (x : Option ThreadRow) → is_returning (part_of (option_map advanced x)) ≡ false
 going None = refl
@@ -127,13 +129,13 @@ some_row : (old row : ThreadRow) (x : Option ThreadRow) → x ≡ Some old → x
 some_row old row x a b = cc
 
 pub sound-advance : (script : Script) (S : State) (t u : ObjNo) → FitsMove script t (Advance u) S → total weight (owed_of S u) + 4 ≤ 12 → u.0 < length S.references.threads → AreRows script S → Sound script S (moved t (Advance u) S) (told (Advance u) S)
-sound-advance script S t u fits few inside rows = sound-put script S u advanced (record { link = λ row. refl; uses = λ row. refl; stage = λ row. refl; waits = λ row. refl; going = λ row e. refl; sends = λ row. omega arith; left = λ row. let a = begun_one row.part in omega arith; holds = λ row h. h })
+sound-advance script S t u fits few inside rows = sound-put script S u advanced (record { link = λ row. refl; uses = λ row. refl; stage = λ row. refl; waits = λ row. refl; going = λ row e. refl; sends = λ row. omega arith; left = λ row. let a = begun_one row.part in omega arith; holds = λ row h. (h.0, h.1, h.2, refl) })
     (λ row is h. record {
       thread = record {
         process = h.process;
         link = h.link;
         priority = h.priority;
-        next_instruction = let e = some_row row fits.1.row (thread_of S u) is fits.1.is in let below : row.next_instruction < length (instructions_of script row.role) = subst (λ (r : ThreadRow). r.next_instruction < length (instructions_of script r.role)) (sym e) fits.1.next in omega arith;
+        next_instruction = let e = some_row row fits.2.row (thread_of S u) is fits.2.is in let below : row.next_instruction < length (instructions_of script row.role) = subst (λ (r : ThreadRow). r.next_instruction < length (instructions_of script r.role)) (sym e) fits.2.next in omega arith;
         unused = λ e. refl;
         registers = h.registers;
         declared = h.declared;
@@ -141,7 +143,7 @@ sound-advance script S t u fits few inside rows = sound-put script S u advanced 
       };
       process = refl;
       role = refl;
-    }) (going (thread_of S u)) few inside rows
+    }) fits.1 (going (thread_of S u)) few inside rows
 
 -- its instruction goes on
 still_going : (x : Option ThreadRow) → is_returning (part_of x) ≡ false → is_returning (part_of (option_map (with_use None) x)) ≡ false
@@ -154,4 +156,4 @@ sound-put_down script S t u fits few inside rows = sound-put script S u (with_us
       thread = record { process = h.process; link = h.link; priority = h.priority; next_instruction = h.next_instruction; unused = λ e. refl; registers = h.registers; declared = h.declared; returns = h.returns };
       process = refl;
       role = refl;
-    }) (still_going (thread_of S u) fits.1.going) few inside rows
+    }) fits.1.going (still_going (thread_of S u) fits.1.going) few inside rows

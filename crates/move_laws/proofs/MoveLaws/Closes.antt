@@ -21,14 +21,16 @@ use Rattle.state_rows.specs.declared.thread.ThreadRow.{ThreadRow}
 use Rattle.machine.specs.declared.state.State.{State}
 use Rattle.machine.specs.Rows.{object_of, with_row, owing}
 use Rattle.machine.specs.Moves.{link_of, link_of_row, link_or, objects_closed, threads_closed, owed_link, owed_by_close, closed_effects}
-use Rattle.machine.specs.References.{total, same, thread_names, owed_names, option_names, count_of, dies}
+use Rattle.machine.specs.References.{total, same, thread_names, owed_names, option_names, count_of}
+use Rattle.machine.specs.Kept.{dies}
 use Rattle.machine.specs.Holding.{is_holder, same_pair, link_names}
 use Rattle.machine.specs.HeldIn.{held_in, use_names, owed_by}
-use Rattle.machine.specs.Task.{is_returning}
-use Rattle.machine.specs.WellFormed.{IsAlive, AreTables, AreThreads, AreDuties, AreServiceRows, AreServingRows, EachMayOwe, AreRows, IsUntold, weight, owed_sweeps, sweeps_of, part_of, AreSpent, is_spent}
+use Rattle.machine.specs.Out.{is_returning, part_of}
+use Rattle.machine.specs.WellFormed.{IsAlive, AreTables, AreThreads, AreDuties, AreServiceRows, AreServingRows, EachMayOwe, AreRows, IsUntold, weight, owed_sweeps, sweeps_of, AreSpent, is_spent}
 use Rattle.machine.specs.ServerMoves.{servers_closed}
 use Rattle.machine.specs.Serving.{AreServers, IsUnlinked, MayBeLinked, open_bit, session_bit, sessions_there, sessions_used}
 use Rattle.move_laws.proofs.Lives.Closes.{lives-closed}
+use Rattle.move_laws.proofs.Lives.Outs.{SeeksSame, outs-same, seeks-with_row}
 use Rattle.move_laws.proofs.Holders.HoldersMove.{holders-closed}
 use Rattle.move_laws.proofs.Holders.ThreadRows.{rows-with_row}
 use Rattle.move_laws.proofs.References.Counts.{count-with_row, kernel-with_row, total-owing}
@@ -55,6 +57,7 @@ pub record HasLost (script : Script) (S : State) (t : ObjNo) (h : Holder) (o : O
   pub sweeps : (p : ObjNo) → total (total (owed_sweeps p)) owed ≡ sweeps_of S p
   pub link : link_or (link_of_row (get_or threads o.0 None)) (server_of servers o) ≡ link_of S o
   pub handles_long : length handles ≡ length S.references.handles
+  pub seeks : SeeksSame S.references.threads threads
   pub threads_long : length threads ≡ length S.references.threads
   pub owed_long : length owed ≡ length S.references.owed
   pub tables : AreTables handles
@@ -173,7 +176,7 @@ sound-closed false script S t h o handles threads owed servers owned e inside_t 
     })
     (lives-closed false S T h o e alive refl
     (λ p. let a = total-owing (owed_names p) owed t [] here in let b = lost.counts p in omega arith)
-    (λ p. let a = total-owing (owed_sweeps p) owed t [] here in let b = lost.sweeps p in omega arith))
+    (λ p. let a = total-owing (owed_sweeps p) owed t [] here in let b = lost.sweeps p in omega arith) (outs-same S threads lost.seeks))
     (holders-closed false S T h o (λ g x. let a = total-owing (owed_by g x) owed t [] here in let b = lost.held g x in omega arith))
 sound-closed true script S t h o handles threads owed servers owned e inside_t lost rows =
     let f = unlinked in
@@ -229,7 +232,8 @@ sound-closed true script S t h o handles threads owed servers owned e inside_t l
     let g = (link_owed o link p).0 in
     let i = named p in
     let j = lost.counts p in omega arith)
-    (λ p. let a = total-owing (owed_sweeps p) owed t more here in let b = lost.sweeps p in let c = (link_owed o link p).1 in omega arith))
+    (λ p. let a = total-owing (owed_sweeps p) owed t more here in let b = lost.sweeps p in let c = (link_owed o link p).1 in omega arith)
+    (outs-same S other (λ p. seeks-with_row threads o f (λ row is x. refl) p ∙ lost.seeks p)))
     (holders-closed true S T h o (λ g x.
     let a = rows-with_row handles threads S.synchronization.mutexes o f g x (λ row is. refl) in
     let n = without_link old x in

@@ -73,7 +73,7 @@ sound-resized script S memories m arg size kept rows =
       spent = rows.references.spent;
       serving = record { servers = rows.serving.servers; messages = messages-edited (IsUntold S.synchronization.requests S.synchronization.logons) S.references.threads S.serving.servers S.serving.messages m (resized arg size) (λ row. refl) (λ row. refl) (λ row. refl) rows.serving.messages };
     })
-    (lives-none S T refl (λ o. let a = stays (message_names o) (λ x. refl) in omega arith) (λ o. refl))
+    (lives-none S T refl (λ o. let a = stays (message_names o) (λ x. refl) in omega arith) (λ o. refl) (λ o. refl))
     (holders-none S T (λ g x. let a = holds-same S.serving.owned S.serving.servers.sessions S.serving.messages.outstanding T.serving.messages.outstanding g x (λ n. stays (message_holds n x) (λ y. refl)) in omega arith))
 
 pub sound-copies : (script : Script) (S : State) (t : ObjNo) (m : CopyMove) → FitsMove script t (Copies m) S → AreRows script S → Sound script S (moved t (Copies m) S) (told (Copies m) S)

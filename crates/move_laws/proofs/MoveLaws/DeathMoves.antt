@@ -21,7 +21,7 @@ use Rattle.machine.specs.Serving.{AreServers}
 use Rattle.machine.specs.ThreadCalls.{is_live}
 use Rattle.machine.specs.Moves.{moved, told}
 use Rattle.machine.specs.Rows.{with_row, owed_of, owing, thread_of}
-use Rattle.machine.specs.Task.{is_returning}
+use Rattle.machine.specs.Out.{is_returning}
 use Rattle.machine.specs.WellFormed.{AreRows, AreServingRows, IsThread, AreSynchronized, AreSpent, is_spent, owed_sweeps, sweeps_of, weight, AreAwaited, IsUntold}
 use Rattle.move_laws.proofs.RowLaws.Duties.{paid-with_row, duties-owing, duties-threads, weight-owing}
 use Rattle.move_laws.proofs.RowLaws.Locks.{LeavesLocks, leaves-nowhere, leaves-with_row, leaves-owing}
@@ -38,6 +38,7 @@ use Rattle.move_laws.proofs.Holders.ThreadRows.{kernel-changed, row_holds, row_k
 use Rattle.move_laws.proofs.References.Counts.{count-with_row, total-owing}
 use Rattle.move_laws.proofs.References.Same.{if_zero}
 use Rattle.move_laws.proofs.Lives.Kinds.{lives-quiet}
+use Rattle.move_laws.proofs.Lives.Outs.{KeepsSeeks, outs-same, seeks-with_row}
 use Rattle.move_laws.proofs.RowLaws.MessagesKept.{KeepsMessages}
 use Rattle.move_laws.proofs.RowLaws.ServersKept.{servers-with_row}
 use Rattle.move_laws.proofs.Lists.Totals.{inside}
@@ -145,8 +146,15 @@ served-death : (script : Script) (S : State) (t : ObjNo) (m : DeathMove) → Fit
 served-death script S t m fits rows = record { servers = serving-death script S t m fits rows; messages = messages-row script S (death_thread m) (death_row m) (keeps-messages m) rows }
 
 -- any but a burial changes one row
+-- and leaves whether its thread is out
+keeps-seeks : (m : DeathMove) (row : ThreadRow) → KeepsSeeks (death_row m) row
+keeps-seeks (Note u exit) row o = refl
+keeps-seeks (Doom u exit) row o = refl
+keeps-seeks (Clean u) row o = refl
+keeps-seeks (Bury u) row o = refl
+
 sound-dying : (script : Script) (S : State) (t : ObjNo) (m : DeathMove) → FitsDeath t m S → ((row : ThreadRow) → thread_of S (death_thread m) ≡ Some row → stage_holds (death_row m row).stage ≡ stage_holds row.stage) → AreRows script S → Sound script S (record S { references = record S.references { threads = with_row S.references.threads (death_thread m) (death_row m) } }) (death_told m)
-sound-dying script S t m fits holds rows = sound-row script S (death_thread m) (death_row m) (death_told m) (keeps-references m) holds
+sound-dying script S t m fits holds rows = sound-row script S (death_thread m) (death_row m) (death_told m) (λ row is. keeps-seeks m row) (keeps-references m) holds
     (λ row is h. keeps-thread script _ m row h)
     (λ k. inr (paid-with_row S.references.threads (death_thread m) (death_row m) (keeps-going m) k)) (death_silent S m) (leaves-death script S t m fits rows) (spent-death script S t m fits rows.references.spent) (served-death script S t m fits rows) rows
 
@@ -206,7 +214,7 @@ sound-bury script S t u fits few rows =
       spent = spent-death script S t (Bury u) fits rows.references.spent;
       serving = served-death script S t (Bury u) fits rows;
     })
-    (lives-quiet S T (effect.Bury u ∷ []) refl (record { minuses = λ p. refl; deaths = λ p. refl; removals = λ p. refl }) (λ o. let a = counts o in omega arith) sweeps (λ o h. absurd (omega arith)) (λ o h. absurd (omega arith)))
+    (lives-quiet S T (effect.Bury u ∷ []) refl (record { minuses = λ p. refl; deaths = λ p. refl; removals = λ p. refl }) (λ o. let a = counts o in omega arith) sweeps (λ o inside alive. let a = outs-same S other (seeks-with_row S.references.threads u f (λ row is p. refl)) o in omega arith) (λ o h. absurd (omega arith)) (λ o h. absurd (omega arith)))
     (record { fits = (tt, tt); moves = λ g x. sym (held g x) })
 
 pub sound-death : (script : Script) (S : State) (t : ObjNo) (m : DeathMove) → FitsMove script t (Death m) S → total weight (owed_of S t) + death_owes m ≤ 12 → AreRows script S → Sound script S (moved t (Death m) S) (told (Death m) S)

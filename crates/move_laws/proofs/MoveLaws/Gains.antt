@@ -1,4 +1,4 @@
--- A holder gets a reference: to an object that there is, or to a new one.
+-- A holder gets a reference: to an object that there is, or to a new one; or a thread comes back to one.
 use Rattle.std.proofs.Common.{◌≡◌, inr, ℕ, ◌+◌, List, [], ◌∷◌, ◌++◌, length, arith, refl, ap, ◌∙◌, Option, Some, None, Bool, true, false, subst}
 use Rattle.std.specs.Prelude.{option_map, is_some, if◌then◌else◌}
 use Rattle.std.proofs.lemmas.List.{length_push}
@@ -8,30 +8,39 @@ use Rattle.script_types.specs.declared.script.Script.{Script}
 use Rattle.entry_log.specs.declared.effect.Holder.{Holder}
 use Rattle.entry_log.specs.declared.effect.Holder.TheVariants.{InProcess, InThread, Temp, Own, Link}
 use Rattle.entry_log.specs.declared.effect.Effect.TheVariants.{Plus}
-use Rattle.machine.specs.declared.moves.Move.TheVariants.{Gain, Make}
+use Rattle.entry_log.specs.declared.step.Part.{Part}
+use Rattle.entry_log.specs.declared.step.Part.TheVariants.{Return}
+use Rattle.machine.specs.declared.moves.Move.TheVariants.{Gain, Make, Open}
 use Rattle.state_rows.specs.declared.handle_slot.HandleSlot.{HandleSlot}
 use Rattle.state_rows.specs.declared.servers.ServerRows.{ServerRows}
+use Rattle.state_rows.specs.declared.thread.Stage.{Stage}
+use Rattle.state_rows.specs.declared.thread.Stage.TheVariants.{Live, Doomed, Cleaned, Buried}
 use Rattle.state_rows.specs.declared.thread.ThreadRow.{ThreadRow}
 use Rattle.machine.specs.declared.state.State.{State}
-use Rattle.machine.specs.Rows.{table_of, thread_of, with_row}
+use Rattle.machine.specs.Rows.{owed_of, table_of, thread_of, with_row}
+use Rattle.machine.specs.Serving.{numbers_left}
 use Rattle.state_rows.specs.HandleSlots.{slot_at}
 use Rattle.machine.specs.Handles.{taken_slot, with_slot}
-use Rattle.machine.specs.Moves.{moved, told, tables_gain, threads_gain, next_object, new_object}
-use Rattle.machine.specs.References.{same, thread_names, option_names, slot_names, count_of}
+use Rattle.machine.specs.Moves.{moved, told, tables_gain, threads_gain, next_object, new_object, with_opened, with_use}
+use Rattle.machine.specs.Out.{found_object, is_returning, part_of, seeks}
+use Rattle.machine.specs.References.{same, thread_names, option_names, slot_names, count_of, total}
 use Rattle.machine.specs.Holding.{is_holder, same_pair}
-use Rattle.machine.specs.HeldIn.{held_in, use_names, own_slot, rows_hold, servers_hold}
-use Rattle.machine.specs.Fits.{FitsMove, IsFree, IsFreeSlot, MayMake, UsesNothing, IsUnspent}
-use Rattle.machine.specs.WellFormed.{AreTables, AreThreads, AreDuties, AreRows, AreServiceRows, AreServingRows, MayOwe, AreSpent, is_spent, IsUntold}
+use Rattle.machine.specs.HeldIn.{held_in, owed_by, use_names, own_slot, rows_hold, servers_hold}
+use Rattle.machine.specs.Fits.{FitsMove, IsFree, IsFreeSlot, MayMake, IsUnspent}
+use Rattle.machine.specs.WellFormed.{AreTables, AreThreads, AreDuties, AreRows, AreServiceRows, AreServingRows, MayOwe, AreSpent, is_before_use, is_spent, IsUntold}
 use Rattle.move_laws.proofs.Lives.Kinds.{lives-plus, lives-made}
+use Rattle.move_laws.proofs.Lives.Outs.{SeeksSame, out-more, outs-same, seeks-with_row}
+use Rattle.move_laws.proofs.Lists.Totals.{total-with}
 use Rattle.move_laws.proofs.Holders.HoldersMove.{holders-plus}
 use Rattle.move_laws.proofs.Holders.SlotRows.{slot_holder, rows-with_slot}
 use Rattle.move_laws.proofs.Holders.ThreadRows.{row_holds, rows-with_row}
 use Rattle.move_laws.proofs.References.Counts.{count-with_slot, count-with_row, kernel-with_row}
-use Rattle.move_laws.proofs.References.Same.{if_zero}
+use Rattle.move_laws.proofs.References.Same.{if_is, if_not, if_zero}
 use Rattle.move_laws.proofs.RowLaws.Tables.{free_index_is_free, length-with_slot, tables-with_slot, taken_keeps, table_inside}
 use Rattle.move_laws.proofs.RowLaws.Threads.{length-with_row, threads-with_row}
+use Rattle.move_laws.proofs.RowLaws.MessagesKept.{fewer-with_row, messages-with_row}
 use Rattle.move_laws.proofs.RowLaws.Duties.{paid-with_row, duties-threads, none_owed, none_owed_by}
-use Rattle.move_laws.proofs.MoveLaws.RowMoves.{serving-kept}
+use Rattle.move_laws.proofs.MoveLaws.RowMoves.{begins-sending, one_row, returning_before, returning_begun, servers-row, serving-kept}
 use Rattle.move_laws.proofs.MoveLaws.Owns.{sound-owned}
 use Rattle.move_laws.proofs.MoveLaws.Groups.{LeavesSynchronization, services-row, serving-more, synchronization-kept, synchronization-left, synchronization-same}
 use Rattle.move_laws.proofs.MoveLaws.Sound.{Sound, sound-of}
@@ -92,9 +101,25 @@ gained-slot script S thread owner i o is unspent fits rows =
       serving = rows.serving;
     }
 
-gained-use : (script : Script) (S : State) (u o : ObjNo) → UsesNothing S u → AreRows script S → HasGained script S (Temp u) o S.references.handles (with_row S.references.threads u (λ row. record row { uses = Some o }))
-gained-use script S u o fits rows =
-    let f : ThreadRow → ThreadRow = λ row. record row { uses = Some o } in
+-- a thread that isn't cleaned, uses nothing and owes no close of what it used may come to use an object, as its instruction goes on to a later step
+record MayUse (S : State) (u o : ObjNo) (go : Option Part → Option Part) : Type 0 where
+  pub row : ThreadRow
+  pub is : thread_of S u ≡ Some row
+  pub later : is_before_use (go row.part) ≡ false
+  pub unused : row.uses ≡ None
+  pub unspent : is_spent row.stage ≡ false
+  pub paid : total (owed_by (Temp u) o) (owed_of S u) ≡ 0
+  pub goes : (p : Option Part) → is_returning p ≡ false → is_returning (go p) ≡ false
+
+-- a later step isn't a return
+later_goes : (p : Option Part) → is_before_use p ≡ false → is_returning p ≡ false
+later_goes None later = refl
+later_goes (Some Return) later = absurd (cc)
+later_goes (Some _) later = refl
+
+gained-use : (script : Script) (S : State) (u o : ObjNo) (go : Option Part → Option Part) → MayUse S u o go → AreServingRows (length S.references.objects) (with_row S.references.threads u (λ row. record row { uses = Some o; part = go row.part })) S.synchronization.locks (IsUntold S.synchronization.requests S.synchronization.logons) S.serving → AreRows script S → HasGained script S (Temp u) o S.references.handles (with_row S.references.threads u (λ row. record row { uses = Some o; part = go row.part }))
+gained-use script S u o go fits serving rows =
+    let f : ThreadRow → ThreadRow = λ row. record row { uses = Some o; part = go row.part } in
     let row = fits.row in
     let unused : (x : ObjNo) → option_names x row.uses ≡ 0 = λ x. ap (option_names x) fits.unused in
     record {
@@ -104,7 +129,7 @@ gained-use script S u o fits rows =
           let c : thread_names p (thread_of S u) ≡ option_names p row.link + option_names p row.uses = ap (thread_names p) fits.is in
           let d : thread_names p (option_map f (thread_of S u)) ≡ option_names p row.link + same o p = ap (λ (x : Option ThreadRow). thread_names p (option_map f x)) fits.is in
           let e = unused p in omega arith;
-      none = let a : use_names o (thread_of S u) ≡ option_names o row.uses = ap (use_names o) fits.is in let b = unused o in let c = none_owed_by S.references.threads S.serving.servers S.serving.messages.accepted S.references.owed u (Temp u) o rows.references.duties (λ k y own. own) (fits.paid o) in omega arith;
+      none = let a : use_names o (thread_of S u) ≡ option_names o row.uses = ap (use_names o) fits.is in let b = unused o in let c = none_owed_by S.references.threads S.serving.servers S.serving.messages.accepted S.references.owed u (Temp u) o rows.references.duties (λ k y own. own) fits.paid in omega arith;
       held = λ g x.
           let a = rows-with_row S.references.handles S.references.threads S.synchronization.mutexes u f g x (λ r is. refl) in
           let b : row_holds u (thread_of S u) g x ≡ (if is_holder (Temp u) g then option_names x row.uses else 0) + (if is_holder (Link u) g then option_names x row.link else 0) = ap (λ (y : Option ThreadRow). row_holds u y g x) fits.is in
@@ -113,25 +138,26 @@ gained-use script S u o fits rows =
       handles_long = refl;
       threads_long = length-with_row S.references.threads u f;
       tables = rows.references.tables;
-      threads_are = threads-with_row script S.references.threads u f (λ r is h. record {
-        thread = record {
-          process = h.process;
-          link = h.link;
-          priority = h.priority;
-          next_instruction = h.next_instruction;
-          unused = λ before. let same_row : row ≡ r = cc in let later = fits.later in absurd (cc);
-          registers = h.registers;
-          declared = h.declared;
-          returns = h.returns;
-        };
-        process = refl;
-        role = refl;
-      }) rows.references.threads;
-      duties = duties-threads S.references.threads (with_row S.references.threads u f) S.serving.servers S.serving.messages.accepted S.references.owed (λ k. inr (paid-with_row S.references.threads u f (λ r h. h) k)) rows.references.duties;
-      synchronization = synchronization-kept script S u f (λ r h. h) (λ r. refl) (λ r. refl) rows;
+      threads_are = threads-with_row script S.references.threads u f (λ r is h.
+          let later : is_before_use (go r.part) ≡ false = subst (λ (x : ThreadRow). is_before_use (go x.part) ≡ false) (one_row S u row r fits.is is) fits.later in record {
+            thread = record {
+              process = h.process;
+              link = h.link;
+              priority = h.priority;
+              next_instruction = h.next_instruction;
+              unused = λ before. absurd (cc);
+              registers = h.registers;
+              declared = h.declared;
+              returns = λ returns. let no = later_goes (go r.part) later in absurd (cc);
+            };
+            process = refl;
+            role = refl;
+          }) rows.references.threads;
+      duties = duties-threads S.references.threads (with_row S.references.threads u f) S.serving.servers S.serving.messages.accepted S.references.owed (λ k. inr (paid-with_row S.references.threads u f (λ r h. fits.goes r.part h) k)) rows.references.duties;
+      synchronization = synchronization-kept script S u f (λ r h. (h.0, h.1, h.2, fits.goes r.part h.3)) (λ r. refl) (λ r. refl) rows;
       services = services-row S.references.threads u f S.services (λ r is. refl) rows.services;
-      spent = spent-going S.references.objects S.references.handles S.references.threads u f (λ r is. let same_row : row ≡ r = let a = fits.is in cc in subst (λ (x : ThreadRow). is_spent x.stage ≡ false) same_row fits.unspent) (λ r none. none) rows.references.spent;
-      serving = serving-kept script S u f (λ row. refl) (record { live = λ row live. live; waits = λ row live. refl; sends = λ row. omega arith; left = λ row. omega arith }) rows;
+      spent = spent-going S.references.objects S.references.handles S.references.threads u f (λ r is. subst (λ (x : ThreadRow). is_spent x.stage ≡ false) (one_row S u row r fits.is is) fits.unspent) (λ r none. none) rows.references.spent;
+      serving = serving;
     }
 
 is_some_of : (x : Option ThreadRow) → x ≡ None → is_some x ≡ false
@@ -140,8 +166,14 @@ is_some_of x e = ap is_some e
 pub gained : (script : Script) (S : State) (h : Holder) (o : ObjNo) → IsFree S h → AreRows script S → HasGained script S h o (tables_gain h o S.references.handles) (threads_gain h o S.references.threads)
 gained script S (InProcess p i) o fits rows = gained-slot script S false p i o (ap is_some fits.0) (λ row is. let none = fits.0 in absurd (cc)) fits.1 rows
 gained script S (InThread u i) o fits rows = gained-slot script S true u i o fits.0 fits.2 fits.1 rows
-gained script S (Temp u) o fits rows = gained-use script S u o fits rows
+gained script S (Temp u) o fits rows = gained-use script S u o (λ p. p) (record { row = fits.row; is = fits.is; later = fits.later; unused = fits.unused; unspent = fits.unspent; paid = fits.paid o; goes = λ p e. e })
+    (serving-kept script S u (with_use (Some o)) (λ row. refl) (record { live = λ row live. live; waits = λ row live. refl; sends = λ row. omega arith; left = λ row. omega arith }) rows) rows
 gained script S _ o fits rows = absurd fits
+
+-- it leaves who is out
+seeks-gain : (h : Holder) (o : ObjNo) (threads : List (Option ThreadRow)) → SeeksSame threads (threads_gain h o threads)
+seeks-gain (Temp u) o threads = seeks-with_row threads u (with_use (Some o)) (λ row is p. refl)
+seeks-gain _ o threads = λ p. refl
 
 pub sound-gain : (script : Script) (S : State) (t : ObjNo) (h : Holder) (o : ObjNo) → FitsMove script t (Gain h o) S → AreRows script S → Sound script S (moved t (Gain h o) S) (told (Gain h o) S)
 sound-gain script S t h o fits rows =
@@ -149,7 +181,7 @@ sound-gain script S t h o fits rows =
     let g = gained script S h o fits.0 rows in
     sound-of script S T (told (Gain h o) S) rows
     (record { handles_long = g.handles_long; threads_long = g.threads_long; owed_long = refl; objects_few = rows.references.sized.objects_few; tables = g.tables; threads = g.threads_are; duties = g.duties; synchronization = synchronization-left script S (length S.references.objects) (threads_gain h o S.references.threads) S.references.owed (omega arith) g.synchronization rows; services = g.services; spent = g.spent; serving = g.serving })
-    (lives-plus S T h o refl g.counts (λ p. refl) fits.1) (holders-plus S T h o g.none g.held)
+    (lives-plus S T h o refl g.counts (λ p. refl) (λ p. let a = outs-same S (threads_gain h o S.references.threads) (seeks-gain h o S.references.threads) p in omega arith) (rows.lives.alive o fits.1)) (holders-plus S T h o g.none g.held)
 
 -- an object is made, with its first reference in a handle or in use
 abbrev making : State → Kind → List ℕ → Holder → State
@@ -164,7 +196,7 @@ sound-made script S t kind name h may free rows =
     let long = length_push S.references.objects (Some (new_object kind name)) in
     sound-of script S T (Plus h o ∷ []) rows
     (record { handles_long = g.handles_long; threads_long = g.threads_long; owed_long = refl; objects_few = omega arith; tables = g.tables; threads = g.threads_are; duties = g.duties; synchronization = synchronization-left script S (length T.references.objects) (threads_gain h o S.references.threads) S.references.owed (omega arith) g.synchronization rows; services = g.services; spent = spent-objects S.references.objects T.references.objects T.references.handles T.references.threads (made-dead S.references.objects (new_object kind name) refl) g.spent; serving = serving-more (length S.references.objects) (length T.references.objects) T.references.threads S.synchronization.locks (IsUntold S.synchronization.requests S.synchronization.logons) S.serving (omega arith) g.serving })
-    (lives-made S T (new_object kind name) h o refl refl refl g.counts (λ p. refl)) (holders-plus S T h o g.none g.held)
+    (lives-made S T (new_object kind name) h o refl refl refl g.counts (λ p. refl) (outs-same S (threads_gain h o S.references.threads) (seeks-gain h o S.references.threads))) (holders-plus S T h o g.none g.held)
 
 pub sound-make : (script : Script) (S : State) (t : ObjNo) (kind : Kind) (name : List ℕ) (h : Holder) → FitsMove script t (Make kind name h) S → AreRows script S → Sound script S (moved t (Make kind name h) S) (told (Make kind name h) S)
 sound-make script S t kind name (InProcess p i) fits rows = sound-made script S t kind name (InProcess p i) fits.0 fits.1 rows
@@ -172,3 +204,42 @@ sound-make script S t kind name (InThread u i) fits rows = sound-made script S t
 sound-make script S t kind name (Temp u) fits rows = sound-made script S t kind name (Temp u) fits.0 fits.1 rows
 sound-make script S t kind name (Own u) fits rows = sound-owned script S kind name u fits.0 fits.1 rows
 sound-make script S t kind name _ fits rows = absurd fits.1
+
+-- whoever isn't of this stage isn't spent
+unspent_returning : (stage : Stage) → (is_spent stage ≡ true → ⊥) → is_spent stage ≡ false
+unspent_returning Live unless = refl
+unspent_returning Doomed unless = refl
+unspent_returning Cleaned unless = absurd (unless refl)
+unspent_returning Buried unless = absurd (unless refl)
+
+-- who comes back opens what it found: it isn't out any more, and uses that instead
+pub sound-open : (script : Script) (S : State) (t u o : ObjNo) (part : Part) → FitsMove script t (Open u o part) S → AreRows script S → Sound script S (moved t (Open u o part) S) (told (Open u o part) S)
+sound-open script S t u o part fits rows =
+    let may = fits.0 in
+    let T = moved t (Open u o part) S in
+    let f : ThreadRow → ThreadRow = with_opened o part in
+    let threads = S.references.threads in
+    let back = may.back in
+    let later = later_goes (Some part) may.later in
+    let returning = back.returns in
+    let before = returning_before back.row.part returning in
+    let g = gained-use script S u o (λ p. Some part) (record {
+      row = back.row;
+      is = back.is;
+      later = may.later;
+      unused = (rows.references.threads.rows u.0 back.row back.is).unused before;
+      unspent = unspent_returning back.row.stage (λ spent. let gone = (rows.references.spent.rows u.0 back.row back.is spent).going in absurd (cc));
+      paid = ap (total (owed_by (Temp u) o)) (rows.references.duties.returns u.0 (ap (λ (x : Option ThreadRow). is_returning (part_of x)) back.is ∙ returning));
+      goes = λ p e. later;
+    }) (record {
+      servers = servers-row script S u f (λ row. refl) rows;
+      messages = messages-with_row (IsUntold S.synchronization.requests S.synchronization.logons) threads S.serving.servers S.serving.messages u f (λ row is called was live. was live) (begins-sending S u part f (λ row. refl) may.sends rows.serving.messages.few)
+          (fewer-with_row numbers_left threads u f (λ row is. let a = returning_begun row.part (subst (λ (r : ThreadRow). is_returning r.part ≡ true) (one_row S u back.row row back.is is) returning) in omega arith)) rows.serving.messages;
+    }) rows in
+    let seek : (p : ObjNo) → total (seeks p) (with_row threads u f) + same o p ≡ total (seeks p) threads = λ p.
+    let a = total-with (seeks p) (option_map f) None threads u.0 refl in
+    let was : seeks p (thread_of S u) ≡ same o p = ap (seeks p) back.is ∙ if_is (is_returning back.row.part) (same (found_object back.row) p) returning ∙ ap (λ (x : ObjNo). same x p) back.found in
+    let now : seeks p (option_map f (thread_of S u)) ≡ 0 = ap (λ (x : Option ThreadRow). seeks p (option_map f x)) back.is ∙ if_not (is_returning (Some part)) (same (found_object (f back.row)) p) later in omega arith in
+    sound-of script S T (told (Open u o part) S) rows
+    (record { handles_long = g.handles_long; threads_long = g.threads_long; owed_long = refl; objects_few = rows.references.sized.objects_few; tables = g.tables; threads = g.threads_are; duties = g.duties; synchronization = synchronization-left script S (length S.references.objects) (with_row threads u f) S.references.owed (omega arith) g.synchronization rows; services = g.services; spent = g.spent; serving = g.serving })
+    (lives-plus S T (Temp u) o refl g.counts (λ p. refl) (λ p. let a = seek p in out-more S.mode.shared (total (seeks p) threads) (total (seeks p) (with_row threads u f)) (same o p) (omega arith)) may.alive) (holders-plus S T (Temp u) o g.none g.held)

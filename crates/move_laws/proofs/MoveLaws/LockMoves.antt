@@ -32,9 +32,9 @@ use Rattle.machine.specs.LockMoves.{holding, lock_told, not_holding, owed_moved}
 use Rattle.machine.specs.Moves.{moved, told}
 use Rattle.machine.specs.References.{mutex_names, owed_names, same, total}
 use Rattle.machine.specs.Rows.{object_of, owed_of, owing, thread_of}
-use Rattle.machine.specs.Task.{is_returning}
+use Rattle.machine.specs.Out.{is_returning, part_of}
 use Rattle.machine.specs.Told.{removals}
-use Rattle.machine.specs.WellFormed.{AreDuties, AreLocks, AreRows, IsAlive, is_spent, owed_sweeps, part_of, sweeps_of, weight}
+use Rattle.machine.specs.WellFormed.{AreDuties, AreLocks, AreRows, IsAlive, is_spent, owed_sweeps, sweeps_of, weight}
 use Rattle.move_laws.proofs.Holders.HoldersMove.{HoldersMove, holders-none, holders-plus}
 use Rattle.move_laws.proofs.Holders.MutexRows.{rows-holding, rows-not_holding}
 use Rattle.move_laws.proofs.Lists.Totals.{inside, total_at_least}
@@ -108,7 +108,7 @@ sound-passed script S mutexes owed new effects h lives holders rows = sound-of s
 sound-alone : (script : Script) (S : State) (new : LockRows) → AreLocks (length S.references.objects) S.references.threads S.synchronization.mutexes S.references.owed new → ((o : ObjNo) → IsServer S.serving.servers o → owner_at new o ≡ None) → AreRows script S → Sound script S (record S { synchronization = record S.synchronization { locks = new } }) []
 sound-alone script S new locks unlocked rows =
     let T = passing S S.synchronization.mutexes S.references.owed new in
-    sound-passed script S S.synchronization.mutexes S.references.owed new [] (record { long = refl; duties = rows.references.duties; locks = locks; unlocked = unlocked; sweeps = λ p. refl }) (lives-none S T refl (λ o. refl) (λ o. refl)) (holders-none S T (λ g x. refl)) rows
+    sound-passed script S S.synchronization.mutexes S.references.owed new [] (record { long = refl; duties = rows.references.duties; locks = locks; unlocked = unlocked; sweeps = λ p. refl }) (lives-none S T refl (λ o. refl) (λ o. refl) (λ o. refl)) (holders-none S T (λ g x. refl)) rows
 
 -- a mutex is taken exactly where it is free
 pub taken_free : (owner : Option Owner) (t : ObjNo) → Taken ≡ lock_answer owner t → owner ≡ None
@@ -159,12 +159,12 @@ may_stand : (S : State) (t o : ObjNo) → MayJoin S o t → MayStand S.reference
 may_stand S t o joins = record { waits = joins.waits; paid = ap (total (owed_by (Own t) o)) joins.paid }
 
 sound-lock : (script : Script) (S : State) (t o u : ObjNo) (locked : Locked) → MayLock S o u locked → AreRows script S → Sound script S (moved t (Locks (Lock o u locked)) S) (lock_told (Lock o u locked))
-sound-lock script S t o u Again may rows = sound-alone script S _ (locks-again (length S.references.objects) S.references.threads (parts S) rows.synchronization.locks rows.references.sized.objects_few o (alive_not_gone S.references.objects o may.alive).1 u)
+sound-lock script S t o u Again may rows = sound-alone script S _ (locks-again (length S.references.objects) S.references.threads (parts S) rows.synchronization.locks rows.references.sized.objects_few o (alive_not_gone S.references.objects o (rows.lives.alive o may.counted)).1 u)
     (unlocked-set S.synchronization.locks S.serving.servers o _ (λ is none. ap (λ (w : Option Owner). owner_after_lock w u Again) none) rows.serving.servers.unlocked) rows
-sound-lock script S t o u Waits may rows = sound-alone script S _ (locks-waits (length S.references.objects) S.references.threads (parts S) rows.synchronization.locks rows.references.sized.objects_few o (alive_not_gone S.references.objects o may.alive).1 u (may_stand S u o (may.joins refl)))
+sound-lock script S t o u Waits may rows = sound-alone script S _ (locks-waits (length S.references.objects) S.references.threads (parts S) rows.synchronization.locks rows.references.sized.objects_few o (alive_not_gone S.references.objects o (rows.lives.alive o may.counted)).1 u (may_stand S u o (may.joins refl)))
     (unlocked-set S.synchronization.locks S.serving.servers o _ (λ is none. ap (λ (w : Option Owner). owner_after_lock w u Waits) none) rows.serving.servers.unlocked) rows
 sound-lock script S t o u Taken may rows =
-    let made = (alive_not_gone S.references.objects o may.alive).1 in
+    let made = (alive_not_gone S.references.objects o (rows.lives.alive o may.counted)).1 in
     let free = taken_free (owner_at S.synchronization.locks o) u may.answer in
     let there : u.0 < length S.synchronization.mutexes = let a = thread_inside S.references.threads u.0 may.thread in let b = rows.synchronization.locks.mutexes_sized in omega arith in
     let mutexes = holding S.synchronization.mutexes u o in
@@ -178,7 +178,7 @@ sound-lock script S t o u Taken may rows =
     sound-told script S T (Take u (Object o) ∷ []) (Plus (Own u) o ∷ []) (silent-take S u o) (λ p. refl) rows
     (sound-passed script S mutexes S.references.owed new (Plus (Own u) o ∷ [])
     (record { long = refl; duties = rows.references.duties; locks = locks-taken (length S.references.objects) S.references.threads (parts S) rows.synchronization.locks few o made u free there; unlocked = unlocked-set S.synchronization.locks S.serving.servers o _ (λ is none. let no : is_some (server_at S.serving.servers o) ≡ false = ap is_some may.other in absurd (cc)) rows.serving.servers.unlocked; sweeps = λ p. refl })
-    (lives-plus S T (Own u) o refl (λ p. let a = count-holding S.synchronization.mutexes u o p there in omega arith) (λ p. refl) may.alive)
+    (lives-plus S T (Own u) o refl (λ p. let a = count-holding S.synchronization.mutexes u o p there in omega arith) (λ p. refl) (λ p. omega arith) (rows.lives.alive o may.counted))
     (holders-plus S T (Own u) o none (λ g x. let a = rows-holding S.references.handles S.references.threads S.synchronization.mutexes u o there g x in omega arith)) rows)
 
 -- who gives a mutex up owes the close of its ownership
@@ -201,7 +201,7 @@ sound-freed script S t o may few rows =
     sound-told script S T (Give t (Object o) ∷ []) [] (silent-give S t o) (λ p. refl) rows
     (sound-passed script S mutexes owed new []
     (record { long = length-set S.references.owed t.0 _; duties = duties-close script S t o may few rows; locks = locks-freed (length S.references.objects) S.references.threads (parts S) rows.synchronization.locks small o may.object t own.own own.is own.thread there (may.nowhere o); unlocked = unlocked-set S.synchronization.locks S.serving.servers o _ (λ is none. ap (λ (w : Option Owner). owner_after_unlock w Freed) none) rows.serving.servers.unlocked; sweeps = sweeps })
-    (lives-none S T refl (λ p. let a = count-not_holding S.synchronization.mutexes t o p there once in let b = total-owing (owed_names p) S.references.owed t (Close (Own t) o ∷ []) owes in omega arith) sweeps)
+    (lives-none S T refl (λ p. let a = count-not_holding S.synchronization.mutexes t o p there once in let b = total-owing (owed_names p) S.references.owed t (Close (Own t) o ∷ []) owes in omega arith) sweeps (λ p. refl))
     (holders-none S T (λ g x. let a = rows-not_holding S.references.handles S.references.threads S.synchronization.mutexes t o there once g x in let b = total-owing (owed_by g x) S.references.owed t (Close (Own t) o ∷ []) owes in omega arith)) rows)
 
 sound-given : (script : Script) (S : State) (t o w : ObjNo) → Gives S o t → best_waiter (priority_of S) S.synchronization.locks o ≡ Some w → total weight (owed_of S t) + 4 ≤ 12 → AreRows script S → Sound script S (moved t (Locks (Unlock o t (Passed w))) S) (lock_told (Unlock o t (Passed w)))
@@ -233,7 +233,7 @@ sound-given script S t o w may best few rows =
     sound-told script S T (Give t (Object o) ∷ Take w (Object o) ∷ []) (Plus (Own w) o ∷ []) (silent-pass S t w o) (λ p. refl) rows
     (sound-passed script S mutexes owed new (Plus (Own w) o ∷ [])
     (record { long = length-set S.references.owed t.0 _; duties = duties-close script S t o may few rows; locks = locks-given (length S.references.objects) S.references.threads (parts S) rows.synchronization.locks small o may.object t own.own own.is own.thread there (may.nowhere o) w waiter; unlocked = unlocked-set S.synchronization.locks S.serving.servers o _ (λ is none. let held = own.is in absurd (cc)) rows.serving.servers.unlocked; sweeps = sweeps })
-    (lives-plus S T (Own w) o refl (λ p. let a = count-not_holding S.synchronization.mutexes t o p there once in let b = count-holding left w o p behind in let c = total-owing (owed_names p) S.references.owed t (Close (Own t) o ∷ []) owes in omega arith) sweeps alive)
+    (lives-plus S T (Own w) o refl (λ p. let a = count-not_holding S.synchronization.mutexes t o p there once in let b = count-holding left w o p behind in let c = total-owing (owed_names p) S.references.owed t (Close (Own t) o ∷ []) owes in omega arith) sweeps (λ p. omega arith) alive)
     (holders-plus S T (Own w) o none (λ g x. let a = rows-not_holding S.references.handles S.references.threads S.synchronization.mutexes t o there once g x in let b = rows-holding S.references.handles S.references.threads left w o behind g x in let c = total-owing (owed_by g x) S.references.owed t (Close (Own t) o ∷ []) owes in omega arith)) rows)
 
 gives : (S : State) (o t : ObjNo) (unlocked : Unlocked) → MayUnlock S o t unlocked → IsOwn (owner_at S.synchronization.locks o) t → Gives S o t

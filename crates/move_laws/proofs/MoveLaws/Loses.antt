@@ -17,11 +17,12 @@ use Rattle.machine.specs.Handles.{freed_slot, with_slot}
 use Rattle.machine.specs.Moves.{moved, told, tables_lose, threads_lose, link_of, link_of_row, link_or}
 use Rattle.machine.specs.ServerMoves.{owned_lose, servers_lose}
 use Rattle.machine.specs.Serving.{times_owned}
-use Rattle.machine.specs.References.{total, thread_names, option_names, slot_names, dies, same}
+use Rattle.machine.specs.References.{total, thread_names, option_names, slot_names, same}
+use Rattle.machine.specs.Kept.{dies}
 use Rattle.machine.specs.Holding.{is_holder, same_pair}
 use Rattle.machine.specs.Fits.{FitsMove, Holds, Uses}
-use Rattle.machine.specs.Task.{is_returning}
-use Rattle.machine.specs.WellFormed.{AreRows, IsUntold, is_spent, weight, part_of}
+use Rattle.machine.specs.Out.{is_returning, part_of}
+use Rattle.machine.specs.WellFormed.{AreRows, IsUntold, is_spent, weight}
 use Rattle.move_laws.proofs.Holders.SlotRows.{slot_holder, rows-with_slot}
 use Rattle.move_laws.proofs.Holders.ThreadRows.{row_holds, rows-with_row, row-here, row-other}
 use Rattle.move_laws.proofs.References.Counts.{count-with_slot, count-with_row, kernel-with_row}
@@ -31,6 +32,7 @@ use Rattle.move_laws.proofs.RowLaws.Threads.{length-with_row, threads-with_row}
 use Rattle.move_laws.proofs.RowLaws.Duties.{paid-with_row, duties-threads}
 use Rattle.move_laws.proofs.MoveLaws.Closes.{HasLost, sound-closed, close_weight, detached_bits}
 use Rattle.move_laws.proofs.MoveLaws.RowMoves.{serving-kept}
+use Rattle.move_laws.proofs.Lives.Outs.{seeks-with_row}
 use Rattle.move_laws.proofs.MoveLaws.Groups.{services-row, synchronization-kept, synchronization-same}
 use Rattle.move_laws.proofs.MoveLaws.Sound.{Sound}
 use Rattle.move_laws.proofs.RowLaws.Spent.{spent-freed, spent-kept}
@@ -59,6 +61,7 @@ lost-slot script S t thread owner i o is there going few rows =
       sweeps = λ p. refl;
       link = refl;
       handles_long = length-with_slot S.references.handles owner i freed_slot;
+      seeks = λ p. refl;
       threads_long = refl;
       owed_long = refl;
       tables = tables-with_slot S.references.handles owner i freed_slot freed_keeps rows.references.tables;
@@ -105,6 +108,7 @@ lost-use script S t u o uses going few rows =
       sweeps = λ p. refl;
       link = ap (λ (a : Option ObjNo). link_or a (server_of S.serving.servers o)) (link-with_row S.references.threads u f o.0 (λ r. refl));
       handles_long = refl;
+      seeks = seeks-with_row S.references.threads u f (λ r is p. refl);
       threads_long = length-with_row S.references.threads u f;
       owed_long = refl;
       tables = rows.references.tables;
@@ -145,6 +149,7 @@ lost-link script S t s o linked going few rows =
       sweeps = λ p. refl;
       link = ap (λ (x : Option ThreadRow). link_or (link_of_row x) (server_of new o)) free.0 ∙ ap link_of_session (mapped-none detached S.serving.servers.sessions s.0 o.0 free.1) ∙ sym free.2;
       handles_long = refl;
+      seeks = λ p. refl;
       threads_long = refl;
       owed_long = refl;
       tables = rows.references.tables;
@@ -170,6 +175,7 @@ lost-own script S t u o owns going few rows =
       sweeps = λ p. refl;
       link = refl;
       handles_long = refl;
+      seeks = λ p. refl;
       threads_long = refl;
       owed_long = refl;
       tables = rows.references.tables;

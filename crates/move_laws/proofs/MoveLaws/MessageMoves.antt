@@ -66,7 +66,7 @@ sound-taken script S (Some m) rows =
       spent = rows.references.spent;
       serving = record { servers = rows.serving.servers; messages = messages-edited (IsUntold S.synchronization.requests S.synchronization.logons) S.references.threads S.serving.servers S.serving.messages m taken_row (λ row. refl) (λ row. refl) (λ row. refl) rows.serving.messages };
     })
-    (lives-none S T refl (λ o. let a = stays (message_names o) (λ x. refl) in omega arith) (λ o. refl))
+    (lives-none S T refl (λ o. let a = stays (message_names o) (λ x. refl) in omega arith) (λ o. refl) (λ o. refl))
     (holders-none S T (λ g x. let a = holds-same S.serving.owned S.serving.servers.sessions S.serving.messages.outstanding T.serving.messages.outstanding g x (λ n. stays (message_holds n x) (λ y. refl)) in omega arith))
 
 -- no message has the next number
@@ -103,10 +103,10 @@ sound-accept script S slots row may rows =
       serving = record { servers = rows.serving.servers; messages = messages-accepted S slots row may rows.serving.messages };
     })
     (lives-quiet S T (message_told (Accept slots row) S.serving.messages) refl (record { minuses = λ o. refl; deaths = λ o. refl; removals = λ o. refl })
-    (λ o. let a = total-append (message_names o) S.serving.messages.outstanding (new ∷ []) in omega arith) (λ o. refl)
+    (λ o. let a = total-append (message_names o) S.serving.messages.outstanding (new ∷ []) in omega arith) (λ o. refl) (λ o inside alive. omega arith)
     (λ o some. elim (cases_lt 0 (same row.session o)) as (λ _. IsAlive (object_of S o)) [
-      | inl session ↦ subst (λ (y : ObjNo). IsAlive (object_of S y)) (same_is row.session o session) may.session
-      | inr other ↦ subst (λ (y : ObjNo). IsAlive (object_of S y)) (same_is row.client o (omega arith)) may.client
+      | inl session ↦ subst (λ (y : ObjNo). IsAlive (object_of S y)) (same_is row.session o session) (rows.lives.alive row.session may.session)
+      | inr other ↦ subst (λ (y : ObjNo). IsAlive (object_of S y)) (same_is row.client o (omega arith)) (rows.lives.alive row.client may.client)
     ]) (λ o some. absurd (omega arith)))
     (record {
       fits = (tt, (unheld_next script S row.session rows, (let a = unheld_next script S row.client rows in let b = if_zero (is_holder (OfMessage (next_number S.serving.messages)) (OfMessage (next_number S.serving.messages))) (same row.session row.client) apart in omega arith, tt)));
@@ -150,7 +150,7 @@ sound-finished script S t m code message found may few rows =
     })
     (lives-quiet S T (effect.Finish m code ∷ []) refl (record { minuses = λ o. refl; deaths = λ o. refl; removals = λ o. refl })
     (λ o. let a = one_goes (message_names o) m S.serving.messages.outstanding message rows.serving.messages.rising found in let b = total-owing (owed_names o) S.references.owed t more here in omega arith)
-    (λ o. let b = total-owing (owed_sweeps o) S.references.owed t more here in omega arith) (λ o some. absurd (omega arith)) (λ o some. absurd (omega arith)))
+    (λ o. let b = total-owing (owed_sweeps o) S.references.owed t more here in omega arith) (λ o inside alive. omega arith) (λ o some. absurd (omega arith)) (λ o some. absurd (omega arith)))
     (record { fits = (tt, tt); moves = λ g x. let a = holds-finished S.serving.owned S.serving.servers.sessions S.serving.messages.outstanding m message rows.serving.messages.rising found g x in let b = total-owing (owed_by g x) S.references.owed t more here in omega arith })
   where
     more : List Owed

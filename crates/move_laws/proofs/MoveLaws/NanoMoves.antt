@@ -29,7 +29,7 @@ signalled script S t n h =
 synchronized-nano : (script : Script) (S : State) (m : NanoMove) → FitsNano m S → AreSynchronized script S.references.threads S.synchronization.nano → AreSynchronized script S.references.threads (nano_moved m S.synchronization.nano)
 synchronized-nano script S (Take t f) fits h =
     let may = fits.2 in
-    synchronized-take script S.references.threads S.synchronization.nano t f may.row fits.0 fits.1 may.holds may.is may.live may.serves may.waits h
+    synchronized-take script S.references.threads S.synchronization.nano t f may.row fits.0 fits.1 may.holds may.is may.live may.serves may.waits may.going h
 synchronized-nano script S (Give t f) fits h = synchronized-give script S.references.threads S.synchronization.nano t f h
 synchronized-nano script S (Want t None) fits h = synchronized-want script S.references.threads S.synchronization.nano t None (λ f is. absurd (cc)) (λ f is. refl) h
 synchronized-nano script S (Want t (Some f)) fits h = synchronized-want script S.references.threads S.synchronization.nano t (Some f) (λ g is. let same : f ≡ g = cc in let below = fits.0 in omega arith) (λ g is. absurd (held_none S.synchronization.nano t g fits.1 is)) h

@@ -70,7 +70,7 @@ sound-owned script S kind name u may own rows =
         messages = rows.serving.messages;
       };
     })
-    (lives-made S T (new_object kind name) (Own u) o refl refl refl (λ p. let a = count-holding S.serving.owned u o p inside_owned in omega arith) (λ p. refl))
+    (lives-made S T (new_object kind name) (Own u) o refl refl refl (λ p. let a = count-holding S.serving.owned u o p inside_owned in omega arith) (λ p. refl) (λ p. refl))
     (holders-plus S T (Own u) o unheld (λ g x. let a = holds-owned S.serving.owned S.serving.servers.sessions S.serving.messages.outstanding u o inside_owned g x in omega arith))
   where
     o : ObjNo

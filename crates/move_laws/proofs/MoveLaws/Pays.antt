@@ -17,14 +17,16 @@ use Rattle.state_rows.specs.declared.thread.ThreadRow.{ThreadRow}
 use Rattle.machine.specs.declared.state.State.{State}
 use Rattle.machine.specs.Rows.{object_of, thread_of, owed_of, without_first}
 use Rattle.machine.specs.Moves.{moved, told, link_of, link_of_row, link_or, owed_by_close}
-use Rattle.machine.specs.References.{total, count_of, dies, message_names, owed_names, kernel_holds, stage_holds, thread_names}
+use Rattle.machine.specs.References.{total, count_of, message_names, owed_names, kernel_holds, stage_holds, thread_names}
+use Rattle.machine.specs.Kept.{dies}
 use Rattle.machine.specs.HeldIn.{owed_by, rows_hold}
-use Rattle.machine.specs.Task.{is_returning}
-use Rattle.machine.specs.WellFormed.{MayOwe, EachMayOwe, AreRows, weight, owed_sweeps, is_dead, part_of, AreSpent, AreThreads, AreDuties, AreServiceRows, AreServingRows, is_spent, IsUntold}
+use Rattle.machine.specs.Out.{is_returning, part_of}
+use Rattle.machine.specs.WellFormed.{MayOwe, EachMayOwe, AreRows, weight, owed_sweeps, is_dead, AreSpent, AreThreads, AreDuties, AreServiceRows, AreServingRows, is_spent, IsUntold}
 use Rattle.move_laws.proofs.Lists.Sets.{set_own}
 use Rattle.move_laws.proofs.Lives.Bits.{gone_is, gone_le, alive_not_gone}
 use Rattle.move_laws.proofs.Lives.LivesMove.{zero_or}
 use Rattle.move_laws.proofs.Lives.Closes.{lives-swept}
+use Rattle.move_laws.proofs.Lives.Outs.{SeeksSame, outs-same}
 use Rattle.move_laws.proofs.References.Counts.{total-paying}
 use Rattle.move_laws.proofs.References.Same.{same_self}
 use Rattle.move_laws.proofs.RowLaws.Duties.{duties-without_first}
@@ -33,7 +35,7 @@ use Rattle.move_laws.proofs.MoveLaws.Closes.{sound-closed, close_weight, close_w
 use Rattle.move_laws.proofs.MoveLaws.Groups.{LeavesSynchronization, serving-more, synchronization-left, synchronization-same, synchronization-then}
 use Rattle.move_laws.proofs.MoveLaws.Sound.{Sound, sound-of}
 use Rattle.move_laws.proofs.RowLaws.Spent.{spent-objects, swept-dead, spent-swept}
-use Rattle.move_laws.proofs.RowLaws.Swept.{IsOver, counts-swept, duties-swept, kernel-swept, leaves-swept, memories-swept, rows-swept, synchronized-swept, threads-swept}
+use Rattle.move_laws.proofs.RowLaws.Swept.{IsOver, counts-swept, duties-swept, kernel-swept, leaves-swept, memories-swept, rows-swept, seeks-swept, synchronized-swept, threads-swept}
 use Rattle.state_rows.specs.Nano.{holder_of}
 use Rattle.state_rows.specs.declared.thread.Stage.{Stage}
 use Rattle.state_rows.specs.declared.thread.Stage.TheVariants.{Buried, Live}
@@ -69,6 +71,7 @@ sound-pay_close script S t h o rest e inside rows =
       sweeps = λ p. let a = total-paying (owed_sweeps p) S.references.owed t (Close h o) rest here e in omega arith;
       link = refl;
       handles_long = refl;
+      seeks = λ p. refl;
       threads_long = refl;
       owed_long = length-set S.references.owed t.0 _;
       tables = rows.references.tables;
@@ -90,6 +93,7 @@ over-by script S o row _ rows is dead at none = absurd (omega arith)
 -- the rows of threads that a sweep leaves
 record AreSwept (script : Script) (S : State) (o : ObjNo) (threads : List (Option ThreadRow)) : Type 0 where
   pub long : length threads ≡ length S.references.threads
+  pub seeks : SeeksSame S.references.threads threads
   pub names : (p : ObjNo) → total (thread_names p) threads ≡ total (thread_names p) S.references.threads
   pub kernel : (p : ObjNo) → kernel_holds (get_or threads p.0 None) ≡ kernel_holds (get_or S.references.threads p.0 None)
   pub held : (g : Holder) (x : ObjNo) → rows_hold S.references.handles threads S.synchronization.mutexes g x ≡ rows_hold S.references.handles S.references.threads S.synchronization.mutexes g x
@@ -103,6 +107,7 @@ record AreSwept (script : Script) (S : State) (o : ObjNo) (threads : List (Optio
 swept-none : (script : Script) (S : State) (o : ObjNo) → AreRows script S → AreSwept script S o S.references.threads
 swept-none script S o rows = record {
   long = refl;
+  seeks = λ p. refl;
   names = λ p. refl;
   kernel = λ p. refl;
   held = λ g x. refl;
@@ -133,6 +138,7 @@ holder-apart script S o rows over f u is at =
 swept-over : (script : Script) (S : State) (o : ObjNo) → AreRows script S → IsOver S.references.handles S.references.threads o.0 → total (message_names o) S.serving.messages.outstanding ≡ 0 → AreSwept script S o (slice_set S.references.threads o.0 None)
 swept-over script S o rows over unnamed = record {
   long = length-set S.references.threads o.0 None;
+  seeks = λ p. seeks-swept S.references.handles S.references.threads o.0 p over;
   names = λ p. counts-swept S.references.handles S.references.threads o.0 p over;
   kernel = λ p. kernel-swept S.references.handles S.references.threads o.0 p over;
   held = λ g x. rows-swept S.references.handles S.references.threads S.synchronization.mutexes o.0 g x over;
@@ -188,7 +194,7 @@ sound-swept script S t o rest threads e inside rows left =
       spent = left.spent;
       serving = serving-more (length S.references.objects) (length T.references.objects) threads S.synchronization.locks (IsUntold S.synchronization.requests S.synchronization.logons) S.serving (let a = length-set S.references.objects o.0 None in omega arith) left.serving;
     })
-    (lives-swept S T o there dead refl counts (λ p. let a = paid p in omega arith))
+    (lives-swept S T o there dead refl counts (λ p. let a = paid p in omega arith) (outs-same S threads left.seeks))
     (record { fits = (tt, tt); moves = λ g x. let a = total-paying (owed_by g x) S.references.owed t (Sweep o) rest here e in let b = left.held g x in omega arith })
 
 -- a thread with a row whose sweep is owed has given up all

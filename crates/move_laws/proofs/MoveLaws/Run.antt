@@ -7,11 +7,12 @@ use Rattle.entry_log.specs.declared.effect.Effect.{Effect}
 use Rattle.state_rows.specs.declared.duty.Owed.{Owed}
 use Rattle.state_rows.specs.declared.duty.Owed.TheVariants.{Close, Sweep}
 use Rattle.machine.specs.declared.moves.Move.{Move}
-use Rattle.machine.specs.declared.moves.Move.TheVariants.{Make, Gain, Lose, Find, Miss, GoOn, Keep, Write, WriteMessage, PutDown, Advance, Wait, Wake, SetPriority, Nano, Deferred, Requests, Locks, Logons, Death, Servers, Messages, Fill, Copies, Pay}
+use Rattle.machine.specs.declared.moves.Move.TheVariants.{Make, Gain, Lose, Find, Open, Miss, GoOn, Keep, Write, WriteMessage, PutDown, Advance, Wait, Wake, SetPriority, Nano, Deferred, Requests, Locks, Logons, Death, Servers, Messages, Fill, Copies, Pay}
 use Rattle.machine.specs.declared.state.State.{State}
 use Rattle.machine.specs.Rows.{owed_of}
 use Rattle.machine.specs.Moves.{moved, told, perform, tell, closed_effects, link_of, owed_by_close, owed_use, use_of}
-use Rattle.machine.specs.References.{total, dies, RefsMove}
+use Rattle.machine.specs.References.{total, RefsMove}
+use Rattle.machine.specs.Kept.{dies}
 use Rattle.machine.specs.Told.{removals}
 use Rattle.machine.specs.Fits.{FitsMove, EachFits, Fits, Sane, most_owed}
 use Rattle.machine.specs.WellFormed.{weight}
@@ -25,7 +26,7 @@ use Rattle.move_laws.proofs.MoveLaws.DeathMoves.{death_silent, death_weight, sou
 use Rattle.move_laws.proofs.MoveLaws.LockMoves.{lock_removes, lock_weight, sound-locks}
 use Rattle.move_laws.proofs.MoveLaws.RowMoves.{sound-fill, sound-find, sound-keep, sound-miss, sound-go_on, sound-write, sound-write_message, sound-wait, sound-wake, sound-priority}
 use Rattle.move_laws.proofs.MoveLaws.Advance.{sound-advance, sound-put_down, use_weight}
-use Rattle.move_laws.proofs.MoveLaws.Gains.{sound-gain, sound-make}
+use Rattle.move_laws.proofs.MoveLaws.Gains.{sound-gain, sound-make, sound-open}
 use Rattle.move_laws.proofs.MoveLaws.Closes.{close_weight}
 use Rattle.move_laws.proofs.MoveLaws.MessageMoves.{message_removes, message_weight, sound-messages}
 use Rattle.move_laws.proofs.MoveLaws.ServerMoves.{server_removes, sound-servers}
@@ -38,9 +39,10 @@ sound-move script S t (Make kind name h) fits few s = sound-make script S t kind
 sound-move script S t (Gain h o) fits few s = sound-gain script S t h o fits s.rows
 sound-move script S t (Lose h o) fits few s = sound-lose script S t h o fits few s.inside s.rows
 sound-move script S t (Find u o) fits few s = sound-find script S t u o fits s.rows
-sound-move script S t (Miss o) fits few s = sound-miss script S t o s.rows
+sound-move script S t (Open u o part) fits few s = sound-open script S t u o part fits s.rows
+sound-move script S t (Miss u o) fits few s = sound-miss script S t u o fits s.rows
 sound-move script S t (GoOn u part) fits few s = sound-go_on script S t u part fits s.rows
-sound-move script S t (Keep u number) fits few s = sound-keep script S t u number s.rows
+sound-move script S t (Keep u number) fits few s = sound-keep script S t u number fits s.rows
 sound-move script S t (WriteMessage u y number) fits few s = sound-write_message script S t u y number s.rows
 sound-move script S t (PutDown u) fits few s = sound-put_down script S t u fits (subst (λ (y : ObjNo). total weight (owed_of S y) + 4 ≤ 12) (sym fits.0) few) (subst (λ (y : ObjNo). y.0 < length S.references.threads) (sym fits.0) s.inside) s.rows
 sound-move script S t (Servers m) fits few s = sound-servers script S t m fits s.rows

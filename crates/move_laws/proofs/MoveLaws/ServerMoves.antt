@@ -76,7 +76,7 @@ sound-served script S new effects quiet h rows =
       spent = rows.references.spent;
       serving = record { servers = h.servers; messages = messages-sessions (IsUntold S.synchronization.requests S.synchronization.logons) S.references.threads S.serving.servers new S.serving.messages h.still h.few h.numbered rows.serving.messages };
     })
-    (lives-quiet S T effects refl quiet.quiet (λ o. let a = counts o in let b = quiet.pluses o in let c = quiet.quiet.minuses o in omega arith) (λ o. refl) (λ o h. let b = quiet.pluses o in absurd (omega arith)) quiet.found)
+    (lives-quiet S T effects refl quiet.quiet (λ o. let a = counts o in let b = quiet.pluses o in let c = quiet.quiet.minuses o in omega arith) (λ o. refl) (λ o inside alive. omega arith) (λ o h. let b = quiet.pluses o in absurd (omega arith)) quiet.found)
     (record { fits = quiet.fits; moves = λ g x. quiet.after g x ∙ sym (held g x) })
 
 -- a server begins to close
@@ -171,7 +171,7 @@ sound-join script S s o slots u may rows =
         servers = servers-join (λ row. is_spent row.stage) (length S.references.objects) S.references.threads S.synchronization.locks S.serving.owned S.serving.servers s o slots u (record {
           few = rows.references.sized.objects_few;
           made = may.made;
-          server_made = (alive_not_gone S.references.objects o may.alive).1;
+          server_made = (alive_not_gone S.references.objects o (rows.lives.alive o may.counted)).1;
           later = may.later;
           other = may.other;
           fresh = may.fresh;
@@ -193,7 +193,7 @@ sound-join script S s o slots u may rows =
             let numbered = rows.serving.messages.numbered in omega arith) rows.serving.messages;
       };
     })
-    (lives-plus S T (Link s) o refl (λ p. let a = count-linked S.serving.servers.sessions s o row inside_s may.fresh refl p in omega arith) (λ p. refl) may.alive)
+    (lives-plus S T (Link s) o refl (λ p. let a = count-linked S.serving.servers.sessions s o row inside_s may.fresh refl p in omega arith) (λ p. refl) (λ p. omega arith) (rows.lives.alive o may.counted))
     (holders-plus S T (Link s) o unheld (λ g x. let a = holds-linked S.serving.owned S.serving.servers.sessions S.serving.messages.outstanding s o row inside_s may.fresh refl g x in omega arith))
   where
     row : SessionRow

@@ -27,7 +27,7 @@ sound-then script S T U es fs h k none = record {
 }
 
 pub sound-none : (script : Script) (S : State) → AreRows script S → Sound script S S []
-sound-none script S rows = record { lives = lives-none S S refl (λ o. refl) (λ o. refl); holders = holders-none S S (λ g x. refl); rows = rows; long = refl }
+sound-none script S rows = record { lives = lives-none S S refl (λ o. refl) (λ o. refl) (λ o. refl); holders = holders-none S S (λ g x. refl); rows = rows; long = refl }
 
 -- The parts of the new rows that a move may change: those of references one by one, without its sizes, and each other group as one.
 pub record AreParts (script : Script) (S T : State) : Type 0 where

@@ -29,7 +29,8 @@ use Rattle.machine.specs.MessageMoves.{message_told}
 use Rattle.machine.specs.NanoMoves.{nano_told}
 use Rattle.machine.specs.RequestMoves.{request_told}
 use Rattle.machine.specs.ServerMoves.{server_told}
-use Rattle.machine.specs.References.{total, dies}
+use Rattle.machine.specs.References.{total}
+use Rattle.machine.specs.Kept.{dies}
 
 closed_few : (last : Bool) (h : Holder) (o : ObjNo) → length (closed_effects last h o) ≤ 2
 closed_few true h o = omega arith

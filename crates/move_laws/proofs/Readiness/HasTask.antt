@@ -14,7 +14,8 @@ use Rattle.state_rows.specs.declared.thread.Stage.TheVariants.{Live, Doomed, Cle
 use Rattle.state_rows.specs.declared.thread.ThreadRow.{ThreadRow}
 use Rattle.machine.specs.Holdings.{held_servers, holdings}
 use Rattle.machine.specs.Rows.{first_owed}
-use Rattle.machine.specs.Task.{by_stage, instruction, is_returning, live_task, next_call, pay_or, return_or, step_or_end, task_of_row, work_or}
+use Rattle.machine.specs.Task.{by_stage, instruction, live_task, next_call, pay_or, return_or, step_or_end, task_of_row, work_or}
+use Rattle.machine.specs.Out.{is_returning}
 use Rattle.machine.specs.declared.holding.Holding.{Holding}
 use Rattle.machine.specs.declared.state.State.{State}
 use Rattle.machine.specs.declared.task.Task.{Task}

@@ -15,10 +15,12 @@ use Rattle.state_rows.specs.declared.thread.Role.TheVariants.{Supervisor, Queue,
 use Rattle.state_rows.specs.declared.thread.Stage.{Stage}
 use Rattle.state_rows.specs.declared.thread.Stage.TheVariants.{Live}
 use Rattle.state_rows.specs.declared.thread.ThreadRow.{ThreadRow}
+use Rattle.state_rows.specs.declared.thread.Waiting.TheVariants as waiting
 use Rattle.machine.specs.declared.state.State.{State}
 use Rattle.machine.specs.Rows.{first_owed, thread_of}
 use Rattle.machine.specs.declared.task.Task.TheVariants.{End}
-use Rattle.machine.specs.Task.{instruction, is_returning, next_call, by_stage, live_task, pay_or, return_or, served_queue, task_of, is_wait, is_waiting, is_waiting_row, is_stopped, is_ready, is_able}
+use Rattle.machine.specs.Task.{instruction, next_call, by_stage, live_task, pay_or, return_or, served_queue, task_of, is_waiting, is_waiting_row, is_stopped, is_ready, is_able}
+use Rattle.machine.specs.Out.{is_returning}
 use Rattle.machine.specs.WellFormed.{AreRows}
 use Rattle.move_laws.proofs.Readiness.HasTask.{has_task, task_is}
 
@@ -49,12 +51,19 @@ holds_some r f u is = by (held_by r u) refl
     by None none = absurd (held_none r u f none is)
     by (Some g) some = refl
 
--- the holder of a fast mutex waits for nothing, is protected from being stopped, and has a task
+goes_on : (shared : Bool) (row : ThreadRow) → row.waiting ≡ waiting.Nothing → is_returning row.part ≡ false → is_waiting_row shared (Some row) ≡ false
+goes_on shared row waits going = rw waits (rw going (and_false shared))
+  where
+    and_false : (b : Bool) → (b && false) ≡ false
+    and_false true = refl
+    and_false false = refl
+
+-- the holder of a fast mutex waits for nothing and isn't out, is protected from being stopped, and has a task
 pub holder_ready : (script : Script) (S : State) (f : ℕ) (u : ObjNo) → AreRows script S → holder_of S.synchronization.nano f ≡ Some u → is_ready script S u ≡ true
 holder_ready script S f u rows is =
     let held = rows.synchronization.nano.holders f u is in
     let protected : is_protected S.synchronization.nano u ≡ true = or_left (is_some (held_by S.synchronization.nano u)) (not (critical_count S.synchronization.nano u == 0)) (holds_some S.synchronization.nano f u is) in
-    let waits : is_waiting S u ≡ false = ap is_waiting_row held.is ∙ ap is_wait held.waits in
+    let waits : is_waiting S u ≡ false = ap (is_waiting_row S.mode.shared) held.is ∙ goes_on S.mode.shared held.row held.waits held.going in
     let stopped : is_stopped S u ≡ false = and_right (not (suspend_count S.synchronization.nano u == 0)) (not (is_protected S.synchronization.nano u)) (not_from_true (is_protected S.synchronization.nano u) protected) in
     let task : is_some (task_of script S u) ≡ true = task_is script S u (thread_of S u) ∙ ap (has_task script S.synchronization.deferred (first_owed S u)) held.is ∙ live_has_task script S.synchronization.deferred (first_owed S u) held.row held.live held.serves in
     and_from (not (is_waiting S u) && not (is_stopped S u)) (is_some (task_of script S u)) (and_from (not (is_waiting S u)) (not (is_stopped S u)) (not_from_false (is_waiting S u) waits) (not_from_false (is_stopped S u) stopped)) task

@@ -13,8 +13,8 @@ use Rattle.machine.specs.Rows.{with_row, owing, without_first}
 use Rattle.machine.specs.References.{total, same}
 use Rattle.machine.specs.Holding.{same_pair}
 use Rattle.machine.specs.HeldIn.{owed_by}
-use Rattle.machine.specs.Task.{is_returning}
-use Rattle.machine.specs.WellFormed.{MayOwe, EachMayOwe, AreDuties, weight, part_of}
+use Rattle.machine.specs.Out.{is_returning, part_of}
+use Rattle.machine.specs.WellFormed.{MayOwe, EachMayOwe, AreDuties, weight}
 use Rattle.move_laws.proofs.Holders.ThreadRows.{row-here, row-other}
 use Rattle.move_laws.proofs.RowLaws.Threads.{length-with_row, none-with_row}
 use Rattle.move_laws.proofs.Lists.Sets.{set_either}

@@ -12,7 +12,7 @@ use Rattle.state_rows.specs.declared.thread.Waiting.TheVariants as waiting
 use Rattle.machine.specs.Handles.{freed_slot, with_slot}
 use Rattle.machine.specs.Moves.{unlinked}
 use Rattle.machine.specs.Rows.{with_row}
-use Rattle.machine.specs.Task.{is_returning}
+use Rattle.machine.specs.Out.{is_returning}
 use Rattle.machine.specs.WellFormed.{AreSpent, IsSpent, is_dead, is_spent}
 use Rattle.move_laws.proofs.Holders.ThreadRows.{row-here}
 use Rattle.move_laws.proofs.RowLaws.Threads.{map_some, was_row}

@@ -19,10 +19,11 @@ use Rattle.state_rows.specs.declared.thread.ThreadRow.{ThreadRow}
 use Rattle.state_rows.specs.declared.thread.Waiting.TheVariants as waiting
 use Rattle.machine.specs.HeldIn.{own_slot, rows_hold, use_names}
 use Rattle.machine.specs.Holding.{link_names}
-use Rattle.machine.specs.References.{kernel_holds, option_names, stage_holds, thread_names, total}
-use Rattle.machine.specs.Task.{is_returning}
-use Rattle.machine.specs.WellFormed.{AreDuties, AreMemories, AreSynchronized, AreThreads, IsSpent, IsThread, part_of}
+use Rattle.machine.specs.References.{kernel_holds, option_names, same, stage_holds, thread_names, total}
+use Rattle.machine.specs.Out.{found_object, is_returning, part_of, seeks}
+use Rattle.machine.specs.WellFormed.{AreDuties, AreMemories, AreSynchronized, AreThreads, IsSpent, IsThread}
 use Rattle.move_laws.proofs.Lists.Totals.{inside, total-set}
+use Rattle.move_laws.proofs.References.Same.{if_not}
 use Rattle.move_laws.proofs.RowLaws.Duties.{duties-threads}
 use Rattle.move_laws.proofs.RowLaws.Locks.{LeavesLocks}
 use Rattle.move_laws.proofs.RowLaws.Synchronized.{synchronized-threads}
@@ -62,7 +63,7 @@ memories-swept threads memories o h = record { sized = h.sized ∙ sym (length-s
 -- the holders of fast mutexes are others
 pub synchronized-swept : (script : Script) (threads : List (Option ThreadRow)) (o : ObjNo) (r : NanoRows) → ((f : ℕ) (u : ObjNo) → holder_of r f ≡ Some u → u.0 ≡ o.0 → ⊥) → AreSynchronized script threads r → AreSynchronized script (set threads o.0 None) r
 synchronized-swept script threads o r apart h = synchronized-threads script threads (set threads o.0 None) r (length-set threads o.0 None)
-    (λ f u is held. record { row = held.row; is = get_or-set_other threads o.0 u.0 None None (apart f u is) ∙ held.is; live = held.live; serves = held.serves; waits = held.waits; wants = held.wants }) h
+    (λ f u is held. record { row = held.row; is = get_or-set_other threads o.0 u.0 None None (apart f u is) ∙ held.is; live = held.live; serves = held.serves; waits = held.waits; going = held.going; wants = held.wants }) h
 
 -- it waits for nothing
 pub leaves-swept : (tables : List (List HandleSlot)) (threads : List (Option ThreadRow)) (owed : List (List Owed)) (o : ℕ) (r : LockRows) → IsOver tables threads o → LeavesLocks threads (set threads o None) owed owed r
@@ -88,6 +89,12 @@ pub counts-swept : (tables : List (List HandleSlot)) (threads : List (Option Thr
 counts-swept tables threads o p over =
     let moved = total-set (thread_names p) threads o None None (inside threads o over.row over.is) in
     let was : thread_names p (get_or threads o None) ≡ 0 = ap (thread_names p) over.is ∙ names-none over.row p over.unlinked over.spent.unused in omega arith
+
+-- it is out on nothing
+pub seeks-swept : (tables : List (List HandleSlot)) (threads : List (Option ThreadRow)) (o : ℕ) (p : ObjNo) → IsOver tables threads o → total (seeks p) (set threads o None) ≡ total (seeks p) threads
+seeks-swept tables threads o p over =
+    let moved = total-set (seeks p) threads o None None (inside threads o over.row over.is) in
+    let was : seeks p (get_or threads o None) ≡ 0 = ap (seeks p) over.is ∙ if_not (is_returning over.row.part) (same (found_object over.row) p) over.spent.going in omega arith
 
 -- a number of each row that is 0 of this and where there is none
 same-number : (q : Option ThreadRow → ℕ) (threads : List (Option ThreadRow)) (o k : ℕ) (row : ThreadRow) → get_or threads o None ≡ Some row → q None ≡ 0 → q (Some row) ≡ 0 → q (get_or (set threads o None) k None) ≡ q (get_or threads k None)

@@ -14,6 +14,7 @@ use Rattle.state_rows.specs.declared.thread.ThreadRow.{ThreadRow}
 use Rattle.state_rows.specs.declared.thread.Stage.TheVariants.{Live}
 use Rattle.state_rows.specs.declared.thread.Waiting.TheVariants as waiting
 use Rattle.machine.specs.Rows.{with_row}
+use Rattle.machine.specs.Out.{is_returning}
 use Rattle.machine.specs.Task.{served_queue}
 use Rattle.machine.specs.WellFormed.{IsHolder, AreSynchronized}
 use Rattle.move_laws.proofs.Holders.ThreadRows.{row-other}
@@ -32,12 +33,12 @@ synchronized-threads script threads other r long holders h = record {
 
 -- what holds of the row of a thread that holds a fast mutex
 abbrev pub IsHolding : ThreadRow → Type 0
-IsHolding row = (row.waiting ≡ waiting.Nothing) × (row.stage ≡ Live) × (served_queue row.role ≡ None)
+IsHolding row = (row.waiting ≡ waiting.Nothing) × (row.stage ≡ Live) × (served_queue row.role ≡ None) × (is_returning row.part ≡ false)
 
 -- a change of a row that begins no wait and no death
 pub synchronized-with_row : (script : Script) (threads : List (Option ThreadRow)) (t : ObjNo) (change : ThreadRow → ThreadRow) (r : NanoRows) → ((row : ThreadRow) → IsHolding row → IsHolding (change row)) → AreSynchronized script threads r → AreSynchronized script (with_row threads t change) r
 synchronized-with_row script threads t change r keeps h = synchronized-threads script threads (with_row threads t change) r (length-with_row threads t change)
-    (λ f u is held. let kept = row-kept threads t change u.0 held.row IsHolding keeps held.is (held.waits, held.live, held.serves) in record { row = kept.0; is = kept.1; live = kept.2.1; serves = kept.2.2; waits = kept.2.0; wants = held.wants }) h
+    (λ f u is held. let kept = row-kept threads t change u.0 held.row IsHolding keeps held.is (held.waits, held.live, held.serves, held.going) in record { row = kept.0; is = kept.1; live = kept.2.1; serves = kept.2.2; waits = kept.2.0; going = kept.2.3; wants = held.wants }) h
 
 -- any change of the row of a thread that holds no fast mutex
 pub synchronized-unheld : (script : Script) (threads : List (Option ThreadRow)) (t : ObjNo) (change : ThreadRow → ThreadRow) (r : NanoRows) → held_by r t ≡ None → AreSynchronized script threads r → AreSynchronized script (with_row threads t change) r
@@ -48,6 +49,7 @@ synchronized-unheld script threads t change r none h = synchronized-threads scri
       live = held.live;
       serves = held.serves;
       waits = held.waits;
+      going = held.going;
       wants = held.wants;
     }) h
 
@@ -60,12 +62,13 @@ synchronized-apart script threads t change r none h = synchronized-threads scrip
       live = held.live;
       serves = held.serves;
       waits = held.waits;
+      going = held.going;
       wants = held.wants;
     }) h
 
 -- a holder in other rows that say the same of what it wants
 holder-rows : {threads : List (Option ThreadRow)} {r new : NanoRows} {u : ObjNo} → want_of new u ≡ want_of r u → IsHolder threads r u → IsHolder threads new u
-holder-rows same held = record { row = held.row; is = held.is; live = held.live; serves = held.serves; waits = held.waits; wants = same ∙ held.wants }
+holder-rows same held = record { row = held.row; is = held.is; live = held.live; serves = held.serves; waits = held.waits; going = held.going; wants = same ∙ held.wants }
 
 -- other counts of as many threads
 pub synchronized-counts : (script : Script) (threads : List (Option ThreadRow)) (r : NanoRows) (signals suspensions sections : List ℕ) → length signals ≡ length r.signals → AreNanoRows (record r { signals = signals; suspensions = suspensions; sections = sections }) → AreSynchronized script threads r → AreSynchronized script threads (record r { signals = signals; suspensions = suspensions; sections = sections })
@@ -77,14 +80,14 @@ synchronized-counts script threads r signals suspensions sections long sound h =
 }
 
 -- a live thread takes a free fast mutex that waits for nothing and holds none, and wants none any more
-pub synchronized-take : (script : Script) (threads : List (Option ThreadRow)) (r : NanoRows) (t : ObjNo) (f : ℕ) (row : ThreadRow) → f < length r.holders → holder_of r f ≡ None → held_by r t ≡ None → get_or threads t.0 None ≡ Some row → row.stage ≡ Live → served_queue row.role ≡ None → row.waiting ≡ waiting.Nothing → AreSynchronized script threads r → AreSynchronized script threads (after_want (after_take r t f) t None)
-synchronized-take script threads r t f row below free none is live serves waits h = rw free (record {
+pub synchronized-take : (script : Script) (threads : List (Option ThreadRow)) (r : NanoRows) (t : ObjNo) (f : ℕ) (row : ThreadRow) → f < length r.holders → holder_of r f ≡ None → held_by r t ≡ None → get_or threads t.0 None ≡ Some row → row.stage ≡ Live → served_queue row.role ≡ None → row.waiting ≡ waiting.Nothing → is_returning row.part ≡ false → AreSynchronized script threads r → AreSynchronized script threads (after_want (after_take r t f) t None)
+synchronized-take script threads r t f row below free none is live serves waits going h = rw free (record {
   rows = sound-want taken t None (λ g e. absurd (cc)) (rw free at (sound-take r t f known below free none h.rows));
   sized = h.sized;
   mutexes = length-set r.holders f (Some t) ∙ h.mutexes;
   holders = λ g u. set_item (λ (holder : Option ObjNo). holder ≡ Some u → IsHolder threads new u) r.holders f g (Some t) None
-      (λ _ e. let one : t ≡ u = cc in subst (IsHolder threads new) one (record { row = row; is = is; live = live; serves = serves; waits = waits; wants = get_or-set_same r.wants t.0 None None wanting }))
-      (λ e. let held = h.holders g u e in record { row = held.row; is = held.is; live = held.live; serves = held.serves; waits = held.waits; wants = set_item (λ (want : Option ℕ). want ≡ None) r.wants t.0 u.0 None None (λ _. refl) held.wants });
+      (λ _ e. let one : t ≡ u = cc in subst (IsHolder threads new) one (record { row = row; is = is; live = live; serves = serves; waits = waits; going = going; wants = get_or-set_same r.wants t.0 None None wanting }))
+      (λ e. let held = h.holders g u e in record { row = held.row; is = held.is; live = held.live; serves = held.serves; waits = held.waits; going = held.going; wants = set_item (λ (want : Option ℕ). want ≡ None) r.wants t.0 u.0 None None (λ _. refl) held.wants });
 })
   where
     taken : NanoRows
@@ -127,6 +130,7 @@ synchronized-want script threads r t want known unless h = record {
     live = held.live;
     serves = held.serves;
     waits = held.waits;
+    going = held.going;
     wants = set_item (λ (w : Option ℕ). w ≡ None) r.wants t.0 u.0 want None (λ at. unless f (subst (λ (v : ObjNo). holder_of r f ≡ Some v) (same_object u t at) is)) held.wants;
   };
 }

@@ -10,13 +10,17 @@ use Rattle.kernel_tables.specs.StateOf.{state_of}
 use Rattle.kernel_tables.proofs.GoingActions.{action_goes}
 use Rattle.kcore.specs.Done.{CarriesOut}
 use Rattle.kcore.specs.Told.{told_in}
+use Rattle.kcore.proofs.Alone.{may_act_able}
 use Rattle.kcore.proofs.DeathRows.{may_end, may_reap}
 use Rattle.kcore.proofs.act.act.Goals as goal
+
+pub next_action-requires-clause-able : goal.next_action-requires-clause-able
+next_action-requires-clause-able g c = may_act_able c.args.script.now (state_of c.core.inside.tables) c.args.thread (rw (← c.core.view_is) at c.requires.able)
 
 pub carry_out-requires-clause-goes : goal.carry_out-requires-clause-goes
 carry_out-requires-clause-goes g c =
     let is = rw c.in-Decided.is at c.next_action.ensures.decided in
-    rw is (rw (← c.core.view_is) at (action_goes c.args.script.now c.args.core.now.state c.args.thread c.requires.runs.shaped c.requires.runs.rows))
+    rw is (rw (← c.core.view_is) at (action_goes c.args.script.now c.args.core.now.state c.args.thread c.requires.runs.shaped c.requires.runs.rows (rw (← c.core.view_is) refl)))
 
 pub run_body-requires-clause-goes : goal.run_body-requires-clause-goes
 run_body-requires-clause-goes g c =
@@ -24,7 +28,7 @@ run_body-requires-clause-goes g c =
     let t = c.args.thread in
     let X = state_of c.core.inside.tables in
     let is : run_body script t X c.in-Runs.body ≡ decision_of script X t = rw c.in-Runs.is at c.next_action.ensures.decided in
-    subst (λ (d : Decision). ActionGoes script t d.moves X) (sym is) (rw (← c.core.view_is) at (action_goes script c.args.core.now.state t c.requires.runs.shaped c.requires.runs.rows))
+    subst (λ (d : Decision). ActionGoes script t d.moves X) (sym is) (rw (← c.core.view_is) at (action_goes script c.args.core.now.state t c.requires.runs.shaped c.requires.runs.rows (rw (← c.core.view_is) refl)))
 
 pub reap-requires-clause-dying : goal.reap-requires-clause-dying
 reap-requires-clause-dying g c =

@@ -1,8 +1,12 @@
 use Rattle.machine.specs.Interrupts.{immediate, interrupt}
 use Rattle.machine.specs.Transition.{act}
 use Rattle.kcore.specs.Told.{told_in}
+use Rattle.kcore.proofs.Alone.{able_alone}
 use Rattle.kcore.proofs.ActionsDone.{tick_does, idle_does}
 use Rattle.kcore.proofs.act.transition.Goals as goal
+
+pub act-requires-clause-able : goal.act-requires-clause-able
+act-requires-clause-able g c = able_alone c.args.script.now c.args.core.now.state c.in-Thread.thread c.requires.alone (rw c.in-Thread.is at c.requires.can)
 
 pub returns-in-Thread-clause-does : goal.returns-in-Thread-clause-does
 unfolding act

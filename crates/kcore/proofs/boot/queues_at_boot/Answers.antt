@@ -9,14 +9,14 @@ ready_at_boot-requires c = formed_is_shaped c.args.script.now c.requires.valid
 
 -- the state and the list are those of boot
 pub queues_of-requires-clause-once : goal.queues_of-requires-clause-once
-queues_of-requires-clause-once c = rw (c.as_slice.ensures, c.in_ok-threads.ensures) (well_formed-boot c.args.script.now c.requires.valid).ready.once
+queues_of-requires-clause-once c = rw (c.as_slice.ensures, c.in_ok-threads.ensures) (well_formed-boot false c.args.script.now c.requires.valid).ready.once
 
 pub queues_of-requires-clause-known : goal.queues_of-requires-clause-known
 queues_of-requires-clause-known c =
     let script = c.args.script.now in
-    rw (c.as_slice.ensures, c.in_ok-threads.ensures) (listed_known script (boot script) (ready_at_boot script) (well_formed-boot script c.requires.valid))
+    rw (c.as_slice.ensures, c.in_ok-threads.ensures) (listed_known script (boot script) (ready_at_boot script) (well_formed-boot false script c.requires.valid))
 
 pub queues_of-requires-clause-ranged : goal.queues_of-requires-clause-ranged
 queues_of-requires-clause-ranged c =
     let script = c.args.script.now in
-    rw (c.as_slice.ensures, c.in_ok-threads.ensures, c.requires.boot) (listed_ranged script (boot script) (ready_at_boot script) (well_formed-boot script c.requires.valid))
+    rw (c.as_slice.ensures, c.in_ok-threads.ensures, c.requires.boot) (listed_ranged script (boot script) (ready_at_boot script) (well_formed-boot false script c.requires.valid))

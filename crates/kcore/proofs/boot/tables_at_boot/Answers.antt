@@ -1,4 +1,4 @@
-use Rattle.std.proofs.Common.{◌≡◌, ◌<◌, ◌≤◌, ◌∙◌, List, get_or, sym, ap, subst, length, arith, map, replicate, ℕ, None}
+use Rattle.std.proofs.Common.{false, ◌≡◌, ◌<◌, ◌≤◌, ◌∙◌, List, get_or, sym, ap, subst, length, arith, map, replicate, ℕ, None}
 use Rattle.std.specs.Prelude.{slice_index}
 use Rattle.sym_base.specs.declared.limits.TheConstants.Limits.{BOOT_OBJECTS}
 use Rattle.sym_base.specs.declared.number.ObjNo.{ObjNo}
@@ -33,7 +33,7 @@ counted-requires-clause-few g c =
 pub counted-requires-clause-small : goal.counted-requires-clause-small
 counted-requires-clause-small g c =
     let script = c.args.script.now in
-    subst (λ (S : State). (o : ObjNo) → count_of S o < 65536) (sym c.requires.boot) (count_small script (boot script) (rows-boot script c.requires.valid))
+    subst (λ (S : State). (o : ObjNo) → count_of S o < 65536) (sym c.requires.boot) (count_small script (boot script) (rows-boot false script c.requires.valid))
 
 pub counted-requires-clause-born : goal.counted-requires-clause-born
 counted-requires-clause-born g c =
@@ -53,7 +53,7 @@ tables_of-requires-clause-few g c =
 pub tables_of-requires-clause-known : goal.tables_of-requires-clause-known
 tables_of-requires-clause-known g c =
     let script = c.args.script.now in
-    subst (λ (S : State). length S.references.threads ≤ BOOT_OBJECTS) (sym c.requires.boot) (rows-boot script c.requires.valid).references.sized.threads_few
+    subst (λ (S : State). length S.references.threads ≤ BOOT_OBJECTS) (sym c.requires.boot) (rows-boot false script c.requires.valid).references.sized.threads_few
 
 pub returns-clause-state : goal.returns-clause-state
 returns-clause-state g c =

@@ -1,5 +1,5 @@
 use Rattle.std.proofs.Common.{refl}
-use Rattle.machine.specs.Moves.{with_found, with_kept, with_message, with_part, with_register, with_waiting}
+use Rattle.machine.specs.Moves.{with_found, with_kept, with_missed, with_message, with_part, with_register, with_waiting}
 use Rattle.state_rows.specs.declared.thread.Waiting.TheVariants as waiting
 use Rattle.kernel_tables.proofs.Tying.{tied_row}
 use Rattle.kernel_tables.proofs.FirstCount.{nano_counts, request_counts}
@@ -27,6 +27,21 @@ returns-in-Find g c =
       state = rw c.threads_find.ensures refl;
       counts = λ o. refl;
       tied = rw c.threads_find.ensures (tied_row old.cleanup old.locks.priorities old.procs.threads c.in-Find.other (with_found c.in-Find.object) (λ r. refl) (λ r. refl) c.requires.kept.tied);
+    })
+
+pub open_found-requires-clause-can : goal.open_found-requires-clause-can
+open_found-requires-clause-can g c = rw c.in-Open.is at c.requires.can
+
+pub returns-in-Open : goal.returns-in-Open
+returns-in-Open g c = rw c.in-Open.is (c.open_found.ensures c.args.thread)
+
+pub returns-in-Miss : goal.returns-in-Miss
+returns-in-Miss g c =
+    let old = c.args.tables.now in
+    rw c.in-Miss.is (record {
+      state = rw c.threads_miss.ensures refl;
+      counts = λ o. refl;
+      tied = rw c.threads_miss.ensures (tied_row old.cleanup old.locks.priorities old.procs.threads c.in-Miss.other with_missed (λ r. refl) (λ r. refl) c.requires.kept.tied);
     })
 
 pub returns-in-GoOn : goal.returns-in-GoOn

@@ -3,6 +3,6 @@ use Rattle.machine_safe.proofs.ready_holders.holders_are_ready.Goals as goal
 
 pub returns : goal.returns
 returns c = record {
-  ready = holders_ready c.args.script.now c.args.history.now c.requires.valid;
-  able = chosen_able c.args.script.now c.args.history.now c.requires.valid;
+  ready = λ shared. holders_ready shared c.args.script.now c.args.history.now c.requires.valid;
+  able = λ shared. chosen_able shared c.args.script.now c.args.history.now c.requires.valid;
 }

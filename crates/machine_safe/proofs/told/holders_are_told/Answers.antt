@@ -3,6 +3,6 @@ use Rattle.machine_safe.proofs.told.holders_are_told.Goals as goal
 
 pub returns : goal.returns
 returns c = record {
-  told = held_as_told _ _ c.requires.valid c.requires.legal;
-  unique = held_once _ _ c.requires.valid c.requires.legal;
+  told = λ shared legal. held_as_told shared _ _ c.requires.valid legal;
+  unique = λ shared legal. held_once shared _ _ c.requires.valid legal;
 }

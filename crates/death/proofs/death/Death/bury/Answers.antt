@@ -1,10 +1,11 @@
-use Rattle.std.proofs.Common.{◌∙◌}
+use Rattle.std.proofs.Common.{◌≡◌, ◌∙◌, false, refl}
 use Rattle.kernel_tables.proofs.GoingActions.{action_goes}
 use Rattle.death.proofs.Dying.{buries}
 use Rattle.death.proofs.death.Death.bury.Goals as goal
 
 pub make-requires-clause-goes : goal.make-requires-clause-goes
 make-requires-clause-goes g c =
-    let goes = action_goes c.args.script.now c.args.self.now.core.now.state c.args.t c.requires.runs.shaped c.requires.runs.rows in
+    let alone : c.args.self.now.core.now.state.mode.shared ≡ false = rw (← c.core.view_is) refl in
+    let goes = action_goes c.args.script.now c.args.self.now.core.now.state c.args.t c.requires.runs.shaped c.requires.runs.rows alone in
     let decided = buries c.args.script.now c.args.self.now.core.now.state c.args.t c.args.dfc c.requires.may in
     rw (c.bury.ensures ∙ rw (← c.core.view_is) at decided) (rw (← c.core.view_is) at goes)

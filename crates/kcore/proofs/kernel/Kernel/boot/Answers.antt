@@ -1,4 +1,4 @@
-use Rattle.std.proofs.Common.{arith, []}
+use Rattle.std.proofs.Common.{false, arith, []}
 use Rattle.machine_safe.proofs.ReadyHolders.{holders_ready}
 use Rattle.kcore.proofs.Goes.{legal_history, safe_history, stands_at_boot}
 use Rattle.kcore.proofs.kernel.Kernel.boot.Goals as goal
@@ -21,4 +21,4 @@ returns-clause-safe g c =
     rw c.in_ok-history.ensures.items (safe_history c.args.script [] c.in_ok-core.core stands)
 
 pub returns-clause-holders : goal.returns-clause-holders
-returns-clause-holders g c = rw c.in_ok-history.ensures.items (holders_ready c.args.script [] c.requires.valid)
+returns-clause-holders g c = rw c.in_ok-history.ensures.items (holders_ready false c.args.script [] c.requires.valid)

@@ -1,11 +1,11 @@
-use Rattle.std.proofs.Common.{◌≡◌, length, ap, [], ◌∷◌, ◌++◌, ◌+◌, ◌∙◌, ℕ, arith, set}
+use Rattle.std.proofs.Common.{false, ◌≡◌, length, ap, [], ◌∷◌, ◌++◌, ◌+◌, ◌∙◌, ℕ, arith, set}
 use Rattle.entry_log.specs.declared.entry.Actor.{Actor}
 use Rattle.entry_log.specs.declared.entry.Entry.{Entry}
 use Rattle.machine.specs.declared.decision.Outcome.{Outcome}
 use Rattle.machine.specs.History.{entry_of}
 use Rattle.kcore.specs.Told.{IsTold, told_in}
 use Rattle.kcore.proofs.LastEntry.{last_is, last_told}
-use Rattle.kcore.proofs.Goes.{runs_stand, may_stand, kernel_goes_on, entry_told, legal_history, safe_history}
+use Rattle.kcore.proofs.Goes.{alone_stand, runs_stand, may_stand, kernel_goes_on, entry_told, legal_history, safe_history}
 use Rattle.machine_safe.proofs.ReadyHolders.{holders_ready}
 use Rattle.kcore.proofs.kernel.Kernel.go.Goals as goal
 
@@ -13,6 +13,11 @@ pub transition-requires-clause-runs : goal.transition-requires-clause-runs
 transition-requires-clause-runs g c =
     let k = c.self.inside in
     runs_stand k.script k.history.items k.core c.self.invariant.stands
+
+pub transition-requires-clause-alone : goal.transition-requires-clause-alone
+transition-requires-clause-alone g c =
+    let k = c.self.inside in
+    alone_stand k.script k.history.items k.core c.self.invariant.stands
 
 pub transition-requires-clause-can : goal.transition-requires-clause-can
 transition-requires-clause-can g c =
@@ -80,4 +85,4 @@ returns-clause-entry g c =
     rw (← c.self.view_is) (pushed ∙ ap (λ (x : Entry). k.history.items ++ x ∷ []) tale)
 
 pub returns-clause-holders : goal.returns-clause-holders
-returns-clause-holders g c = holders_ready c.self.inside.script (set c.push_reserved.new.self.items (length c.as_slice-at.result.now) c.transition.new.entry) c.self.invariant.stands.valid
+returns-clause-holders g c = holders_ready false c.self.inside.script (set c.push_reserved.new.self.items (length c.as_slice-at.result.now) c.transition.new.entry) c.self.invariant.stands.valid

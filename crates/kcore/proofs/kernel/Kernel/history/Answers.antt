@@ -1,4 +1,4 @@
-use Rattle.std.proofs.Common.{subst}
+use Rattle.std.proofs.Common.{false, subst}
 use Rattle.machine_safe.specs.Safe.{IsSafe}
 use Rattle.machine_safe.specs.ReadyHolders.{AreHoldersReady}
 use Rattle.machine_safe.proofs.ReadyHolders.{holders_ready}
@@ -14,4 +14,4 @@ returns-clause-safe g c =
 pub returns-clause-holders : goal.returns-clause-holders
 returns-clause-holders g c =
     let k = c.self.inside in
-    subst (λ (v : KernelView). AreHoldersReady v.script v.history) c.self.view_is (holders_ready k.script k.history.items c.self.invariant.stands.valid)
+    subst (λ (v : KernelView). AreHoldersReady v.script v.history) c.self.view_is (holders_ready false k.script k.history.items c.self.invariant.stands.valid)

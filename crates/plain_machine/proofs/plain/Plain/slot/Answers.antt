@@ -1,11 +1,16 @@
-use Rattle.std.proofs.Common.{ℕ, ◌+◌, ◌∙◌, List, ap, subst, sym}
+use Rattle.std.proofs.Common.{◌≡◌, ℕ, ◌+◌, ◌∙◌, false, List, ap, subst, sym}
 use Rattle.sym_base.specs.declared.number.ObjNo.{ObjNo}
+use Rattle.entry_log.specs.declared.entry.Actor.{Actor}
 use Rattle.entry_log.specs.declared.entry.Entry.{Entry}
 use Rattle.script_types.proofs.ShapeLaws.{formed_is_shaped}
+use Rattle.plain_machine.specs.Allowed.{AllowsAction}
 use Rattle.plain_machine.specs.PlainView.{PlainView}
+use Rattle.machine.specs.Arrived.{arrived_next}
+use Rattle.machine.specs.History.{entry_by, next}
+use Rattle.machine.specs.Run.{slot_actor}
 use Rattle.machine.specs.Slots.{IsDeclared}
 use Rattle.machine.specs.declared.state.State.{State}
-use Rattle.plain_machine.proofs.Steps.{allows_action, formed_plain, plain_goes_on_by}
+use Rattle.plain_machine.proofs.Steps.{allows_action, formed_plain, plain_goes_on}
 use Rattle.plain_machine.proofs.plain.Plain.slot.Goals as goal
 
 pub acted-requires-clause-shaped : goal.acted-requires-clause-shaped
@@ -14,12 +19,18 @@ acted-requires-clause-shaped c = formed_is_shaped c.self.inside.script c.self.in
 pub acted-requires-clause-allowed : goal.acted-requires-clause-allowed
 acted-requires-clause-allowed c =
     let plain = c.self.inside in
-    allows_action plain.script plain.state (formed_is_shaped plain.script c.self.invariant.valid) (formed_plain plain.script plain.history plain.state plain.ready c.self.invariant).rows
+    subst (AllowsAction plain.script) (sym c.in_ok-before.ensures) (allows_action plain.script plain.state (formed_is_shaped plain.script c.self.invariant.valid) (formed_plain plain.script plain.history plain.state plain.ready c.self.invariant).rows)
 
 pub invariant_of-self-2 : goal.invariant_of-self-2
 invariant_of-self-2 c =
     let plain = c.self.inside in
-    let declared = subst (λ (v : PlainView). IsDeclared v.script c.args.slot) (sym c.self.view_is) c.requires.declared in
-    plain_goes_on_by plain.script plain.history c.push.new.self plain.state c.set_state.new.state plain.ready c.set_state.new.ready c.args.slot (c.len.result + 1) c.in_ok-state.entry declared c.self.invariant (ap (λ (n : ℕ). n + 1) c.len.ensures)
-    (c.set_state.ensures.state ∙ ap (λ (made : State × List ObjNo × Entry). made.0) c.in_ok-state.ensures) (c.set_state.ensures.ready ∙ ap (λ (made : State × List ObjNo × Entry). made.1) c.in_ok-state.ensures)
-    (ap (λ (made : State × List ObjNo × Entry). made.2) c.in_ok-state.ensures) c.in_ok-push.ensures.ok
+    let S = plain.state in
+    let slot = c.args.slot in
+    let declared = subst (λ (v : PlainView). IsDeclared v.script slot) (sym c.self.view_is) c.requires.declared in
+    let whole : S.mode.shared ≡ false = ap (λ (v : PlainView). v.shared) (sym c.self.view_is) ∙ c.requires.whole in
+    let actor : c.slot_actor.result ≡ slot_actor S plain.ready slot = c.slot_actor.ensures ∙ ap (λ (qs : List ObjNo). slot_actor S qs slot) c.as_slice.ensures in
+    let made = c.in_ok-state.ensures in
+    plain_goes_on plain.script plain.history c.push.new.self S c.set_state.new.state plain.ready c.set_state.new.ready slot (c.len.result + 1) c.in_ok-state.entry declared c.self.invariant whole (ap (λ (n : ℕ). n + 1) c.len.ensures)
+    (c.set_state.ensures.state ∙ (ap (λ (x : State × List ObjNo × Entry). x.0) made ∙ (ap (λ (s : State). next plain.script s c.slot_actor.result) c.in_ok-before.ensures ∙ ap (next plain.script S) actor)))
+    (c.set_state.ensures.ready ∙ (ap (λ (x : State × List ObjNo × Entry). x.1) made ∙ (ap (λ (s : State). arrived_next plain.script s c.slot_actor.result plain.ready) c.in_ok-before.ensures ∙ ap (λ (a : Actor). arrived_next plain.script S a plain.ready) actor)))
+    (ap (λ (x : State × List ObjNo × Entry). x.2) made ∙ (ap (λ (s : State). entry_by plain.script s (c.len.result + 1) c.slot_actor.result) c.in_ok-before.ensures ∙ ap (entry_by plain.script S (c.len.result + 1)) actor)) c.in_ok-push.ensures.ok

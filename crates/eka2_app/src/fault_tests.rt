@@ -1,0 +1,167 @@
+//! Each command over sources that give few bytes a read and sinks that take few a write, and over the failure of each
+//! read and of each write.
+use crate::command_tests::{BRIEFLY, LOAD, MAKE};
+use crate::status::Status;
+use crate::tests::{Case, UNKNOWN_WORD_SCRIPT, WELL, words_of};
+use crate::top::eka2_main;
+use edge_io::{MemSink, MemSource};
+use std::alloc::Global;
+use std::process::Abort;
+use std::test::Fail;
+
+/// The most bytes that a read gives and that a write takes, and the numbers of the read and the write that fail, from
+/// 1: none is 0.
+#[derive(Clone, Copy)]
+struct Ends {
+    read: usize,
+    write: usize,
+    failing_read: u32,
+    failing_write: u32,
+}
+
+/// Reads of 16 bytes, and writes of whole pieces, none of which fails.
+const STEADY: Ends = Ends {
+    read: 16,
+    write: 600,
+    failing_read: 0,
+    failing_write: 0,
+};
+
+/// A script that is refused.
+const REFUSED: Case<'static> = Case {
+    script: UNKNOWN_WORD_SCRIPT,
+    status: Status::Refused,
+    written: "refused line 7 word\n",
+    ..WELL
+};
+
+/// One case of each way in which a command writes.
+const EACH_COMMAND: [Case<'static>; 5] = [WELL, BRIEFLY, MAKE, LOAD, REFUSED];
+
+/// Runs a case's words over its script with such ends, and compares the status and what was written.
+fn expect_at<R: Abort>(
+    rt: &R,
+    alloc: Global,
+    case: &Case<'_>,
+    ends: Ends,
+    status: Status,
+    written: &[u8],
+) -> Result<(), Fail> {
+    let words = words_of(alloc, case.words)?;
+    let bytes = Vec::from_slice(alloc, case.script.as_bytes())?;
+    let failing_reads = Vec::from_slice(alloc, &[ends.failing_read])?;
+    let failing_writes = Vec::from_slice(alloc, &[ends.failing_write])?;
+    let mut source = MemSource::new(bytes, ends.read.max(1), failing_reads);
+    let mut sink = MemSink::new(alloc, 2000, ends.write.max(1), failing_writes)?;
+    let found = eka2_main(alloc, words.as_slice(), &mut source, &mut sink);
+    assert_eq!(rt; found, status);
+    assert_eq!(rt; sink.bytes(), written);
+    Ok(())
+}
+
+/// How many lines a text has.
+fn lines_of(text: &str) -> u32 {
+    let mut lines = 0u32;
+    for byte in text.as_bytes() {
+        if *byte == b'\n' {
+            lines = lines.saturating_add(1);
+        }
+    }
+    lines
+}
+
+/// The first so many lines of a text.
+fn first_lines(text: &str, count: u32) -> &[u8] {
+    let bytes = text.as_bytes();
+    let mut left = count;
+    for at in 0..bytes.len() {
+        if left == 0 {
+            return &bytes[..at];
+        }
+        if bytes[at] == b'\n' {
+            left -= 1;
+        }
+    }
+    bytes
+}
+
+/// The reads that a text takes, 16 bytes a read, with the one that finds its end.
+fn reads_of(text: &str) -> u32 {
+    ((text.len() / 16).min(1_000) as u32) + if text.len() % 16 == 0 { 1 } else { 2 }
+}
+
+/// After the failure of any read nothing was written. One more isn't made.
+#[test]
+fn each_read_fails(rt: HostRuntime) -> Result<(), Fail> {
+    for case in [WELL, BRIEFLY, REFUSED] {
+        let reads = reads_of(case.script);
+        for failing_read in 1..reads + 2 {
+            let ends = Ends {
+                failing_read,
+                ..STEADY
+            };
+            let (status, written) = if failing_read <= reads {
+                (Status::ReadFault, b"".as_slice())
+            } else {
+                (case.status, case.written.as_bytes())
+            };
+            expect_at(&rt, rt.alloc(), &case, ends, status, written)?;
+        }
+    }
+    Ok(())
+}
+
+/// After the failure of any write the lines before it were written. One more isn't made.
+#[test]
+fn each_write_fails(rt: HostRuntime) -> Result<(), Fail> {
+    for case in EACH_COMMAND {
+        let lines = lines_of(case.written);
+        for failing_write in 1..lines.saturating_add(2) {
+            let ends = Ends {
+                failing_write,
+                ..STEADY
+            };
+            let status = if failing_write <= lines {
+                Status::WriteFault
+            } else {
+                case.status
+            };
+            let written = first_lines(case.written, failing_write.saturating_sub(1));
+            expect_at(&rt, rt.alloc(), &case, ends, status, written)?;
+        }
+    }
+    Ok(())
+}
+
+/// How many bytes a call moves makes no difference.
+#[test]
+fn reads_and_writes_are_short(rt: HostRuntime) -> Result<(), Fail> {
+    for case in EACH_COMMAND {
+        for step in [1, 2, 3, 7, 4096] {
+            let ends = Ends {
+                read: step,
+                write: step,
+                ..STEADY
+            };
+            let written = case.written.as_bytes();
+            expect_at(&rt, rt.alloc(), &case, ends, case.status, written)?;
+        }
+    }
+    Ok(())
+}
+
+/// Where a sink takes one byte a call, the failure of a call leaves exactly the bytes before it.
+#[test]
+fn each_byte_fails(rt: HostRuntime) -> Result<(), Fail> {
+    let written = WELL.written.as_bytes();
+    for count in 0..written.len().min(20) {
+        let ends = Ends {
+            write: 1,
+            failing_write: count as u32 + 1,
+            ..STEADY
+        };
+        let status = Status::WriteFault;
+        expect_at(&rt, rt.alloc(), &WELL, ends, status, &written[..count])?;
+    }
+    Ok(())
+}

@@ -1,0 +1,46 @@
+//! Who is out.
+ghost use Rattle.std.specs.Prelude.{◌≡◌, nat_lt};
+ghost use Rattle.machine.specs.Out.{is_returning, found_object, seeks, outs_of};
+ghost use Rattle.std.specs.List.{list_any};
+
+use crate::{State, ThreadRow};
+use entry_log::Part;
+use sym_base::ObjNo;
+
+/// Whether a thread is between a find and its return.
+pub fn is_returning(part: Option<Part>) -> bool
+    ensures { result ≡ is_returning part }
+{
+    matches!(part, Some(Part::Return))
+}
+
+/// The object that a thread's find found.
+pub fn found_object(row: &ThreadRow) -> ObjNo
+    ensures { result ≡ found_object row.now }
+{
+    ObjNo((row.found % 65_536) as u16)
+}
+
+/// Whether a thread found an object and hasn't come back yet.
+fn seeks(object: ObjNo, row: &Option<ThreadRow>) -> bool
+    ensures { result ≡ nat_lt 0 (seeks object row.now) }
+{
+    match row {
+        Some(row) => is_returning(row.part) && found_object(row).0 == object.0,
+        None => false,
+    }
+}
+
+/// Whether one of these threads found an object and hasn't come back yet.
+fn is_sought_by(object: ObjNo, threads: &[Option<ThreadRow>]) -> bool
+    ensures { result ≡ list_any (λ row. nat_lt 0 (seeks object row)) threads.now }
+{
+    threads.iter().any(|row| seeks(object, row))
+}
+
+/// Whether somebody is out on an object.
+pub fn is_sought(state: &State, object: ObjNo) -> bool
+    ensures { result ≡ nat_lt 0 (outs_of state.now object) }
+{
+    state.mode.shared && is_sought_by(object, state.references.threads.as_slice())
+}
