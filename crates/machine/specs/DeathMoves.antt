@@ -7,22 +7,16 @@ use Rattle.entry_log.specs.declared.effect.Holder.TheVariants.{Kernel}
 use Rattle.state_rows.specs.declared.duty.Owed.{Owed}
 use Rattle.state_rows.specs.declared.duty.Owed.TheVariants.{Close}
 use Rattle.state_rows.specs.declared.thread.Stage.TheVariants.{Doomed, Cleaned, Buried}
-use Rattle.state_rows.specs.declared.thread.Waiting.{Waiting}
-use Rattle.state_rows.specs.declared.thread.Waiting.TheVariants.{Nothing, Away}
+use Rattle.state_rows.specs.declared.thread.Waiting.TheVariants.{Nothing}
 use Rattle.state_rows.specs.declared.thread.ThreadRow.{ThreadRow}
 use Rattle.machine.specs.Rows.{owing}
 use Rattle.machine.specs.declared.death_move.DeathMove.{DeathMove}
 use Rattle.machine.specs.declared.death_move.DeathMove.TheVariants.{Note, Doom, Clean, Bury}
 
--- what a thread waits for whose wait a death ends: it comes back from an open that is made outside the kernel lock
-abbrev pub wait_ended : Waiting → Waiting
-wait_ended Away = Away
-wait_ended _ = Nothing
-
 -- the row after a move
 abbrev pub death_row : DeathMove → ThreadRow → ThreadRow
 death_row (Note t exit) row = record row { noted = Some exit }
-death_row (Doom t exit) row = record row { stage = Doomed; exit = Some exit; waiting = wait_ended row.waiting }
+death_row (Doom t exit) row = record row { stage = Doomed; exit = Some exit; waiting = Nothing }
 death_row (Clean t) row = record row { stage = Cleaned }
 death_row (Bury t) row = record row { stage = Buried }
 

@@ -1,8 +1,7 @@
 //! Moves in the rows of threads that die.
 ghost use Rattle.std.specs.Prelude.{◌≡◌};
-ghost use Rattle.machine.specs.DeathMoves.{death_thread, wait_ended};
+ghost use Rattle.machine.specs.DeathMoves.{death_thread};
 
-use state_rows::Waiting;
 use sym_base::{Exit, ThreadNo};
 
 /// One small change of the row of a thread that dies (Symbian OS Internals, the chapter on threads and processes, on
@@ -30,15 +29,5 @@ impl DeathMove {
             | DeathMove::Clean(thread)
             | DeathMove::Bury(thread) => thread,
         }
-    }
-}
-
-/// What a thread waits for whose wait a death ends: it comes back from an open that is made outside the kernel lock.
-pub fn wait_ended(waiting: Waiting) -> Waiting
-    ensures { result ≡ wait_ended waiting }
-{
-    match waiting {
-        Waiting::Away => Waiting::Away,
-        _ => Waiting::Nothing,
     }
 }

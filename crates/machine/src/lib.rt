@@ -37,7 +37,7 @@ pub use boot::{Born, all_born};
 pub use boot_state::{boot_of, ready_at_boot, state_at_boot};
 pub use copy_rules::{CopyMove, Job};
 pub use count::{count_of, dies, is_counted};
-pub use death_move::{DeathMove, wait_ended};
+pub use death_move::DeathMove;
 pub use decision::{Decision, Outcome, entry_of};
 pub use deferred_move::DeferredMove;
 pub use handles::{NewHandle, holder_of, owner_of, process_handle, thread_handle};

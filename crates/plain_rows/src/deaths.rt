@@ -5,7 +5,7 @@ ghost use Rattle.machine.specs.Moves.{moved};
 ghost use Rattle.machine.specs.Rows.{with_row};
 
 use entry_log::Holder;
-use machine::{DeathMove, Move, Owed, State, ThreadRow, wait_ended};
+use machine::{DeathMove, Move, Owed, State, ThreadRow, Waiting};
 use state_rows::Stage;
 use sym_base::{Items, NoMemory, ThreadNo};
 
@@ -18,7 +18,7 @@ fn change_row(row: &mut ThreadRow, change: &DeathMove)
         DeathMove::Doom(_, exit) => {
             row.stage = Stage::Doomed;
             row.exit = Some(exit);
-            row.waiting = wait_ended(row.waiting);
+            row.waiting = Waiting::Nothing;
         }
         DeathMove::Clean(_) => row.stage = Stage::Cleaned,
         DeathMove::Bury(_) => row.stage = Stage::Buried,

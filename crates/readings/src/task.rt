@@ -92,8 +92,7 @@ fn is_wait(waiting: Waiting) -> bool
         | Waiting::Any
         | Waiting::Status(_)
         | Waiting::Reply
-        | Waiting::Receive(_)
-        | Waiting::Away => true,
+        | Waiting::Receive(_) => true,
     }
 }
 

@@ -51,8 +51,6 @@ pub enum Waiting {
     Reply,
     /// A message of this server.
     Receive(ObjNo),
-    /// The open of an object that it found by name, which is made outside the kernel lock. Death leaves it so.
-    Away,
 }
 
 /// What the kernel keeps of a thread (Symbian OS Internals, the chapter on threads and processes). The registers and

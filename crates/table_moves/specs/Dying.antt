@@ -3,10 +3,10 @@ use Rattle.std.specs.Prelude.{Some}
 use Rattle.sym_base.specs.declared.kind.Exit.{Exit}
 use Rattle.state_rows.specs.declared.thread.Stage.{Stage}
 use Rattle.state_rows.specs.declared.thread.ThreadRow.{ThreadRow}
-use Rattle.machine.specs.DeathMoves.{wait_ended}
+use Rattle.state_rows.specs.declared.thread.Waiting.TheVariants.{Nothing}
 
 abbrev pub waited : ThreadRow → ThreadRow
-waited row = record row { waiting = wait_ended row.waiting }
+waited row = record row { waiting = Nothing }
 
 abbrev pub with_exit : Exit → ThreadRow → ThreadRow
 with_exit exit row = record row { exit = Some exit }

@@ -10,7 +10,7 @@ ghost use Rattle.table_moves.specs.ThreadRows.{with_threads};
 use crate::duties::owe;
 use cleanup::Cleanup;
 use entry_log::Holder;
-use machine::{DeathMove, Owed, wait_ended};
+use machine::{DeathMove, Owed, Waiting};
 use procs::Procs;
 use state_rows::Stage;
 use sym_base::{Exit, ThreadNo};
@@ -29,8 +29,7 @@ fn end_wait(procs: &mut Procs, thread: ThreadNo)
     ensures { procs.new ≡ with_threads procs.old (with_row procs.old.threads thread waited) }
 {
     if procs.is_thread(thread) {
-        let waiting = wait_ended(procs.waiting(thread));
-        procs.set_waiting(thread, waiting);
+        procs.set_waiting(thread, Waiting::Nothing);
     }
 }
 

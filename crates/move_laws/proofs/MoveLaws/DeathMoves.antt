@@ -15,7 +15,7 @@ use Rattle.machine.specs.declared.death_move.DeathMove.{DeathMove}
 use Rattle.machine.specs.declared.death_move.DeathMove.TheVariants.{Note, Doom, Clean, Bury}
 use Rattle.machine.specs.declared.moves.Move.TheVariants.{Death}
 use Rattle.machine.specs.declared.state.State.{State}
-use Rattle.machine.specs.DeathMoves.{death_row, death_thread, death_told, death_owed, wait_ended}
+use Rattle.machine.specs.DeathMoves.{death_row, death_thread, death_told, death_owed}
 use Rattle.machine.specs.Fits.{FitsDeath, FitsMove, IsAtStage, death_owes}
 use Rattle.machine.specs.Serving.{AreServers}
 use Rattle.machine.specs.ThreadCalls.{is_live}
@@ -42,8 +42,6 @@ use Rattle.move_laws.proofs.Lives.Outs.{KeepsSeeks, outs-same, seeks-with_row}
 use Rattle.move_laws.proofs.RowLaws.MessagesKept.{KeepsMessages}
 use Rattle.move_laws.proofs.RowLaws.ServersKept.{servers-with_row}
 use Rattle.move_laws.proofs.Lists.Totals.{inside}
-use Rattle.state_rows.specs.declared.thread.Waiting.{Waiting}
-use Rattle.state_rows.specs.declared.thread.Waiting.TheVariants as waiting
 use Rattle.move_laws.proofs.RowLaws.Awaited.{awaited-kept, awaited-doom, awaited-later}
 
 -- a doom tells of no reference, and of no object's death
@@ -105,15 +103,10 @@ spent-death script S t (Doom u exit) fits h = spent-going S.references.objects S
 spent-death script S t (Clean u) fits h = spent-with_row S.references.objects S.references.handles S.references.threads u (death_row (Clean u)) (λ row is after had. let has = fits.1.1 row is in record { unused = has.unused; waits = has.waits; going = has.going; empty = has.empty }) (λ row e. e) h
 spent-death script S t (Bury u) fits h = spent-with_row S.references.objects S.references.handles S.references.threads u (death_row (Bury u)) (λ row is after had. let has = had (ap is_spent (row-is fits.0 row is)) in record { unused = has.unused; waits = has.waits; going = has.going; empty = has.empty }) (λ row e. e) h
 
--- no wait for an object is left of a doom
-ended : (what : Waiting) (o : ObjNo) → wait_ended what ≡ waiting.Lock o → ⊥
-ended waiting.Away o e = cc
-ended _ o e = cc
-
 -- who isn't live any more awaits nothing
 awaited-death : (S : State) (t : ObjNo) (m : DeathMove) → FitsDeath t m S → AreAwaited S.references.threads S.synchronization.requests S.synchronization.logons → AreAwaited (with_row S.references.threads (death_thread m) (death_row m)) S.synchronization.requests S.synchronization.logons
 awaited-death S t (Note u exit) fits h = awaited-kept S.references.threads u (death_row (Note u exit)) S.synchronization.requests S.synchronization.logons (λ row. refl) (λ row. refl) h
-awaited-death S t (Doom u exit) fits h = awaited-doom S.references.threads u (death_row (Doom u exit)) S.synchronization.requests S.synchronization.logons fits.3.requests fits.3.logons (λ row o e. ended row.waiting o e) h
+awaited-death S t (Doom u exit) fits h = awaited-doom S.references.threads u (death_row (Doom u exit)) S.synchronization.requests S.synchronization.logons fits.3.requests fits.3.logons (λ row o e. cc) h
 awaited-death S t (Clean u) fits h = awaited-later S.references.threads u (death_row (Clean u)) S.synchronization.requests S.synchronization.logons (λ row is live. not-doomed row.stage live (row-is fits.0 row is)) (λ row. refl) h
 awaited-death S t (Bury u) fits h = awaited-later S.references.threads u (death_row (Bury u)) S.synchronization.requests S.synchronization.logons (λ row is live. not-live row.stage live (row-is fits.0 row is)) (λ row. refl) h
 
