@@ -223,9 +223,12 @@ fn all_places(alloc: Global, dfcs: &[DfcPlace], burials: u8) -> Result<Vec<DfcPl
 fn priorities(alloc: Global, places: &[DfcPlace], idfcs: u8) -> Result<Vec<u8>, NoMemory>
     ensures { IfOk result (λ priorities. priorities.items ≡ map (λ place. place.priority) places.now ++ replicate idfcs 0) }
 {
-    let mut priorities: Vec<u8> = places.iter().map(|place| place.priority).collect(alloc)?;
+    let mut priorities = Vec::with_capacity(alloc, places.len() + idfcs as usize)?;
+    for place in places {
+        priorities.push_reserved(place.priority);
+    }
     for _idfc in 0..idfcs {
-        priorities.push(0)?;
+        priorities.push_reserved(0);
     }
     Ok(priorities)
 }
