@@ -1,6 +1,6 @@
 -- The logons that a thread made go status by status from each thread's list, and list by list.
-use Rattle.std.proofs.Common.{◌≡◌, ℕ, zero, suc, ◌+◌, ◌<◌, ◌≤◌, Bool, true, false, List, [], ◌∷◌, ◌++◌, length, map, take, drop, get_or, set, arith, inl, inr, refl, sym, ap, ◌∙◌}
-use Rattle.std.specs.Prelude.{filter, not, ◌==◌, ◌&&◌, ◌||◌, if◌then◌else◌, nat_lt}
+use Rattle.std.proofs.Common.{◌≡◌, ℕ, zero, suc, ◌+◌, ◌<◌, ◌≤◌, Bool, true, false, List, [], ◌∷◌, ◌++◌, length, map, take, drop, get_or, set, arith, inl, inr, refl, sym, ap, ◌∙◌, Option, Some, None}
+use Rattle.std.specs.Prelude.{filter, not, ◌==◌, ◌&&◌, ◌||◌, if◌then◌else◌, is_some, nat_lt, slice_get}
 use Rattle.std.proofs.lemmas.Bool.{cases_lt, cases_eq, eq-eqb, le-ltb, lt-ltb, ne_eqb}
 use Rattle.std.proofs.lemmas.List.{drop_more, get_or-set_same, get_or_at, get_or_default, length-map, length-take, set-get_or, set-set}
 use Rattle.std.proofs.lemmas.List.Edits.{map_over_more}
@@ -66,6 +66,19 @@ list_more lists t u s inside =
 -- and where none went yet
 pub list_none : (lists : List (List (ObjNo × ℕ))) (t u : ObjNo) → lists ≡ set lists t.0 (without_below u 0 (logons_on lists t))
 list_none lists t u = sym (ap (set lists t.0) (below_none u (logons_on lists t)) ∙ set-get_or lists t.0 [])
+
+-- what is said to be nothing
+pub none_is : {A : Type 0} (x : Option A) → is_some x ≡ false → x ≡ None
+none_is None is = refl
+none_is (Some x) is = absurd (cc)
+
+-- where a thread's list is empty, none is left of it
+pub none_here : (lists : List (List (ObjNo × ℕ))) (t u : ObjNo) → slice_get (logons_on lists t) 0 ≡ None → lists ≡ set lists t.0 (without_maker u (logons_on lists t))
+none_here lists t u none = by (logons_on lists t) refl none
+  where
+    by : (these : List (ObjNo × ℕ)) → logons_on lists t ≡ these → slice_get these 0 ≡ None → lists ≡ set lists t.0 (without_maker u (logons_on lists t))
+    by [] is first = sym (ap (λ (l : List (ObjNo × ℕ)). set lists t.0 (without_maker u l)) is ∙ (ap (set lists t.0) (sym is) ∙ set-get_or lists t.0 []))
+    by (x ∷ rest) is first = absurd (cc)
 
 -- one that the thread made counts
 made_counts : (u : ObjNo) (x : ObjNo × ℕ) → is_made_by u x ≡ true → logon_names u x.1 x ≡ 1

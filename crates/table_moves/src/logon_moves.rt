@@ -42,6 +42,9 @@ fn drop_on(cleanup: &mut Cleanup, on: ThreadNo, by: ThreadNo)
     requires { CanDrop on by (length cleanup.old.duties) cleanup.old.logons }
     ensures { cleanup.new ≡ record cleanup.old { logons = slice_set cleanup.old.logons on.0 (without_maker by (logons_on cleanup.old.logons on)) } }
 {
+    if cleanup.first_logon(on).is_none() {
+        return;
+    }
     for status in 0..STATUSES as u8 {
         remove(cleanup, on, by, status);
     }

@@ -1,9 +1,16 @@
-use Rattle.std.proofs.Common.{◌≤◌, ◌∙◌, ℕ, List, set, arith, ap}
+use Rattle.std.proofs.Common.{◌≤◌, ◌∙◌, ℕ, List, set, arith, ap, sym}
+use Rattle.std.specs.Prelude.{not}
 use Rattle.sym_base.specs.declared.number.ObjNo.{ObjNo}
 use Rattle.cleanup.specs.Lists.{Lists}
 use Rattle.machine.specs.LogonMoves.{logons_on, without_logon}
-use Rattle.table_moves.proofs.GoneLogons.{below_all, list_more, list_none}
+use Rattle.table_moves.proofs.GoneLogons.{below_all, list_more, list_none, none_here, none_is}
 use Rattle.table_moves.proofs.logon_moves.drop_on.Goals as goal
+
+pub returns-then-is_none : goal.returns-then-is_none
+returns-then-is_none c =
+    let old = c.args.cleanup.now in
+    let none = none_is c.first_logon.result (c.is_none.ensures ∙ ap not c.if-is_none.true) in
+    ap (λ (logons : List (List (ObjNo × ℕ))). let lists : Lists = record old { logons = logons } in lists) (none_here old.logons c.args.on c.args.by (sym c.first_logon.ensures ∙ none))
 
 pub loop-status-init : goal.loop-status-init
 loop-status-init c =
