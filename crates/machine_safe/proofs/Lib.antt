@@ -9,6 +9,7 @@ pub mod LegalDeaths
 pub mod LegalReferences
 pub mod LegalSafety
 pub mod LegalServing
+pub mod LegalWaits
 pub mod OneLoss
 pub mod ReadyHolders
 pub mod Runs
