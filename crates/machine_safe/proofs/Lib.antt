@@ -25,3 +25,4 @@ pub mod UnsafeReferences
 pub mod UnsafeRuns
 pub mod UnsafeServers
 pub mod UnsafeShared
+pub mod UnsafeWaits
