@@ -97,8 +97,8 @@ unset-move by (Signal v x code) ms script S t u s fits proper apart was =
     let r = S.synchronization.requests in
     let waits = fits.0.0.waits in
     let other : u.0 ≡ v.0 → s ≡ x → ⊥ = λ at same.
-      let own : is_pending r u s ≡ true = ap (λ (w : ObjNo). is_pending r w s) (same_object u v at) ∙ (ap (is_pending r v) same ∙ waits) in
-      let not = was.done in cc in
+    let own : is_pending r u s ≡ true = ap (λ (w : ObjNo). is_pending r w s) (same_object u v at) ∙ (ap (is_pending r v) same ∙ waits) in
+    let not = was.done in cc in
     record { done = status_item (λ (value : ℤ). int_eq value pending ≡ false) r.statuses v x code u s (λ at same. absurd (other at same)) was.done; free = was.free }
 unset-move by (DropAll v) ms script S t u s fits proper apart was = record { done = was.done; free = λ e is. was.free e (dropped v S.synchronization.requests.devices e (of_status u s) is) }
 unset-move by m ms script S t u s fits proper apart was = record { done = was.done; free = was.free }
@@ -120,7 +120,7 @@ want-each script S t (Nano (Want v f) ∷ ms) by u fits proper apart undoomed is
 want-each script S t (Nano (Release v) ∷ ms) by u fits proper apart undoomed is =
     let doomed = proper.0 in
     let other : u.0 ≡ v.0 → ⊥ = λ at.
-      let same : 0 < total (doomed_bit u) ms = subst (λ (x : ObjNo). 0 < total (doomed_bit x) ms) (same_object v u (sym at)) doomed in omega arith in
+    let same : 0 < total (doomed_bit u) ms = subst (λ (x : ObjNo). 0 < total (doomed_bit x) ms) (same_object v u (sym at)) doomed in omega arith in
     want-each script (moved t (Nano (Release v)) S) t ms by u fits.1 proper.1 apart (omega arith) (want-set S.synchronization.nano.wants v u None other is)
 want-each script S t (Nano m ∷ ms) by u fits proper apart undoomed is = want-each script (moved t (Nano m) S) t ms by u fits.1 proper.1 apart (omega arith) is
 want-each script S t (Pay what ∷ ms) by u fits proper apart undoomed is = absurd fits.0

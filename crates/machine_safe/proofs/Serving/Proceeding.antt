@@ -114,19 +114,22 @@ pub record IsProperly (script : Script) (S : State) : Type 0 where
 
 -- what is plain is of any kind
 pub fits-any : {k : Kinds} {script : Script} {S : State} {t : ObjNo} {d : Decision} → FitsAction plain script S t d → FitsAction k script S t d
-fits-any fits = record { goes = fits.goes; regular = record {
-  answers = fits.regular.answers;
-  dooms = fits.regular.dooms;
-  calm = λ _. fits.regular.calm refl;
-  making = fits.regular.making;
-  sends = λ _. fits.regular.sends refl;
-  goes = λ _. fits.regular.goes refl;
-  last = fits.regular.last;
-  cleans = fits.regular.cleans;
-  known = fits.regular.known;
-  uses = λ u _. fits.regular.uses u (inr (inl refl));
-  loses = fits.regular.loses;
-  finds = fits.regular.finds;
-  comes = fits.regular.comes;
-  returns = fits.regular.returns;
-} }
+fits-any fits = record {
+  goes = fits.goes;
+  regular = record {
+    answers = fits.regular.answers;
+    dooms = fits.regular.dooms;
+    calm = λ _. fits.regular.calm refl;
+    making = fits.regular.making;
+    sends = λ _. fits.regular.sends refl;
+    goes = λ _. fits.regular.goes refl;
+    last = fits.regular.last;
+    cleans = fits.regular.cleans;
+    known = fits.regular.known;
+    uses = λ u _. fits.regular.uses u (inr (inl refl));
+    loses = fits.regular.loses;
+    finds = fits.regular.finds;
+    comes = fits.regular.comes;
+    returns = fits.regular.returns;
+  };
+}
