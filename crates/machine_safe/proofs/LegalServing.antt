@@ -30,6 +30,7 @@ use Rattle.machine_safe.proofs.Serving.Deeds.{Looked}
 use Rattle.machine_safe.proofs.Serving.Looked.{boot-looked, entry-looked}
 use Rattle.machine_safe.proofs.Serving.Connecting.{KeepHandles, kept-boot, kept-next}
 use Rattle.machine_safe.proofs.Serving.Served.{served-made}
+use Rattle.machine_safe.proofs.Serving.Steady.{IsSteady, steady-boot, steady-keeping, steady-next, steady-properly}
 use Rattle.machine.specs.Moves.{next_object}
 use Rattle.state_rows.specs.ServerRows.{server_at}
 use Rattle.machine_safe.proofs.Serving.Reading.{reading}
@@ -57,7 +58,7 @@ unmade-next script before S book = by (server_at S.serving.servers (next_object 
     by (Some row) e = let made = served-made script (reading before) S book.served (next_object S) row e in absurd (omega arith)
 
 -- what a history tells of servers and messages is asked of no choice
-book-keeping : (script : Script) (before : List Entry) (S : State) (keep : Bool) → Book script before S → Book script before (keeping keep S)
+pub book-keeping : (script : Script) (before : List Entry) (S : State) (keep : Bool) → Book script before S → Book script before (keeping keep S)
 book-keeping script before S keep h = record {
   served = record {
     rows = λ o row is. let row_is = h.served.rows o row is in record { made = row_is.made; owner = row_is.owner; closing = row_is.closing; owned = row_is.owned };
@@ -85,16 +86,16 @@ book-keeping script before S keep h = record {
 }
 
 -- nor is whether a thread keeps the handle of the session that it made
-handles-keeping : (script : Script) (S : State) (keep : Bool) → KeepHandles script S → KeepHandles script (keeping keep S)
+pub handles-keeping : (script : Script) (S : State) (keep : Bool) → KeepHandles script S → KeepHandles script (keeping keep S)
 handles-keeping script S keep h u row is live due = let had = h u row is live due in record { own = had.own; there = had.there; other = had.other }
 
 -- what holds after the first entries
 abbrev BookAt : Bool → Script → List Entry → Type 0
-BookAt shared script xs = Book script xs (after_in shared script xs) × Looked script xs (after_in shared script xs) × KeepHandles script (after_in shared script xs)
+BookAt shared script xs = Book script xs (after_in shared script xs) × Looked script xs (after_in shared script xs) × KeepHandles script (after_in shared script xs) × IsSteady script (after_in shared script xs)
 
 -- after each entry
 pub book-after : (shared : Bool) (script : Script) (before later : List Entry) → IsWellFormed script → IsLegalIn shared script (before ++ later) → BookAt shared script before
-book-after shared script before later valid legal = by [] before refl (book-boot shared script (formed_is_shaped script valid), boot-looked script (formed_is_shaped script valid), kept-boot shared script (formed_is_shaped script valid))
+book-after shared script before later valid legal = by [] before refl (book-boot shared script (formed_is_shaped script valid), boot-looked script (formed_is_shaped script valid), kept-boot shared script (formed_is_shaped script valid), steady-boot shared script (formed_is_shaped script valid))
   where
     by : (xs ys : List Entry) → before ≡ xs ++ ys → BookAt shared script xs → BookAt shared script before
     by xs [] e h = subst (BookAt shared script) (sym (e ∙ append-nil xs)) h
@@ -106,9 +107,11 @@ book-after shared script before later valid legal = by [] before refl (book-boot
         let handles = handles-keeping script S keep h.2 in
         let turn = turn-entry script xs (choosing y S) cuts.place shaped cuts.rows_done (book-keeping script xs S keep h.0) h.1 handles (fated shared script xs valid cuts.legal_before) y cuts.done in
         let looked = entry-looked script xs (choosing y S) cuts.place shaped cuts.rows_done h.1 y cuts.done in
-        let kept = kept-next script (choosing y S) shaped cuts.rows_done handles (unmade-next script xs S h.0) y.actor in
+        let steady = steady-keeping script S keep h.3 in
+        let kept = kept-next script (choosing y S) shaped cuts.rows_done (steady-properly script (choosing y S) shaped cuts.rows_done steady) handles (unmade-next script xs S h.0) y.actor in
+        let steady_next = steady-next script (choosing y S) shaped cuts.rows_done steady y.actor in
         let same = sym (after_from-push script (boot_in shared script) xs y) in
-        by (xs ++ y ∷ []) ys (e ∙ sym (append_assoc xs (y ∷ []) ys)) (subst (Book script (xs ++ y ∷ [])) same turn.book, subst (Looked script (xs ++ y ∷ [])) same looked, subst (KeepHandles script) same kept)
+        by (xs ++ y ∷ []) ys (e ∙ sym (append_assoc xs (y ∷ []) ys)) (subst (Book script (xs ++ y ∷ [])) same turn.book, subst (Looked script (xs ++ y ∷ [])) same looked, subst (KeepHandles script) same kept, subst (IsSteady script) same steady_next)
 
 -- each entry is lawful
 lawful : (shared : Bool) (script : Script) (history before : List Entry) (e : Entry) (later : List Entry) → IsWellFormed script → IsLegalIn shared script history → StandsAt history before e later → IsLawful script before e

@@ -9,6 +9,7 @@ pub mod LegalDeaths
 pub mod LegalReferences
 pub mod LegalSafety
 pub mod LegalServing
+pub mod LegalWaits
 pub mod OneLoss
 pub mod ReadyHolders
 pub mod Runs
@@ -24,3 +25,4 @@ pub mod UnsafeReferences
 pub mod UnsafeRuns
 pub mod UnsafeServers
 pub mod UnsafeShared
+pub mod UnsafeWaits

@@ -37,3 +37,13 @@ pub mod Courses
 pub mod Lacking
 pub mod Straight
 pub mod Using
+pub mod Asked
+pub mod Proper
+pub mod ProperLists
+pub mod Proceeding
+pub mod ProperKept
+pub mod Called
+pub mod Properly
+pub mod Kinds
+pub mod Met
+pub mod Steady

@@ -1,5 +1,5 @@
 -- What is said of one reference an entry and of returns, tried on histories changed by hand.
-use Rattle.std.proofs.Common.{◌≡◌, ◌≤◌, ℕ, List, [], ◌∷◌, arith, refl, None, Bool, true, false}
+use Rattle.std.proofs.Common.{◌≡◌, ℕ, List, [], ◌∷◌, arith, refl, None, true, false}
 use Rattle.sym_base.specs.declared.number.ObjNo.{ObjNo}
 use Rattle.sym_base.specs.declared.word.Word.TheVariants as word
 use Rattle.entry_log.specs.declared.effect.Effect.{Effect}

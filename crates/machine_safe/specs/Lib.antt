@@ -11,6 +11,7 @@ pub mod SafeDeaths
 pub mod SafeMessages
 pub mod SafeReferences
 pub mod SafeServers
+pub mod SafeWaits
 pub mod Sent
 pub mod Served
 pub mod SharedReading

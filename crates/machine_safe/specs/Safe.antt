@@ -1,5 +1,5 @@
 -- What is promised of every legal history, as one caller makes it or as callers make it who share the kernel: its references are safe, and so are
--- its deaths, its messages, the ends of its servers, and its busy answers.
+-- its deaths, its messages, the ends of its servers, its busy answers, and its waits.
 use Rattle.std.specs.Prelude.{Bool, false, List}
 use Rattle.script_types.specs.declared.script.Script.{Script}
 use Rattle.entry_log.specs.declared.entry.Entry.{Entry}
@@ -8,6 +8,7 @@ use Rattle.machine_safe.specs.SafeDeaths.{IsSafeDeaths}
 use Rattle.machine_safe.specs.SafeMessages.{IsSafeMessages}
 use Rattle.machine_safe.specs.SafeReferences.{IsSafeReferences}
 use Rattle.machine_safe.specs.SafeServers.{IsSafeServers}
+use Rattle.machine_safe.specs.SafeWaits.{IsSafeWaits}
 
 pub record IsSafeIn (shared : Bool) (script : Script) (history : List Entry) : Type 0 where
   pub references : IsSafeReferences shared script history
@@ -15,6 +16,7 @@ pub record IsSafeIn (shared : Bool) (script : Script) (history : List Entry) : T
   pub messages : IsSafeMessages script history
   pub servers : IsSafeServers history
   pub busy : IsSafeBusy script history
+  pub waits : IsSafeWaits script history
 
 abbrev pub IsSafe : Script → List Entry → Type 0
 IsSafe script history = IsSafeIn false script history

@@ -1,4 +1,4 @@
-//! The laws of references, deaths, messages, servers and busy answers over whole histories.
+//! The laws of references, deaths, messages, servers, busy answers and waits over whole histories.
 ghost use Rattle.std.specs.Prelude.{false, true};
 ghost use Rattle.script_types.specs.Source.{IsWellFormed};
 ghost use Rattle.machine.specs.History.{IsLegal, IsShared};
@@ -7,6 +7,7 @@ ghost use Rattle.machine_safe.specs.SafeDeaths.{IsSafeDeaths};
 ghost use Rattle.machine_safe.specs.SafeMessages.{IsSafeMessages};
 ghost use Rattle.machine_safe.specs.SafeReferences.{IsSafeReferences};
 ghost use Rattle.machine_safe.specs.SafeServers.{IsSafeServers};
+ghost use Rattle.machine_safe.specs.SafeWaits.{IsSafeWaits};
 
 use entry_log::Entry;
 use script_types::Script;
@@ -24,8 +25,8 @@ use script_types::Script;
 /// was doomed since the acceptance or the message disconnects. A server ends once at most, where it is closing; each
 /// of its messages is finished then, and nothing is accepted beside; and as a thread is cleaned each server that it
 /// made has ended. And a `send` to a server that isn't closing answers KErrServerBusy exactly where all slots are
-/// used of its session, which the look of that `send` found, and is accepted else. This call only states it, and
-/// changes nothing.
+/// used of its session, which the look of that `send` found, and is accepted else. And the step in which nobody acts
+/// is the actor idle's alone, or a thread's that is at a `receive`. This call only states it, and changes nothing.
 pub fn legal_is_safe(script: &Script, history: &[Entry])
     requires valid { IsWellFormed script.now }
     requires legal { IsLegal script.now history.now }
@@ -34,6 +35,7 @@ pub fn legal_is_safe(script: &Script, history: &[Entry])
     ensures messages { IsSafeMessages script.now history.now }
     ensures servers { IsSafeServers history.now }
     ensures busy { IsSafeBusy script.now history.now }
+    ensures waits { IsSafeWaits script.now history.now }
 {}
 
 /// The same holds of every history that callers make who share the kernel: there whoever found an object by its name
@@ -50,4 +52,5 @@ pub fn shared_is_safe(script: &Script, history: &[Entry])
     ensures messages { IsSafeMessages script.now history.now }
     ensures servers { IsSafeServers history.now }
     ensures busy { IsSafeBusy script.now history.now }
+    ensures waits { IsSafeWaits script.now history.now }
 {}

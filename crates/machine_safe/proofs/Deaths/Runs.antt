@@ -36,7 +36,7 @@ use Rattle.machine_safe.proofs.Deaths.Moves.{dies-move, dies-none, dies-pay}
 use Rattle.state_rows.specs.declared.duty.Owed.{Owed}
 
 -- moves that fit, one after the other
-each-dies : (script : Script) (S : State) (t : ObjNo) (ms : List Move) → EachFits script t ms S → total weight (owed_of S t) + total most_owed ms ≤ 12 → Sane script t S → Dies S (perform t ms S) (tell t ms S)
+pub each-dies : (script : Script) (S : State) (t : ObjNo) (ms : List Move) → EachFits script t ms S → total weight (owed_of S t) + total most_owed ms ≤ 12 → Sane script t S → Dies S (perform t ms S) (tell t ms S)
 each-dies script S t [] fits few s = dies-none S
 each-dies script S t (m ∷ ms) fits few s =
     let T = moved t m S in

@@ -1,4 +1,11 @@
 -- Whoever may act does something, if nothing that a step needs is lacking and what stands in the queues of deferred calls is declared.
+use Rattle.machine_safe.proofs.Finders.Actions.{AtFinds}
+use Rattle.machine_safe.proofs.Serving.Called.{immediate-declared, next-called}
+use Rattle.machine_safe.proofs.Serving.Connecting.{KeepHandles}
+use Rattle.machine_safe.proofs.Serving.Course.{empty, pending, rowless, served, serverless, unkept, unnamed, unused, unwanted}
+use Rattle.machine_safe.proofs.Serving.Lacking.{pending-never, rowless-never, served-never, serverless-never, unkept-never, unnamed-never, unused-never, unwanted-never}
+use Rattle.machine_safe.proofs.Serving.Steady.{IsSteady}
+use Rattle.machine_safe.proofs.Serving.Called.{IsDeclared}
 use Rattle.entry_log.specs.declared.entry.Actor.{Actor}
 use Rattle.entry_log.specs.declared.entry.Actor.TheVariants.{Idfc, Idle, Irq, Thread, Tick}
 use Rattle.entry_log.specs.declared.step.Step.{Step}
@@ -10,9 +17,9 @@ use Rattle.machine.specs.Interrupts.{immediate, immediate_plan, interrupt, step_
 use Rattle.machine.specs.Bodies.{decision_by}
 use Rattle.machine.specs.Out.{is_out, is_returning, part_of}
 use Rattle.machine.specs.Reaping.{finish_message, give_up}
-use Rattle.machine.specs.Rows.{owed_of, thread_of}
+use Rattle.machine.specs.Rows.{thread_of}
 use Rattle.machine.specs.SharedRun.{is_return}
-use Rattle.machine.specs.Steps.{decision_of, pay, return_of, step_of}
+use Rattle.machine.specs.Steps.{decision_of, pay, step_of}
 use Rattle.machine.specs.Task.{instruction, is_able, is_ready, is_stopped, is_waiting, may_act, next_call, task_of}
 use Rattle.machine.specs.Transition.{act}
 use Rattle.machine.specs.WellFormed.{AreRows}
@@ -20,12 +27,11 @@ use Rattle.machine.specs.declared.decision.Decision.{Decision}
 use Rattle.machine.specs.declared.holding.Holding.{Holding}
 use Rattle.machine.specs.declared.holding.Holding.TheVariants as holding
 use Rattle.machine.specs.declared.state.State.{State}
-use Rattle.machine.specs.declared.task.Task.{Task}
 use Rattle.machine_laws.proofs.Fitting.Actions.{Plainly, does, calls, stops, rests, each-action}
 use Rattle.machine_laws.proofs.Fitting.Regular.{acts, finds_by_name}
 use Rattle.machine_laws.proofs.Fitting.Working.{IsGiven}
 use Rattle.machine_laws.proofs.Sharing.Returns.{returns-exactly}
-use Rattle.machine_safe.proofs.Serving.Course.{Course, Lacks, strays, answers, idles, stays, comes, goes, has_step}
+use Rattle.machine_safe.proofs.Serving.Course.{Course, Lacks, strays, answers, idles, stays, comes, goes, has_step, takes_at}
 use Rattle.machine_safe.proofs.Serving.Courses.{course}
 use Rattle.machine_safe.proofs.Serving.Straight.{Nowhere, straight-of, straying}
 use Rattle.machine_safe.proofs.Serving.Later.{Facts}
@@ -46,18 +52,20 @@ use Rattle.state_rows.specs.declared.thread.Stage.TheVariants.{Live}
 use Rattle.state_rows.specs.declared.thread.ThreadRow.{ThreadRow}
 use Rattle.std.proofs.Common.{Bool, None, Option, Some, ap, false, inl, inr, refl, sym, true, ℕ, ◌∙◌, ◌≡◌, ◌⊎◌, not}
 use Rattle.std.specs.Prelude.{is_none, is_some, nat_lt, slice_get, ◌&&◌, ◌||◌}
-use Rattle.sym_base.specs.declared.number.MsgNo.{MsgNo}
 use Rattle.sym_base.specs.declared.number.ObjNo.{ObjNo}
 
--- what waits in the immediate queue is declared
-abbrev pub IsDeclared : Script → Item → Type 0
-IsDeclared script (item.Idfc call) = is_some (slice_get script.idfcs call) ≡ true
-IsDeclared script (item.Move call) = is_some (slice_get script.dfcs call) ≡ true
+-- a thread at the step that takes the message for which it waited
+pub record IsReceiving (script : Script) (S : State) (t : ObjNo) : Type 0 where
+  pub row : ThreadRow
+  pub is : thread_of S t ≡ Some row
+  pub instr : Instr
+  pub at : instruction script row ≡ Some instr
+  pub takes : takes_at instr row.part ≡ true
 
--- Nothing is lacking in a state: no step of a live thread needs what isn't there, the calls that come next are declared, and a thread that comes
--- back is at an instruction that finds.
+-- Nothing is lacking in a state: no step of a live thread needs what isn't there, but maybe a message for which it waited; the calls that come next
+-- are declared, and a thread that comes back is at an instruction that finds.
 pub record LacksNothing (script : Script) (S : State) : Type 0 where
-  pub steps : (t : ObjNo) (old : ThreadRow) (i : Instr) → thread_of S t ≡ Some old → old.stage ≡ Live → instruction script old ≡ Some i → Lacks script S t old i old.part → ⊥
+  pub steps : (t : ObjNo) (old : ThreadRow) (i : Instr) → thread_of S t ≡ Some old → old.stage ≡ Live → instruction script old ≡ Some i → Lacks script S t old i old.part → takes_at i old.part ≡ true
   pub straight : Facts script straying Nowhere S
   pub returns : (t : ObjNo) (row : ThreadRow) → thread_of S t ≡ Some row → is_returning row.part ≡ true → finds_by_name (instruction script row) ≡ true
   pub calls : (t : ObjNo) (row : ThreadRow) (dfc : ℕ) → thread_of S t ≡ Some row → next_call S.synchronization.deferred row.role ≡ Some dfc → nat_lt dfc 64 ≡ true → is_some (slice_get script.dfcs dfc) ≡ true
@@ -88,15 +96,18 @@ idfc-runs None e = absurd (cc)
 idfc-runs (Some idfc) e = refl
 
 -- what a step comes to is an action, if nothing is lacking
-course-acts : (script : Script) (S : State) (t : ObjNo) (old : ThreadRow) (i : Instr) (d : Decision) → (Lacks script S t old i old.part → ⊥) → ((q : Part) → old.part ≡ Some q → has_step i q ≡ true) → Course script S t old i old.part d → acts d.step ≡ true
+course-acts : (script : Script) (S : State) (t : ObjNo) (old : ThreadRow) (i : Instr) (d : Decision) → (Lacks script S t old i old.part → takes_at i old.part ≡ true) → ((q : Part) → old.part ≡ Some q → has_step i q ≡ true) → Course script S t old i old.part d → (acts d.step ≡ true) ⊎ (takes_at i old.part ≡ true)
 course-acts script S t old i d whole straight (strays q e none) = let there = straight q e in absurd (cc)
-course-acts script S t old i d whole straight (answers code e told) = told
-course-acts script S t old i d whole straight (idles lacks e) = absurd (whole lacks)
-course-acts script S t old i d whole straight (stays none told) = told
-course-acts script S t old i d whole straight (comes told back) = told
-course-acts script S t old i d whole straight (goes to there silent told on) = told
+course-acts script S t old i d whole straight (answers code e told proper) = inl told
+course-acts script S t old i d whole straight (idles lacks e) = inr (whole lacks)
+course-acts script S t old i d whole straight (stays none told proper) = inl told
+course-acts script S t old i d whole straight (comes told proper back) = inl told
+course-acts script S t old i d whole straight (goes to there silent told proper on) = inl told
 
 module _ (script : Script) (S : State) (shaped : IsShaped script) (rows : AreRows script S) (whole : LacksNothing script S) where
+  abbrev pub Receives : Actor → Type 0
+  Receives actor = (t : ObjNo) × (actor ≡ Thread t) × IsReceiving script S t
+
   module _ (t : ObjNo) (may : may_act script S t ≡ true) where
     -- a thread that may act has a task
     has-task : is_returning (part_of (thread_of S t)) ≡ false → task_of script S t ≡ None → ⊥
@@ -129,21 +140,28 @@ module _ (script : Script) (S : State) (shaped : IsShaped script) (rows : AreRow
     plain-acts here d (stops e) = absurd (cc)
     plain-acts here d (rests none) = absurd (has-task here none)
 
-    onward-acts : is_returning (part_of (thread_of S t)) ≡ false → acts (decision_of script S t).step ≡ true
-    onward-acts here = each-action script S t (λ (d : Decision). acts d.step ≡ true) (record {
-      plainly = λ d why fits. plain-acts here d why;
-      steps = λ old i is live going at fits. course-acts script S t old i (step_of script S t old i old.part) (whole.steps t old i is live at) (straight-of script S whole.straight t old i is live at) (course script S t old is i old.part fits going);
+    abbrev ActsOrReceives : Decision → Type 0
+    ActsOrReceives d = (acts d.step ≡ true) ⊎ IsReceiving script S t
+
+    step-acts : (old : ThreadRow) (i : Instr) (d : Decision) → thread_of S t ≡ Some old → instruction script old ≡ Some i → (acts d.step ≡ true) ⊎ (takes_at i old.part ≡ true) → ActsOrReceives d
+    step-acts old i d is at (inl told) = inl told
+    step-acts old i d is at (inr takes) = inr (record { row = old; is = is; instr = i; at = at; takes = takes })
+
+    onward-acts : is_returning (part_of (thread_of S t)) ≡ false → ActsOrReceives (decision_of script S t)
+    onward-acts here = each-action script S t ActsOrReceives (record {
+      plainly = λ d why fits. inl (plain-acts here d why);
+      steps = λ old i is live going at fits. step-acts old i (step_of script S t old i old.part) is at (course-acts script S t old i (step_of script S t old i old.part) (whole.steps t old i is live at) (straight-of script S whole.straight t old i is live at) (course script S t old is rows i old.part fits going));
       returns = λ old i is back at fits. let other : is_returning old.part ≡ false = ap (λ (r : Option ThreadRow). is_returning (part_of r)) (sym is) ∙ here in absurd (cc);
-      gives = λ row what given fits. gives-acts row what given;
-      pays = λ what rest owes. pays-act what;
+      gives = λ row what given fits. inl (gives-acts row what given);
+      pays = λ what rest owes. inl (pays-act what);
     }) shaped rows
 
-    thread-acts : acts (act script S t).outcome.step ≡ true
+    thread-acts : (acts (act script S t).outcome.step ≡ true) ⊎ IsReceiving script S t
     unfolding act
     thread-acts = by (is_returning (part_of (thread_of S t))) refl
       where
-        by : (b : Bool) → is_returning (part_of (thread_of S t)) ≡ b → acts (decision_of script S t).step ≡ true
-        by true back = return-is-step (decision_of script S t).step (returns-exactly script S (Thread t) shaped rows whole.returns may ∙ back)
+        by : (b : Bool) → is_returning (part_of (thread_of S t)) ≡ b → ActsOrReceives (decision_of script S t)
+        by true back = inl (return-is-step (decision_of script S t).step (returns-exactly script S (Thread t) shaped rows whole.returns may ∙ back))
         by false here = onward-acts here
 
   item-acts : (found : Option Item) → next_immediate S.synchronization.deferred ≡ found → is_some found ≡ true → acts (decision_by script supervisor S (immediate_plan script S found)).step ≡ true
@@ -159,10 +177,34 @@ module _ (script : Script) (S : State) (shaped : IsShaped script) (rows : AreRow
   unfolding interrupt
   interrupt-acts k = refl
 
-  -- each actor but the idle one does something
-  pub actor-acts : (actor : Actor) → CanAct script S actor → acts (transition script S actor).outcome.step ≡ true ⊎ (actor ≡ Idle)
-  actor-acts (Thread t) can = inl (thread-acts t can)
+  -- each actor but the idle one does something, unless it is a thread that takes the message for which it waited
+  pub actor-acts : (actor : Actor) → CanAct script S actor → (acts (transition script S actor).outcome.step ≡ true) ⊎ ((actor ≡ Idle) ⊎ Receives actor)
+  actor-acts (Thread t) can = elim (thread-acts t can) as (λ _. (acts (transition script S (Thread t)).outcome.step ≡ true) ⊎ ((Thread t ≡ Idle) ⊎ Receives (Thread t))) [
+    | inl told ↦ inl told
+    | inr receives ↦ inr (inr (t, refl, receives))
+  ]
   actor-acts (Irq k) can = inl (interrupt-acts k)
   actor-acts Idfc can = inl (immediate-acts can)
   actor-acts Tick can = inl refl
-  actor-acts Idle can = inr refl
+  actor-acts Idle can = inr (inl refl)
+
+-- nothing is lacking in a state that is steady
+lacks-none : (script : Script) (S : State) → IsShaped script → AreRows script S → IsSteady script S → KeepHandles script S → (t : ObjNo) (old : ThreadRow) (i : Instr) → thread_of S t ≡ Some old → old.stage ≡ Live → instruction script old ≡ Some i → Lacks script S t old i old.part → takes_at i old.part ≡ true
+lacks-none script S shaped rows s kept t old i is live at (unused needs none) = absurd (unused-never script S s.used t old i is live at needs none)
+lacks-none script S shaped rows s kept t old i is live at (rowless u logs uses none) = absurd (rowless-never script S rows s.kinds s.met t old i is live at u logs uses none)
+lacks-none script S shaped rows s kept t old i is live at (pending y sets pends) = absurd (pending-never script S rows s.kinds s.met t old i is live at y sets pends)
+lacks-none script S shaped rows s kept t old i is live at (served o row locks uses there) = absurd (served-never script S rows s.kinds s.met t old i is live at o row locks uses there)
+lacks-none script S shaped rows s kept t old i is live at (serverless o makes uses none) = absurd (serverless-never script S rows s.kinds s.met t old i is live at o makes uses none)
+lacks-none script S shaped rows s kept t old i is live at (unkept keeps none) = absurd (unkept-never script S kept t old i is live at keeps none)
+lacks-none script S shaped rows s kept t old i is live at (empty o takes uses none) = takes
+lacks-none script S shaped rows s kept t old i is live at (unwanted wants none) = absurd (unwanted-never script S rows s.kinds s.met t old i is live at wants none)
+lacks-none script S shaped rows s kept t old i is live at (unnamed name names none) = absurd (unnamed-never script old i name shaped at names none)
+
+pub lacks-nothing : (script : Script) (S : State) → IsShaped script → AreRows script S → AtFinds script S → IsSteady script S → KeepHandles script S → LacksNothing script S
+lacks-nothing script S shaped rows finds s kept = record {
+  steps = lacks-none script S shaped rows s kept;
+  straight = s.straight;
+  returns = finds;
+  calls = λ t row dfc is called few. next-called script S.synchronization.deferred row.role dfc s.called called few;
+  items = λ what is. immediate-declared script S.synchronization.deferred what s.called is;
+}

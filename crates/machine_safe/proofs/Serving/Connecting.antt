@@ -1,4 +1,5 @@
 -- The handle that a `connect` keeps from the step that makes its session on is in the thread's own table, and of no server.
+use Rattle.machine_safe.proofs.Serving.Proceeding.{IsProperly}
 use Rattle.machine_safe.proofs.Serving.Later.{Facts, FactThen, IsFact, StepsGive, answered-fact, boot-fact, early-fact, idle-fact, next-fact, other-fact, part-after}
 use Rattle.state_rows.specs.declared.duty.Owed.TheVariants as duty
 use Rattle.machine.specs.Find.{is_open, miss, seek_object, find_object}
@@ -177,7 +178,7 @@ named-by o slot i n handle number index instance object =
 kept-fact : (script : Script) → IsFact script keeps_handle KeepsHandle
 kept-fact script = record {
   later = kept-later;
-  carried = λ S t ms rows fits u row c was. kept-on script S t ms fits u row c (λ s slot. slot_made script S u (index_of c.mid.old.found) s rows slot) was;
+  carried = λ S t ms rows u row c passes was. kept-on script S t ms passes.fits u row c (λ s slot. slot_made script S u (index_of c.mid.old.found) s rows slot) was;
   paid = λ S t what u row mid was. record {
     own = ap is_local (sym mid.found) ∙ was.own;
     there = ap (λ (l : List HandleSlot). is_some (look true l row.found)) (paid-table S t what u) ∙ (ap (λ (n : ℕ). is_some (look true (table_of S u) n)) (sym mid.found) ∙ was.there);
@@ -299,8 +300,8 @@ module _ (script : Script) (S : State) (t : ObjNo) (rows : AreRows script S) (ke
   kept-gives = record { steps = λ old i here live going at was fits. step-kept old i old.part here at was fits; returns = λ old i here live back at was fits. return-kept old i here at fits }
 
 -- each action leaves them, and at boot there are none
-pub kept-next : (script : Script) (S : State) → IsShaped script → AreRows script S → KeepHandles script S → is_some (server_at S.serving.servers (next_object S)) ≡ false → (actor : Actor) → KeepHandles script (next script S actor)
-kept-next script S shaped rows kept unmade actor = next-fact script keeps_handle KeepsHandle (kept-fact script) S rows kept shaped (λ t. kept-gives script S t rows kept unmade) actor
+pub kept-next : (script : Script) (S : State) → IsShaped script → AreRows script S → IsProperly script S → KeepHandles script S → is_some (server_at S.serving.servers (next_object S)) ≡ false → (actor : Actor) → KeepHandles script (next script S actor)
+kept-next script S shaped rows properly kept unmade actor = next-fact script keeps_handle KeepsHandle (kept-fact script) S rows kept shaped properly (λ t. kept-gives script S t rows kept unmade) actor
 
 pub kept-boot : (shared : Bool) (script : Script) → IsShaped script → KeepHandles script (boot_in shared script)
 kept-boot shared script shaped = boot-fact shared script keeps_handle KeepsHandle (kept-fact script) shaped

@@ -1,19 +1,11 @@
 -- What a step of an instruction may come to for its thread: it answers, or goes on to another step, or does nothing, since something isn't there.
-use Rattle.sym_base.specs.declared.error.Error.TheVariants.{InUse, Overflow, General}
+use Rattle.state_rows.specs.declared.object.ObjectRow.{ObjectRow}
+use Rattle.state_rows.specs.declared.requests.RequestRows.{RequestRows}
+use Rattle.machine.specs.declared.moves.Move.TheVariants.{Gain}
+use Rattle.machine_safe.proofs.Serving.Proper.{stepping, AreProper, is_kind}
 use Rattle.state_rows.specs.MessageChanges.{next_of}
-use Rattle.sym_base.specs.declared.word.Word.TheVariants as word
-use Rattle.state_rows.specs.Locks.{owner_at, count_at, best_waiter}
-use Rattle.state_rows.specs.LockChanges.{lock_answer, unlock_answer, signal_answer}
-use Rattle.state_rows.specs.declared.locks.Locked.{Locked}
-use Rattle.state_rows.specs.declared.locks.Locked.TheVariants.{Taken, Again, Waits}
-use Rattle.state_rows.specs.declared.locks.Signalled.{Signalled}
-use Rattle.state_rows.specs.declared.locks.Signalled.TheVariants as signalled
-use Rattle.state_rows.specs.declared.locks.Unlocked.{Unlocked}
-use Rattle.state_rows.specs.declared.locks.Unlocked.TheVariants.{Level, Freed, Passed, NotOwner}
-use Rattle.state_rows.specs.declared.thread.Waiting.TheVariants as waiting
-use Rattle.machine_safe.proofs.Serving.Later.{fact-carried, Facts, FactThen, IsFact, StepsGive, answered-fact, boot-fact, early-fact, idle-fact, next-fact, other-fact, part-after}
-use Rattle.std.proofs.Common.{not, Bool, List, None, Option, Some, ap, arith, false, get_or, refl, subst, sym, true, ℕ, ℤ, ◌∙◌, ◌∷◌, ◌≡◌}
-use Rattle.std.specs.Prelude.{is_some, if◌then◌else◌, slice_index, ◌==◌, ◌||◌, ◌+◌, nat_lt, pos}
+use Rattle.std.proofs.Common.{[], length, Bool, List, None, Option, Some, false, get_or, true, ℕ, ℤ, ◌∷◌, ◌≡◌, ◌<◌}
+use Rattle.std.specs.Prelude.{is_some}
 use Rattle.script_types.specs.declared.instruction.Instr.{Instr}
 use Rattle.script_types.specs.declared.script.Script.{Script}
 use Rattle.machine.specs.declared.state.State.{State}
@@ -22,95 +14,25 @@ use Rattle.sym_base.specs.declared.number.ObjNo.{ObjNo}
 use Rattle.entry_log.specs.declared.step.Part.{Part}
 use Rattle.script_types.specs.declared.instruction.Instr.TheVariants as instr
 use Rattle.entry_log.specs.declared.step.Part.TheVariants as part
-use Rattle.machine.specs.WellFormed.{AreRows}
-use Rattle.machine.specs.Rows.{with_row, thread_of, object_of}
+use Rattle.machine.specs.Rows.{thread_of}
 use Rattle.machine.specs.declared.decision.Decision.{Decision}
-use Rattle.machine_laws.proofs.Fitting.Regular.{acts, Kinds, looking, advance_bit, answer_bit, locking, calling, plain, going_bit, kind_of}
-use Rattle.sym_base.specs.declared.word.Word.{Word}
-use Rattle.machine.specs.Decide.{nothing, refuse, give_handle, wait_at, one_move}
-use Rattle.machine.specs.Moves.{with_use, moved, with_part, perform, with_waiting, with_found, with_missed, with_opened, next_object, no_number_left}
-use Rattle.sym_base.specs.declared.error.Error.{Error}
-use Rattle.machine_laws.proofs.Fitting.Actions.{FitsAction}
-use Rattle.entry_log.specs.declared.step.Step.{Step}
-use Rattle.move_laws.proofs.RowLaws.Threads.{map_some}
+use Rattle.machine_laws.proofs.Fitting.Regular.{acts, going_bit}
+use Rattle.machine.specs.Decide.{nothing}
+use Rattle.machine.specs.Moves.{with_use, with_part, perform}
 use Rattle.entry_log.specs.declared.step.Part.TheVariants.{Look}
-use Rattle.move_laws.proofs.Holders.ThreadRows.{row-here}
-use Rattle.machine.specs.declared.moves.Move.{Move}
-use Rattle.machine.specs.ExitCalls.{exit_on, exit_step, exit_unless_noted, exit_unless_refused, exittype_on}
-use Rattle.machine.specs.Look.{look_at, of_kind, look_kind}
-use Rattle.machine.specs.ThreadCalls.{call_on, move_or_refuse, refusal_of, thread_call, unless_refused, suspend_move, resume_move, is_live}
-use Rattle.machine.specs.SemaphoreCalls.{wait_do, signal_by, signal_do, wait_on}
 use Rattle.sym_base.specs.declared.kind.Kind.TheVariants as kind
-use Rattle.machine.specs.Dooms.{noted_of}
-use Rattle.sym_base.specs.declared.kind.Exit.{Exit}
-use Rattle.machine.specs.Handles.{object_at, process_handle, thread_handle}
-use Rattle.machine.specs.Task.{instruction}
-use Rattle.machine_safe.proofs.Serving.Others.{at-each, same-instruction, carries-each}
 use Rattle.machine.specs.References.{total}
-use Rattle.move_laws.proofs.References.Same.{if_zero}
-use Rattle.machine.specs.declared.handles.NewHandle.{NewHandle}
-use Rattle.machine.specs.Dup.{dup_do, stays_with_thread}
-use Rattle.machine.specs.Open.{open_do}
-use Rattle.move_laws.proofs.Lists.Cases.{if_cases}
-use Rattle.machine.specs.MutexCalls.{lock_by, lock_do, unlock_by, unlock_do, unless_server}
-use Rattle.state_rows.specs.Nano.{held_by}
-use Rattle.state_rows.specs.ServerRows.{server_at, owner_of}
+use Rattle.state_rows.specs.ServerRows.{server_at}
 use Rattle.state_rows.specs.declared.servers.ServerRow.{ServerRow}
-use Rattle.entry_log.specs.declared.step.Step.TheVariants.{Of}
-use Rattle.machine.specs.Choice.{priority_of}
-use Rattle.machine.specs.declared.lock_move.LockMove.TheVariants.{WaitOn}
-use Rattle.sym_base.specs.declared.word.Word.TheVariants as word
-use Rattle.machine.specs.LogonCalls.{logon_row, logon_do}
-use Rattle.state_rows.specs.Requests.{is_pending, reply_of}
-use Rattle.machine.specs.SessionCalls.{send_to, send_do, call_to, call_do, make_session, connect_to, connect_make, send_connect, connect_send, connect_done, session_made, args_of}
-use Rattle.state_rows.specs.MessageRows.{is_full}
-use Rattle.machine.specs.Messaging.{slots_of, open_server}
-use Rattle.sym_base.specs.declared.kind.Arg.{Arg}
-use Rattle.script_types.specs.declared.instruction.Args.{Args}
-use Rattle.machine.specs.Fits.{EachFits}
-use Rattle.machine_laws.proofs.Fitting.Posting.{tame-wake}
-use Rattle.sym_base.specs.declared.number.MsgNo.{MsgNo}
-use Rattle.machine.specs.ServerCalls.{receive_next, receive_do, receive_came, receive_done}
-use Rattle.machine.specs.declared.moves.Move.TheVariants.{GoOn, Open}
-use Rattle.machine.specs.Find.{seek_object, find_object, seek, miss, return_to, is_open}
-use Rattle.machine.specs.Out.{found_object, part_of}
-use Rattle.sym_base.specs.declared.kind.Slots.{Slots}
-use Rattle.std.specs.Ordering.{int_eq}
-use Rattle.machine.specs.Steps.{step_of, return_of}
-use Rattle.state_rows.specs.declared.thread.Stage.TheVariants.{Live}
+use Rattle.state_rows.specs.Requests.{is_pending}
+use Rattle.machine.specs.SessionCalls.{session_made}
+use Rattle.machine.specs.declared.moves.Move.TheVariants.{GoOn}
+use Rattle.machine.specs.Out.{found_object}
 use Rattle.entry_log.specs.declared.effect.Holder.TheVariants.{Temp}
-use Rattle.script_types.specs.Shape.{IsShaped}
-use Rattle.entry_log.specs.declared.entry.Actor.{Actor}
-use Rattle.machine.specs.History.{next}
-use Rattle.machine.specs.Boot.{boot_in}
-use Rattle.state_rows.specs.Nano as nano
-use Rattle.state_rows.specs.Requests as requests
 use Rattle.machine_safe.proofs.Serving.Connecting.{keeps_handle}
-use Rattle.entry_log.specs.declared.step.Step.TheVariants as step
-use Rattle.state_rows.specs.Nano.{want_of, critical_count, is_free, is_holder, is_protected}
-use Rattle.state_rows.specs.Requests.{request_at, status_of}
+use Rattle.state_rows.specs.Nano.{want_of}
+use Rattle.state_rows.specs.Requests.{request_at}
 use Rattle.state_rows.specs.DeclaredCalls.{dfc_named}
-use Rattle.state_rows.specs.ObjectRows.{is_taken}
-use Rattle.state_rows.specs.Deferred.{is_queued}
-use Rattle.state_rows.specs.declared.messages.Message.{Message}
-use Rattle.copy_rules.specs.declared.job.CopyMove.{CopyMove}
-use Rattle.copy_rules.specs.declared.job.Piece.{Piece}
-use Rattle.copy_rules.specs.declared.job.Piece.TheVariants as piece
-use Rattle.state_rows.specs.declared.deferred.Item.TheVariants as item
-use Rattle.machine.specs.Queueing.{queue_named}
-use Rattle.machine.specs.RequestCalls.{cancel_status, waitany_do, waitfor_do}
-use Rattle.machine.specs.FastMutex.{flock_do, flock_done, flock_step}
-use Rattle.machine.specs.FastSemaphore.{fswait_do, signal_found, signal_thread}
-use Rattle.machine.specs.Copying.{copy_piece, read_from, write_from}
-use Rattle.machine.specs.Create.{create_do, make_with_handle}
-use Rattle.machine.specs.Close.{close_handle}
-use Rattle.machine.specs.ServerCalls.{message_at, complete_message, function_of, make_server}
-use Rattle.machine.specs.Decide.{wait_for}
-use Rattle.machine.specs.Out.{is_returning}
-use Rattle.machine.specs.Moves.{with_kept}
-use Rattle.machine.specs.declared.lock_move.LockMove.{LockMove}
-use Rattle.machine.specs.declared.lock_move.LockMove.TheVariants.{Lock, Start}
-use Rattle.state_rows.specs.declared.thread.Waiting.{Waiting}
 use Rattle.sym_base.specs.declared.kind.Kind.{Kind}
 
 -- the later steps that an instruction has
@@ -189,6 +111,27 @@ abbrev pub logs_at : Instr → Option Part → Bool
 logs_at (instr.Logon x s) (Some part.Do) = true
 logs_at i p = false
 
+-- the kind of what a step uses, and of what a return found
+abbrev pub kind_used : Instr → Option Part → Option Kind
+kind_used (instr.Lock x) (Some part.Do) = Some kind.Mutex
+kind_used (instr.Logon x s) (Some part.Do) = Some kind.Thread
+kind_used (instr.Connect name slots x) (Some part.Make) = Some kind.Server
+kind_used i p = None
+
+abbrev pub kind_found : Instr → Option Part → Option Kind
+kind_found (instr.Connect name slots x) (Some part.Return) = Some kind.Server
+kind_found i p = None
+
+-- whether a step needs more than an object that it uses
+abbrev pub asks : Instr → Option Part → Bool
+asks (instr.Lock x) (Some part.Do) = true
+asks (instr.Flock f) (Some part.Done) = true
+asks (instr.Logon x s) (Some part.Do) = true
+asks (instr.Connect name slots x) (Some part.Return) = true
+asks (instr.Connect name slots x) (Some part.Make) = true
+asks (instr.Send x function y args) (Some part.Do) = true
+asks i p = false
+
 -- the name of the call that an instruction queues
 abbrev pub call_name : Instr → Option (List ℕ)
 call_name (instr.Queue name) = Some name
@@ -206,17 +149,42 @@ pub data Lacks (script : Script) (S : State) (t : ObjNo) (old : ThreadRow) (i : 
   unwanted : wants_at i p ≡ true → want_of S.synchronization.nano t ≡ None → Lacks script S t old i p
   unnamed : (name : List ℕ) → call_name i ≡ Some name → dfc_named script name ≡ None → Lacks script S t old i p
 
--- a thread's row at a step of an instruction, where it uses something if the step does
-pub record IsOn (i : Instr) (to : Part) (row : ThreadRow) : Type 0 where
+-- an object that was made, and is of a kind as long as it isn't swept
+pub record IsOfKind (objects : List (Option ObjectRow)) (k : Kind) (o : ObjNo) : Type 0 where
+  pub made : o.0 < length objects
+  pub kind : (row : ObjectRow) → get_or objects o.0 None ≡ Some row → is_kind k row.kind ≡ true
+
+-- a status that isn't pending, and of which no device has a request
+pub record IsUnset (r : RequestRows) (t : ObjNo) (s : ℕ) : Type 0 where
+  pub done : is_pending r t s ≡ false
+  pub free : (d : ℕ) → request_at r d ≡ Some (record { thread = t; status = s }) → ⊥
+
+-- what a step asks of the state: the status that it sets isn't pending, its thread wants a fast mutex, and what it uses or found is of its kind
+pub record Met (S : State) (t : ObjNo) (row : ThreadRow) (i : Instr) (p : Option Part) : Type 0 where
+  pub unset : (s : ℕ) → sets_status i p ≡ Some s → IsUnset S.synchronization.requests t s
+  pub wanted : wants_at i p ≡ true → is_some (want_of S.synchronization.nano t) ≡ true
+  pub used : (k : Kind) (o : ObjNo) → kind_used i p ≡ Some k → row.uses ≡ Some o → IsOfKind S.references.objects k o
+  pub found : (k : Kind) → kind_found i p ≡ Some k → IsOfKind S.references.objects k (found_object row)
+
+abbrev pub IsMet : State → ObjNo → ThreadRow → Instr → Option Part → Type 0
+IsMet S t row i p = asks i p ≡ true → Met S t row i p
+
+-- what an instruction asks at the step behind its look, where that found something
+abbrev pub AsksOf : State → ObjNo → ThreadRow → Instr → Option ObjNo → Type 0
+AsksOf S t old i found = (o : ObjNo) → found ≡ Some o → IsMet (perform t (GoOn t part.Do ∷ Gain (Temp t) o ∷ []) S) t (with_use (Some o) (with_part part.Do old)) i (Some part.Do)
+
+-- a thread's row at a step of an instruction, where it uses something if the step does; and what the step asks is there, if it was at the step before
+pub record IsOn (S : State) (t : ObjNo) (old : ThreadRow) (i : Instr) (p : Option Part) (T : State) (to : Part) (row : ThreadRow) : Type 0 where
   pub part : row.part ≡ Some to
   pub uses : needs_use (Some i) (Some to) ≡ true → is_some row.uses ≡ true
+  pub met : IsMet S t old i p → IsMet T t row i (Some to)
 
 -- what a step comes to for its thread: the instruction has no such step; or it answers, or does nothing, since something isn't there, or leaves its
--- thread at this step, or comes back without an answer, or goes on to another step
+-- thread at this step, or comes back without an answer, or goes on to another step; and its moves are proper
 pub data Course (script : Script) (S : State) (t : ObjNo) (old : ThreadRow) (i : Instr) (p : Option Part) (d : Decision) : Type 0 where
   strays : (q : Part) → p ≡ Some q → has_step i q ≡ false → Course script S t old i p d
-  answers : (code : ℤ) → d.answer ≡ Some code → acts d.step ≡ true → Course script S t old i p d
+  answers : (code : ℤ) → d.answer ≡ Some code → acts d.step ≡ true → AreProper script (stepping S t) d.moves → Course script S t old i p d
   idles : Lacks script S t old i p → d ≡ nothing → Course script S t old i p d
-  stays : total going_bit d.moves ≡ 0 → acts d.step ≡ true → Course script S t old i p d
-  comes : acts d.step ≡ true → ((row : ThreadRow) → thread_of (perform t d.moves S) t ≡ Some row → row.part ≡ None) → Course script S t old i p d
-  goes : (to : Part) → has_step i to ≡ true → d.answer ≡ None → acts d.step ≡ true → ((row : ThreadRow) → thread_of (perform t d.moves S) t ≡ Some row → is_some row.part ≡ true → IsOn i to row) → Course script S t old i p d
+  stays : total going_bit d.moves ≡ 0 → acts d.step ≡ true → AreProper script None d.moves → Course script S t old i p d
+  comes : acts d.step ≡ true → AreProper script (stepping S t) d.moves → ((row : ThreadRow) → thread_of (perform t d.moves S) t ≡ Some row → row.part ≡ None) → Course script S t old i p d
+  goes : (to : Part) → has_step i to ≡ true → d.answer ≡ None → acts d.step ≡ true → AreProper script (stepping S t) d.moves → ((row : ThreadRow) → thread_of (perform t d.moves S) t ≡ Some row → is_some row.part ≡ true → IsOn S t old i p (perform t d.moves S) to row) → Course script S t old i p d

@@ -1,4 +1,22 @@
 -- What no step lacks: what it uses, the session that its handle names, and the call that it names.
+use Rattle.entry_log.specs.declared.step.Part.{Part}
+use Rattle.entry_log.specs.declared.step.Part.TheVariants as part
+use Rattle.machine.specs.Rows.{object_of}
+use Rattle.machine.specs.WellFormed.{AreRows, IsAlive}
+use Rattle.machine_laws.proofs.Fitting.Living.{use_is_alive}
+use Rattle.machine_safe.proofs.Serving.Course.{IsMet, asks, kind_used, locks_at, logs_at, makes_at, sets_status, wants_at}
+use Rattle.machine_safe.proofs.Serving.Kinds.{AreKinds}
+use Rattle.machine_safe.proofs.Serving.Met.{MetAt, asked, met-of}
+use Rattle.machine_safe.proofs.Serving.Proper.{is_kind}
+use Rattle.state_rows.specs.Nano.{want_of}
+use Rattle.state_rows.specs.Requests.{is_pending}
+use Rattle.state_rows.specs.ServerRows.{server_at}
+use Rattle.state_rows.specs.declared.object.ObjectRow.{ObjectRow}
+use Rattle.state_rows.specs.declared.servers.ServerRow.{ServerRow}
+use Rattle.std.proofs.lemmas.Bool.{eqb-true}
+use Rattle.sym_base.specs.KindNumber.{kind_number}
+use Rattle.sym_base.specs.declared.kind.Kind.{Kind}
+use Rattle.sym_base.specs.declared.kind.Kind.TheVariants as kind
 use Rattle.machine.specs.Rows.{table_of, thread_of}
 use Rattle.machine.specs.SessionCalls.{session_made}
 use Rattle.machine_safe.proofs.Serving.Connecting.{KeepHandles, KeepsHandle, keeps_handle}
@@ -18,7 +36,7 @@ use Rattle.script_types.specs.declared.script.Script.{Script}
 use Rattle.state_rows.specs.DeclaredCalls.{dfc_named}
 use Rattle.state_rows.specs.declared.thread.Stage.TheVariants.{Live}
 use Rattle.state_rows.specs.declared.thread.ThreadRow.{ThreadRow}
-use Rattle.std.proofs.Common.{Bool, List, None, Option, Some, [], ap, arith, false, length, lt-ltb, refl, true, ℕ, ◌+◌, ◌<◌, ◌∙◌, ◌∷◌, ◌≡◌, not}
+use Rattle.std.proofs.Common.{Bool, List, None, Option, Some, [], ap, arith, sym, false, length, lt-ltb, refl, true, ℕ, ◌+◌, ◌<◌, ◌∙◌, ◌∷◌, ◌≡◌, not}
 use Rattle.std.specs.List.{list_any, position_or_len}
 use Rattle.std.specs.Prelude.{bytes_eq, if◌then◌else◌, is_some, nat_lt, position, ◌||◌}
 use Rattle.sym_base.specs.declared.number.ObjNo.{ObjNo}
@@ -62,3 +80,68 @@ unnamed-never script old (instr.Queue word) name shaped at names none =
     let same : word ≡ name = cc in
     placed (λ (d : DfcDecl). bytes_eq word d.name) script.dfcs (has_names script old (instr.Queue word) shaped at) (ap (dfc_named script) same ∙ none)
 unnamed-never script old i name shaped at names none = cc
+
+-- what a step asks is there
+asks-setting : (i : Instr) (p : Option Part) (s : ℕ) → sets_status i p ≡ Some s → asks i p ≡ true
+asks-setting (instr.Send x function y args) (Some part.Do) s e = refl
+asks-setting (instr.Logon x y) (Some part.Do) s e = refl
+asks-setting i p s e = absurd (cc)
+
+asks-logging : (i : Instr) (p : Option Part) → logs_at i p ≡ true → (asks i p ≡ true) × (kind_used i p ≡ Some kind.Thread)
+asks-logging (instr.Logon x s) (Some part.Do) e = (refl, refl)
+asks-logging i p e = absurd (cc)
+
+asks-locking : (i : Instr) (p : Option Part) → locks_at i p ≡ true → (asks i p ≡ true) × (kind_used i p ≡ Some kind.Mutex)
+asks-locking (instr.Lock x) (Some part.Do) e = (refl, refl)
+asks-locking i p e = absurd (cc)
+
+asks-making : (i : Instr) (p : Option Part) → makes_at i p ≡ true → (asks i p ≡ true) × (kind_used i p ≡ Some kind.Server)
+asks-making (instr.Connect name slots x) (Some part.Make) e = (refl, refl)
+asks-making i p e = absurd (cc)
+
+asks-wanting : (i : Instr) (p : Option Part) → wants_at i p ≡ true → asks i p ≡ true
+asks-wanting (instr.Flock f) (Some part.Done) e = refl
+asks-wanting i p e = absurd (cc)
+
+module _ (script : Script) (S : State) (rows : AreRows script S) (kinds : AreKinds S) (has : Facts script asked (MetAt script) S) (t : ObjNo) (old : ThreadRow) (i : Instr) (is : thread_of S t ≡ Some old) (live : old.stage ≡ Live) (at : instruction script old ≡ Some i) where
+  met : IsMet S t old i old.part
+  met = met-of script S has t old i is live at
+
+  -- the status that it sets isn't pending
+  pub pending-never : (s : ℕ) → sets_status i old.part ≡ Some s → is_pending S.synchronization.requests t s ≡ true → ⊥
+  pending-never s sets pends = let done = ((met (asks-setting i old.part s sets)).unset s sets).done in cc
+
+  -- it wants a fast mutex
+  pub unwanted-never : wants_at i old.part ≡ true → want_of S.synchronization.nano t ≡ None → ⊥
+  unwanted-never wants none = let some = (met (asks-wanting i old.part wants)).wanted wants in let gone = ap is_some none in cc
+
+  -- what it uses is there, and of its kind
+  used-row : (k : Kind) (o : ObjNo) → asks i old.part ≡ true → kind_used i old.part ≡ Some k → old.uses ≡ Some o → (row : ObjectRow) × (object_of S o ≡ Some row) × (is_kind k row.kind ≡ true)
+  used-row k o asked used uses = by (object_of S o) refl (use_is_alive S t old o rows.lives is uses)
+    where
+      by : (x : Option ObjectRow) → object_of S o ≡ x → IsAlive x → (row : ObjectRow) × (object_of S o ≡ Some row) × (is_kind k row.kind ≡ true)
+      by None e alive = absurd alive
+      by (Some row) e alive = (row, e, ((met asked).used k o used uses).kind row e)
+
+  pub rowless-never : (u : ObjNo) → logs_at i old.part ≡ true → old.uses ≡ Some u → thread_of S u ≡ None → ⊥
+  rowless-never u logs uses none =
+      let asks_so = asks-logging i old.part logs in
+      let row = used-row kind.Thread u asks_so.0 asks_so.1 uses in
+      let some = kinds.threads u row.0 row.1 row.2 in
+      let gone = ap is_some none in cc
+
+  pub served-never : (o : ObjNo) (server : ServerRow) → locks_at i old.part ≡ true → old.uses ≡ Some o → server_at S.serving.servers o ≡ Some server → ⊥
+  served-never o server locks uses there =
+      let asks_so = asks-locking i old.part locks in
+      let row = used-row kind.Mutex o asks_so.0 asks_so.1 uses in
+      let is_server : is_kind kind.Server row.0.kind ≡ true = sym (kinds.servers o row.0 row.1) ∙ ap is_some there in
+      let mutex = eqb-true (kind_number row.0.kind) (kind_number kind.Mutex) row.2 in
+      let server_number = eqb-true (kind_number row.0.kind) (kind_number kind.Server) is_server in
+      absurd (omega arith)
+
+  pub serverless-never : (o : ObjNo) → makes_at i old.part ≡ true → old.uses ≡ Some o → server_at S.serving.servers o ≡ None → ⊥
+  serverless-never o makes uses none =
+      let asks_so = asks-making i old.part makes in
+      let row = used-row kind.Server o asks_so.0 asks_so.1 uses in
+      let some : is_some (server_at S.serving.servers o) ≡ true = kinds.servers o row.0 row.1 ∙ row.2 in
+      let gone = ap is_some none in cc

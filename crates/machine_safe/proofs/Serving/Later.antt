@@ -1,5 +1,16 @@
 -- A fact of a live thread at a later step of an instruction, as what it keeps: other threads' actions leave it, and so do its own unless they go on.
 -- So each action leaves it, if the steps that go on give it.
+use Rattle.machine_safe.proofs.Deaths.Runs.{each-dies}
+use Rattle.machine_safe.proofs.Serving.Doing.{IsGoing}
+use Rattle.machine_safe.proofs.Serving.Fated.{doom-told}
+use Rattle.machine_laws.proofs.Fitting.Interrupts.{goes-immediate, goes-interrupt, sane-supervisor}
+use Rattle.machine_laws.proofs.Fitting.Regular.{doomed_bit}
+use Rattle.move_laws.proofs.Lists.Totals.{inside}
+use Rattle.machine_safe.proofs.Serving.Proceeding.{IsProperly, Proceeding, fits-any, proceeding, properly, returns, steps}
+use Rattle.machine_safe.proofs.Serving.Proper.{AreProper, Going, goes_on, stepping}
+use Rattle.machine_safe.proofs.Serving.ProperLists.{proper-body, proper-give}
+use Rattle.machine.specs.declared.plan.Body.TheVariants.{Interrupt}
+use Rattle.machine_laws.proofs.Fitting.Regular.{plain}
 use Rattle.machine.specs.Decide.{nothing}
 use Rattle.std.proofs.Common.{Bool, List, None, Option, Some, [], ap, arith, false, get_or, inl, inr, refl, subst, sym, true, ℕ, ℤ, ◌<◌, ◌≤◌, ◌∙◌, ◌∷◌, ◌≡◌}
 use Rattle.std.proofs.lemmas.Bool.{cases_eq}
@@ -48,10 +59,18 @@ use Rattle.machine_laws.proofs.AtBoot.Born.{born_row, each_born}
 use Rattle.state_rows.specs.declared.thread.Stage.{Stage}
 use Rattle.machine_safe.proofs.Deaths.Runs.{dies-next}
 
+-- proper moves of an action that pass a thread by: it isn't the one that goes on, and isn't doomed
+pub record Passes (script : Script) (S : State) (t : ObjNo) (ms : List Move) (u : ObjNo) : Type 0 where
+  pub fits : EachFits script t ms S
+  pub by : Going
+  pub proper : AreProper script by ms
+  pub apart : goes_on by ≡ Some u → ⊥
+  pub undoomed : total (doomed_bit u) ms ≡ 0
+
 -- A fact that is due at some steps, all of them later ones of their instructions: moves that carry a thread leave it, and so does a payment.
 pub record IsFact (script : Script) (due : Option Instr → Option Part → Bool) (F : State → ObjNo → ThreadRow → Type 0) : Type 0 where
   pub later : (i : Option Instr) (p : Option Part) → due i p ≡ true → is_some p ≡ true
-  pub carried : (S : State) (t : ObjNo) (ms : List Move) → AreRows script S → EachFits script t ms S → (u : ObjNo) (row : ThreadRow) (c : Carries S (perform t ms S) u row) → F S u c.mid.old → F (perform t ms S) u row
+  pub carried : (S : State) (t : ObjNo) (ms : List Move) → AreRows script S → (u : ObjNo) (row : ThreadRow) (c : Carries S (perform t ms S) u row) → Passes script S t ms u → F S u c.mid.old → F (perform t ms S) u row
   pub paid : (S : State) (t : ObjNo) (what : Owed) (u : ObjNo) (row : ThreadRow) (mid : WasMidway S.references.threads u.0 row) → F S u mid.old → F (moved t (Pay what) S) u row
 
 -- it holds wherever it is due
@@ -92,15 +111,15 @@ live-row threads u (Some row) e one = by row.stage refl one
     by Cleaned at one = absurd (omega arith)
     by Buried at one = absurd (omega arith)
 
+live-one : (x : Option ThreadRow) → row_bit stage_live x ≤ 1
+live-one x = let a = live-left x in let b = left-held x in let c = held-one x in omega arith
+
 lived-next : (script : Script) (S : State) (actor : Actor) → IsShaped script → AreRows script S → Lived S (next script S actor)
 lived-next script S actor shaped rows u row is live =
     let dies = (dies-next script S actor shaped rows).live u in
     let one : row_bit stage_live (thread_of (next script S actor) u) ≡ 1 = ap (row_bit stage_live) is ∙ ap stage_live live in
     let few = live-one (thread_of S u) in
     live-row S.references.threads u (thread_of S u) refl (omega arith)
-  where
-    live-one : (x : Option ThreadRow) → row_bit stage_live x ≤ 1
-    live-one x = let a = live-left x in let b = left-held x in let c = held-one x in omega arith
 
 -- it holds of the acting thread after a decision
 abbrev pub FactThen : Script → (Option Instr → Option Part → Bool) → (State → ObjNo → ThreadRow → Type 0) → State → ObjNo → Decision → Type 0
@@ -112,12 +131,16 @@ pub record StepsGive (script : Script) (due : Option Instr → Option Part → B
   pub returns : (old : ThreadRow) (i : Instr) → thread_of S t ≡ Some old → old.stage ≡ Live → is_returning old.part ≡ true → instruction script old ≡ Some i → (due (Some i) old.part ≡ true → F S t old) → FitsAction looking script S t (return_of S t old i) → FactThen script due F S t (return_of S t old i)
 
 module _ (script : Script) (due : Option Instr → Option Part → Bool) (F : State → ObjNo → ThreadRow → Type 0) (fact : IsFact script due F) (S : State) (rows : AreRows script S) (has : Facts script due F S) where
-  pub fact-carried : (t : ObjNo) (ms : List Move) → EachFits script t ms S → (u : ObjNo) (row : ThreadRow) → (t.0 ≡ u.0 → total going_bit ms ≡ 0) → thread_of (perform t ms S) u ≡ Some row → row.stage ≡ Live → due (instruction script row) row.part ≡ true → F (perform t ms S) u row
-  fact-carried t ms fits u row stays is live owes =
-      let c = carries-each script S t ms fits u row stays (fact.later (instruction script row) row.part owes) is in
+  pub fact-carried : (t : ObjNo) (ms : List Move) → IsGoing script S t ms → (by : Going) → AreProper script by ms → (u : ObjNo) (row : ThreadRow) → (goes_on by ≡ Some u → ⊥) → (t.0 ≡ u.0 → total going_bit ms ≡ 0) → thread_of (perform t ms S) u ≡ Some row → row.stage ≡ Live → due (instruction script row) row.part ≡ true → F (perform t ms S) u row
+  fact-carried t ms goes by proper u row apart stays is live owes =
+      let c = carries-each script S t ms goes.each u row stays (fact.later (instruction script row) row.part owes) is in
+      let lives = (each-dies script S t ms goes.each goes.few goes.sane).live u in
+      let one = ap (row_bit stage_live) is ∙ ap stage_live live in
+      let few = live-one (thread_of S u) in
+      let told = doom-told t ms S u in
       let at : instruction script row ≡ instruction script c.mid.old = same-instruction script c.mid.old row c.mid.role (sym c.mid.place) in
       let before : due (instruction script c.mid.old) c.mid.old.part ≡ true = ap (due (instruction script c.mid.old)) c.mid.part ∙ (ap (λ (i : Option Instr). due i row.part) (sym at) ∙ owes) in
-      fact.carried S t ms rows fits u row c (has u c.mid.old c.mid.was (c.mid.live live) before)
+      fact.carried S t ms rows u row c (record { fits = goes.each; by = by; proper = proper; apart = apart; undoomed = omega arith }) (has u c.mid.old c.mid.was (c.mid.live live) before)
 
   -- what is owed is paid
   fact-paid : (t : ObjNo) (what : Owed) (u : ObjNo) (row : ThreadRow) → thread_of (moved t (Pay what) S) u ≡ Some row → row.stage ≡ Live → due (instruction script row) row.part ≡ true → F (moved t (Pay what) S) u row
@@ -162,7 +185,7 @@ module _ (script : Script) (due : Option Instr → Option Part → Bool) (F : St
       let so : due (instruction script row) p ≡ true = ap (due (instruction script row)) (sym (part row is)) ∙ owes in absurd (cc)
 
   pub idle-fact : (t : ObjNo) → Then t nothing
-  idle-fact t row is live owes = fact-carried t [] tt t row (λ _. refl) is live owes
+  idle-fact t row is live owes = fact-carried t [] (record { sane = record { rows = rows; inside = inside S.references.threads t.0 row is }; each = tt; few = let few = rows.references.duties.few t.0 in omega arith }) None tt t row (λ e. absurd (cc)) (λ _. refl) is live owes
 
   -- a doomed thread lives on no more
   dead-fact : (t : ObjNo) (d : Decision) → IsAtStage S t Doomed → LivedBefore t d → Then t d
@@ -171,13 +194,16 @@ module _ (script : Script) (due : Option Instr → Option Part → Bool) (F : St
       let same : before.row ≡ at.row = (let a = before.is in let b = at.is in cc) in
       let both : Live ≡ Doomed = sym before.live ∙ (ap (λ (r : ThreadRow). r.stage) same ∙ at.at) in absurd (cc)
 
-  staying-fact : {k : Kinds} (t : ObjNo) (d : Decision) → k.goes ≡ false → FitsAction k script S t d → Then t d
-  staying-fact t d stays fits row is live owes = fact-carried t d.moves fits.goes.each t row (λ _. fits.regular.goes stays) is live owes
+  pub going-of : {k : Kinds} {t : ObjNo} {d : Decision} → FitsAction k script S t d → (row : ThreadRow) → thread_of (perform t d.moves S) t ≡ Some row → IsGoing script S t d.moves
+  going-of {t = t} {d = d} fits row is = let w = at-each script S t d.moves fits.goes.each t.0 row is in record { sane = record { rows = rows; inside = inside S.references.threads t.0 w.old w.was }; each = fits.goes.each; few = fits.goes.few }
+
+  staying-fact : {k : Kinds} (t : ObjNo) (d : Decision) → k.goes ≡ false → AreProper script None d.moves → FitsAction k script S t d → Then t d
+  staying-fact t d stays proper fits row is live owes = fact-carried t d.moves (going-of fits row is) None proper t row (λ e. absurd (cc)) (λ _. fits.regular.goes stays) is live owes
 
   give-fact : (t : ObjNo) (old : ThreadRow) (what : Holding) → IsGiven S t what → FitsAction (kind_given what) script S t (give_up S t old what) → LivedBefore t (give_up S t old what) → Then t (give_up S t old what)
   give-fact t old (holding.Handle h o) given fits lived = dead-fact t (give_up S t old (holding.Handle h o)) given.1 lived
   give-fact t old (holding.Use o) given fits lived = dead-fact t (give_up S t old (holding.Use o)) given lived
-  give-fact t old what given fits lived = staying-fact t (give_up S t old what) refl fits
+  give-fact t old what given fits lived = staying-fact t (give_up S t old what) refl (proper-give script S t old what) fits
 
   -- the row of one that lived
   live-before : (t : ObjNo) (old : ThreadRow) → thread_of S t ≡ Some old → IsLiveThread S.references.threads t → old.stage ≡ Live
@@ -185,53 +211,67 @@ module _ (script : Script) (due : Option Instr → Option Part → Bool) (F : St
       let same : before.row ≡ old = (let a = before.is in cc) in
       ap (λ (r : ThreadRow). r.stage) (sym same) ∙ before.live
 
+  step-fact : (t : ObjNo) (old : ThreadRow) (i : Instr) → StepsGive script due F S t → thread_of S t ≡ Some old → old.stage ≡ Live → is_returning old.part ≡ false → instruction script old ≡ Some i → FitsAction (kind_of i old.part) script S t (step_of script S t old i old.part) → Then t (step_of script S t old i old.part)
+  step-fact t old i gives is live going at fits = gives.steps old i is live going at (λ owes. has t old is live (ap (λ (x : Option Instr). due x old.part) at ∙ owes)) fits
+
+  return-fact : (t : ObjNo) (old : ThreadRow) (i : Instr) → StepsGive script due F S t → thread_of S t ≡ Some old → is_returning old.part ≡ true → instruction script old ≡ Some i → FitsAction looking script S t (return_of S t old i) → LivedBefore t (return_of S t old i) → Then t (return_of S t old i)
+  return-fact t old i gives is back at fits lived row there live owes =
+      let lives = live-before t old is (lived row there live) in
+      gives.returns old i is lives back at (λ needs. has t old is lives (ap (λ (x : Option Instr). due x old.part) at ∙ needs)) fits row there live owes
+
+  -- whoever plainly does what is a step of its instruction, too, makes that
+  plain-fact : (t : ObjNo) (d : Decision) → StepsGive script due F S t → FitsAction plain script S t d → Proceeding script S t d → LivedBefore t d → Then t d
+  plain-fact t d gives fits (properly proper) lived = staying-fact t d refl proper fits
+  plain-fact t d gives fits (steps old i is live going at e) lived = subst (Then t) (sym e) (step-fact t old i gives is live going at (subst (FitsAction (kind_of i old.part) script S t) e (fits-any fits)))
+  plain-fact t d gives fits (returns old i is back at e) lived = subst (Then t) (sym e) (return-fact t old i gives is back at (subst (FitsAction looking script S t) e (fits-any fits)) (subst (LivedBefore t) e lived))
+
   own-fact : (t : ObjNo) → IsShaped script → StepsGive script due F S t → LivedBefore t (decision_of script S t) → Then t (decision_of script S t)
-  own-fact t shaped gives = each-action script S t (λ (d : Decision). LivedBefore t d → Then t d) (record {
-    plainly = λ d why fits lived. staying-fact t d refl fits;
-    steps = λ old i is live going at fits lived. gives.steps old i is live going at (λ owes. has t old is live (ap (λ (x : Option Instr). due x old.part) at ∙ owes)) fits;
-    returns = λ old i is back at fits lived row there live owes. let lives = live-before t old is (lived row there live) in gives.returns old i is lives back at (λ needs. has t old is lives (ap (λ (x : Option Instr). due x old.part) at ∙ needs)) fits row there live owes;
-    gives = λ old what given fits lived. give-fact t old what given fits lived;
-    pays = λ what rest owed lived row is live owes. fact-paid t what t row is live owes;
-  }) shaped rows
+  own-fact t shaped gives = each-action script S t (λ (d : Decision). Proceeding script S t d → LivedBefore t d → Then t d) (record {
+    plainly = λ d why fits proceeds lived. plain-fact t d gives fits proceeds lived;
+    steps = λ old i is live going at fits proceeds lived. step-fact t old i gives is live going at fits;
+    returns = λ old i is back at fits proceeds lived. return-fact t old i gives is back at fits lived;
+    gives = λ old what given fits proceeds lived. give-fact t old what given fits lived;
+    pays = λ what rest owed proceeds lived row is live owes. fact-paid t what t row is live owes;
+  }) shaped rows (proceeding script S t shaped rows)
 
   -- another thread's action
-  others-fact : (t : ObjNo) (ms : List Move) → Doing script S t ms → (u : ObjNo) (row : ThreadRow) → (t.0 ≡ u.0 → ⊥) → thread_of (perform t ms S) u ≡ Some row → row.stage ≡ Live → due (instruction script row) row.part ≡ true → F (perform t ms S) u row
-  others-fact t ms does u row apart is live owes = elim does as (λ _. F (perform t ms S) u row) [
-    | inl goes ↦ fact-carried t ms goes.each u row (λ at. absurd (apart at)) is live owes
+  others-fact : (t : ObjNo) (ms : List Move) → Doing script S t ms → AreProper script (stepping S t) ms → (u : ObjNo) (row : ThreadRow) → (t.0 ≡ u.0 → ⊥) → thread_of (perform t ms S) u ≡ Some row → row.stage ≡ Live → due (instruction script row) row.part ≡ true → F (perform t ms S) u row
+  others-fact t ms does proper u row apart is live owes = elim does as (λ _. F (perform t ms S) u row) [
+    | inl goes ↦ fact-carried t ms goes (stepping S t) proper u row (λ e. let own : t ≡ u = cc in apart (ap (λ (x : ObjNo). x.0) own)) (λ at. absurd (apart at)) is live owes
     | inr other ↦ elim other as (λ _. F (perform t ms S) u row) [
       | inl pays ↦ subst (λ (l : List Move). F (perform t l S) u row) (sym pays.moves) (fact-paid t pays.what u row (ap (λ (l : List Move). thread_of (perform t l S) u) (sym pays.moves) ∙ is) live owes)
       | inr none ↦ subst (λ (l : List Move). F (perform t l S) u row) (sym none) (has u row (ap (λ (l : List Move). thread_of (perform t l S) u) (sym none) ∙ is) live owes)
     ]
   ]
 
-  decision-fact : (t : ObjNo) → IsShaped script → StepsGive script due F S t → Lived S (perform t (decision_of script S t).moves S) → Facts script due F (perform t (decision_of script S t).moves S)
-  decision-fact t shaped gives lived u row is live owes = elim (cases_eq t.0 u.0) as (λ _. F (perform t (decision_of script S t).moves S) u row) [
-    | inr apart ↦ others-fact t (decision_of script S t).moves (doing script S t shaped rows) u row apart is live owes
+  decision-fact : (t : ObjNo) → IsShaped script → AreProper script (stepping S t) (decision_of script S t).moves → StepsGive script due F S t → Lived S (perform t (decision_of script S t).moves S) → Facts script due F (perform t (decision_of script S t).moves S)
+  decision-fact t shaped proper gives lived u row is live owes = elim (cases_eq t.0 u.0) as (λ _. F (perform t (decision_of script S t).moves S) u row) [
+    | inr apart ↦ others-fact t (decision_of script S t).moves (doing script S t shaped rows) proper u row apart is live owes
     | inl at ↦
         let same = same_object t u at in
         subst (λ (x : ObjNo). F (perform t (decision_of script S t).moves S) x row) same
         (own-fact t shaped gives (λ r there alive. lived t r there alive) row (ap (λ (n : ℕ). get_or (perform t (decision_of script S t).moves S).references.threads n None) at ∙ is) live owes)
   ]
 
-  act-fact : (t : ObjNo) → IsShaped script → StepsGive script due F S t → Lived S (act script S t).state → Facts script due F (act script S t).state
+  act-fact : (t : ObjNo) → IsShaped script → AreProper script (stepping S t) (decision_of script S t).moves → StepsGive script due F S t → Lived S (act script S t).state → Facts script due F (act script S t).state
   unfolding act
-  act-fact t shaped gives lived = decision-fact t shaped gives lived
+  act-fact t shaped proper gives lived = decision-fact t shaped proper gives lived
 
   interrupt-fact : (k : ℕ) → IsShaped script → Facts script due F (interrupt script S k).state
   unfolding interrupt
-  interrupt-fact k shaped u row is live owes = let light = light-interrupt script S k shaped rows in fact-carried supervisor _ light.each u row (λ _. light.calm.goes refl) is live owes
+  interrupt-fact k shaped u row is live owes = let light = light-interrupt script S k shaped rows in let goes = goes-interrupt script S k shaped rows in fact-carried supervisor _ (record { sane = sane-supervisor script S rows; each = light.each; few = goes.few }) None (proper-body script supervisor S (Interrupt k)) u row (λ e. absurd (cc)) (λ _. light.calm.goes refl) is live owes
 
-  immediate-fact : IsShaped script → Facts script due F (immediate script S).state
+  immediate-fact : IsShaped script → IsProperly script S → Facts script due F (immediate script S).state
   unfolding immediate
-  immediate-fact shaped u row is live owes = let light = light-immediate script S (next_immediate S.synchronization.deferred) shaped rows refl in fact-carried supervisor _ light.each u row (λ _. light.calm.goes refl) is live owes
+  immediate-fact shaped are u row is live owes = let light = light-immediate script S (next_immediate S.synchronization.deferred) shaped rows refl in let goes = goes-immediate script S (next_immediate S.synchronization.deferred) shaped rows refl in fact-carried supervisor _ (record { sane = sane-supervisor script S rows; each = light.each; few = goes.few }) None are.immediate u row (λ e. absurd (cc)) (λ _. light.calm.goes refl) is live owes
 
   -- each action leaves it
-  pub next-fact : IsShaped script → ((t : ObjNo) → StepsGive script due F S t) → (actor : Actor) → Facts script due F (next script S actor)
-  next-fact shaped gives (Thread t) = act-fact t shaped (gives t) (lived-next script S (Thread t) shaped rows)
-  next-fact shaped gives (Irq k) = interrupt-fact k shaped
-  next-fact shaped gives Idfc = immediate-fact shaped
-  next-fact shaped gives Tick = has
-  next-fact shaped gives Idle = has
+  pub next-fact : IsShaped script → IsProperly script S → ((t : ObjNo) → StepsGive script due F S t) → (actor : Actor) → Facts script due F (next script S actor)
+  next-fact shaped are gives (Thread t) = act-fact t shaped (are.acts t) (gives t) (lived-next script S (Thread t) shaped rows)
+  next-fact shaped are gives (Irq k) = interrupt-fact k shaped
+  next-fact shaped are gives Idfc = immediate-fact shaped are
+  next-fact shaped are gives Tick = has
+  next-fact shaped are gives Idle = has
 
 -- at boot it isn't due
 pub boot-fact : (shared : Bool) (script : Script) (due : Option Instr → Option Part → Bool) (F : State → ObjNo → ThreadRow → Type 0) → IsFact script due F → IsShaped script → Facts script due F (boot_in shared script)

@@ -1,0 +1,114 @@
+-- What is asked for the next action of each thread stands after each action: nothing is lacking.
+use Rattle.machine.specs.Boot.{born_process}
+use Rattle.machine_laws.proofs.AtBoot.Declared.{all-append, all_processes, all_threads}
+use Rattle.std.proofs.Common.{Bool, List, None, Option, Some, [], ap, false, get_or, length, refl, sym, true, zero, suc, ℕ, ◌+◌, ◌∙◌, ◌∷◌, ◌≡◌}
+use Rattle.std.specs.List.{AllByRecursion}
+use Rattle.std.specs.Prelude.{is_some, map}
+use Rattle.sym_base.specs.declared.kind.Kind.TheVariants as kind
+use Rattle.sym_base.specs.declared.limits.TheConstants.Limits.{OBJECTS}
+use Rattle.sym_base.specs.declared.number.ObjNo.{ObjNo}
+use Rattle.script_types.specs.Shape.{IsShaped}
+use Rattle.script_types.specs.declared.declaration.QueueDecl.{QueueDecl}
+use Rattle.script_types.specs.declared.declaration.ThreadDecl.{ThreadDecl}
+use Rattle.script_types.specs.declared.script.Script.{Script}
+use Rattle.entry_log.specs.declared.entry.Actor.{Actor}
+use Rattle.state_rows.specs.declared.object.ObjectRow.{ObjectRow}
+use Rattle.state_rows.specs.declared.servers.ServerRow.{ServerRow}
+use Rattle.machine.specs.Boot.{boot_in, boot_of, born, born_kernel, born_processes, born_queues, born_thread, born_threads}
+use Rattle.machine.specs.History.{keeping, next}
+use Rattle.machine.specs.WellFormed.{AreRows}
+use Rattle.machine.specs.declared.boot.Born.{Born}
+use Rattle.machine.specs.declared.state.State.{State}
+use Rattle.machine_safe.proofs.Serving.Called.{AreCalled, Called, called-boot, called-kept}
+use Rattle.machine_safe.proofs.Serving.Course.{needs_use}
+use Rattle.machine_safe.proofs.Serving.Kinds.{AreKinds, KindsBefore, has_server, kinds-kept}
+use Rattle.machine_safe.proofs.Serving.Later.{Facts}
+use Rattle.machine_safe.proofs.Serving.Met.{MetAt, asked, met-boot, met-by, met-kept, met-next}
+use Rattle.machine_safe.proofs.Serving.Proceeding.{IsProperly}
+use Rattle.machine_safe.proofs.Serving.Proper.{is_kind}
+use Rattle.machine_safe.proofs.Serving.ProperKept.{proper-next}
+use Rattle.machine_safe.proofs.Serving.Properly.{are-properly}
+use Rattle.machine_safe.proofs.Serving.Straight.{Nowhere, straight-boot, straight-next, straying}
+use Rattle.machine_safe.proofs.Serving.Using.{UsesOne, used-boot, used-next}
+use Rattle.move_laws.proofs.Lists.Copies.{copy_at}
+
+pub record IsSteady (script : Script) (S : State) : Type 0 where
+  pub straight : Facts script straying Nowhere S
+  pub used : Facts script needs_use UsesOne S
+  pub met : Facts script asked (MetAt script) S
+  pub called : AreCalled script S.synchronization.deferred
+  pub kinds : AreKinds S
+
+-- so the moves of the next action are proper
+pub steady-properly : (script : Script) (S : State) → IsShaped script → AreRows script S → IsSteady script S → IsProperly script S
+steady-properly script S shaped rows s = are-properly script S shaped rows s.straight s.called
+
+pub steady-next : (script : Script) (S : State) → IsShaped script → AreRows script S → IsSteady script S → (actor : Actor) → IsSteady script (next script S actor)
+steady-next script S shaped rows s actor =
+    let properly = steady-properly script S shaped rows s in
+    record {
+      straight = straight-next script S shaped rows properly s.straight actor;
+      used = used-next script S shaped rows properly s.straight s.used actor;
+      met = met-next script S shaped rows properly s.straight s.met actor;
+      called = proper-next script (Called script) (λ by S ms. Called script S) (called-kept script) S actor shaped rows properly s.called;
+      kinds = proper-next script AreKinds KindsBefore (kinds-kept script) S actor shaped rows properly s.kinds;
+    }
+
+-- it is asked of no choice
+pub steady-keeping : (script : Script) (S : State) (keep : Bool) → IsSteady script S → IsSteady script (keeping keep S)
+steady-keeping script S keep s = record {
+  straight = λ u row is live due. s.straight u row is live due;
+  used = λ u row is live due. s.used u row is live due;
+  met = λ u row is live due. met-by script S (keeping keep S) u row row refl (λ i met. met-kept S (keeping keep S) u row row i refl refl refl (λ x unset. unset) (λ is. is) (λ k o of_kind. of_kind) met) (s.met u row is live due);
+  called = s.called;
+  kinds = record { servers = λ o row is. s.kinds.servers o row is; threads = λ o row is thread. s.kinds.threads o row is thread; unmade = λ o past. s.kinds.unmade o past };
+}
+
+-- at boot there are processes and threads alone
+abbrev IsPlain : Born → Type 0
+IsPlain b = (is_kind kind.Server b.object.kind ≡ false) × (is_kind kind.Thread b.object.kind ≡ true → is_some b.thread ≡ true)
+
+plain_thread : (p k : ℕ) (d : ThreadDecl) → IsPlain (born_thread p k d)
+plain_thread p k d = (refl, λ e. refl)
+
+plain_process : (name : List ℕ) → IsPlain (born_process name)
+plain_process name = (refl, λ e. absurd (cc))
+
+plain_queues : (q : ℕ) (ds : List QueueDecl) → AllByRecursion IsPlain (born_queues q ds)
+plain_queues q [] = tt
+plain_queues q (d ∷ ds) = ((refl, λ e. refl), plain_queues (q + 1) ds)
+
+plain_born : (script : Script) → AllByRecursion IsPlain (born script)
+plain_born script =
+    let queues = born_queues 1 script.queues in
+    let own = born_threads None 0 0 script.threads in
+    let first = length (born_kernel script) in
+    all-append IsPlain (born_kernel script) (born_processes script.threads 0 first script.processes)
+    ((refl, λ e. absurd (cc)), ((refl, λ e. refl), all-append IsPlain queues own (plain_queues 1 script.queues) (all_threads IsPlain plain_thread None 0 0 script.threads)))
+    (all_processes IsPlain plain_thread plain_process script.threads 0 first script.processes)
+
+plain_at : (bs : List Born) (k : ℕ) (row : ObjectRow) → AllByRecursion IsPlain bs → get_or (map (λ b. Some b.object) bs) k None ≡ Some row → (is_kind kind.Server row.kind ≡ false) × (is_kind kind.Thread row.kind ≡ true → is_some (get_or (map (λ b. b.thread) bs) k None) ≡ true)
+plain_at [] k row all is = absurd (cc)
+plain_at (b ∷ bs) zero row all is = let same : b.object ≡ row = cc in (ap (λ (x : ObjectRow). is_kind kind.Server x.kind) (sym same) ∙ all.0.0, λ thread. all.0.1 (ap (λ (x : ObjectRow). is_kind kind.Thread x.kind) same ∙ thread))
+plain_at (b ∷ bs) (suc k) row all is = plain_at bs k row all.1 is
+
+no-server : (shared : Bool) (script : Script) (o : ObjNo) → has_server (boot_in shared script) o ≡ false
+unfolding boot_of
+no-server shared script o = ap is_some (copy_at {A = Option ServerRow} None OBJECTS o.0)
+
+kinds-boot : (shared : Bool) (script : Script) → AreKinds (boot_in shared script)
+unfolding boot_of
+kinds-boot shared script = record {
+  servers = λ o row is. let plain = plain_at (born script) o.0 row (plain_born script) is in no-server shared script o ∙ sym plain.0;
+  threads = λ o row is thread. let plain = plain_at (born script) o.0 row (plain_born script) is in plain.1 thread;
+  unmade = λ o past. no-server shared script o;
+}
+
+pub steady-boot : (shared : Bool) (script : Script) → IsShaped script → IsSteady script (boot_in shared script)
+steady-boot shared script shaped = record {
+  straight = straight-boot shared script shaped;
+  used = used-boot shared script shaped;
+  met = met-boot shared script shaped;
+  called = called-boot shared script;
+  kinds = kinds-boot shared script;
+}
