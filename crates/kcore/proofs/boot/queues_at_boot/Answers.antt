@@ -1,3 +1,4 @@
+use Rattle.std.proofs.Common.{false}
 use Rattle.script_types.proofs.ShapeLaws.{formed_is_shaped}
 use Rattle.machine.specs.Boot.{boot, ready_at_boot}
 use Rattle.machine_laws.proofs.AtBoot.BootRows.{well_formed-boot}
