@@ -1,6 +1,6 @@
 -- The plain machine after one more entry.
 use Rattle.std.proofs.Common.{◌≡◌, ℕ, ◌+◌, ◌≤◌, Bool, true, false, List, [], ◌∷◌, ◌++◌, length, get_or, arith, ap, subst, sym, ◌∙◌, inl, inr, refl}
-use Rattle.std.proofs.lemmas.Bool.{cases_lt}
+use Rattle.std.proofs.lemmas.Bool.{cases_lt, eqb-true}
 use Rattle.std.specs.Prelude.{Contains, IsTrue, nat_eq, ◌||◌}
 use Rattle.std.proofs.lemmas.List.{get_or_past}
 use Rattle.std.proofs.lemmas.List.Elements.{All-weaker, All-contains_itself}
@@ -22,7 +22,7 @@ use Rattle.machine.specs.declared.state.State.{State}
 use Rattle.machine.specs.Arrived.{arrived_by_entry, arrived_in, arrived_next}
 use Rattle.machine.specs.Boot.{boot, boot_in, ready_at_boot}
 use Rattle.machine.specs.History.{after_in, choosing, entry_by, is_deathless, keeping, next, next_by, CanAct, IsLegalIn, IsNext}
-use Rattle.plain_machine.specs.PlainView.{IsPlain}
+use Rattle.plain_machine.specs.PlainView.{IsPlain, PlainView}
 use Rattle.plain_machine.specs.Allowed.{IsSmall, TellsFew, AllowsAction}
 use Rattle.state_rows.specs.Deferred.{next_immediate}
 use Rattle.machine.specs.declared.plan.Body.TheVariants.{Interrupt}
@@ -128,6 +128,19 @@ alone_plain script history S qs plain alone = record {
   ready = plain.ready ∙ ap (λ (b : Bool). arrived_in b script history) alone;
 }
 
+-- the actor of a slot is the definitions', and so is its entry
+alone_actor : (script : Script) (history : List Entry) (S : State) (qs : List ObjNo) (slot : Slot) → IsAlone script history S qs → slot_actor S qs slot ≡ slot_actor (after_in false script history) (arrived_in false script history) slot
+alone_actor script history S qs slot alone = ap (λ (s : State). slot_actor s qs slot) alone.state ∙ ap (λ (l : List ObjNo). slot_actor (after_in false script history) l slot) alone.ready
+
+alone_told : (script : Script) (history : List Entry) (S : State) (qs : List ObjNo) (slot : Slot) (place : ℕ) (e : Entry) → IsAlone script history S qs → place ≡ length history + 1 → e ≡ entry_by script S place (slot_actor S qs slot)
+    → e ≡ entry_by script (after_in false script history) (length history + 1) (slot_actor (after_in false script history) (arrived_in false script history) slot)
+alone_told script history S qs slot place e alone at told =
+    told ∙ (ap (λ (n : ℕ). entry_by script S n (slot_actor S qs slot)) at ∙ (ap (λ (s : State). entry_by script s (length history + 1) (slot_actor S qs slot)) alone.state ∙ ap (entry_by script (after_in false script history) (length history + 1)) (alone_actor script history S qs slot alone)))
+
+pub slot_told : (script : Script) (history : List Entry) (S : State) (qs : List ObjNo) (slot : Slot) (place : ℕ) (e : Entry) → IsPlain script history S qs → S.mode.shared ≡ false → place ≡ length history + 1 → e ≡ entry_by script S place (slot_actor S qs slot)
+    → e ≡ entry_by script (after_in false script history) (length history + 1) (slot_actor (after_in false script history) (arrived_in false script history) slot)
+slot_told script history S qs slot place e plain whole at told = alone_told script history S qs slot place e (alone_plain script history S qs plain whole) at told
+
 -- it goes on by what the actor of a slot does
 pub plain_goes_on : (script : Script) (history new : List Entry) (S T : State) (qs list : List ObjNo) (slot : Slot) (place : ℕ) (e : Entry)
     → IsDeclared script slot → IsPlain script history S qs → S.mode.shared ≡ false → place ≡ length history + 1
@@ -139,9 +152,9 @@ plain_goes_on script history new S T qs list slot place e declared plain whole a
     let Q = arrived_in false script history in
     let actor = slot_actor A Q slot in
     let first = entry_by script A (length history + 1) actor in
-    let acts : slot_actor S qs slot ≡ actor = ap (λ (s : State). slot_actor s qs slot) alone.state ∙ ap (λ (l : List ObjNo). slot_actor A l slot) alone.ready in
+    let acts : slot_actor S qs slot ≡ actor = alone_actor script history S qs slot alone in
     let same : choosing first A ≡ A = choosing-alone A first (shared-after script (boot_in false script) history) (unkept-after script (boot_in false script) history refl refl) in
-    let is : e ≡ first = told ∙ (ap (λ (n : ℕ). entry_by script S n (slot_actor S qs slot)) at ∙ (ap (λ (s : State). entry_by script s (length history + 1) (slot_actor S qs slot)) alone.state ∙ ap (entry_by script A (length history + 1)) acts)) in
+    let is : e ≡ first = alone_told script history S qs slot place e alone at told in
     plain_pushed false script history new T list first plain.valid alone.legal (record {
       able = slot_can script A Q slot declared (well_formed-after false script history plain.valid);
       told = ap (λ (s : State). entry_by script s (length history + 1) actor) (sym same);
@@ -149,6 +162,10 @@ plain_goes_on script history new S T qs list slot place e declared plain whole a
     (did ∙ (ap (λ (s : State). next script s (slot_actor S qs slot)) alone.state ∙ (ap (next script A) acts ∙ ap (λ (s : State). next script s actor) (sym same))))
     (left ∙ (ap (λ (s : State). arrived_next script s (slot_actor S qs slot) qs) alone.state ∙ (ap (λ (a : Actor). arrived_next script A a qs) acts ∙ (ap (arrived_next script A actor) alone.ready ∙ ap (λ (s : State). arrived_next script s actor Q) (sym same)))))
     (pushed ∙ ap (λ (x : Entry). history ++ x ∷ []) is)
+
+-- and callers still don't share the kernel
+pub slot_whole : (script : Script) (S T : State) (actor : Actor) → S.mode.shared ≡ false → T ≡ next script S actor → T.mode.shared ≡ false
+slot_whole script S T actor whole did = ap (λ (s : State). s.mode.shared) did ∙ (ap (λ (m : Mode). m.shared) (mode-next script S actor) ∙ whole)
 
 -- a machine on which callers may share the kernel, in a state with a choice
 abbrev pub choice_made : Bool → State → State
@@ -158,6 +175,10 @@ pub record IsSplit (script : Script) (history : List Entry) (S : State) (qs : Li
   pub legal : IsLegalIn true script history
   pub state : (keep : Bool) → choice_made keep S ≡ keeping keep (after_in true script history)
   pub ready : qs ≡ arrived_in true script history
+
+-- a list that has an item isn't empty
+not_empty : (e : Entry) (rest : List Entry) → IsTrue (nat_eq (length (e ∷ rest)) 0) → ⊥
+not_empty e rest empty = let none : length (e ∷ rest) ≡ 0 = eqb-true (length (e ∷ rest)) 0 empty in omega arith
 
 split_plain : (shared : Bool) (script : Script) (history : List Entry) (S : State) (qs : List ObjNo) → IsPlain script history S qs → S.mode.shared ≡ shared → IsTrue (shared || nat_eq (length history) 0) → IsSplit script history S qs
 split_plain true script history S qs plain mode split =
@@ -169,10 +190,14 @@ split_plain true script history S qs plain mode split =
       ready = plain.ready ∙ ap (λ (b : Bool). arrived_in b script history) mode;
     }
 split_plain false script [] S qs plain mode split = record { legal = tt; state = λ keep. ap (choice_made keep) plain.state; ready = plain.ready }
-split_plain false script (x ∷ xs) S qs plain mode split = absurd (cc)
+split_plain false script (x ∷ xs) S qs plain mode split = absurd (not_empty x xs split)
 
-pub split_of : (script : Script) (history : List Entry) (S : State) (qs : List ObjNo) → IsPlain script history S qs → IsTrue (S.mode.shared || nat_eq (length history) 0) → IsSplit script history S qs
-split_of script history S qs plain split = split_plain S.mode.shared script history S qs plain refl split
+-- what a caller sees of the machine says so
+abbrev pub MayBeSplit : PlainView → Type 0
+MayBeSplit v = IsTrue (v.shared || nat_eq (length v.history) 0)
+
+pub split_of : (script : Script) (history : List Entry) (S : State) (qs : List ObjNo) (v : PlainView) → IsPlain script history S qs → record { script = script; history = history; shared = S.mode.shared } ≡ v → MayBeSplit v → IsSplit script history S qs
+split_of script history S qs v plain seen split = split_plain S.mode.shared script history S qs plain refl (subst MayBeSplit (sym seen) split)
 
 -- such a state is well-formed with the ready list
 pub formed_split : (script : Script) (history : List Entry) (S : State) (qs : List ObjNo) (keep : Bool) → IsWellFormedScript script → IsSplit script history S qs → IsWellFormed script (choice_made keep S) qs
@@ -215,6 +240,14 @@ plain_shares script history new S T qs list actor keep place e valid split able 
 -- and callers share the kernel from then on
 pub shares_mode : (script : Script) (S T : State) (actor : Actor) (keep : Bool) → T ≡ next script (choice_made keep S) actor → T.mode.shared ≡ true
 shares_mode script S T actor keep did = ap (λ (s : State). s.mode.shared) did ∙ ap (λ (m : Mode). m.shared) (mode-next script (choice_made keep S) actor)
+
+-- what happened so far is a shared history then
+pub shares_legal : (script : Script) (history new : List Entry) (S T : State) (qs list : List ObjNo) (actor : Actor) (keep : Bool) (place : ℕ) (e : Entry)
+    → IsWellFormedScript script → IsSplit script history S qs → CanAct script (choice_made keep S) actor → place ≡ length history + 1
+    → T ≡ next script (choice_made keep S) actor → list ≡ arrived_next script (choice_made keep S) actor qs → e ≡ entry_by script (choice_made keep S) place actor → new ≡ history ++ e ∷ []
+    → IsLegalIn true script new
+shares_legal script history new S T qs list actor keep place e valid split able at did left told pushed =
+    subst (λ (b : Bool). IsLegalIn b script new) (shares_mode script S T actor keep did) (plain_shares script history new S T qs list actor keep place e valid split able at did left told pushed).legal
 
 -- at boot nothing has happened, and callers don't share the kernel
 pub plain_boot : (script : Script) (S : State) (qs : List ObjNo) → IsWellFormedScript script → S ≡ boot script → qs ≡ ready_at_boot script → IsPlain script [] S qs

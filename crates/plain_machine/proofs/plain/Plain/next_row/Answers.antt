@@ -1,4 +1,9 @@
+use Rattle.std.proofs.Common.{subst}
+use Rattle.machine.specs.FinalRows.{rows_from, IsNextRow}
+use Rattle.machine.specs.History.{after_in}
+use Rattle.machine.specs.declared.state.State.{State}
 use Rattle.move_laws.proofs.Numbers.CountSmall.{count_small}
+use Rattle.plain_machine.specs.PlainView.{PlainView}
 use Rattle.plain_machine.proofs.Steps.{formed_plain}
 use Rattle.plain_machine.proofs.plain.Plain.next_row.Goals as goal
 
@@ -9,3 +14,8 @@ pub next_row-requires-clause-counts : goal.next_row-requires-clause-counts
 next_row-requires-clause-counts c =
     let plain = c.self.inside in
     count_small plain.script plain.state (formed_plain plain.script plain.history plain.state plain.ready c.self.invariant).rows
+
+pub returns : goal.returns
+returns c =
+    subst (λ (v : PlainView). IsNextRow (rows_from (after_in v.shared v.script v.history)) c.args.from c.next_row.result) c.self.view_is
+    (subst (λ (s : State). IsNextRow (rows_from s) c.args.from c.next_row.result) c.self.invariant.state c.next_row.ensures)
