@@ -112,14 +112,16 @@ module _ (script : Script) (S : State) (t : ObjNo) (row : ThreadRow) (h : IsGivi
   gives-message : (o : ObjNo) → is_closing S.serving.servers o ≡ true → 0 < times_owned S.serving.owned t o → (first : Message) → Contains (messages_at S.serving.messages o) first → Gives (OfMessage first.number)
   gives-message o closing owned first there = (
     fits-message first.number,
-    (ap is_some (found_one S.serving.messages.outstanding first h.rows.serving.messages.rising (contains_filter (is_at o.0) S.serving.messages.outstanding first there)),
-    λ message is.
-        let among = contains_filter (is_at o.0) S.serving.messages.outstanding first there in
-        let found : message_of S.serving.messages first.number ≡ Some first = found_one S.serving.messages.outstanding first h.rows.serving.messages.rising among in
-        let both : Some message ≡ Some first = sym is ∙ found in
-        let own : message ≡ first = cc in
-        let at : message.row.server ≡ o = ap (λ (z : Message). z.row.server) own ∙ same_object first.row.server o (message-at o S.serving.messages.outstanding first there) in
-        (ap (owner_of S.serving.servers) at ∙ owner-of o owned, ap (is_closing S.serving.servers) at ∙ closing)),
+    (
+      ap is_some (found_one S.serving.messages.outstanding first h.rows.serving.messages.rising (contains_filter (is_at o.0) S.serving.messages.outstanding first there)),
+      λ message is.
+          let among = contains_filter (is_at o.0) S.serving.messages.outstanding first there in
+          let found : message_of S.serving.messages first.number ≡ Some first = found_one S.serving.messages.outstanding first h.rows.serving.messages.rising among in
+          let both : Some message ≡ Some first = sym is ∙ found in
+          let own : message ≡ first = cc in
+          let at : message.row.server ≡ o = ap (λ (z : Message). z.row.server) own ∙ same_object first.row.server o (message-at o S.serving.messages.outstanding first there) in
+          (ap (owner_of S.serving.servers) at ∙ owner-of o owned, ap (is_closing S.serving.servers) at ∙ closing),
+    ),
   )
 
   all-messages : (o : ObjNo) → is_closing S.serving.servers o ≡ true → 0 < times_owned S.serving.owned t o → (messages : List Message) → ((m : Message) → Contains messages m → Contains (messages_at S.serving.messages o) m) → AllByRecursion Gives (map (λ (m : Message). OfMessage m.number) messages)
