@@ -23,7 +23,7 @@ can_act-requires c =
     let formed = formed_split plain.script plain.history plain.state plain.ready c.args.keep c.self.invariant.valid split in
     record {
       formed = subst (λ (qs : List ObjNo). IsWellFormed plain.script (choice_made c.args.keep c.in_ok-before.before) qs) (sym c.as_slice.ensures)
-      (subst (λ (s : State). IsWellFormed plain.script (choice_made c.args.keep s) plain.ready) (sym c.in_ok-before.ensures) formed);
+          (subst (λ (s : State). IsWellFormed plain.script (choice_made c.args.keep s) plain.ready) (sym c.in_ok-before.ensures) formed);
     }
 
 pub acted-requires-clause-shaped : goal.acted-requires-clause-shaped
@@ -68,10 +68,11 @@ returns-clause-entry c =
     let left : c.in_ok-state.state ≡ next plain.script (choice_made keep S) actor = ap (λ (x : State × List ObjNo × Entry). x.0) made ∙ ap (λ (s : State). next plain.script (choice_made keep s) actor) c.in_ok-before.ensures in
     let first = shares_told plain.script plain.history S plain.ready actor keep place c.in_ok-state.entry split (ap (λ (n : ℕ). n + 1) c.len.ensures)
     (ap (λ (x : State × List ObjNo × Entry). x.2) made ∙ ap (λ (s : State). entry_by plain.script (choice_made keep s) place actor) c.in_ok-before.ensures) in
-    subst (λ (v : PlainView). (c.push.new.self ≡ v.history ++ c.copied-told.result ∷ []) × (c.set_state.new.state.mode.shared ≡ true) × (c.copied-told.result ≡ entry_by v.script (keeping keep (after_in true v.script v.history)) (length v.history + 1) actor)) c.self.view_is
-    (c.in_ok-push.ensures.ok ∙ ap (λ (x : Entry). plain.history ++ x ∷ []) (sym c.copied-told.ensures),
-    ap (λ (s : State). s.mode.shared) c.set_state.ensures.state ∙ shares_mode plain.script S c.in_ok-state.state actor keep left,
-    c.copied-told.ensures ∙ first)
+    subst (λ (v : PlainView). (c.push.new.self ≡ v.history ++ c.copied-told.result ∷ []) × (c.set_state.new.state.mode.shared ≡ true) × (c.copied-told.result ≡ entry_by v.script (keeping keep (after_in true v.script v.history)) (length v.history + 1) actor)) c.self.view_is (
+      c.in_ok-push.ensures.ok ∙ ap (λ (x : Entry). plain.history ++ x ∷ []) (sym c.copied-told.ensures),
+      ap (λ (s : State). s.mode.shared) c.set_state.ensures.state ∙ shares_mode plain.script S c.in_ok-state.state actor keep left,
+      c.copied-told.ensures ∙ first,
+    )
 
 pub returns-clause-legal : goal.returns-clause-legal
 returns-clause-legal c =
