@@ -34,12 +34,12 @@ use Rattle.machine_safe.proofs.Serving.Steady.{IsSteady, steady-boot, steady-kee
 use Rattle.machine.specs.Moves.{next_object}
 use Rattle.state_rows.specs.ServerRows.{server_at}
 use Rattle.machine_safe.proofs.Serving.Reading.{reading}
-use Rattle.machine.specs.declared.state.State.{State}
 use Rattle.std.specs.Prelude.{is_some}
 use Rattle.state_rows.specs.declared.servers.ServerRow.{ServerRow}
 
 -- a thread that is there is live, or was doomed once
-fated : (shared : Bool) (script : Script) (before : List Entry) → IsWellFormed script → IsLegalIn shared script before → IsFated before (after_in shared script before)
+fated : (shared : Bool) (script : Script) (before : List Entry) → IsWellFormed script → IsLegalIn shared script before
+    → IsFated before (after_in shared script before)
 unfolding boot_of
 fated shared script before valid legal u row is =
     let front = dies-history shared script before valid legal in
@@ -91,11 +91,20 @@ handles-keeping script S keep h u row is live due = let had = h u row is live du
 
 -- what holds after the first entries
 abbrev BookAt : Bool → Script → List Entry → Type 0
-BookAt shared script xs = Book script xs (after_in shared script xs) × Looked script xs (after_in shared script xs) × KeepHandles script (after_in shared script xs) × IsSteady script (after_in shared script xs)
+BookAt shared script xs =
+    Book script xs (after_in shared script xs) × Looked script xs (after_in shared script xs)
+    × KeepHandles script (after_in shared script xs) × IsSteady script (after_in shared script xs)
 
 -- after each entry
-pub book-after : (shared : Bool) (script : Script) (before later : List Entry) → IsWellFormed script → IsLegalIn shared script (before ++ later) → BookAt shared script before
-book-after shared script before later valid legal = by [] before refl (book-boot shared script (formed_is_shaped script valid), boot-looked script (formed_is_shaped script valid), kept-boot shared script (formed_is_shaped script valid), steady-boot shared script (formed_is_shaped script valid))
+pub book-after : (shared : Bool) (script : Script) (before later : List Entry) → IsWellFormed script
+    → IsLegalIn shared script (before ++ later) → BookAt shared script before
+book-after shared script before later valid legal =
+    by [] before refl (
+      book-boot shared script (formed_is_shaped script valid),
+      boot-looked script (formed_is_shaped script valid),
+      kept-boot shared script (formed_is_shaped script valid),
+      steady-boot shared script (formed_is_shaped script valid),
+    )
   where
     by : (xs ys : List Entry) → before ≡ xs ++ ys → BookAt shared script xs → BookAt shared script before
     by xs [] e h = subst (BookAt shared script) (sym (e ∙ append-nil xs)) h
@@ -108,13 +117,14 @@ book-after shared script before later valid legal = by [] before refl (book-boot
         let turn = turn-entry script xs (choosing y S) cuts.place shaped cuts.rows_done (book-keeping script xs S keep h.0) h.1 handles (fated shared script xs valid cuts.legal_before) y cuts.done in
         let looked = entry-looked script xs (choosing y S) cuts.place shaped cuts.rows_done h.1 y cuts.done in
         let steady = steady-keeping script S keep h.3 in
-        let kept = kept-next script (choosing y S) shaped cuts.rows_done (steady-properly script (choosing y S) shaped cuts.rows_done steady) handles (unmade-next script xs S h.0) y.actor in
+        let kept = kept-next script (choosing y S) shaped cuts.rows_done (steady.own, steady.kinds) (steady-properly script (choosing y S) shaped cuts.rows_done steady) handles (unmade-next script xs S h.0) y.actor in
         let steady_next = steady-next script (choosing y S) shaped cuts.rows_done steady y.actor in
         let same = sym (after_from-push script (boot_in shared script) xs y) in
         by (xs ++ y ∷ []) ys (e ∙ sym (append_assoc xs (y ∷ []) ys)) (subst (Book script (xs ++ y ∷ [])) same turn.book, subst (Looked script (xs ++ y ∷ [])) same looked, subst (KeepHandles script) same kept, subst (IsSteady script) same steady_next)
 
 -- each entry is lawful
-lawful : (shared : Bool) (script : Script) (history before : List Entry) (e : Entry) (later : List Entry) → IsWellFormed script → IsLegalIn shared script history → StandsAt history before e later → IsLawful script before e
+lawful : (shared : Bool) (script : Script) (history before : List Entry) (e : Entry) (later : List Entry)
+    → IsWellFormed script → IsLegalIn shared script history → StandsAt history before e later → IsLawful script before e
 lawful shared script history before e later valid legal is =
     let c = cut shared script history before e later valid legal is in
     let shaped = formed_is_shaped script valid in
@@ -124,9 +134,12 @@ lawful shared script history before e later valid legal is =
     (turn-entry script before (choosing e S) c.place shaped c.rows_done (book-keeping script before S keep book.0) book.1 (handles-keeping script S keep book.2) (fated shared script before valid c.legal_before) e c.done).lawful
 
 pub legal_busy : (shared : Bool) (script : Script) (history : List Entry) → IsWellFormed script → IsLegalIn shared script history → IsSafeBusy script history
-legal_busy shared script history valid legal = record { answers = λ before e later is sends. (lawful shared script history before e later valid legal is).send sends }
+legal_busy shared script history valid legal = record {
+  answers = λ before e later is sends. (lawful shared script history before e later valid legal is).send sends;
+}
 
-pub legal_messages : (shared : Bool) (script : Script) (history : List Entry) → IsWellFormed script → IsLegalIn shared script history → IsSafeMessages script history
+pub legal_messages : (shared : Bool) (script : Script) (history : List Entry) → IsWellFormed script
+    → IsLegalIn shared script history → IsSafeMessages script history
 legal_messages shared script history valid legal = record {
   acceptances = λ before e later is some. (lawful shared script history before e later valid legal is).acceptance some;
   finished = λ before e later m is some. (lawful shared script history before e later valid legal is).finish m some;

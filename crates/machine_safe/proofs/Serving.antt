@@ -33,6 +33,7 @@ pub mod Turns
 pub mod Acts
 pub mod Course
 pub mod CourseBlocks
+pub mod CourseServing
 pub mod Courses
 pub mod Lacking
 pub mod Straight
@@ -47,3 +48,12 @@ pub mod Properly
 pub mod Kinds
 pub mod Met
 pub mod Steady
+pub mod Awake
+pub mod Coming
+pub mod Naming
+pub mod Owning
+pub mod Staying
+pub mod Unserved
+pub mod AskedStays
+pub mod CourseLocks
+pub mod ProperGiving

@@ -16,7 +16,7 @@ pub record IsSafeIn (shared : Bool) (script : Script) (history : List Entry) : T
   pub messages : IsSafeMessages script history
   pub servers : IsSafeServers history
   pub busy : IsSafeBusy script history
-  pub waits : IsSafeWaits script history
+  pub waits : IsSafeWaits history
 
 abbrev pub IsSafe : Script → List Entry → Type 0
 IsSafe script history = IsSafeIn false script history

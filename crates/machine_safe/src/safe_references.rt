@@ -26,7 +26,7 @@ use script_types::Script;
 /// of its messages is finished then, and nothing is accepted beside; and as a thread is cleaned each server that it
 /// made has ended. And a `send` to a server that isn't closing answers KErrServerBusy exactly where all slots are
 /// used of its session, which the look of that `send` found, and is accepted else. And the step in which nobody acts
-/// is the actor idle's alone, or a thread's that is at a `receive`. This call only states it, and changes nothing.
+/// is the actor idle's alone. This call only states it, and changes nothing.
 pub fn legal_is_safe(script: &Script, history: &[Entry])
     requires valid { IsWellFormed script.now }
     requires legal { IsLegal script.now history.now }
@@ -35,7 +35,7 @@ pub fn legal_is_safe(script: &Script, history: &[Entry])
     ensures messages { IsSafeMessages script.now history.now }
     ensures servers { IsSafeServers history.now }
     ensures busy { IsSafeBusy script.now history.now }
-    ensures waits { IsSafeWaits script.now history.now }
+    ensures waits { IsSafeWaits history.now }
 {}
 
 /// The same holds of every history that callers make who share the kernel: there whoever found an object by its name
@@ -52,5 +52,5 @@ pub fn shared_is_safe(script: &Script, history: &[Entry])
     ensures messages { IsSafeMessages script.now history.now }
     ensures servers { IsSafeServers history.now }
     ensures busy { IsSafeBusy script.now history.now }
-    ensures waits { IsSafeWaits script.now history.now }
+    ensures waits { IsSafeWaits history.now }
 {}

@@ -3,7 +3,8 @@ use Rattle.machine_safe.proofs.Finders.Actions.{AtFinds}
 use Rattle.machine_safe.proofs.Serving.Called.{immediate-declared, next-called}
 use Rattle.machine_safe.proofs.Serving.Connecting.{KeepHandles}
 use Rattle.machine_safe.proofs.Serving.Course.{empty, pending, rowless, served, serverless, unkept, unnamed, unused, unwanted}
-use Rattle.machine_safe.proofs.Serving.Lacking.{pending-never, rowless-never, served-never, serverless-never, unkept-never, unnamed-never, unused-never, unwanted-never}
+use Rattle.machine_safe.proofs.Serving.Awake.{awake}
+use Rattle.machine_safe.proofs.Serving.Lacking.{empty-never, pending-never, rowless-never, served-never, serverless-never, unkept-never, unnamed-never, unused-never, unwanted-never}
 use Rattle.machine_safe.proofs.Serving.Steady.{IsSteady}
 use Rattle.machine_safe.proofs.Serving.Called.{IsDeclared}
 use Rattle.entry_log.specs.declared.entry.Actor.{Actor}
@@ -31,7 +32,7 @@ use Rattle.machine_laws.proofs.Fitting.Actions.{Plainly, does, calls, stops, res
 use Rattle.machine_laws.proofs.Fitting.Regular.{acts, finds_by_name}
 use Rattle.machine_laws.proofs.Fitting.Working.{IsGiven}
 use Rattle.machine_laws.proofs.Sharing.Returns.{returns-exactly}
-use Rattle.machine_safe.proofs.Serving.Course.{Course, Lacks, strays, answers, idles, stays, comes, goes, has_step, takes_at}
+use Rattle.machine_safe.proofs.Serving.Course.{Course, Lacks, strays, answers, idles, opens, stays, comes, goes, has_step}
 use Rattle.machine_safe.proofs.Serving.Courses.{course}
 use Rattle.machine_safe.proofs.Serving.Straight.{Nowhere, straight-of, straying}
 use Rattle.machine_safe.proofs.Serving.Later.{Facts}
@@ -50,25 +51,21 @@ use Rattle.state_rows.specs.declared.duty.Owed.TheVariants as duty
 use Rattle.state_rows.specs.declared.messages.Message.{Message}
 use Rattle.state_rows.specs.declared.thread.Stage.TheVariants.{Live}
 use Rattle.state_rows.specs.declared.thread.ThreadRow.{ThreadRow}
+use Rattle.state_rows.specs.declared.thread.Waiting.TheVariants as waiting
 use Rattle.std.proofs.Common.{Bool, None, Option, Some, ap, false, inl, inr, refl, sym, true, ℕ, ◌∙◌, ◌≡◌, ◌⊎◌, not}
 use Rattle.std.specs.Prelude.{is_none, is_some, nat_lt, slice_get, ◌&&◌, ◌||◌}
 use Rattle.sym_base.specs.declared.number.ObjNo.{ObjNo}
 
--- a thread at the step that takes the message for which it waited
-pub record IsReceiving (script : Script) (S : State) (t : ObjNo) : Type 0 where
-  pub row : ThreadRow
-  pub is : thread_of S t ≡ Some row
-  pub instr : Instr
-  pub at : instruction script row ≡ Some instr
-  pub takes : takes_at instr row.part ≡ true
-
--- Nothing is lacking in a state: no step of a live thread needs what isn't there, but maybe a message for which it waited; the calls that come next
--- are declared, and a thread that comes back is at an instruction that finds.
+-- Nothing is lacking in a state: no step of a live thread that waits for nothing needs what isn't there; the calls that come next are declared, and a
+-- thread that comes back is at an instruction that finds.
 pub record LacksNothing (script : Script) (S : State) : Type 0 where
-  pub steps : (t : ObjNo) (old : ThreadRow) (i : Instr) → thread_of S t ≡ Some old → old.stage ≡ Live → instruction script old ≡ Some i → Lacks script S t old i old.part → takes_at i old.part ≡ true
+  pub steps : (t : ObjNo) (old : ThreadRow) (i : Instr) → thread_of S t ≡ Some old → old.stage ≡ Live
+      → instruction script old ≡ Some i → old.waiting ≡ waiting.Nothing → Lacks script S t old i old.part → ⊥
   pub straight : Facts script straying Nowhere S
   pub returns : (t : ObjNo) (row : ThreadRow) → thread_of S t ≡ Some row → is_returning row.part ≡ true → finds_by_name (instruction script row) ≡ true
-  pub calls : (t : ObjNo) (row : ThreadRow) (dfc : ℕ) → thread_of S t ≡ Some row → next_call S.synchronization.deferred row.role ≡ Some dfc → nat_lt dfc 64 ≡ true → is_some (slice_get script.dfcs dfc) ≡ true
+  pub calls : (t : ObjNo) (row : ThreadRow) (dfc : ℕ) → thread_of S t ≡ Some row
+      → next_call S.synchronization.deferred row.role ≡ Some dfc → nat_lt dfc 64 ≡ true
+      → is_some (slice_get script.dfcs dfc) ≡ true
   pub items : (what : Item) → next_immediate S.synchronization.deferred ≡ Some what → IsDeclared script what
 
 -- both parts of a test
@@ -96,18 +93,18 @@ idfc-runs None e = absurd (cc)
 idfc-runs (Some idfc) e = refl
 
 -- what a step comes to is an action, if nothing is lacking
-course-acts : (script : Script) (S : State) (t : ObjNo) (old : ThreadRow) (i : Instr) (d : Decision) → (Lacks script S t old i old.part → takes_at i old.part ≡ true) → ((q : Part) → old.part ≡ Some q → has_step i q ≡ true) → Course script S t old i old.part d → (acts d.step ≡ true) ⊎ (takes_at i old.part ≡ true)
+course-acts : (script : Script) (S : State) (t : ObjNo) (old : ThreadRow) (i : Instr) (d : Decision)
+    → (Lacks script S t old i old.part → ⊥) → ((q : Part) → old.part ≡ Some q → has_step i q ≡ true)
+    → Course script S t old i old.part d → acts d.step ≡ true
 course-acts script S t old i d whole straight (strays q e none) = let there = straight q e in absurd (cc)
-course-acts script S t old i d whole straight (answers code e told proper) = inl told
-course-acts script S t old i d whole straight (idles lacks e) = inr (whole lacks)
-course-acts script S t old i d whole straight (stays none told proper) = inl told
-course-acts script S t old i d whole straight (comes told proper back) = inl told
-course-acts script S t old i d whole straight (goes to there silent told proper on) = inl told
+course-acts script S t old i d whole straight (answers code e told proper) = told
+course-acts script S t old i d whole straight (opens k o code what uses e told proper) = told
+course-acts script S t old i d whole straight (idles lacks e) = absurd (whole lacks)
+course-acts script S t old i d whole straight (stays none told proper) = told
+course-acts script S t old i d whole straight (comes told proper back) = told
+course-acts script S t old i d whole straight (goes to there silent told proper on) = told
 
 module _ (script : Script) (S : State) (shaped : IsShaped script) (rows : AreRows script S) (whole : LacksNothing script S) where
-  abbrev pub Receives : Actor → Type 0
-  Receives actor = (t : ObjNo) × (actor ≡ Thread t) × IsReceiving script S t
-
   module _ (t : ObjNo) (may : may_act script S t ≡ true) where
     -- a thread that may act has a task
     has-task : is_returning (part_of (thread_of S t)) ≡ false → task_of script S t ≡ None → ⊥
@@ -140,31 +137,25 @@ module _ (script : Script) (S : State) (shaped : IsShaped script) (rows : AreRow
     plain-acts here d (stops e) = absurd (cc)
     plain-acts here d (rests none) = absurd (has-task here none)
 
-    abbrev ActsOrReceives : Decision → Type 0
-    ActsOrReceives d = (acts d.step ≡ true) ⊎ IsReceiving script S t
-
-    step-acts : (old : ThreadRow) (i : Instr) (d : Decision) → thread_of S t ≡ Some old → instruction script old ≡ Some i → (acts d.step ≡ true) ⊎ (takes_at i old.part ≡ true) → ActsOrReceives d
-    step-acts old i d is at (inl told) = inl told
-    step-acts old i d is at (inr takes) = inr (record { row = old; is = is; instr = i; at = at; takes = takes })
-
-    onward-acts : is_returning (part_of (thread_of S t)) ≡ false → ActsOrReceives (decision_of script S t)
-    onward-acts here = each-action script S t ActsOrReceives (record {
-      plainly = λ d why fits. inl (plain-acts here d why);
-      steps = λ old i is live going at fits. step-acts old i (step_of script S t old i old.part) is at (course-acts script S t old i (step_of script S t old i old.part) (whole.steps t old i is live at) (straight-of script S whole.straight t old i is live at) (course script S t old is rows i old.part fits going));
+    onward-acts : is_returning (part_of (thread_of S t)) ≡ false → acts (decision_of script S t).step ≡ true
+    onward-acts here = each-action script S t (λ (d : Decision). acts d.step ≡ true) (record {
+      plainly = λ d why fits. plain-acts here d why;
+      steps = λ old i is live going at fits. course-acts script S t old i (step_of script S t old i old.part) (whole.steps t old i is live at (awake script S t old is may going)) (straight-of script S whole.straight t old i is live at) (course script S t old is rows i old.part live at refl fits going);
       returns = λ old i is back at fits. let other : is_returning old.part ≡ false = ap (λ (r : Option ThreadRow). is_returning (part_of r)) (sym is) ∙ here in absurd (cc);
-      gives = λ row what given fits. inl (gives-acts row what given);
-      pays = λ what rest owes. inl (pays-act what);
+      gives = λ row what given fits. gives-acts row what given;
+      pays = λ what rest owes. pays-act what;
     }) shaped rows
 
-    thread-acts : (acts (act script S t).outcome.step ≡ true) ⊎ IsReceiving script S t
+    thread-acts : acts (act script S t).outcome.step ≡ true
     unfolding act
     thread-acts = by (is_returning (part_of (thread_of S t))) refl
       where
-        by : (b : Bool) → is_returning (part_of (thread_of S t)) ≡ b → ActsOrReceives (decision_of script S t)
-        by true back = inl (return-is-step (decision_of script S t).step (returns-exactly script S (Thread t) shaped rows whole.returns may ∙ back))
+        by : (b : Bool) → is_returning (part_of (thread_of S t)) ≡ b → acts (decision_of script S t).step ≡ true
+        by true back = return-is-step (decision_of script S t).step (returns-exactly script S (Thread t) shaped rows whole.returns may ∙ back)
         by false here = onward-acts here
 
-  item-acts : (found : Option Item) → next_immediate S.synchronization.deferred ≡ found → is_some found ≡ true → acts (decision_by script supervisor S (immediate_plan script S found)).step ≡ true
+  item-acts : (found : Option Item) → next_immediate S.synchronization.deferred ≡ found → is_some found ≡ true
+      → acts (decision_by script supervisor S (immediate_plan script S found)).step ≡ true
   item-acts None is e = absurd (cc)
   item-acts (Some (item.Idfc call)) is e = idfc-runs (slice_get script.idfcs call) (whole.items (item.Idfc call) is)
   item-acts (Some (item.Move call)) is e = dfc-moves (slice_get script.dfcs call) (whole.items (item.Move call) is)
@@ -177,30 +168,35 @@ module _ (script : Script) (S : State) (shaped : IsShaped script) (rows : AreRow
   unfolding interrupt
   interrupt-acts k = refl
 
-  -- each actor but the idle one does something, unless it is a thread that takes the message for which it waited
-  pub actor-acts : (actor : Actor) → CanAct script S actor → (acts (transition script S actor).outcome.step ≡ true) ⊎ ((actor ≡ Idle) ⊎ Receives actor)
-  actor-acts (Thread t) can = elim (thread-acts t can) as (λ _. (acts (transition script S (Thread t)).outcome.step ≡ true) ⊎ ((Thread t ≡ Idle) ⊎ Receives (Thread t))) [
-    | inl told ↦ inl told
-    | inr receives ↦ inr (inr (t, refl, receives))
-  ]
+  -- each actor but the idle one does something
+  pub actor-acts : (actor : Actor) → CanAct script S actor → (acts (transition script S actor).outcome.step ≡ true) ⊎ (actor ≡ Idle)
+  actor-acts (Thread t) can = inl (thread-acts t can)
   actor-acts (Irq k) can = inl (interrupt-acts k)
   actor-acts Idfc can = inl (immediate-acts can)
   actor-acts Tick can = inl refl
-  actor-acts Idle can = inr (inl refl)
+  actor-acts Idle can = inr refl
 
 -- nothing is lacking in a state that is steady
-lacks-none : (script : Script) (S : State) → IsShaped script → AreRows script S → IsSteady script S → KeepHandles script S → (t : ObjNo) (old : ThreadRow) (i : Instr) → thread_of S t ≡ Some old → old.stage ≡ Live → instruction script old ≡ Some i → Lacks script S t old i old.part → takes_at i old.part ≡ true
-lacks-none script S shaped rows s kept t old i is live at (unused needs none) = absurd (unused-never script S s.used t old i is live at needs none)
-lacks-none script S shaped rows s kept t old i is live at (rowless u logs uses none) = absurd (rowless-never script S rows s.kinds s.met t old i is live at u logs uses none)
-lacks-none script S shaped rows s kept t old i is live at (pending y sets pends) = absurd (pending-never script S rows s.kinds s.met t old i is live at y sets pends)
-lacks-none script S shaped rows s kept t old i is live at (served o row locks uses there) = absurd (served-never script S rows s.kinds s.met t old i is live at o row locks uses there)
-lacks-none script S shaped rows s kept t old i is live at (serverless o makes uses none) = absurd (serverless-never script S rows s.kinds s.met t old i is live at o makes uses none)
-lacks-none script S shaped rows s kept t old i is live at (unkept keeps none) = absurd (unkept-never script S kept t old i is live at keeps none)
-lacks-none script S shaped rows s kept t old i is live at (empty o takes uses none) = takes
-lacks-none script S shaped rows s kept t old i is live at (unwanted wants none) = absurd (unwanted-never script S rows s.kinds s.met t old i is live at wants none)
-lacks-none script S shaped rows s kept t old i is live at (unnamed name names none) = absurd (unnamed-never script old i name shaped at names none)
+lacks-none : (script : Script) (S : State) → IsShaped script → AreRows script S → IsSteady script S
+    → KeepHandles script S → (t : ObjNo) (old : ThreadRow) (i : Instr) → thread_of S t ≡ Some old → old.stage ≡ Live
+    → instruction script old ≡ Some i → old.waiting ≡ waiting.Nothing → Lacks script S t old i old.part → ⊥
+lacks-none script S shaped rows s kept t old i is live at awake (unused needs none) = unused-never script S s.used t old i is live at needs none
+lacks-none script S shaped rows s kept t old i is live at awake (rowless u logs uses none) =
+    rowless-never script S rows s.kinds s.met t old i is live at u logs uses none
+lacks-none script S shaped rows s kept t old i is live at awake (pending y sets pends) =
+    pending-never script S rows s.kinds s.met t old i is live at y sets pends
+lacks-none script S shaped rows s kept t old i is live at awake (served o row locks uses there) =
+    served-never script S rows s.kinds s.met t old i is live at o row locks uses there
+lacks-none script S shaped rows s kept t old i is live at awake (serverless o makes uses none) =
+    serverless-never script S rows s.kinds s.met t old i is live at o makes uses none
+lacks-none script S shaped rows s kept t old i is live at awake (unkept keeps none) = unkept-never script S kept t old i is live at keeps none
+lacks-none script S shaped rows s kept t old i is live at awake (empty o takes uses none) =
+    empty-never script S rows s.kinds s.met t old i is live at o takes uses awake none
+lacks-none script S shaped rows s kept t old i is live at awake (unwanted wants none) = unwanted-never script S rows s.kinds s.met t old i is live at wants none
+lacks-none script S shaped rows s kept t old i is live at awake (unnamed name names none) = unnamed-never script old i name shaped at names none
 
-pub lacks-nothing : (script : Script) (S : State) → IsShaped script → AreRows script S → AtFinds script S → IsSteady script S → KeepHandles script S → LacksNothing script S
+pub lacks-nothing : (script : Script) (S : State) → IsShaped script → AreRows script S → AtFinds script S
+    → IsSteady script S → KeepHandles script S → LacksNothing script S
 lacks-nothing script S shaped rows finds s kept = record {
   steps = lacks-none script S shaped rows s kept;
   straight = s.straight;

@@ -2,7 +2,7 @@
 use Rattle.std.proofs.Common.{get_or, Bool, List, None, Option, Some, arith, false, refl, subst, sym, true, ℕ, ◌≡◌, [], ◌∷◌}
 use Rattle.std.proofs.lemmas.Bool.{and_parts}
 use Rattle.std.proofs.lemmas.List.Quantifiers.{position-Some}
-use Rattle.std.specs.Prelude.{bytes_eq, if◌then◌else◌, nat_lt, position, ◌==◌, ◌||◌}
+use Rattle.std.specs.Prelude.{bytes_eq, if◌then◌else◌, nat_lt, position, slice_index, ◌==◌, ◌||◌}
 use Rattle.sym_base.specs.KindNumber.{kind_number}
 use Rattle.sym_base.specs.declared.kind.Kind.{Kind}
 use Rattle.sym_base.specs.declared.kind.Kind.TheVariants as kind
@@ -14,9 +14,11 @@ use Rattle.script_types.specs.declared.script.Script.{Script}
 use Rattle.entry_log.specs.declared.step.Part.TheVariants as part
 use Rattle.state_rows.specs.ObjectRows.{has_name, is_dead_row, is_session, named, numbered}
 use Rattle.state_rows.specs.Requests.{is_pending}
+use Rattle.state_rows.specs.ServerRows.{owner_of}
 use Rattle.state_rows.specs.declared.object.ObjectRow.{ObjectRow}
 use Rattle.state_rows.specs.declared.thread.ThreadRow.{ThreadRow}
 use Rattle.machine.specs.Find.{find_object, findable}
+use Rattle.machine.specs.Handles.{object_at}
 use Rattle.machine.specs.Look.{is_of_kind, of_kind}
 use Rattle.machine.specs.Moves.{perform, with_found}
 use Rattle.machine.specs.Out.{found_object}
@@ -89,7 +91,7 @@ module _ (script : Script) (S : State) (t : ObjNo) (old : ThreadRow) (rows : Are
 
   -- the steps behind a look
   pub asks-lock : (x : ℕ) (found : Option ObjNo) → AsksOf S t old (instr.Lock x) (of_kind S kind.Mutex found)
-  asks-lock x found o e asked = record {
+  asks-lock x found names o e asked = record {
     unset = λ s is. absurd (cc);
     wanted = λ is. absurd (cc);
     used = λ k u is used.
@@ -97,10 +99,13 @@ module _ (script : Script) (S : State) (t : ObjNo) (old : ThreadRow) (rows : Are
         let own : o ≡ u = cc in
         subst (λ (z : Kind). OfKind z u) same (subst (OfKind kind.Mutex) own (looked-kind kind.Mutex found o e));
     found = λ k is. absurd (cc);
+    owned = λ u is used. absurd (cc);
+    came = λ u is used. absurd (cc);
   }
 
-  pub asks-logon : (x s : ℕ) (found : Option ObjNo) → is_pending S.synchronization.requests t s ≡ false → AsksOf S t old (instr.Logon x s) (of_kind S kind.Thread found)
-  asks-logon x s found not o e asked = record {
+  pub asks-logon : (x s : ℕ) (found : Option ObjNo) → is_pending S.synchronization.requests t s ≡ false
+      → AsksOf S t old (instr.Logon x s) (of_kind S kind.Thread found)
+  asks-logon x s found not names o e asked = record {
     unset = λ y is. let same : s ≡ y = cc in subst (IsUnset S.synchronization.requests t) same (unset s not);
     wanted = λ is. absurd (cc);
     used = λ k u is used.
@@ -108,18 +113,50 @@ module _ (script : Script) (S : State) (t : ObjNo) (old : ThreadRow) (rows : Are
         let own : o ≡ u = cc in
         subst (λ (z : Kind). OfKind z u) same (subst (OfKind kind.Thread) own (looked-kind kind.Thread found o e));
     found = λ k is. absurd (cc);
+    owned = λ u is used. absurd (cc);
+    came = λ u is used. absurd (cc);
   }
 
-  pub asks-send : (x n y : ℕ) (args : Args) (found : Option ObjNo) → is_pending S.synchronization.requests t y ≡ false → AsksOf S t old (instr.Send x n y args) found
-  asks-send x n y args found not o e asked = record {
+  pub asks-send : (x n y : ℕ) (args : Args) (found : Option ObjNo) → is_pending S.synchronization.requests t y ≡ false
+      → AsksOf S t old (instr.Send x n y args) found
+  asks-send x n y args found not names o e asked = record {
     unset = λ s is. let same : y ≡ s = cc in subst (IsUnset S.synchronization.requests t) same (unset y not);
     wanted = λ is. absurd (cc);
     used = λ k u is used. absurd (cc);
     found = λ k is. absurd (cc);
+    owned = λ u is used. absurd (cc);
+    came = λ u is used. absurd (cc);
   }
 
-  -- and the return of a connect
-  pub asks-return : (name : List ℕ) (slots : Slots) (x : ℕ) (o : ObjNo) → find_object S kind.Server name ≡ Some o → IsMet (perform t (Find t o ∷ []) S) t (with_found o old) (instr.Connect name slots x) (Some part.Return)
+  pub asks-receive : (x y : ℕ) → AsksOf S t old (instr.Receive x y) (of_kind S kind.Server (object_at S t old (slice_index old.registers x)))
+  asks-receive x y names o e asked = record {
+    unset = λ s is. absurd (cc);
+    wanted = λ is. absurd (cc);
+    used = λ k u is used. absurd (cc);
+    found = λ k is. absurd (cc);
+    owned = λ u is used. let own : o ≡ u = cc in subst (λ (z : ObjNo). owner_of S.serving.servers z ≡ Some t) own (names (slice_index old.registers x) o e);
+    came = λ u is used. absurd (cc);
+  }
+
+  -- and the returns of an open and of a connect
+  pub asks-opened : (k : Kind) (name : List ℕ) (x : ℕ) (o : ObjNo) → find_object S k name ≡ Some o
+      → IsMet (perform t (Find t o ∷ []) S) t (with_found o old) (instr.Open k name x) (Some part.Return)
+  asks-opened k name x o e asked =
+      let is_one = found-kind k name o e in
+      let within = is_one.made in
+      let few = rows.references.sized.objects_few in
+      let own : found_object (with_found o old) ≡ o = same_object (found_object (with_found o old)) o (omega arith) in
+      record {
+        unset = λ s is. absurd (cc);
+        wanted = λ is. absurd (cc);
+        used = λ j u is used. absurd (cc);
+        found = λ j is. let same : k ≡ j = cc in subst (λ (z : Kind). OfKind z (found_object (with_found o old))) same (subst (OfKind k) (sym own) is_one);
+        owned = λ u is used. absurd (cc);
+        came = λ u is used. absurd (cc);
+      }
+
+  pub asks-return : (name : List ℕ) (slots : Slots) (x : ℕ) (o : ObjNo) → find_object S kind.Server name ≡ Some o
+      → IsMet (perform t (Find t o ∷ []) S) t (with_found o old) (instr.Connect name slots x) (Some part.Return)
   asks-return name slots x o e asked =
       let is_server = found-kind kind.Server name o e in
       let within = is_server.made in
@@ -130,4 +167,6 @@ module _ (script : Script) (S : State) (t : ObjNo) (old : ThreadRow) (rows : Are
         wanted = λ is. absurd (cc);
         used = λ k u is used. absurd (cc);
         found = λ k is. let same : kind.Server ≡ k = cc in subst (λ (z : Kind). OfKind z (found_object (with_found o old))) same (subst (OfKind kind.Server) (sym own) is_server);
+        owned = λ u is used. absurd (cc);
+        came = λ u is used. absurd (cc);
       }

@@ -1,13 +1,14 @@
 -- The handle that a `connect` keeps from the step that makes its session on is in the thread's own table, and of no server.
+use Rattle.machine_safe.proofs.Serving.Owning.{Owned}
 use Rattle.machine_safe.proofs.Serving.Proceeding.{IsProperly}
+use Rattle.machine_safe.proofs.Serving.Unserved.{none-each, server-joined, slot_made}
 use Rattle.machine_safe.proofs.Serving.Later.{Facts, FactThen, IsFact, StepsGive, answered-fact, boot-fact, early-fact, idle-fact, next-fact, other-fact, part-after}
 use Rattle.state_rows.specs.declared.duty.Owed.TheVariants as duty
 use Rattle.machine.specs.Find.{is_open, miss, seek_object, find_object}
 use Rattle.machine.specs.Out.{found_object}
 use Rattle.machine.specs.Decide.{nothing, one_move}
-use Rattle.std.proofs.Common.{eq-eqb, Bool, List, None, Option, Some, [], ap, arith, false, get_or, refl, subst, sym, true, ℕ, ℤ, ◌+◌, ◌*◌, ◌<◌, ◌∙◌, ◌∷◌, ◌≡◌, length, get_or-set_other, not, le-ltb, get_or-set_same, pos}
-use Rattle.std.specs.Prelude.{if◌then◌else◌, is_some, slice_set, pos}
-use Rattle.entry_log.specs.declared.effect.Holder.{Holder}
+use Rattle.std.proofs.Common.{eq-eqb, Bool, List, None, Option, Some, [], ap, arith, false, get_or, refl, subst, sym, true, ℕ, ℤ, ◌+◌, ◌*◌, ◌<◌, ◌∙◌, ◌∷◌, ◌≡◌, length, not, le-ltb, get_or-set_same, pos}
+use Rattle.std.specs.Prelude.{if◌then◌else◌, is_some, slice_set}
 use Rattle.script_types.specs.declared.instruction.Instr.{Instr}
 use Rattle.sym_base.specs.declared.number.ObjNo.{ObjNo}
 use Rattle.script_types.specs.declared.script.Script.{Script}
@@ -20,32 +21,25 @@ use Rattle.machine.specs.WellFormed.{AreRows}
 use Rattle.script_types.specs.Shape.{IsShaped}
 use Rattle.machine.specs.declared.moves.Move.{Move}
 use Rattle.entry_log.specs.declared.step.Part.{Part}
-use Rattle.state_rows.specs.declared.servers.ServerRows.{ServerRows}
-use Rattle.state_rows.proofs.SoundChanges.{set_item}
 use Rattle.machine.specs.Rows.{thread_of, with_row, table_of, object_of}
-use Rattle.machine.specs.Fits.{EachFits, FitsMove}
+use Rattle.machine.specs.Fits.{EachFits}
 use Rattle.state_rows.specs.ServerRows.{server_at, owner_of}
 use Rattle.state_rows.specs.HandleSlots.{slot_at, is_full, free_index, new_handle, new_instance, fresh_slot, look}
-use Rattle.machine.specs.ServerMoves.{all_closing, servers_lose, owned_by}
 use Rattle.machine_laws.proofs.Fitting.Regular.{Kinds, going_bit, calling, kind_of, looking, plain}
 use Rattle.move_laws.proofs.RowLaws.Threads.{map_some}
 use Rattle.machine.specs.Moves.{moved, next_object, perform, with_part, with_kept, with_use, with_found, with_missed, with_opened, no_number_left}
 use Rattle.machine.specs.References.{total}
 use Rattle.machine.specs.declared.decision.Decision.{Decision}
-use Rattle.state_rows.specs.ServerChanges.{after_closing, closing}
-use Rattle.machine_laws.proofs.Fitting.Living.{alive_inside, handle_is_counted}
 use Rattle.machine.specs.Task.{instruction}
-use Rattle.machine_safe.proofs.Serving.KeptRows.{objects-move}
 use Rattle.move_laws.proofs.Holders.ThreadRows.{row-here}
 use Rattle.machine_laws.proofs.Fitting.Actions.{FitsAction}
-use Rattle.move_laws.proofs.Lists.Mapped.{mapped-some}
 use Rattle.script_types.specs.declared.instruction.Instr.TheVariants as instr
 use Rattle.entry_log.specs.declared.step.Part.TheVariants as part
-use Rattle.machine.specs.declared.moves.Move.TheVariants.{Lose, Servers, Pay, GoOn, Wait, Messages, Open}
+use Rattle.machine.specs.declared.moves.Move.TheVariants.{Servers, Pay, GoOn, Wait, Messages, Open}
 use Rattle.machine_safe.proofs.Serving.Others.{Carries, carries-each}
-use Rattle.entry_log.specs.declared.effect.Holder.TheVariants.{Link, InThread}
+use Rattle.entry_log.specs.declared.effect.Holder.TheVariants.{InThread}
 use Rattle.state_rows.specs.declared.handle_slot.HandleSlot.{HandleSlot}
-use Rattle.machine.specs.declared.server_move.ServerMove.TheVariants.{Start, Join, Close, CloseAll, SetOpen}
+use Rattle.machine.specs.declared.server_move.ServerMove.TheVariants.{SetOpen}
 use Rattle.sym_base.specs.declared.kind.Slots.{Slots}
 use Rattle.machine.specs.SessionCalls.{make_session, connect_done, connect_send, connect_step, connect_to, send_connect, connect_make, session_made}
 use Rattle.move_laws.proofs.Lists.Totals.{inside}
@@ -53,7 +47,6 @@ use Rattle.move_laws.proofs.RowLaws.Tables.{free_index_inside, object_of_is}
 use Rattle.machine.specs.Handles.{taken_slot}
 use Rattle.state_rows.specs.declared.duty.Owed.{Owed}
 use Rattle.machine.specs.Steps.{return_of, step_of}
-use Rattle.machine.specs.Decide.{nothing}
 use Rattle.sym_base.specs.declared.word.Word.TheVariants as word
 use Rattle.move_laws.proofs.Lists.Cases.{if_cases}
 use Rattle.machine.specs.Messaging.{wake_receiver, open_server, slots_of, connects, no_args}
@@ -94,36 +87,6 @@ kept-later (Some (instr.Connect name slots x)) None e = absurd (cc)
 kept-later at None e = absurd (cc)
 kept-later at (Some p) e = refl
 
--- what is no server doesn't become one, once it is made
-server-set : (l : List (Option ServerRow)) (i j : ℕ) (x : Option ServerRow) → (i ≡ j → ⊥) → is_some (get_or l j None) ≡ false → is_some (get_or (slice_set l i x) j None) ≡ false
-server-set l i j x apart none = ap is_some (get_or-set_other l i j x None (λ at. apart (sym at))) ∙ none
-
-server-closing : (os : List ObjNo) (r : ServerRows) (s : ObjNo) → is_some (server_at r s) ≡ false → is_some (server_at (all_closing os r) s) ≡ false
-server-closing [] r s none = none
-server-closing (o ∷ os) r s none = server-closing os (after_closing r o) s (mapped-some closing r.servers o.0 s.0 ∙ none)
-
-server-lost : (h : Holder) (r : ServerRows) (s : ObjNo) → is_some (server_at r s) ≡ false → is_some (server_at (servers_lose h r) s) ≡ false
-server-lost (Link x) r s none = none
-server-lost _ r s none = none
-
-server-joined : (l : List (Option ServerRow)) (i j : ℕ) → is_some (get_or l j None) ≡ false → is_some (get_or (slice_set l i None) j None) ≡ false
-server-joined l i j none = set_item (λ (x : Option ServerRow). is_some x ≡ false) l i j None None (λ at. refl) none
-
-none-move : (script : Script) (S : State) (t : ObjNo) (m : Move) → FitsMove script t m S → (s : ObjNo) → s.0 < length S.references.objects → is_some (server_at S.serving.servers s) ≡ false → is_some (server_at (moved t m S).serving.servers s) ≡ false
-none-move script S t (Lose h o) fits s made none = server-lost h S.serving.servers s none
-none-move script S t (Servers (Start o u)) fits s made none = server-set S.serving.servers.servers o.0 s.0 _ (λ at. let next = ap (λ (x : ObjNo). x.0) fits.next in absurd (omega arith)) none
-none-move script S t (Servers (Join x o slots u)) fits s made none = server-joined S.serving.servers.servers x.0 s.0 none
-none-move script S t (Servers (Close o)) fits s made none = mapped-some closing S.serving.servers.servers o.0 s.0 ∙ none
-none-move script S t (Servers (CloseAll u)) fits s made none = server-closing (owned_by S.serving.owned u) S.serving.servers s none
-none-move script S t (Pay what) fits s made none = absurd fits
-none-move script S t m fits s made none = none
-
-none-each : (script : Script) (S : State) (t : ObjNo) (ms : List Move) → EachFits script t ms S → (s : ObjNo) → s.0 < length S.references.objects → is_some (server_at S.serving.servers s) ≡ false → is_some (server_at (perform t ms S).serving.servers s) ≡ false
-none-each script S t [] fits s made none = none
-none-each script S t (m ∷ ms) fits s made none =
-    let more = objects-move script S t m fits.0 in
-    none-each script (moved t m S) t ms fits.1 s (omega arith) (none-move script S t m fits.0 s made none)
-
 -- moves that carry a thread leave it with the handle
 kept-on : (script : Script) (S : State) (t : ObjNo) (ms : List Move) → EachFits script t ms S → (u : ObjNo) (row : ThreadRow) (c : Carries S (perform t ms S) u row) → ((s : ObjNo) → (slot_at (table_of S u) (index_of c.mid.old.found)).object ≡ Some s → s.0 < length S.references.objects) → KeepsHandle S u c.mid.old → KeepsHandle (perform t ms S) u row
 kept-on script S t ms fits u row c made was = record {
@@ -133,9 +96,6 @@ kept-on script S t ms fits u row c made was = record {
       let before : (slot_at (table_of S u) (index_of c.mid.old.found)).object ≡ Some s = ap (λ (n : ℕ). (slot_at (table_of S u) (index_of n)).object) c.mid.found ∙ (ap (λ (l : List HandleSlot). (slot_at l (index_of row.found)).object) (sym c.table) ∙ slot) in
       none-each script S t ms fits s (made s before) (was.other s before);
 }
-
-slot_made : (script : Script) (S : State) (u : ObjNo) (i : ℕ) (s : ObjNo) → AreRows script S → (slot_at (table_of S u) i).object ≡ Some s → s.0 < length S.references.objects
-slot_made script S u i s rows slot = alive_inside S.references.objects s.0 (rows.lives.alive s (handle_is_counted S u i s slot))
 
 -- neither the return nor the step that makes a session keeps a handle
 kept-return : (at : Option Instr) → keeps_handle at (Some part.Return) ≡ false
@@ -178,26 +138,26 @@ named-by o slot i n handle number index instance object =
 kept-fact : (script : Script) → IsFact script keeps_handle KeepsHandle
 kept-fact script = record {
   later = kept-later;
-  carried = λ S t ms rows u row c passes was. kept-on script S t ms passes.fits u row c (λ s slot. slot_made script S u (index_of c.mid.old.found) s rows slot) was;
-  paid = λ S t what u row mid was. record {
+  carried = λ S t ms rows has u row is c passes was. kept-on script S t ms passes.goes.each u row c (λ s slot. slot_made script S u (index_of c.mid.old.found) s rows slot) was;
+  paid = λ S t what u row is mid was. record {
     own = ap is_local (sym mid.found) ∙ was.own;
     there = ap (λ (l : List HandleSlot). is_some (look true l row.found)) (paid-table S t what u) ∙ (ap (λ (n : ℕ). is_some (look true (table_of S u) n)) (sym mid.found) ∙ was.there);
     other = λ s slot. paid-none S t what s (was.other s (ap (λ (n : ℕ). (slot_at (table_of S u) (index_of n)).object) mid.found ∙ (paid-slot S t what u (index_of row.found) ∙ slot)));
   };
 }
 
-module _ (script : Script) (S : State) (t : ObjNo) (rows : AreRows script S) (kept : KeepHandles script S) (unmade : is_some (server_at S.serving.servers (next_object S)) ≡ false) where
+module _ (script : Script) (S : State) (t : ObjNo) (rows : AreRows script S) (own : Owned S) (kept : KeepHandles script S) (unmade : is_some (server_at S.serving.servers (next_object S)) ≡ false) where
   abbrev KeptThen : Decision → Type 0
   KeptThen d = FactThen script keeps_handle KeepsHandle S t d
 
   answered-kept : {k : Kinds} (d : Decision) (code : ℤ) → d.answer ≡ Some code → FitsAction k script S t d → KeptThen d
-  answered-kept d code e fits = answered-fact script keeps_handle KeepsHandle (kept-fact script) S rows kept t d code e fits
+  answered-kept d code e fits = answered-fact script keeps_handle KeepsHandle (kept-fact script) S rows own kept t d code e fits
 
   other-kept : {k : Kinds} (d : Decision) (old : ThreadRow) (i : Instr) → thread_of S t ≡ Some old → instruction script old ≡ Some i → ((p : Option Part) → keeps_handle (Some i) p ≡ false) → FitsAction k script S t d → KeptThen d
-  other-kept d old i here at other fits = other-fact script keeps_handle KeepsHandle (kept-fact script) S rows kept t d old i here at other fits
+  other-kept d old i here at other fits = other-fact script keeps_handle KeepsHandle (kept-fact script) S rows own kept t d old i here at other fits
 
   early-kept : (d : Decision) (p : Option Part) → ((row : ThreadRow) → thread_of (perform t d.moves S) t ≡ Some row → row.part ≡ p) → ((at : Option Instr) → keeps_handle at p ≡ false) → KeptThen d
-  early-kept d p part early = early-fact script keeps_handle KeepsHandle (kept-fact script) S rows kept t d p part early
+  early-kept d p part early = early-fact script keeps_handle KeepsHandle (kept-fact script) S rows own kept t d p part early
 
   -- the session is made with its handle, and that is kept
   made-kept_handle : (o : ObjNo) (slots : Slots) (full : Bool) → is_full (table_of S t) ≡ full → FitsAction calling script S t (make_session t o slots (next_object S) (if full then None else Some (record { holder = InThread t (free_index (table_of S t)); number = new_handle true (table_of S t) }))) → KeptThen (make_session t o slots (next_object S) (if full then None else Some (record { holder = InThread t (free_index (table_of S t)); number = new_handle true (table_of S t) })))
@@ -234,7 +194,7 @@ module _ (script : Script) (S : State) (t : ObjNo) (rows : AreRows script S) (ke
       }
 
   idle-kept : KeptThen nothing
-  idle-kept = idle-fact script keeps_handle KeepsHandle (kept-fact script) S rows kept t
+  idle-kept = idle-fact script keeps_handle KeepsHandle (kept-fact script) S rows own kept t
 
   seek-kept : (found : Option ObjNo) → FitsAction looking script S t (seek_object t word.Connect found) → KeptThen (seek_object t word.Connect found)
   seek-kept None fits = answered-kept (seek_object t word.Connect None) _ refl fits
@@ -300,8 +260,8 @@ module _ (script : Script) (S : State) (t : ObjNo) (rows : AreRows script S) (ke
   kept-gives = record { steps = λ old i here live going at was fits. step-kept old i old.part here at was fits; returns = λ old i here live back at was fits. return-kept old i here at fits }
 
 -- each action leaves them, and at boot there are none
-pub kept-next : (script : Script) (S : State) → IsShaped script → AreRows script S → IsProperly script S → KeepHandles script S → is_some (server_at S.serving.servers (next_object S)) ≡ false → (actor : Actor) → KeepHandles script (next script S actor)
-kept-next script S shaped rows properly kept unmade actor = next-fact script keeps_handle KeepsHandle (kept-fact script) S rows kept shaped properly (λ t. kept-gives script S t rows kept unmade) actor
+pub kept-next : (script : Script) (S : State) → IsShaped script → AreRows script S → Owned S → IsProperly script S → KeepHandles script S → is_some (server_at S.serving.servers (next_object S)) ≡ false → (actor : Actor) → KeepHandles script (next script S actor)
+kept-next script S shaped rows own properly kept unmade actor = next-fact script keeps_handle KeepsHandle (kept-fact script) S rows own kept shaped properly (λ t. kept-gives script S t rows own kept unmade) actor
 
 pub kept-boot : (shared : Bool) (script : Script) → IsShaped script → KeepHandles script (boot_in shared script)
 kept-boot shared script shaped = boot-fact shared script keeps_handle KeepsHandle (kept-fact script) shaped

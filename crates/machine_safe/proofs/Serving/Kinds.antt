@@ -271,6 +271,6 @@ kinds-kept script = record {
       ]
     ];
   };
-  moves = λ by S t m ms rows fits proper q. kinds-move script by S t m ms fits proper q;
+  moves = λ by S t m ms rows fits proper q. let k = kinds-move script by S t m ms fits proper q in record { servers = k.servers; threads = k.threads; past = k.past; next = k.next; fresh = k.fresh };
   pays = λ S t what rows k. kinds-pay S t what k;
 }

@@ -4,10 +4,12 @@ use Rattle.entry_log.specs.declared.step.Part.TheVariants as part
 use Rattle.machine.specs.Rows.{object_of}
 use Rattle.machine.specs.WellFormed.{AreRows, IsAlive}
 use Rattle.machine_laws.proofs.Fitting.Living.{use_is_alive}
-use Rattle.machine_safe.proofs.Serving.Course.{IsMet, asks, kind_used, locks_at, logs_at, makes_at, sets_status, wants_at}
+use Rattle.machine_safe.proofs.Serving.Course.{IsMet, asks, kind_used, locks_at, logs_at, makes_at, sets_status, takes_at, wants_at}
 use Rattle.machine_safe.proofs.Serving.Kinds.{AreKinds}
 use Rattle.machine_safe.proofs.Serving.Met.{MetAt, asked, met-of}
-use Rattle.machine_safe.proofs.Serving.Proper.{is_kind}
+use Rattle.machine_safe.proofs.Serving.Proper.{is_kind, message_awaited}
+use Rattle.state_rows.specs.MessageChanges.{next_of}
+use Rattle.state_rows.specs.declared.thread.Waiting.TheVariants as waiting
 use Rattle.state_rows.specs.Nano.{want_of}
 use Rattle.state_rows.specs.Requests.{is_pending}
 use Rattle.state_rows.specs.ServerRows.{server_at}
@@ -36,19 +38,23 @@ use Rattle.script_types.specs.declared.script.Script.{Script}
 use Rattle.state_rows.specs.DeclaredCalls.{dfc_named}
 use Rattle.state_rows.specs.declared.thread.Stage.TheVariants.{Live}
 use Rattle.state_rows.specs.declared.thread.ThreadRow.{ThreadRow}
-use Rattle.std.proofs.Common.{Bool, List, None, Option, Some, [], ap, arith, sym, false, length, lt-ltb, refl, true, ℕ, ◌+◌, ◌<◌, ◌∙◌, ◌∷◌, ◌≡◌, not}
+use Rattle.std.proofs.Common.{Bool, List, None, Option, Some, [], ap, arith, sym, false, inl, inr, length, lt-ltb, refl, true, ℕ, ◌+◌, ◌<◌, ◌∙◌, ◌∷◌, ◌≡◌, not}
 use Rattle.std.specs.List.{list_any, position_or_len}
 use Rattle.std.specs.Prelude.{bytes_eq, if◌then◌else◌, is_some, nat_lt, position, ◌||◌}
 use Rattle.sym_base.specs.declared.number.ObjNo.{ObjNo}
 
 -- the object that a step uses is there
-pub unused-never : (script : Script) (S : State) → Facts script needs_use UsesOne S → (t : ObjNo) (old : ThreadRow) (i : Instr) → thread_of S t ≡ Some old → old.stage ≡ Live → instruction script old ≡ Some i → needs_use (Some i) old.part ≡ true → old.uses ≡ None → ⊥
+pub unused-never : (script : Script) (S : State) → Facts script needs_use UsesOne S
+    → (t : ObjNo) (old : ThreadRow) (i : Instr) → thread_of S t ≡ Some old → old.stage ≡ Live
+    → instruction script old ≡ Some i → needs_use (Some i) old.part ≡ true → old.uses ≡ None → ⊥
 unused-never script S used t old i is live at needs none =
     let some = used t old is live (ap (λ (x : Option Instr). needs_use x old.part) at ∙ needs) in
     let gone = ap is_some none in cc
 
 -- the session that a `connect` made is there as long as its handle is kept
-pub unkept-never : (script : Script) (S : State) → KeepHandles script S → (t : ObjNo) (old : ThreadRow) (i : Instr) → thread_of S t ≡ Some old → old.stage ≡ Live → instruction script old ≡ Some i → keeps_handle (Some i) old.part ≡ true → session_made S t old ≡ None → ⊥
+pub unkept-never : (script : Script) (S : State) → KeepHandles script S → (t : ObjNo) (old : ThreadRow) (i : Instr)
+    → thread_of S t ≡ Some old → old.stage ≡ Live → instruction script old ≡ Some i
+    → keeps_handle (Some i) old.part ≡ true → session_made S t old ≡ None → ⊥
 unkept-never script S kept t old i is live at keeps none = by (is_local old.found) has.own none
   where
     has : KeepsHandle S t old
@@ -63,7 +69,8 @@ inside : {A : Type 0} (f : A → Bool) (xs : List A) → list_any f xs ≡ true 
 inside f [] e = absurd (cc)
 inside f (x ∷ xs) e = by (f x) (λ some. inside f xs some) e
   where
-    by : (b : Bool) → (list_any f xs ≡ true → position_or_len f xs < length xs) → (b || list_any f xs) ≡ true → (if not b then 1 + position_or_len f xs else 0) < length (x ∷ xs)
+    by : (b : Bool) → (list_any f xs ≡ true → position_or_len f xs < length xs) → (b || list_any f xs) ≡ true
+        → (if not b then 1 + position_or_len f xs else 0) < length (x ∷ xs)
     by true rest e = omega arith
     by false rest e = let within = rest e in omega arith
 
@@ -75,7 +82,8 @@ placed f xs some none = by (nat_lt (position_or_len f xs) (length xs)) (lt-ltb (
     by false e none = cc
 
 -- the call that an instruction queues is declared
-pub unnamed-never : (script : Script) (old : ThreadRow) (i : Instr) (name : List ℕ) → IsShaped script → instruction script old ≡ Some i → call_name i ≡ Some name → dfc_named script name ≡ None → ⊥
+pub unnamed-never : (script : Script) (old : ThreadRow) (i : Instr) (name : List ℕ) → IsShaped script
+    → instruction script old ≡ Some i → call_name i ≡ Some name → dfc_named script name ≡ None → ⊥
 unnamed-never script old (instr.Queue word) name shaped at names none =
     let same : word ≡ name = cc in
     placed (λ (d : DfcDecl). bytes_eq word d.name) script.dfcs (has_names script old (instr.Queue word) shaped at) (ap (dfc_named script) same ∙ none)
@@ -103,6 +111,10 @@ asks-wanting : (i : Instr) (p : Option Part) → wants_at i p ≡ true → asks 
 asks-wanting (instr.Flock f) (Some part.Done) e = refl
 asks-wanting i p e = absurd (cc)
 
+asks-taking : (i : Instr) (p : Option Part) → takes_at i p ≡ true → asks i p ≡ true
+asks-taking (instr.Receive x y) (Some part.Done) e = refl
+asks-taking i p e = absurd (cc)
+
 module _ (script : Script) (S : State) (rows : AreRows script S) (kinds : AreKinds S) (has : Facts script asked (MetAt script) S) (t : ObjNo) (old : ThreadRow) (i : Instr) (is : thread_of S t ≡ Some old) (live : old.stage ≡ Live) (at : instruction script old ≡ Some i) where
   met : IsMet S t old i old.part
   met = met-of script S has t old i is live at
@@ -116,7 +128,8 @@ module _ (script : Script) (S : State) (rows : AreRows script S) (kinds : AreKin
   unwanted-never wants none = let some = (met (asks-wanting i old.part wants)).wanted wants in let gone = ap is_some none in cc
 
   -- what it uses is there, and of its kind
-  used-row : (k : Kind) (o : ObjNo) → asks i old.part ≡ true → kind_used i old.part ≡ Some k → old.uses ≡ Some o → (row : ObjectRow) × (object_of S o ≡ Some row) × (is_kind k row.kind ≡ true)
+  used-row : (k : Kind) (o : ObjNo) → asks i old.part ≡ true → kind_used i old.part ≡ Some k → old.uses ≡ Some o
+      → (row : ObjectRow) × (object_of S o ≡ Some row) × (is_kind k row.kind ≡ true)
   used-row k o asked used uses = by (object_of S o) refl (use_is_alive S t old o rows.lives is uses)
     where
       by : (x : Option ObjectRow) → object_of S o ≡ x → IsAlive x → (row : ObjectRow) × (object_of S o ≡ Some row) × (is_kind k row.kind ≡ true)
@@ -145,3 +158,10 @@ module _ (script : Script) (S : State) (rows : AreRows script S) (kinds : AreKin
       let row = used-row kind.Server o asks_so.0 asks_so.1 uses in
       let some : is_some (server_at S.serving.servers o) ≡ true = kinds.servers o row.0 row.1 ∙ row.2 in
       let gone = ap is_some none in cc
+
+  -- the message for which its thread waited is there, once it waits no longer
+  pub empty-never : (o : ObjNo) → takes_at i old.part ≡ true → old.uses ≡ Some o → old.waiting ≡ waiting.Nothing → next_of S.serving.messages o ≡ None → ⊥
+  empty-never o takes uses awake none = elim ((met (asks-taking i old.part takes)).came o takes uses) as (λ _. ⊥) [
+    | inl waits ↦ let nothing = ap message_awaited awake in cc
+    | inr there ↦ let some = there.0 in let gone = ap is_some none in cc
+  ]

@@ -7,8 +7,10 @@ use Rattle.machine_laws.proofs.Fitting.Interrupts.{goes-immediate, goes-interrup
 use Rattle.machine_laws.proofs.Fitting.Regular.{doomed_bit}
 use Rattle.move_laws.proofs.Lists.Totals.{inside}
 use Rattle.machine_safe.proofs.Serving.Proceeding.{IsProperly, Proceeding, fits-any, proceeding, properly, returns, steps}
-use Rattle.machine_safe.proofs.Serving.Proper.{AreProper, Going, goes_on, stepping}
-use Rattle.machine_safe.proofs.Serving.ProperLists.{proper-body, proper-give}
+use Rattle.machine_safe.proofs.Serving.Proper.{AreProper, resting, stepping}
+use Rattle.machine_safe.proofs.Serving.Owning.{Owned}
+use Rattle.machine_safe.proofs.Serving.ProperLists.{proper-body}
+use Rattle.machine_safe.proofs.Serving.ProperGiving.{proper-give}
 use Rattle.machine.specs.declared.plan.Body.TheVariants.{Interrupt}
 use Rattle.machine_laws.proofs.Fitting.Regular.{plain}
 use Rattle.machine.specs.Decide.{nothing}
@@ -61,17 +63,20 @@ use Rattle.machine_safe.proofs.Deaths.Runs.{dies-next}
 
 -- proper moves of an action that pass a thread by: it isn't the one that goes on, and isn't doomed
 pub record Passes (script : Script) (S : State) (t : ObjNo) (ms : List Move) (u : ObjNo) : Type 0 where
-  pub fits : EachFits script t ms S
-  pub by : Going
-  pub proper : AreProper script by ms
-  pub apart : goes_on by ≡ Some u → ⊥
+  pub goes : IsGoing script S t ms
+  pub own : Owned S
+  pub on : Option ObjNo
+  pub proper : AreProper script (on, S, None) ms
+  pub apart : on ≡ Some u → ⊥
+  pub stays : t.0 ≡ u.0 → total going_bit ms ≡ 0
   pub undoomed : total (doomed_bit u) ms ≡ 0
 
 -- A fact that is due at some steps, all of them later ones of their instructions: moves that carry a thread leave it, and so does a payment.
 pub record IsFact (script : Script) (due : Option Instr → Option Part → Bool) (F : State → ObjNo → ThreadRow → Type 0) : Type 0 where
   pub later : (i : Option Instr) (p : Option Part) → due i p ≡ true → is_some p ≡ true
-  pub carried : (S : State) (t : ObjNo) (ms : List Move) → AreRows script S → (u : ObjNo) (row : ThreadRow) (c : Carries S (perform t ms S) u row) → Passes script S t ms u → F S u c.mid.old → F (perform t ms S) u row
-  pub paid : (S : State) (t : ObjNo) (what : Owed) (u : ObjNo) (row : ThreadRow) (mid : WasMidway S.references.threads u.0 row) → F S u mid.old → F (moved t (Pay what) S) u row
+  pub carried : (S : State) (t : ObjNo) (ms : List Move) → AreRows script S → ((v : ObjNo) (r : ThreadRow) → thread_of S v ≡ Some r → r.stage ≡ Live → due (instruction script r) r.part ≡ true → F S v r)
+      → (u : ObjNo) (row : ThreadRow) → thread_of (perform t ms S) u ≡ Some row → (c : Carries S (perform t ms S) u row) → Passes script S t ms u → F S u c.mid.old → F (perform t ms S) u row
+  pub paid : (S : State) (t : ObjNo) (what : Owed) (u : ObjNo) (row : ThreadRow) → thread_of (moved t (Pay what) S) u ≡ Some row → (mid : WasMidway S.references.threads u.0 row) → F S u mid.old → F (moved t (Pay what) S) u row
 
 -- it holds wherever it is due
 abbrev pub Facts : Script → (Option Instr → Option Part → Bool) → (State → ObjNo → ThreadRow → Type 0) → State → Type 0
@@ -130,9 +135,9 @@ pub record StepsGive (script : Script) (due : Option Instr → Option Part → B
   pub steps : (old : ThreadRow) (i : Instr) → thread_of S t ≡ Some old → old.stage ≡ Live → is_returning old.part ≡ false → instruction script old ≡ Some i → (due (Some i) old.part ≡ true → F S t old) → FitsAction (kind_of i old.part) script S t (step_of script S t old i old.part) → FactThen script due F S t (step_of script S t old i old.part)
   pub returns : (old : ThreadRow) (i : Instr) → thread_of S t ≡ Some old → old.stage ≡ Live → is_returning old.part ≡ true → instruction script old ≡ Some i → (due (Some i) old.part ≡ true → F S t old) → FitsAction looking script S t (return_of S t old i) → FactThen script due F S t (return_of S t old i)
 
-module _ (script : Script) (due : Option Instr → Option Part → Bool) (F : State → ObjNo → ThreadRow → Type 0) (fact : IsFact script due F) (S : State) (rows : AreRows script S) (has : Facts script due F S) where
-  pub fact-carried : (t : ObjNo) (ms : List Move) → IsGoing script S t ms → (by : Going) → AreProper script by ms → (u : ObjNo) (row : ThreadRow) → (goes_on by ≡ Some u → ⊥) → (t.0 ≡ u.0 → total going_bit ms ≡ 0) → thread_of (perform t ms S) u ≡ Some row → row.stage ≡ Live → due (instruction script row) row.part ≡ true → F (perform t ms S) u row
-  fact-carried t ms goes by proper u row apart stays is live owes =
+module _ (script : Script) (due : Option Instr → Option Part → Bool) (F : State → ObjNo → ThreadRow → Type 0) (fact : IsFact script due F) (S : State) (rows : AreRows script S) (own : Owned S) (has : Facts script due F S) where
+  pub fact-carried : (t : ObjNo) (ms : List Move) → IsGoing script S t ms → (on : Option ObjNo) → AreProper script (on, S, None) ms → (u : ObjNo) (row : ThreadRow) → (on ≡ Some u → ⊥) → (t.0 ≡ u.0 → total going_bit ms ≡ 0) → thread_of (perform t ms S) u ≡ Some row → row.stage ≡ Live → due (instruction script row) row.part ≡ true → F (perform t ms S) u row
+  fact-carried t ms goes on proper u row apart stays is live owes =
       let c = carries-each script S t ms goes.each u row stays (fact.later (instruction script row) row.part owes) is in
       let lives = (each-dies script S t ms goes.each goes.few goes.sane).live u in
       let one = ap (row_bit stage_live) is ∙ ap stage_live live in
@@ -140,14 +145,14 @@ module _ (script : Script) (due : Option Instr → Option Part → Bool) (F : St
       let told = doom-told t ms S u in
       let at : instruction script row ≡ instruction script c.mid.old = same-instruction script c.mid.old row c.mid.role (sym c.mid.place) in
       let before : due (instruction script c.mid.old) c.mid.old.part ≡ true = ap (due (instruction script c.mid.old)) c.mid.part ∙ (ap (λ (i : Option Instr). due i row.part) (sym at) ∙ owes) in
-      fact.carried S t ms rows u row c (record { fits = goes.each; by = by; proper = proper; apart = apart; undoomed = omega arith }) (has u c.mid.old c.mid.was (c.mid.live live) before)
+      fact.carried S t ms rows has u row is c (record { goes = goes; own = own; on = on; proper = proper; apart = apart; stays = stays; undoomed = omega arith }) (has u c.mid.old c.mid.was (c.mid.live live) before)
 
   -- what is owed is paid
   fact-paid : (t : ObjNo) (what : Owed) (u : ObjNo) (row : ThreadRow) → thread_of (moved t (Pay what) S) u ≡ Some row → row.stage ≡ Live → due (instruction script row) row.part ≡ true → F (moved t (Pay what) S) u row
   fact-paid t what u row is live owes =
       let mid = midway-pay S t what u.0 row is in
       let at : instruction script row ≡ instruction script mid.old = same-instruction script mid.old row mid.role (sym mid.place) in
-      fact.paid S t what u row mid (has u mid.old mid.was (mid.live live) (ap (due (instruction script mid.old)) mid.part ∙ (ap (λ (i : Option Instr). due i row.part) (sym at) ∙ owes)))
+      fact.paid S t what u row is mid (has u mid.old mid.was (mid.live live) (ap (due (instruction script mid.old)) mid.part ∙ (ap (λ (i : Option Instr). due i row.part) (sym at) ∙ owes)))
 
   abbrev Then : ObjNo → Decision → Type 0
   Then t d = FactThen script due F S t d
@@ -197,13 +202,13 @@ module _ (script : Script) (due : Option Instr → Option Part → Bool) (F : St
   pub going-of : {k : Kinds} {t : ObjNo} {d : Decision} → FitsAction k script S t d → (row : ThreadRow) → thread_of (perform t d.moves S) t ≡ Some row → IsGoing script S t d.moves
   going-of {t = t} {d = d} fits row is = let w = at-each script S t d.moves fits.goes.each t.0 row is in record { sane = record { rows = rows; inside = inside S.references.threads t.0 w.old w.was }; each = fits.goes.each; few = fits.goes.few }
 
-  staying-fact : {k : Kinds} (t : ObjNo) (d : Decision) → k.goes ≡ false → AreProper script None d.moves → FitsAction k script S t d → Then t d
+  staying-fact : {k : Kinds} (t : ObjNo) (d : Decision) → k.goes ≡ false → AreProper script (resting S) d.moves → FitsAction k script S t d → Then t d
   staying-fact t d stays proper fits row is live owes = fact-carried t d.moves (going-of fits row is) None proper t row (λ e. absurd (cc)) (λ _. fits.regular.goes stays) is live owes
 
   give-fact : (t : ObjNo) (old : ThreadRow) (what : Holding) → IsGiven S t what → FitsAction (kind_given what) script S t (give_up S t old what) → LivedBefore t (give_up S t old what) → Then t (give_up S t old what)
   give-fact t old (holding.Handle h o) given fits lived = dead-fact t (give_up S t old (holding.Handle h o)) given.1 lived
   give-fact t old (holding.Use o) given fits lived = dead-fact t (give_up S t old (holding.Use o)) given lived
-  give-fact t old what given fits lived = staying-fact t (give_up S t old what) refl (proper-give script S t old what) fits
+  give-fact t old what given fits lived = staying-fact t (give_up S t old what) refl (proper-give script S rows t old what given) fits
 
   -- the row of one that lived
   live-before : (t : ObjNo) (old : ThreadRow) → thread_of S t ≡ Some old → IsLiveThread S.references.threads t → old.stage ≡ Live
@@ -237,7 +242,7 @@ module _ (script : Script) (due : Option Instr → Option Part → Bool) (F : St
   -- another thread's action
   others-fact : (t : ObjNo) (ms : List Move) → Doing script S t ms → AreProper script (stepping S t) ms → (u : ObjNo) (row : ThreadRow) → (t.0 ≡ u.0 → ⊥) → thread_of (perform t ms S) u ≡ Some row → row.stage ≡ Live → due (instruction script row) row.part ≡ true → F (perform t ms S) u row
   others-fact t ms does proper u row apart is live owes = elim does as (λ _. F (perform t ms S) u row) [
-    | inl goes ↦ fact-carried t ms goes (stepping S t) proper u row (λ e. let own : t ≡ u = cc in apart (ap (λ (x : ObjNo). x.0) own)) (λ at. absurd (apart at)) is live owes
+    | inl goes ↦ fact-carried t ms goes (Some t) proper u row (λ e. let own : t ≡ u = cc in apart (ap (λ (x : ObjNo). x.0) own)) (λ at. absurd (apart at)) is live owes
     | inr other ↦ elim other as (λ _. F (perform t ms S) u row) [
       | inl pays ↦ subst (λ (l : List Move). F (perform t l S) u row) (sym pays.moves) (fact-paid t pays.what u row (ap (λ (l : List Move). thread_of (perform t l S) u) (sym pays.moves) ∙ is) live owes)
       | inr none ↦ subst (λ (l : List Move). F (perform t l S) u row) (sym none) (has u row (ap (λ (l : List Move). thread_of (perform t l S) u) (sym none) ∙ is) live owes)
@@ -259,7 +264,7 @@ module _ (script : Script) (due : Option Instr → Option Part → Bool) (F : St
 
   interrupt-fact : (k : ℕ) → IsShaped script → Facts script due F (interrupt script S k).state
   unfolding interrupt
-  interrupt-fact k shaped u row is live owes = let light = light-interrupt script S k shaped rows in let goes = goes-interrupt script S k shaped rows in fact-carried supervisor _ (record { sane = sane-supervisor script S rows; each = light.each; few = goes.few }) None (proper-body script supervisor S (Interrupt k)) u row (λ e. absurd (cc)) (λ _. light.calm.goes refl) is live owes
+  interrupt-fact k shaped u row is live owes = let light = light-interrupt script S k shaped rows in let goes = goes-interrupt script S k shaped rows in fact-carried supervisor _ (record { sane = sane-supervisor script S rows; each = light.each; few = goes.few }) None (proper-body script S supervisor (Interrupt k)) u row (λ e. absurd (cc)) (λ _. light.calm.goes refl) is live owes
 
   immediate-fact : IsShaped script → IsProperly script S → Facts script due F (immediate script S).state
   unfolding immediate

@@ -1,19 +1,38 @@
--- What the moves of an action do beside fitting: a thread begins requests, sets statuses and wants fast mutexes of its own; whose suspensions and wants
--- end at once is doomed behind that; a call that is queued is declared, or a burial; and a server is made as its owner's own, and all else by a handle.
-use Rattle.std.proofs.Common.{Bool, List, None, Option, Some, [], length, arith, false, refl, true, ℕ, ◌++◌, ◌<◌, ◌∷◌, ◌≡◌}
+-- What the moves of an action do beside fitting: a thread begins requests, sets statuses, waits and wants fast mutexes of its own; whose suspensions and
+-- wants end at once is doomed behind that; a call that is queued is declared, or a burial; a server is made as its owner's own, and all else by a
+-- handle; no table gets a server, but that of the thread that makes it; messages are sent to servers that aren't closing, taken by a thread at a
+-- `receive`, and finished once they are taken, or as their server is closing; and who waits for a message is woken only as one is sent to that server.
+use Rattle.std.proofs.Common.{Bool, List, None, Option, Some, [], length, arith, false, inl, inr, refl, true, ℕ, ◌++◌, ◌<◌, ◌∷◌, ◌≡◌, ◌⊎◌}
 use Rattle.std.specs.Prelude.{is_some, nat_lt, slice_get, ◌==◌}
 use Rattle.sym_base.specs.declared.kind.Kind.{Kind}
 use Rattle.sym_base.specs.declared.kind.Kind.TheVariants as kind
+use Rattle.sym_base.specs.declared.number.MsgNo.{MsgNo}
 use Rattle.sym_base.specs.declared.number.ObjNo.{ObjNo}
+use Rattle.script_types.specs.declared.instruction.Instr.{Instr}
+use Rattle.script_types.specs.declared.instruction.Instr.TheVariants as instr
 use Rattle.script_types.specs.declared.script.Script.{Script}
 use Rattle.entry_log.specs.declared.effect.Holder.{Holder}
-use Rattle.entry_log.specs.declared.effect.Holder.TheVariants.{Own}
+use Rattle.entry_log.specs.declared.effect.Holder.TheVariants.{InProcess, InThread, Own}
+use Rattle.entry_log.specs.declared.step.Part.{Part}
+use Rattle.entry_log.specs.declared.step.Part.TheVariants as part
+use Rattle.state_rows.specs.MessageRows.{message_of}
+use Rattle.state_rows.specs.ServerRows.{is_closing}
+use Rattle.state_rows.specs.declared.messages.Message.{Message}
+use Rattle.state_rows.specs.declared.object.ObjectRow.{ObjectRow}
+use Rattle.state_rows.specs.declared.thread.Stage.TheVariants.{Live}
+use Rattle.state_rows.specs.declared.thread.ThreadRow.{ThreadRow}
+use Rattle.state_rows.specs.declared.thread.Waiting.{Waiting}
+use Rattle.state_rows.specs.declared.thread.Waiting.TheVariants as waiting
+use Rattle.machine.specs.EntryWords.{is_handle}
+use Rattle.machine.specs.Rows.{object_of, thread_of}
+use Rattle.machine.specs.Task.{instruction}
 use Rattle.machine.specs.declared.deferred_move.DeferredMove.TheVariants.{Add, AddFromInterrupt}
+use Rattle.machine.specs.declared.message_move.MessageMove.TheVariants as message
 use Rattle.machine.specs.declared.moves.Move.{Move}
-use Rattle.machine.specs.declared.moves.Move.TheVariants.{Deferred, Make, Nano, Requests, Servers}
+use Rattle.machine.specs.declared.moves.Move.TheVariants.{Deferred, Gain, Lose, Make, Messages, Nano, Requests, Servers, Wait, Wake}
 use Rattle.machine.specs.declared.nano_move.NanoMove.TheVariants.{Release, Take, Want}
 use Rattle.machine.specs.declared.request_move.RequestMove.TheVariants.{Begin, SetPending}
-use Rattle.machine.specs.declared.server_move.ServerMove.TheVariants.{Join, Start}
+use Rattle.machine.specs.declared.server_move.ServerMove.TheVariants.{Close, CloseAll, Join, Start}
 use Rattle.machine.specs.References.{total}
 use Rattle.machine.specs.declared.state.State.{State}
 use Rattle.machine_laws.proofs.Fitting.Regular.{doomed_bit}
@@ -43,24 +62,90 @@ abbrev pub join_bit : Move → ℕ
 join_bit (Servers (Join s o slots u)) = 1
 join_bit m = 0
 
--- who goes on with its instruction in an action, with how many objects there were before it
+-- who goes on with its instruction in an action, the state before it, and the server of the last message that is sent in it before some moves
 abbrev pub Going : Type 0
-Going = Option (ObjNo × ℕ)
+Going = Option ObjNo × State × Option ObjNo
 
 abbrev pub goes_on : Going → Option ObjNo
-goes_on None = None
-goes_on (Some by) = Some by.0
+goes_on by = by.0
+
+-- the number of the first object that is made, if somebody goes on
+abbrev pub first_made : Option ObjNo → State → Option ℕ
+first_made None S = None
+first_made (Some t) S = Some (length S.references.objects)
 
 abbrev pub number_made : Going → Option ℕ
-number_made None = None
-number_made (Some by) = Some by.1
+number_made by = first_made by.0 by.1
 
 abbrev pub stepping : State → ObjNo → Going
-stepping S t = Some (t, length S.references.objects)
+stepping S t = (Some t, S, None)
+
+abbrev pub resting : State → Going
+resting S = (None, S, None)
+
+abbrev pub sent_to : Move → Option ObjNo → Option ObjNo
+sent_to (Messages (message.Accept slots row)) last = Some row.server
+sent_to m last = last
+
+abbrev pub onward : Going → Move → Going
+onward by m = (by.0, by.1, sent_to m by.2)
+
+-- an object that is there, and is no server
+abbrev pub IsOther : State → ObjNo → Type 0
+IsOther S o = (row : ObjectRow) × (object_of S o ≡ Some row) × (is_kind kind.Server row.kind ≡ false)
+
+-- what a table may get: no server, but that which is made now by the thread of the table
+abbrev pub MayHave : Going → Holder → ObjNo → Type 0
+MayHave by (InProcess p i) o = IsOther by.1 o
+MayHave by (InThread u i) o = IsOther by.1 o ⊎ ((o.0 ≡ length by.1.references.objects) × (goes_on by ≡ Some u))
+MayHave by h o = Unit {0}
+
+-- the server for whose message a thread waits
+abbrev pub message_awaited : Waiting → Option ObjNo
+message_awaited (waiting.Receive o) = Some o
+message_awaited what = None
+
+abbrev pub awaited_by : Option ThreadRow → Option ObjNo
+awaited_by None = None
+awaited_by (Some row) = message_awaited row.waiting
+
+-- who is woken
+abbrev pub MayWake : Going → ObjNo → Type 0
+MayWake by u = (o : ObjNo) → awaited_by (thread_of by.1 u) ≡ Some o → by.2 ≡ Some o
+
+-- the steps of a `receive` behind its look
+abbrev pub receiving : Option Instr → Option Part → Bool
+receiving (Some (instr.Receive x y)) (Some part.Do) = true
+receiving (Some (instr.Receive x y)) (Some part.Done) = true
+receiving at p = false
+
+-- who takes a message of a server
+pub record IsTaking (script : Script) (by : Going) (o : ObjNo) : Type 0 where
+  pub thread : ObjNo
+  pub on : goes_on by ≡ Some thread
+  pub row : ThreadRow
+  pub is : thread_of by.1 thread ≡ Some row
+  pub live : row.stage ≡ Live
+  pub uses : row.uses ≡ Some o
+  pub at : receiving (instruction script row) row.part ≡ true
+
+-- which message is finished
+pub record MayFinish (S : State) (m : MsgNo) : Type 0 where
+  pub row : Message
+  pub there : message_of S.serving.messages m ≡ Some row
+  pub over : (row.row.taken ≡ true) ⊎ (is_closing S.serving.servers row.row.server ≡ true)
+
+-- the first of some moves takes a handle of an object away
+abbrev pub LosesFirst : ObjNo → List Move → Type 0
+LosesFirst o (Lose h x ∷ ms) = (is_handle h ≡ true) × (x ≡ o)
+LosesFirst o ms = ⊥
 
 -- a move, with those behind it, in an action
 abbrev pub IsProper : Script → Going → Move → List Move → Type 0
 IsProper script by (Make k name h) ms = IsMadeBy k h
+IsProper script by (Gain h o) ms = MayHave by h o
+IsProper script by (Wait u what) ms = goes_on by ≡ Some u
+IsProper script by (Wake u) ms = MayWake by u
 IsProper script by (Nano (Take u f)) ms = goes_on by ≡ Some u
 IsProper script by (Nano (Want u f)) ms = goes_on by ≡ Some u
 IsProper script by (Nano (Release u)) ms = 0 < total (doomed_bit u) ms
@@ -68,13 +153,18 @@ IsProper script by (Requests (Begin d u s)) ms = goes_on by ≡ Some u
 IsProper script by (Requests (SetPending u s)) ms = goes_on by ≡ Some u
 IsProper script by (Deferred (Add dfc queue)) ms = IsCalled script dfc
 IsProper script by (Deferred (AddFromInterrupt dfc)) ms = is_some (slice_get script.dfcs dfc) ≡ true
-IsProper script by (Servers (Start o u)) ms = (makes_own ms ≡ true) × (total join_bit ms ≡ 0)
+IsProper script by (Servers (Start o u)) ms = (makes_own ms ≡ true) × (total join_bit ms ≡ 0) × (goes_on by ≡ Some u)
 IsProper script by (Servers (Join s o slots u)) ms = number_made by ≡ Some s.0
+IsProper script by (Servers (Close o)) ms = LosesFirst o ms
+IsProper script by (Servers (CloseAll u)) ms = 0 < total (doomed_bit u) ms
+IsProper script by (Messages (message.Accept slots row)) ms = is_closing by.1.serving.servers row.server ≡ false
+IsProper script by (Messages (message.Take o)) ms = IsTaking script by o
+IsProper script by (Messages (message.Finish m code)) ms = MayFinish by.1 m
 IsProper script by m ms = Unit {0}
 
 abbrev pub AreProper : Script → Going → List Move → Type 0
 AreProper script by [] = Unit {0}
-AreProper script by (m ∷ ms) = IsProper script by m ms × AreProper script by ms
+AreProper script by (m ∷ ms) = IsProper script by m ms × AreProper script (onward by m) ms
 
 -- the same before further moves
 own-behind : (ms ns : List Move) → makes_own ms ≡ true → makes_own (ms ++ ns) ≡ true
@@ -82,36 +172,95 @@ own-behind [] ns e = absurd (cc)
 own-behind (Make k name (Own t) ∷ ms) ns e = refl
 own-behind (m ∷ ms) ns e = absurd (cc)
 
-proper-behind : (script : Script) (by : Going) (m : Move) (ms ns : List Move) → total join_bit ns ≡ 0 → IsProper script by m ms → IsProper script by m (ms ++ ns)
-proper-behind script by (Nano (Release u)) ms ns none some = let all = total-append (doomed_bit u) ms ns in omega arith
-proper-behind script by (Servers (Start o u)) ms ns none is = (own-behind ms ns is.0, (let all = total-append join_bit ms ns in let first = is.1 in omega arith))
+loses-behind : (o : ObjNo) (ms ns : List Move) → LosesFirst o ms → LosesFirst o (ms ++ ns)
+loses-behind o [] ns h = absurd h
+loses-behind o (Lose h x ∷ ms) ns is = is
+loses-behind o (m ∷ ms) ns h = absurd h
+
+proper-behind : (script : Script) (by : Going) (m : Move) (ms ns : List Move) → total join_bit ns ≡ 0
+    → IsProper script by m ms → IsProper script by m (ms ++ ns)
 proper-behind script by (Requests (Begin d u s)) ms ns none is = is
 proper-behind script by (Deferred (Add dfc queue)) ms ns none is = is
+proper-behind script by (Nano (Release u)) ms ns none some = let all = total-append (doomed_bit u) ms ns in omega arith
+proper-behind script by (Servers (Start o u)) ms ns none is =
+    (own-behind ms ns is.0, (let all = total-append join_bit ms ns in let first = is.1 in omega arith), is.2)
+proper-behind script by (Servers (Close o)) ms ns none is = loses-behind o ms ns is
+proper-behind script by (Servers (CloseAll u)) ms ns none some = let all = total-append (doomed_bit u) ms ns in omega arith
+proper-behind script by (Messages (message.Take o)) ms ns none is = is
 proper-behind script by m ms ns none is = is
 
-pub proper-both : (script : Script) (by : Going) (ms ns : List Move) → total join_bit ns ≡ 0 → AreProper script by ms → AreProper script by ns → AreProper script by (ms ++ ns)
-proper-both script by [] ns none are more = more
-proper-both script by (m ∷ ms) ns none are more = (proper-behind script by m ms ns none are.0, proper-both script by ms ns none are.1 more)
+-- and behind others
+later-one : (script : Script) (on : Option ObjNo) (S : State) (last : Option ObjNo) (m : Move) (ms : List Move)
+    → IsProper script (on, S, None) m ms → IsProper script (on, S, last) m ms
+later-one script on S last (Nano (Release u)) ms is = is
+later-one script on S last (Servers (Start o u)) ms is = is
+later-one script on S last (Wake u) ms may = λ o is. let none = may o is in absurd (cc)
+later-one script on S last (Requests (Begin d u s)) ms is = is
+later-one script on S last (Deferred (Add dfc queue)) ms is = is
+later-one script on S last (Messages (message.Take o)) ms is = record {
+  thread = is.thread;
+  on = is.on;
+  row = is.row;
+  is = is.is;
+  live = is.live;
+  uses = is.uses;
+  at = is.at;
+}
+later-one script on S last (Gain (InThread u i) o) ms is = is
+later-one script on S last m ms is = is
+
+later : (script : Script) (on : Option ObjNo) (S : State) (last : Option ObjNo) (ms : List Move)
+    → AreProper script (on, S, None) ms → AreProper script (on, S, last) ms
+later script on S last [] are = tt
+later script on S last (Messages (message.Accept slots row) ∷ ms) are = (are.0, are.1)
+later script on S last (m ∷ ms) are = (later-one script on S last m ms are.0, later script on S last ms are.1)
+
+pub proper-then : (script : Script) (by : Going) (ms ns : List Move) → total join_bit ns ≡ 0 → AreProper script by ms
+    → AreProper script (by.0, by.1, None) ns → AreProper script by (ms ++ ns)
+proper-then script by [] ns none are more = later script by.0 by.1 by.2 ns more
+proper-then script by (m ∷ ms) ns none are more = (proper-behind script by m ms ns none are.0, proper-then script (onward by m) ms ns none are.1 more)
 
 -- nobody joins sessions where nobody goes on
-nobody-joins : (script : Script) (m : Move) (ms : List Move) → IsProper script None m ms → join_bit m ≡ 0
-nobody-joins script (Servers (Join s o slots u)) ms is = absurd (cc)
-nobody-joins script m ms is = refl
+nobody-joins : (script : Script) (S : State) (last : Option ObjNo) (m : Move) (ms : List Move) → IsProper script (None, S, last) m ms → join_bit m ≡ 0
+nobody-joins script S last (Servers (Join s o slots u)) ms is = absurd (cc)
+nobody-joins script S last m ms is = refl
 
-pub nobody-joined : (script : Script) (ms : List Move) → AreProper script None ms → total join_bit ms ≡ 0
-nobody-joined script [] are = refl
-nobody-joined script (m ∷ ms) are = let one = nobody-joins script m ms are.0 in let rest = nobody-joined script ms are.1 in omega arith
+pub nobody-joined : (script : Script) (S : State) (last : Option ObjNo) (ms : List Move) → AreProper script (None, S, last) ms → total join_bit ms ≡ 0
+nobody-joined script S last [] are = refl
+nobody-joined script S last (m ∷ ms) are =
+    let one = nobody-joins script S last m ms are.0 in
+    let rest = nobody-joined script S (sent_to m last) ms are.1 in
+    omega arith
 
 -- what is proper by nobody's going on is so by anybody's
-proper-one : (script : Script) (by : Going) (m : Move) (ms : List Move) → IsProper script None m ms → IsProper script by m ms
-proper-one script by (Nano (Take u f)) ms is = absurd (cc)
-proper-one script by (Nano (Want u f)) ms is = absurd (cc)
-proper-one script by (Requests (Begin d u s)) ms is = absurd (cc)
-proper-one script by (Requests (SetPending u s)) ms is = absurd (cc)
-proper-one script by (Servers (Join s o slots u)) ms is = absurd (cc)
-proper-one script by (Deferred (Add dfc queue)) ms is = is
-proper-one script by m ms is = is
+proper-one : (script : Script) (t : ObjNo) (S : State) (last : Option ObjNo) (m : Move) (ms : List Move)
+    → IsProper script (None, S, last) m ms → IsProper script (Some t, S, last) m ms
+proper-one script t S last (Wait u what) ms is = absurd (cc)
+proper-one script t S last (Nano (Take u f)) ms is = absurd (cc)
+proper-one script t S last (Nano (Want u f)) ms is = absurd (cc)
+proper-one script t S last (Requests (Begin d u s)) ms is = absurd (cc)
+proper-one script t S last (Requests (SetPending u s)) ms is = absurd (cc)
+proper-one script t S last (Servers (Start o u)) ms is = let none = is.2 in absurd (cc)
+proper-one script t S last (Servers (Join s o slots u)) ms is = absurd (cc)
+proper-one script t S last (Messages (message.Take o)) ms is = let none = is.on in absurd (cc)
+proper-one script t S last (Deferred (Add dfc queue)) ms is = is
+proper-one script t S last (Gain (InThread u i) o) ms is = elim is as (λ _. MayHave (Some t, S, last) (InThread u i) o) [
+  | inl other ↦ inl other
+  | inr made ↦ let none = made.1 in absurd (cc)
+]
+proper-one script t S last m ms is = is
 
-pub proper-any : (script : Script) (by : Going) (ms : List Move) → AreProper script None ms → AreProper script by ms
-proper-any script by [] are = tt
-proper-any script by (m ∷ ms) are = (proper-one script by m ms are.0, proper-any script by ms are.1)
+pub proper-any : (script : Script) (t : ObjNo) (S : State) (last : Option ObjNo) (ms : List Move)
+    → AreProper script (None, S, last) ms → AreProper script (Some t, S, last) ms
+proper-any script t S last [] are = tt
+proper-any script t S last (m ∷ ms) are = (proper-one script t S last m ms are.0, proper-any script t S (sent_to m last) ms are.1)
+
+-- who waits for no message may be woken; and who waits for one of a server to which one was sent
+pub wakes-other : (by : Going) (u : ObjNo) → awaited_by (thread_of by.1 u) ≡ None → MayWake by u
+wakes-other by u none o is = absurd (cc)
+
+-- what is no server may be had
+pub other-had : (by : Going) (h : Holder) (o : ObjNo) → IsOther by.1 o → MayHave by h o
+other-had by (InProcess p i) o other = other
+other-had by (InThread u i) o other = inl other
+other-had by h o other = tt

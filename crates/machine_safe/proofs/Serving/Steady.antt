@@ -21,9 +21,10 @@ use Rattle.machine.specs.declared.boot.Born.{Born}
 use Rattle.machine.specs.declared.state.State.{State}
 use Rattle.machine_safe.proofs.Serving.Called.{AreCalled, Called, called-boot, called-kept}
 use Rattle.machine_safe.proofs.Serving.Course.{needs_use}
-use Rattle.machine_safe.proofs.Serving.Kinds.{AreKinds, KindsBefore, has_server, kinds-kept}
+use Rattle.machine_safe.proofs.Serving.Kinds.{AreKinds, has_server}
+use Rattle.machine_safe.proofs.Serving.Owning.{AreOwn, OwnBefore, Owned, own-kept}
 use Rattle.machine_safe.proofs.Serving.Later.{Facts}
-use Rattle.machine_safe.proofs.Serving.Met.{MetAt, asked, met-boot, met-by, met-kept, met-next}
+use Rattle.machine_safe.proofs.Serving.Met.{MetAt, asked, met-boot, met-by, met-kept, met-next, met-of}
 use Rattle.machine_safe.proofs.Serving.Proceeding.{IsProperly}
 use Rattle.machine_safe.proofs.Serving.Proper.{is_kind}
 use Rattle.machine_safe.proofs.Serving.ProperKept.{proper-next}
@@ -38,20 +39,25 @@ pub record IsSteady (script : Script) (S : State) : Type 0 where
   pub met : Facts script asked (MetAt script) S
   pub called : AreCalled script S.synchronization.deferred
   pub kinds : AreKinds S
+  pub own : AreOwn S
 
 -- so the moves of the next action are proper
 pub steady-properly : (script : Script) (S : State) → IsShaped script → AreRows script S → IsSteady script S → IsProperly script S
-steady-properly script S shaped rows s = are-properly script S shaped rows s.straight s.called
+steady-properly script S shaped rows s = are-properly script S shaped rows s.straight s.called (met-of script S s.met)
 
-pub steady-next : (script : Script) (S : State) → IsShaped script → AreRows script S → IsSteady script S → (actor : Actor) → IsSteady script (next script S actor)
+pub steady-next : (script : Script) (S : State) → IsShaped script → AreRows script S → IsSteady script S
+    → (actor : Actor) → IsSteady script (next script S actor)
 steady-next script S shaped rows s actor =
     let properly = steady-properly script S shaped rows s in
+    let own : Owned S = (s.own, s.kinds) in
+    let owned : Owned (next script S actor) = proper-next script Owned OwnBefore (own-kept script) S actor shaped rows properly own in
     record {
-      straight = straight-next script S shaped rows properly s.straight actor;
-      used = used-next script S shaped rows properly s.straight s.used actor;
-      met = met-next script S shaped rows properly s.straight s.met actor;
+      straight = straight-next script S shaped rows own properly s.straight actor;
+      used = used-next script S shaped rows own properly s.straight s.used actor;
+      met = met-next script S shaped rows own properly s.straight s.met actor;
       called = proper-next script (Called script) (λ by S ms. Called script S) (called-kept script) S actor shaped rows properly s.called;
-      kinds = proper-next script AreKinds KindsBefore (kinds-kept script) S actor shaped rows properly s.kinds;
+      kinds = owned.1;
+      own = owned.0;
     }
 
 -- it is asked of no choice
@@ -59,9 +65,18 @@ pub steady-keeping : (script : Script) (S : State) (keep : Bool) → IsSteady sc
 steady-keeping script S keep s = record {
   straight = λ u row is live due. s.straight u row is live due;
   used = λ u row is live due. s.used u row is live due;
-  met = λ u row is live due. met-by script S (keeping keep S) u row row refl (λ i met. met-kept S (keeping keep S) u row row i refl refl refl (λ x unset. unset) (λ is. is) (λ k o of_kind. of_kind) met) (s.met u row is live due);
+  met =
+      λ u row is live due. met-by script S (keeping keep S) u row row refl
+      (λ i met. met-kept S (keeping keep S) u row row i refl refl refl (λ x unset. unset) (λ is. is)
+      (λ k o of_kind. of_kind) (λ o receives used own. own) (λ o receives used own come. come) met)
+      (s.met u row is live due);
   called = s.called;
-  kinds = record { servers = λ o row is. s.kinds.servers o row is; threads = λ o row is thread. s.kinds.threads o row is thread; unmade = λ o past. s.kinds.unmade o past };
+  kinds = record {
+    servers = λ o row is. s.kinds.servers o row is;
+    threads = λ o row is thread. s.kinds.threads o row is thread;
+    unmade = λ o past. s.kinds.unmade o past;
+  };
+  own = record { places = λ k i o row stands at. s.own.places k i o row stands at; apart = λ o row k r at is same. s.own.apart o row k r at is same };
 }
 
 -- at boot there are processes and threads alone
@@ -87,9 +102,16 @@ plain_born script =
     ((refl, λ e. absurd (cc)), ((refl, λ e. refl), all-append IsPlain queues own (plain_queues 1 script.queues) (all_threads IsPlain plain_thread None 0 0 script.threads)))
     (all_processes IsPlain plain_thread plain_process script.threads 0 first script.processes)
 
-plain_at : (bs : List Born) (k : ℕ) (row : ObjectRow) → AllByRecursion IsPlain bs → get_or (map (λ b. Some b.object) bs) k None ≡ Some row → (is_kind kind.Server row.kind ≡ false) × (is_kind kind.Thread row.kind ≡ true → is_some (get_or (map (λ b. b.thread) bs) k None) ≡ true)
+plain_at : (bs : List Born) (k : ℕ) (row : ObjectRow) → AllByRecursion IsPlain bs
+    → get_or (map (λ b. Some b.object) bs) k None ≡ Some row
+    → (is_kind kind.Server row.kind ≡ false)
+    × (is_kind kind.Thread row.kind ≡ true → is_some (get_or (map (λ b. b.thread) bs) k None) ≡ true)
 plain_at [] k row all is = absurd (cc)
-plain_at (b ∷ bs) zero row all is = let same : b.object ≡ row = cc in (ap (λ (x : ObjectRow). is_kind kind.Server x.kind) (sym same) ∙ all.0.0, λ thread. all.0.1 (ap (λ (x : ObjectRow). is_kind kind.Thread x.kind) same ∙ thread))
+plain_at (b ∷ bs) zero row all is =
+    let same : b.object ≡ row = cc in (
+      ap (λ (x : ObjectRow). is_kind kind.Server x.kind) (sym same) ∙ all.0.0,
+      λ thread. all.0.1 (ap (λ (x : ObjectRow). is_kind kind.Thread x.kind) same ∙ thread),
+    )
 plain_at (b ∷ bs) (suc k) row all is = plain_at bs k row all.1 is
 
 no-server : (shared : Bool) (script : Script) (o : ObjNo) → has_server (boot_in shared script) o ≡ false
@@ -104,6 +126,12 @@ kinds-boot shared script = record {
   unmade = λ o past. no-server shared script o;
 }
 
+own-boot : (shared : Bool) (script : Script) → AreOwn (boot_in shared script)
+own-boot shared script = record {
+  places = λ k i o row stands at. let none = no-server shared script o in let some = ap is_some at in absurd (cc);
+  apart = λ o row k r at is same. let none = no-server shared script o in let some = ap is_some at in cc;
+}
+
 pub steady-boot : (shared : Bool) (script : Script) → IsShaped script → IsSteady script (boot_in shared script)
 steady-boot shared script shaped = record {
   straight = straight-boot shared script shaped;
@@ -111,4 +139,5 @@ steady-boot shared script shaped = record {
   met = met-boot shared script shaped;
   called = called-boot shared script;
   kinds = kinds-boot shared script;
+  own = own-boot shared script;
 }
