@@ -1,6 +1,4 @@
-use Rattle.std.proofs.Common.{◌≡◌, ◌∷◌, ◌+◌, ◌<◌, ap, arith, length}
-use Rattle.machine.specs.FinalRows.{rows_from}
-use Rattle.machine.specs.History.{after}
+use Rattle.std.proofs.Common.{◌<◌, ap, arith, length}
 use Rattle.runner.proofs.Rows.{row_number, few_rows}
 use Rattle.runner.proofs.summary.objects_left.Goals as goal
 
