@@ -1,0 +1,17 @@
+pub mod Acting
+pub mod Actors
+pub mod Answering
+pub mod Bytes
+pub mod Cuts
+pub mod EntryBytes
+pub mod EntryLines
+pub mod FirstLines
+pub mod Following
+pub mod GoodLines
+pub mod InputParts
+pub mod LeftRows
+pub mod RowBytes
+pub mod RowLines
+pub mod Stepping
+pub mod ToldRows
+pub mod Words
