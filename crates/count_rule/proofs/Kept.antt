@@ -14,7 +14,7 @@ use Rattle.count_rule.specs.Shows.{IsKept}
 
 -- it doesn't speak of the identity
 pub kept_under : (w : Words) (identity : List ℕ) → IsKept w → IsKept (record w { identity = identity })
-kept_under w identity s = record { sizes = s.sizes; in_use = s.in_use; few = s.few; out_created = s.out_created; numbered = s.numbered; once = s.once; small = s.small }
+kept_under w identity s = record { sizes = s.sizes; in_use = s.in_use; few = s.few; out_created = s.out_created; numbered = s.numbered; once = s.once; unmade = s.unmade; small = s.small }
 
 pub fresh_none : (n p : ℕ) → ◌≡◌ {A = ℕ} (get_or (replicate n 0) p 0) 0
 fresh_none n p = elim (cases_lt p n) [
@@ -30,6 +30,7 @@ kept_fresh n = record {
   out_created = λ s out. absurd (cc);
   numbered = λ s h. refl;
   once = λ s. omega arith;
+  unmade = λ none. refl;
   small = λ p. let none = fresh_none n p in omega arith;
 }
 
@@ -41,6 +42,7 @@ kept_created w p s fresh = record {
   out_created = λ n out. let made = s.out_created n out in grind (arith, common_steps);
   numbered = s.numbered;
   once = s.once;
+  unmade = λ none. let here = none p in grind (arith, common_steps);
   small = λ q. let old = s.small q in let few = notes_all q w.out in let all = s.few in grind (arith, common_steps);
 }
 
@@ -52,6 +54,7 @@ kept_opened w p s known low = record {
   out_created = s.out_created;
   numbered = s.numbered;
   once = s.once;
+  unmade = s.unmade;
   small = λ q. let old = s.small q in let few = notes_all q w.out in let all = s.few in grind (arith, common_steps);
 }
 
@@ -88,6 +91,7 @@ kept_sent w p s made low few = record {
             rw (copies_append, same) (omega arith)
         | inr other ↦ rw (copies_append, other) (omega arith)
       ];
+  unmade = λ none. absurd (made (none p));
   small = λ q. let old = s.small q in let all = notes_all q w.out in
       elim (cases_Bool (eqb p q)) [
         | inl here ↦ let is = eqb-true p q here in rw (notes_append, here) (grind arith)
@@ -103,6 +107,7 @@ kept_held w n s out used = record {
   out_created = λ m still. s.out_created m (out-before_take Held w m n still);
   numbered = λ m above. omega (arith, s.numbered m above, copies_without m n w.out);
   once = λ m. omega (arith, s.once m, copies_without m n w.out);
+  unmade = s.unmade;
   small = λ q. let old = s.small q in let all = notes_without q n w.out in let fewer = notes_without_itself n w.out out in grind (arith, common_steps);
 }
 
@@ -114,6 +119,7 @@ kept_dead w n s = record {
   out_created = λ m still. s.out_created m (out-before_take Dead w m n still);
   numbered = λ m above. omega (arith, s.numbered m above, copies_without m n w.out);
   once = λ m. omega (arith, s.once m, copies_without m n w.out);
+  unmade = s.unmade;
   small = λ q. omega (arith, s.small q, notes_without q n w.out);
 }
 
@@ -125,6 +131,7 @@ kept_closed w p s known = record {
   out_created = s.out_created;
   numbered = s.numbered;
   once = s.once;
+  unmade = s.unmade;
   small = λ q. let old = s.small q in grind (arith, common_steps);
 }
 
@@ -136,6 +143,7 @@ kept_closed_last w p s one = record {
   out_created = λ n out. let made = s.out_created n out in grind (arith, common_steps);
   numbered = s.numbered;
   once = s.once;
+  unmade = λ none. let here = none p in let old = s.in_use p (omega arith) in grind (arith, common_steps);
   small = λ q. let old = s.small q in grind (arith, common_steps);
 }
 

@@ -9,7 +9,7 @@ use Rattle.ref_words.specs.declared.answer.Found.TheVariants.{Dead}
 use Rattle.ref_words.specs.declared.answer.Stage.{Stage}
 use Rattle.ref_words.specs.declared.answer.Stage.TheVariants.{Fresh, InUse, Gone}
 use Rattle.ref_words.specs.declared.slip.Slip.{Slip}
-use Rattle.ref_words.specs.Words.{Words, own_at, stage_at, IsCreated, IsOut, same_slip}
+use Rattle.ref_words.specs.Words.{Words, own_at, stage_at, IsCreated, IsOut, NoneCreated, same_slip}
 use Rattle.ref_words.specs.Plain.{notes_of, copies_of}
 use Rattle.count_rule.specs.declared.view.Counted.{Counted}
 use Rattle.count_rule.specs.declared.view.Joined.{Joined}
@@ -18,7 +18,8 @@ use Rattle.count_rule.specs.declared.view.View.TheVariants.{Kernel, Ticket}
 use Rattle.count_rule.specs.Views.{mark, words_of, own_of, stage_of, late_of, tickets, holding, too_late}
 
 -- What counts and notes keep at any time: only a place in use has an own count; only created places have
--- notes out, each once and with a number of those that were given; and no count comes near its type's end.
+-- notes out, each once and with a number of those that were given; while no place is created none was made; and no
+-- count comes near its type's end.
 pub record IsKept (w : Words) : Type 0 where
   pub sizes : length w.stages ≡ length w.own
   pub in_use : (p : ℕ) → 0 < own_at w p → stage_at w p ≡ InUse
@@ -26,6 +27,7 @@ pub record IsKept (w : Words) : Type 0 where
   pub out_created : (s : Slip) → IsOut w s → IsCreated w s.place
   pub numbered : (s : Slip) → w.made < s.number → copies_of s w.out ≡ 0
   pub once : (s : Slip) → copies_of s w.out ≤ 1
+  pub unmade : NoneCreated w → w.made ≡ 0
   pub small : (p : ℕ) → own_at w p + notes_of p w.out ≤ 2147483712
 
 -- A word, by its place's stage: nothing at a fresh place; at one in use the own count and the tickets that hold,

@@ -1,5 +1,5 @@
 -- The step of an instruction that a thread is at is what the thread does next, and its moves go through.
-use Rattle.std.proofs.Common.{◌≡◌, ◌∙◌, true, false, ap, subst}
+use Rattle.std.proofs.Common.{◌≡◌, ◌∙◌, true, ap, subst}
 use Rattle.std.specs.Prelude.{◌||◌, Bool, Option}
 use Rattle.sym_base.specs.declared.number.ObjNo.{ObjNo}
 use Rattle.script_types.specs.declared.instruction.Instr.{Instr}
@@ -17,7 +17,7 @@ use Rattle.machine.specs.Task.{task_of}
 use Rattle.machine.specs.WellFormed.{AreRows}
 use Rattle.machine.proofs.Instructions.{task_has_registers, task_has_ranges}
 use Rattle.kernel_tables.specs.Performed.{ActionGoes}
-use Rattle.kernel_tables.proofs.GoingActions.{action_goes}
+use Rattle.kernel_tables.proofs.GoingActions.{able_goes}
 use Rattle.exec_user.specs.Stepping.{IsAtStep, step_at}
 
 -- what the thread does next is the step
@@ -26,9 +26,9 @@ step_decided script S t instr at =
     ap (λ (able : Bool). decision_where script (able || is_out S t) S t (task_of script S t)) at.able ∙ ap (λ (what : Option Task). decision_where script true S t what) at.next
 
 -- its moves go through
-pub step_goes : (script : Script) (S : State) (t : ObjNo) (instr : Instr) → IsShaped script → AreRows script S → S.mode.shared ≡ false → IsAtStep script S t instr → ActionGoes script t (step_at script S t instr).moves S
-step_goes script S t instr shaped rows alone at =
-    subst (λ (d : Decision). ActionGoes script t d.moves S) (step_decided script S t instr at) (action_goes script S t shaped rows alone)
+pub step_goes : (script : Script) (S : State) (t : ObjNo) (instr : Instr) → IsShaped script → AreRows script S → IsAtStep script S t instr → ActionGoes script t (step_at script S t instr).moves S
+step_goes script S t instr shaped rows at =
+    subst (λ (d : Decision). ActionGoes script t d.moves S) (step_decided script S t instr at) (able_goes script S t shaped rows at.able)
 
 -- its registers are those that there are
 pub step_registers : (script : Script) (S : State) (t : ObjNo) (instr : Instr) → IsShaped script → IsAtStep script S t instr → HasRegisters instr

@@ -1,6 +1,7 @@
 //! A step: it is decided of the tables as they stand, and its moves are made in them.
 ghost use Rattle.std.specs.Prelude.{◌≡◌, []};
 ghost use Rattle.machine.specs.Rows.{thread_of};
+ghost use Rattle.kernel_tables.specs.Choosing.{MayChoose};
 ghost use Rattle.kernel_tables.specs.CoreView.{RunsScript};
 ghost use Rattle.kernel_tables.specs.Performed.{IsMade};
 ghost use Rattle.exec_user.specs.Phases.{next_of, phase_at};
@@ -44,6 +45,7 @@ impl<'a, W: RefWords + Drop> ExecUser<'a, W> {
     /// into an empty list of the caller's.
     pub fn tell_step(&mut self, script: &Script, t: ThreadNo, instr: &Instr, effects: &mut Effects)
         requires runs { RunsScript script.now self.old.core.now }
+        requires may { MayChoose t self.old.core.now.notes self.old.core.now.state }
         requires at { IsAtStep script.now self.old.core.now.state t instr.now }
         requires empty { effects.old ≡ [] }
         ensures same_core { self.new.core.ghost_name ≡ self.old.core.ghost_name }
@@ -58,6 +60,7 @@ impl<'a, W: RefWords + Drop> ExecUser<'a, W> {
     /// whom they make ready comes; whoever isn't ready any more stays in the queues until the entry's end.
     pub fn step(&mut self, script: &Script, t: ThreadNo, instr: &Instr, phase: u8) -> Outcome
         requires runs { RunsScript script.now self.old.core.now }
+        requires may { MayChoose t self.old.core.now.notes self.old.core.now.state }
         requires at { IsAtStep script.now self.old.core.now.state t instr.now }
         requires phase { phase ≡ phase_at self.old.core.now.state t }
         ensures same_core { self.new.core.ghost_name ≡ self.old.core.ghost_name }

@@ -38,9 +38,12 @@ counts-first counts x holder none one o =
     elim (at_one counts x 1 o (omega arith)) [ inl h ↦ omega arith | inr h ↦ omega arith ]
 
 -- one reference more
+pub counts-next : (counts : List ℕ) (x : ObjNo) (holder : Holder) → x.0 < length counts → CountsMove counts (slice_set counts x.0 (slice_index counts x.0 + 1)) (Plus holder x ∷ [])
+counts-next counts x holder within o =
+    elim (at_one counts x (slice_index counts x.0 + 1) o within) [ inl h ↦ omega arith | inr h ↦ omega arith ]
+
 pub counts-more : (counts : List ℕ) (x : ObjNo) (holder : Holder) → 0 < slice_index counts x.0 → CountsMove counts (slice_set counts x.0 (slice_index counts x.0 + 1)) (Plus holder x ∷ [])
-counts-more counts x holder some o =
-    elim (at_one counts x (slice_index counts x.0 + 1) o (inside_of counts x.0 some)) [ inl h ↦ omega arith | inr h ↦ omega arith ]
+counts-more counts x holder some = counts-next counts x holder (inside_of counts x.0 some)
 
 -- one less, the last or not
 pub counts-less : (counts : List ℕ) (x : ObjNo) (holder : Holder) (last : Bool) → 0 < slice_index counts x.0 → CountsMove counts (slice_set counts x.0 (slice_index counts x.0 - 1)) (closed_effects last holder x)

@@ -1,6 +1,6 @@
 -- The moves of each action go through: they can be made in the tables, and keep priorities and the readiness of those that
 -- they don't touch.
-use Rattle.std.proofs.Common.{◌≡◌, inl, inr, ℕ, ◌+◌, ◌<◌, ◌≤◌, List, [], ◌∷◌, length, get_or, arith, refl, sym, ap, subst, ◌∙◌, Bool, true, false}
+use Rattle.std.proofs.Common.{◌≡◌, ◌⊎◌, inl, inr, ℕ, ◌+◌, ◌<◌, ◌≤◌, List, [], ◌∷◌, length, get_or, arith, refl, sym, ap, subst, ◌∙◌, Bool, true, false}
 use Rattle.std.specs.Prelude.{◌==◌, IsTrue, is_some, Option, Some, None}
 use Rattle.std.proofs.lemmas.Bool.{cases_Bool, cases_lt, eq-eqb}
 use Rattle.std.proofs.lemmas.List.{get_or_past}
@@ -9,6 +9,7 @@ use Rattle.sym_base.specs.declared.number.ObjNo.{ObjNo}
 use Rattle.script_types.specs.declared.script.Script.{Script}
 use Rattle.script_types.specs.Shape.{IsShaped}
 use Rattle.entry_log.specs.declared.effect.Holder.{Holder}
+use Rattle.entry_log.specs.declared.step.Part.{Part}
 use Rattle.state_rows.specs.declared.duty.Owed.{Owed}
 use Rattle.state_rows.specs.declared.duty.Owed.TheVariants.{Close, Sweep}
 use Rattle.state_rows.specs.declared.object.ObjectRow.{ObjectRow}
@@ -44,8 +45,10 @@ use Rattle.move_laws.proofs.Numbers.Instructions.{few_instructions}
 use Rattle.move_laws.proofs.Readiness.ReadyActions.{joins_own}
 use Rattle.move_laws.proofs.Readiness.Touched.{untouched}
 use Rattle.move_laws.proofs.References.Same.{same_self}
+use Rattle.machine_laws.proofs.Fitting.Regular.{coming_bit}
 use Rattle.machine_laws.proofs.Reached.Modes.{mode-moved}
-use Rattle.kernel_tables.specs.Moved.{CanMove, AreKnown, MoveGoes, MovesGo, UsesNothing, is_set}
+use Rattle.machine_laws.proofs.Sharing.Seekers.{stays-out, stays-out-pay}
+use Rattle.kernel_tables.specs.Moved.{CanMove, AreKnown, MoveGoes, MoveRuns, MovesGo, MovesRun, UsesNothing, is_set}
 use Rattle.kernel_tables.specs.Referred.{IsReferred}
 use Rattle.kernel_tables.proofs.GoingHolders.{few_places, one_place, may_gain, takes_least, may_make, makes_least, may_lose}
 use Rattle.kernel_tables.proofs.GoingLocks.{can_lock}
@@ -170,17 +173,39 @@ known_alone S o alone counted =
     let none : outs_of S o ≡ 0 = rw alone refl in
     omega arith
 
+-- 1 for a move by which a thread opens what it found
+abbrev pub opening_bit : Move → ℕ
+opening_bit (Open u o part) = 1
+opening_bit _ = 0
+
+opens_le : (m : Move) → opening_bit m ≤ coming_bit m
+opens_le (Open u o part) = omega arith
+opens_le m = omega arith
+
+-- so no move opens anything where none comes back
+pub opens_none : (ms : List Move) → total coming_bit ms ≡ 0 → total opening_bit ms ≡ 0
+opens_none [] none = refl
+opens_none (m ∷ ms) none = let here = opens_le m in let rest = opens_none ms (omega arith) in omega arith
+
+-- one caller alone calls the kernel, or a move opens nothing: who shares it comes back with a note
+abbrev OpensAlone : State → Move → Type 0
+OpensAlone S m = (S.mode.shared ≡ false) ⊎ (opening_bit m ≡ 0)
+
+known_opened : (S : State) (u o : ObjNo) (part : Part) → OpensAlone S (Open u o part) → 0 < count_of S o + outs_of S o → 0 < count_of S o
+known_opened S u o part (inl alone) counted = known_alone S o alone counted
+known_opened S u o part (inr none) counted = absurd (omega arith)
+
 -- who comes back uses nothing yet
-back_unused : (script : Script) (S : State) (u o : ObjNo) → AreRows script S → ComesBack S u o → UsesNothing (thread_of S u)
+pub back_unused : (script : Script) (S : State) (u o : ObjNo) → AreRows script S → ComesBack S u o → UsesNothing (thread_of S u)
 back_unused script S u o rows back = record { row = back.row; is = back.is; unused = (rows.references.threads.rows u.0 back.row back.is).unused (returning_before back.row.part back.returns) }
 
 -- when a move that fits can be made
-can_move : (script : Script) (S : State) (t : ObjNo) (m : Move) → IsShaped script → FitsMove script t m S → S.serving.messages.accepted < 4294967295 → RefsMove S (moved t m S) (told m S) → Sane script t S → S.mode.shared ≡ false → CanMove t m S
+can_move : (script : Script) (S : State) (t : ObjNo) (m : Move) → IsShaped script → FitsMove script t m S → S.serving.messages.accepted < 4294967295 → RefsMove S (moved t m S) (told m S) → Sane script t S → OpensAlone S m → CanMove t m S
 can_move script S t (Make kind name h) shaped fits numbers refs s alone = (named kind name fits.2, fits.0.new, record { room = fits.0.room; fresh = next_fresh script S s.rows }, may_make S h fits.1, makes_least S h fits.1)
 can_move script S t (Gain h o) shaped fits numbers refs s alone = (referred script S o s.rows fits.1, may_gain S h fits.0, takes_least S h fits.0)
 can_move script S t (Lose h o) shaped fits numbers refs s alone = (referred script S o s.rows (was_held S (moved t (Lose h o) S) _ h o refs), few_places script S t s.rows, may_lose script S h o s.rows fits.1)
 can_move script S t (Find u o) shaped fits numbers refs s alone = tt
-can_move script S t (Open u o part) shaped fits numbers refs s alone = (referred script S o s.rows (known_alone S o alone (s.rows.lives.counted o fits.0.alive)), back_unused script S u o s.rows fits.0.back, tt)
+can_move script S t (Open u o part) shaped fits numbers refs s alone = (referred script S o s.rows (known_opened S u o part alone (s.rows.lives.counted o fits.0.alive)), back_unused script S u o s.rows fits.0.back, tt)
 can_move script S t (Miss u o) shaped fits numbers refs s alone = tt
 can_move script S t (GoOn u part) shaped fits numbers refs s alone = tt
 can_move script S t (Keep u number) shaped fits numbers refs s alone = tt
@@ -238,8 +263,31 @@ ranks_move script S t (Write v x value) u fits unset = rank-with_row S.reference
 ranks_move script S t (Advance v) u fits unset = rank-with_row S.references.threads v advanced u (λ r. refl)
 ranks_move script S t (Pay what) u fits unset = absurd fits
 
+-- what a move that fits leaves is in order
+move_runs : (script : Script) (S : State) (t : ObjNo) (m : Move) → FitsMove script t m S → total weight (owed_of S t) + most_owed m ≤ 12 → Sane script t S → MoveRuns script t m S
+move_runs script S t m fits few s =
+    let T = moved t m S in
+    let sound = sound-move script S t m fits few s in
+    let after = sound.rows.serving.messages.numbered in
+    record {
+      refs = refs-of script S T (told m S) sound;
+      known = known script T sound.rows;
+      numbered = omega arith;
+      ranks = λ u unset. ranks_move script S t m u fits unset;
+      apart = λ u none. untouched script S t m u s.rows.references.threads (joins_own script S t m fits) none;
+      out = stays-out script S t m fits;
+    }
+
+pub each_runs : (script : Script) (S : State) (t : ObjNo) (ms : List Move) → EachFits script t ms S → total weight (owed_of S t) + total most_owed ms ≤ 12 → Sane script t S → MovesRun script t ms S
+each_runs script S t [] fits few s = tt
+each_runs script S t (m ∷ ms) fits few s =
+    let T = moved t m S in
+    let sound = sound-move script S t m fits.0 (omega arith) s in
+    let w = weight-move script S t m fits.0 in
+    (move_runs script S t m fits.0 (omega arith) s, each_runs script T t ms fits.1 (omega arith) (sane-after script S T t (told m S) s sound))
+
 -- each of the moves that fit goes through
-pub each_goes : (script : Script) (S : State) (t : ObjNo) (ms : List Move) → IsShaped script → EachFits script t ms S → total weight (owed_of S t) + total most_owed ms ≤ 12 → Sane script t S → S.mode.shared ≡ false → MovesGo script t ms S
+pub each_goes : (script : Script) (S : State) (t : ObjNo) (ms : List Move) → IsShaped script → EachFits script t ms S → total weight (owed_of S t) + total most_owed ms ≤ 12 → Sane script t S → (S.mode.shared ≡ false) ⊎ (total opening_bit ms ≡ 0) → MovesGo script t ms S
 each_goes script S t [] shaped fits few s alone = tt
 each_goes script S t (m ∷ ms) shaped fits few s alone =
     let T = moved t m S in
@@ -247,16 +295,19 @@ each_goes script S t (m ∷ ms) shaped fits few s alone =
     let refs = refs-of script S T (told m S) sound in
     let w = weight-move script S t m fits.0 in
     let before = s.rows.serving.messages.numbered in
-    let after = sound.rows.serving.messages.numbered in
     let goes : MoveGoes script t m S = record {
-      can = can_move script S t m shaped fits.0 (omega arith) refs s alone;
-      refs = refs;
-      known = known script T sound.rows;
-      numbered = omega arith;
-      ranks = λ u unset. ranks_move script S t m u fits.0 unset;
-      apart = λ u none. untouched script S t m u s.rows.references.threads (joins_own script S t m fits.0) none;
+      can = can_move script S t m shaped fits.0 (omega arith) refs s (here alone);
+      runs = move_runs script S t m fits.0 (omega arith) s;
     } in
-    (goes, each_goes script T t ms shaped fits.1 (omega arith) (sane-after script S T t (told m S) s sound) (ap (λ (mode : Mode). mode.shared) (mode-moved S t m) ∙ alone))
+    (goes, each_goes script T t ms shaped fits.1 (omega arith) (sane-after script S T t (told m S) s sound) (later alone))
+  where
+    here : (S.mode.shared ≡ false) ⊎ (total opening_bit (m ∷ ms) ≡ 0) → OpensAlone S m
+    here (inl alone) = inl alone
+    here (inr none) = inr (omega arith)
+
+    later : (S.mode.shared ≡ false) ⊎ (total opening_bit (m ∷ ms) ≡ 0) → ((moved t m S).mode.shared ≡ false) ⊎ (total opening_bit ms ≡ 0)
+    later (inl alone) = inl (ap (λ (mode : Mode). mode.shared) (mode-moved S t m) ∙ alone)
+    later (inr none) = inr (omega arith)
 
 -- so does the payment of what is owed
 can_pay : (script : Script) (S : State) (t : ObjNo) (what : Owed) (rest : List Owed) → owed_of S t ≡ what ∷ rest → RefsMove S (moved t (Pay what) S) (told (Pay what) S) → Sane script t S → CanMove t (Pay what) S
@@ -277,9 +328,12 @@ pay_goes script S t what rest owes s =
     let can = can_pay script S t what rest owes refs s in
     record {
       can = can;
-      refs = refs;
-      known = known script T sound.rows;
-      numbered = let few = sound.rows.serving.messages.numbered in omega arith;
-      ranks = λ u unset. ranks_pay script S t what u unset;
-      apart = λ u none. untouched script S t (Pay what) u s.rows.references.threads tt none;
+      runs = record {
+        refs = refs;
+        known = known script T sound.rows;
+        numbered = let few = sound.rows.serving.messages.numbered in omega arith;
+        ranks = λ u unset. ranks_pay script S t what u unset;
+        apart = λ u none. untouched script S t (Pay what) u s.rows.references.threads tt none;
+        out = λ u o apart. stays-out-pay script S t what rest owes s.rows u o;
+      };
     }

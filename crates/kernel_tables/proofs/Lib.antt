@@ -5,10 +5,11 @@ pub mod GoingActions
 mod GoingHolders
 mod GoingLocks
 mod GoingLogons
-mod GoingMoves
+pub mod GoingMoves
 mod GoingServers
 mod LastClose
 mod LockRows
+mod NotesBack
 mod Noting
 mod Owning
 pub mod Performing

@@ -1,23 +1,37 @@
 -- The moves of an action, one after the other.
-use Rattle.std.proofs.Common.{◌≡◌, ℕ, ◌+◌, ◌<◌, ◌≤◌, List, [], ◌∷◌, ◌++◌, length, get_or, drop, suc, drop-cons, add-one, arith, refl, sym, ap, subst, ◌∙◌, append_assoc, append-nil, length-append}
-use Rattle.std.specs.Prelude.{◌==◌, true}
+use Rattle.std.proofs.Common.{◌≡◌, ◌⊎◌, inl, inr, ℕ, Bool, true, false, ◌+◌, ◌<◌, ◌≤◌, List, [], ◌∷◌, ◌++◌, length, get_or, drop, suc, drop-cons, add-one, arith, refl, sym, ap, subst, ◌∙◌, append_assoc, append-nil, length-append}
+use Rattle.std.specs.Prelude.{◌==◌, ◌&&◌, if◌then◌else◌, Some, None}
 use Rattle.std.proofs.Math.ListN.{drop_of_length-le}
-use Rattle.std.proofs.lemmas.Bool.{eq-eqb, or_left, or_right}
+use Rattle.std.proofs.lemmas.Bool.{cases_lt, eq-eqb, or_left, or_right}
 use Rattle.sym_base.specs.declared.number.ObjNo.{ObjNo}
 use Rattle.script_types.specs.declared.script.Script.{Script}
 use Rattle.entry_log.specs.declared.effect.Effect.{Effect}
+use Rattle.entry_log.specs.declared.effect.Effect.TheVariants.{Dead}
+use Rattle.entry_log.specs.declared.effect.Holder.{Holder}
+use Rattle.state_rows.specs.declared.duty.Owed.TheVariants.{Close, Sweep}
 use Rattle.ready_list.specs.Ready.{Ready}
 use Rattle.ready_list.specs.Arrival.{AreQueuesOf}
+use Rattle.machine.specs.declared.mode.Mode.{Mode}
 use Rattle.machine.specs.declared.moves.Move.{Move}
+use Rattle.machine.specs.declared.moves.Move.TheVariants.{Lose, Pay}
 use Rattle.machine.specs.declared.state.State.{State}
 use Rattle.machine.specs.Arrivals.{is_listed, arrive, arrivals, taken_out, touched}
 use Rattle.machine.specs.Choice.{priority_of}
-use Rattle.machine.specs.Moves.{moved, told, perform, tell}
-use Rattle.machine.specs.References.{count_of, RefsMove}
+use Rattle.machine.specs.Fits.{ComesBack}
+use Rattle.machine.specs.History.{is_deathless, keeping}
+use Rattle.machine.specs.Kept.{dies}
+use Rattle.machine.specs.Moves.{closed_effects, moved, told, perform, tell}
+use Rattle.machine.specs.References.{count_of, total, RefsMove}
+use Rattle.machine_laws.proofs.Reached.Choices.{blind-all, close_bit}
+use Rattle.machine_laws.proofs.Reached.Modes.{mode-moved, mode-perform}
+use Rattle.readings.specs.Dying.{dead_by, dead_told, told_alive}
+use Rattle.readings.proofs.Telling.{told_dead}
+use Rattle.table_moves.specs.Notes.{Notes, HasNoteOf}
 use Rattle.kernel_tables.specs.declared.tables.Tables.{Tables}
 use Rattle.kernel_tables.specs.Counts.{Agrees}
 use Rattle.kernel_tables.specs.Noted.{AreKept}
-use Rattle.kernel_tables.specs.Moved.{IsMoved, MoveGoes, MovesGo}
+use Rattle.kernel_tables.specs.Choosing.{AreSoughtBeside, closing_bit, mode_after}
+use Rattle.kernel_tables.specs.Moved.{IsMoved, IsMovedTo, MoveGoes, MoveRuns, MovesGo, chosen_state}
 use Rattle.kernel_tables.specs.Performed.{IsPerformed}
 use Rattle.kernel_tables.specs.ReadyQueues.{AreReady, Follow, pair, pairs, leave, leave_along}
 use Rattle.kernel_tables.specs.StateOf.{state_of}
@@ -57,38 +71,152 @@ pub moves_part : (script : Script) (t : ObjNo) (ms ns : List Move) (S : State) �
 moves_part script t [] ns S go = (tt, go)
 moves_part script t (m ∷ ms) ns S go = let parts = moves_part script t ms ns (moved t m S) go.1 in ((go.0, parts.0), parts.1)
 
+-- the choice that stands in a state
+own_choice : (keep : Bool) → keep ≡ (keep && true)
+own_choice true = refl
+own_choice false = refl
+
+nothing_kept : (keep : Bool) → false ≡ (keep && false)
+nothing_kept true = refl
+nothing_kept false = refl
+
+and_assoc : (a b c : Bool) → ((a && b) && c) ≡ (a && (b && c))
+and_assoc true b c = refl
+and_assoc false b c = refl
+
+deathless_both : (xs ys : List Effect) → is_deathless (xs ++ ys) ≡ (is_deathless xs && is_deathless ys)
+deathless_both [] ys = refl
+deathless_both (Dead o ∷ xs) ys = refl
+deathless_both (_ ∷ xs) ys = deathless_both xs ys
+
+-- the moves that give a reference up are the same here as in the laws
+closes_same : (m : Move) → closing_bit m ≡ close_bit m
+closes_same (Lose h o) = refl
+closes_same (Pay (Close h o)) = refl
+closes_same (Pay (Sweep o)) = refl
+closes_same m = refl
+
+pub closes_all : (ms : List Move) → total closing_bit ms ≡ total close_bit ms
+closes_all [] = refl
+closes_all (m ∷ ms) = let here = closes_same m in let rest = closes_all ms in omega arith
+
+pub closes_append : (ms ns : List Move) → total closing_bit (ms ++ ns) ≡ total closing_bit ms + total closing_bit ns
+closes_append [] ns = omega arith
+closes_append (m ∷ ms) ns = let rest = closes_append ms ns in omega arith
+
+-- moves of which none gives a reference up tell of no death
+silent : (script : Script) (t : ObjNo) (ms : List Move) (S : State) → total closing_bit ms ≡ 0 → is_deathless (tell t ms S) ≡ true
+silent script t ms S none = (blind-all script t ms S (sym (closes_all ms) ∙ none)).silent
+
+-- so they leave the choice as it was
+pub unchosen : (script : Script) (t : ObjNo) (ms : List Move) (old new : State) (before after : Ready) (was is : List Effect) → total closing_bit ms ≡ 0 → IsPerformed script t ms old new before after was is → new.mode.keep ≡ old.mode.keep
+unchosen script t ms old new before after was is none done =
+    done.keeps ∙ ap (λ (b : Bool). old.mode.keep && b) (silent script t ms (keeping new.mode.keep old) none) ∙ sym (own_choice old.mode.keep)
+
 -- no move
 pub performed_none : (script : Script) (t : ObjNo) (S : State) (r : Ready) (was : List Effect) → IsPerformed script t [] S S r r was was
-performed_none script t S r was = record { state = refl; told = sym (append-nil was); queues = λ qs ready. ready }
+performed_none script t S r was = record { state = refl; told = sym (append-nil was); queues = λ qs ready. ready; keeps = own_choice S.mode.keep }
+
+-- and the state is the one that they leave of the old one
+pub calm_state : (script : Script) (t : ObjNo) (ms : List Move) (old new : State) (before after : Ready) (was is : List Effect) → total closing_bit ms ≡ 0 → IsPerformed script t ms old new before after was is → new ≡ perform t ms old
+calm_state script t ms old new before after was is none done = done.state ∙ ap (λ (b : Bool). perform t ms (keeping b old)) (unchosen script t ms old new before after was is none done)
+
+-- moves that were made with one choice come to the same with another, where none of them gives a reference up or both are one
+record ComesTo (script : Script) (t : ObjNo) (ms : List Move) (old mid : State) (keep : Bool) : Type 0 where
+  pub moves : perform t ms (keeping keep old) ≡ keeping keep mid
+  pub tells : tell t ms (keeping keep old) ≡ tell t ms (keeping mid.mode.keep old)
+  pub arrives : (qs : List ObjNo) → arrivals script t ms (keeping keep old) qs ≡ arrivals script t ms (keeping mid.mode.keep old) qs
+
+comes_to : (script : Script) (t : ObjNo) (ms : List Move) (old mid : State) (keep : Bool) → mid ≡ perform t ms (keeping mid.mode.keep old) → (total closing_bit ms ≡ 0) ⊎ (keep ≡ mid.mode.keep) → ComesTo script t ms old mid keep
+comes_to script t ms old mid keep is (inl none) =
+    let blind = blind-all script t ms old (sym (closes_all ms) ∙ none) in
+    record {
+      moves = blind.moves keep ∙ sym (ap (keeping keep) (is ∙ blind.moves mid.mode.keep));
+      tells = blind.tells keep ∙ sym (blind.tells mid.mode.keep);
+      arrives = λ qs. blind.arrives keep qs ∙ sym (blind.arrives mid.mode.keep qs);
+    }
+comes_to script t ms old mid keep is (inr same) = record {
+  moves = ap (λ (b : Bool). perform t ms (keeping b old)) same ∙ sym is ∙ sym (ap (λ (b : Bool). keeping b mid) same);
+  tells = ap (λ (b : Bool). tell t ms (keeping b old)) same;
+  arrives = λ qs. ap (λ (b : Bool). arrivals script t ms (keeping b old) qs) same;
+}
+
+-- of two lists one gives no reference up, where both give one up at most
+one_of_two : (a b : ℕ) → a + b ≤ 1 → (a ≡ 0) ⊎ (b ≡ 0)
+one_of_two a b few = elim (cases_lt 0 a) as (λ _. (a ≡ 0) ⊎ (b ≡ 0)) [
+  | inl some ↦ inr (omega arith)
+  | inr none ↦ inl (omega arith)
+]
 
 -- moves, and then others
-pub performed_then : (script : Script) (t : ObjNo) (ms ns : List Move) (old mid new : State) (before between after : Ready) (was es is : List Effect) → IsPerformed script t ms old mid before between was es → IsPerformed script t ns mid new between after es is → IsPerformed script t (ms ++ ns) old new before after was is
-performed_then script t ms ns S mid new before between after was es is first second =
+pub performed_then : (script : Script) (t : ObjNo) (ms ns : List Move) (old mid new : State) (before between after : Ready) (was es is : List Effect) → total closing_bit (ms ++ ns) ≤ 1 → IsPerformed script t ms old mid before between was es → IsPerformed script t ns mid new between after es is → IsPerformed script t (ms ++ ns) old new before after was is
+performed_then script t ms ns old mid new before between after was es is once first second =
+    let keep = new.mode.keep in
+    let S = keeping keep old in
     let T = perform t ms S in
+    let sum = closes_append ms ns in
+    let way : (total closing_bit ms ≡ 0) ⊎ (keep ≡ mid.mode.keep) = elim (one_of_two (total closing_bit ms) (total closing_bit ns) (omega arith)) as (λ _. (total closing_bit ms ≡ 0) ⊎ (keep ≡ mid.mode.keep)) [
+      | inl none ↦ inl none
+      | inr none ↦ inr (unchosen script t ns mid new between after es is none second)
+    ] in
+    let comes = comes_to script t ms old mid keep first.state way in
+    let here = sym comes.moves in
+    let tells : es ≡ was ++ tell t ms S = first.told ∙ ap (λ (l : List Effect). was ++ l) (sym comes.tells) in
+    let deaths : is_deathless (tell t (ms ++ ns) S) ≡ (is_deathless (tell t ms (keeping mid.mode.keep old)) && is_deathless (tell t ns (keeping keep mid))) = ap is_deathless (tell_append t ms ns S) ∙ deathless_both (tell t ms S) (tell t ns T) ∙ ap (λ (l : List Effect). is_deathless l && is_deathless (tell t ns T)) comes.tells ∙ ap (λ (U : State). is_deathless (tell t ms (keeping mid.mode.keep old)) && is_deathless (tell t ns U)) comes.moves in
     record {
-      state = second.state ∙ (ap (perform t ns) first.state ∙ sym (perform_append t ms ns S));
-      told = second.told ∙ (ap (λ (U : State). es ++ tell t ns U) first.state ∙ (ap (λ (l : List Effect). l ++ tell t ns T) first.told
+      state = second.state ∙ (ap (perform t ns) here ∙ sym (perform_append t ms ns S));
+      told = second.told ∙ (ap (λ (U : State). es ++ tell t ns U) here ∙ (ap (λ (l : List Effect). l ++ tell t ns T) tells
           ∙ (append_assoc was (tell t ms S) (tell t ns T) ∙ ap (λ (l : List Effect). was ++ l) (sym (tell_append t ms ns S)))));
       queues = λ qs ready.
-          subst (λ (l : List ObjNo). AreReady (priority_of new) l after) (ap (λ (U : State). arrivals script t ns U (arrivals script t ms S qs)) first.state ∙ sym (arrivals_append script t ms ns S qs))
-          (second.queues (arrivals script t ms S qs) (first.queues qs ready));
+          let at : arrivals script t ms (keeping mid.mode.keep old) qs ≡ arrivals script t ms S qs = sym (comes.arrives qs) in
+          subst (λ (l : List ObjNo). AreReady (priority_of new) l after) (ap (λ (l : List ObjNo). arrivals script t ns (keeping keep mid) l) at ∙ ap (λ (U : State). arrivals script t ns U (arrivals script t ms S qs)) here ∙ sym (arrivals_append script t ms ns S qs))
+          (second.queues (arrivals script t ms (keeping mid.mode.keep old) qs) (first.queues qs ready));
+      keeps = second.keeps ∙ ap (λ (b : Bool). b && is_deathless (tell t ns (keeping keep mid))) first.keeps ∙ and_assoc old.mode.keep (is_deathless (tell t ms (keeping mid.mode.keep old))) (is_deathless (tell t ns (keeping keep mid))) ∙ sym (ap (λ (b : Bool). old.mode.keep && b) deaths);
     }
 
 -- the counts are still those of the state, and what threads use is noted still
-still_agree : {W N : Type 0} (t : ObjNo) (m : Move) (old new : Tables W N) → Agrees old.objects.counts (state_of old) → RefsMove (state_of old) (moved t m (state_of old)) (told m (state_of old)) → IsMoved t m old new → Agrees new.objects.counts (state_of new)
+still_agree : {W N : Type 0} {notes : Notes} (t : ObjNo) (m : Move) (old new : Tables W N) → Agrees old.objects.counts (state_of old) → RefsMove (chosen_state old new) (moved t m (chosen_state old new)) (told m (chosen_state old new)) → IsMovedTo notes t m old new → Agrees new.objects.counts (state_of new)
 still_agree t m old new agree refs is o =
-    let S = state_of old in
+    let S = chosen_state old new in
     let was = agree o in
+    let before : count_of S o ≡ count_of (state_of old) o = refl in
     let counts = is.counts o in
     let counted = refs.each o in
     let same : count_of (state_of new) o ≡ count_of (moved t m S) o = ap (λ (T : State). count_of T o) is.state in
     omega arith
 
+-- a move that gives no reference up is of no object's death
+pub none_dead : (m : Move) (S : State) → closing_bit m ≡ 0 → dead_by m S ≡ None
+none_dead (Lose h o) S none = absurd (omega arith)
+none_dead (Pay (Close h o)) S none = absurd (omega arith)
+none_dead (Pay (Sweep o)) S none = refl
+none_dead m S none = refl
+
+-- the choice that a move leaves is still open where it tells of no death
+keeps_closed : (dying : Bool) (h : Holder) (o : ObjNo) (mode : Mode) → (mode_after (if dying then Some o else None) mode).keep ≡ (mode.keep && is_deathless (closed_effects dying h o ++ []))
+keeps_closed true h o mode = nothing_kept mode.keep
+keeps_closed false h o mode = own_choice mode.keep
+
+keeps_by : (script : Script) (t : ObjNo) (m : Move) (S : State) (mode : Mode) → (mode_after (dead_by m S) mode).keep ≡ (mode.keep && is_deathless (told m S ++ []))
+keeps_by script t (Lose h o) S mode = keeps_closed (dies S o) h o mode
+keeps_by script t (Pay (Close h o)) S mode = keeps_closed (dies S o) h o mode
+keeps_by script t (Pay (Sweep o)) S mode = own_choice mode.keep
+keeps_by script t m S mode = own_choice mode.keep ∙ sym (ap (λ (b : Bool). mode.keep && b) (silent script t (m ∷ []) S refl))
+
+-- what is told but for a death doesn't ask the choice
+alive_same : (m : Move) (keep : Bool) (S : State) → told_alive m (keeping keep S) ≡ told_alive m S
+alive_same (Pay (Close h o)) keep S = refl
+alive_same (Pay (Sweep o)) keep S = refl
+alive_same m keep S = refl
+
+pub told_both : {W N : Type 0} (m : Move) (old new : Tables W N) → told_alive m (state_of old) ++ dead_told (dead_by m (chosen_state old new)) ≡ told m (chosen_state old new)
+told_both m old new = ap (λ (l : List Effect). l ++ dead_told (dead_by m (chosen_state old new))) (sym (alive_same m new.mode.keep (state_of old))) ∙ sym (told_dead m (chosen_state old new))
+
 -- one move
-pub performed_one : {W N : Type 0} (script : Script) (t : ObjNo) (m : Move) (old new : Tables W N) (before between after : Ready) (was : List Effect) → MoveGoes script t m (state_of old) → IsMoved t m old new → ((rank : ObjNo → ℕ) → Follow rank (taken_out m) before between)
-    → Follow (priority_of (state_of new)) (arrive script (state_of new) (touched t m)) between after → IsPerformed script t (m ∷ []) (state_of old) (state_of new) before after was (was ++ told m (state_of old))
+pub performed_one : {W N : Type 0} {notes : Notes} (script : Script) (t : ObjNo) (m : Move) (old new : Tables W N) (before between after : Ready) (was : List Effect) → MoveRuns script t m (chosen_state old new) → IsMovedTo notes t m old new → ((rank : ObjNo → ℕ) → Follow rank (taken_out m) before between)
+    → Follow (priority_of (state_of new)) (arrive script (state_of new) (touched t m)) between after → IsPerformed script t (m ∷ []) (state_of old) (state_of new) before after was (was ++ told m (chosen_state old new))
 performed_one script t m old new before between after was goes is out follow =
-    let S = state_of old in
+    let S = chosen_state old new in
     record {
       state = is.state;
       told = ap (λ (l : List Effect). was ++ l) (sym (append-nil (told m S)));
@@ -97,53 +225,128 @@ performed_one script t m old new before between after was goes is out follow =
           let ranks : (u : ObjNo) → is_listed left u ≡ true → priority_of (state_of new) u ≡ priority_of S u = λ u listed. ap (λ (U : State). priority_of U u) is.state ∙ goes.ranks u (taken_unset m qs u listed) in
           subst (λ (U : State). AreReady (priority_of (state_of new)) (arrive script U (touched t m) left) after) is.state
           (follow left (ranks_same (priority_of S) (priority_of (state_of new)) left between ranks (out (priority_of S) qs ready)));
+      keeps = ap (λ (mode : Mode). mode.keep) is.mode ∙ keeps_by script t m S old.mode;
     }
 
 -- what the tables keep beside the rows is kept
-pub still_kept : {W N : Type 0} (script : Script) (t : ObjNo) (m : Move) (old new : Tables W N) → MoveGoes script t m (state_of old) → AreKept old → IsMoved t m old new → AreKept new
+pub still_kept : {W N : Type 0} {notes : Notes} (script : Script) (t : ObjNo) (m : Move) (old new : Tables W N) → MoveRuns script t m (chosen_state old new) → AreKept old → IsMovedTo notes t m old new → AreKept new
 still_kept script t m old new goes kept is = record {
   counts = still_agree t m old new kept.counts goes.refs is;
   tied = is.tied;
   numbered = subst (λ (U : State). U.serving.messages.accepted < 2147483648) (sym is.state) goes.numbered;
 }
 
--- on the way: some of the moves were made, and the rest go through
+-- and others who are out account for the notes
+pub still_sought : {W N : Type 0} (script : Script) (t : ObjNo) (m : Move) (old new : Tables W N) → MoveRuns script t m (chosen_state old new) → IsMoved t m old new → AreSoughtBeside t old.objects.notes (state_of old) → AreSoughtBeside t new.objects.notes (state_of new)
+still_sought script t m old new goes is sought o noted =
+    let S = chosen_state old new in
+    let was = sought o (subst (λ (notes : Notes). HasNoteOf notes o.0) is.notes noted) in
+    let u = was.0.finder in
+    let back = goes.out u o was.1 (record { row = was.0.back.row; is = was.0.back.is; returns = was.0.back.returns; found = was.0.back.found }) in (
+      record {
+        shared = ap (λ (U : State). U.mode.shared) is.state ∙ ap (λ (mode : Mode). mode.shared) (mode-moved S t m) ∙ was.0.shared;
+        finder = u;
+        back = subst (λ (U : State). ComesBack U u o) (sym is.state) back;
+      },
+      was.1,
+    )
+
+-- on the way: some of the moves were made, and the rest aren't yet
 pub record OnTheWay (script : Script) (t : ObjNo) (ms : List Move) (old : State) (before : Ready) (was : List Effect) (rest : List Move) (S : State) (r : Ready) (effects : List Effect) : Type 0 where
   pub made : List Move
   pub performed : IsPerformed script t made old S before r was effects
   pub whole : made ++ rest ≡ ms
-  pub go : MovesGo script t rest S
 
 -- before the first
-pub way_begins : (script : Script) (t : ObjNo) (ms : List Move) (S : State) (r : Ready) (was : List Effect) → MovesGo script t ms S → OnTheWay script t ms S r was ms S r was
-way_begins script t ms S r was go = record { made = []; performed = performed_none script t S r was; whole = refl; go = go }
+pub way_begins : (script : Script) (t : ObjNo) (ms : List Move) (S : State) (r : Ready) (was : List Effect) → OnTheWay script t ms S r was ms S r was
+way_begins script t ms S r was = record { made = []; performed = performed_none script t S r was; whole = refl }
 
--- some of the rest are made
-pub way_goes_on : (script : Script) (t : ObjNo) (ms ns rest : List Move) (old S new : State) (before r after : Ready) (was effects more : List Effect) → OnTheWay script t ms old before was (ns ++ rest) S r effects → IsPerformed script t ns S new r after effects more → OnTheWay script t ms old before was rest new after more
-way_goes_on script t ms ns rest old S new before r after was effects more h next = record {
-  made = h.made ++ ns;
-  performed = performed_then script t h.made ns old S new before r after was effects more h.performed next;
-  whole = append_assoc h.made ns rest ∙ h.whole;
-  go = subst (MovesGo script t rest) (sym next.state) (moves_part script t ns rest S h.go).1;
-}
+-- what the whole list asks, of a move on the way and of the choice that it leaves
+module _ (script : Script) (t : ObjNo) (ms : List Move) (old : State) (before : Ready) (was : List Effect) (m : Move) (rest : List Move) (S : State) (r : Ready) (effects : List Effect) (once : total closing_bit ms ≤ 1) (h : OnTheWay script t ms old before was (m ∷ rest) S r effects) where
+  once_here : total closing_bit h.made + (closing_bit m + total closing_bit rest) ≤ 1
+  once_here = let all = ap (total closing_bit) h.whole in let sum = closes_append h.made (m ∷ rest) in omega arith
+
+  way_comes : (keep : Bool) → (closing_bit m ≡ 0 → keep ≡ S.mode.keep) → ComesTo script t h.made old S keep
+  way_comes keep leaves = comes_to script t h.made old S keep h.performed.state (elim (cases_lt 0 (closing_bit m)) as (λ _. (total closing_bit h.made ≡ 0) ⊎ (keep ≡ S.mode.keep)) [
+    | inl some ↦ inl (let few = once_here in omega arith)
+    | inr none ↦ inr (leaves (omega arith))
+  ])
+
+  -- it goes through
+  pub way_goes : ((keep : Bool) → MovesGo script t ms (keeping keep old)) → (keep : Bool) → (closing_bit m ≡ 0 → keep ≡ S.mode.keep) → MoveGoes script t m (keeping keep S)
+  way_goes go keep leaves =
+      let all = subst (λ (l : List Move). MovesGo script t l (keeping keep old)) (sym h.whole) (go keep) in
+      subst (MoveGoes script t m) (way_comes keep leaves).moves (moves_part script t h.made (m ∷ rest) (keeping keep old) all).1.0
+
+  -- there is room for what it tells
+  pub way_few : ((keep : Bool) → length was + length (tell t ms (keeping keep old)) ≤ 4) → (keep : Bool) → (closing_bit m ≡ 0 → keep ≡ S.mode.keep) → length effects + length (told m (keeping keep S)) ≤ 4
+  way_few few keep leaves =
+      let comes = way_comes keep leaves in
+      let U = keeping keep old in
+      let T = perform t h.made U in
+      let most = few keep in
+      let all : length (tell t h.made U ++ tell t (m ∷ rest) T) ≡ length (tell t ms U) = ap length (sym (tell_append t h.made (m ∷ rest) U)) ∙ ap (λ (l : List Move). length (tell t l U)) h.whole in
+      let outer = length-append (tell t h.made U) (tell t (m ∷ rest) T) in
+      let inner = length-append (told m T) (tell t rest (moved t m T)) in
+      let here : length (told m (keeping keep S)) ≡ length (told m T) = ap (λ (V : State). length (told m V)) (sym comes.moves) in
+      let so_far : length effects ≡ length (was ++ tell t h.made U) = ap length (h.performed.told ∙ ap (λ (l : List Effect). was ++ l) (sym comes.tells)) in
+      let sum = length-append was (tell t h.made U) in
+      omega arith
+
+  -- where it gives a reference up, nothing is chosen yet
+  pub way_may : old.mode.keep ≡ old.mode.shared → closing_bit m ≡ 1 → S.mode.keep ≡ S.mode.shared
+  way_may free closes =
+      let none : total closing_bit h.made ≡ 0 = let few = once_here in omega arith in
+      unchosen script t h.made old S before r was effects none h.performed ∙ free ∙ sym (ap (λ (U : State). U.mode.shared) h.performed.state ∙ ap (λ (mode : Mode). mode.shared) (mode-perform (keeping S.mode.keep old) t h.made))
+
+  -- it is made
+  pub way_goes_on : (new : State) (after : Ready) (more : List Effect) → IsPerformed script t (m ∷ []) S new r after effects more → OnTheWay script t ms old before was rest new after more
+  way_goes_on new after more next = record {
+    made = h.made ++ m ∷ [];
+    performed = performed_then script t h.made (m ∷ []) old S new before r after was effects more (let few = once_here in let sum = closes_append h.made (m ∷ []) in omega arith) h.performed next;
+    whole = append_assoc h.made (m ∷ []) rest ∙ h.whole;
+  }
+
+-- the same of several moves on the way, where none of the list gives a reference up
+module _ (script : Script) (t : ObjNo) (ms : List Move) (old : State) (before : Ready) (was : List Effect) (ns rest : List Move) (S : State) (r : Ready) (effects : List Effect) (none : total closing_bit ms ≡ 0) (h : OnTheWay script t ms old before was (ns ++ rest) S r effects) where
+  none_made : total closing_bit h.made ≡ 0
+  none_made = let all = ap (total closing_bit) h.whole in let sum = closes_append h.made (ns ++ rest) in omega arith
+
+  part_comes : (keep : Bool) → ComesTo script t h.made old S keep
+  part_comes keep = comes_to script t h.made old S keep h.performed.state (inl none_made)
+
+  pub part_goes : ((keep : Bool) → MovesGo script t ms (keeping keep old)) → (keep : Bool) → MovesGo script t ns (keeping keep S)
+  part_goes go keep =
+      let all = subst (λ (l : List Move). MovesGo script t l (keeping keep old)) (sym h.whole) (go keep) in
+      let later = (moves_part script t h.made (ns ++ rest) (keeping keep old) all).1 in
+      (moves_part script t ns rest (keeping keep S) (subst (MovesGo script t (ns ++ rest)) (part_comes keep).moves later)).0
+
+  pub part_few : ((keep : Bool) → length was + length (tell t ms (keeping keep old)) ≤ 4) → (keep : Bool) → length effects + length (tell t ns (keeping keep S)) ≤ 4
+  part_few few keep =
+      let comes = part_comes keep in
+      let U = keeping keep old in
+      let T = perform t h.made U in
+      let most = few keep in
+      let all : length (tell t h.made U ++ tell t (ns ++ rest) T) ≡ length (tell t ms U) = ap length (sym (tell_append t h.made (ns ++ rest) U)) ∙ ap (λ (l : List Move). length (tell t l U)) h.whole in
+      let outer = length-append (tell t h.made U) (tell t (ns ++ rest) T) in
+      let split = ap length (tell_append t ns rest T) in
+      let inner = length-append (tell t ns T) (tell t rest (perform t ns T)) in
+      let here : length (tell t ns (keeping keep S)) ≡ length (tell t ns T) = ap (λ (V : State). length (tell t ns V)) (sym comes.moves) in
+      let so_far : length effects ≡ length (was ++ tell t h.made U) = ap length (h.performed.told ∙ ap (λ (l : List Effect). was ++ l) (sym comes.tells)) in
+      let sum = length-append was (tell t h.made U) in
+      omega arith
+
+  pub part_goes_on : (new : State) (after : Ready) (more : List Effect) → IsPerformed script t ns S new r after effects more → OnTheWay script t ms old before was rest new after more
+  part_goes_on new after more next = record {
+    made = h.made ++ ns;
+    performed = performed_then script t h.made ns old S new before r after was effects more (let all = ap (total closing_bit) h.whole in let sum = closes_append h.made (ns ++ rest) in let part = closes_append ns rest in let here = closes_append h.made ns in omega arith) h.performed next;
+    whole = append_assoc h.made ns rest ∙ h.whole;
+  }
 
 -- after the last
 pub way_ends : (script : Script) (t : ObjNo) (ms : List Move) (old S : State) (before r : Ready) (was effects : List Effect) → OnTheWay script t ms old before was [] S r effects → IsPerformed script t ms old S before r was effects
 way_ends script t ms old S before r was effects h =
     subst (λ (l : List Move). IsPerformed script t l old S before r was effects) (sym (append-nil h.made) ∙ h.whole) h.performed
-
--- an entry's effects are few, and so are those so far with those of the next moves
-pub way_few : (script : Script) (t : ObjNo) (ms ns rest : List Move) (old S : State) (before r : Ready) (was effects : List Effect) → length was + length (tell t ms old) ≤ 4 → OnTheWay script t ms old before was (ns ++ rest) S r effects → length effects + length (tell t ns S) ≤ 4
-way_few script t ms ns rest old S before r was effects few h =
-    let T = perform t h.made old in
-    let all : length (tell t h.made old ++ tell t (ns ++ rest) T) ≡ length (tell t ms old) = ap length (sym (tell_append t h.made (ns ++ rest) old)) ∙ ap (λ (l : List Move). length (tell t l old)) h.whole in
-    let outer = length-append (tell t h.made old) (tell t (ns ++ rest) T) in
-    let next : length (tell t (ns ++ rest) T) ≡ length (tell t ns T ++ tell t rest (perform t ns T)) = ap length (tell_append t ns rest T) in
-    let inner = length-append (tell t ns T) (tell t rest (perform t ns T)) in
-    let here : length (tell t ns S) ≡ length (tell t ns T) = ap (λ (U : State). length (tell t ns U)) h.performed.state in
-    let so_far : length effects ≡ length (was ++ tell t h.made old) = ap length h.performed.told in
-    let sum = length-append was (tell t h.made old) in
-    omega arith
 
 -- the threads that are left so far, those of the queues, and without those that leave with the rest they are all that are
 -- left

@@ -2,6 +2,7 @@ pub mod Counts
 pub mod StateOf
 pub mod Noted
 pub mod Referred
+pub mod Choosing
 pub mod LockMoved
 pub mod ServerMoved
 pub mod Moved

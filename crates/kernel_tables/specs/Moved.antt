@@ -1,5 +1,5 @@
 -- Moves in the kernel's tables: when one can be made, and what it leaves.
-use Rattle.std.specs.Prelude.{◌≡◌, ℕ, ◌+◌, ◌-◌, ◌<◌, ◌≤◌, ◌==◌, Bool, false, List, [], ◌∷◌, length, IsTrue, Option, Some, None, slice_index, slice_set}
+use Rattle.std.specs.Prelude.{◌≡◌, ℕ, ◌+◌, ◌-◌, ◌<◌, ◌≤◌, ◌==◌, if◌then◌else◌, Bool, true, false, List, [], ◌∷◌, length, IsTrue, Option, Some, None, slice_index, slice_set}
 use Rattle.std.specs.List.{slice_index_or}
 use Rattle.sym_base.specs.declared.limits.TheConstants.Limits.{OBJECTS, BOOT_OBJECTS}
 use Rattle.sym_base.specs.declared.kind.Kind.{Kind}
@@ -18,7 +18,8 @@ use Rattle.state_rows.specs.declared.thread.ThreadRow.{ThreadRow}
 use Rattle.script_types.specs.declared.script.Script.{Script}
 use Rattle.machine.specs.Moves.{moved, next_object, told, objects_closed, threads_closed, owed_by_close, use_of_row}
 use Rattle.machine.specs.Arrivals.{is_listed, touched}
-use Rattle.machine.specs.Fits.{FitsDeferred}
+use Rattle.machine.specs.Fits.{ComesBack, FitsDeferred}
+use Rattle.machine.specs.History.{keeping}
 use Rattle.machine.specs.FitsCopies.{FitsCopies}
 use Rattle.machine.specs.Choice.{priority_of}
 use Rattle.machine.specs.References.{count_of, RefsMove}
@@ -34,7 +35,10 @@ use Rattle.kernel_tables.specs.ServerMoved.{CanServe, CanMessage}
 use Rattle.table_moves.specs.LogonMoved.{CanLogon}
 use Rattle.kernel_tables.specs.Noted.{TiedTables}
 use Rattle.kernel_tables.specs.Referred.{HasPlaces, IsReferred}
+use Rattle.readings.specs.Dying.{dead_by}
+use Rattle.table_moves.specs.Notes.{Notes, HasNoteOf}
 use Rattle.table_moves.specs.RequestMoved.{CanRequest}
+use Rattle.kernel_tables.specs.Choosing.{mode_after}
 use Rattle.kernel_tables.specs.StateOf.{state_of}
 
 -- there is room for one more object, and nothing refers to it yet
@@ -113,12 +117,32 @@ CanMove t (Copies m) S = FitsCopies m S
 CanMove t (Pay (Close h o)) S = IsReferred S o × HasPlaces 2 S t
 CanMove t (Pay (Sweep o)) S = IsTrue (is_dead_row (object_of S o)) × (use_of_row (thread_of S o) ≡ None)
 
+-- a move by which no reference is given up, and nothing is paid
+abbrev pub IsOther : Move → Type 0
+IsOther (Lose h o) = ⊥
+IsOther (Pay what) = ⊥
+IsOther m = Unit {0}
+
+-- the state in which a move was made: the one before it, with the choice that the move left
+abbrev pub chosen_state : {W N : Type 0} → Tables W N → Tables W N → State
+chosen_state old new = keeping new.mode.keep (state_of old)
+
 -- A move of an action of thread t was made: the tables stand for the state that it leaves, the counts moved with what it
--- tells, and what is kept of threads is theirs.
-pub record IsMoved {W N : Type 0} (t : ObjNo) (m : Move) (old new : Tables W N) : Type 0 where
-  pub state : state_of new ≡ moved t m (state_of old)
-  pub counts : CountsMove old.objects.counts new.objects.counts (told m (state_of old))
+-- tells, what is kept of threads is theirs, an object that died of it leaves nothing to choose, and these notes are left.
+pub record IsMovedTo {W N : Type 0} (left : Notes) (t : ObjNo) (m : Move) (old new : Tables W N) : Type 0 where
+  pub state : state_of new ≡ moved t m (chosen_state old new)
+  pub counts : CountsMove old.objects.counts new.objects.counts (told m (chosen_state old new))
   pub tied : TiedTables new
+  pub mode : new.mode ≡ mode_after (dead_by m (chosen_state old new)) old.mode
+  pub notes : new.objects.notes ≡ left
+
+-- and no note came or went
+abbrev pub IsMoved : {W N : Type 0} → ObjNo → Move → Tables W N → Tables W N → Type 0
+IsMoved t m old new = IsMovedTo old.objects.notes t m old new
+
+-- the object that is dead after a close, the last or not
+abbrev pub dead_of : Bool → ObjNo → Option ObjNo
+dead_of last o = if last then Some o else None
 
 -- what tables stand for once a reference of an object with this link went, the last or not: the object is dead then,
 -- its link is off its row, and thread t owes the close of the link, and then the sweep
@@ -132,11 +156,15 @@ closed last t o link S = record S {
   serving = record S.serving { servers = servers_closed last o S.serving.servers };
 }
 
--- it was the last where it was the only one
-pub record IsClosed {W N : Type 0} (t o : ObjNo) (link : Option ObjNo) (old new : Tables W N) : Type 0 where
-  pub state : state_of new ≡ closed (slice_index old.objects.counts o.0 == 1) t o link (state_of old)
+-- it was the last only where it was the only one, and wasn't then only where a note of the object is out
+pub record IsClosed {W N : Type 0} (t o : ObjNo) (link : Option ObjNo) (last : Bool) (old new : Tables W N) : Type 0 where
+  pub state : state_of new ≡ closed last t o link (chosen_state old new)
+  pub mode : new.mode ≡ mode_after (dead_of last o) old.mode
   pub counts : new.objects.counts ≡ slice_set old.objects.counts o.0 (slice_index old.objects.counts o.0 - 1)
   pub tied : TiedTables new
+  pub notes : new.objects.notes ≡ old.objects.notes
+  pub only : last ≡ true → slice_index old.objects.counts o.0 ≡ 1
+  pub out : last ≡ false → slice_index old.objects.counts o.0 ≡ 1 → HasNoteOf old.objects.notes o.0
 
 -- whether a move sets a thread's priority; one whose row is swept has none any more
 abbrev pub is_set : Move → ObjNo → Bool
@@ -144,17 +172,27 @@ is_set (SetPriority v priority) u = u.0 == v.0
 is_set (Pay (Sweep o)) u = u.0 == o.0
 is_set _ u = false
 
--- A move in an action of thread t goes through: it can be made, the references move with what it tells, the numbers of messages so far have
--- 31 bits, priorities stay that it doesn't set, and so does the readiness of all threads that it doesn't touch.
-pub record MoveGoes (script : Script) (t : ObjNo) (m : Move) (S : State) : Type 0 where
-  pub can : CanMove t m S
+-- What a move in an action of thread t leaves is in order: the references move with what it tells, the numbers of messages so far have 31 bits,
+-- priorities stay that it doesn't set, and so does the readiness of all threads that it doesn't touch; and other threads that are out stay so.
+pub record MoveRuns (script : Script) (t : ObjNo) (m : Move) (S : State) : Type 0 where
   pub refs : RefsMove S (moved t m S) (told m S)
   pub known : AreKnown (moved t m S)
   pub numbered : (moved t m S).serving.messages.accepted < 2147483648
   pub ranks : (u : ObjNo) → is_set m u ≡ false → priority_of (moved t m S) u ≡ priority_of S u
   pub apart : (u : ObjNo) → is_listed (touched t m) u ≡ false → is_ready script (moved t m S) u ≡ is_ready script S u
+  pub out : (u o : ObjNo) → (u.0 ≡ t.0 → ⊥) → ComesBack S u o → ComesBack (moved t m S) u o
 
--- and so does each of several, when its turn comes
+-- it goes through where it can be made besides
+pub record MoveGoes (script : Script) (t : ObjNo) (m : Move) (S : State) : Type 0 where
+  pub can : CanMove t m S
+  pub runs : MoveRuns script t m S
+
+-- what each of several leaves is in order, when its turn comes
+abbrev pub MovesRun : Script → ObjNo → List Move → State → Type 0
+MovesRun script t [] S = Unit {0}
+MovesRun script t (m ∷ ms) S = MoveRuns script t m S × MovesRun script t ms (moved t m S)
+
+-- and each of several goes through
 abbrev pub MovesGo : Script → ObjNo → List Move → State → Type 0
 MovesGo script t [] S = Unit {0}
 MovesGo script t (m ∷ ms) S = MoveGoes script t m S × MovesGo script t ms (moved t m S)

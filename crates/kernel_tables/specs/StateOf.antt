@@ -1,5 +1,5 @@
 -- The definitions' state that the kernel's tables stand for.
-use Rattle.std.specs.Prelude.{false, List, map}
+use Rattle.std.specs.Prelude.{List, map}
 use Rattle.state_rows.specs.declared.handle_slot.HandleSlot.{HandleSlot}
 use Rattle.handles.specs.HandleTable.{HandleTable}
 use Rattle.machine.specs.declared.state.State.{State}
@@ -9,10 +9,10 @@ use Rattle.kernel_tables.specs.declared.tables.Tables.{Tables}
 abbrev pub slots_of : List HandleTable → List (List HandleSlot)
 slots_of tables = map (λ (t : HandleTable). t.slots) tables
 
--- each field of the state is the value of one table; and one caller alone calls the kernel, so nothing is kept
+-- each field of the state is the value of one table, and how the kernel is called stands beside the tables
 abbrev pub state_of : {W N : Type 0} → Tables W N → State
 state_of tables = record {
-  mode = record { shared = false; keep = false };
+  mode = tables.mode;
   references = record {
     objects = tables.objects.rows;
     handles = slots_of tables.handles;

@@ -4,8 +4,10 @@
 mod copy_moves;
 mod death_moves;
 mod kernel_core;
+mod kernel_notes;
 mod lock_moves;
 mod moves;
+mod note_moves;
 mod reading;
 mod ready;
 mod server_moves;

@@ -49,6 +49,7 @@ fn take<W: RefWords + Drop>(
     ensures lists { cleanup.new ≡ record cleanup.old { mutexes = holding cleanup.old.mutexes thread mutex } }
     ensures rows { objects.new.rows ≡ objects.old.rows }
     ensures counts { objects.new.counts ≡ slice_set objects.old.counts mutex.0 (slice_index objects.old.counts mutex.0 + 1) }
+    ensures notes { objects.new.notes ≡ objects.old.notes }
 {
     hold(cleanup, thread, mutex);
     objects.add_ref(mutex);

@@ -1,5 +1,5 @@
 //! Moves in the kernel's tables: each changes the rows, and the counts move with what it tells.
-ghost use Rattle.std.specs.Prelude.{◌≡◌, ◌+◌, ◌-◌, ◌<◌, ◌≤◌, ◌==◌, [], None, length, slice_index, slice_set};
+ghost use Rattle.std.specs.Prelude.{◌≡◌, ◌+◌, ◌<◌, ◌≤◌, [], None, length, slice_set};
 ghost use Rattle.std.specs.List.{slice_index_or};
 ghost use Rattle.state_rows.specs.HandleSlots.{free_index};
 ghost use Rattle.sym_base.specs.declared.number.ObjNo.{ObjNo};
@@ -8,7 +8,9 @@ ghost use Rattle.machine.specs.Handles.{with_slot, taken_slot, freed_slot};
 ghost use Rattle.machine.specs.Rows.{thread_of};
 ghost use Rattle.cleanup.specs.Lists.{list_of};
 ghost use Rattle.kernel_tables.specs.Noted.{AreKept, TiedTables};
-ghost use Rattle.kernel_tables.specs.Moved.{CanMake, CanGain, CanAdvance, CanMove, IsMoved, IsClosed, TakesLeast};
+ghost use Rattle.readings.specs.Dying.{dead_by};
+ghost use Rattle.kernel_tables.specs.Choosing.{MayClose, closing_bit, mode_after};
+ghost use Rattle.kernel_tables.specs.Moved.{CanMake, CanGain, CanAdvance, CanMove, IsMoved, IsClosed, IsOther, TakesLeast, chosen_state, dead_of};
 ghost use Rattle.table_moves.specs.ObjectsView.{IsHeld};
 ghost use Rattle.kernel_tables.specs.StateOf.{slots_of, state_of};
 ghost use Rattle.table_moves.specs.ThreadRows.{with_threads};
@@ -23,7 +25,7 @@ use crate::tables::Tables;
 use entry_log::{Holder, Part};
 use handles::Handles;
 use kern_sync::KernSync;
-use machine::{Move, Owed, Waiting};
+use machine::{Mode, Move, Owed, Waiting};
 use procs::Procs;
 use ref_words::{Closed, RefWords};
 use sym_base::{Items, Kind, Limits, Name, ObjNo, ThreadNo};
@@ -121,30 +123,56 @@ fn open_found<W: RefWords + Drop>(
     threads_open(&mut tables.procs, thread, object, part);
 }
 
-/// A reference to an object with this link of its own goes. With the last one the object dies, and the thread
-/// owes the close of the link, and then the sweep.
+/// The object, where a close of it was the last.
+fn dead_of(last: bool, object: ObjNo) -> Option<ObjNo>
+    ensures { result ≡ dead_of last object }
+{
+    if last { Some(object) } else { None }
+}
+
+/// A last close leaves nothing to choose.
+fn choose(mode: &mut Mode, last: bool)
+    ensures mode { (o : ObjNo) → mode.new ≡ mode_after (dead_of last o) mode.old }
+    ensures shared { mode.new ≡ record mode.old { keep = mode.new.keep } }
+{
+    if last {
+        mode.keep = false;
+    }
+}
+
+/// A reference to an object with this link of its own goes. With the last one the object dies, and the thread owes the close of the
+/// link, and then the sweep. It answers whether it was the last.
 fn close<W: RefWords + Drop>(
     tables: &mut Tables<W>,
     thread: ThreadNo,
     object: ObjNo,
     link: Option<ObjNo>,
-)
+) -> bool
     requires held { IsHeld tables.old.objects object }
     requires places { length (list_of tables.old.cleanup.duties thread) + 2 ≤ 16 }
     requires tied { TiedTables tables.old }
-    ensures { IsClosed thread object link tables.old tables.new }
+    ensures { IsClosed thread object link result tables.old tables.new }
 {
     let last = tables.objects.close_ref(object) == Closed::Last;
     threads_closed(&mut tables.procs, last, object);
     servers_closed(&mut tables.servers, last, object);
     owe_close(&mut tables.cleanup, thread, last, object, link);
+    choose(&mut tables.mode, last);
+    last
 }
 
-/// A holder gives its reference up, and the thread owes what a last one leaves to do.
-fn lose<W: RefWords + Drop>(tables: &mut Tables<W>, thread: ThreadNo, holder: Holder, object: ObjNo)
+/// A holder gives its reference up, and the thread owes what a last one leaves to do. An object that died of it is answered.
+fn lose<W: RefWords + Drop>(
+    tables: &mut Tables<W>,
+    thread: ThreadNo,
+    holder: Holder,
+    object: ObjNo,
+) -> Option<ObjNo>
     requires can { CanMove thread (Move.Lose holder object) (state_of tables.old) }
     requires kept { AreKept tables.old }
-    ensures { IsMoved thread (Move.Lose holder object) tables.old tables.new }
+    requires may { MayClose tables.old.objects.notes (state_of tables.old) }
+    ensures moved { IsMoved thread (Move.Lose holder object) tables.old tables.new }
+    ensures dead { result ≡ dead_by (Move.Lose holder object) (chosen_state tables.old tables.new) }
 {
     let link = link_of(tables, object);
     lose_slot(&mut tables.handles, holder);
@@ -152,7 +180,8 @@ fn lose<W: RefWords + Drop>(tables: &mut Tables<W>, thread: ThreadNo, holder: Ho
     owned_lose(&mut tables.cleanup, holder, object);
     threads_lose(&mut tables.procs, holder);
     servers_lose(&mut tables.servers, holder);
-    close(tables, thread, object, link);
+    let last = close(tables, thread, object, link);
+    dead_of(last, object)
 }
 
 /// A thread's link to its process.
@@ -209,20 +238,23 @@ fn set_priority<W: RefWords + Drop>(tables: &mut Tables<W>, thread: ThreadNo, pr
     tables.locks.set_priority(thread, priority);
 }
 
-/// The thread pays a close that it owes.
+/// The thread pays a close that it owes. An object that died of it is answered.
 fn pay_close<W: RefWords + Drop>(
     tables: &mut Tables<W>,
     thread: ThreadNo,
     holder: Holder,
     object: ObjNo,
-)
+) -> Option<ObjNo>
     requires can { CanMove thread (Move.Pay (Owed.Close holder object)) (state_of tables.old) }
     requires kept { AreKept tables.old }
-    ensures { IsMoved thread (Move.Pay (Owed.Close holder object)) tables.old tables.new }
+    requires may { MayClose tables.old.objects.notes (state_of tables.old) }
+    ensures moved { IsMoved thread (Move.Pay (Owed.Close holder object)) tables.old tables.new }
+    ensures dead { result ≡ dead_by (Move.Pay (Owed.Close holder object)) (chosen_state tables.old tables.new) }
 {
     let link = link_of(tables, object);
     drop_first_owed(&mut tables.cleanup, thread);
-    close(tables, thread, object, link);
+    let last = close(tables, thread, object, link);
+    dead_of(last, object)
 }
 
 /// The row of a swept thread goes, and its priority among waiters.
@@ -248,28 +280,34 @@ fn pay_sweep<W: RefWords + Drop>(tables: &mut Tables<W>, thread: ThreadNo, objec
     drop_first_owed(&mut tables.cleanup, thread);
 }
 
-/// The thread pays the oldest of what it owes.
-fn pay<W: RefWords + Drop>(tables: &mut Tables<W>, thread: ThreadNo, what: Owed)
+/// The thread pays the oldest of what it owes. An object that died of it is answered.
+fn pay<W: RefWords + Drop>(tables: &mut Tables<W>, thread: ThreadNo, what: Owed) -> Option<ObjNo>
     requires can { CanMove thread (Move.Pay what) (state_of tables.old) }
     requires kept { AreKept tables.old }
-    ensures { IsMoved thread (Move.Pay what) tables.old tables.new }
+    requires may { closing_bit (Move.Pay what) ≡ 1 → MayClose tables.old.objects.notes (state_of tables.old) }
+    ensures moved { IsMoved thread (Move.Pay what) tables.old tables.new }
+    ensures dead { result ≡ dead_by (Move.Pay what) (chosen_state tables.old tables.new) }
 {
     match what {
         Owed::Close(holder, object) => pay_close(tables, thread, holder, object),
-        Owed::Sweep(object) => pay_sweep(tables, thread, object),
+        Owed::Sweep(object) => {
+            pay_sweep(tables, thread, object);
+            None
+        }
     }
 }
 
-/// One move in an action of a thread.
-pub fn make_move<W: RefWords + Drop>(tables: &mut Tables<W>, thread: ThreadNo, change: &Move)
+/// One move by which no reference is given up, in an action of a thread.
+fn make_other<W: RefWords + Drop>(tables: &mut Tables<W>, thread: ThreadNo, change: &Move)
     requires can { CanMove thread change.now (state_of tables.old) }
     requires kept { AreKept tables.old }
+    requires other { IsOther change.now }
     ensures { IsMoved thread change.now tables.old tables.new }
 {
     match *change {
         Move::Make(kind, name, holder) => make(tables, kind, name, holder),
         Move::Gain(holder, object) => gain(tables, holder, object),
-        Move::Lose(holder, object) => lose(tables, thread, holder, object),
+        Move::Lose(_, _) | Move::Pay(_) => unreachable!(),
         Move::Find(other, object) => threads_find(&mut tables.procs, other, object),
         Move::Open(other, object, part) => open_found(tables, other, object, part),
         Move::Miss(other, _) => threads_miss(&mut tables.procs, other),
@@ -298,6 +336,27 @@ pub fn make_move<W: RefWords + Drop>(tables: &mut Tables<W>, thread: ThreadNo, c
             fill(&mut tables.procs, process, at, length, byte);
         }
         Move::Copies(change) => move_copy(tables, change),
+    }
+}
+
+/// One move in an action of a thread. An object that died of it is answered.
+pub fn make_move<W: RefWords + Drop>(
+    tables: &mut Tables<W>,
+    thread: ThreadNo,
+    change: &Move,
+) -> Option<ObjNo>
+    requires can { CanMove thread change.now (state_of tables.old) }
+    requires kept { AreKept tables.old }
+    requires may { closing_bit change.now ≡ 1 → MayClose tables.old.objects.notes (state_of tables.old) }
+    ensures moved { IsMoved thread change.now tables.old tables.new }
+    ensures dead { result ≡ dead_by change.now (chosen_state tables.old tables.new) }
+{
+    match *change {
+        Move::Lose(holder, object) => lose(tables, thread, holder, object),
         Move::Pay(what) => pay(tables, thread, what),
+        _ => {
+            make_other(tables, thread, change);
+            None
+        }
     }
 }

@@ -80,11 +80,7 @@ impl<W: RefWords + Drop> Reads for Tables<W> {
     }
 
     fn is_shared(&self) -> bool {
-        false
-    }
-
-    fn dies(&self, object: ObjNo) -> bool {
-        self.objects.count(object) == 1
+        self.mode.shared
     }
 
     fn next_object(&self) -> ObjNo {

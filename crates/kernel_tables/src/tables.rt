@@ -3,6 +3,7 @@
 use cleanup::Cleanup;
 use handles::Handles;
 use kern_sync::KernSync;
+use machine::Mode;
 use messages::Messages;
 use nano_sync::NanoSync;
 use procs::Procs;
@@ -15,6 +16,8 @@ use table_moves::{CallQueues, ObjectTable};
 /// All tables but the history and the queues of ready threads. Each list is indexed by object number.
 #[derive(Drop)]
 pub struct Tables<W: RefWords> {
+    /// How the kernel is called, and what the present action may still choose.
+    pub mode: Mode,
     pub objects: ObjectTable<W>,
     /// The handle table of each process and thread.
     pub handles: Items<Handles>,

@@ -7,3 +7,4 @@ pub mod Outs
 pub mod Parts
 pub mod Returns
 pub mod Told
+pub mod Seekers

@@ -66,6 +66,13 @@ no_count n p = elim (cases_lt p n) [
   | inr past ↦ get_or_past (replicate {A = ℕ} n 0) p 0 (rw length-replicate past)
 ]
 
+-- the place of an object that was made is created
+pub made_created : (rows : Rows) (counts : List ℕ) (w : Words) (p : ℕ) → AreKept rows counts w → p < length rows → IsCreated w p
+made_created rows counts w p kept made = elim (cases_Bool (is_alive (row_at rows p))) as (λ _. IsCreated w p) [
+  | inl alive ↦ (let used = kept.in_use p alive in λ fresh. cc)
+  | inr dead ↦ (let gone = kept.gone p made dead in λ fresh. cc)
+]
+
 -- a table of no object, over words of which no place is created
 pub kept_new : (w : Words) (n : ℕ) → NoneCreated w → length w.stages ≡ length w.own → ((p : ℕ) → stage_at w p ≡ Fresh → own_at w p ≡ 0) → n ≡ min (length w.own) OBJECTS → AreKept [] (replicate n 0) w
 kept_new w n none sizes uncounted room = record {

@@ -57,6 +57,7 @@ impl<W: RefWords + Drop> Objects<W> {
         requires { NoneCreated (W.meaning words) }
         ensures table { IfOk result (λ objects. objects ≡ record { rows = []; words = words }) }
         ensures none_out { IfOk result (λ objects. (W.meaning objects.words).out ≡ []) }
+        ensures unmade { IfOk result (λ objects. (W.meaning objects.words).made ≡ 0) }
         ensures uncounted { IfOk result (λ objects. (p : ℕ) → own_at (W.meaning objects.words) p ≡ 0) }
     {
         let places = words.places().min(Limits::OBJECTS);
@@ -198,10 +199,10 @@ impl<W: RefWords + Drop> Objects<W> {
         left
     }
 
-    /// Sends a note out for an unswept object, which has a reference or is dead.
+    /// Sends a note out for an object that was made, and has a reference or isn't alive.
     pub fn send_out(&mut self, o: ObjNo) -> W::Note
-        requires there { IsTrue (is_there (row_at self.old.rows o.0)) }
-        requires known_or_dead { own_at (W.meaning self.old.words) o.0 ≡ 0 → IsTrue (is_dead_row (row_at self.old.rows o.0)) }
+        requires made { o.0 < length self.old.rows }
+        requires known_or_gone { own_at (W.meaning self.old.words) o.0 ≡ 0 → is_alive (row_at self.old.rows o.0) ≡ false }
         requires small { own_at (W.meaning self.old.words) o.0 < 2 ^ 31 }
         requires few_out { length (W.meaning self.old.words).out < 64 }
         requires few_made { (W.meaning self.old.words).made < 4294967295 }
@@ -230,6 +231,7 @@ impl<W: RefWords + Drop> Objects<W> {
 
         // The object was made, and is held exactly where it isn't dead, and so not swept either.
         ensures made { (W.slip note).place < length self.old.rows }
+        ensures placed { (W.slip note).place < length (W.meaning self.old.words).own }
         ensures held { (result ≡ Found.Held) ↔ IsTrue (is_alive (row_at self.old.rows (W.slip note).place)) }
         ensures was_out { IsOut (W.meaning self.old.words) (W.slip note) }
         ensures fewer { length (W.meaning self.new.words).out + 1 ≡ length (W.meaning self.old.words).out }

@@ -1,2 +1,3 @@
 pub mod Active
 pub mod Numbers
+pub mod Telling

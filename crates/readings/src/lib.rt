@@ -2,12 +2,14 @@
 //! for the kernel.
 #![tactic(auto)]
 
+mod deaths;
 mod move_effects;
 mod plain;
 mod reads;
 mod task;
 
-pub use move_effects::tell;
+pub use deaths::tell_whole;
+pub use move_effects::{tell, tell_death};
 pub use plain_reads::{
     burial_of, burial_place, first_of_greatest, first_used, is_buried_by, is_left, is_one_left,
     is_queued,

@@ -1,6 +1,7 @@
 //! What moves tell.
 ghost use Rattle.std.specs.Prelude.{◌≡◌, ◌+◌, ◌≤◌, [], ◌∷◌, ◌++◌, length};
-ghost use Rattle.machine.specs.Moves.{closed_effects, told};
+ghost use Rattle.machine.specs.declared.state.State.{State};
+ghost use Rattle.readings.specs.Dying.{dead_told, told_alive};
 ghost use Rattle.machine.specs.NanoMoves.{nano_told};
 ghost use Rattle.machine.specs.RequestMoves.{request_told};
 ghost use Rattle.machine.specs.DeathMoves.{death_told};
@@ -17,34 +18,13 @@ use machine::{DeathMove, LockMove, MessageMove, Move, NanoMove, Owed, RequestMov
 use state_rows::{Locked, Unlocked};
 use sym_base::{MsgNo, ObjNo, ThreadNo};
 
-/// Tells a close, and the death where the object dies of it.
-fn tell_close(effects: &mut Effects, dying: bool, holder: Holder, object: ObjNo)
-    requires { length effects.old + length (closed_effects dying holder object) ≤ 4 }
-    ensures { effects.new ≡ effects.old ++ closed_effects dying holder object }
-{
-    effects.push(Effect::Minus(holder, object));
-    if dying {
-        effects.push(Effect::Dead(object));
-    }
-}
-
-/// Tells a reference that is given up, from the state before it.
-fn tell_loss<R: Reads>(effects: &mut Effects, reads: &R, holder: Holder, object: ObjNo)
-    requires readable { R.is_readable reads.now }
-    requires few { length effects.old + length (told (Move.Lose holder object) (R.state reads.now)) ≤ 4 }
-    ensures { effects.new ≡ effects.old ++ told (Move.Lose holder object) (R.state reads.now) }
-{
-    tell_close(effects, reads.dies(object), holder, object);
-}
-
-/// Tells the payment of an item, from the state before it.
-fn tell_payment<R: Reads>(effects: &mut Effects, reads: &R, what: Owed)
-    requires readable { R.is_readable reads.now }
-    requires few { length effects.old + length (told (Move.Pay what) (R.state reads.now)) ≤ 4 }
-    ensures { effects.new ≡ effects.old ++ told (Move.Pay what) (R.state reads.now) }
+/// Tells the payment of an item, but for a death.
+fn tell_payment(effects: &mut Effects, what: Owed)
+    requires { length effects.old + 1 ≤ 4 }
+    ensures { (S : State) → effects.new ≡ effects.old ++ told_alive (Move.Pay what) S }
 {
     match what {
-        Owed::Close(holder, object) => tell_close(effects, reads.dies(object), holder, object),
+        Owed::Close(holder, object) => effects.push(Effect::Minus(holder, object)),
         Owed::Sweep(object) => effects.push(Effect::Swept(object)),
     }
 }
@@ -117,7 +97,7 @@ fn tell_lock(effects: &mut Effects, change: LockMove)
 }
 
 /// Tells a move in the row of a thread that dies: who is doomed, and who is buried.
-fn tell_death(effects: &mut Effects, change: DeathMove)
+fn tell_dying(effects: &mut Effects, change: DeathMove)
     requires { length effects.old + length (death_told change) ≤ 4 }
     ensures { effects.new ≡ effects.old ++ death_told change }
 {
@@ -171,11 +151,11 @@ fn tell_message<R: Reads>(effects: &mut Effects, reads: &R, change: &MessageMove
     }
 }
 
-/// Tells a move, from the state before it, behind the effects so far.
+/// Tells a move but for a death, from the state before it, behind the effects so far.
 pub fn tell<R: Reads>(effects: &mut Effects, reads: &R, change: &Move)
     requires readable { R.is_readable reads.now }
-    requires few { length effects.old + length (told change.now (R.state reads.now)) ≤ 4 }
-    ensures { effects.new ≡ effects.old ++ told change.now (R.state reads.now) }
+    requires few { length effects.old + length (told_alive change.now (R.state reads.now)) ≤ 4 }
+    ensures { effects.new ≡ effects.old ++ told_alive change.now (R.state reads.now) }
 {
     match *change {
         Move::Make(_, _, holder) => {
@@ -183,7 +163,7 @@ pub fn tell<R: Reads>(effects: &mut Effects, reads: &R, change: &Move)
             effects.push(Effect::Plus(holder, object));
         }
         Move::Gain(holder, object) => effects.push(Effect::Plus(holder, object)),
-        Move::Lose(holder, object) => tell_loss(effects, reads, holder, object),
+        Move::Lose(holder, object) => effects.push(Effect::Minus(holder, object)),
         Move::Find(_, object) => effects.push(Effect::Seek(object)),
         Move::Open(thread, object, _) => {
             effects.push(Effect::Plus(Holder::Temp(thread), object));
@@ -192,7 +172,7 @@ pub fn tell<R: Reads>(effects: &mut Effects, reads: &R, change: &Move)
         Move::Nano(change) => tell_nano(effects, change),
         Move::Requests(change) => tell_request(effects, change),
         Move::Locks(change) => tell_lock(effects, change),
-        Move::Death(change) => tell_death(effects, change),
+        Move::Death(change) => tell_dying(effects, change),
         Move::Servers(change) => tell_server(effects, change),
         Move::Messages(change) => tell_message(effects, reads, &change),
         Move::GoOn(_, _)
@@ -208,6 +188,16 @@ pub fn tell<R: Reads>(effects: &mut Effects, reads: &R, change: &Move)
         | Move::Logons(_)
         | Move::Fill(_, _, _, _)
         | Move::Copies(_) => {}
-        Move::Pay(what) => tell_payment(effects, reads, what),
+        Move::Pay(what) => tell_payment(effects, what),
+    }
+}
+
+/// Tells the death of an object, where one died.
+pub fn tell_death(effects: &mut Effects, dead: Option<ObjNo>)
+    requires { length effects.old + length (dead_told dead) ≤ 4 }
+    ensures { effects.new ≡ effects.old ++ dead_told dead }
+{
+    if let Some(object) = dead {
+        effects.push(Effect::Dead(object));
     }
 }

@@ -1,7 +1,7 @@
 //! The plain machine's state, read by decisions.
 use crate::Reads;
 use machine::{
-    Holding, NewHandle, Owed, State, ThreadRow, critical_count, dies, first_owed, held_place,
+    Holding, NewHandle, Owed, State, ThreadRow, critical_count, first_owed, held_place,
     is_protected, mutex_holder, object_of, process_handle, row_of, signal_count, suspend_count,
     table_of, thread_handle, thread_in, wanted_mutex,
 };
@@ -60,10 +60,6 @@ impl Reads for State {
 
     fn is_shared(&self) -> bool {
         self.mode.shared
-    }
-
-    fn dies(&self, object: ObjNo) -> bool {
-        dies(self, object)
     }
 
     fn next_object(&self) -> ObjNo {

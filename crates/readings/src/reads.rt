@@ -12,7 +12,6 @@ ghost use Rattle.machine.specs.Memory.{byte_of};
 ghost use Rattle.machine.specs.Moves.{next_object, no_number_left};
 ghost use Rattle.state_rows.specs.HandleNumbers.{index_of, is_local};
 ghost use Rattle.state_rows.specs.Locks.{owner_at, count_at, best_waiter};
-ghost use Rattle.machine.specs.Kept.{dies};
 ghost use Rattle.machine.specs.Rows.{object_of, thread_of, table_of, first_owed};
 ghost use Rattle.state_rows.specs.declared.deferred.Item.TheVariants.{Move};
 ghost use Rattle.state_rows.specs.Deferred.{next_of as next_call_of, next_immediate, is_queued, queue_of};
@@ -82,11 +81,6 @@ pub trait Reads {
     /// Whether callers share the kernel.
     fn is_shared(&self) -> bool
         ensures { result ≡ (state self.now).mode.shared };
-
-    /// Whether an object dies as one of its references is given up: it has no other, and isn't kept.
-    fn dies(&self, object: ObjNo) -> bool
-        requires { is_readable self.now }
-        ensures { result ≡ dies (state self.now) object };
 
     /// The number that a new object gets.
     fn next_object(&self) -> ObjNo

@@ -1,6 +1,6 @@
 //! Reference counts by place, as the kernel uses them.
 ghost use Rattle.std.specs.Prelude.{◌≡◌, ℕ, ◌+◌, ◌^◌, ◌<◌, ◌≤◌, ◌↔◌, List, length};
-ghost use Rattle.ref_words.specs.Words.{Words, own_at, stage_at, IsFresh, IsCreated, IsGone, IsOut, HasNoteOut, created, opened, sent_out, taken_back, closed};
+ghost use Rattle.ref_words.specs.Words.{Words, own_at, stage_at, IsFresh, IsCreated, IsGone, IsOut, HasNoteOut, NoneCreated, created, opened, sent_out, taken_back, closed};
 ghost use Rattle.ref_words.specs.declared.answer.Stage.TheVariants.{Fresh};
 ghost use Rattle.ref_words.specs.declared.slip.Slip.{Slip};
 
@@ -45,9 +45,11 @@ pub trait RefWords {
         ensures places { result ≡ length (meaning self.now).own }
         ensures stages { length (meaning self.now).stages ≡ length (meaning self.now).own }
 
-        // A fresh place has own count 0, and a note that is out is of a created place.
+        // A fresh place has own count 0, a note that is out is of a created place, and while no place was created
+        // no note was made.
         ensures fresh { (p : ℕ) → stage_at (meaning self.now) p ≡ Fresh → own_at (meaning self.now) p ≡ 0 }
-        ensures created { (s : Slip) → IsOut (meaning self.now) s → IsCreated (meaning self.now) s.place };
+        ensures created { (s : Slip) → IsOut (meaning self.now) s → IsCreated (meaning self.now) s.place }
+        ensures unmade { NoneCreated (meaning self.now) → (meaning self.now).made ≡ 0 };
 
     /// The place that a note was made for.
     fn place_of(note: &Self::Note) -> u32

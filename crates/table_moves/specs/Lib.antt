@@ -1,3 +1,4 @@
+pub mod Notes
 pub mod ObjectsView
 pub mod ThreadRows
 pub mod Noted

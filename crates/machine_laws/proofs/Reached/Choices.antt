@@ -320,7 +320,7 @@ leave-same S keep (Interrupt k) = refl
 leave-same S keep (Immediate item) = refl
 leave-same S keep (Deferred dfc) = refl
 
-body-same : (script : Script) (t : ObjNo) (S : State) (keep : Bool) (body : Body) → Sane script t S → run_body script t (keeping keep S) body ≡ run_body script t S body
+pub body-same : (script : Script) (t : ObjNo) (S : State) (keep : Bool) (body : Body) → Sane script t S → run_body script t (keeping keep S) body ≡ run_body script t S body
 body-same script t S keep body sane =
     let left = leave_queue S body in
     let light = light-leave script S t body sane.rows in
@@ -340,7 +340,7 @@ row-same : (script : Script) (t : ObjNo) (S : State) (keep : Bool) (row : Option
 row-same script t S keep (Some row) (Some what) sane = task-same script t S keep row what sane
 row-same script t S keep _ _ sane = refl
 
-decision-same : (script : Script) (S : State) (t : ObjNo) (keep : Bool) → IsShaped script → AreRows script S → decision_of script (keeping keep S) t ≡ decision_of script S t
+pub decision-same : (script : Script) (S : State) (t : ObjNo) (keep : Bool) → IsShaped script → AreRows script S → decision_of script (keeping keep S) t ≡ decision_of script S t
 decision-same script S t keep shaped rows = where-same (may_act script S t) (thread_of S t) refl (task_of script S t)
   where
     where-same : (able : Bool) (row : Option ThreadRow) → thread_of S t ≡ row → (what : Option Task) → decision_where script able (keeping keep S) t what ≡ decision_where script able S t what
@@ -386,7 +386,7 @@ carried-by script t S decide same few =
 light-few : (script : Script) (t : ObjNo) (S : State) (ms : List Move) (n : ℕ) → OwesNothing plain script t S ms n → total close_bit ms ≤ 1
 light-few script t S ms n light = let same = no-pay script t ms S light.each in let none = light_loses light in omega arith
 
-plan-same : (script : Script) (S : State) (keep : Bool) (found : Option Item) → AreRows script S → decision_by script supervisor (keeping keep S) (immediate_plan script (keeping keep S) found) ≡ decision_by script supervisor S (immediate_plan script S found)
+pub plan-same : (script : Script) (S : State) (keep : Bool) (found : Option Item) → AreRows script S → decision_by script supervisor (keeping keep S) (immediate_plan script (keeping keep S) found) ≡ decision_by script supervisor S (immediate_plan script S found)
 plan-same script S keep None rows = refl
 plan-same script S keep (Some (item.Idfc call)) rows = body-same script supervisor S keep (Immediate call) (sane-supervisor script S rows)
 plan-same script S keep (Some (item.Move dfc)) rows = refl

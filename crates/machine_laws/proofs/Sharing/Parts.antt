@@ -74,7 +74,7 @@ able-back script S t shared able =
     by (Some row) still = back-of (is_wait row.waiting) S.mode.shared (is_returning row.part) shared still
 
 -- whatever holds of each that may be chosen
-of-chosen : (script : Script) (S : State) (qs : List ObjNo) (P : Actor → Type 0) → IsWellFormed script S qs → P Idfc → P Idle → ((u : ObjNo) → is_able script S u ≡ true → P (Thread u)) → P (chosen S qs)
+pub of-chosen : (script : Script) (S : State) (qs : List ObjNo) (P : Actor → Type 0) → IsWellFormed script S qs → P Idfc → P Idle → ((u : ObjNo) → is_able script S u ≡ true → P (Thread u)) → P (chosen S qs)
 of-chosen script S qs P formed item idle able = by (next_immediate S.synchronization.deferred)
   where
     thread : (found : Option ObjNo) → first_ready S qs ≡ found → P (actor_of (option_map (in_place_of S.synchronization.nano) found))

@@ -5,5 +5,7 @@ pub returns : goal.returns
 returns g c = λ t. record {
   state = rw (c.read_piece.ensures.copied, c.read_piece.ensures.messages) refl;
   counts = λ o. refl;
+  mode = refl;
+  notes = refl;
   tied = rw c.read_piece.ensures.copied c.requires.tied;
 }

@@ -5,5 +5,7 @@ pub returns : goal.returns
 returns g c = λ t. record {
   state = rw (c.write_piece.ensures.copied, c.write_piece.ensures.length) refl;
   counts = λ o. refl;
+  mode = refl;
+  notes = refl;
   tied = rw c.write_piece.ensures.copied c.requires.tied;
 }

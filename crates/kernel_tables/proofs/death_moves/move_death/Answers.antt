@@ -11,5 +11,7 @@ returns g c =
     record {
       state = rw (c.move_row.ensures, c.owe_burial.ensures) refl;
       counts = death_counts old.objects.counts change;
+      mode = refl;
+      notes = refl;
       tied = rw (c.move_row.ensures, c.owe_burial.ensures) (tied_row old.cleanup old.locks.priorities old.procs.threads (death_thread change) (death_row change) (death_uses change) (death_priority change) c.requires.tied);
     }

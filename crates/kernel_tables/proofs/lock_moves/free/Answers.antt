@@ -27,6 +27,8 @@ returns-in-None g c =
     rw is (λ t. record {
       state = rw (c.give.ensures, c.free.ensures.after, best) refl;
       counts = λ p. refl;
+      mode = refl;
+      notes = refl;
       tied = rw (c.give.ensures, c.free.ensures.after) c.requires.kept.tied;
     })
 
@@ -58,5 +60,7 @@ returns-in-Some g c =
     rw is (λ t. record {
       state = rw (c.take.ensures.lists, c.take.ensures.rows, c.give-in-Some.ensures, c.free.ensures.after, best) refl;
       counts = rw c.take.ensures.counts (counts-more old.objects.counts o (Own w) known);
+      mode = refl;
+      notes = c.take.ensures.notes;
       tied = rw (c.take.ensures.lists, c.give-in-Some.ensures, c.free.ensures.after) c.requires.kept.tied;
     })

@@ -24,5 +24,7 @@ returns-in-Signal g c =
     rw c.in-Signal.is (λ t. record {
       state = rw (c.sem_signal.ensures.after, same) refl;
       counts = λ p. refl;
+      mode = refl;
+      notes = refl;
       tied = rw c.sem_signal.ensures.after c.requires.kept.tied;
     })

@@ -25,6 +25,8 @@ returns-in-Freed g c =
     rw is (λ t. record {
       state = rw (c.give.ensures, c.unlock.ensures.after, c.in-Freed.is) refl;
       counts = λ p. refl;
+      mode = refl;
+      notes = refl;
       tied = rw (c.give.ensures, c.unlock.ensures.after) c.requires.kept.tied;
     })
 
@@ -59,5 +61,7 @@ returns-in-Passed g c =
     rw is (λ t. record {
       state = rw (c.take.ensures.lists, c.take.ensures.rows, c.give-in-Passed.ensures, c.unlock.ensures.after, c.in-Passed.is) refl;
       counts = rw c.take.ensures.counts (counts-more old.objects.counts o (Own w) known);
+      mode = refl;
+      notes = c.take.ensures.notes;
       tied = rw (c.take.ensures.lists, c.give-in-Passed.ensures, c.unlock.ensures.after) c.requires.kept.tied;
     })

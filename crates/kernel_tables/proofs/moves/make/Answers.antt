@@ -37,5 +37,7 @@ returns g c =
     λ t. record {
       state = rw (c.gain_slot.ensures, c.threads_gain.ensures, c.make-object.ensures.rows, c.owned_gain.ensures, c.note_gain.ensures, is, servers_gained tables.cleanup c.args.holder next, duties_gained tables.cleanup c.args.holder next, mutexes_gained tables.cleanup c.args.holder next, logons_gained tables.cleanup c.args.holder next) refl;
       counts = rw c.make-object.ensures.counts (counts-first old next c.args.holder none one);
+      mode = refl;
+      notes = c.make-object.ensures.notes;
       tied = rw (c.threads_gain.ensures, c.owned_gain.ensures, c.note_gain.ensures, is) (tied_gained tables.cleanup tables.locks.priorities (state_of tables) c.args.holder next c.requires.can.3 c.requires.kept.tied);
     }

@@ -9,5 +9,7 @@ returns g c =
     λ t. record {
       state = rw (c.threads_lose.ensures, c.owe_use.ensures, c.note_end.ensures, c.use_of-uses.ensures) refl;
       counts = λ o. refl;
+      mode = refl;
+      notes = refl;
       tied = rw (c.threads_lose.ensures, c.owe_use.ensures, c.note_end.ensures) (tied_lost old.cleanup old.locks.priorities old.procs.threads (Temp c.args.thread) c.requires.tied);
     }

@@ -14,5 +14,7 @@ returns g c =
     λ u. record {
       state = rw (c.threads_set_priority.ensures, c.set_priority.ensures) refl;
       counts = λ o. refl;
+      mode = refl;
+      notes = refl;
       tied = rw (c.threads_set_priority.ensures, c.set_priority.ensures) (tied_ranked old.cleanup old.locks.priorities old.procs.threads t there.row c.args.priority there.is inside c.requires.tied);
     }

@@ -1,4 +1,4 @@
-use Rattle.std.proofs.Common.{arith, refl, w32, rules, FitsSigned}
+use Rattle.std.proofs.Common.{◌∙◌, arith, refl, w32, rules, FitsSigned}
 use Rattle.std.proofs.Math.Facts.{to_z-of_z}
 use Rattle.entry_log.specs.declared.effect.Holder.TheVariants.{Message}
 use Rattle.state_rows.specs.MessageChanges.{next_number}
@@ -35,5 +35,7 @@ returns g c =
     λ t. record {
       state = rw (c.accept.ensures.accepted, c.add_ref-2.ensures.rows, c.add_ref.ensures.rows, function, ← rows) refl;
       counts = rw (c.add_ref-2.ensures.counts, c.add_ref.ensures.counts) (counts-two old.objects.counts c.args.row.session c.args.row.client (next_number old.messages) (Message (next_number old.messages)) session.known client.known);
+      mode = refl;
+      notes = c.add_ref-2.ensures.notes ∙ c.add_ref.ensures.notes;
       tied = c.requires.kept.tied;
     }

@@ -10,5 +10,7 @@ returns g c =
     record {
       state = rw (c.owe_message.ensures, c.finish.ensures.gone, owes) refl;
       counts = λ o. refl;
+      mode = refl;
+      notes = refl;
       tied = rw c.owe_message.ensures c.requires.tied;
     }

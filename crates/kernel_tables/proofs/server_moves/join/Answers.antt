@@ -16,5 +16,7 @@ returns g c =
     λ t. record {
       state = rw (c.add_session.ensures, c.add_ref.ensures.rows) refl;
       counts = rw c.add_ref.ensures.counts (counts-more old.objects.counts c.args.server (Link c.args.session) held.known);
+      mode = refl;
+      notes = c.add_ref.ensures.notes;
       tied = c.requires.kept.tied;
     }

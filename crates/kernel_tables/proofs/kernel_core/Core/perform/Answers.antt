@@ -1,59 +1,124 @@
-use Rattle.std.proofs.Common.{◌∷◌, [], ◌+◌, ◌≤◌, List, length, append-nil, drop, subst, sym}
+use Rattle.std.proofs.Common.{◌≡◌, ◌∙◌, ◌+◌, ◌++◌, ◌≤◌, Bool, List, length, length-append, append_assoc, arith, ap, refl, subst, sym}
+use Rattle.std.specs.Prelude.{Option}
+use Rattle.sym_base.specs.declared.number.ObjNo.{ObjNo}
 use Rattle.entry_log.specs.declared.effect.Effect.{Effect}
+use Rattle.machine.specs.declared.mode.Mode.{Mode}
 use Rattle.machine.specs.declared.moves.Move.{Move}
+use Rattle.machine.specs.History.{keeping}
 use Rattle.machine.specs.Moves.{tell, told}
-use Rattle.kernel_tables.specs.Moved.{AreKnown, MovesGo}
+use Rattle.machine.specs.References.{total}
+use Rattle.readings.specs.Dying.{dead_by, dead_told, told_alive}
+use Rattle.readings.proofs.Telling.{told_dead}
+use Rattle.kernel_tables.specs.Choosing.{closing_bit, mode_after}
+use Rattle.kernel_tables.specs.Moved.{AreKnown, MovesGo, chosen_state}
+use Rattle.kernel_tables.specs.declared.tables.Tables.{Tables}
 use Rattle.kernel_tables.specs.StateOf.{state_of}
-use Rattle.kernel_tables.proofs.Performing.{performed_one, still_kept, way_begins, way_ends, way_goes_on, way_few, next_item, none_left}
+use Rattle.kernel_tables.proofs.Performing.{performed_one, still_kept, still_sought, told_both, none_dead, way_begins, way_ends, way_few, way_goes, way_goes_on, way_may, next_item, none_left}
 use Rattle.kernel_tables.proofs.kernel_core.Core.perform.Goals as goal
 
 pub loop-change-init : goal.loop-change-init
 loop-change-init g c = record {
-  way = way_begins c.args.script.now c.args.thread c.as_slice-change-items.result.now (state_of c.self.inside.tables) c.self.inside.ready c.args.effects.now (rw c.as_slice-change-items.ensures.moves (rw (← c.self.view_is) at c.requires.go));
+  way = way_begins c.args.script.now c.args.thread c.as_slice-change-items.result.now (state_of c.self.inside.tables) c.self.inside.ready c.args.effects.now;
   kept = c.self.invariant.kept;
   size = c.self.invariant.size;
+  sought = rw (← c.self.view_is) at c.requires.may.sought;
+  notes = refl;
 }
 
 pub tell-requires-clause-few : goal.tell-requires-clause-few
 tell-requires-clause-few g c =
     let m = c.change-item.result in
-    let i = c.loop-change.change-index in
-    let next = next_item c.as_slice-change-items.result.now i m c.loop-change-test.true c.change-item.is in
+    let S = state_of c.loop-change.tables in
+    let next = next_item c.as_slice-change-items.result.now c.loop-change.change-index m c.loop-change-test.true c.change-item.is in
     let way = rw next at c.loop-change.invariant.way in
-    let told_now = told m (state_of c.loop-change.tables) in
-    let few : length c.args.effects.now + length (tell c.args.thread c.as_slice-change-items.result.now (state_of c.self.inside.tables)) ≤ 4 = rw c.as_slice-change-items.ensures.moves (rw (← c.self.view_is) at c.requires.few) in
-    subst (λ (es : List Effect). length c.loop-change.effects + length es ≤ 4) (append-nil told_now) (way_few c.args.script.now c.args.thread c.as_slice-change-items.result.now (m ∷ []) (drop (i + 1) c.as_slice-change-items.result.now) (state_of c.self.inside.tables) (state_of c.loop-change.tables) c.self.inside.ready c.loop-change.ready c.args.effects.now c.loop-change.effects few way)
+    let once : total closing_bit c.as_slice-change-items.result.now ≤ 1 = rw c.as_slice-change-items.ensures.moves (rw (← c.self.view_is) at c.requires.once) in
+    let few : (keep : Bool) → length c.args.effects.now + length (tell c.args.thread c.as_slice-change-items.result.now (keeping keep (state_of c.self.inside.tables))) ≤ 4 = rw c.as_slice-change-items.ensures.moves (rw (← c.self.view_is) at c.requires.few) in
+    let here : length c.loop-change.effects + length (told m S) ≤ 4 = way_few c.args.script.now c.args.thread _ (state_of c.self.inside.tables) c.self.inside.ready c.args.effects.now m _ S c.loop-change.ready c.loop-change.effects once way few S.mode.keep (λ none. refl) in
+    let whole = ap length (told_dead m S) in
+    let sum = length-append (told_alive m S) (dead_told (dead_by m S)) in
+    omega arith
 
-pub make_move-requires-clause-can : goal.make_move-requires-clause-can
-make_move-requires-clause-can g c =
+pub make_move-dead-requires-clause-can : goal.make_move-dead-requires-clause-can
+make_move-dead-requires-clause-can g c =
     let m = c.change-item.result in
-    let i = c.loop-change.change-index in
-    let next = next_item c.as_slice-change-items.result.now i m c.loop-change-test.true c.change-item.is in
-    let h : MovesGo c.args.script.now c.args.thread (m ∷ drop (i + 1) c.as_slice-change-items.result.now) (state_of c.loop-change.tables) = subst (λ (l : List Move). MovesGo c.args.script.now c.args.thread l (state_of c.loop-change.tables)) next c.loop-change.invariant.way.go in
-    h.0.can
+    let S = state_of c.loop-change.tables in
+    let next = next_item c.as_slice-change-items.result.now c.loop-change.change-index m c.loop-change-test.true c.change-item.is in
+    let way = rw next at c.loop-change.invariant.way in
+    let once : total closing_bit c.as_slice-change-items.result.now ≤ 1 = rw c.as_slice-change-items.ensures.moves (rw (← c.self.view_is) at c.requires.once) in
+    let go : (keep : Bool) → MovesGo c.args.script.now c.args.thread c.as_slice-change-items.result.now (keeping keep (state_of c.self.inside.tables)) = rw c.as_slice-change-items.ensures.moves (rw (← c.self.view_is) at c.requires.go) in
+    (way_goes c.args.script.now c.args.thread _ (state_of c.self.inside.tables) c.self.inside.ready c.args.effects.now m _ S c.loop-change.ready c.loop-change.effects once way go S.mode.keep (λ none. refl)).can
+
+pub make_move-dead-requires-clause-may : goal.make_move-dead-requires-clause-may
+make_move-dead-requires-clause-may g c =
+    let m = c.change-item.result in
+    let S = state_of c.loop-change.tables in
+    let next = next_item c.as_slice-change-items.result.now c.loop-change.change-index m c.loop-change-test.true c.change-item.is in
+    let way = rw next at c.loop-change.invariant.way in
+    let once : total closing_bit c.as_slice-change-items.result.now ≤ 1 = rw c.as_slice-change-items.ensures.moves (rw (← c.self.view_is) at c.requires.once) in
+    let unchosen = rw (← c.self.view_is) at c.requires.may.unchosen in
+    λ closes. (
+      way_may c.args.script.now c.args.thread _ (state_of c.self.inside.tables) c.self.inside.ready c.args.effects.now m _ S c.loop-change.ready c.loop-change.effects once way unchosen closes,
+      λ o noted. (c.loop-change.invariant.sought o noted).0,
+    )
+
+-- the choice that the move left
+leaves : {W N : Type 0} (m : Move) (old new : Tables W N) → new.mode ≡ mode_after (dead_by m (chosen_state old new)) old.mode → closing_bit m ≡ 0 → new.mode.keep ≡ old.mode.keep
+leaves m old new is none = ap (λ (mode : Mode). mode.keep) (is ∙ ap (λ (dead : Option ObjNo). mode_after dead old.mode) (none_dead m (chosen_state old new) none))
+
+pub tell_death-requires : goal.tell_death-requires
+tell_death-requires g c =
+    let m = c.change-item.result in
+    let old = c.loop-change.tables in
+    let new = c.make_move-dead.new.tables in
+    let S = state_of old in
+    let T = chosen_state old new in
+    let next = next_item c.as_slice-change-items.result.now c.loop-change.change-index m c.loop-change-test.true c.change-item.is in
+    let way = rw next at c.loop-change.invariant.way in
+    let once : total closing_bit c.as_slice-change-items.result.now ≤ 1 = rw c.as_slice-change-items.ensures.moves (rw (← c.self.view_is) at c.requires.once) in
+    let few : (keep : Bool) → length c.args.effects.now + length (tell c.args.thread c.as_slice-change-items.result.now (keeping keep (state_of c.self.inside.tables))) ≤ 4 = rw c.as_slice-change-items.ensures.moves (rw (← c.self.view_is) at c.requires.few) in
+    let here : length c.loop-change.effects + length (told m T) ≤ 4 = way_few c.args.script.now c.args.thread _ (state_of c.self.inside.tables) c.self.inside.ready c.args.effects.now m _ S c.loop-change.ready c.loop-change.effects once way few new.mode.keep (leaves m old new c.make_move-dead.ensures.moved.mode) in
+    let before = ap length c.tell.ensures in
+    let so_far = length-append c.loop-change.effects (told_alive m S) in
+    let whole = ap length (sym (told_both m old new)) in
+    let sum = length-append (told_alive m S) (dead_told (dead_by m T)) in
+    rw c.make_move-dead.ensures.dead (omega arith)
 
 pub arrive_touched-requires-clause-known : goal.arrive_touched-requires-clause-known
 arrive_touched-requires-clause-known g c =
-    let next = next_item c.as_slice-change-items.result.now c.loop-change.change-index c.change-item.result c.loop-change-test.true c.change-item.is in
+    let m = c.change-item.result in
+    let old = c.loop-change.tables in
+    let new = c.make_move-dead.new.tables in
+    let next = next_item c.as_slice-change-items.result.now c.loop-change.change-index m c.loop-change-test.true c.change-item.is in
     let way = rw next at c.loop-change.invariant.way in
-    subst AreKnown (sym c.make_move.ensures.state) way.go.0.known
+    let once : total closing_bit c.as_slice-change-items.result.now ≤ 1 = rw c.as_slice-change-items.ensures.moves (rw (← c.self.view_is) at c.requires.once) in
+    let go : (keep : Bool) → MovesGo c.args.script.now c.args.thread c.as_slice-change-items.result.now (keeping keep (state_of c.self.inside.tables)) = rw c.as_slice-change-items.ensures.moves (rw (← c.self.view_is) at c.requires.go) in
+    let goes = way_goes c.args.script.now c.args.thread _ (state_of c.self.inside.tables) c.self.inside.ready c.args.effects.now m _ (state_of old) c.loop-change.ready c.loop-change.effects once way go new.mode.keep (leaves m old new c.make_move-dead.ensures.moved.mode) in
+    subst AreKnown (sym c.make_move-dead.ensures.moved.state) goes.runs.known
 
 pub loop-change-preserved : goal.loop-change-preserved
 loop-change-preserved g c =
     let m = c.change-item.result in
-    let i = c.loop-change.change-index in
     let script = c.args.script.now in
     let t = c.args.thread in
-    let tables = c.loop-change.tables in
-    let new = c.make_move.new.tables in
-    let next = next_item c.as_slice-change-items.result.now i m c.loop-change-test.true c.change-item.is in
+    let old = c.loop-change.tables in
+    let new = c.make_move-dead.new.tables in
+    let moved = c.make_move-dead.ensures.moved in
+    let first = state_of c.self.inside.tables in
+    let next = next_item c.as_slice-change-items.result.now c.loop-change.change-index m c.loop-change-test.true c.change-item.is in
     let way = rw next at c.loop-change.invariant.way in
+    let once : total closing_bit c.as_slice-change-items.result.now ≤ 1 = rw c.as_slice-change-items.ensures.moves (rw (← c.self.view_is) at c.requires.once) in
+    let go : (keep : Bool) → MovesGo script t c.as_slice-change-items.result.now (keeping keep first) = rw c.as_slice-change-items.ensures.moves (rw (← c.self.view_is) at c.requires.go) in
+    let goes = way_goes script t _ first c.self.inside.ready c.args.effects.now m _ (state_of old) c.loop-change.ready c.loop-change.effects once way go new.mode.keep (leaves m old new moved.mode) in
     let follow = rw c.touched.ensures at c.arrive_touched.ensures.queues in
-    let one = performed_one script t m tables new c.loop-change.ready c.take_out.new.ready c.arrive_touched.new.ready c.loop-change.effects way.go.0 c.make_move.ensures c.take_out.ensures.queues follow in
+    let one = performed_one script t m old new c.loop-change.ready c.take_out.new.ready c.arrive_touched.new.ready c.loop-change.effects goes.runs moved c.take_out.ensures.queues follow in
+    let effects : c.tell_death.new.effects ≡ c.loop-change.effects ++ told m (chosen_state old new) =
+    c.tell_death.ensures ∙ rw (c.tell.ensures, c.make_move-dead.ensures.dead) (append_assoc c.loop-change.effects (told_alive m (state_of old)) (dead_told (dead_by m (chosen_state old new))) ∙ ap (λ (l : List Effect). c.loop-change.effects ++ l) (told_both m old new)) in
     record {
-      way = rw c.tell.ensures (way_goes_on script t c.as_slice-change-items.result.now (m ∷ []) (drop (i + 1) c.as_slice-change-items.result.now) (state_of c.self.inside.tables) (state_of tables) (state_of new) c.self.inside.ready c.loop-change.ready c.arrive_touched.new.ready c.args.effects.now c.loop-change.effects _ way one);
-      kept = still_kept script t m tables new way.go.0 c.loop-change.invariant.kept c.make_move.ensures;
+      way = rw effects (way_goes_on script t _ first c.self.inside.ready c.args.effects.now m _ (state_of old) c.loop-change.ready c.loop-change.effects once way (state_of new) c.arrive_touched.new.ready _ one);
+      kept = still_kept script t m old new goes.runs c.loop-change.invariant.kept moved;
       size = c.arrive_touched.ensures.size;
+      sought = still_sought script t m old new goes.runs moved c.loop-change.invariant.sought;
+      notes = moved.notes ∙ c.loop-change.invariant.notes;
     }
 
 pub returns-clause-performed : goal.returns-clause-performed
@@ -62,3 +127,6 @@ returns-clause-performed g c =
     let ended = none_left items c.loop-change.change-index c.loop-change-test.false in
     let way = rw ended at c.loop-change.invariant.way in
     rw (← c.self.view_is) (rw (← c.as_slice-change-items.ensures.moves) (way_ends c.args.script.now c.args.thread items (state_of c.self.inside.tables) (state_of c.loop-change.tables) c.self.inside.ready c.loop-change.ready c.args.effects.now c.loop-change.effects way))
+
+pub returns-clause-notes : goal.returns-clause-notes
+returns-clause-notes g c = rw (← c.self.view_is) c.loop-change.invariant.notes

@@ -13,5 +13,8 @@ invariant_of-result g c =
 pub returns-clause-none_out : goal.returns-clause-none_out
 returns-clause-none_out g c = out-none_created (g.W.RefWords.meaning c.args.words) c.requires c.places.ensures.created
 
+pub returns-clause-unmade : goal.returns-clause-unmade
+returns-clause-unmade g c = c.places.ensures.unmade c.requires
+
 pub returns-clause-uncounted : goal.returns-clause-uncounted
 returns-clause-uncounted g c = λ p. c.places.ensures.fresh p (c.requires p)

@@ -1,15 +1,18 @@
 use Rattle.std.proofs.Common.{ap}
 use Rattle.ref_words.specs.Words.{Words}
-use Rattle.objects.specs.Rows.{row_at}
-use Rattle.objects.proofs.Keeping.{dead_made, dead_alive, kept_notes}
+use Rattle.objects.proofs.Keeping.{kept_notes, made_created}
 use Rattle.objects.proofs.objects.Objects.send_out.Goals as goal
 
 pub send_out-requires-clause-known_or_gone : goal.send_out-requires-clause-known_or_gone
 send_out-requires-clause-known_or_gone g c =
-    let known = rw (← c.self.view_is) at c.requires.known_or_dead in
-    rw c.from.ensures (λ none.
-    let dead = known none in
-    c.self.invariant.0.gone c.args.o.0 (dead_made c.self.inside.rows.items c.args.o.0 dead) (dead_alive (row_at c.self.inside.rows.items c.args.o.0) dead))
+    let known = rw (← c.self.view_is) at c.requires.known_or_gone in
+    let made = rw (← c.self.view_is) at c.requires.made in
+    rw c.from.ensures (λ none. c.self.invariant.0.gone c.args.o.0 made (known none))
+
+pub send_out-requires-clause-created : goal.send_out-requires-clause-created
+send_out-requires-clause-created g c =
+    let made = rw (← c.self.view_is) at c.requires.made in
+    rw c.from.ensures (made_created c.self.inside.rows.items c.self.inside.counts.items _ c.args.o.0 c.self.invariant.0 made)
 
 pub invariant_of-self : goal.invariant_of-self
 invariant_of-self g c =
