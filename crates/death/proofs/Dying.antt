@@ -1,5 +1,5 @@
 -- What a dying thread does next, and that its moves go through.
-use Rattle.std.proofs.Common.{◌≡◌, ◌∙◌, ℕ, true, false, List, [], ◌∷◌, Option, Some, None, ap, arith, refl, sym}
+use Rattle.std.proofs.Common.{◌≡◌, inr, ◌∙◌, ℕ, true, false, List, [], ◌∷◌, Option, Some, None, ap, arith, refl, sym}
 use Rattle.std.specs.Prelude.{◌||◌, Bool, IsTrue}
 use Rattle.sym_base.specs.declared.number.ObjNo.{ObjNo}
 use Rattle.sym_base.specs.declared.kind.Exit.{Exit}
@@ -15,6 +15,7 @@ use Rattle.machine.specs.declared.state.State.{State}
 use Rattle.machine.specs.declared.task.Task.{Task}
 use Rattle.machine.specs.declared.task.Task.TheVariants.{Bury, Clean, Pay}
 use Rattle.machine.specs.Dooms.{doom}
+use Rattle.machine.specs.History.{keeping}
 use Rattle.machine.specs.Holdings.{holdings, held_servers}
 use Rattle.machine.specs.Reaping.{bury}
 use Rattle.machine.specs.Rows.{first_owed, thread_of}
@@ -24,11 +25,12 @@ use Rattle.machine.specs.Out.{is_out, is_returning}
 use Rattle.machine.specs.WellFormed.{AreRows}
 use Rattle.machine_laws.proofs.Fitting.Bodies.{Goes}
 use Rattle.machine_laws.proofs.Fitting.Dooms.{after-doom, may_die, unprotected_unheld}
+use Rattle.machine_laws.proofs.Reached.AfterHistory.{rows-keeping}
 use Rattle.move_laws.proofs.Lists.Totals.{inside}
 use Rattle.move_laws.proofs.Numbers.FewEffects.{tell_few}
 use Rattle.next_actions.specs.NextActions.{dying_at, has_any, holdings_at}
 use Rattle.kernel_tables.specs.Performed.{ActionGoes}
-use Rattle.kernel_tables.proofs.GoingActions.{fitting_goes}
+use Rattle.kernel_tables.proofs.GoingActions.{each_choice_goes}
 use Rattle.death.specs.Dying.{IsReapable, MayBury, MayEnd}
 
 -- what an able thread decides is what its task does
@@ -80,12 +82,15 @@ pub buries : (script : Script) (S : State) (t : ObjNo) (dfc : ℕ) → MayBury s
 buries script S t dfc h = sym (task_decides script S t (Some (Bury dfc)) h.able h.next ∙ burial_decided script S t dfc (thread_of S t) h.next)
 
 -- the moves of a doom go through
-pub doom_goes : (script : Script) (S : State) (t : ObjNo) (exit : Exit) → IsShaped script → AreRows script S → S.mode.shared ≡ false → MayEnd S t → ActionGoes script t (doom t exit) S
-doom_goes script S t exit shaped rows alone h =
-    let after = after-doom script S t t exit (may_die script S t h.row rows h.is h.live (unprotected_unheld S.synchronization.nano t h.free)) in
-    let goes : Goes script t S (doom t exit) = record {
-      each = after.each;
-      few = let a = rows.references.duties.few t.0 in let none = after.light in omega arith;
-      told = let few = after.told in let most = tell_few t (doom t exit) S in omega arith;
-    } in
-    fitting_goes script S t (doom t exit) shaped (record { rows = rows; inside = inside S.references.threads t.0 h.row h.is }) alone goes
+pub doom_goes : (script : Script) (S : State) (t : ObjNo) (exit : Exit) → IsShaped script → AreRows script S → MayEnd S t → ActionGoes script t (doom t exit) S
+doom_goes script S t exit shaped rows h =
+    each_choice_goes script S t (doom t exit) shaped (λ keep. record { rows = rows-keeping script S keep rows; inside = inside S.references.threads t.0 h.row h.is }) (inr refl) (λ keep. goes (keeping keep S) (rows-keeping script S keep rows) h.is h.free) (omega arith)
+  where
+    goes : (T : State) → AreRows script T → thread_of T t ≡ Some h.row → is_protected T.synchronization.nano t ≡ false → Goes script t T (doom t exit)
+    goes T here is free =
+        let after = after-doom script T t t exit (may_die script T t h.row here is h.live (unprotected_unheld T.synchronization.nano t free)) in
+        record {
+          each = after.each;
+          few = let a = here.references.duties.few t.0 in let none = after.light in omega arith;
+          told = let few = after.told in let most = tell_few t (doom t exit) T in omega arith;
+        }

@@ -4,6 +4,7 @@ ghost use Rattle.machine.specs.declared.task.Task.TheVariants.{Clean};
 ghost use Rattle.machine.specs.Rows.{first_owed, thread_of};
 ghost use Rattle.machine.specs.Steps.{decision_of};
 ghost use Rattle.machine.specs.Task.{task_of};
+ghost use Rattle.kernel_tables.specs.Choosing.{MayChoose};
 ghost use Rattle.kernel_tables.specs.CoreView.{RunsScript};
 ghost use Rattle.kernel_tables.specs.Performed.{IsMade};
 ghost use Rattle.next_actions.specs.NextActions.{holdings_at};
@@ -27,6 +28,7 @@ impl<'a, W: RefWords + Drop> Death<'a, W> {
     /// A live thread that nothing protects ends: it is doomed with this exit.
     pub fn doom(&mut self, script: &Script, t: ThreadNo, exit: Exit, effects: &mut Effects)
         requires runs { RunsScript script.now self.old.core.now }
+        requires choice { MayChoose t self.old.core.now.notes self.old.core.now.state }
         requires may { MayEnd self.old.core.now.state t }
         requires empty { effects.old ≡ [] }
         ensures same_core { self.new.core.ghost_name ≡ self.old.core.ghost_name }
@@ -41,6 +43,7 @@ impl<'a, W: RefWords + Drop> Death<'a, W> {
     /// Where nothing is left of both, nothing changes, and what was decided is that it is cleaned.
     pub fn reap_one(&mut self, script: &Script, t: ThreadNo, effects: &mut Effects) -> Reaped
         requires runs { RunsScript script.now self.old.core.now }
+        requires choice { MayChoose t self.old.core.now.notes self.old.core.now.state }
         requires dying { IsReapable script.now self.old.core.now.state t }
         requires empty { effects.old ≡ [] }
         ensures same_core { self.new.core.ghost_name ≡ self.old.core.ghost_name }
@@ -63,6 +66,7 @@ impl<'a, W: RefWords + Drop> Death<'a, W> {
     /// whose burial it is.
     pub fn bury(&mut self, script: &Script, t: ThreadNo, dfc: u8, effects: &mut Effects)
         requires runs { RunsScript script.now self.old.core.now }
+        requires choice { MayChoose t self.old.core.now.notes self.old.core.now.state }
         requires may { MayBury script.now self.old.core.now.state t dfc }
         requires empty { effects.old ≡ [] }
         ensures same_core { self.new.core.ghost_name ≡ self.old.core.ghost_name }

@@ -9,6 +9,7 @@ use Rattle.machine_safe.proofs.LegalDeaths.{legal_deaths}
 use Rattle.machine_safe.proofs.LegalServing.{legal_busy, legal_messages, legal_servers}
 use Rattle.machine_safe.proofs.LegalReferences.{legal_references}
 use Rattle.machine_safe.proofs.LegalWaits.{legal_waits}
+use Rattle.machine_safe.proofs.LegalWeights.{legal_weights}
 
 pub legal_safety : (shared : Bool) (script : Script) (history : List Entry) → IsWellFormed script → IsLegalIn shared script history → IsSafeIn shared script history
 legal_safety shared script history valid legal = record {
@@ -18,4 +19,5 @@ legal_safety shared script history valid legal = record {
   servers = legal_servers shared script history valid legal;
   busy = legal_busy shared script history valid legal;
   waits = legal_waits shared script history valid legal;
+  weights = legal_weights shared script history valid legal;
 }

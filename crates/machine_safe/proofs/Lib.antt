@@ -10,6 +10,7 @@ pub mod LegalReferences
 pub mod LegalSafety
 pub mod LegalServing
 pub mod LegalWaits
+pub mod LegalWeights
 pub mod OneLoss
 pub mod ReadyHolders
 pub mod Runs
@@ -26,3 +27,4 @@ pub mod UnsafeRuns
 pub mod UnsafeServers
 pub mod UnsafeShared
 pub mod UnsafeWaits
+pub mod Weight

@@ -12,7 +12,9 @@ pub mod SafeMessages
 pub mod SafeReferences
 pub mod SafeServers
 pub mod SafeWaits
+pub mod SafeWeights
 pub mod Sent
 pub mod Served
 pub mod SharedReading
 pub mod Slotted
+pub mod Weight

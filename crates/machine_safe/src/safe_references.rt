@@ -8,6 +8,7 @@ ghost use Rattle.machine_safe.specs.SafeMessages.{IsSafeMessages};
 ghost use Rattle.machine_safe.specs.SafeReferences.{IsSafeReferences};
 ghost use Rattle.machine_safe.specs.SafeServers.{IsSafeServers};
 ghost use Rattle.machine_safe.specs.SafeWaits.{IsSafeWaits};
+ghost use Rattle.machine_safe.specs.SafeWeights.{IsSafeWeights};
 
 use entry_log::Entry;
 use script_types::Script;
@@ -26,7 +27,9 @@ use script_types::Script;
 /// of its messages is finished then, and nothing is accepted beside; and as a thread is cleaned each server that it
 /// made has ended. And a `send` to a server that isn't closing answers KErrServerBusy exactly where all slots are
 /// used of its session, which the look of that `send` found, and is accepted else. And the step in which nobody acts
-/// is the actor idle's alone. This call only states it, and changes nothing.
+/// is the actor idle's alone. And a doomed thread weighs less after each action of
+/// its own, and others add to its weight only a handle of its process's table, 4, and a logon on it, 1; so it acts no more often
+/// than it weighed at its doom and they added, and then it is cleaned. This call only states it, and changes nothing.
 pub fn legal_is_safe(script: &Script, history: &[Entry])
     requires valid { IsWellFormed script.now }
     requires legal { IsLegal script.now history.now }
@@ -36,6 +39,7 @@ pub fn legal_is_safe(script: &Script, history: &[Entry])
     ensures servers { IsSafeServers history.now }
     ensures busy { IsSafeBusy script.now history.now }
     ensures waits { IsSafeWaits history.now }
+    ensures weights { IsSafeWeights false script.now history.now }
 {}
 
 /// The same holds of every history that callers make who share the kernel: there whoever found an object by its name
@@ -53,4 +57,5 @@ pub fn shared_is_safe(script: &Script, history: &[Entry])
     ensures servers { IsSafeServers history.now }
     ensures busy { IsSafeBusy script.now history.now }
     ensures waits { IsSafeWaits history.now }
+    ensures weights { IsSafeWeights true script.now history.now }
 {}

@@ -30,7 +30,7 @@ pub legal-front : (script : Script) (S : State) (place : ℕ) (xs ys : List Entr
 legal-front script S place [] ys h = tt
 legal-front script S place (x ∷ xs) ys h = (h.0, legal-front script (next_by script S x) (place + 1) xs ys h.1)
 
-legal-rest : (script : Script) (S : State) (place : ℕ) (xs ys : List Entry) → IsLegalFrom script S place (xs ++ ys) → (n : ℕ) × IsLegalFrom script (after_from script S xs) n ys
+pub legal-rest : (script : Script) (S : State) (place : ℕ) (xs ys : List Entry) → IsLegalFrom script S place (xs ++ ys) → (n : ℕ) × IsLegalFrom script (after_from script S xs) n ys
 legal-rest script S place [] ys h = (place, h)
 legal-rest script S place (x ∷ xs) ys h = legal-rest script (next_by script S x) (place + 1) xs ys h.1
 

@@ -221,7 +221,7 @@ passes-none S = record {
 own-once : (script : Script) (S : State) (t o : ObjNo) → AreRows script S → IsOwn (owner_at S.synchronization.locks o) t → times_held S.synchronization.mutexes t o ≡ 1
 own-once script S t o rows own = ap (λ (x : ObjNo). times_held S.synchronization.mutexes x o) (sym (same_object own.own.thread t own.thread)) ∙ rows.synchronization.locks.owned o own.own own.is
 
-waiter-live : (script : Script) (S : State) (o w : ObjNo) → AreRows script S → best_waiter (priority_of S) S.synchronization.locks o ≡ Some w → IsLiveThread S.references.threads w
+pub waiter-live : (script : Script) (S : State) (o w : ObjNo) → AreRows script S → best_waiter (priority_of S) S.synchronization.locks o ≡ Some w → IsLiveThread S.references.threads w
 waiter-live script S o w rows best =
     let awaits = rows.synchronization.locks.waiters w o (greatest_listed (priority_of S) (waiters_at S.synchronization.locks o) w best) in
     record { row = awaits.row; is = awaits.is; live = rows.synchronization.awaited.waits w.0 awaits.row o awaits.is awaits.waits }

@@ -38,7 +38,8 @@ use Rattle.machine_laws.proofs.Fitting.Living.{open_is_alive}
 use Rattle.machine_laws.proofs.Fitting.Regular.{IsFinding, find_bit, finds_by_name}
 use Rattle.machine_safe.specs.CountAfter.{pluses_by}
 use Rattle.machine_safe.proofs.Finders.Dormant.{finds-tell, plus-doing}
-use Rattle.machine_safe.proofs.Finders.Moves.{seeks-doing, seeks-found, seeks-most, unseen}
+use Rattle.machine_safe.proofs.Finders.Moves.{seeks-doing, seeks-found, seeks-most}
+use Rattle.machine_laws.proofs.Sharing.Seekers.{unseen}
 use Rattle.machine_safe.proofs.Serving.Doing.{Doing, doing}
 use Rattle.machine_safe.proofs.Serving.Later.{part-after}
 
@@ -106,7 +107,7 @@ returned S t row (instr.Connect name slots x) finds = returns-to S t row word.Co
 returned S t row i finds = absurd (cc)
 
 -- the return comes before all else
-return-first : (script : Script) (S : State) (t : ObjNo) (row : ThreadRow) (b : Bool) (at : Option Instr) (other : Option Task) (i : Instr) → b ≡ true → at ≡ Some i → decision_of_row script S t (Some row) (return_or b at other) ≡ return_of S t row i
+pub return-first : (script : Script) (S : State) (t : ObjNo) (row : ThreadRow) (b : Bool) (at : Option Instr) (other : Option Task) (i : Instr) → b ≡ true → at ≡ Some i → decision_of_row script S t (Some row) (return_or b at other) ≡ return_of S t row i
 return-first script S t row true (Some j) other i returns at = let same_instr : j ≡ i = cc in ap (return_of S t row) same_instr
 return-first script S t row true None other i returns at = absurd (cc)
 return-first script S t row false at other i returns is = absurd (cc)

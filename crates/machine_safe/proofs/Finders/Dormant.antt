@@ -50,7 +50,8 @@ use Rattle.move_laws.proofs.References.Same.{if_is, same_is, same_other}
 use Rattle.machine_laws.proofs.Fitting.Regular.{find_bit}
 use Rattle.machine_laws.proofs.Sharing.Told.{is_beside, tell-is, told_by, total-same}
 use Rattle.move_laws.proofs.MoveLaws.Run.{sound-move}
-use Rattle.machine_safe.proofs.Finders.Moves.{seeks-le, turning_bit}
+use Rattle.machine_safe.proofs.Finders.Moves.{seeks-le}
+use Rattle.machine_laws.proofs.Sharing.Seekers.{turning_bit}
 use Rattle.machine_safe.proofs.Serving.Doing.{Doing, IsGoing, going-then}
 
 -- finds are told by moves that find, and by them alone

@@ -40,7 +40,8 @@ use Rattle.machine_laws.proofs.Fitting.Regular.{finds_by_name, going_bit, plain}
 use Rattle.machine_safe.specs.CountAfter.{is_by, pluses_by}
 use Rattle.machine_safe.proofs.Finders.Actions.{AtFinds, dormant-act, finding, misses-act, opens-act, others-out, own-out}
 use Rattle.machine_safe.proofs.Finders.Dormant.{finds-tell, plus-doing}
-use Rattle.machine_safe.proofs.Finders.Moves.{seeks-doing, turning-none, unseen}
+use Rattle.machine_safe.proofs.Finders.Moves.{seeks-doing, turning-none}
+use Rattle.machine_laws.proofs.Sharing.Seekers.{unseen}
 use Rattle.machine_safe.proofs.Serving.Doing.{Doing, doing, doing-by}
 use Rattle.machine_safe.proofs.Serving.Others.{carries-each, midway-pay, same-instruction, WasMidway}
 

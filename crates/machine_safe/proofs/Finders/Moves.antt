@@ -1,45 +1,24 @@
 -- Who is out, and on what: a move leaves that of every thread, but for one by which its own thread finds an object or comes back to one.
-use Rattle.std.proofs.Common.{◌≡◌, inl, inr, ℕ, ◌+◌, ◌<◌, ◌≤◌, List, [], ◌∷◌, length, get_or, arith, refl, sym, ap, ◌∙◌, Bool, true, false, Option, Some, None}
+use Rattle.std.proofs.Common.{◌≡◌, inl, inr, ◌+◌, ◌≤◌, List, [], ◌∷◌, get_or, arith, refl, ap, ◌∙◌, Option, Some, None}
 use Rattle.std.specs.Prelude.{option_map}
-use Rattle.std.proofs.lemmas.Bool.{cases_eq, cases_lt}
-use Rattle.std.proofs.lemmas.List.{get_or_past}
 use Rattle.sym_base.specs.declared.number.ObjNo.{ObjNo}
 use Rattle.script_types.specs.declared.script.Script.{Script}
-use Rattle.entry_log.specs.declared.effect.Holder.{Holder}
-use Rattle.entry_log.specs.declared.effect.Holder.TheVariants.{Temp}
-use Rattle.state_rows.proofs.SoundChanges.{set_item}
-use Rattle.state_rows.specs.declared.duty.Owed.{Owed}
-use Rattle.state_rows.specs.declared.duty.Owed.TheVariants.{Close, Sweep}
 use Rattle.state_rows.specs.declared.thread.ThreadRow.{ThreadRow}
-use Rattle.state_rows.specs.declared.thread.Waiting.TheVariants as waiting
-use Rattle.machine.specs.declared.death_move.DeathMove.{DeathMove}
-use Rattle.machine.specs.declared.death_move.DeathMove.TheVariants.{Bury, Clean, Doom, Note}
 use Rattle.machine.specs.declared.moves.Move.{Move}
-use Rattle.machine.specs.declared.moves.Move.TheVariants.{Advance, Death, Find, Gain, GoOn, Keep, Lose, Make, Miss, Open, Pay, PutDown, SetPriority, Wait, Wake, Write, WriteMessage}
+use Rattle.machine.specs.declared.moves.Move.TheVariants.{Find, Miss, Open}
 use Rattle.machine.specs.declared.state.State.{State}
-use Rattle.machine.specs.DeathMoves.{death_row, death_thread}
 use Rattle.machine.specs.Fits.{EachFits, FitsMove}
-use Rattle.machine.specs.Kept.{dies}
-use Rattle.machine.specs.Moves.{advanced, moved, next_object, perform, threads_closed, threads_gain, threads_lose, unlinked, with_found, with_kept, with_message, with_missed, with_opened, with_part, with_priority, with_register, with_use, with_waiting}
+use Rattle.machine.specs.Moves.{moved, perform, with_found, with_missed, with_opened}
 use Rattle.machine.specs.Out.{found_object, is_returning, seeks}
 use Rattle.machine.specs.References.{same, total}
-use Rattle.machine.specs.Rows.{owed_of, thread_of, with_row}
+use Rattle.machine.specs.Rows.{thread_of, with_row}
 use Rattle.machine.specs.WellFormed.{AreRows}
-use Rattle.move_laws.proofs.Holders.ThreadRows.{row-here, row-other}
-use Rattle.move_laws.proofs.Lives.Outs.{KeepsSeeks, seeks-back}
-use Rattle.move_laws.proofs.MoveLaws.Pays.{sweep-over}
-use Rattle.move_laws.proofs.MoveLaws.RowMoves.{is_back}
+use Rattle.move_laws.proofs.Holders.ThreadRows.{row-here}
 use Rattle.move_laws.proofs.References.Same.{if_not, same_object}
+use Rattle.machine_laws.proofs.Sharing.Seekers.{turning_bit, seeks-same, seeks-pay}
 use Rattle.machine_laws.proofs.Fitting.Regular.{find_bit, going_bit}
 use Rattle.machine_laws.proofs.Fitting.Stepping.{later_other}
 use Rattle.machine_safe.proofs.Serving.Doing.{Doing, IsGoing, going-then}
-
--- 1 for a move by which a thread finds an object or comes back to one
-abbrev pub turning_bit : Move → ℕ
-turning_bit (Find u o) = 1
-turning_bit (Open u o part) = 1
-turning_bit (Miss u o) = 1
-turning_bit _ = 0
 
 -- this is one of those by which a thread goes on
 turning-le : (m : Move) → turning_bit m ≤ going_bit m
@@ -51,65 +30,6 @@ turning-le m = omega arith
 pub turning-none : (ms : List Move) → total going_bit ms ≡ 0 → total turning_bit ms ≡ 0
 turning-none [] none = refl
 turning-none (m ∷ ms) none = let few = turning-le m in let rest = turning-none ms (omega arith) in omega arith
-
--- a change of one thread's row
-seeks-map : (x : Option ThreadRow) (f : ThreadRow → ThreadRow) (o : ObjNo) → ((row : ThreadRow) → x ≡ Some row → KeepsSeeks f row) → seeks o (option_map f x) ≡ seeks o x
-seeks-map None f o keeps = refl
-seeks-map (Some row) f o keeps = keeps row refl o
-
-seeks-with : (threads : List (Option ThreadRow)) (v : ObjNo) (f : ThreadRow → ThreadRow) → ((row : ThreadRow) → get_or threads v.0 None ≡ Some row → KeepsSeeks f row) → (u o : ObjNo) → seeks o (get_or (with_row threads v f) u.0 None) ≡ seeks o (get_or threads u.0 None)
-seeks-with threads v f keeps u o = elim (cases_eq v.0 u.0) as (λ _. seeks o (get_or (with_row threads v f) u.0 None) ≡ seeks o (get_or threads u.0 None)) [
-  | inl at ↦ ap (seeks o) (row-here threads v f u.0 at) ∙ (seeks-map (get_or threads v.0 None) f o keeps ∙ ap (λ (n : ℕ). seeks o (get_or threads n None)) at)
-  | inr apart ↦ ap (seeks o) (row-other threads v f u.0 apart)
-]
-
--- a change of the acting thread's own row leaves another thread's
-seeks-own : (threads : List (Option ThreadRow)) (t v : ObjNo) (f : ThreadRow → ThreadRow) (u o : ObjNo) → v ≡ t → (t.0 ≡ u.0 → ◌≡◌ {A = ℕ} 1 0) → seeks o (get_or (with_row threads v f) u.0 None) ≡ seeks o (get_or threads u.0 None)
-seeks-own threads t v f u o own stays = ap (seeks o) (row-other threads v f u.0 (λ at. let none = stays (sym (ap (λ (x : ObjNo). x.0) own) ∙ at) in absurd (omega arith)))
-
-seeks-gained : (h : Holder) (x : ObjNo) (threads : List (Option ThreadRow)) (u o : ObjNo) → seeks o (get_or (threads_gain h x threads) u.0 None) ≡ seeks o (get_or threads u.0 None)
-seeks-gained (Temp v) x threads u o = seeks-with threads v (with_use (Some x)) (λ row is p. refl) u o
-seeks-gained _ x threads u o = refl
-
-seeks-lost : (h : Holder) (threads : List (Option ThreadRow)) (u o : ObjNo) → seeks o (get_or (threads_lose h threads) u.0 None) ≡ seeks o (get_or threads u.0 None)
-seeks-lost (Temp v) threads u o = seeks-with threads v (with_use None) (λ row is p. refl) u o
-seeks-lost _ threads u o = refl
-
-seeks-closed : (last : Bool) (x : ObjNo) (threads : List (Option ThreadRow)) (u o : ObjNo) → seeks o (get_or (threads_closed last x threads) u.0 None) ≡ seeks o (get_or threads u.0 None)
-seeks-closed true x threads u o = seeks-with threads x unlinked (λ row is p. refl) u o
-seeks-closed false x threads u o = refl
-
-seeks-death : (m : DeathMove) (row : ThreadRow) → KeepsSeeks (death_row m) row
-seeks-death (Note u exit) row o = refl
-seeks-death (Doom u exit) row o = refl
-seeks-death (Clean u) row o = refl
-seeks-death (Bury u) row o = refl
-
--- what a move leaves of a thread, if it isn't by this one that the thread finds or comes back
-pub seeks-same : (script : Script) (S : State) (t : ObjNo) (m : Move) → FitsMove script t m S → (u o : ObjNo) → (t.0 ≡ u.0 → turning_bit m ≡ 0) → seeks o (thread_of (moved t m S) u) ≡ seeks o (thread_of S u)
-seeks-same script S t (Make kind name h) fits u o stays = seeks-gained h (next_object S) S.references.threads u o
-seeks-same script S t (Gain h x) fits u o stays = seeks-gained h x S.references.threads u o
-seeks-same script S t (Lose h x) fits u o stays = seeks-closed (dies S x) x (threads_lose h S.references.threads) u o ∙ seeks-lost h S.references.threads u o
-seeks-same script S t (Find v x) fits u o stays = seeks-own S.references.threads t v (with_found x) u o fits.1 stays
-seeks-same script S t (Open v x part) fits u o stays = seeks-own S.references.threads t v (with_opened x part) u o fits.1 stays
-seeks-same script S t (Miss v x) fits u o stays = seeks-own S.references.threads t v with_missed u o fits.1 stays
-seeks-same script S t (GoOn v part) fits u o stays = seeks-with S.references.threads v (with_part part) (λ row is. seeks-back (with_part part) row (is_back S v row is fits.0.going) fits.0.other) u o
-seeks-same script S t (Keep v number) fits u o stays = seeks-with S.references.threads v (with_kept number) (λ row is. let back = is_back S v row is fits.0 in seeks-back (with_kept number) row back back) u o
-seeks-same script S t (Write v x value) fits u o stays = seeks-with S.references.threads v (with_register x value) (λ row is p. refl) u o
-seeks-same script S t (WriteMessage v y number) fits u o stays = seeks-with S.references.threads v (with_message y number) (λ row is p. refl) u o
-seeks-same script S t (PutDown v) fits u o stays = seeks-with S.references.threads v (with_use None) (λ row is p. refl) u o
-seeks-same script S t (Advance v) fits u o stays = seeks-with S.references.threads v advanced (λ row is. seeks-back advanced row (is_back S v row is fits.1) refl) u o
-seeks-same script S t (Wait v what) fits u o stays = seeks-with S.references.threads v (with_waiting what) (λ row is p. refl) u o
-seeks-same script S t (Wake v) fits u o stays = seeks-with S.references.threads v (with_waiting waiting.Nothing) (λ row is p. refl) u o
-seeks-same script S t (SetPriority v priority) fits u o stays = seeks-with S.references.threads v (with_priority priority) (λ row is p. refl) u o
-seeks-same script S t (Death m) fits u o stays = seeks-with S.references.threads (death_thread m) (death_row m) (λ row is. seeks-death m row) u o
-seeks-same script S t (Pay what) fits u o stays = absurd fits
-seeks-same script S t m fits u o stays = refl
-
--- a row that isn't between a find and its return
-pub unseen : (x : Option ThreadRow) (o : ObjNo) → ((row : ThreadRow) → x ≡ Some row → is_returning row.part ≡ false) → seeks o x ≡ 0
-unseen None o back = refl
-unseen (Some row) o back = if_not (is_returning row.part) (same (found_object row) o) (back row refl)
 
 -- the row of a thread that is changed
 changed : (threads : List (Option ThreadRow)) (v : ObjNo) (f : ThreadRow → ThreadRow) (t : ObjNo) (row : ThreadRow) → v ≡ t → get_or threads v.0 None ≡ Some row → get_or (with_row threads v f) t.0 None ≡ Some (f row)
@@ -133,21 +53,6 @@ seeks-le script S t (Miss v x) fits rows o =
     let back = fits.0.0 in
     let gone = ap (seeks o) (changed S.references.threads v with_missed t back.row fits.1 back.is) in omega arith
 seeks-le script S t m fits rows o = let stays = seeks-same script S t m fits t o (λ _. refl) in omega arith
-
--- a payment leaves who is out
-owes_inside : (owed : List (List Owed)) (t : ℕ) (what : Owed) (rest : List Owed) → get_or owed t [] ≡ what ∷ rest → t < length owed
-owes_inside owed t what rest e = elim (cases_lt t (length owed)) as (λ _. t < length owed) [
-  | inl inside ↦ inside
-  | inr past ↦ let none = get_or_past owed t [] past in absurd (cc)
-]
-
-pub seeks-pay : (script : Script) (S : State) (t : ObjNo) (what : Owed) (rest : List Owed) → owed_of S t ≡ what ∷ rest → AreRows script S → (u o : ObjNo) → seeks o (thread_of (moved t (Pay what) S) u) ≡ seeks o (thread_of S u)
-seeks-pay script S t (Close h x) rest owes rows u o = seeks-closed (dies S x) x S.references.threads u o
-seeks-pay script S t (Sweep x) rest owes rows u o =
-    let inside = owes_inside S.references.owed t.0 (Sweep x) rest owes in
-    let long = rows.references.sized.duties in
-    let none = unseen (thread_of S x) o (λ row is. let over = sweep-over script S t x rest row owes (omega arith) rows is in let same_row : over.row ≡ row = (let a = over.is in cc) in ap (λ (r : ThreadRow). is_returning r.part) (sym same_row) ∙ over.spent.going) in
-    set_item (λ (y : Option ThreadRow). seeks o y ≡ seeks o (thread_of S u)) S.references.threads x.0 u.0 None None (λ at. sym (ap (λ (n : ℕ). seeks o (get_or S.references.threads n None)) at ∙ none)) refl
 
 -- an action leaves it of other threads, and of its own, where it doesn't find or come back
 seeks-each : (script : Script) (S : State) (t : ObjNo) (ms : List Move) → EachFits script t ms S → (u o : ObjNo) → (t.0 ≡ u.0 → total turning_bit ms ≡ 0) → seeks o (thread_of (perform t ms S) u) ≡ seeks o (thread_of S u)

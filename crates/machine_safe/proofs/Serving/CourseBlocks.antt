@@ -1,7 +1,7 @@
 -- What each way in which steps decide comes to.
 use Rattle.machine_safe.proofs.Serving.Course.{AsksOf, IsMet, NamesOwn, opens}
-use Rattle.machine_safe.proofs.Serving.Proper.{AreProper, IsOther, is_kind, other-had, proper-any, proper-then, stepping}
-use Rattle.machine_safe.proofs.Serving.ProperLists.{made-in-process, named-declared, proper-close, proper-doom_or_note, proper-logon}
+use Rattle.machine_safe.proofs.Serving.Proper.{AreProper, IsOfProcess, IsOther, MayGive, is_kind, other-had, proper-any, proper-then, stepping}
+use Rattle.machine_safe.proofs.Serving.ProperLists.{given-in-process, given-in-thread, made-in-process, named-declared, proper-close, proper-doom_or_note, proper-logon}
 use Rattle.machine.specs.declared.moves.Move.TheVariants.{Advance, Find, Nano, SetPriority}
 use Rattle.machine.specs.declared.nano_move.NanoMove.TheVariants.{Suspend, Resume}
 use Rattle.std.proofs.Common.{[]}
@@ -46,7 +46,7 @@ use Rattle.machine.specs.ThreadCalls.{call_on, move_or_refuse, refusal_of, unles
 use Rattle.sym_base.specs.declared.kind.Kind.TheVariants as kind
 use Rattle.machine.specs.Dooms.{noted_of}
 use Rattle.sym_base.specs.declared.kind.Exit.{Exit}
-use Rattle.machine.specs.Handles.{process_handle}
+use Rattle.machine.specs.Handles.{process_handle, thread_handle}
 use Rattle.machine.specs.declared.handles.NewHandle.{NewHandle}
 use Rattle.machine.specs.Dup.{dup_do, stays_with_thread}
 use Rattle.machine.specs.Open.{open_do}
@@ -190,11 +190,23 @@ module _ (script : Script) (S : State) (t : ObjNo) (old : ThreadRow) (here : thr
   types None needs e = idles (unused needs e) refl
   types (Some u) needs e = answers _ refl refl (tt, tt)
 
-  -- handles
+  -- handles, each in the thread's table or in that of its process
+  own-process : IsOfProcess (Some t) S old.process
+  own-process = record { thread = t; goes = refl; row = old; is = here; own = refl }
+
+  abbrev pub Given : Option NewHandle → Type 0
+  Given handle = (h : NewHandle) → handle ≡ Some h → MayGive (stepping S t) h.holder
+
+  pub in-process : Given (process_handle S old.process)
+  in-process h is = given-in-process (stepping S t) S old.process h own-process is
+
+  pub in-thread : Given (thread_handle S t)
+  in-thread h is = given-in-thread (stepping S t) S t h is
+
   pub gives : {i : Instr} {p : Option Part} (w : Word) (q : Part) (o : ObjNo) (x : ℕ) (handle : Option NewHandle)
-      → IsOther S o → Comes i p (give_handle t (Of w q) o x handle)
-  gives w q o x None other = answers _ refl refl (tt, tt)
-  gives w q o x (Some handle) other = answers _ refl refl (other-had (stepping S t) handle.holder o other, (tt, (tt, tt)))
+      → Given handle → IsOther S o → Comes i p (give_handle t (Of w q) o x handle)
+  gives w q o x None given other = answers _ refl refl (tt, tt)
+  gives w q o x (Some handle) given other = answers _ refl refl (other-had (stepping S t) handle.holder o (given handle refl) other, (tt, (tt, tt)))
 
   kind-other : (k : Kind) → kind_stays k ≡ false → is_kind kind.Server k ≡ false
   kind-other kind.Server e = absurd (cc)
@@ -208,29 +220,29 @@ module _ (script : Script) (S : State) (t : ObjNo) (old : ThreadRow) (here : thr
       by (Some row) is alive stays = (row, is, kind-other row.kind stays)
 
   pub second : {i : Instr} {p : Option Part} (w : Word) (y : ℕ) (handle : Option NewHandle) (uses : Option ObjNo)
-      → needs_use (Some i) p ≡ true → old.uses ≡ uses → Comes i p (dup_do S t w y handle uses)
-  second w y handle None needs e = idles (unused needs e) refl
-  second {i} {p} w y handle (Some o) needs e =
+      → Given handle → needs_use (Some i) p ≡ true → old.uses ≡ uses → Comes i p (dup_do S t w y handle uses)
+  second w y handle None given needs e = idles (unused needs e) refl
+  second {i} {p} w y handle (Some o) given needs e =
       if_cases (Comes i p) (stays_with_thread (object_of S o)) _ _ (λ _. answers _ refl refl (tt, tt))
-      (λ other. gives w part.Do o y handle (stays-other o e other))
+      (λ other. gives w part.Do o y handle given (stays-other o e other))
 
-  gives-opened : (k : Kind) (name : List ℕ) (x : ℕ) (o : ObjNo) (handle : Option NewHandle) → old.uses ≡ Some o
+  gives-opened : (k : Kind) (name : List ℕ) (x : ℕ) (o : ObjNo) (handle : Option NewHandle) → Given handle → old.uses ≡ Some o
       → Comes (instr.Open k name x) (Some part.Do) (give_handle t (Of word.Open part.Do) o x handle)
-  gives-opened k name x o None e = answers _ refl refl (tt, tt)
-  gives-opened k name x o (Some handle) e = opens k o _ refl e refl refl (λ other. (other-had (stepping S t) handle.holder o other, (tt, (tt, tt))))
+  gives-opened k name x o None given e = answers _ refl refl (tt, tt)
+  gives-opened k name x o (Some handle) given e = opens k o _ refl e refl refl (λ other. (other-had (stepping S t) handle.holder o (given handle refl) other, (tt, (tt, tt))))
 
   pub opened : (k : Kind) (name : List ℕ) (x : ℕ) (uses : Option ObjNo) → old.uses ≡ uses → Comes (instr.Open k name x) (Some part.Do) (open_do S t old x uses)
   opened k name x None e = idles (unused refl e) refl
-  opened k name x (Some o) e = gives-opened k name x o (process_handle S old.process) e
+  opened k name x (Some o) e = gives-opened k name x o (process_handle S old.process) in-process e
 
   pub makes-object : {i : Instr} {p : Option Part} (k : Kind) (name : List ℕ) (start : Option LockMove) (x : ℕ)
       (handle : Option NewHandle)
       → is_kind kind.Server k ≡ false → is_kind kind.Thread k ≡ false → process_handle S old.process ≡ handle
       → Comes i p (make_with_handle t k name start x handle)
   makes-object k name start x None server thread is = answers _ refl refl (tt, tt)
-  makes-object k name None x (Some handle) server thread is = answers _ refl refl (made-in-process S old.process k handle server thread is, (tt, (tt, tt)))
+  makes-object k name None x (Some handle) server thread is = answers _ refl refl (made-in-process (stepping S t) S old.process k handle server thread own-process is, (tt, (tt, tt)))
   makes-object k name (Some start) x (Some handle) server thread is =
-      answers _ refl refl (made-in-process S old.process k handle server thread is, (tt, (tt, (tt, tt))))
+      answers _ refl refl (made-in-process (stepping S t) S old.process k handle server thread own-process is, (tt, (tt, (tt, tt))))
 
   pub creates : {i : Instr} {p : Option Part} (k : Kind) (name : List ℕ) (start : Option LockMove) (x : ℕ)
       → is_kind kind.Server k ≡ false → is_kind kind.Thread k ≡ false → Comes i p (create_do S t old k name start x)

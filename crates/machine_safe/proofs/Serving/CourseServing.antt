@@ -218,7 +218,7 @@ module _ (script : Script) (S : State) (t : ObjNo) (old : ThreadRow) (here : thr
     pub joins : (o : ObjNo) (handle : Option NewHandle) → thread_handle S t ≡ handle
         → Comes connects-as (Some part.Make) (make_session t o slots (next_object S) handle)
     joins o None is = answers _ refl refl (tt, tt)
-    joins o (Some handle) is = goes part.Send refl refl refl (made-in-thread S t kind.Session handle refl refl is, (refl, (tt, (tt, (tt, tt))))) (λ row at later. record { part = part-after _ t (with_part part.Send) (Some part.Send) (λ r. refl) row at; uses = λ needs. absurd (cc); met = λ own had asked. absurd (cc) })
+    joins o (Some handle) is = goes part.Send refl refl refl (made-in-thread (stepping S t) S t kind.Session handle refl refl is, (refl, (tt, (tt, (tt, tt))))) (λ row at later. record { part = part-after _ t (with_part part.Send) (Some part.Send) (λ r. refl) row at; uses = λ needs. absurd (cc); met = λ own had asked. absurd (cc) })
 
     pub makes : (o : ObjNo) (server : Option ServerRow) → old.uses ≡ Some o → server_at S.serving.servers o ≡ server
         → Comes connects-as (Some part.Make) (connect_to S t slots o server)

@@ -1,5 +1,5 @@
 -- What each step of an instruction, and each return, comes to.
-use Rattle.machine_safe.proofs.Serving.CourseBlocks.{may-resume, may-set, may-suspend, on-one, tests, either, looks, seeks, on-thread, exit-on, types, second, opened, creates, closes, queues, cancels, logs}
+use Rattle.machine_safe.proofs.Serving.CourseBlocks.{in-process, in-thread, may-resume, may-set, may-suspend, on-one, tests, either, looks, seeks, on-thread, exit-on, types, second, opened, creates, closes, queues, cancels, logs}
 use Rattle.machine_safe.proofs.Serving.CourseLocks.{waits-for, locks, unlocks, waits, signals, flocks, flocked, signals-found}
 use Rattle.machine_safe.proofs.Serving.CourseServing.{sends, calls-over, receives, receives-last, completes, functions, makes-server, makes-at, connects-over, connected, reads, writes}
 use Rattle.machine_safe.proofs.Serving.Course.{IsMet, IsOfKind}
@@ -82,10 +82,10 @@ module _ (script : Script) (S : State) (t : ObjNo) (old : ThreadRow) (here : thr
   course (instr.Open kind name x) (Some part.Do) live listed stands fits back = opened script S t old here rows kind name x old.uses refl
   course (instr.Dup x y) None live listed stands fits back = looks script S t old here rows word.Dup (named x) refl (λ names o e asked. absurd (cc))
   course (instr.Dup x y) (Some part.Do) live listed stands fits back =
-      second script S t old here rows word.Dup y (process_handle S old.process) old.uses refl refl
+      second script S t old here rows word.Dup y (process_handle S old.process) old.uses (in-process script S t old here rows) refl refl
   course (instr.DupLocal x y) None live listed stands fits back = looks script S t old here rows word.Duplocal (named x) refl (λ names o e asked. absurd (cc))
   course (instr.DupLocal x y) (Some part.Do) live listed stands fits back =
-      second script S t old here rows word.Duplocal y (thread_handle S t) old.uses refl refl
+      second script S t old here rows word.Duplocal y (thread_handle S t) old.uses (in-thread script S t old here rows) refl refl
   course (instr.Close x) None live listed stands fits back = closes script S t old here rows (slice_index old.registers x) (named x)
   course (instr.Lock x) None live listed stands fits back =
       tests script S t old here rows held word.Lock part.Look InUse (look_kind S t old kind.Mutex word.Lock x)

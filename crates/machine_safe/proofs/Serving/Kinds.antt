@@ -9,7 +9,7 @@ use Rattle.sym_base.specs.declared.kind.Kind.TheVariants as kind
 use Rattle.sym_base.specs.declared.number.ObjNo.{ObjNo}
 use Rattle.script_types.specs.declared.script.Script.{Script}
 use Rattle.entry_log.specs.declared.effect.Holder.{Holder}
-use Rattle.entry_log.specs.declared.effect.Holder.TheVariants.{Link, Own, Temp}
+use Rattle.entry_log.specs.declared.effect.Holder.TheVariants.{InProcess, Link, Own, Temp}
 use Rattle.state_rows.specs.ObjectRows.{dead_row}
 use Rattle.state_rows.specs.ServerChanges.{after_closing, closing}
 use Rattle.state_rows.specs.ServerRows.{server_at}
@@ -129,18 +129,19 @@ gained-threads (Temp u) x threads o there = mapped-some (with_use (Some x)) thre
 gained-threads h x threads o there = there
 
 -- whose row the next object has then
-next-server : (script : Script) (by : Going) (S : State) (k : Kind) (name : List ℕ) (h : Holder) (t : ObjNo) (ms : List Move) → FitsMove script t (Make k name h) S → IsMadeBy k h → KindsBefore by S (Make k name h ∷ ms) → has_server S (next_object S) ≡ is_kind kind.Server k
+next-server : (script : Script) (by : Going) (S : State) (k : Kind) (name : List ℕ) (h : Holder) (t : ObjNo) (ms : List Move) → FitsMove script t (Make k name h) S → IsMadeBy by k h → KindsBefore by S (Make k name h ∷ ms) → has_server S (next_object S) ≡ is_kind kind.Server k
 next-server script by S k name (Own u) t ms fits made q = ap is_some fits.1.server ∙ sym made.0
 next-server script by S k name h t ms fits made q = elim q.next as (λ _. has_server S (next_object S) ≡ is_kind kind.Server k) [
   | inl none ↦ none ∙ sym made.0
   | inr own ↦ absurd (cc)
 ]
 
-no-thread : (k : Kind) (h : Holder) → IsMadeBy k h → is_kind kind.Thread k ≡ false
-no-thread k (Own u) made = made.1
-no-thread k h made = made.1
+no-thread : (by : Going) (k : Kind) (h : Holder) → IsMadeBy by k h → is_kind kind.Thread k ≡ false
+no-thread by k (Own u) made = made.1
+no-thread by k (InProcess p i) made = made.1
+no-thread by k h made = made.1
 
-kinds-made : (script : Script) (by : Going) (S : State) (t : ObjNo) (k : Kind) (name : List ℕ) (h : Holder) (ms : List Move) → FitsMove script t (Make k name h) S → IsMadeBy k h → KindsBefore by S (Make k name h ∷ ms) → KindsBefore by (moved t (Make k name h) S) ms
+kinds-made : (script : Script) (by : Going) (S : State) (t : ObjNo) (k : Kind) (name : List ℕ) (h : Holder) (ms : List Move) → FitsMove script t (Make k name h) S → IsMadeBy by k h → KindsBefore by S (Make k name h ∷ ms) → KindsBefore by (moved t (Make k name h) S) ms
 kinds-made script by S t k name h ms fits made q =
     let T = moved t (Make k name h) S in
     let long = length-append S.references.objects (Some (new_object k name) ∷ []) in
@@ -151,7 +152,7 @@ kinds-made script by S t k name h ms fits made q =
       ];
       threads = λ o row is thread. elim (pushed S.references.objects (new_object k name) row o.0 is) as (λ _. is_some (thread_of T o) ≡ true) [
         | inl old ↦ gained-threads h (next_object S) S.references.threads o (q.threads o row old thread)
-        | inr new ↦ let none = no-thread k h made in let is_thread : is_kind kind.Thread k ≡ true = ap (λ (x : ObjectRow). is_kind kind.Thread x.kind) new.1 ∙ thread in absurd (cc)
+        | inr new ↦ let none = no-thread by k h made in let is_thread : is_kind kind.Thread k ≡ true = ap (λ (x : ObjectRow). is_kind kind.Thread x.kind) new.1 ∙ thread in absurd (cc)
       ];
       past = λ o past. q.past o (omega arith);
       next = inl (q.past (next_object T) (omega arith));

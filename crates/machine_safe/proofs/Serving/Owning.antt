@@ -141,7 +141,7 @@ other-unserved by S ms o row q other at =
 
 -- whose place a server gets
 had-own : (by : Going) (S : State) (ms : List Move) (h : Holder) (o : ObjNo) (k : ObjNo) (row : ServerRow) → OwnBefore by S ms → MayHave by h o → server_at S.serving.servers o ≡ Some row → (u : ObjNo) (j : ℕ) → (h ≡ InProcess u j) ⊎ (h ≡ InThread u j) → u.0 ≡ k.0 → row.owner ≡ k
-had-own by S ms (InProcess p i) o k row q other at u j is same = absurd (other-unserved by S ms o row q other at)
+had-own by S ms (InProcess p i) o k row q other at u j is same = absurd (other-unserved by S ms o row q other.0 at)
 had-own by S ms (InThread v i) o k row q may at u j is same = elim may as (λ _. row.owner ≡ k) [
   | inl other ↦ absurd (other-unserved by S ms o row q other at)
   | inr made ↦

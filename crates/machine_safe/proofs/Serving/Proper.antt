@@ -47,11 +47,6 @@ IsCalled script dfc = nat_lt dfc 64 ≡ true → is_some (slice_get script.dfcs 
 abbrev pub is_kind : Kind → Kind → Bool
 is_kind one other = kind_number other == kind_number one
 
--- how an object is made
-abbrev pub IsMadeBy : Kind → Holder → Type 0
-IsMadeBy k (Own t) = (is_kind kind.Server k ≡ true) × (is_kind kind.Thread k ≡ false)
-IsMadeBy k h = (is_kind kind.Server k ≡ false) × (is_kind kind.Thread k ≡ false)
-
 -- whether the first of some moves makes an object as a thread's own
 abbrev pub makes_own : List Move → Bool
 makes_own (Make k name (Own t) ∷ ms) = true
@@ -90,13 +85,32 @@ sent_to m last = last
 abbrev pub onward : Going → Move → Going
 onward by m = (by.0, by.1, sent_to m by.2)
 
+-- whoever goes on is a thread of this process
+pub record IsOfProcess (on : Option ObjNo) (S : State) (p : ObjNo) : Type 0 where
+  pub thread : ObjNo
+  pub goes : on ≡ Some thread
+  pub row : ThreadRow
+  pub is : thread_of S thread ≡ Some row
+  pub own : row.process ≡ p
+
+-- whose handle may come into a table: of a process only that of a thread of it
+abbrev pub MayGive : Going → Holder → Type 0
+MayGive by (InProcess p i) = IsOfProcess by.0 by.1 p
+MayGive by h = Unit {0}
+
+-- how an object is made
+abbrev pub IsMadeBy : Going → Kind → Holder → Type 0
+IsMadeBy by k (Own t) = (is_kind kind.Server k ≡ true) × (is_kind kind.Thread k ≡ false)
+IsMadeBy by k (InProcess p i) = (is_kind kind.Server k ≡ false) × (is_kind kind.Thread k ≡ false) × IsOfProcess by.0 by.1 p
+IsMadeBy by k h = (is_kind kind.Server k ≡ false) × (is_kind kind.Thread k ≡ false)
+
 -- an object that is there, and is no server
 abbrev pub IsOther : State → ObjNo → Type 0
 IsOther S o = (row : ObjectRow) × (object_of S o ≡ Some row) × (is_kind kind.Server row.kind ≡ false)
 
 -- what a table may get: no server, but that which is made now by the thread of the table
 abbrev pub MayHave : Going → Holder → ObjNo → Type 0
-MayHave by (InProcess p i) o = IsOther by.1 o
+MayHave by (InProcess p i) o = IsOther by.1 o × IsOfProcess by.0 by.1 p
 MayHave by (InThread u i) o = IsOther by.1 o ⊎ ((o.0 ≡ length by.1.references.objects) × (goes_on by ≡ Some u))
 MayHave by h o = Unit {0}
 
@@ -142,7 +156,7 @@ LosesFirst o ms = ⊥
 
 -- a move, with those behind it, in an action
 abbrev pub IsProper : Script → Going → Move → List Move → Type 0
-IsProper script by (Make k name h) ms = IsMadeBy k h
+IsProper script by (Make k name h) ms = IsMadeBy by k h
 IsProper script by (Gain h o) ms = MayHave by h o
 IsProper script by (Wait u what) ms = goes_on by ≡ Some u
 IsProper script by (Wake u) ms = MayWake by u
@@ -206,6 +220,7 @@ later-one script on S last (Messages (message.Take o)) ms is = record {
   uses = is.uses;
   at = is.at;
 }
+later-one script on S last (Make k name (InProcess p i)) ms is = is
 later-one script on S last (Gain (InThread u i) o) ms is = is
 later-one script on S last m ms is = is
 
@@ -235,6 +250,8 @@ nobody-joined script S last (m ∷ ms) are =
 -- what is proper by nobody's going on is so by anybody's
 proper-one : (script : Script) (t : ObjNo) (S : State) (last : Option ObjNo) (m : Move) (ms : List Move)
     → IsProper script (None, S, last) m ms → IsProper script (Some t, S, last) m ms
+proper-one script t S last (Make k name (InProcess p i)) ms is = let none = is.2.goes in absurd (cc)
+proper-one script t S last (Gain (InProcess p i) o) ms is = let none = is.1.goes in absurd (cc)
 proper-one script t S last (Wait u what) ms is = absurd (cc)
 proper-one script t S last (Nano (Take u f)) ms is = absurd (cc)
 proper-one script t S last (Nano (Want u f)) ms is = absurd (cc)
@@ -260,7 +277,7 @@ pub wakes-other : (by : Going) (u : ObjNo) → awaited_by (thread_of by.1 u) ≡
 wakes-other by u none o is = absurd (cc)
 
 -- what is no server may be had
-pub other-had : (by : Going) (h : Holder) (o : ObjNo) → IsOther by.1 o → MayHave by h o
-other-had by (InProcess p i) o other = other
-other-had by (InThread u i) o other = inl other
-other-had by h o other = tt
+pub other-had : (by : Going) (h : Holder) (o : ObjNo) → MayGive by h → IsOther by.1 o → MayHave by h o
+other-had by (InProcess p i) o given other = (other, given)
+other-had by (InThread u i) o given other = inl other
+other-had by h o given other = tt

@@ -53,7 +53,7 @@ use Rattle.machine.specs.declared.plan.Body.{Body}
 use Rattle.machine.specs.declared.plan.Body.TheVariants as body
 use Rattle.machine.specs.declared.request_move.RequestMove.TheVariants.{Complete}
 use Rattle.machine.specs.declared.state.State.{State}
-use Rattle.machine_safe.proofs.Serving.Proper.{AreProper, Going, IsCalled, IsMadeBy, IsProper, MayWake, awaited_by, is_kind, message_awaited, nobody-joined, proper-then, resting, wakes-other}
+use Rattle.machine_safe.proofs.Serving.Proper.{AreProper, Going, IsCalled, IsMadeBy, IsOfProcess, IsProper, MayGive, MayWake, awaited_by, is_kind, message_awaited, nobody-joined, proper-then, resting, wakes-other}
 use Rattle.move_laws.proofs.Lists.Cases.{if_cases}
 use Rattle.move_laws.proofs.References.Same.{same_self}
 use Rattle.std.proofs.lemmas.List.Quantifiers.{position-Some}
@@ -95,11 +95,17 @@ handle-holder local holder table handle = by (is_full table)
     by true e = absurd (cc)
     by false e = let same : record { holder = holder (free_index table); number = new_handle local table } ≡ handle = cc in ap (λ (x : NewHandle). x.holder) (sym same)
 
-pub made-in-process : (S : State) (p : ObjNo) (k : Kind) (handle : NewHandle) → is_kind kind.Server k ≡ false → is_kind kind.Thread k ≡ false → process_handle S p ≡ Some handle → IsMadeBy k handle.holder
-made-in-process S p k handle server thread is = subst (IsMadeBy k) (sym (handle-holder false (InProcess p) (table_of S p) handle is)) (server, thread)
+pub made-in-process : (by : Going) (S : State) (p : ObjNo) (k : Kind) (handle : NewHandle) → is_kind kind.Server k ≡ false → is_kind kind.Thread k ≡ false → IsOfProcess by.0 by.1 p → process_handle S p ≡ Some handle → IsMadeBy by k handle.holder
+made-in-process by S p k handle server thread own is = subst (IsMadeBy by k) (sym (handle-holder false (InProcess p) (table_of S p) handle is)) (server, thread, own)
 
-pub made-in-thread : (S : State) (t : ObjNo) (k : Kind) (handle : NewHandle) → is_kind kind.Server k ≡ false → is_kind kind.Thread k ≡ false → thread_handle S t ≡ Some handle → IsMadeBy k handle.holder
-made-in-thread S t k handle server thread is = subst (IsMadeBy k) (sym (handle-holder true (InThread t) (table_of S t) handle is)) (server, thread)
+pub made-in-thread : (by : Going) (S : State) (t : ObjNo) (k : Kind) (handle : NewHandle) → is_kind kind.Server k ≡ false → is_kind kind.Thread k ≡ false → thread_handle S t ≡ Some handle → IsMadeBy by k handle.holder
+made-in-thread by S t k handle server thread is = subst (IsMadeBy by k) (sym (handle-holder true (InThread t) (table_of S t) handle is)) (server, thread)
+
+pub given-in-process : (by : Going) (S : State) (p : ObjNo) (handle : NewHandle) → IsOfProcess by.0 by.1 p → process_handle S p ≡ Some handle → MayGive by handle.holder
+given-in-process by S p handle own is = subst (MayGive by) (sym (handle-holder false (InProcess p) (table_of S p) handle is)) own
+
+pub given-in-thread : (by : Going) (S : State) (t : ObjNo) (handle : NewHandle) → thread_handle S t ≡ Some handle → MayGive by handle.holder
+given-in-thread by S t handle is = subst (MayGive by) (sym (handle-holder true (InThread t) (table_of S t) handle is)) tt
 
 -- signals of fast semaphores, and logons
 pub proper-signal : (script : Script) (by : Going) (u : ObjNo) (what : Waiting) (ms : List Move) → awaited_by (thread_of by.1 u) ≡ message_awaited what → IsProper script by (signal_move u what) ms

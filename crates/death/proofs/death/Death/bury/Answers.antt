@@ -1,11 +1,13 @@
-use Rattle.std.proofs.Common.{◌≡◌, ◌∙◌, false, refl}
-use Rattle.kernel_tables.proofs.GoingActions.{action_goes}
+use Rattle.std.proofs.Common.{◌∙◌}
+use Rattle.kernel_tables.proofs.GoingActions.{able_goes}
 use Rattle.death.proofs.Dying.{buries}
 use Rattle.death.proofs.death.Death.bury.Goals as goal
 
 pub make-requires-clause-goes : goal.make-requires-clause-goes
 make-requires-clause-goes g c =
-    let alone : c.args.self.now.core.now.state.mode.shared ≡ false = rw (← c.core.view_is) refl in
-    let goes = action_goes c.args.script.now c.args.self.now.core.now.state c.args.t c.requires.runs.shaped c.requires.runs.rows alone in
+    let goes = able_goes c.args.script.now c.args.self.now.core.now.state c.args.t c.requires.runs.shaped c.requires.runs.rows c.requires.may.able in
     let decided = buries c.args.script.now c.args.self.now.core.now.state c.args.t c.args.dfc c.requires.may in
     rw (c.bury.ensures ∙ rw (← c.core.view_is) at decided) (rw (← c.core.view_is) at goes)
+
+pub make-requires-clause-may : goal.make-requires-clause-may
+make-requires-clause-may g c = rw (← c.core.view_is) at c.requires.choice
