@@ -1,8 +1,10 @@
--- A kernel is called by one caller alone: an action of it has no choice, and whoever may act is able.
+-- A kernel that one caller calls alone: an action of it has no choice, and nobody is out.
 use Rattle.std.proofs.Common.{◌≡◌, ◌∙◌, ◌+◌, Bool, true, false, List, [], ◌∷◌, ◌++◌, length, refl, sym, ap}
 use Rattle.std.specs.Prelude.{◌||◌, ◌&&◌, IsTrue}
 use Rattle.sym_base.specs.declared.number.ObjNo.{ObjNo}
 use Rattle.script_types.specs.declared.script.Script.{Script}
+use Rattle.entry_log.specs.declared.entry.Actor.{Actor}
+use Rattle.entry_log.specs.declared.entry.Actor.TheVariants.{Thread, Irq, Idfc, Tick, Idle}
 use Rattle.entry_log.specs.declared.entry.Entry.{Entry}
 use Rattle.machine.specs.declared.state.State.{State}
 use Rattle.machine.specs.Arrived.{arrived, arrived_next}
@@ -11,6 +13,7 @@ use Rattle.machine.specs.History.{after, choosing, entry_by, next, CanAct, IsLeg
 use Rattle.machine.specs.Out.{is_out, is_returning, part_of}
 use Rattle.machine.specs.Rows.{thread_of}
 use Rattle.machine.specs.Task.{is_able, may_act}
+use Rattle.machine_safe.specs.FindsAndReturns.{is_out_actor}
 use Rattle.machine_laws.proofs.Reached.Histories.{after-push, arrived-push, legal-push}
 use Rattle.machine_laws.proofs.Reached.Modes.{choosing-alone, shared-after, unkept-after}
 
@@ -19,7 +22,7 @@ pub alone_after : (script : Script) (history : List Entry) → (after script his
 alone_after script history = shared-after script (boot script) history
 
 -- so an entry has no choice
-no_choice : (script : Script) (history : List Entry) (e : Entry) → choosing e (after script history) ≡ after script history
+pub no_choice : (script : Script) (history : List Entry) (e : Entry) → choosing e (after script history) ≡ after script history
 no_choice script history e = choosing-alone (after script history) e (alone_after script history) (unkept-after script (boot script) history refl refl)
 
 -- what a history comes to that is longer by an entry: the state, the list of ready threads, and that it is legal
@@ -33,14 +36,19 @@ pub legal_longer : (script : Script) (history : List Entry) (e : Entry) → IsLe
 legal_longer script history e legal can told =
     legal-push false script history e legal (record { able = can; told = told ∙ ap (λ (S : State). entry_by script S (length history + 1) e.actor) (sym (no_choice script history e)) })
 
--- whoever may act is able
-able_or : (able out : Bool) → out ≡ false → (able || out) ≡ true → able ≡ true
+-- whoever may act and isn't out is able
+pub able_or : (able out : Bool) → out ≡ false → (able || out) ≡ true → able ≡ true
 able_or true out none may = refl
 able_or false true none may = absurd (cc)
 able_or false false none may = absurd (cc)
 
-pub able_alone : (script : Script) (S : State) (t : ObjNo) → S.mode.shared ≡ false → IsTrue (may_act script S t) → IsTrue (is_able script S t)
-able_alone script S t alone may = able_or (is_able script S t) (is_out S t) (ap (λ (shared : Bool). shared && is_returning (part_of (thread_of S t))) alone) may
+-- nobody is out there
+pub none_out : (S : State) (actor : Actor) → S.mode.shared ≡ false → is_out_actor S actor ≡ false
+none_out S (Thread t) alone = ap (λ (shared : Bool). shared && is_returning (part_of (thread_of S t))) alone
+none_out S (Irq k) alone = refl
+none_out S Idfc alone = refl
+none_out S Tick alone = refl
+none_out S Idle alone = refl
 
 -- and whoever is able may act
 pub may_act_able : (script : Script) (S : State) (t : ObjNo) → IsTrue (is_able script S t) → IsTrue (may_act script S t)

@@ -28,7 +28,7 @@ memories_each (b ∷ bs) = ap (λ (l : List (Option (List ℕ))). memory_of b �
 all_groups : (S : State) (m : Mode) (r : References) (s : Synchronization) (v : Serving) (k : Services) → m ≡ S.mode → r ≡ S.references → s ≡ S.synchronization → v ≡ S.serving → k ≡ S.services → record { mode = m; references = r; synchronization = s; serving = v; services = k } ≡ S
 all_groups S m r s v k mode references synchronization serving services = rw (mode, references, synchronization, serving, services) refl
 
-module _ {W N : Type 0} (script : Script) (made : ObjectsView) (tables : Tables W N) (h : AreTables script (born script) (boot script) made tables) where
+module _ {W N : Type 0} (script : Script) (made : ObjectsView W) (tables : Tables W N) (h : AreTables script (born script) (boot script) made tables) where
   references_are : made.rows ≡ map (λ (b : Born). Some b.object) (born script) → (state_of tables).references ≡ (boot script).references
   unfolding boot_of
   references_are rows = rw (h.objects, rows, h.empty.handles, h.threads.procs, h.empty.cleanup, none_listed (born script)) refl
@@ -46,4 +46,4 @@ module _ {W N : Type 0} (script : Script) (made : ObjectsView) (tables : Tables 
   services_are = rw (h.threads.procs, memories_each (born script)) refl
 
   pub state_is_boot : made.rows ≡ map (λ (b : Born). Some b.object) (born script) → state_of tables ≡ boot script
-  state_is_boot rows = all_groups (boot script) (state_of tables).mode (state_of tables).references (state_of tables).synchronization (state_of tables).serving (state_of tables).services refl (references_are rows) synchronization_are serving_are services_are
+  state_is_boot rows = all_groups (boot script) (state_of tables).mode (state_of tables).references (state_of tables).synchronization (state_of tables).serving (state_of tables).services h.empty.mode (references_are rows) synchronization_are serving_are services_are

@@ -1,7 +1,15 @@
 -- An entry that is pushed, and then told where it lies.
 use Rattle.std.proofs.Common.{◌≡◌, ◌∙◌, ℕ, List, [], ◌∷◌, ◌++◌, length, get_or, set, ap}
 use Rattle.std.proofs.Math.Seq.{get_or-append_seam, set-append_seam}
+use Rattle.entry_log.specs.declared.entry.Actor.{Actor}
 use Rattle.entry_log.specs.declared.entry.Entry.{Entry}
+use Rattle.machine.specs.declared.decision.Outcome.{Outcome}
+use Rattle.machine.specs.History.{entry_of}
+use Rattle.kcore.specs.Told.{IsTold, told_in}
+
+-- the entry is one of this place and actor, and tells what was done
+pub told_as : (old fresh new : Entry) (place : ℕ) (actor : Actor) (outcome : Outcome) → old ≡ fresh → fresh ≡ entry_of place actor outcome → IsTold old new → new ≡ entry_of place actor (told_in new)
+told_as old fresh new place actor outcome is made told = told ∙ ap (λ (e : Entry). entry_of e.place e.actor (told_in new)) (is ∙ made)
 
 module _ (history items : List Entry) (fresh : Entry) (n : ℕ) where
   -- the last entry is the one that was pushed

@@ -53,8 +53,10 @@ pub record AreThreadTables (threads : List (Option ThreadRow)) (p : ProcsRows) (
   pub ranks : AreRanked l.priorities threads
   pub ranked : length l.priorities ≡ BOOT_OBJECTS
 
--- the other tables beside that of objects: nothing is owed, held, owned, queued or asked for, and no message is outstanding
+-- the other tables beside that of objects: nothing is owed, held, owned, queued or asked for, and no message is outstanding; and one caller alone calls the
+-- kernel so far
 pub record AreEmpty {W N : Type 0} (script : Script) (all : List Born) (tables : Tables W N) : Type 0 where
+  pub mode : tables.mode ≡ record { shared = false; keep = false }
   pub handles : slots_of tables.handles ≡ map (λ _. replicate HANDLES fresh_slot) all
   pub cleanup : tables.cleanup ≡ empty_lists (length all) OBJECTS
   pub nano : tables.nano ≡ nano_of script.fast all
@@ -64,7 +66,7 @@ pub record AreEmpty {W N : Type 0} (script : Script) (all : List Born) (tables :
   pub messages : tables.messages ≡ no_messages OBJECTS script.pool
 
 -- the tables of what stands at boot, over its objects
-pub record AreTables {W N : Type 0} (script : Script) (all : List Born) (S : State) (made : ObjectsView) (tables : Tables W N) : Type 0 where
+pub record AreTables {W N : Type 0} (script : Script) (all : List Born) (S : State) (made : ObjectsView W) (tables : Tables W N) : Type 0 where
   pub objects : tables.objects ≡ made
   pub threads : AreThreadTables S.references.threads tables.procs tables.locks
   pub empty : AreEmpty script all tables

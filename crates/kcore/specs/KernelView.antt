@@ -1,31 +1,40 @@
 -- What a contract sees of a kernel.
-use Rattle.std.specs.Prelude.{◌≡◌, ℕ, ◌≤◌, List}
+use Rattle.std.specs.Prelude.{◌≡◌, ℕ, ◌≤◌, Bool, false, List, [], length}
 use Rattle.sym_base.specs.declared.limits.TheConstants.Limits.{SHARED_HISTORY}
 use Rattle.script_types.specs.declared.script.Script.{Script}
 use Rattle.script_types.specs.Source.{IsWellFormed}
 use Rattle.entry_log.specs.declared.entry.Entry.{Entry}
-use Rattle.machine.specs.Arrived.{arrived}
+use Rattle.machine.specs.Arrived.{arrived_in}
 use Rattle.machine.specs.Choice.{priority_of}
-use Rattle.machine.specs.History.{after, IsLegal}
+use Rattle.machine.specs.History.{after_in, IsLegalIn}
+use Rattle.table_moves.specs.Notes.{Notes}
 use Rattle.kernel_tables.specs.CoreView.{CoreView}
 use Rattle.kernel_tables.specs.ReadyQueues.{AreReady}
+use Rattle.kcore.specs.KernelMode.{KernelMode}
+use Rattle.kcore.specs.Outgoing.{AreOutgoing}
 
--- its script, its history, and the entries that it has room for
-pub record KernelView : Type 0 where
+-- its script, its history, the entries that it has room for, how it was called, the words that count references, and the notes of those words
+pub record KernelView (W : Type 0) : Type 0 where
   pub script : Script
   pub history : List Entry
   pub room : ℕ
+  pub mode : KernelMode
+  pub words : W
+  pub notes : Notes
 
--- The script is valid, the history is a legal one of it, the core's tables stand for the state after it, and its queues have the
--- threads that are ready then, in order of arrival.
-pub record Stands (script : Script) (history : List Entry) (core : CoreView) : Type 0 where
+-- The script is valid, the history is one of it, as one caller makes it or as callers make it who share the kernel; the core's tables stand for the
+-- state after it, its queues have the threads that are ready then, in order of arrival, and its notes that are out are of those who are out.
+pub record Stands {W : Type 0} (shared : Bool) (script : Script) (history : List Entry) (core : CoreView W) : Type 0 where
   pub valid : IsWellFormed script
-  pub legal : IsLegal script history
-  pub state : core.state ≡ after script history
-  pub queues : AreReady (priority_of core.state) (arrived script history) core.ready
+  pub legal : IsLegalIn shared script history
+  pub state : core.state ≡ after_in shared script history
+  pub queues : AreReady (priority_of core.state) (arrived_in shared script history) core.ready
+  pub notes : AreOutgoing shared history core.state core.notes
 
--- a kernel stands for its history, and there is room for its entries
-pub record IsKernel (script : Script) (history : List Entry) (core : CoreView) (room capacity : ℕ) : Type 0 where
+-- a kernel stands for its history, and there is room for its entries; it knows how many are out; and nobody shares it that has no entries yet
+pub record IsKernel {W : Type 0} (script : Script) (history : List Entry) (core : CoreView W) (out room capacity : ℕ) : Type 0 where
   pub fits : room ≤ capacity
   pub few : room ≤ SHARED_HISTORY
-  pub stands : Stands script history core
+  pub stands : Stands core.state.mode.shared script history core
+  pub counted : out ≡ length core.notes.out
+  pub fresh : history ≡ [] → core.state.mode.shared ≡ false

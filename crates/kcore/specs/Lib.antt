@@ -1,4 +1,10 @@
+pub mod Acting
 pub mod BootTable
 pub mod Done
+pub mod Finds
+pub mod KernelMode
 pub mod KernelView
+pub mod OneMore
+pub mod Outgoing
+pub mod Sending
 pub mod Told

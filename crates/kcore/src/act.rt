@@ -5,9 +5,12 @@ ghost use Rattle.machine.specs.History.{CanAct};
 ghost use Rattle.machine.specs.Steps.{decision_of};
 ghost use Rattle.machine.specs.Task.{is_able};
 ghost use Rattle.machine.specs.Tick.{after_tick};
+ghost use Rattle.machine_safe.specs.FindsAndReturns.{is_out_actor};
 ghost use Rattle.exec_user.specs.Stepping.{IsAtStep, step_at};
+ghost use Rattle.kernel_tables.specs.Choosing.{MayChoose};
 ghost use Rattle.kernel_tables.specs.CoreView.{RunsScript};
 ghost use Rattle.kernel_tables.specs.ReadyQueues.{Follow};
+ghost use Rattle.kcore.specs.Acting.{acting};
 ghost use Rattle.kcore.specs.Done.{Acts, CarriesOut};
 ghost use Rattle.kcore.specs.Told.{IsTold, told_in};
 
@@ -33,9 +36,11 @@ fn step<W: RefWords + Drop>(
 )
     requires runs { RunsScript script.now core.old }
     requires at { IsAtStep script.now core.old.state thread instr.now }
+    requires may { MayChoose thread core.old.notes core.old.state }
     requires empty { entry.old.effects ≡ [] }
     ensures told { IsTold entry.old entry.new }
     ensures does { CarriesOut script.now thread core.old core.new (told_in entry.new) (step_at script.now core.old.state thread instr.now) }
+    ensures notes { core.new.notes ≡ core.old.notes }
 {
     let mut user = ExecUser { core };
     user.tell_step(script, thread, instr, &mut entry.effects);
@@ -46,9 +51,11 @@ fn step<W: RefWords + Drop>(
 fn act<W: RefWords + Drop>(script: &Script, core: &mut Core<W>, thread: ThreadNo, entry: &mut Entry)
     requires runs { RunsScript script.now core.old }
     requires able { IsTrue (is_able script.now core.old.state thread) }
+    requires may { MayChoose thread core.old.notes core.old.state }
     requires empty { entry.old.effects ≡ [] }
     ensures told { IsTold entry.old entry.new }
     ensures does { CarriesOut script.now thread core.old core.new (told_in entry.new) (decision_of script.now core.old.state thread) }
+    ensures notes { core.new.notes ≡ core.old.notes }
 {
     match next_action(&mut core.decision, script, &core.tables, thread) {
         NextAction::Decided => carry_out(script, core, thread, entry),
@@ -66,6 +73,7 @@ fn tick<W: RefWords + Drop>(core: &mut Core<W>, entry: &mut Entry)
     ensures told { IsTold entry.old entry.new }
     ensures state { core.new.state ≡ core.old.state }
     ensures queues { Follow (priority_of core.old.state) (after_tick core.old.state) core.old.ready core.new.ready }
+    ensures notes { core.new.notes ≡ core.old.notes }
     ensures outcome { told_in entry.new ≡ record { step = Step.Turn; effects = []; answer = None } }
 {
     core.turn();
@@ -83,7 +91,7 @@ fn idle(entry: &mut Entry)
     entry.answer = None;
 }
 
-/// An action of an actor, told by an entry that has no effects yet.
+/// An action of an actor that isn't out, told by an entry that has no effects yet.
 pub fn transition<W: RefWords + Drop>(
     script: &Script,
     core: &mut Core<W>,
@@ -91,11 +99,13 @@ pub fn transition<W: RefWords + Drop>(
     entry: &mut Entry,
 )
     requires runs { RunsScript script.now core.old }
-    requires alone { core.old.state.mode.shared ≡ false }
+    requires may { MayChoose (acting actor) core.old.notes core.old.state }
     requires can { CanAct script.now core.old.state actor }
+    requires stays { is_out_actor core.old.state actor ≡ false }
     requires empty { entry.old.effects ≡ [] }
     ensures told { IsTold entry.old entry.new }
     ensures does { Acts script.now core.old core.new (told_in entry.new) actor }
+    ensures notes { core.new.notes ≡ core.old.notes }
 {
     match actor {
         Actor::Thread(thread) => act(script, core, thread, entry),

@@ -16,6 +16,7 @@ ghost use Rattle.machine.specs.WellFormed.{AreApart};
 ghost use Rattle.state_rows.specs.Nano.{suspend_count};
 ghost use Rattle.state_rows.specs.RequestChanges.{new_rows as request_rows};
 ghost use Rattle.cleanup.specs.Lists.{empty_lists};
+ghost use Rattle.table_moves.specs.Notes.{no_notes};
 ghost use Rattle.kcore.specs.BootTable.{AreEmpty, AreNew, AreTables, AreThreadTables, FirstStand};
 ghost use Rattle.kernel_tables.specs.Noted.{AreKept};
 ghost use Rattle.kernel_tables.specs.ReadyQueues.{AreReady};
@@ -26,7 +27,7 @@ use cleanup::Cleanup;
 use handles::Handles;
 use kern_sync::KernSync;
 use kernel_tables::{CallQueues, Core, ObjectTable, Tables};
-use machine::{Born, State, all_born, count_of, ready_at_boot, state_at_boot};
+use machine::{Born, Mode, State, all_born, count_of, ready_at_boot, state_at_boot};
 use nano_sync::NanoSync;
 use procs::Procs;
 use ready_list::ReadyList;
@@ -48,6 +49,7 @@ fn make_counted<W: RefWords + Drop>(objects: &mut ObjectTable<W>, row: &ObjectRo
     ensures rows { objects.new.rows ≡ objects.old.rows ++ Some row.now ∷ [] }
     ensures counts { objects.new.counts ≡ slice_set objects.old.counts (length objects.old.rows) count }
     ensures last { slice_index objects.new.counts (length objects.old.rows) ≡ count }
+    ensures notes { objects.new.notes ≡ objects.old.notes }
 {
     let object = objects.make(row.kind, &row.name);
     for _held in 1..count {
@@ -67,7 +69,8 @@ fn counted<W: RefWords + Drop>(
     requires few { length all.now ≤ OBJECTS }
     requires small { (o : ObjNo) → count_of state.now o < 65536 }
     requires born { AreNew all.now state.now }
-    ensures { IfOk result (λ objects. FirstStand all.now state.now objects.rows objects.counts (length all.now)) }
+    ensures stand { IfOk result (λ objects. FirstStand all.now state.now objects.rows objects.counts (length all.now)) }
+    ensures notes { IfOk result (λ objects. objects.notes ≡ no_notes (W.meaning words).identity) }
 {
     let mut objects = ObjectTable::new(alloc, words)?;
     for (number, born) in all.iter().enumerate() {
@@ -202,6 +205,10 @@ fn tables_over<W: RefWords + Drop>(
     let calls = call_tables(alloc, script, all)?;
     let serving = server_tables(alloc, script)?;
     Ok(Tables {
+        mode: Mode {
+            shared: false,
+            keep: false,
+        },
         objects,
         handles: empty.0,
         procs,
@@ -246,6 +253,7 @@ fn tables_at_boot<W: RefWords + Drop>(
     requires boot { state.now ≡ boot script.now }
     ensures state { IfOk result (λ tables. state_of tables ≡ boot script.now) }
     ensures kept { IfOk result (λ tables. AreKept tables) }
+    ensures notes { IfOk result (λ tables. tables.objects.notes ≡ no_notes (W.meaning words).identity) }
 {
     let all = all_born(alloc, script)?;
     let objects = counted(alloc, words, all.as_slice(), state)?;
@@ -264,6 +272,7 @@ pub fn boot<W: RefWords + Drop>(
     requires fresh { NoneCreated (W.meaning words) }
     ensures state { IfOk result (λ core. core.state ≡ boot script.now) }
     ensures queues { IfOk result (λ core. AreReady (priority_of (boot script.now)) (ready_at_boot script.now) core.ready) }
+    ensures notes { IfOk result (λ core. core.notes ≡ no_notes (W.meaning words).identity) }
 {
     let state = state_at_boot(alloc, script)?;
     let ready = queues_at_boot(alloc, script, &state)?;

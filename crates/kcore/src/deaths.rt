@@ -1,8 +1,9 @@
 //! Deaths: a thread ends, is reaped or buries another, told by its entry.
-ghost use Rattle.std.specs.Prelude.{◌≡◌, [], false};
+ghost use Rattle.std.specs.Prelude.{◌≡◌, []};
 ghost use Rattle.machine.specs.Dooms.{end};
 ghost use Rattle.machine.specs.Steps.{decision_of};
 ghost use Rattle.death.specs.Dying.{IsReapable, MayBury, MayEnd};
+ghost use Rattle.kernel_tables.specs.Choosing.{MayChoose};
 ghost use Rattle.kernel_tables.specs.CoreView.{RunsScript};
 ghost use Rattle.kcore.specs.Done.{CarriesOut};
 ghost use Rattle.kcore.specs.Told.{IsTold, told_in};
@@ -24,10 +25,12 @@ pub fn end<W: RefWords + Drop>(
     entry: &mut Entry,
 )
     requires runs { RunsScript script.now core.old }
+    requires may_choose { MayChoose thread core.old.notes core.old.state }
     requires may { MayEnd core.old.state thread }
     requires empty { entry.old.effects ≡ [] }
     ensures told { IsTold entry.old entry.new }
     ensures does { CarriesOut script.now thread core.old core.new (told_in entry.new) (end thread) }
+    ensures notes { core.new.notes ≡ core.old.notes }
 {
     let exit = plain_exit(ExitKind::Kill, 0);
     let mut death = Death { core };
@@ -36,7 +39,7 @@ pub fn end<W: RefWords + Drop>(
 }
 
 /// A doomed thread pays or gives up one thing, or is cleaned, where nothing is left.
-#[tactic(auto, using(kernel_tables::proofs::GoingActions::action_goes))]
+#[tactic(auto, using(kernel_tables::proofs::GoingActions::able_goes))]
 pub fn reap<W: RefWords + Drop>(
     script: &Script,
     core: &mut Core<W>,
@@ -44,11 +47,12 @@ pub fn reap<W: RefWords + Drop>(
     entry: &mut Entry,
 )
     requires runs { RunsScript script.now core.old }
-    requires alone { core.old.state.mode.shared ≡ false }
+    requires may_choose { MayChoose thread core.old.notes core.old.state }
     requires dying { IsReapable script.now core.old.state thread }
     requires empty { entry.old.effects ≡ [] }
     ensures told { IsTold entry.old entry.new }
     ensures does { CarriesOut script.now thread core.old core.new (told_in entry.new) (decision_of script.now core.old.state thread) }
+    ensures notes { core.new.notes ≡ core.old.notes }
 {
     let mut death = Death { core };
     match death.reap_one(script, thread, &mut entry.effects) {
@@ -66,10 +70,12 @@ pub fn bury<W: RefWords + Drop>(
     entry: &mut Entry,
 )
     requires runs { RunsScript script.now core.old }
+    requires may_choose { MayChoose thread core.old.notes core.old.state }
     requires may { MayBury script.now core.old.state thread dfc }
     requires empty { entry.old.effects ≡ [] }
     ensures told { IsTold entry.old entry.new }
     ensures does { CarriesOut script.now thread core.old core.new (told_in entry.new) (decision_of script.now core.old.state thread) }
+    ensures notes { core.new.notes ≡ core.old.notes }
 {
     let mut death = Death { core };
     death.bury(script, thread, dfc, &mut entry.effects);

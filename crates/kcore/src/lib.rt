@@ -2,10 +2,13 @@
 #![tactic(auto)]
 
 mod act;
+mod back;
 mod bodies;
 mod boot;
 mod boot_tables;
 mod deaths;
+mod final_rows;
+mod going;
 mod interrupts;
 mod kernel;
 mod made;

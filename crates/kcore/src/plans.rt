@@ -4,9 +4,10 @@ ghost use Rattle.script_types.specs.Shape.{IsShaped};
 ghost use Rattle.next_actions.specs.Planned.{planned};
 ghost use Rattle.machine.specs.declared.decision.Decision.{Decision};
 ghost use Rattle.machine.specs.Bodies.{decision_by};
+ghost use Rattle.kernel_tables.specs.Choosing.{MayChoose};
 ghost use Rattle.kernel_tables.specs.CoreView.{CoreView};
-ghost use Rattle.kernel_tables.specs.Performed.{ActionGoes, IsMade};
-ghost use Rattle.kcore.specs.Done.{CarriesOut};
+ghost use Rattle.kernel_tables.specs.Performed.{ActionGoes};
+ghost use Rattle.kcore.specs.Done.{CarriesOut, WasMade};
 ghost use Rattle.kcore.specs.Told.{IsTold, told_in};
 
 use crate::bodies::run_body;
@@ -25,7 +26,8 @@ pub fn finish<W: RefWords + Drop>(
     entry: &mut Entry,
 )
     ensures told { IsTold entry.old entry.new }
-    ensures does { (d : Decision) (old : CoreView) → IsMade script.now thread d old core.old entry.old.effects → CarriesOut script.now thread old core.new (told_in entry.new) d }
+    ensures does { (d : Decision) (old : CoreView W) → WasMade script.now thread d old core.old entry.old.effects → CarriesOut script.now thread old core.new (told_in entry.new) d }
+    ensures notes { core.new.notes ≡ core.old.notes }
 {
     core.leave(script, thread);
     entry.step = core.decision.step;
@@ -39,10 +41,12 @@ pub fn carry_out<W: RefWords + Drop>(
     thread: ThreadNo,
     entry: &mut Entry,
 )
+    requires may { MayChoose thread core.old.notes core.old.state }
     requires goes { ActionGoes script.now thread core.old.decision.moves core.old.state }
     requires empty { entry.old.effects ≡ [] }
     ensures told { IsTold entry.old entry.new }
     ensures does { CarriesOut script.now thread core.old core.new (told_in entry.new) core.old.decision }
+    ensures notes { core.new.notes ≡ core.old.notes }
 {
     core.make(script, thread, &mut entry.effects);
     finish(script, core, thread, entry);
@@ -57,10 +61,12 @@ pub fn follow<W: RefWords + Drop>(
     entry: &mut Entry,
 )
     requires shaped { IsShaped script.now }
+    requires may { MayChoose thread core.old.notes core.old.state }
     requires goes { ActionGoes script.now thread (decision_by script.now thread core.old.state (planned core.old.decision body)).moves core.old.state }
     requires empty { entry.old.effects ≡ [] }
     ensures told { IsTold entry.old entry.new }
     ensures does { CarriesOut script.now thread core.old core.new (told_in entry.new) (decision_by script.now thread core.old.state (planned core.old.decision body)) }
+    ensures notes { core.new.notes ≡ core.old.notes }
 {
     match body {
         None => carry_out(script, core, thread, entry),

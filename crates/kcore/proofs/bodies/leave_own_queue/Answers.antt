@@ -1,5 +1,8 @@
-use Rattle.std.proofs.Common.{◌∙◌, ap}
+use Rattle.std.proofs.Common.{◌∙◌, ap, arith}
 use Rattle.machine.specs.declared.decision.Decision.{Decision}
+use Rattle.machine.specs.Bodies.{leave_queue}
+use Rattle.kernel_tables.specs.StateOf.{state_of}
+use Rattle.kcore.proofs.RunningOps.{leave_calm, may_after}
 use Rattle.kcore.proofs.bodies.leave_own_queue.Goals as goal
 
 pub perform-requires-clause-go : goal.perform-requires-clause-go
@@ -7,6 +10,12 @@ perform-requires-clause-go g c = rw c.leave_queue.ensures.moves (rw (← c.core.
 
 pub perform-requires-clause-few : goal.perform-requires-clause-few
 perform-requires-clause-few g c = rw c.leave_queue.ensures.moves (rw (← c.core.view_is) at c.requires.few)
+
+pub perform-requires-clause-once : goal.perform-requires-clause-once
+perform-requires-clause-once g c = let none = leave_calm (state_of c.core.inside.tables) c.args.body in rw c.leave_queue.ensures.moves (omega arith)
+
+pub perform-requires-clause-may : goal.perform-requires-clause-may
+perform-requires-clause-may g c = rw (← c.core.view_is) at c.requires.may
 
 pub returns-clause-moves : goal.returns-clause-moves
 returns-clause-moves g c = rw (← c.core.view_is) (ap (λ (d : Decision). d.moves) c.perform.ensures.decision ∙ c.leave_queue.ensures.moves)
@@ -16,3 +25,10 @@ returns-clause-short g c = rw (← c.core.view_is, ← c.leave_queue.ensures.mov
 
 pub returns-clause-performed : goal.returns-clause-performed
 returns-clause-performed g c = rw (← c.core.view_is) (rw c.leave_queue.ensures.moves at c.perform.ensures.performed)
+
+pub returns-clause-may : goal.returns-clause-may
+returns-clause-may g c =
+    let S = state_of c.core.inside.tables in
+    let notes = c.core.inside.tables.objects.notes in
+    let done = rw c.leave_queue.ensures.moves at c.perform.ensures.performed in
+    rw c.perform.ensures.notes (may_after c.args.script.now c.args.thread (leave_queue (state_of c.core.inside.tables) c.args.body) notes S c.perform.new.self.state c.core.inside.ready c.perform.new.self.ready c.args.effects.now c.perform.new.effects (rw (← c.core.view_is) at c.requires.go) (leave_calm (state_of c.core.inside.tables) c.args.body) done (rw (← c.core.view_is) at c.requires.may))

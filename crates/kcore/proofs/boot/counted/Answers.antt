@@ -5,7 +5,7 @@ use Rattle.kcore.proofs.BootTables.{read_at, stand_long, none_stand, one_more}
 use Rattle.kcore.proofs.boot.counted.Goals as goal
 
 pub loop-number-init : goal.loop-number-init
-loop-number-init g c = none_stand c.args.all.now c.args.state.now _ _ c.in_ok-objects.ensures.rows c.in_ok-objects.ensures.counts
+loop-number-init g c = record { stand = none_stand c.args.all.now c.args.state.now _ _ c.in_ok-objects.ensures.rows c.in_ok-objects.ensures.counts; notes = c.in_ok-objects.ensures.notes }
 
 pub make_counted-requires-clause-named : goal.make_counted-requires-clause-named
 make_counted-requires-clause-named g c = c.requires.born.named c.loop-number.number c.index-all-number.result (read_at c.args.all.now c.loop-number.number c.index-all-number.result c.loop-number-test.true c.index-all-number.is)
@@ -16,14 +16,14 @@ make_counted-requires-clause-alive g c = c.requires.born.alive c.loop-number.num
 pub make_counted-requires-clause-fresh : goal.make_counted-requires-clause-fresh
 make_counted-requires-clause-fresh g c =
     let b = c.index-all-number.result in
-    subst (λ rows. is_taken b.object.kind b.object.name rows ≡ false) (sym c.loop-number.invariant.rows_are) (c.requires.born.names c.loop-number.number b (read_at c.args.all.now c.loop-number.number b c.loop-number-test.true c.index-all-number.is))
+    subst (λ rows. is_taken b.object.kind b.object.name rows ≡ false) (sym c.loop-number.invariant.stand.rows_are) (c.requires.born.names c.loop-number.number b (read_at c.args.all.now c.loop-number.number b c.loop-number-test.true c.index-all-number.is))
 
 pub make_counted-requires-clause-some : goal.make_counted-requires-clause-some
 make_counted-requires-clause-some g c = let some = c.requires.born.counted c.loop-number.number c.loop-number-test.true in let is = c.count_of-count.ensures in omega arith
 
 pub make_counted-requires-clause-room : goal.make_counted-requires-clause-room
 make_counted-requires-clause-room g c =
-    let long = stand_long c.args.all.now c.args.state.now c.loop-number.objects.rows c.loop-number.objects.counts c.loop-number.number c.loop-number.invariant c.loop-number.auto.number-end in
+    let long = stand_long c.args.all.now c.args.state.now c.loop-number.objects.rows c.loop-number.objects.counts c.loop-number.number c.loop-number.invariant.stand c.loop-number.auto.number-end in
     let lt = c.loop-number-test.true in
     let few = c.requires.few in omega arith
 
@@ -33,10 +33,13 @@ loop-number-preserved g c =
     let n = l.number in
     let b = c.index-all-number.result in
     let count = c.count_of-count.result in
-    let long = stand_long c.args.all.now c.args.state.now l.objects.rows l.objects.counts n l.invariant l.auto.number-end in
+    let long = stand_long c.args.all.now c.args.state.now l.objects.rows l.objects.counts n l.invariant.stand l.auto.number-end in
     let new = c.make_counted.new.objects in
-    rw c.make_counted.ensures.rows
-    (one_more c.args.all.now c.args.state.now l.objects.rows l.objects.counts new.counts n count b l.invariant long
-    (read_at c.args.all.now n b c.loop-number-test.true c.index-all-number.is) c.count_of-count.ensures
-    (c.make_counted.ensures.counts ∙ ap (λ (k : ℕ). slice_set l.objects.counts k count) long)
-    (ap (slice_index new.counts) (sym long) ∙ c.make_counted.ensures.last))
+    record {
+      stand = rw c.make_counted.ensures.rows
+          (one_more c.args.all.now c.args.state.now l.objects.rows l.objects.counts new.counts n count b l.invariant.stand long
+          (read_at c.args.all.now n b c.loop-number-test.true c.index-all-number.is) c.count_of-count.ensures
+          (c.make_counted.ensures.counts ∙ ap (λ (k : ℕ). slice_set l.objects.counts k count) long)
+          (ap (slice_index new.counts) (sym long) ∙ c.make_counted.ensures.last));
+      notes = c.make_counted.ensures.notes ∙ l.invariant.notes;
+    }

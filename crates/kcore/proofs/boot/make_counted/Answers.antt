@@ -16,6 +16,7 @@ loop-held-init g c =
       there = rw c.make-object.ensures.rows (rw (get_or_push old.rows _ None n (sym at)) refl);
       counts = c.make-object.ensures.counts ∙ (ap (λ (k : ℕ). slice_set old.counts k 1) (sym at) ∙ (sym (set-set old.counts n 1 1) ∙ ap (λ l. slice_set l n 1) (ap (λ (k : ℕ). slice_set old.counts k 1) at ∙ sym c.make-object.ensures.counts)));
       last = ap (λ (k : ℕ). slice_index new.counts k) at ∙ c.make-object.ensures.one;
+      notes = refl;
     }
 
 pub loop-held-preserved : goal.loop-held-preserved
@@ -28,6 +29,7 @@ loop-held-preserved g c =
       there = rw c.add_ref.ensures.rows l.invariant.there;
       counts = more_counts c.make-object.new.self.counts l.objects.counts c.add_ref.new.self.counts n l._held l.invariant.counts l.invariant.last c.add_ref.ensures.counts;
       last = more_last l.objects.counts c.add_ref.new.self.counts n l._held some l.invariant.last c.add_ref.ensures.counts;
+      notes = c.add_ref.ensures.notes ∙ l.invariant.notes;
     }
 
 pub returns-clause-rows : goal.returns-clause-rows
@@ -40,6 +42,9 @@ returns-clause-counts g c =
     let old = c.args.objects.now.counts in
     let end : c.loop-held._held ≡ c.args.count = omega (arith, c.loop-held.auto._held-end, c.requires.some, c.loop-held-test.false) in
     c.loop-held.invariant.counts ∙ (ap (λ l. slice_set l n c.loop-held._held) (c.make-object.ensures.counts ∙ ap (λ (k : ℕ). slice_set old k 1) (sym at)) ∙ (set-set old n 1 c.loop-held._held ∙ (ap (slice_set old n) end ∙ ap (λ (k : ℕ). slice_set old k c.args.count) at)))
+
+pub returns-clause-notes : goal.returns-clause-notes
+returns-clause-notes g c = c.loop-held.invariant.notes ∙ c.make-object.ensures.notes
 
 pub returns-clause-last : goal.returns-clause-last
 returns-clause-last g c =

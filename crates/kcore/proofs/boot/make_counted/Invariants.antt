@@ -10,4 +10,5 @@ invariant-loop-held g l = record {
   there : IsTrue (is_there (slice_index_or l.objects.rows l.object.0 None));
   counts : l.objects.counts ≡ slice_set l.initial.objects.counts l.object.0 l._held;
   last : slice_index l.objects.counts l.object.0 ≡ l._held;
+  notes : l.objects.notes ≡ l.initial.objects.notes;
 }

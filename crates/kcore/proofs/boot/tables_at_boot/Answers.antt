@@ -63,7 +63,7 @@ returns-clause-state g c =
     let born_are : c.as_slice-2.result.now ≡ born script = c.as_slice-2.ensures ∙ c.in_ok-all.ensures in
     let made : AreTables script (born script) (boot script) objects tables = subst (λ (bs : List Born). AreTables script bs (boot script) objects tables) born_are (subst (λ (S : State). AreTables script c.as_slice-2.result.now S objects tables) c.requires.boot c.in_ok-tables.ensures) in
     let all : c.as_slice.result.now ≡ born script = c.as_slice.ensures ∙ c.in_ok-all.ensures in
-    let stand = subst (λ (bs : List Born). FirstStand bs c.args.state.now objects.rows objects.counts (length bs)) all c.in_ok-objects.ensures in
+    let stand = subst (λ (bs : List Born). FirstStand bs c.args.state.now objects.rows objects.counts (length bs)) all c.in_ok-objects.ensures.stand in
     state_is_boot script objects tables made (all_stand (born script) c.args.state.now objects.rows objects.counts stand)
 
 pub returns-clause-kept : goal.returns-clause-kept
@@ -74,7 +74,7 @@ returns-clause-kept g c =
     let objects = c.in_ok-objects.objects in
     let all : c.as_slice.result.now ≡ born script = c.as_slice.ensures ∙ c.in_ok-all.ensures in
     let born_are : c.as_slice-2.result.now ≡ born script = c.as_slice-2.ensures ∙ c.in_ok-all.ensures in
-    let agree : Agrees objects.counts (boot script) = agrees_at_boot script c.requires.valid c.as_slice.result.now objects.rows objects.counts all (subst (λ (S : State). FirstStand c.as_slice.result.now S objects.rows objects.counts (length c.as_slice.result.now)) c.requires.boot c.in_ok-objects.ensures) in
+    let agree : Agrees objects.counts (boot script) = agrees_at_boot script c.requires.valid c.as_slice.result.now objects.rows objects.counts all (subst (λ (S : State). FirstStand c.as_slice.result.now S objects.rows objects.counts (length c.as_slice.result.now)) c.requires.boot c.in_ok-objects.ensures.stand) in
     let threads : tables.procs.threads ≡ map (λ (b : Born). b.thread) (born script) = ap (λ p. p.threads) made.threads.procs ∙ (ap (λ (S : State). S.references.threads) c.requires.boot ∙ threads_at_boot script) in
     let uses : tables.cleanup.temporary ≡ replicate (length (born script)) None = ap (λ l. l.temporary) made.empty.cleanup ∙ ap (λ (bs : List Born). replicate (length bs) None) born_are in
     let state = returns-clause-state g c in
@@ -88,3 +88,6 @@ returns-clause-kept g c =
       };
       numbered = let accepted = ap (λ (r : MessageRows). r.accepted) made.empty.messages in omega arith;
     }
+
+pub returns-clause-notes : goal.returns-clause-notes
+returns-clause-notes g c = ap (λ t. t.notes) c.in_ok-tables.ensures.objects ∙ c.in_ok-objects.ensures.notes

@@ -1,17 +1,24 @@
-use Rattle.std.proofs.Common.{false, subst}
-use Rattle.machine_safe.specs.Safe.{IsSafe}
-use Rattle.machine_safe.specs.ReadyHolders.{AreHoldersReady}
+use Rattle.machine_safe.proofs.LegalSafety.{legal_safety}
 use Rattle.machine_safe.proofs.ReadyHolders.{holders_ready}
-use Rattle.kcore.specs.KernelView.{KernelView}
-use Rattle.kcore.proofs.Goes.{safe_history}
+use Rattle.kcore.proofs.BothWays.{legal-in, same-mode}
 use Rattle.kcore.proofs.kernel.Kernel.history.Goals as goal
+
+pub returns-clause-mode : goal.returns-clause-mode
+returns-clause-mode g c =
+    let k = c.self.inside in
+    rw (← c.self.view_is) (λ shared suits. same-mode k.core.state.mode.shared shared k.history.items suits)
+
+pub returns-clause-legal : goal.returns-clause-legal
+returns-clause-legal g c =
+    let k = c.self.inside in
+    rw (← c.self.view_is) (λ shared suits. legal-in k.script k.core.state.mode.shared shared k.history.items suits c.self.invariant.stands.legal)
 
 pub returns-clause-safe : goal.returns-clause-safe
 returns-clause-safe g c =
     let k = c.self.inside in
-    subst (λ (v : KernelView). IsSafe v.script v.history) c.self.view_is (safe_history k.script k.history.items k.core c.self.invariant.stands)
+    rw (← c.self.view_is) (λ shared suits. legal_safety shared k.script k.history.items c.self.invariant.stands.valid (legal-in k.script k.core.state.mode.shared shared k.history.items suits c.self.invariant.stands.legal))
 
 pub returns-clause-holders : goal.returns-clause-holders
 returns-clause-holders g c =
     let k = c.self.inside in
-    subst (λ (v : KernelView). AreHoldersReady v.script v.history) c.self.view_is (holders_ready false k.script k.history.items c.self.invariant.stands.valid)
+    rw (← c.self.view_is) (λ shared suits. holders_ready shared k.script k.history.items c.self.invariant.stands.valid)
