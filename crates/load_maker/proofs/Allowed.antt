@@ -98,7 +98,9 @@ round_short client place round.Fill = omega arith
 
 rounds_allowed : (x client n : ℕ) → client < 4 → AreAllowed (rounds_instrs x client n)
 rounds_allowed x client zero few = tt
-rounds_allowed x client (suc n) few = allowed_append (rounds_instrs x client n) (round_instrs client n (round_drawn x n)) (rounds_allowed x client n few) (round_allowed client n (round_drawn x n) few)
+rounds_allowed x client (suc n) few =
+    allowed_append (rounds_instrs x client n) (round_instrs client n (round_drawn x n)) (rounds_allowed x client n few)
+    (round_allowed client n (round_drawn x n) few)
 
 rounds_short : (x client n : ℕ) → length (rounds_instrs x client n) ≤ 2 * n
 rounds_short x client zero = omega arith

@@ -24,7 +24,8 @@ pub record Makes (file : List Declared) (c : Context) (lines : List SourceLine) 
   pub stand : AllStand file c lines
   pub makes : after_all c lines ≡ made
 
-pub makes_more : (file : List Declared) (c middle made : Context) (xs ys : List SourceLine) → Makes file c xs middle → Makes file middle ys made → Makes file c (xs ++ ys) made
+pub makes_more : (file : List Declared) (c middle made : Context) (xs ys : List SourceLine) → Makes file c xs middle
+    → Makes file middle ys made → Makes file c (xs ++ ys) made
 makes_more file c middle made xs ys one other = record {
   stand = stand_append file c xs ys one.stand (subst (λ (d : Context). AllStand file d ys) (sym one.makes) other.stand);
   makes = after_append c xs ys ∙ ap (λ (d : Context). after_all d ys) one.makes ∙ other.makes;
@@ -50,7 +51,9 @@ last_last [] t = refl
 last_last (u ∷ []) t = refl
 last_last (u ∷ v ∷ us) t = last_last (v ∷ us) t
 
-one_stands : (file : List Declared) (ps : List ProcessDecl) (ts : List ThreadDecl) (t : ThreadDecl) (what : Instr) → IsAllowed what → length t.instrs < 16384 → all_instrs ts + length t.instrs < 65536 → Stands file (behind ps (ts ++ t ∷ [])) (line.Instr what)
+one_stands : (file : List Declared) (ps : List ProcessDecl) (ts : List ThreadDecl) (t : ThreadDecl) (what : Instr)
+    → IsAllowed what → length t.instrs < 16384 → all_instrs ts + length t.instrs < 65536
+    → Stands file (behind ps (ts ++ t ∷ [])) (line.Instr what)
 one_stands file ps ts t what allowed short few = record {
   order = refl;
   ranges = allowed.ranges;
@@ -61,7 +64,11 @@ one_stands file ps ts t what allowed short few = record {
 }
 
 -- the instructions of a thread
-instrs_stand : (file : List Declared) (ps : List ProcessDecl) (ts : List ThreadDecl) (t : ThreadDecl) (instrs : List Instr) → AreAllowed instrs → length t.instrs + length instrs ≤ 16384 → all_instrs ts + length t.instrs + length instrs ≤ 65536 → Makes file (behind ps (ts ++ t ∷ [])) (map line.Instr instrs) (behind ps (ts ++ with_instrs t instrs ∷ []))
+instrs_stand : (file : List Declared) (ps : List ProcessDecl) (ts : List ThreadDecl) (t : ThreadDecl)
+    (instrs : List Instr)
+    → AreAllowed instrs → length t.instrs + length instrs ≤ 16384
+    → all_instrs ts + length t.instrs + length instrs ≤ 65536
+    → Makes file (behind ps (ts ++ t ∷ [])) (map line.Instr instrs) (behind ps (ts ++ with_instrs t instrs ∷ []))
 instrs_stand file ps ts t [] all short few = record {
   stand = tt;
   makes = ap (λ (is : List Instr). behind ps (ts ++ record t { instrs = is } ∷ [])) (sym (append-nil t.instrs));
@@ -70,8 +77,10 @@ instrs_stand file ps ts t (what ∷ instrs) all short few =
     let here = one_stands file ps ts t what all.0 (omega arith) (omega arith) in
     let size : length (t.instrs ++ what ∷ []) ≡ length t.instrs + 1 = simp length-append in
     let later = instrs_stand file ps ts (grown t what) instrs all.1 (omega arith) (omega arith) in
-    let same : after (behind ps (ts ++ t ∷ [])) (line.Instr what) ≡ behind ps (ts ++ grown t what ∷ []) = ap (λ (us : List ThreadDecl). behind ps us) (instr_last ts t what) in
-    let joined : with_instrs (grown t what) instrs ≡ with_instrs t (what ∷ instrs) = ap (λ (is : List Instr). record t { instrs = is }) (append_assoc t.instrs (what ∷ []) instrs) in
+    let same : after (behind ps (ts ++ t ∷ [])) (line.Instr what) ≡ behind ps (ts ++ grown t what ∷ []) =
+    ap (λ (us : List ThreadDecl). behind ps us) (instr_last ts t what) in
+    let joined : with_instrs (grown t what) instrs ≡ with_instrs t (what ∷ instrs) =
+    ap (λ (is : List Instr). record t { instrs = is }) (append_assoc t.instrs (what ∷ []) instrs) in
     record {
       stand = (here, subst (λ (d : Context). AllStand file d (map line.Instr instrs)) (sym same) later.stand);
       makes = ap (λ (d : Context). after_all d (map line.Instr instrs)) same ∙ later.makes ∙ ap (λ (u : ThreadDecl). behind ps (ts ++ u ∷ [])) joined;
@@ -104,16 +113,26 @@ record Placed (ps : List ProcessDecl) (ts : List ThreadDecl) (process name : Lis
   process_room : nat_lt (length ps) 16 ≡ true
   thread_room : nat_lt (length ts) 63 ≡ true
 
-seven : (a b c d e f g : Bool) → (a && b && c && d && e && f && g) ≡ true → (a ≡ true) × (b ≡ true) × (c ≡ true) × (d ≡ true) × (e ≡ true) × (f ≡ true) × (g ≡ true)
+seven : (a b c d e f g : Bool) → (a && b && c && d && e && f && g) ≡ true
+    → (a ≡ true) × (b ≡ true) × (c ≡ true) × (d ≡ true) × (e ≡ true) × (f ≡ true) × (g ≡ true)
 seven true true true true true true true h = (refl, refl, refl, refl, refl, refl, refl)
 seven _ _ _ _ _ _ _ h = grind arith
 
-placed : (ps : List ProcessDecl) (ts : List ThreadDecl) (process name : List ℕ) (priority : ℕ) → is_placed ps ts process name priority ≡ true → Placed ps ts process name priority
+placed : (ps : List ProcessDecl) (ts : List ThreadDecl) (process name : List ℕ) (priority : ℕ)
+    → is_placed ps ts process name priority ≡ true → Placed ps ts process name priority
 placed ps ts process name priority h =
-    let p = seven (is_object_name process) (is_object_name name) (nat_le priority 63) (not (is_process_name (script_of ps ts) process)) (not (is_thread_name (script_of ps ts) name)) (nat_lt (length ps) 16) (nat_lt (length ts) 63) h in
+    let p = seven (is_object_name process) (is_object_name name) (nat_le priority 63)
+    (not (is_process_name (script_of ps ts) process)) (not (is_thread_name (script_of ps ts) name))
+    (nat_lt (length ps) 16) (nat_lt (length ts) 63) h in
     record { process_name = p.0; thread_name = p.1; priority_in = p.2; new_process = p.3; new_thread = p.4; process_room = p.5; thread_room = p.6 }
 
-pub block_stands : (file : List Declared) (rank : ℕ) (ps : List ProcessDecl) (ts : List ThreadDecl) (process name : List ℕ) (priority : ℕ) (instrs : List Instr) → nat_le rank 8 ≡ true → is_placed ps ts process name priority ≡ true → AreAllowed instrs → length instrs ≤ 16384 → all_instrs ts + length instrs ≤ 65536 → Makes file (so_far (script_of ps ts) rank false) (block process name priority instrs) (behind (ps ++ record { name = process } ∷ []) (ts ++ thread_in (last_of (ps ++ record { name = process } ∷ [])) name priority instrs ∷ []))
+pub block_stands : (file : List Declared) (rank : ℕ) (ps : List ProcessDecl) (ts : List ThreadDecl)
+    (process name : List ℕ) (priority : ℕ) (instrs : List Instr)
+    → nat_le rank 8 ≡ true → is_placed ps ts process name priority ≡ true → AreAllowed instrs → length instrs ≤ 16384
+    → all_instrs ts + length instrs ≤ 65536
+    → Makes file (so_far (script_of ps ts) rank false) (block process name priority instrs)
+    (behind (ps ++ record { name = process } ∷ [])
+    (ts ++ thread_in (last_of (ps ++ record { name = process } ∷ [])) name priority instrs ∷ []))
 block_stands file rank ps ts process name priority instrs order place allowed short few =
     let all_ps : List ProcessDecl = ps ++ record { name = process } ∷ [] in
     let t : ThreadDecl = thread_in (last_of all_ps) name priority [] in

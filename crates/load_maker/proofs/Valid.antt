@@ -40,7 +40,9 @@ abbrev clients_lines : List Instr → List Instr → List Instr → List Instr �
 clients_lines a b c d = client_block 0 a ++ (client_block 1 b ++ (client_block 2 c ++ client_block 3 d))
 
 abbrev lines_of : List Instr → List Instr → List Instr → List Instr → List Instr → ℕ → List SourceLine
-lines_of s a b c d slots = line.Header ∷ (block (codes "fs") (codes "sv") 30 s ++ (clients_lines a b c d ++ (schedule_lines (replicate slots slot.Go) ++ line.End ∷ [])))
+lines_of s a b c d slots =
+    line.Header ∷ (block (codes "fs") (codes "sv") 30 s ++
+    (clients_lines a b c d ++ (schedule_lines (replicate slots slot.Go) ++ line.End ∷ [])))
 
 abbrev script_with : List Instr → List Instr → List Instr → List Instr → List Instr → Script
 script_with s a b c d = script_of processes (server_of s ∷ client_of 0 a ∷ client_of 1 b ∷ client_of 2 c ∷ client_of 3 d ∷ [])
@@ -51,14 +53,19 @@ record Are (most : ℕ) (instrs : List Instr) : Type 0 where
   short : length instrs ≤ most
 
 -- lines from the schedule on
-end_stands : (file : List Declared) (s : Script) (slots : ℕ) → slots ≤ 65536 → Makes file (at_rank s 8 []) (schedule_lines (replicate slots slot.Go) ++ line.End ∷ []) (at_rank s 11 (replicate slots slot.Go))
+end_stands : (file : List Declared) (s : Script) (slots : ℕ) → slots ≤ 65536
+    → Makes file (at_rank s 8 []) (schedule_lines (replicate slots slot.Go) ++ line.End ∷ [])
+    (at_rank s 11 (replicate slots slot.Go))
 end_stands file s slots few =
     let size : length (replicate slots slot.Go) ≤ 65536 = simp length-replicate few in
     let h = schedule_stands file s 8 (replicate slots slot.Go) refl refl size (known_run file slots) in
     record { stand = h.stand; makes = h.makes }
 
 -- the lines of the clients behind the server's
-clients_stand : (file : List Declared) (s a b c d : List Instr) → Are 4017 s → Are 1001 a → Are 1001 b → Are 1001 c → Are 1001 d → Makes file (behind (record { name = codes "fs" } ∷ []) (server_of s ∷ [])) (clients_lines a b c d) (so_far (script_with s a b c d) 8 false)
+clients_stand : (file : List Declared) (s a b c d : List Instr) → Are 4017 s → Are 1001 a → Are 1001 b → Are 1001 c
+    → Are 1001 d
+    → Makes file (behind (record { name = codes "fs" } ∷ []) (server_of s ∷ [])) (clients_lines a b c d)
+    (so_far (script_with s a b c d) 8 false)
 clients_stand file s a b c d es ea eb ec ed =
     let fs : ProcessDecl = record { name = codes "fs" } in
     let p0 : ProcessDecl = record { name = numbered 112 0 } in
@@ -69,18 +76,27 @@ clients_stand file s a b c d es ea eb ec ed =
     let few2 : 0 + length s + length a + length b + length c ≤ 65536 = omega (arith, es.short, ea.short, eb.short, ec.short) in
     let few3 : 0 + length s + length a + length b + length c + length d ≤ 65536 = omega (arith, es.short, ea.short, eb.short, ec.short, ed.short) in
     let first = block_stands file 8 (fs ∷ []) (server_of s ∷ []) (numbered 112 0) (numbered 99 0) 10 a refl refl ea.allowed (omega (arith, ea.short)) few0 in
-    let second = block_stands file 8 (fs ∷ p0 ∷ []) (server_of s ∷ client_of 0 a ∷ []) (numbered 112 1) (numbered 99 1) 11 b refl refl eb.allowed (omega (arith, eb.short)) few1 in
-    let third = block_stands file 8 (fs ∷ p0 ∷ p1 ∷ []) (server_of s ∷ client_of 0 a ∷ client_of 1 b ∷ []) (numbered 112 2) (numbered 99 2) 12 c refl refl ec.allowed (omega (arith, ec.short)) few2 in
-    let fourth = block_stands file 8 (fs ∷ p0 ∷ p1 ∷ p2 ∷ []) (server_of s ∷ client_of 0 a ∷ client_of 1 b ∷ client_of 2 c ∷ []) (numbered 112 3) (numbered 99 3) 13 d refl refl ed.allowed (omega (arith, ed.short)) few3 in
+    let second = block_stands file 8 (fs ∷ p0 ∷ []) (server_of s ∷ client_of 0 a ∷ []) (numbered 112 1)
+    (numbered 99 1) 11 b refl refl eb.allowed (omega (arith, eb.short)) few1 in
+    let third = block_stands file 8 (fs ∷ p0 ∷ p1 ∷ []) (server_of s ∷ client_of 0 a ∷ client_of 1 b ∷ [])
+    (numbered 112 2) (numbered 99 2) 12 c refl refl ec.allowed (omega (arith, ec.short)) few2 in
+    let fourth = block_stands file 8 (fs ∷ p0 ∷ p1 ∷ p2 ∷ [])
+    (server_of s ∷ client_of 0 a ∷ client_of 1 b ∷ client_of 2 c ∷ []) (numbered 112 3)
+    (numbered 99 3) 13 d refl refl ed.allowed (omega (arith, ed.short)) few3 in
     makes_more file _ _ _ (client_block 0 a) (client_block 1 b ++ (client_block 2 c ++ client_block 3 d)) first
     (makes_more file _ _ _ (client_block 1 b) (client_block 2 c ++ client_block 3 d) second
     (makes_more file _ _ _ (client_block 2 c) (client_block 3 d) third fourth))
 
 -- all lines
-lines_stand : (file : List Declared) (s a b c d : List Instr) (slots : ℕ) → Are 4017 s → Are 1001 a → Are 1001 b → Are 1001 c → Are 1001 d → slots ≤ 65536 → Makes file start (lines_of s a b c d slots) (at_rank (script_with s a b c d) 11 (replicate slots slot.Go))
+lines_stand : (file : List Declared) (s a b c d : List Instr) (slots : ℕ) → Are 4017 s → Are 1001 a → Are 1001 b
+    → Are 1001 c → Are 1001 d → slots ≤ 65536
+    → Makes file start (lines_of s a b c d slots) (at_rank (script_with s a b c d) 11 (replicate slots slot.Go))
 lines_stand file s a b c d slots es ea eb ec ed few =
     let short : 0 + length s ≤ 65536 = omega (arith, es.short) in
-    let header : Makes file start (line.Header ∷ []) (so_far empty_script 0 false) = record { stand = (record { order = refl; ranges = refl; kind = refl; new = refl; known = refl; within = refl }, tt); makes = refl } in
+    let header : Makes file start (line.Header ∷ []) (so_far empty_script 0 false) = record {
+      stand = (record { order = refl; ranges = refl; kind = refl; new = refl; known = refl; within = refl }, tt);
+      makes = refl;
+    } in
     let server = block_stands file 0 [] [] (codes "fs") (codes "sv") 30 s refl refl es.allowed (omega (arith, es.short)) short in
     let clients = clients_stand file s a b c d es ea eb ec ed in
     let ends = end_stands file (script_with s a b c d) slots few in
@@ -93,7 +109,9 @@ serves : (messages : ℕ) → messages ≤ 2008 → Are 4017 (instr.Server (code
 serves messages few = let size = served_short messages in record { allowed = served_allowed messages; short = omega (arith, size, few) }
 
 does : (x client size : ℕ) → client < 4 → size ≤ 500 → Are 1001 (client_instrs x client size)
-does x client size few small = let short = client_short x client size in record { allowed = client_allowed x client size few; short = omega (arith, short, small) }
+does x client size few small =
+    let short = client_short x client size in
+    record { allowed = client_allowed x client size few; short = omega (arith, short, small) }
 
 pub made_well_formed : (seed size : ℕ) → size ≤ 500 → IsWellFormed (made seed size)
 unfolding made
@@ -108,12 +126,17 @@ made_well_formed seed size small =
     let m3 = messages_few (next x3) size in
     let count : ℕ = 8 + (0 + client_messages x0 size + client_messages x1 size + client_messages x2 size + client_messages x3 size) in
     let messages : count ≤ 2008 = omega (arith, m0, m1, m2, m3, small) in
-    let lines : List SourceLine = lines_of (instr.Server (codes "files") 0 ∷ served count) (client_instrs x0 0 size) (client_instrs x1 1 size) (client_instrs x2 2 size) (client_instrs x3 3 size) (200 + 60 * size) in
-    let h = lines_stand (twos lines) _ _ _ _ _ (200 + 60 * size) (serves count messages) (does x0 0 size (omega arith) small) (does x1 1 size (omega arith) small) (does x2 2 size (omega arith) small) (does x3 3 size (omega arith) small) (omega (arith, small)) in
+    let lines : List SourceLine = lines_of (instr.Server (codes "files") 0 ∷ served count) (client_instrs x0 0 size)
+    (client_instrs x1 1 size) (client_instrs x2 2 size) (client_instrs x3 3 size) (200 + 60 * size) in
+    let h = lines_stand (twos lines) _ _ _ _ _ (200 + 60 * size) (serves count messages)
+    (does x0 0 size (omega arith) small) (does x1 1 size (omega arith) small) (does x2 2 size (omega arith) small)
+    (does x3 3 size (omega arith) small) (omega (arith, small)) in
     let s = lines_accepted lines _ h.stand h.makes refl in
     record { bytes = flat_map source_text lines; lines = s.lines; are = s.are; ended = s.ended; same = s.same }
 
 -- a script of these parts is the made one
-pub made_by : (seed size : ℕ) (script : Script) → script.version ≡ 1 → script.pool ≡ 0 → script.fast ≡ 0 → script.queues ≡ [] → script.dfcs ≡ [] → script.idfcs ≡ [] → script.irqs ≡ [] → script.processes ≡ processes → script.threads ≡ threads seed size → script.slots ≡ replicate (200 + 60 * size) slot.Go → script ≡ made seed size
+pub made_by : (seed size : ℕ) (script : Script) → script.version ≡ 1 → script.pool ≡ 0 → script.fast ≡ 0
+    → script.queues ≡ [] → script.dfcs ≡ [] → script.idfcs ≡ [] → script.irqs ≡ [] → script.processes ≡ processes
+    → script.threads ≡ threads seed size → script.slots ≡ replicate (200 + 60 * size) slot.Go → script ≡ made seed size
 unfolding made
 made_by seed size script version pool fast queues dfcs idfcs irqs ps ts slots = rw (version, pool, fast, queues, dfcs, idfcs, irqs, ps, ts, slots) refl

@@ -20,7 +20,13 @@ server_thread messages = record { name = codes "sv"; priority = 30; held = false
 
 -- a client's thread, from the state before its draws. The server's process is the first one
 abbrev pub client_thread : ℕ → ℕ → ℕ → ThreadDecl
-client_thread x client size = record { name = numbered 99 client; priority = 10 + client; held = false; process = Some (suc client); instrs = client_instrs x client size }
+client_thread x client size = record {
+  name = numbered 99 client;
+  priority = 10 + client;
+  held = false;
+  process = Some (suc client);
+  instrs = client_instrs x client size;
+}
 
 -- The state before a client's draws. The client before it drew its slots, and then each of its rounds.
 abbrev pub client_state : ℕ → ℕ → ℕ → ℕ

@@ -68,7 +68,8 @@ joined [] = refl
 joined (l ∷ ls) = ap (λ t. source_text l ++ t) (joined ls)
 
 -- lines that stand, as they are printed: they make the same
-lines_taken : (lines : List SourceLine) (made : Context) → Stand (twos lines) start lines made → is_ended made ≡ true → IsAccepted (flat_map source_text lines) made.script
+lines_taken : (lines : List SourceLine) (made : Context) → Stand (twos lines) start lines made → is_ended made ≡ true
+    → IsAccepted (flat_map source_text lines) made.script
 lines_taken lines made h ended =
     let texts = texts_of lines in
     let p = printed (twos lines) start lines h.stand in
@@ -86,7 +87,8 @@ lines_taken lines made h ended =
     }
 
 -- lines that may stand, in a file of just these, spell the script that they make
-pub lines_accepted : (lines : List SourceLine) (made : Context) → AllStand (twos lines) start lines → after_all start lines ≡ made → is_ended made ≡ true → IsAccepted (flat_map source_text lines) made.script
+pub lines_accepted : (lines : List SourceLine) (made : Context) → AllStand (twos lines) start lines
+    → after_all start lines ≡ made → is_ended made ≡ true → IsAccepted (flat_map source_text lines) made.script
 lines_accepted lines made stand makes ended = lines_taken lines made (record { stand = stand; makes = makes }) ended
 
 -- the canonical text of a script that bytes spell
@@ -94,6 +96,7 @@ pub canonical_accepted : (bytes : List ℕ) (script : Script) → IsAccepted byt
 unfolding canonical_text
 canonical_accepted bytes script s =
     let made : Context = after_all start s.lines in
-    let stand : AllStand (twos s.lines) start s.lines = subst (λ (ws : List (List (List ℕ))). AllStand (map first_two ws) start s.lines) s.are.spelled s.are.stand in
+    let stand : AllStand (twos s.lines) start s.lines = subst
+    (λ (ws : List (List (List ℕ))). AllStand (map first_two ws) start s.lines) s.are.spelled s.are.stand in
     let taken = lines_taken (canonical_lines made.script) made (canonical_stands s.lines stand s.ended) s.ended in
     subst (λ (t : Script). IsAccepted (flat_map source_text (canonical_lines t)) t) (sym s.same) taken

@@ -62,7 +62,8 @@ visible_free (b ∷ bs) h = let parts = both (is_visible b) (list_all is_visible
 spaced_cut : (word : List ℕ) (words : List (List ℕ)) → is_plain word ≡ true → ArePlain words → split (λ byte. byte == 32) (spaced (word ∷ words)) ≡ word ∷ words
 spaced_cut word [] h all = rw append-nil (split_free 32 word (visible_free word (plain word h).visible))
 spaced_cut word (next ∷ words) h all =
-    split_at 32 word (spaced (next ∷ words)) (visible_free word (plain word h).visible) ∙ ap (λ (ws : List (List ℕ)). word ∷ ws) (spaced_cut next words all.0 all.1)
+    split_at 32 word (spaced (next ∷ words)) (visible_free word (plain word h).visible)
+    ∙ ap (λ (ws : List (List ℕ)). word ∷ ws) (spaced_cut next words all.0 all.1)
 
 all_kept : (words : List (List ℕ)) → ArePlain words → filter (λ w. not (is_empty w)) words ≡ words
 all_kept [] all = refl
@@ -79,7 +80,9 @@ visible_printed b h = grind (arith, nat_tests)
 
 word_printed : (word rest : List ℕ) → list_all is_visible word ≡ true → is_printed rest ≡ true → is_printed (word ++ rest) ≡ true
 word_printed [] rest h later = later
-word_printed (b ∷ bs) rest h later = let parts = both (is_visible b) (list_all is_visible bs) h in rw (visible_printed b parts.0, word_printed bs rest parts.1 later) refl
+word_printed (b ∷ bs) rest h later =
+    let parts = both (is_visible b) (list_all is_visible bs) h in
+    rw (visible_printed b parts.0, word_printed bs rest parts.1 later) refl
 
 more_printed : (words : List (List ℕ)) → ArePlain words → is_printed (flat_map (λ (w : List ℕ). 32 ∷ w) words) ≡ true
 more_printed [] all = refl
@@ -107,10 +110,13 @@ printed_free : (line : List ℕ) → is_printed line ≡ true → is_free 10 lin
 printed_free [] h = refl
 printed_free (b ∷ bs) h = let parts = both (nat_le 32 b && nat_le b 126) (is_printed bs) h in rw (no_feed b parts.0, printed_free bs parts.1) refl
 
-lines_cut : (lines : List (List ℕ)) → AllByRecursion IsClean lines → split (λ byte. byte == 10) (flat_map (λ (l : List ℕ). l ++ 10 ∷ []) lines) ≡ lines ++ [] ∷ []
+lines_cut : (lines : List (List ℕ)) → AllByRecursion IsClean lines
+    → split (λ byte. byte == 10) (flat_map (λ (l : List ℕ). l ++ 10 ∷ []) lines) ≡ lines ++ [] ∷ []
 lines_cut [] all = refl
 lines_cut (l ∷ ls) all =
-    rw (append_assoc l (10 ∷ []) (flat_map (λ (l : List ℕ). l ++ 10 ∷ []) ls)) (split_at 10 l (flat_map (λ (l : List ℕ). l ++ 10 ∷ []) ls) (printed_free l all.0.printed)) ∙ ap (λ (xs : List (List ℕ)). l ∷ xs) (lines_cut ls all.1)
+    rw (append_assoc l (10 ∷ []) (flat_map (λ (l : List ℕ). l ++ 10 ∷ []) ls))
+    (split_at 10 l (flat_map (λ (l : List ℕ). l ++ 10 ∷ []) ls) (printed_free l all.0.printed))
+    ∙ ap (λ (xs : List (List ℕ)). l ∷ xs) (lines_cut ls all.1)
 
 end_taken : (lines : List (List ℕ)) → without_empty_end (lines ++ [] ∷ []) ≡ lines
 end_taken [] = refl

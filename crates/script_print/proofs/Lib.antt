@@ -7,4 +7,5 @@ pub mod NamesAgain
 pub mod PartLaws
 pub mod PlainLines
 pub mod ScheduleAgain
+pub mod Spelled
 pub mod ThreadGroups

@@ -23,7 +23,14 @@ use Rattle.script_types.proofs.LimitLaws.{sound-after, sound-start, in_thread, e
 
 -- a line stands in another file that declares as much
 known_stands : (file other : List Declared) → Carries file other → (c : Context) (l : SourceLine) → Stands file c l → Stands other c l
-known_stands file other t c l h = record { order = h.order; ranges = h.ranges; kind = h.kind; new = h.new; known = known_again file other t c l h.known; within = h.within }
+known_stands file other t c l h = record {
+  order = h.order;
+  ranges = h.ranges;
+  kind = h.kind;
+  new = h.new;
+  known = known_again file other t c l h.known;
+  within = h.within;
+}
 
 -- The rank of the canonical lines so far is lower where settings of 0 were the last lines, and else the same.
 record IsLower (low high : ℕ) : Type 0 where
@@ -31,38 +38,52 @@ record IsLower (low high : ℕ) : Type 0 where
   same : 2 < high → low ≡ high
 
 -- what isn't an instruction or a setting may stand behind a lower rank
-order_lower : (low high : ℕ) (awaits : Bool) (kind : LineKind) → IsLower low high → may_stand (Some high) awaits kind ≡ true → may_stand (Some low) awaits kind ≡ true
+order_lower : (low high : ℕ) (awaits : Bool) (kind : LineKind) → IsLower low high
+    → may_stand (Some high) awaits kind ≡ true → may_stand (Some low) awaits kind ≡ true
 order_lower low high true kind lower h = h
 order_lower low high false of.Header lower h = absurd (cc)
 order_lower low high false of.Thread lower h = let is : high ≡ 8 = grind (arith, nat_tests) in let same : low ≡ high = lower.same (omega arith) in rw same h
 order_lower low high false of.Instr lower h = let late = in_thread (Some high) false h in let same : low ≡ high = lower.same (omega arith) in rw same h
 order_lower low high false of.Slot lower h = let late : 9 ≤ high = grind (arith, nat_tests) in let same : low ≡ high = lower.same (omega arith) in rw same h
-order_lower low high false of.Schedule lower h = let under = lower.under in grind (arith, nat_tests)
-order_lower low high false of.End lower h = let under = lower.under in grind (arith, nat_tests)
-order_lower low high false of.Pool lower h = let under = lower.under in grind (arith, nat_tests)
-order_lower low high false of.Fast lower h = let under = lower.under in grind (arith, nat_tests)
-order_lower low high false of.Queue lower h = let under = lower.under in grind (arith, nat_tests)
-order_lower low high false of.Dfc lower h = let under = lower.under in grind (arith, nat_tests)
-order_lower low high false of.Idfc lower h = let under = lower.under in grind (arith, nat_tests)
-order_lower low high false of.IrqBody lower h = let under = lower.under in grind (arith, nat_tests)
-order_lower low high false of.KernelThread lower h = let under = lower.under in grind (arith, nat_tests)
-order_lower low high false of.Process lower h = let under = lower.under in grind (arith, nat_tests)
+order_lower low high false _ lower h = let under = lower.under in grind (arith, nat_tests)
 
 setting_lower : (low high last : ℕ) → low ≤ high → high < last → not (low == last) ≡ true
 setting_lower low high last under below = grind (arith, nat_tests)
 
-lower_stands : (file : List Declared) (s : Script) (low high : ℕ) (awaits : Bool) (l : SourceLine) → IsLower low high → Stands file (so_far s high awaits) l → Stands file (so_far s low awaits) l
+lower_stands : (file : List Declared) (s : Script) (low high : ℕ) (awaits : Bool) (l : SourceLine) → IsLower low high
+    → Stands file (so_far s high awaits) l → Stands file (so_far s low awaits) l
 lower_stands file s low high awaits (line.Instr what) lower h =
     let late = in_thread (Some high) awaits h.order in
     let same : low ≡ high = lower.same (omega arith) in
     subst (λ (rank : ℕ). Stands file (so_far s rank awaits) (line.Instr what)) (sym same) h
 lower_stands file s low high awaits (line.Pool n) lower h =
     let below = first_setting high 1 (earlier (Some high) awaits of.Pool refl h.order) h.new in
-    record { order = order_lower low high awaits of.Pool lower h.order; ranges = h.ranges; kind = refl; new = setting_lower low high 1 lower.under below; known = refl; within = refl }
+    record {
+      order = order_lower low high awaits of.Pool lower h.order;
+      ranges = h.ranges;
+      kind = refl;
+      new = setting_lower low high 1 lower.under below;
+      known = refl;
+      within = refl;
+    }
 lower_stands file s low high awaits (line.Fast n) lower h =
     let below = first_setting high 2 (earlier (Some high) awaits of.Fast refl h.order) h.new in
-    record { order = order_lower low high awaits of.Fast lower h.order; ranges = h.ranges; kind = refl; new = setting_lower low high 2 lower.under below; known = refl; within = refl }
-lower_stands file s low high awaits l lower h = record { order = order_lower low high awaits (kind_of l) lower h.order; ranges = h.ranges; kind = h.kind; new = h.new; known = h.known; within = h.within }
+    record {
+      order = order_lower low high awaits of.Fast lower h.order;
+      ranges = h.ranges;
+      kind = refl;
+      new = setting_lower low high 2 lower.under below;
+      known = refl;
+      within = refl;
+    }
+lower_stands file s low high awaits l lower h = record {
+  order = order_lower low high awaits (kind_of l) lower h.order;
+  ranges = h.ranges;
+  kind = h.kind;
+  new = h.new;
+  known = h.known;
+  within = h.within;
+}
 
 lower_after : (low high : ℕ) (kind : LineKind) → IsLower low high → IsLower (rank_of low kind) (rank_of high kind)
 lower_after low high of.Instr lower = lower
@@ -89,36 +110,56 @@ rest_of lines made = said lines ++ (schedule_lines made.script.slots ++ line.End
 
 module _ (file other : List Declared) (t : Carries file other) where
   -- from `schedule` on
-  schedules : (s : Script) (low high : ℕ) (ls : List SourceLine) → IsLower low high → high ≤ 8 → IsFront s high → AllStand file (so_far s high false) (line.Schedule ∷ ls) → is_ended (after_all (so_far s 9 false) ls) ≡ true → Stand other (so_far s low false) (rest_of ls (after_all (so_far s 9 false) ls)) (after_all (so_far s 9 false) ls)
+  schedules : (s : Script) (low high : ℕ) (ls : List SourceLine) → IsLower low high → high ≤ 8 → IsFront s high
+      → AllStand file (so_far s high false) (line.Schedule ∷ ls) → is_ended (after_all (so_far s 9 false) ls) ≡ true
+      → Stand other (so_far s low false) (rest_of ls (after_all (so_far s 9 false) ls))
+      (after_all (so_far s 9 false) ls)
   schedules s low high ls lower le f stand ended =
       let none : s.slots ≡ [] = f.slots (omega arith) in
       let same : so_far s 9 false ≡ at_rank s 9 [] = ap (λ (xs : List Slot). at_rank s 9 xs) none in
-      let m = schedule_makes file s ls (subst (λ (d : Context). AllStand file d ls) same stand.1) (subst (λ (d : Context). is_ended (after_all d ls) ≡ true) same ended) in
+      let m = schedule_makes file s ls (subst (λ (d : Context). AllStand file d ls) same stand.1)
+      (subst (λ (d : Context). is_ended (after_all d ls) ≡ true) same ended) in
       let made = ap (λ (d : Context). after_all d ls) same ∙ m.makes in
       let before : so_far s low false ≡ at_rank s low [] = ap (λ (xs : List Slot). at_rank s low xs) none in
       let under = lower.under in
       let h = schedule_stands other s low m.slots (le-leb low 8 (omega arith)) (le-leb low 10 (omega arith)) m.few (slots_known file other t m.slots m.known) in
-      let lines : rest_of ls (after_all (so_far s 9 false) ls) ≡ schedule_lines m.slots ++ line.End ∷ [] = ap (λ (xs : List SourceLine). xs ++ (schedule_lines (after_all (so_far s 9 false) ls).script.slots ++ line.End ∷ [])) m.silent ∙ ap (λ (d : Context). schedule_lines d.script.slots ++ line.End ∷ []) made in
+      let lines : rest_of ls (after_all (so_far s 9 false) ls) ≡ schedule_lines m.slots ++ line.End ∷ [] =
+      ap (λ (xs : List SourceLine). xs ++ (schedule_lines
+      (after_all (so_far s 9 false) ls).script.slots ++ line.End ∷ [])) m.silent
+      ∙ ap (λ (d : Context). schedule_lines d.script.slots ++ line.End ∷ []) made in
       subst (λ (xs : List SourceLine). Stand other (so_far s low false) xs (after_all (so_far s 9 false) ls)) (sym lines)
       (subst (λ (d : Context). Stand other d (schedule_lines m.slots ++ line.End ∷ []) (after_all (so_far s 9 false) ls)) (sym before)
       (subst (λ (d : Context). Stand other (at_rank s low []) (schedule_lines m.slots ++ line.End ∷ []) d) (sym made) h))
 
   -- without a schedule
-  ends : (s : Script) (low high : ℕ) (ls : List SourceLine) → IsLower low high → high ≤ 8 → IsFront s high → AllStand file (so_far s high false) (line.End ∷ ls) → Stand other (so_far s low false) (rest_of ls (after_all (so_far s 11 false) ls)) (after_all (so_far s 11 false) ls)
+  ends : (s : Script) (low high : ℕ) (ls : List SourceLine) → IsLower low high → high ≤ 8 → IsFront s high
+      → AllStand file (so_far s high false) (line.End ∷ ls)
+      → Stand other (so_far s low false) (rest_of ls (after_all (so_far s 11 false) ls))
+      (after_all (so_far s 11 false) ls)
   ends s low high ls lower le f stand =
       let none = last_line file s ls stand.1 in
       let empty : s.slots ≡ [] = f.slots (omega arith) in
       let under = lower.under in
       let h = schedule_stands other s low [] (le-leb low 8 (omega arith)) (le-leb low 10 (omega arith)) (omega arith) tt in
-      let alone : Stand other (so_far s low false) (schedule_lines s.slots ++ line.End ∷ []) (so_far s 11 false) = subst (λ (xs : List Slot). Stand other (at_rank s low xs) (schedule_lines xs ++ line.End ∷ []) (at_rank s 11 xs)) (sym empty) h in
-      subst (λ (xs : List SourceLine). Stand other (so_far s low false) (rest_of xs (after_all (so_far s 11 false) xs)) (after_all (so_far s 11 false) xs)) (sym none) alone
+      let alone : Stand other (so_far s low false) (schedule_lines s.slots ++ line.End ∷ []) (so_far s 11 false) =
+      subst (λ (xs : List Slot). Stand other (at_rank s low xs) (schedule_lines xs ++ line.End ∷ []) (at_rank s 11 xs))
+      (sym empty) h in
+      subst (λ (xs : List SourceLine). Stand other (so_far s low false) (rest_of xs (after_all (so_far s 11 false) xs))
+      (after_all (so_far s 11 false) xs)) (sym none) alone
 
   -- one line more
-  stays : (s : Script) (low high : ℕ) (awaits : Bool) (l : SourceLine) (rest : List SourceLine) (made : Context) → IsLower low high → Stands file (so_far s high awaits) l → Stand other (so_far (told s l) (rank_of low (kind_of l)) (is_process (kind_of l))) rest made → Stand other (so_far s low awaits) (l ∷ rest) made
+  stays : (s : Script) (low high : ℕ) (awaits : Bool) (l : SourceLine) (rest : List SourceLine) (made : Context)
+      → IsLower low high → Stands file (so_far s high awaits) l
+      → Stand other (so_far (told s l) (rank_of low (kind_of l)) (is_process (kind_of l))) rest made
+      → Stand other (so_far s low awaits) (l ∷ rest) made
   stays s low high awaits l rest made lower here h =
       record { stand = (lower_stands other s low high awaits l lower (known_stands file other t (so_far s high awaits) l here), h.stand); makes = h.makes }
 
-  goes : (s : Script) (low high : ℕ) (awaits : Bool) (lines : List SourceLine) → IsLower low high → high ≤ 8 → (awaits ≡ true → high ≡ 8) → IsFront s high → AllStand file (so_far s high awaits) lines → is_ended (after_all (so_far s high awaits) lines) ≡ true → Stand other (so_far s low awaits) (rest_of lines (after_all (so_far s high awaits) lines)) (after_all (so_far s high awaits) lines)
+  goes : (s : Script) (low high : ℕ) (awaits : Bool) (lines : List SourceLine) → IsLower low high → high ≤ 8
+      → (awaits ≡ true → high ≡ 8) → IsFront s high → AllStand file (so_far s high awaits) lines
+      → is_ended (after_all (so_far s high awaits) lines) ≡ true
+      → Stand other (so_far s low awaits) (rest_of lines (after_all (so_far s high awaits) lines))
+      (after_all (so_far s high awaits) lines)
   goes s low high awaits [] lower le at f stand ended = let eleven : high ≡ 11 = grind (arith, nat_tests) in absurd (omega arith)
   goes s low high awaits (line.Header ∷ ls) lower le at f stand ended = absurd (no_header awaits high stand.0.order)
   goes s low high awaits (line.Go count ∷ ls) lower le at f stand ended = absurd (no_slot awaits high le stand.0.order)
@@ -134,7 +175,9 @@ module _ (file other : List Declared) (t : Carries file other) where
       let under = lower.under in
       let none : s.pool ≡ 0 = f.pool below in
       let same : so_far (told s (line.Pool zero)) low false ≡ so_far s low false = ap (λ (n : ℕ). so_far (record s { pool = n }) low false) (sym none) in
-      let more = goes (told s (line.Pool zero)) low 1 false ls (record { under = omega arith; same = λ e. absurd (omega arith) }) (omega arith) (λ e. absurd (cc)) (front_after file s high false (line.Pool zero) stand.0 at f) stand.1 ended in
+      let more = goes (told s (line.Pool zero)) low 1 false ls
+      (record { under = omega arith; same = λ e. absurd (omega arith) }) (omega arith) (λ e. absurd (cc))
+      (front_after file s high false (line.Pool zero) stand.0 at f) stand.1 ended in
       let made : Context = after_all (so_far s high false) (line.Pool zero ∷ ls) in
       subst (λ (d : Context). Stand other d (rest_of ls made) made) same more
   goes s low high true (line.Fast zero ∷ ls) lower le at f stand ended = let order = stand.0.order in absurd (cc)
@@ -143,21 +186,35 @@ module _ (file other : List Declared) (t : Carries file other) where
       let under = lower.under in
       let none : s.fast ≡ 0 = f.fast below in
       let same : so_far (told s (line.Fast zero)) low false ≡ so_far s low false = ap (λ (n : ℕ). so_far (record s { fast = n }) low false) (sym none) in
-      let more = goes (told s (line.Fast zero)) low 2 false ls (record { under = omega arith; same = λ e. absurd (omega arith) }) (omega arith) (λ e. absurd (cc)) (front_after file s high false (line.Fast zero) stand.0 at f) stand.1 ended in
+      let more = goes (told s (line.Fast zero)) low 2 false ls
+      (record { under = omega arith; same = λ e. absurd (omega arith) }) (omega arith) (λ e. absurd (cc))
+      (front_after file s high false (line.Fast zero) stand.0 at f) stand.1 ended in
       let made : Context = after_all (so_far s high false) (line.Fast zero ∷ ls) in
       subst (λ (d : Context). Stand other d (rest_of ls made) made) same more
   goes s low high awaits (line.Pool (suc n) ∷ ls) lower le at f stand ended =
-      let more = goes (told s (line.Pool (suc n))) 1 1 false ls (record { under = omega arith; same = λ e. refl }) (omega arith) (λ e. absurd (cc)) (front_after file s high awaits (line.Pool (suc n)) stand.0 at f) stand.1 ended in
+      let more = goes (told s (line.Pool (suc n))) 1 1 false ls (record { under = omega arith; same = λ e. refl })
+      (omega arith) (λ e. absurd (cc)) (front_after file s high awaits (line.Pool (suc n)) stand.0 at f) stand.1
+      ended in
       let made : Context = after_all (so_far s high awaits) (line.Pool (suc n) ∷ ls) in
-      let lines : rest_of (line.Pool (suc n) ∷ ls) made ≡ line.Pool (suc n) ∷ rest_of ls made = ap (λ (xs : List SourceLine). xs ++ said ls ++ (schedule_lines made.script.slots ++ line.End ∷ [])) (setting_stays line.Pool n) in
-      subst (λ (xs : List SourceLine). Stand other (so_far s low awaits) xs made) (sym lines) (stays s low high awaits (line.Pool (suc n)) (rest_of ls made) made lower stand.0 more)
+      let lines : rest_of (line.Pool (suc n) ∷ ls) made ≡ line.Pool (suc n) ∷ rest_of ls made =
+      ap (λ (xs : List SourceLine). xs ++ said ls ++ (schedule_lines made.script.slots ++ line.End ∷ []))
+      (setting_stays line.Pool n) in
+      subst (λ (xs : List SourceLine). Stand other (so_far s low awaits) xs made) (sym lines)
+      (stays s low high awaits (line.Pool (suc n)) (rest_of ls made) made lower stand.0 more)
   goes s low high awaits (line.Fast (suc n) ∷ ls) lower le at f stand ended =
-      let more = goes (told s (line.Fast (suc n))) 2 2 false ls (record { under = omega arith; same = λ e. refl }) (omega arith) (λ e. absurd (cc)) (front_after file s high awaits (line.Fast (suc n)) stand.0 at f) stand.1 ended in
+      let more = goes (told s (line.Fast (suc n))) 2 2 false ls (record { under = omega arith; same = λ e. refl })
+      (omega arith) (λ e. absurd (cc)) (front_after file s high awaits (line.Fast (suc n)) stand.0 at f) stand.1
+      ended in
       let made : Context = after_all (so_far s high awaits) (line.Fast (suc n) ∷ ls) in
-      let lines : rest_of (line.Fast (suc n) ∷ ls) made ≡ line.Fast (suc n) ∷ rest_of ls made = ap (λ (xs : List SourceLine). xs ++ said ls ++ (schedule_lines made.script.slots ++ line.End ∷ [])) (setting_stays line.Fast n) in
-      subst (λ (xs : List SourceLine). Stand other (so_far s low awaits) xs made) (sym lines) (stays s low high awaits (line.Fast (suc n)) (rest_of ls made) made lower stand.0 more)
+      let lines : rest_of (line.Fast (suc n) ∷ ls) made ≡ line.Fast (suc n) ∷ rest_of ls made =
+      ap (λ (xs : List SourceLine). xs ++ said ls ++ (schedule_lines made.script.slots ++ line.End ∷ []))
+      (setting_stays line.Fast n) in
+      subst (λ (xs : List SourceLine). Stand other (so_far s low awaits) xs made) (sym lines)
+      (stays s low high awaits (line.Fast (suc n)) (rest_of ls made) made lower stand.0 more)
   goes s low high awaits (l ∷ ls) lower le at f stand ended =
-      let more = goes (told s l) (rank_of low (kind_of l)) (rank_of high (kind_of l)) (is_process (kind_of l)) ls (lower_after low high (kind_of l) lower) (omega arith) (awaits_after high (kind_of l)) (front_after file s high awaits l stand.0 at f) stand.1 ended in
+      let more = goes (told s l) (rank_of low (kind_of l)) (rank_of high (kind_of l)) (is_process (kind_of l)) ls
+      (lower_after low high (kind_of l) lower) (omega arith) (awaits_after high (kind_of l))
+      (front_after file s high awaits l stand.0 at f) stand.1 ended in
       let made : Context = after_all (so_far s high awaits) (l ∷ ls) in
       stays s low high awaits l (rest_of ls made) made lower stand.0 more
 
@@ -168,11 +225,19 @@ canonical_stands [] stand ended = absurd (cc)
 canonical_stands (line.Header ∷ ls) stand ended =
     let file : List Declared = twos (line.Header ∷ ls) in
     let made : Context = after_all (so_far empty_script 0 false) ls in
-    let declared : declared_lines made.script ≡ line.Header ∷ said ls = lines_again file empty_script 0 false ls stand.1 (sound-after file start line.Header stand.0 sound-start) front_start last_start in
-    let are : canonical_lines made.script ≡ line.Header ∷ rest_of ls made = ap (λ (xs : List SourceLine). xs ++ schedule_lines made.script.slots ++ line.End ∷ []) declared ∙ append_assoc (line.Header ∷ said ls) (schedule_lines made.script.slots) (line.End ∷ []) in
+    let declared : declared_lines made.script ≡ line.Header ∷ said ls =
+    lines_again file empty_script 0 false ls stand.1
+    (sound-after file start line.Header stand.0 sound-start) front_start last_start in
+    let are : canonical_lines made.script ≡ line.Header ∷ rest_of ls made =
+    ap (λ (xs : List SourceLine). xs ++ schedule_lines made.script.slots ++ line.End ∷ []) declared
+    ∙ append_assoc (line.Header ∷ said ls) (schedule_lines made.script.slots) (line.End ∷ []) in
     let other : List Declared = twos (line.Header ∷ rest_of ls made) in
     let t : Carries file other = carries file ls (schedule_lines made.script.slots ++ line.End ∷ []) stand.1 in
-    let h = goes file other t empty_script 0 0 false ls (record { under = omega arith; same = λ e. refl }) (omega arith) (λ e. absurd (cc)) front_start stand.1 ended in
-    let whole : Stand other start (line.Header ∷ rest_of ls made) made = record { stand = (known_stands file other t start line.Header stand.0, h.stand); makes = h.makes } in
+    let h = goes file other t empty_script 0 0 false ls (record { under = omega arith; same = λ e. refl }) (omega arith)
+    (λ e. absurd (cc)) front_start stand.1 ended in
+    let whole : Stand other start (line.Header ∷ rest_of ls made) made = record {
+      stand = (known_stands file other t start line.Header stand.0, h.stand);
+      makes = h.makes;
+    } in
     subst (λ (ks : List SourceLine). Stand (twos ks) start ks made) (sym are) whole
 canonical_stands (l ∷ ls) stand ended = let order = stand.0.order in absurd (cc)

@@ -46,7 +46,8 @@ op_again file other t (op.Fssignal name) h = t.threads name h
 op_again file other t (op.Device x code) h = refl
 op_again file other t (op.Queue name) h = t.dfcs name h
 
-instr_again : (file other : List Declared) (fast : ℕ) → Carries file other → (what : Instr) → is_known_instr file fast what ≡ true → is_known_instr other fast what ≡ true
+instr_again : (file other : List Declared) (fast : ℕ) → Carries file other → (what : Instr)
+    → is_known_instr file fast what ≡ true → is_known_instr other fast what ≡ true
 instr_again file other fast t (instr.Flock x) h = h
 instr_again file other fast t (instr.Funlock x) h = h
 instr_again file other fast t (instr.Fssignal name) h = t.threads name h
@@ -65,7 +66,11 @@ or_either false b false d one other h = other h
 pub known_again : (file other : List Declared) → Carries file other → (c : Context) (l : SourceLine) → is_known file c l ≡ true → is_known other c l ≡ true
 known_again file other t c (line.Dfc name queue p ops) h =
     let parts = both (bytes_eq queue (codes "supervisor") || is_declared file (codes "dfcq") queue) (list_all (is_known_op file) ops) h in
-    rw (or_as (bytes_eq queue (codes "supervisor")) (is_declared file (codes "dfcq") queue) (is_declared other (codes "dfcq") queue) (t.queues queue) parts.0, all_as (is_known_op file) (is_known_op other) (op_again file other t) ops parts.1) refl
+    rw (
+      or_as (bytes_eq queue (codes "supervisor")) (is_declared file (codes "dfcq") queue)
+          (is_declared other (codes "dfcq") queue) (t.queues queue) parts.0,
+      all_as (is_known_op file) (is_known_op other) (op_again file other t) ops parts.1,
+    ) refl
 known_again file other t c (line.Idfc name ops) h = all_as (is_known_op file) (is_known_op other) (op_again file other t) ops h
 known_again file other t c (line.IrqBody k ops) h = all_as (is_known_op file) (is_known_op other) (op_again file other t) ops h
 known_again file other t c (line.Instr what) h = instr_again file other c.script.fast t what h
@@ -90,31 +95,60 @@ first_is : (sort name : List ℕ) (two : Declared) → declares sort name two �
 first_is sort name two h = (both (bytes_eq two.0 sort) (bytes_eq two.1 name) h).0
 
 -- a line that declares a name of a sort stays
-line_carries : (sort name : List ℕ) (l : SourceLine) → IsKept sort → declares sort name (first_two (source_words l)) ≡ true → is_declared (twos (tells l)) sort name ≡ true
-line_carries sort name (line.Pool n) kept h = let e : bytes_eq (codes "pool") sort ≡ true = first_is sort name (first_two (source_words (line.Pool n))) h in let off = kept.pool in absurd (cc)
-line_carries sort name (line.Fast n) kept h = let e : bytes_eq (codes "fast") sort ≡ true = first_is sort name (first_two (source_words (line.Fast n))) h in let off = kept.fast in absurd (cc)
-line_carries sort name line.Schedule kept h = let e : bytes_eq (codes "schedule") sort ≡ true = first_is sort name (first_two (source_words line.Schedule)) h in let off = kept.schedule in absurd (cc)
-line_carries sort name (line.Go n) kept h = let e : bytes_eq (codes "go") sort ≡ true = first_is sort name (first_two (source_words (line.Go n))) h in let off = kept.go in absurd (cc)
-line_carries sort name (line.IrqSlot k) kept h = let e : bytes_eq (codes "irq") sort ≡ true = first_is sort name (first_two (source_words (line.IrqSlot k))) h in let off = kept.irq in absurd (cc)
-line_carries sort name line.Tick kept h = let e : bytes_eq (codes "tick") sort ≡ true = first_is sort name (first_two (source_words line.Tick)) h in let off = kept.tick in absurd (cc)
-line_carries sort name line.End kept h = let e : bytes_eq (codes "end") sort ≡ true = first_is sort name (first_two (source_words line.End)) h in let off = kept.last in absurd (cc)
+line_carries : (sort name : List ℕ) (l : SourceLine) → IsKept sort
+    → declares sort name (first_two (source_words l)) ≡ true → is_declared (twos (tells l)) sort name ≡ true
+line_carries sort name (line.Pool n) kept h =
+    let e : bytes_eq (codes "pool") sort ≡ true = first_is sort name (first_two (source_words (line.Pool n))) h in
+    let off = kept.pool in
+    absurd (cc)
+line_carries sort name (line.Fast n) kept h =
+    let e : bytes_eq (codes "fast") sort ≡ true = first_is sort name (first_two (source_words (line.Fast n))) h in
+    let off = kept.fast in
+    absurd (cc)
+line_carries sort name line.Schedule kept h =
+    let e : bytes_eq (codes "schedule") sort ≡ true = first_is sort name (first_two (source_words line.Schedule)) h in
+    let off = kept.schedule in
+    absurd (cc)
+line_carries sort name (line.Go n) kept h =
+    let e : bytes_eq (codes "go") sort ≡ true = first_is sort name (first_two (source_words (line.Go n))) h in
+    let off = kept.go in
+    absurd (cc)
+line_carries sort name (line.IrqSlot k) kept h =
+    let e : bytes_eq (codes "irq") sort ≡ true = first_is sort name (first_two (source_words (line.IrqSlot k))) h in
+    let off = kept.irq in
+    absurd (cc)
+line_carries sort name line.Tick kept h =
+    let e : bytes_eq (codes "tick") sort ≡ true = first_is sort name (first_two (source_words line.Tick)) h in
+    let off = kept.tick in
+    absurd (cc)
+line_carries sort name line.End kept h =
+    let e : bytes_eq (codes "end") sort ≡ true = first_is sort name (first_two (source_words line.End)) h in
+    let off = kept.last in
+    absurd (cc)
 line_carries sort name _ kept h = rw h refl
 
 -- one of two parts declares it
 in_front : (sort name : List ℕ) (xs ys : List SourceLine) → is_declared (twos xs) sort name ≡ true → is_declared (twos (xs ++ ys)) sort name ≡ true
 in_front sort name [] ys h = absurd (cc)
-in_front sort name (x ∷ xs) ys h = or_as (declares sort name (first_two (source_words x))) (is_declared (twos xs) sort name) (is_declared (twos (xs ++ ys)) sort name) (in_front sort name xs ys) h
+in_front sort name (x ∷ xs) ys h =
+    or_as (declares sort name (first_two (source_words x))) (is_declared (twos xs) sort name)
+    (is_declared (twos (xs ++ ys)) sort name) (in_front sort name xs ys) h
 
 in_rest : (sort name : List ℕ) (xs ys : List SourceLine) → is_declared (twos ys) sort name ≡ true → is_declared (twos (xs ++ ys)) sort name ≡ true
 in_rest sort name [] ys h = h
-in_rest sort name (x ∷ xs) ys h = or_later (declares sort name (first_two (source_words x))) (is_declared (twos (xs ++ ys)) sort name) (in_rest sort name xs ys h)
+in_rest sort name (x ∷ xs) ys h =
+    or_later (declares sort name (first_two (source_words x))) (is_declared (twos (xs ++ ys)) sort name)
+    (in_rest sort name xs ys h)
 
-names_carry : (sort : List ℕ) → IsKept sort → (lines : List SourceLine) (name : List ℕ) → is_declared (twos lines) sort name ≡ true → is_declared (twos (said lines)) sort name ≡ true
+names_carry : (sort : List ℕ) → IsKept sort → (lines : List SourceLine) (name : List ℕ)
+    → is_declared (twos lines) sort name ≡ true → is_declared (twos (said lines)) sort name ≡ true
 names_carry sort kept [] name h = absurd (cc)
-names_carry sort kept (l ∷ ls) name h = elim (or_true (declares sort name (first_two (source_words l))) (is_declared (twos ls) sort name) h) as (λ _. is_declared (twos (tells l ++ said ls)) sort name ≡ true) [
-  | inl e ↦ in_front sort name (tells l) (said ls) (line_carries sort name l kept e)
-  | inr e ↦ in_rest sort name (tells l) (said ls) (names_carry sort kept ls name e)
-]
+names_carry sort kept (l ∷ ls) name h =
+    elim (or_true (declares sort name (first_two (source_words l))) (is_declared (twos ls) sort name) h) as
+    (λ _. is_declared (twos (tells l ++ said ls)) sort name ≡ true) [
+      | inl e ↦ in_front sort name (tells l) (said ls) (line_carries sort name l kept e)
+      | inr e ↦ in_rest sort name (tells l) (said ls) (names_carry sort kept ls name e)
+    ]
 
 -- no slot stands before `schedule`
 pub no_slot : (awaits : Bool) (rank : ℕ) → rank ≤ 8 → may_stand (Some rank) awaits of.Slot ≡ true → ⊥
@@ -125,33 +159,48 @@ pub not_zero : (n : ℕ) → (suc n == 0) ≡ false
 not_zero n = grind (arith, nat_tests)
 
 -- the interrupts that lines declare
-keeps : (number : List ℕ) (two : Declared) (file other : List Declared) → (is_irq_declared file number ≡ true → is_irq_declared other number ≡ true) → is_irq_declared (two ∷ file) number ≡ true → is_irq_declared (two ∷ other) number ≡ true
+keeps : (number : List ℕ) (two : Declared) (file other : List Declared)
+    → (is_irq_declared file number ≡ true → is_irq_declared other number ≡ true)
+    → is_irq_declared (two ∷ file) number ≡ true → is_irq_declared (two ∷ other) number ≡ true
 keeps number two file other go h =
     let parts = both (not (bytes_eq two.0 (codes "schedule"))) (declares (codes "irq") number two || is_irq_declared file number) h in
     rw (parts.0, or_as (declares (codes "irq") number two) (is_irq_declared file number) (is_irq_declared other number) go parts.1) refl
 
-irqs_carry : (file : List Declared) (s : Script) (rank : ℕ) (awaits : Bool) (lines rest : List SourceLine) (number : List ℕ) → rank ≤ 8 → AllStand file (so_far s rank awaits) lines → is_irq_declared (twos lines) number ≡ true → is_irq_declared (twos (said lines ++ rest)) number ≡ true
+irqs_carry : (file : List Declared) (s : Script) (rank : ℕ) (awaits : Bool) (lines rest : List SourceLine)
+    (number : List ℕ)
+    → rank ≤ 8 → AllStand file (so_far s rank awaits) lines → is_irq_declared (twos lines) number ≡ true
+    → is_irq_declared (twos (said lines ++ rest)) number ≡ true
 irqs_carry file s rank awaits [] rest number le stand h = absurd (cc)
-irqs_carry file s rank awaits (line.Pool zero ∷ ls) rest number le stand h = irqs_carry file (told s (line.Pool zero)) 1 false ls rest number (omega arith) stand.1 h
-irqs_carry file s rank awaits (line.Pool (suc n) ∷ ls) rest number le stand h = rw (not_zero n) (irqs_carry file (told s (line.Pool (suc n))) 1 false ls rest number (omega arith) stand.1 h)
-irqs_carry file s rank awaits (line.Fast zero ∷ ls) rest number le stand h = irqs_carry file (told s (line.Fast zero)) 2 false ls rest number (omega arith) stand.1 h
-irqs_carry file s rank awaits (line.Fast (suc n) ∷ ls) rest number le stand h = rw (not_zero n) (irqs_carry file (told s (line.Fast (suc n))) 2 false ls rest number (omega arith) stand.1 h)
+irqs_carry file s rank awaits (line.Pool zero ∷ ls) rest number le stand h =
+    irqs_carry file (told s (line.Pool zero)) 1 false ls rest number (omega arith) stand.1 h
+irqs_carry file s rank awaits (line.Pool (suc n) ∷ ls) rest number le stand h =
+    rw (not_zero n) (irqs_carry file (told s (line.Pool (suc n))) 1 false ls rest number (omega arith) stand.1 h)
+irqs_carry file s rank awaits (line.Fast zero ∷ ls) rest number le stand h =
+    irqs_carry file (told s (line.Fast zero)) 2 false ls rest number (omega arith) stand.1 h
+irqs_carry file s rank awaits (line.Fast (suc n) ∷ ls) rest number le stand h =
+    rw (not_zero n) (irqs_carry file (told s (line.Fast (suc n))) 2 false ls rest number (omega arith) stand.1 h)
 irqs_carry file s rank awaits (line.Schedule ∷ ls) rest number le stand h = absurd (cc)
 irqs_carry file s rank awaits (line.End ∷ ls) rest number le stand h =
     let none = last_line file s ls stand.1 in
-    let alone : is_irq_declared (twos (line.End ∷ [])) number ≡ true = subst (λ (xs : List SourceLine). is_irq_declared (twos (line.End ∷ xs)) number ≡ true) none h in
+    let alone : is_irq_declared (twos (line.End ∷ [])) number ≡ true =
+    subst (λ (xs : List SourceLine). is_irq_declared (twos (line.End ∷ xs)) number ≡ true) none h in
     absurd (cc)
 irqs_carry file s rank awaits (line.Go count ∷ ls) rest number le stand h = absurd (no_slot awaits rank le stand.0.order)
 irqs_carry file s rank awaits (line.IrqSlot k ∷ ls) rest number le stand h = absurd (no_slot awaits rank le stand.0.order)
 irqs_carry file s rank awaits (line.Tick ∷ ls) rest number le stand h = absurd (no_slot awaits rank le stand.0.order)
 irqs_carry file s rank awaits (l ∷ ls) rest number le stand h =
-    keeps number (first_two (source_words l)) (twos ls) (twos (said ls ++ rest)) (irqs_carry file (told s l) (rank_of rank (kind_of l)) (is_process (kind_of l)) ls rest number (omega arith) stand.1) h
+    keeps number (first_two (source_words l)) (twos ls) (twos (said ls ++ rest))
+    (irqs_carry file (told s l) (rank_of rank (kind_of l)) (is_process (kind_of l)) ls rest number
+    (omega arith) stand.1) h
 
 -- the lines behind the header, and what stands behind those of them that declare
-pub carries : (file : List Declared) (lines rest : List SourceLine) → AllStand file (so_far empty_script 0 false) lines → Carries (twos (line.Header ∷ lines)) (twos (line.Header ∷ (said lines ++ rest)))
+pub carries : (file : List Declared) (lines rest : List SourceLine) → AllStand file (so_far empty_script 0 false) lines
+    → Carries (twos (line.Header ∷ lines)) (twos (line.Header ∷ (said lines ++ rest)))
 carries file lines rest stand =
     let all : List SourceLine = line.Header ∷ lines in
-    let name_carries : (sort : List ℕ) → IsKept sort → (name : List ℕ) → is_declared (twos all) sort name ≡ true → is_declared (twos (said all ++ rest)) sort name ≡ true = λ sort kept name h. in_front sort name (said all) rest (names_carry sort kept all name h) in
+    let name_carries : (sort : List ℕ) → IsKept sort → (name : List ℕ) → is_declared (twos all) sort name ≡ true
+    → is_declared (twos (said all ++ rest)) sort name ≡ true =
+    λ sort kept name h. in_front sort name (said all) rest (names_carry sort kept all name h) in
     let queues = name_carries (codes "dfcq") (record { pool = refl; fast = refl; schedule = refl; go = refl; irq = refl; tick = refl; last = refl }) in
     let threads = name_carries (codes "thread") (record { pool = refl; fast = refl; schedule = refl; go = refl; irq = refl; tick = refl; last = refl }) in
     let kernel = name_carries (codes "kthread") (record { pool = refl; fast = refl; schedule = refl; go = refl; irq = refl; tick = refl; last = refl }) in
@@ -159,8 +208,16 @@ carries file lines rest stand =
       queues = queues;
       dfcs = name_carries (codes "dfc") (record { pool = refl; fast = refl; schedule = refl; go = refl; irq = refl; tick = refl; last = refl });
       idfcs = name_carries (codes "idfc") (record { pool = refl; fast = refl; schedule = refl; go = refl; irq = refl; tick = refl; last = refl });
-      threads = λ name. or_either (is_declared (twos all) (codes "thread") name || is_declared (twos all) (codes "kthread") name) (is_declared (twos all) (codes "dfcq") name) (is_declared (twos (said all ++ rest)) (codes "thread") name || is_declared (twos (said all ++ rest)) (codes "kthread") name) (is_declared (twos (said all ++ rest)) (codes "dfcq") name)
-          (or_either (is_declared (twos all) (codes "thread") name) (is_declared (twos all) (codes "kthread") name) (is_declared (twos (said all ++ rest)) (codes "thread") name) (is_declared (twos (said all ++ rest)) (codes "kthread") name) (threads name) (kernel name))
+      threads =
+          λ name. or_either (is_declared (twos all) (codes "thread") name || is_declared (twos all) (codes "kthread") name)
+          (is_declared (twos all) (codes "dfcq") name)
+          (is_declared (twos (said all ++ rest)) (codes "thread") name || is_declared (twos (said all ++ rest))
+          (codes "kthread") name) (is_declared (twos (said all ++ rest)) (codes "dfcq") name)
+          (or_either (is_declared (twos all) (codes "thread") name) (is_declared (twos all) (codes "kthread") name)
+          (is_declared (twos (said all ++ rest)) (codes "thread") name)
+          (is_declared (twos (said all ++ rest)) (codes "kthread") name) (threads name) (kernel name))
           (queues name);
-      irqs = λ number. keeps number (first_two (source_words line.Header)) (twos lines) (twos (said lines ++ rest)) (irqs_carry file empty_script 0 false lines rest number (omega arith) stand);
+      irqs =
+          λ number. keeps number (first_two (source_words line.Header)) (twos lines) (twos (said lines ++ rest))
+          (irqs_carry file empty_script 0 false lines rest number (omega arith) stand);
     }

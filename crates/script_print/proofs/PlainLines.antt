@@ -47,7 +47,8 @@ visible_more (x ∷ xs) ys h more =
     let parts = both (is_visible x) (list_all is_visible xs) h in
     rw (parts.0, visible_more xs ys parts.1 more) refl
 
-all_visible : (test : ℕ → Bool) → ((c : ℕ) → test c ≡ true → is_visible c ≡ true) → (word : List ℕ) → list_all test word ≡ true → list_all is_visible word ≡ true
+all_visible : (test : ℕ → Bool) → ((c : ℕ) → test c ≡ true → is_visible c ≡ true) → (word : List ℕ)
+    → list_all test word ≡ true → list_all is_visible word ≡ true
 all_visible test see [] h = refl
 all_visible test see (c ∷ cs) h = let parts = both (test c) (list_all test cs) h in rw (see c parts.0, all_visible test see cs parts.1) refl
 
@@ -101,7 +102,9 @@ digits_are (c ∷ cs) h =
     record { some = refl; visible = all_visible is_ascii_digit digit_visible (c ∷ cs) front.1 }
 
 number_digits : (n : ℕ) → n < 4294967296 → Digits (decimal n)
-number_digits n small = digits_are (decimal n) (natural_is_number 0 4294967295 (decimal n) (natural_again 0 4294967295 n (omega arith) (omega arith) (omega arith)).0)
+number_digits n small =
+    digits_are (decimal n) (natural_is_number 0 4294967295 (decimal n)
+    (natural_again 0 4294967295 n (omega arith) (omega arith) (omega arith)).0)
 
 number_plain : (n : ℕ) → n < 4294967296 → is_plain (decimal n) ≡ true
 number_plain n small =
@@ -117,7 +120,8 @@ lettered_plain letter n seen small =
     let short : nat_le (length (letter ∷ decimal n)) 16 ≡ true = le-leb (length (letter ∷ decimal n)) 16 (omega arith) in
     rw (seen, d.visible, short) refl
 
-signed_plain : (low high : ℕ) (z : ℤ) → low < 2147483648 → high < 2147483648 → (int_le (negsuc low) z && int_le z (pos high)) ≡ true → is_plain (signed_decimal z) ≡ true
+signed_plain : (low high : ℕ) (z : ℤ) → low < 2147483648 → high < 2147483648
+    → (int_le (negsuc low) z && int_le z (pos high)) ≡ true → is_plain (signed_decimal z) ≡ true
 signed_plain low high (pos n) fits small h =
     let le = leb-true n high (both (int_le (negsuc low) (pos n)) (int_le (pos n) (pos high)) h).1 in
     number_plain n (omega arith)
@@ -144,7 +148,9 @@ arg_plain (arg.Descriptor x y z) h =
     let two = visible_more (codes "d:" ++ decimal x) (codes ":") one refl in
     let three = visible_more (codes "d:" ++ decimal x ++ codes ":") (decimal y) two (size_visible y front.1) in
     let four = visible_more (codes "d:" ++ decimal x ++ codes ":" ++ decimal y) (codes ":") three refl in
-    let seen : list_all is_visible (arg_word (arg.Descriptor x y z)) ≡ true = visible_more (codes "d:" ++ decimal x ++ codes ":" ++ decimal y ++ codes ":") (decimal z) four (size_visible z parts.1) in
+    let seen : list_all is_visible (arg_word (arg.Descriptor x y z)) ≡ true =
+    visible_more (codes "d:" ++ decimal x ++ codes ":" ++ decimal y ++ codes ":") (decimal z) four
+    (size_visible z parts.1) in
     let size : length (arg_word (arg.Descriptor x y z)) ≤ 16 = simp length-append (omega arith) in
     let short : nat_le (length (arg_word (arg.Descriptor x y z))) 16 ≡ true = le-leb (length (arg_word (arg.Descriptor x y z))) 16 size in
     rw (seen, short) refl
@@ -185,7 +191,8 @@ value_plain operand.Held n fits h = refl
 value_plain operand.Slots s fits h = slots_plain s h
 value_plain operand.Argument a fits h = arg_plain a h
 
-values_plain : (operands : List Operand) (values : Values operands) → list_all is_printable operands ≡ true → are_values operands values ≡ true → ArePlain (value_words operands values)
+values_plain : (operands : List Operand) (values : Values operands) → list_all is_printable operands ≡ true
+    → are_values operands values ≡ true → ArePlain (value_words operands values)
 values_plain [] values fits h = tt
 values_plain (what ∷ operands) values fits h =
     let f = both (is_printable what) (list_all is_printable operands) fits in
@@ -238,7 +245,8 @@ record PlainOp (what : Op) : Type 0 where
 plain_short : (word : List ℕ) → is_plain word ≡ true → length word ≤ 16
 plain_short word h = leb-true (length word) 16 (both (not (is_empty word) && list_all is_visible word) (nat_le (length word) 16) h).1
 
-named_op : (what : Op) (first name : List ℕ) → op_words what ≡ first ∷ name ∷ [] → is_plain first ≡ true → length first ≤ 8 → is_object_name name ≡ true → PlainOp what
+named_op : (what : Op) (first name : List ℕ) → op_words what ≡ first ∷ name ∷ [] → is_plain first ≡ true
+    → length first ≤ 8 → is_object_name name ≡ true → PlainOp what
 named_op what first name e seen small h =
     let n = name_plain name h in
     let size = plain_short name n in
@@ -295,7 +303,10 @@ values_few : (operands : List Operand) (values : Values operands) → length (va
 values_few [] values = refl
 values_few (what ∷ operands) values = ap suc (values_few operands values.1)
 
-line_by : (kind : Option BodyKind) (operands : List Operand) (first : List ℕ) (values : Values operands) (ops : List Op) → (list_all is_printable operands && is_few kind operands) ≡ true → is_plain first ≡ true → is_skipped (first ∷ []) ≡ false → are_values operands values ≡ true → is_body kind ops ≡ true → length ops ≤ 4 → ArePrinted (first ∷ (value_words operands values ++ body_words ops))
+line_by : (kind : Option BodyKind) (operands : List Operand) (first : List ℕ) (values : Values operands) (ops : List Op)
+    → (list_all is_printable operands && is_few kind operands) ≡ true → is_plain first ≡ true
+    → is_skipped (first ∷ []) ≡ false → are_values operands values ≡ true → is_body kind ops ≡ true → length ops ≤ 4
+    → ArePrinted (first ∷ (value_words operands values ++ body_words ops))
 line_by None operands first values (what ∷ ops) few seen told range right four = absurd (cc)
 line_by None operands first values [] few seen told range right four =
     let f = both (list_all is_printable operands) (nat_le (length operands) 7) few in
@@ -304,7 +315,12 @@ line_by None operands first values [] few seen told range right four =
     let count = values_few operands values in
     let at_most = leb-true (length operands) 7 f.1 in
     let small = plain_short first seen in
-    record { told = first_told first (value_words operands values ++ []) told; some = omega arith; short = simp (flat_map-append, length-append) (omega arith); plain = (seen, plain_more (value_words operands values) [] plain tt) }
+    record {
+      told = first_told first (value_words operands values ++ []) told;
+      some = omega arith;
+      short = simp (flat_map-append, length-append) (omega arith);
+      plain = (seen, plain_more (value_words operands values) [] plain tt);
+    }
 line_by (Some kind) operands first values [] few seen told range right four = absurd (cc)
 line_by (Some kind) operands first values (what ∷ ops) few seen told range right four =
     let f = both (list_all is_printable operands) (nat_le (length operands) 3) few in
@@ -315,11 +331,17 @@ line_by (Some kind) operands first values (what ∷ ops) few seen told range rig
     let small = plain_short first seen in
     let b = body_plain kind (what ∷ ops) right in
     let body_size = b.short in
-    record { told = first_told first (value_words operands values ++ body_words (what ∷ ops)) told; some = omega arith; short = simp (flat_map-append, length-append) (omega arith); plain = (seen, plain_more (value_words operands values) (body_words (what ∷ ops)) plain b.plain) }
+    record {
+      told = first_told first (value_words operands values ++ body_words (what ∷ ops)) told;
+      some = omega arith;
+      short = simp (flat_map-append, length-append) (omega arith);
+      plain = (seen, plain_more (value_words operands values) (body_words (what ∷ ops)) plain b.plain);
+    }
 
 pub line_printed : (l : SourceLine) → is_source_line l ≡ true → length (form_of l).body ≤ 4 → ArePrinted (source_words l)
 line_printed l v four =
     let f = form_of l in
     let parts = both (are_values (operands_of f.keyword f.second) f.values) (is_body (body_of f.keyword f.second) f.body) v in
     let first = first_plain f.keyword in
-    line_by (body_of f.keyword f.second) (operands_of f.keyword f.second) (keyword_text f.keyword) f.values f.body (form_few f.second f.keyword) first.0 first.1 parts.0 parts.1 four
+    line_by (body_of f.keyword f.second) (operands_of f.keyword f.second) (keyword_text f.keyword) f.values f.body
+    (form_few f.second f.keyword) first.0 first.1 parts.0 parts.1 four

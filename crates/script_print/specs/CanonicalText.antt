@@ -8,6 +8,7 @@ use Rattle.script_types.specs.declared.declaration.IrqBody.{IrqBody}
 use Rattle.script_types.specs.declared.declaration.ProcessDecl.{ProcessDecl}
 use Rattle.script_types.specs.declared.declaration.QueueDecl.{QueueDecl}
 use Rattle.script_types.specs.declared.declaration.ThreadDecl.{ThreadDecl}
+use Rattle.script_types.specs.declared.instruction.Instr.{Instr}
 use Rattle.script_types.specs.declared.script.Script.{Script}
 use Rattle.script_types.specs.declared.script.Slot.{Slot}
 use Rattle.script_types.specs.declared.script.Slot.TheVariants as slot
@@ -101,6 +102,10 @@ source_text l = spaced (source_words l) ++ 10 ∷ []
 
 abbrev pub source_texts : List SourceLine → List ℕ
 source_texts lines = flat_map source_text lines
+
+-- the text of an instruction's line
+unfoldable pub instr_text : Instr → List ℕ
+instr_text what = source_text (line.Instr what)
 
 -- the canonical text
 unfoldable pub canonical_text : Script → List ℕ

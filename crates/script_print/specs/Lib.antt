@@ -1,2 +1,3 @@
 pub mod CanonicalText
 pub mod PrintedWord
+pub mod Spelled

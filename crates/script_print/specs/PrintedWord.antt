@@ -4,7 +4,7 @@ use Rattle.std.specs.Prelude.{ℕ, ◌==◌, if◌then◌else◌, List, [], ◌�
 use Rattle.script_types.specs.Keywords.{keyword_text}
 use Rattle.script_print.specs.declared.word.Word.{Word}
 use Rattle.script_print.specs.declared.word.Word.TheVariants as word
-use Rattle.script_types.specs.Operands.{kind_word, arg_word}
+use Rattle.script_types.specs.Operands.{kind_word, slots_word, arg_word}
 
 -- the text of each word
 abbrev pub word_text : Word → List ℕ
@@ -21,6 +21,7 @@ word_text (word.Message x) = 109 ∷ decimal x
 word_text (word.Status x) = 115 ∷ decimal x
 word_text (word.DeviceNumber x) = 100 ∷ decimal x
 word_text (word.FastMutex x) = 102 ∷ decimal x
+word_text (word.Slotted s) = slots_word s
 word_text (word.Argument a) = arg_word a
 
 -- what stands before the operation of this number in a body

@@ -5,11 +5,11 @@ ghost use Rattle.std.specs.Prelude.{◌≡◌, [], ◌∷◌, ◌++◌, decimal,
 ghost use Rattle.script_print.specs.CanonicalText.{spaced};
 ghost use Rattle.script_types.specs.Keywords.{keyword_text};
 ghost use Rattle.script_print.specs.PrintedWord.{word_text};
-ghost use Rattle.script_types.specs.Operands.{kind_word, arg_word};
+ghost use Rattle.script_types.specs.Operands.{kind_word, slots_word, arg_word};
 
 use itoa::Buffer;
 use script_words::Keyword;
-use sym_base::{Arg, Kind, Name, NoMemory};
+use sym_base::{Arg, Kind, Name, NoMemory, Slots};
 
 /// A word of a printed line.
 #[derive(Clone, Copy)]
@@ -40,6 +40,8 @@ pub enum Word {
     DeviceNumber(u8),
     /// A fast mutex, as `f0`.
     FastMutex(u8),
+    /// The slots of a session: their number, or `pool`.
+    Slotted(Slots),
     /// An argument of a message.
     Argument(Arg),
 }
@@ -91,6 +93,16 @@ fn put_kind(out: &mut Vec<u8>, kind: Kind) -> Result<(), NoMemory>
     }
 }
 
+/// Adds the slots of a session.
+fn put_slots(out: &mut Vec<u8>, slots: Slots) -> Result<(), NoMemory>
+    ensures { OnOk result (out.new.items ≡ out.old.items ++ slots_word slots) }
+{
+    match slots {
+        Slots::Own(count) => put_number(out, u64::from(count)),
+        Slots::Pool => put(out, b"pool"),
+    }
+}
+
 /// Adds an argument of a message.
 fn put_argument(out: &mut Vec<u8>, argument: Arg) -> Result<(), NoMemory>
     ensures { OnOk result (out.new.items ≡ out.old.items ++ arg_word argument) }
@@ -130,6 +142,7 @@ fn put_word(out: &mut Vec<u8>, word: Word) -> Result<(), NoMemory>
         Word::Status(number) => put_lettered(out, b's', number),
         Word::DeviceNumber(number) => put_lettered(out, b'd', number),
         Word::FastMutex(number) => put_lettered(out, b'f', number),
+        Word::Slotted(slots) => put_slots(out, slots),
         Word::Argument(argument) => put_argument(out, argument),
     }
 }

@@ -25,7 +25,8 @@ abbrev first_bad : List (List ℕ) → Option (ℕ × Reason)
 first_bad lines = bad_line (read_text (text_of lines))
 
 -- no line is bad
-accepted : first_bad (codes "# a comment" ∷ codes "eka2 1" ∷ codes "" ∷ codes "  process   p  " ∷ codes "thread a 10" ∷ codes "create mutex m r0" ∷ codes "schedule" ∷ codes "go 3" ∷ codes "end" ∷ []) ≡ None
+accepted : first_bad (codes "# a comment" ∷ codes "eka2 1" ∷ codes "" ∷ codes "  process   p  " ∷ codes "thread a 10" ∷
+    codes "create mutex m r0" ∷ codes "schedule" ∷ codes "go 3" ∷ codes "end" ∷ []) ≡ None
 unfolding read_text text_lines first_reason after_text words_of keyword_of line_as word_text
 accepted = refl
 

@@ -35,12 +35,17 @@ and_assoc true b c = refl
 and_assoc false b c = refl
 
 -- a name that one more line declares
-declared_more : (file : List Declared) (sort name first second : List ℕ) → is_declared (file ++ (first, second) ∷ []) sort name ≡ (is_declared file sort name || (bytes_eq first sort && bytes_eq second name))
+declared_more : (file : List Declared) (sort name first second : List ℕ)
+    → is_declared (file ++ (first, second) ∷ []) sort name
+    ≡ (is_declared file sort name || (bytes_eq first sort && bytes_eq second name))
 declared_more file sort name first second =
-    list_any-append (declares sort name) file ((first, second) ∷ []) ∙ ap (λ (b : Bool). is_declared file sort name || b) (sym (or_none (bytes_eq first sort && bytes_eq second name)))
+    list_any-append (declares sort name) file ((first, second) ∷ [])
+    ∙ ap (λ (b : Bool). is_declared file sort name || b) (sym (or_none (bytes_eq first sort && bytes_eq second name)))
 
 thread_more : (file : List Declared) (name first second : List ℕ)
-    → is_thread_declared (file ++ (first, second) ∷ []) name ≡ (is_thread_declared file name || ((bytes_eq first (codes "thread") || bytes_eq first (codes "kthread") || bytes_eq first (codes "dfcq")) && bytes_eq second name))
+    → is_thread_declared (file ++ (first, second) ∷ []) name
+    ≡ (is_thread_declared file name || ((bytes_eq first (codes "thread") || bytes_eq first
+    (codes "kthread") || bytes_eq first (codes "dfcq")) && bytes_eq second name))
 thread_more file name first second =
     let A = is_declared file (codes "thread") name in
     let B = is_declared file (codes "kthread") name in
@@ -57,28 +62,37 @@ thread_more file name first second =
     ∙ ap (λ (b : Bool). (A || B || C) || b) (sym (and_over (s || t) u e ∙ ap (λ (b : Bool). b || (u && e)) (and_over s t e))))
 
 -- a line that declares an interrupt isn't `schedule`
-irq_alone : (first : List ℕ) (b test : Bool) → bytes_eq first (codes "irq") ≡ test → (not (bytes_eq first (codes "schedule")) && ((test && b) || false)) ≡ (test && b)
+irq_alone : (first : List ℕ) (b test : Bool) → bytes_eq first (codes "irq") ≡ test
+    → (not (bytes_eq first (codes "schedule")) && ((test && b) || false)) ≡ (test && b)
 irq_alone first b true h = let same = same_bytes first (codes "irq") h in rw same (sym (or_none b))
 irq_alone first b false h = and_false (not (bytes_eq first (codes "schedule")))
 
 -- the tests of the first line, with what is told of the lines behind it
-irq_step : (schedule here later before more : Bool) → (not schedule && (here || (later || (not before && more)))) ≡ ((not schedule && (here || later)) || (not (schedule || before) && more))
+irq_step : (schedule here later before more : Bool)
+    → (not schedule && (here || (later || (not before && more))))
+    ≡ ((not schedule && (here || later)) || (not (schedule || before) && more))
 irq_step true here later before more = refl
 irq_step false here later before more = sym (or_assoc here later (not before && more))
 
 -- an interrupt that one more line declares
 irq_more : (file : List Declared) (number first second : List ℕ)
-    → is_irq_declared (file ++ (first, second) ∷ []) number ≡ (is_irq_declared file number || ((not (list_any is_schedule file) && bytes_eq first (codes "irq")) && bytes_eq second number))
+    → is_irq_declared (file ++ (first, second) ∷ []) number
+    ≡ (is_irq_declared file number || ((not (list_any is_schedule file) && bytes_eq first (codes "irq")) && bytes_eq
+    second number))
 irq_more [] number first second = irq_alone first (bytes_eq second number) (bytes_eq first (codes "irq")) refl
 irq_more (two ∷ file) number first second =
     let tests = irq_more file number first second in
     let same = and_assoc (not (list_any is_schedule file)) (bytes_eq first (codes "irq")) (bytes_eq second number) in
     let same_here = and_assoc (not (list_any is_schedule (two ∷ file))) (bytes_eq first (codes "irq")) (bytes_eq second number) in
-    rw (tests, same, same_here) (irq_step (is_schedule two) (declares (codes "irq") number two) (is_irq_declared file number) (list_any is_schedule file) (bytes_eq first (codes "irq") && bytes_eq second number))
+    rw (tests, same, same_here) (irq_step (is_schedule two) (declares (codes "irq") number two)
+    (is_irq_declared file number) (list_any is_schedule file) (bytes_eq first (codes "irq") && bytes_eq second number))
 
-schedule_more : (file : List Declared) (first second : List ℕ) → list_any is_schedule (file ++ (first, second) ∷ []) ≡ (list_any is_schedule file || bytes_eq first (codes "schedule"))
+schedule_more : (file : List Declared) (first second : List ℕ)
+    → list_any is_schedule (file ++ (first, second) ∷ [])
+    ≡ (list_any is_schedule file || bytes_eq first (codes "schedule"))
 schedule_more file first second =
-    list_any-append is_schedule file ((first, second) ∷ []) ∙ ap (λ (b : Bool). list_any is_schedule file || b) (sym (or_none (bytes_eq first (codes "schedule"))))
+    list_any-append is_schedule file ((first, second) ∷ [])
+    ∙ ap (λ (b : Bool). list_any is_schedule file || b) (sym (or_none (bytes_eq first (codes "schedule"))))
 
 -- a set of one sort
 sort_more : (old new known : Bool) (test sort : Bool) (e : Bool) → test ≡ sort → new ≡ (old || (test && e)) → old ≡ known → new ≡ (known || (sort && e))
@@ -105,6 +119,9 @@ knows_more old new first second t q d i r is_t threads is_q queues is_d dfcs is_
       queues = λ name. sort_more _ _ _ _ _ _ is_q (queues name) (knows.queues name) ∙ sym (declared_more file (codes "dfcq") name first second);
       dfcs = λ name. sort_more _ _ _ _ _ _ is_d (dfcs name) (knows.dfcs name) ∙ sym (declared_more file (codes "dfc") name first second);
       idfcs = λ name. sort_more _ _ _ _ _ _ is_i (idfcs name) (knows.idfcs name) ∙ sym (declared_more file (codes "idfc") name first second);
-      irqs = λ k small. sort_more _ _ _ _ _ _ (is_r ∙ ap (λ (b : Bool). not b && bytes_eq first (codes "irq")) knows.scheduled) (irqs k small) (knows.irqs k small) ∙ sym (irq_more file (decimal k) first second);
+      irqs =
+          λ k small. sort_more _ _ _ _ _ _ (is_r ∙ ap (λ (b : Bool). not b && bytes_eq first (codes "irq")) knows.scheduled)
+          (irqs k small) (knows.irqs k small)
+          ∙ sym (irq_more file (decimal k) first second);
       scheduled = scheduled ∙ ap (λ (b : Bool). b || bytes_eq first (codes "schedule")) knows.scheduled ∙ sym (schedule_more file first second);
     }

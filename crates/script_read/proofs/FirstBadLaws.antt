@@ -21,15 +21,33 @@ pub record IsFound {A : Type 0} (test : A → Bool) (xs : List A) (x : A) : Type
   pub none : AllByRecursion (λ y. test y ≡ false) before
   pub passes : test x ≡ true
 
-find_step : {A : Type 0} (test : A → Bool) (y : A) (ys : List A) (x : A) (b : Bool) → test y ≡ b → cond b (Some y) (find test ys) ≡ Some x → (find test ys ≡ Some x → IsFound test ys x) → IsFound test (y ∷ ys) x
-find_step test y ys x true e h later = let same : y ≡ x = cc in record { before = []; behind = ys; order = ap (λ z. z ∷ ys) same; none = tt; passes = subst (λ z. test z ≡ true) same e }
-find_step test y ys x false e h later = let f = later h in record { before = y ∷ f.before; behind = f.behind; order = ap (λ zs. y ∷ zs) f.order; none = (e, f.none); passes = f.passes }
+find_step : {A : Type 0} (test : A → Bool) (y : A) (ys : List A) (x : A) (b : Bool) → test y ≡ b
+    → cond b (Some y) (find test ys) ≡ Some x → (find test ys ≡ Some x → IsFound test ys x) → IsFound test (y ∷ ys) x
+find_step test y ys x true e h later =
+    let same : y ≡ x = cc in
+    record {
+      before = [];
+      behind = ys;
+      order = ap (λ z. z ∷ ys) same;
+      none = tt;
+      passes = subst (λ z. test z ≡ true) same e;
+    }
+find_step test y ys x false e h later =
+    let f = later h in
+    record {
+      before = y ∷ f.before;
+      behind = f.behind;
+      order = ap (λ zs. y ∷ zs) f.order;
+      none = (e, f.none);
+      passes = f.passes;
+    }
 
 pub find_is : {A : Type 0} (test : A → Bool) (xs : List A) (x : A) → find test xs ≡ Some x → IsFound test xs x
 find_is test [] x h = absurd (cc)
 find_is test (y ∷ ys) x h = find_step test y ys x (test y) refl h (find_is test ys x)
 
-none_step : {A : Type 0} (test : A → Bool) (y : A) (ys : List A) (b : Bool) → test y ≡ b → cond b (Some y) (find test ys) ≡ None → (test y ≡ false) × (find test ys ≡ None)
+none_step : {A : Type 0} (test : A → Bool) (y : A) (ys : List A) (b : Bool) → test y ≡ b
+    → cond b (Some y) (find test ys) ≡ None → (test y ≡ false) × (find test ys ≡ None)
 none_step test y ys true e h = absurd (cc)
 none_step test y ys false e h = (e, h)
 
@@ -41,7 +59,8 @@ none_again : {A : Type 0} (test : A → Bool) (xs : List A) → AllByRecursion (
 none_again test [] all = refl
 none_again test (y ∷ ys) all = rw all.0 (none_again test ys all.1)
 
-find_again : {A : Type 0} (test : A → Bool) (before : List A) (x : A) (behind : List A) → AllByRecursion (λ y. test y ≡ false) before → test x ≡ true → find test (before ++ x ∷ behind) ≡ Some x
+find_again : {A : Type 0} (test : A → Bool) (before : List A) (x : A) (behind : List A)
+    → AllByRecursion (λ y. test y ≡ false) before → test x ≡ true → find test (before ++ x ∷ behind) ≡ Some x
 find_again test [] x behind all h = rw h refl
 find_again test (y ∷ ys) x behind all h = rw all.0 (find_again test ys x behind all.1 h)
 
@@ -56,7 +75,8 @@ pub no_reason_is : (file : List Declared) (c : Context) (text : List ℕ) → fi
 unfolding first_reason
 no_reason_is file c text h = find_none (λ r. has r file c text) reasons h
 
-pub first_reason_again : (file : List Declared) (c : Context) (text : List ℕ) (why : Reason) → IsFirstReason file c text why → first_reason file c text ≡ Some why
+pub first_reason_again : (file : List Declared) (c : Context) (text : List ℕ) (why : Reason)
+    → IsFirstReason file c text why → first_reason file c text ≡ Some why
 unfolding first_reason
 first_reason_again file c text why f =
     let test : Reason → Bool = λ r. has r file c text in
@@ -77,11 +97,13 @@ end_ok : (c made : Context) (n : ℕ) (b : Bool) → at_end c n b ≡ Ok made �
 end_ok c made n true h = (refl, cc)
 end_ok c made n false h = absurd (cc)
 
-step_ok : (n : ℕ) (found : Option Reason) (next : Result Context (ℕ × Reason)) (made : Context) → go_on n found next ≡ Ok made → (found ≡ None) × (next ≡ Ok made)
+step_ok : (n : ℕ) (found : Option Reason) (next : Result Context (ℕ × Reason)) (made : Context)
+    → go_on n found next ≡ Ok made → (found ≡ None) × (next ≡ Ok made)
 step_ok n None next made h = (refl, h)
 step_ok n (Some why) next made h = absurd (cc)
 
-pub read_from_ok : (file : List Declared) (c : Context) (n : ℕ) (texts : List (List ℕ)) (made : Context) → read_from file c n texts ≡ Ok made → Make file c texts made × (is_ended made ≡ true)
+pub read_from_ok : (file : List Declared) (c : Context) (n : ℕ) (texts : List (List ℕ)) (made : Context)
+    → read_from file c n texts ≡ Ok made → Make file c texts made × (is_ended made ≡ true)
 read_from_ok file c n [] made h =
     let s = end_ok c made n (is_ended c) h in
     (s.1, ap is_ended s.1 ∙ s.0)
@@ -90,7 +112,8 @@ read_from_ok file c n (text ∷ texts) made h =
     let later = read_from_ok file (after_text c text) (suc n) texts made s.1 in
     ((no_reason_is file c text s.0, later.0), later.1)
 
-pub read_from_again : (file : List Declared) (c : Context) (n : ℕ) (texts : List (List ℕ)) (made : Context) → Make file c texts made → is_ended made ≡ true → read_from file c n texts ≡ Ok made
+pub read_from_again : (file : List Declared) (c : Context) (n : ℕ) (texts : List (List ℕ)) (made : Context)
+    → Make file c texts made → is_ended made ≡ true → read_from file c n texts ≡ Ok made
 read_from_again file c n [] made good ended =
     let e : is_ended c ≡ true = ap is_ended (sym good) ∙ ended in
     rw e (ap Ok (sym good))
@@ -101,7 +124,9 @@ read_from_again file c n (text ∷ texts) made good ended =
 abbrev pub BadAt : List Declared → Context → List (List ℕ) → ℕ → Reason → Type 0
 BadAt file c texts place why = IsBadLine file c texts place why ⊎ IsUnended file c texts place why
 
-bad_later : (file : List Declared) (c : Context) (text : List ℕ) (texts : List (List ℕ)) (place : ℕ) (why : Reason) → HasNone reasons file c text → BadAt file (after_text c text) texts place why → BadAt file c (text ∷ texts) (suc place) why
+bad_later : (file : List Declared) (c : Context) (text : List ℕ) (texts : List (List ℕ)) (place : ℕ) (why : Reason)
+    → HasNone reasons file c text → BadAt file (after_text c text) texts place why
+    → BadAt file c (text ∷ texts) (suc place) why
 bad_later file c text texts place why none (inl b) = inl (record {
   before = text ∷ b.before;
   text = b.text;
@@ -112,7 +137,14 @@ bad_later file c text texts place why none (inl b) = inl (record {
   good = (none, b.good);
   bad = b.bad;
 })
-bad_later file c text texts place why none (inr u) = inr (record { made = u.made; good = (none, u.good); unended = u.unended; count = ap suc u.count; is_end = u.is_end })
+bad_later file c text texts place why none (inr u) =
+    inr (record {
+      made = u.made;
+      good = (none, u.good);
+      unended = u.unended;
+      count = ap suc u.count;
+      is_end = u.is_end;
+    })
 
 -- the number of a bad line, counted from n, and its place
 record IsBadFrom (file : List Declared) (c : Context) (texts : List (List ℕ)) (n number : ℕ) (why : Reason) : Type 0 where
@@ -124,7 +156,9 @@ end_bad : (c : Context) (n number : ℕ) (why : Reason) (b : Bool) → at_end c 
 end_bad c n number why true h = absurd (cc)
 end_bad c n number why false h = let s = same_place n number reason.End why h in (refl, sym s.0, sym s.1)
 
-step_bad : (file : List Declared) (c : Context) (text : List ℕ) (texts : List (List ℕ)) (n number : ℕ) (why : Reason) (found : Option Reason) (next : Result Context (ℕ × Reason)) → first_reason file c text ≡ found → go_on n found next ≡ Err (number, why)
+step_bad : (file : List Declared) (c : Context) (text : List ℕ) (texts : List (List ℕ)) (n number : ℕ) (why : Reason)
+    (found : Option Reason) (next : Result Context (ℕ × Reason))
+    → first_reason file c text ≡ found → go_on n found next ≡ Err (number, why)
     → (next ≡ Err (number, why) → IsBadFrom file (after_text c text) texts (suc n) number why) → IsBadFrom file c (text ∷ texts) n number why
 step_bad file c text texts n number why None next e h later =
     let l = later h in
@@ -137,10 +171,21 @@ step_bad file c text texts n number why (Some found) next e h later =
     record {
       place = 0;
       is = omega arith;
-      bad = inl (record { before = []; text = text; behind = texts; made = c; place = refl; count = refl; good = refl; bad = first_reason_is file c text why (e ∙ ap Some same) });
+      bad =
+          inl (record {
+            before = [];
+            text = text;
+            behind = texts;
+            made = c;
+            place = refl;
+            count = refl;
+            good = refl;
+            bad = first_reason_is file c text why (e ∙ ap Some same);
+          });
     }
 
-read_from_bad : (file : List Declared) (c : Context) (n : ℕ) (texts : List (List ℕ)) (number : ℕ) (why : Reason) → read_from file c n texts ≡ Err (number, why) → IsBadFrom file c texts n number why
+read_from_bad : (file : List Declared) (c : Context) (n : ℕ) (texts : List (List ℕ)) (number : ℕ) (why : Reason)
+    → read_from file c n texts ≡ Err (number, why) → IsBadFrom file c texts n number why
 read_from_bad file c n [] number why h =
     let s = end_bad c n number why (is_ended c) h in
     let at = s.1 in
@@ -150,7 +195,8 @@ read_from_bad file c n (text ∷ texts) number why h =
     (read_from_bad file (after_text c text) (suc n) texts number why)
 
 -- good lines before others are read over
-read_over : (file : List Declared) (c : Context) (n : ℕ) (before texts : List (List ℕ)) (made : Context) → Make file c before made → read_from file c n (before ++ texts) ≡ read_from file made (length before + n) texts
+read_over : (file : List Declared) (c : Context) (n : ℕ) (before texts : List (List ℕ)) (made : Context)
+    → Make file c before made → read_from file c n (before ++ texts) ≡ read_from file made (length before + n) texts
 read_over file c n [] texts made good =
     let count : n ≡ 0 + n = omega arith in
     ap (λ (d : Context). read_from file d n texts) (sym good) ∙ ap (λ (m : ℕ). read_from file made m texts) count
@@ -159,7 +205,8 @@ read_over file c n (text ∷ before) texts made good =
     let count : length before + suc n ≡ suc (length before) + n = omega arith in
     rw (no_reason_again file c text good.0) (later ∙ ap (λ (m : ℕ). read_from file made m texts) count)
 
-read_over_all : (file : List Declared) (c : Context) (n : ℕ) (texts : List (List ℕ)) (made : Context) → Make file c texts made → read_from file c n texts ≡ read_from file made (length texts + n) []
+read_over_all : (file : List Declared) (c : Context) (n : ℕ) (texts : List (List ℕ)) (made : Context)
+    → Make file c texts made → read_from file c n texts ≡ read_from file made (length texts + n) []
 read_over_all file c n [] made good =
     let count : n ≡ 0 + n = omega arith in
     ap (λ (d : Context). read_from file d n []) (sym good) ∙ ap (λ (m : ℕ). read_from file made m []) count
@@ -168,10 +215,12 @@ read_over_all file c n (text ∷ texts) made good =
     let count : length texts + suc n ≡ suc (length texts) + n = omega arith in
     rw (no_reason_again file c text good.0) (later ∙ ap (λ (m : ℕ). read_from file made m []) count)
 
-bad_again : (file : List Declared) (c : Context) (texts : List (List ℕ)) (place : ℕ) (why : Reason) → BadAt file c texts place why → read_from file c 1 texts ≡ Err (suc place, why)
+bad_again : (file : List Declared) (c : Context) (texts : List (List ℕ)) (place : ℕ) (why : Reason)
+    → BadAt file c texts place why → read_from file c 1 texts ≡ Err (suc place, why)
 bad_again file c texts place why (inl b) =
     let over = read_over file c 1 b.before (b.text ∷ b.behind) b.made b.good in
-    let here : read_from file b.made (length b.before + 1) (b.text ∷ b.behind) ≡ Err (length b.before + 1, why) = rw (first_reason_again file b.made b.text why b.bad) refl in
+    let here : read_from file b.made (length b.before + 1) (b.text ∷ b.behind) ≡ Err (length b.before + 1, why) =
+    rw (first_reason_again file b.made b.text why b.bad) refl in
     let count = b.count in
     let number : length b.before + 1 ≡ suc place = omega arith in
     ap (λ (ts : List (List ℕ)). read_from file c 1 ts) b.place ∙ over ∙ here ∙ ap (λ (m : ℕ). Err (m, why)) number
@@ -206,7 +255,8 @@ first_bad_again bytes number why b =
     bad_again (file_declares (text_lines bytes)) start (text_lines bytes) b.place why b.bad ∙ ap (λ (m : ℕ). Err (m, why)) (sym b.is)
 
 -- Bytes are read, or they have a first bad line.
-one_of : (bytes : List ℕ) (r : Result Context (ℕ × Reason)) → read_text bytes ≡ r → ((script : Script) × IsRead bytes script) ⊎ ((number : ℕ) × (why : Reason) × IsFirstBad bytes number why)
+one_of : (bytes : List ℕ) (r : Result Context (ℕ × Reason)) → read_text bytes ≡ r
+    → ((script : Script) × IsRead bytes script) ⊎ ((number : ℕ) × (why : Reason) × IsFirstBad bytes number why)
 one_of bytes (Ok made) h = inl (made.script, read_text_ok bytes made h)
 one_of bytes (Err place) h = inr (place.0, place.1, read_text_bad bytes place.0 place.1 h)
 

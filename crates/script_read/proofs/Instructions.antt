@@ -30,16 +30,29 @@ one_more (t ∷ []) what n some = omega (arith, length-append t.instrs (what ∷
 one_more (t ∷ u ∷ us) what n some = one_more (u ∷ us) what (n + length t.instrs) (omega arith)
 
 -- what a line makes of them
-with_instr_counts : (threads : List ThreadDecl) (what : Instr) → all_instrs (with_instr threads what) ≡ (if nat_lt 0 (length threads) then all_instrs threads + 1 else all_instrs threads)
+with_instr_counts : (threads : List ThreadDecl) (what : Instr)
+    → all_instrs (with_instr threads what) ≡
+    (if nat_lt 0 (length threads) then all_instrs threads + 1 else all_instrs threads)
 with_instr_counts [] what = refl
 with_instr_counts (t ∷ ts) what =
     let some : nat_lt 0 (length (t ∷ ts)) ≡ true = grind (arith, nat_tests) in
     rw some (one_more (t ∷ ts) what 0 (omega arith))
 
-pub instrs_after : (c : Context) (l : SourceLine) → all_instrs (after c l).script.threads ≡ (if adds_instr c l then all_instrs c.script.threads + 1 else all_instrs c.script.threads)
+pub instrs_after : (c : Context) (l : SourceLine)
+    → all_instrs (after c l).script.threads
+    ≡ (if adds_instr c l then all_instrs c.script.threads + 1 else all_instrs c.script.threads)
 instrs_after c (line.Instr what) = with_instr_counts c.script.threads what
-instrs_after c (line.KernelThread name priority held) = none_more c.script.threads (record { name = name; priority = priority; held = held; process = None; instrs = [] }) 0 refl
-instrs_after c (line.Thread name priority held) = none_more c.script.threads (record { name = name; priority = priority; held = held; process = Some (last_of c.script.processes); instrs = [] }) 0 refl
+instrs_after c (line.KernelThread name priority held) =
+    none_more c.script.threads (record { name = name; priority = priority; held = held; process = None; instrs = [] }) 0
+    refl
+instrs_after c (line.Thread name priority held) =
+    none_more c.script.threads (record {
+      name = name;
+      priority = priority;
+      held = held;
+      process = Some (last_of c.script.processes);
+      instrs = [];
+    }) 0 refl
 instrs_after c _ = refl
 
 -- where a line adds one there is room for it

@@ -24,15 +24,19 @@ pub judged_byte : (file : List Declared) (c : Context) (text : List ℕ) → is_
 unfolding first_reason
 judged_byte file c text p = rw p refl
 
-pub judged_long : (file : List Declared) (c : Context) (text : List ℕ) → is_printed text ≡ true → is_short text ≡ false → IsJudged file c text (judged.Bad reason.Long)
+pub judged_long : (file : List Declared) (c : Context) (text : List ℕ) → is_printed text ≡ true → is_short text ≡ false
+    → IsJudged file c text (judged.Bad reason.Long)
 unfolding first_reason
 judged_long file c text p s = rw (p, s) refl
 
-pub judged_skipped : (file : List Declared) (c : Context) (text : List ℕ) → is_printed text ≡ true → is_short text ≡ true → is_skipped (words_of text) ≡ true → IsJudged file c text judged.Skipped
+pub judged_skipped : (file : List Declared) (c : Context) (text : List ℕ) → is_printed text ≡ true
+    → is_short text ≡ true → is_skipped (words_of text) ≡ true → IsJudged file c text judged.Skipped
 unfolding first_reason after_text
 judged_skipped file c text p s k = (rw (p, s, k) refl, rw k refl)
 
-pub judged_word : (file : List Declared) (c : Context) (text : List ℕ) → is_printed text ≡ true → is_short text ≡ true → is_skipped (words_of text) ≡ false → keyword_in (words_of text) ≡ None → IsJudged file c text (judged.Bad reason.Word)
+pub judged_word : (file : List Declared) (c : Context) (text : List ℕ) → is_printed text ≡ true → is_short text ≡ true
+    → is_skipped (words_of text) ≡ false → keyword_in (words_of text) ≡ None
+    → IsJudged file c text (judged.Bad reason.Word)
 unfolding first_reason
 judged_word file c text p s k e = rw (p, s, k, e) refl
 
@@ -50,7 +54,8 @@ abbrev reasons_of : List (Bool × Reason) → List Reason
 reasons_of tests = map (λ (test : Bool × Reason). test.1) tests
 
 -- so the first that holds is the reason of the first test that fails
-first_step : (holds : Reason → Bool) (passes : Bool) (why : Reason) (tests : List (Bool × Reason)) → holds why ≡ not passes → find holds (reasons_of tests) ≡ refused tests
+first_step : (holds : Reason → Bool) (passes : Bool) (why : Reason) (tests : List (Bool × Reason))
+    → holds why ≡ not passes → find holds (reasons_of tests) ≡ refused tests
     → cond (holds why) (Some why) (find holds (reasons_of tests)) ≡ (if passes then refused tests else Some why)
 first_step holds true why tests h later = rw h later
 first_step holds false why tests h later = rw h refl
@@ -60,8 +65,10 @@ first_failed holds [] tell = refl
 first_failed holds (test ∷ tests) tell = first_step holds test.0 test.1 tests tell.0 (first_failed holds tests tell.1)
 
 -- tests of words, and behind them those of a line
-both_step : (l : SourceLine) (passes : Bool) (why : Reason) (words line : List (Bool × Reason)) → refused (words ++ line) ≡ reason_in (judged_words (refused words) (judged_line l (refused line)))
-    → (if passes then refused (words ++ line) else Some why) ≡ reason_in (judged_words (if passes then refused words else Some why) (judged_line l (refused line)))
+both_step : (l : SourceLine) (passes : Bool) (why : Reason) (words line : List (Bool × Reason))
+    → refused (words ++ line) ≡ reason_in (judged_words (refused words) (judged_line l (refused line)))
+    → (if passes then refused (words ++ line) else Some why)
+    ≡ reason_in (judged_words (if passes then refused words else Some why) (judged_line l (refused line)))
 both_step l true why words line later = later
 both_step l false why words line later = refl
 
@@ -69,20 +76,26 @@ line_reason : (l : SourceLine) (found : Option Reason) → found ≡ reason_in (
 line_reason l None = refl
 line_reason l (Some why) = refl
 
-both_judged : (l : SourceLine) (words line : List (Bool × Reason)) → refused (words ++ line) ≡ reason_in (judged_words (refused words) (judged_line l (refused line)))
+both_judged : (l : SourceLine) (words line : List (Bool × Reason))
+    → refused (words ++ line) ≡ reason_in (judged_words (refused words) (judged_line l (refused line)))
 both_judged l [] line = line_reason l (refused line)
 both_judged l (test ∷ words) line = both_step l test.0 test.1 words line (both_judged l words line)
 
 -- the reasons of a text, before those of its words
-front : (holds : Reason → Bool) (others : List Reason) → holds reason.Byte ≡ false → holds reason.Long ≡ false → holds reason.Word ≡ false → find holds (reason.Byte ∷ reason.Long ∷ reason.Word ∷ others) ≡ find holds others
+front : (holds : Reason → Bool) (others : List Reason) → holds reason.Byte ≡ false → holds reason.Long ≡ false
+    → holds reason.Word ≡ false → find holds (reason.Byte ∷ reason.Long ∷ reason.Word ∷ others) ≡ find holds others
 front holds others byte long word = rw (byte, long, word) refl
 
-by_reasons : (file : List Declared) (c : Context) (text : List ℕ) (l : SourceLine) (words line : Option Reason) → after_text c text ≡ after c l → first_reason file c text ≡ reason_in (judged_words words (judged_line l line)) → IsJudged file c text (judged_words words (judged_line l line))
+by_reasons : (file : List Declared) (c : Context) (text : List ℕ) (l : SourceLine) (words line : Option Reason)
+    → after_text c text ≡ after c l → first_reason file c text ≡ reason_in (judged_words words (judged_line l line))
+    → IsJudged file c text (judged_words words (judged_line l line))
 by_reasons file c text l None None makes first = (first, makes)
 by_reasons file c text l None (Some why) makes first = first
 by_reasons file c text l (Some why) line makes first = first
 
-judged_keyword : (file : List Declared) (c : Context) (text : List ℕ) (k : Keyword) → is_printed text ≡ true → is_short text ≡ true → is_skipped (words_of text) ≡ false → keyword_in (words_of text) ≡ Some k → IsJudged file c text (judged_as file c k (words_of text))
+judged_keyword : (file : List Declared) (c : Context) (text : List ℕ) (k : Keyword) → is_printed text ≡ true
+    → is_short text ≡ true → is_skipped (words_of text) ≡ false → keyword_in (words_of text) ≡ Some k
+    → IsJudged file c text (judged_as file c k (words_of text))
 unfolding first_reason after_text
 judged_keyword file c text k p s told e =
     let scheduled : Bool = is_scheduled c in
@@ -98,12 +111,16 @@ judged_keyword file c text k p s told e =
     (front holds (reasons_of tests) byte long word ∙ first_failed holds tests tell ∙ both_judged l (word_tests c k words) (line_tests file c l))
 
 -- the same of an answer that may lack memory
-pub judged_is : {E : Type 0} (file : List Declared) (c : Context) (text : List ℕ) (k : Keyword) (r : Result Judged E) → is_printed text ≡ true → is_short text ≡ true → is_skipped (words_of text) ≡ false → Some k ≡ keyword_in (words_of text) → IfOk r (λ j. j ≡ judged_as file c k (words_of text)) → IfOk r (IsJudged file c text)
+pub judged_is : {E : Type 0} (file : List Declared) (c : Context) (text : List ℕ) (k : Keyword) (r : Result Judged E)
+    → is_printed text ≡ true → is_short text ≡ true → is_skipped (words_of text) ≡ false
+    → Some k ≡ keyword_in (words_of text) → IfOk r (λ j. j ≡ judged_as file c k (words_of text))
+    → IfOk r (IsJudged file c text)
 judged_is file c text k (Ok j) p s told e h = subst (λ (x : Judged). IsJudged file c text x) (sym h) (judged_keyword file c text k p s told (sym e))
 judged_is file c text k (Err fault) p s told e h = tt
 
 -- words whose tests pass have their forms, and are in range
-passed_step : (passes : Bool) (why : Reason) (tests : List (Bool × Reason)) → None ≡ (if passes then refused tests else Some why) → (passes ≡ true) × (None ≡ refused tests)
+passed_step : (passes : Bool) (why : Reason) (tests : List (Bool × Reason))
+    → None ≡ (if passes then refused tests else Some why) → (passes ≡ true) × (None ≡ refused tests)
 passed_step true why tests h = (refl, h)
 passed_step false why tests h = absurd (cc)
 
@@ -114,10 +131,12 @@ all_pass : (tests : List (Bool × Reason)) → None ≡ refused tests → AllPas
 all_pass [] h = tt
 all_pass (test ∷ tests) h = let here = passed_step test.0 test.1 tests h in (here.0, all_pass tests here.1)
 
-forms_pass : (c : Context) (k : Keyword) (words : List (List ℕ)) → AllPass (word_tests c k words) → (have_forms (is_scheduled c) k words ≡ true) × (are_in_range (is_scheduled c) k words ≡ true)
+forms_pass : (c : Context) (k : Keyword) (words : List (List ℕ)) → AllPass (word_tests c k words)
+    → (have_forms (is_scheduled c) k words ≡ true) × (are_in_range (is_scheduled c) k words ≡ true)
 forms_pass c k words (order, (count, (form, (range, end)))) = (form, range)
 
-pub words_pass : (c : Context) (k : Keyword) (words : List (List ℕ)) → None ≡ refused (word_tests c k words) → (have_forms (is_scheduled c) k words ≡ true) × (are_in_range (is_scheduled c) k words ≡ true)
+pub words_pass : (c : Context) (k : Keyword) (words : List (List ℕ)) → None ≡ refused (word_tests c k words)
+    → (have_forms (is_scheduled c) k words ≡ true) × (are_in_range (is_scheduled c) k words ≡ true)
 words_pass c k words h = forms_pass c k words (all_pass (word_tests c k words) h)
 
 -- words in order with their number have the reason of what is wrong with them
@@ -126,6 +145,7 @@ fault_reason false range = refl
 fault_reason true false = refl
 fault_reason true true = refl
 
-pub words_reason : (c : Context) (k : Keyword) (words : List (List ℕ)) → is_in_order c (keyword_kind (is_scheduled c) k) ≡ true → is_counted (is_scheduled c) k words ≡ true
+pub words_reason : (c : Context) (k : Keyword) (words : List (List ℕ))
+    → is_in_order c (keyword_kind (is_scheduled c) k) ≡ true → is_counted (is_scheduled c) k words ≡ true
     → reason_of_fault (fault_by (have_forms (is_scheduled c) k words) (are_in_range (is_scheduled c) k words)) ≡ refused (word_tests c k words)
 words_reason c k words order count = rw (order, count) (fault_reason (have_forms (is_scheduled c) k words) (are_in_range (is_scheduled c) k words))

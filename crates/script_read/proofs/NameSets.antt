@@ -42,7 +42,9 @@ same_tests false true there back = back refl
 same_tests false false there back = refl
 
 -- a name more
-pub name_added : (old new : BTreeSet (Bor (List ℕ))) (name : Bor (List ℕ)) (test : Bool) (q : List ℕ) → test ≡ true → ((p : Bor (List ℕ)) → contains by_bytes new p ≡ cond (is_at (by_bytes name) p) true (contains by_bytes old p)) → has_name new q ≡ (has_name old q || (test && bytes_eq name.now q))
+pub name_added : (old new : BTreeSet (Bor (List ℕ))) (name : Bor (List ℕ)) (test : Bool) (q : List ℕ) → test ≡ true
+    → ((p : Bor (List ℕ)) → contains by_bytes new p ≡ cond (is_at (by_bytes name) p) true (contains by_bytes old p))
+    → has_name new q ≡ (has_name old q || (test && bytes_eq name.now q))
 name_added old new name test q here added =
     let p : Bor (List ℕ) = record { ref_ptr = (0, 0); now = q } in
     rw here (added p ∙ or_where (is_at (by_bytes name) p) (has_name old q) ∙ ap (λ (b : Bool). has_name old q || b) (is_eq-slice_cmp name.now q))
@@ -66,17 +68,23 @@ same_digits n k small little =
     (λ h. same_is n k (same_number n k small little (same_bytes (decimal n) (decimal k) h)))
 
 -- a number more
-pub number_added : (old new : BTreeSet ℕ) (word : List ℕ) (n : ℕ) (test : Bool) (k : ℕ) → test ≡ true → number_of 255 word ≡ Some n → k < 256 → ((p : ℕ) → contains nat_cmp new p ≡ cond (is_at (nat_cmp n) p) true (contains nat_cmp old p)) → contains nat_cmp new k ≡ (contains nat_cmp old k || (test && bytes_eq word (decimal k)))
+pub number_added : (old new : BTreeSet ℕ) (word : List ℕ) (n : ℕ) (test : Bool) (k : ℕ) → test ≡ true
+    → number_of 255 word ≡ Some n → k < 256
+    → ((p : ℕ) → contains nat_cmp new p ≡ cond (is_at (nat_cmp n) p) true (contains nat_cmp old p))
+    → contains nat_cmp new k ≡ (contains nat_cmp old k || (test && bytes_eq word (decimal k)))
 number_added old new word n test k here found small added =
     let took = number_takes 255 word n (omega arith) found in
-    rw (here, took.0) (added k ∙ or_where (is_at (nat_cmp n) k) (contains nat_cmp old k) ∙ ap (λ (b : Bool). contains nat_cmp old k || b) (same_digits n k took.1 (omega arith)))
+    rw (here, took.0) (added k ∙ or_where (is_at (nat_cmp n) k) (contains nat_cmp old k)
+    ∙ ap (λ (b : Bool). contains nat_cmp old k || b) (same_digits n k took.1 (omega arith)))
 
 -- a word that is no number
 pub no_number : (word : List ℕ) (k : ℕ) → number_of 255 word ≡ None → k < 256 → bytes_eq word (decimal k) ≡ false
 no_number word k none small =
     same_tests (bytes_eq word (decimal k)) false
-    (λ h. let found : number_of 255 word ≡ Some k = ap (number_of 255) (same_bytes word (decimal k) h) ∙ number_again 255 k (omega arith) (omega arith) in absurd (cc))
+    (λ h. let found : number_of 255 word ≡ Some k = ap (number_of 255) (same_bytes word (decimal k) h)
+    ∙ number_again 255 k (omega arith) (omega arith) in absurd (cc))
     (λ h. absurd (cc))
 
-pub none_added : (old : BTreeSet ℕ) (word : List ℕ) (test : Bool) (k : ℕ) → number_of 255 word ≡ None → k < 256 → contains nat_cmp old k ≡ (contains nat_cmp old k || (test && bytes_eq word (decimal k)))
+pub none_added : (old : BTreeSet ℕ) (word : List ℕ) (test : Bool) (k : ℕ) → number_of 255 word ≡ None → k < 256
+    → contains nat_cmp old k ≡ (contains nat_cmp old k || (test && bytes_eq word (decimal k)))
 none_added old word test k none small = rw (no_number word k none small) (or_nothing (contains nat_cmp old k) test)

@@ -43,7 +43,9 @@ no_lines : text_lines [] ≡ []
 unfolding text_lines
 no_lines = refl
 
-pub read_to_end : (whole rest : List ℕ) (number : ℕ) (p : Progress) (made : Result Context (ℕ × Reason)) → IsReadTo whole rest number p → rest ≡ [] → made ≡ at_end p.context number (is_ended p.context) → made ≡ read_text whole
+pub read_to_end : (whole rest : List ℕ) (number : ℕ) (p : Progress) (made : Result Context (ℕ × Reason))
+    → IsReadTo whole rest number p → rest ≡ [] → made ≡ at_end p.context number (is_ended p.context)
+    → made ≡ read_text whole
 read_to_end whole rest number p made r none end =
     let file : List Declared = file_declares (text_lines whole) in
     let lines : [] ≡ text_lines rest = sym (ap text_lines none ∙ no_lines) in

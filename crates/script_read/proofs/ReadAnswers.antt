@@ -26,5 +26,6 @@ bad_is_first bytes line why h = read_text_bad bytes line why (sym h)
 pub bad_is_not_accepted : (bytes : List ℕ) (line : ℕ) (why : Reason) → Err (line, why) ≡ read_text bytes → (script : Script) → IsAccepted bytes script → ⊥
 bad_is_not_accepted bytes line why h script a = accepted_not_bad bytes script line why a (bad_is_first bytes line why h)
 
-pub bad_is_only : (bytes : List ℕ) (line : ℕ) (why : Reason) → Err (line, why) ≡ read_text bytes → (other : ℕ) (reason : Reason) → IsFirstBad bytes other reason → (line ≡ other) × (why ≡ reason)
+pub bad_is_only : (bytes : List ℕ) (line : ℕ) (why : Reason) → Err (line, why) ≡ read_text bytes
+    → (other : ℕ) (reason : Reason) → IsFirstBad bytes other reason → (line ≡ other) × (why ≡ reason)
 bad_is_only bytes line why h other reason b = one_first_bad bytes line other why reason (bad_is_first bytes line why h) b

@@ -53,10 +53,24 @@ record HasNoReason (file : List Declared) (c : Context) (text : List ℕ) : Type
 
 named : (file : List Declared) (c : Context) (text : List ℕ) → HasNone reasons file c text → HasNoReason file c text
 named file c text (byte, (long, (word, (order, (count, (form, (range, (kind, (twice, (unknown, (limit, (end, others)))))))))))) =
-    record { byte = byte; long = long; word = word; order = order; count = count; form = form; range = range; kind = kind; twice = twice; unknown = unknown; limit = limit; end = end }
+    record {
+      byte = byte;
+      long = long;
+      word = word;
+      order = order;
+      count = count;
+      form = form;
+      range = range;
+      kind = kind;
+      twice = twice;
+      unknown = unknown;
+      limit = limit;
+      end = end;
+    }
 
 -- a line of which no reason holds has none of them
-none_by : (others : List Reason) (file : List Declared) (c : Context) (text : List ℕ) → ((why : Reason) → has why file c text ≡ false) → HasNone others file c text
+none_by : (others : List Reason) (file : List Declared) (c : Context) (text : List ℕ)
+    → ((why : Reason) → has why file c text ≡ false) → HasNone others file c text
 none_by [] file c text none = tt
 none_by (why ∷ others) file c text none = (none why, none_by others file c text none)
 
@@ -71,7 +85,8 @@ record IsLine (file : List Declared) (c : Context) (text : List ℕ) : Type 0 wh
   stands : Stands file c line
   makes : after_text c text ≡ after c line
 
-line_by : (file : List Declared) (c : Context) (text : List ℕ) (k : Keyword) → is_skipped (words_of text) ≡ false → keyword_in (words_of text) ≡ Some k → HasNone reasons file c text → IsLine file c text
+line_by : (file : List Declared) (c : Context) (text : List ℕ) (k : Keyword) → is_skipped (words_of text) ≡ false
+    → keyword_in (words_of text) ≡ Some k → HasNone reasons file c text → IsLine file c text
 unfolding after_text
 line_by file c text k told e none =
     let s : Bool = is_scheduled c in
@@ -94,14 +109,19 @@ line_by file c text k told e none =
       makes = rw (told, e) refl;
     }
 
-line_of_text : (file : List Declared) (c : Context) (text : List ℕ) (found : Option Keyword) → keyword_in (words_of text) ≡ found → is_skipped (words_of text) ≡ false → HasNone reasons file c text → IsLine file c text
+line_of_text : (file : List Declared) (c : Context) (text : List ℕ) (found : Option Keyword)
+    → keyword_in (words_of text) ≡ found → is_skipped (words_of text) ≡ false → HasNone reasons file c text
+    → IsLine file c text
 line_of_text file c text None e told none =
     let bad : true ≡ false = rw (told, e) at (named file c text none).word in
     absurd (cc)
 line_of_text file c text (Some k) e told none = line_by file c text k told e none
 
 clean_text : (file : List Declared) (c : Context) (text : List ℕ) → HasNone reasons file c text → IsClean text
-clean_text file c text none = record { printed = not_not (is_printed text) (named file c text none).byte; short = not_not (is_short text) (named file c text none).long }
+clean_text file c text none = record {
+  printed = not_not (is_printed text) (named file c text none).byte;
+  short = not_not (is_short text) (named file c text none).long;
+}
 
 -- the lines of texts
 record HasLines (file : List Declared) (c : Context) (texts : List (List ℕ)) (made : Context) : Type 0 where
@@ -138,7 +158,14 @@ make_lines file c (text ∷ texts) made good =
     let h = make_lines file (after c l.line) texts made (subst (λ (d : Context). Make file d texts made) l.makes good.1) in
     let spelled = l.spelled in
     let others = h.spelled in
-    record { lines = l.line ∷ h.lines; clean = (clean, h.clean); spelled = told_front text texts told ∙ both_same (words_of text) (source_words l.line) (told_words texts) (map source_words h.lines) spelled others; stand = (l.stands, h.stand); makes = h.makes })
+    record {
+      lines = l.line ∷ h.lines;
+      clean = (clean, h.clean);
+      spelled = told_front text texts told ∙ both_same (words_of text) (source_words l.line) (told_words texts)
+          (map source_words h.lines) spelled others;
+      stand = (l.stands, h.stand);
+      makes = h.makes;
+    })
 
 -- what is read is accepted
 pub read_is_accepted : (bytes : List ℕ) (script : Script) → IsRead bytes script → IsAccepted bytes script
@@ -155,7 +182,8 @@ off : (b : Bool) → b ≡ true → not b ≡ false
 off b h = rw h refl
 
 -- a skipped text has no reason
-skipped_has : (file : List Declared) (c : Context) (text : List ℕ) → IsClean text → is_skipped (words_of text) ≡ true → (why : Reason) → has why file c text ≡ false
+skipped_has : (file : List Declared) (c : Context) (text : List ℕ) → IsClean text → is_skipped (words_of text) ≡ true
+    → (why : Reason) → has why file c text ≡ false
 skipped_has file c text clean h reason.Byte = off (is_printed text) clean.printed
 skipped_has file c text clean h reason.Long = off (is_short text) clean.short
 skipped_has file c text clean h reason.End = refl
@@ -206,7 +234,9 @@ record PassEach (file : List Declared) (c : Context) (k : Keyword) (words : List
   unknown : is_known file c (line_at (is_scheduled c) k words) ≡ true
   limit : is_within c (line_at (is_scheduled c) k words) ≡ true
 
-good_has : (file : List Declared) (c : Context) (text : List ℕ) (k : Keyword) → IsClean text → is_skipped (words_of text) ≡ false → keyword_in (words_of text) ≡ Some k → PassEach file c k (words_of text) → (why : Reason) → has why file c text ≡ false
+good_has : (file : List Declared) (c : Context) (text : List ℕ) (k : Keyword) → IsClean text
+    → is_skipped (words_of text) ≡ false → keyword_in (words_of text) ≡ Some k → PassEach file c k (words_of text)
+    → (why : Reason) → has why file c text ≡ false
 good_has file c text k clean told e pass reason.Byte = off (is_printed text) clean.printed
 good_has file c text k clean told e pass reason.Long = off (is_short text) clean.short
 good_has file c text k clean told e pass reason.Word = rw (told, e) refl
@@ -220,7 +250,8 @@ good_has file c text k clean told e pass reason.Unknown = rw (told, e) (off _ pa
 good_has file c text k clean told e pass reason.Limit = rw (told, e) (off _ pass.limit)
 good_has file c text k clean told e pass reason.End = refl
 
-line_good : (file : List Declared) (c : Context) (text : List ℕ) (l : SourceLine) → IsClean text → is_skipped (words_of text) ≡ false → words_of text ≡ source_words l → Stands file c l → IsGood file c text l
+line_good : (file : List Declared) (c : Context) (text : List ℕ) (l : SourceLine) → IsClean text
+    → is_skipped (words_of text) ≡ false → words_of text ≡ source_words l → Stands file c l → IsGood file c text l
 unfolding after_text
 line_good file c text l clean told spelled stands =
     let s : Bool = is_scheduled c in
@@ -253,11 +284,14 @@ record AreFront (words : List (List ℕ)) (others : List (List (List ℕ))) (lin
   spelled : words ≡ source_words line
   later : others ≡ map source_words rest
 
-front_of : (words : List (List ℕ)) (others : List (List (List ℕ))) (lines : List SourceLine) → words ∷ others ≡ map source_words lines → AreFront words others lines
+front_of : (words : List (List ℕ)) (others : List (List (List ℕ))) (lines : List SourceLine)
+    → words ∷ others ≡ map source_words lines → AreFront words others lines
 front_of words others [] h = absurd (cc)
 front_of words others (l ∷ ls) h = record { line = l; rest = ls; are = refl; spelled = cc; later = cc }
 
-lines_make : (file : List Declared) (c : Context) (texts : List (List ℕ)) (lines : List SourceLine) → AllByRecursion IsClean texts → told_words texts ≡ map source_words lines → AllStand file c lines → Make file c texts (after_all c lines)
+lines_make : (file : List Declared) (c : Context) (texts : List (List ℕ)) (lines : List SourceLine)
+    → AllByRecursion IsClean texts → told_words texts ≡ map source_words lines → AllStand file c lines
+    → Make file c texts (after_all c lines)
 lines_make file c [] [] clean spelled stand = refl
 lines_make file c [] (l ∷ ls) clean spelled stand = absurd (cc)
 lines_make file c (text ∷ texts) lines clean spelled stand =
@@ -270,7 +304,8 @@ lines_make file c (text ∷ texts) lines clean spelled stand =
     let stand_here : AllStand file c (f.line ∷ f.rest) = subst (λ (ls : List SourceLine). AllStand file c ls) f.are stand in
     let g = line_good file c text f.line clean.0 told f.spelled stand_here.0 in
     let later = lines_make file (after c f.line) texts f.rest clean.1 f.later stand_here.1 in
-    let whole : Make file c (text ∷ texts) (after_all c (f.line ∷ f.rest)) = (g.none, subst (λ (d : Context). Make file d texts (after_all (after c f.line) f.rest)) (sym g.makes) later) in
+    let whole : Make file c (text ∷ texts) (after_all c (f.line ∷ f.rest)) =
+    (g.none, subst (λ (d : Context). Make file d texts (after_all (after c f.line) f.rest)) (sym g.makes) later) in
     subst (λ (ls : List SourceLine). Make file c (text ∷ texts) (after_all c ls)) (sym f.are) whole)
 
 -- what is accepted is read

@@ -51,7 +51,8 @@ pub record IsUnended (file : List Declared) (c : Context) (texts : List (List �
 pub record IsFirstBad (bytes : List ℕ) (number : ℕ) (why : Reason) : Type 0 where
   pub place : ℕ
   pub is : number ≡ suc place
-  pub bad : IsBadLine (file_declares (text_lines bytes)) start (text_lines bytes) place why ⊎ IsUnended (file_declares (text_lines bytes)) start (text_lines bytes) place why
+  pub bad : IsBadLine (file_declares (text_lines bytes)) start (text_lines bytes) place why
+      ⊎ IsUnended (file_declares (text_lines bytes)) start (text_lines bytes) place why
 
 -- no line of the bytes is bad, and they make this script
 pub record IsRead (bytes : List ℕ) (script : Script) : Type 0 where

@@ -30,11 +30,16 @@ reason_of_fault None = None
 
 -- the tests of the words of a line that isn't skipped
 abbrev pub word_tests : Context → Keyword → List (List ℕ) → List (Bool × Reason)
-word_tests c k words = (is_in_order c (keyword_kind (is_scheduled c) k), reason.Order) ∷ (is_counted (is_scheduled c) k words, reason.Count) ∷ (have_forms (is_scheduled c) k words, reason.Form) ∷ (are_in_range (is_scheduled c) k words, reason.Range) ∷ []
+word_tests c k words =
+    (is_in_order c (keyword_kind (is_scheduled c) k), reason.Order) ∷
+    (is_counted (is_scheduled c) k words, reason.Count) ∷ (have_forms (is_scheduled c) k words, reason.Form) ∷
+    (are_in_range (is_scheduled c) k words, reason.Range) ∷ []
 
 -- the tests of the line that such words are. A whole file has the reason `end`, and no line
 abbrev pub line_tests : List Declared → Context → SourceLine → List (Bool × Reason)
-line_tests file c l = (is_right_kind c l, reason.Kind) ∷ (is_new c l, reason.Twice) ∷ (is_known file c l, reason.Unknown) ∷ (is_within c l, reason.Limit) ∷ (true, reason.End) ∷ []
+line_tests file c l =
+    (is_right_kind c l, reason.Kind) ∷ (is_new c l, reason.Twice) ∷ (is_known file c l, reason.Unknown) ∷
+    (is_within c l, reason.Limit) ∷ (true, reason.End) ∷ []
 
 -- a line, unless a test of it fails
 abbrev pub judged_line : SourceLine → Option Reason → Judged
@@ -48,7 +53,9 @@ judged_words (Some why) later = judged.Bad why
 
 -- what the words of a line that isn't skipped are
 abbrev pub judged_as : List Declared → Context → Keyword → List (List ℕ) → Judged
-judged_as file c k words = judged_words (refused (word_tests c k words)) (judged_line (line_at (is_scheduled c) k words) (refused (line_tests file c (line_at (is_scheduled c) k words))))
+judged_as file c k words =
+    judged_words (refused (word_tests c k words))
+    (judged_line (line_at (is_scheduled c) k words) (refused (line_tests file c (line_at (is_scheduled c) k words))))
 
 -- What a line is: it has this reason first, or none, and then the lines so far and it make the same as before,
 -- or one line more.

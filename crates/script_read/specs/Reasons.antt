@@ -51,7 +51,9 @@ has reason.End file c text = false
 
 -- the reasons in the order in which they are tried. A whole file has the reason `end`, and no line
 abbrev pub reasons : List Reason
-reasons = reason.Byte ∷ reason.Long ∷ reason.Word ∷ reason.Order ∷ reason.Count ∷ reason.Form ∷ reason.Range ∷ reason.Kind ∷ reason.Twice ∷ reason.Unknown ∷ reason.Limit ∷ reason.End ∷ []
+reasons =
+    reason.Byte ∷ reason.Long ∷ reason.Word ∷ reason.Order ∷ reason.Count ∷ reason.Form ∷ reason.Range ∷ reason.Kind ∷
+    reason.Twice ∷ reason.Unknown ∷ reason.Limit ∷ reason.End ∷ []
 
 -- the first reason that a line has
 unfoldable pub first_reason : List Declared → Context → List ℕ → Option Reason

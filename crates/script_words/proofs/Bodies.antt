@@ -32,20 +32,25 @@ all_parts : (test : List (List ℕ) → Bool) (parts : List (List (Bor (List ℕ
 all_parts test [] = refl
 all_parts test (p ∷ ps) = rw (all_parts test ps) refl
 
-all_operations : (test : List (List ℕ) → Bool) (words : List (Bor (List ℕ))) → list_all (λ part. test (pieces part)) (parts_of words) ≡ list_all test (operations (pieces words))
+all_operations : (test : List (List ℕ) → Bool) (words : List (Bor (List ℕ)))
+    → list_all (λ part. test (pieces part)) (parts_of words) ≡ list_all test (operations (pieces words))
 all_operations test words = all_parts test (parts_of words) ∙ ap (list_all test) (parts_are_operations words)
 
 -- a part that was yielded is the next
-known_part : (P : List (List ℕ) → Type 0) (parts : List (List (Bor (List ℕ)))) (n : ℕ) (part : List (Bor (List ℕ))) → AllByRecursion P (map pieces parts) → n < length parts → part ≡ get_or parts n part → P (pieces part)
+known_part : (P : List (List ℕ) → Type 0) (parts : List (List (Bor (List ℕ)))) (n : ℕ) (part : List (Bor (List ℕ)))
+    → AllByRecursion P (map pieces parts) → n < length parts → part ≡ get_or parts n part → P (pieces part)
 known_part P [] n part known within is = absurd (omega arith)
 known_part P (p ∷ ps) zero part known within is = subst (λ (q : List (Bor (List ℕ))). P (pieces q)) (sym is) known.0
 known_part P (p ∷ ps) (suc n) part known within is = known_part P ps n part known.1 (omega arith) is
 
-pub known_operation : (P : List (List ℕ) → Type 0) (words : List (Bor (List ℕ))) (n : ℕ) (part : List (Bor (List ℕ))) → AllByRecursion P (operations (pieces words)) → n < length (parts_of words) → part ≡ get_or (parts_of words) n part → P (pieces part)
+pub known_operation : (P : List (List ℕ) → Type 0) (words : List (Bor (List ℕ))) (n : ℕ) (part : List (Bor (List ℕ)))
+    → AllByRecursion P (operations (pieces words)) → n < length (parts_of words) → part ≡ get_or (parts_of words) n part
+    → P (pieces part)
 known_operation P words n part known within is =
     known_part P (parts_of words) n part (subst (λ (ops : List (List (List ℕ))). AllByRecursion P ops) (sym (parts_are_operations words)) known) within is
 
-pub one_more : {A B : Type 0} (f : A → B) (parts : List A) (n : ℕ) (part : A) → n < length parts → part ≡ get_or parts n part → map f (take n parts) ++ f part ∷ [] ≡ map f (take (suc n) parts)
+pub one_more : {A B : Type 0} (f : A → B) (parts : List A) (n : ℕ) (part : A) → n < length parts
+    → part ≡ get_or parts n part → map f (take n parts) ++ f part ∷ [] ≡ map f (take (suc n) parts)
 one_more f [] n part within is = absurd (omega arith)
 one_more f (p ∷ ps) zero part within is = ap (λ q. f q ∷ []) is
 one_more f (p ∷ ps) (suc n) part within is = ap (λ qs. f p ∷ qs) (one_more f ps n part (omega arith) is)
@@ -66,20 +71,24 @@ and_true : (b : Bool) → (b && true) ≡ b
 and_true true = refl
 and_true false = refl
 
-pub one_more_passes : {A : Type 0} (test : A → Bool) (parts : List A) (n : ℕ) (part : A) → n < length parts → part ≡ get_or parts n part → list_all test (take (suc n) parts) ≡ (list_all test (take n parts) && test part)
+pub one_more_passes : {A : Type 0} (test : A → Bool) (parts : List A) (n : ℕ) (part : A) → n < length parts
+    → part ≡ get_or parts n part → list_all test (take (suc n) parts) ≡ (list_all test (take n parts) && test part)
 one_more_passes test [] n part within is = absurd (omega arith)
 one_more_passes test (p ∷ ps) zero part within is = and_true (test p) ∙ ap test (sym is)
 one_more_passes test (p ∷ ps) (suc n) part within is =
     let later = one_more_passes test ps n part (omega arith) is in
     rw later (and_again (test p) (list_all test (take n ps)) (test part))
 
-pub whole_passes : (test : List (List ℕ) → Bool) (words : List (Bor (List ℕ))) (n : ℕ) → n ≡ length (parts_of words) → list_all (λ part. test (pieces part)) (take n (parts_of words)) ≡ list_all test (operations (pieces words))
+pub whole_passes : (test : List (List ℕ) → Bool) (words : List (Bor (List ℕ))) (n : ℕ) → n ≡ length (parts_of words)
+    → list_all (λ part. test (pieces part)) (take n (parts_of words)) ≡ list_all test (operations (pieces words))
 whole_passes test words n h = ap (list_all (λ part. test (pieces part))) (take_whole (parts_of words) n h) ∙ all_operations test words
 
 map_parts : {B : Type 0} (f : List (List ℕ) → B) (parts : List (List (Bor (List ℕ)))) → map (λ part. f (pieces part)) parts ≡ map f (map pieces parts)
 map_parts f [] = refl
 map_parts f (p ∷ ps) = ap (λ qs. f (pieces p) ∷ qs) (map_parts f ps)
 
-pub whole_body : {B : Type 0} (f : List (List ℕ) → B) (words : List (Bor (List ℕ))) (n : ℕ) → n ≡ length (parts_of words) → map (λ part. f (pieces part)) (take n (parts_of words)) ≡ map f (operations (pieces words))
+pub whole_body : {B : Type 0} (f : List (List ℕ) → B) (words : List (Bor (List ℕ))) (n : ℕ)
+    → n ≡ length (parts_of words)
+    → map (λ part. f (pieces part)) (take n (parts_of words)) ≡ map f (operations (pieces words))
 whole_body f words n h =
     ap (map (λ part. f (pieces part))) (take_whole (parts_of words) n h) ∙ map_parts f (parts_of words) ∙ ap (map f) (parts_are_operations words)

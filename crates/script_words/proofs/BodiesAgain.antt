@@ -38,7 +38,8 @@ one_name (name ∷ []) h =
     let parts = both (is_object_name name) true (both (length (name ∷ []) == 1) (is_object_name name && true) h).1 in
     record { name = name; is = refl; right = parts.0 }
 one_name (name ∷ other ∷ words) h =
-    let size = eqb-true (length (name ∷ other ∷ words)) 1 (both (length (name ∷ other ∷ words) == 1) (each_passes has_form (operand.Name ∷ []) (name ∷ other ∷ words)) h).0 in
+    let size = eqb-true (length (name ∷ other ∷ words)) 1
+    (both (length (name ∷ other ∷ words) == 1) (each_passes has_form (operand.Name ∷ []) (name ∷ other ∷ words)) h).0 in
     absurd (omega arith)
 
 record IsDevice (words : List (List ℕ)) : Type 0 where
@@ -48,21 +49,26 @@ record IsDevice (words : List (List ℕ)) : Type 0 where
   numbered : Taken device number
   coded : Taken operand.Code code
 
-device_words : (words : List (List ℕ)) → are_words has_form (device ∷ operand.Code ∷ []) words ≡ true → are_words is_in_range (device ∷ operand.Code ∷ []) words ≡ true → IsDevice words
+device_words : (words : List (List ℕ)) → are_words has_form (device ∷ operand.Code ∷ []) words ≡ true
+    → are_words is_in_range (device ∷ operand.Code ∷ []) words ≡ true → IsDevice words
 device_words [] form range = absurd (cc)
 device_words (a ∷ []) form range =
     let size = eqb-true (length (a ∷ [])) 2 (both (length (a ∷ []) == 2) (each_passes has_form (device ∷ operand.Code ∷ []) (a ∷ [])) form).0 in
     absurd (omega arith)
 device_words (a ∷ b ∷ []) form range =
-    let forms : (has_form device a && (has_form operand.Code b && true)) ≡ true = (both (length (a ∷ b ∷ []) == 2) (each_passes has_form (device ∷ operand.Code ∷ []) (a ∷ b ∷ [])) form).1 in
-    let ranges : (is_in_range device a && (is_in_range operand.Code b && true)) ≡ true = (both (length (a ∷ b ∷ []) == 2) (each_passes is_in_range (device ∷ operand.Code ∷ []) (a ∷ b ∷ [])) range).1 in
+    let forms : (has_form device a && (has_form operand.Code b && true)) ≡ true =
+    (both (length (a ∷ b ∷ []) == 2) (each_passes has_form (device ∷ operand.Code ∷ []) (a ∷ b ∷ [])) form).1 in
+    let ranges : (is_in_range device a && (is_in_range operand.Code b && true)) ≡ true =
+    (both (length (a ∷ b ∷ []) == 2) (each_passes is_in_range (device ∷ operand.Code ∷ []) (a ∷ b ∷ [])) range).1 in
     let f = both (has_form device a) (has_form operand.Code b && true) forms in
     let r = both (is_in_range device a) (is_in_range operand.Code b && true) ranges in
     let g = both (has_form operand.Code b) true f.1 in
     let s = both (is_in_range operand.Code b) true r.1 in
     record { number = a; code = b; is = refl; numbered = taken device a refl f.0 r.0; coded = taken operand.Code b refl g.0 s.0 }
 device_words (a ∷ b ∷ c ∷ words) form range =
-    let size = eqb-true (length (a ∷ b ∷ c ∷ words)) 2 (both (length (a ∷ b ∷ c ∷ words) == 2) (each_passes has_form (device ∷ operand.Code ∷ []) (a ∷ b ∷ c ∷ words)) form).0 in
+    let size = eqb-true (length (a ∷ b ∷ c ∷ words)) 2
+    (both (length (a ∷ b ∷ c ∷ words) == 2)
+    (each_passes has_form (device ∷ operand.Code ∷ []) (a ∷ b ∷ c ∷ words)) form).0 in
     absurd (omega arith)
 
 -- an operation whose first word is this one
@@ -72,7 +78,9 @@ TakesOp kind words first = is_op has_form kind (first ∷ words) ≡ true → is
 of_word : (P : List ℕ → Type 0) (first word : List ℕ) → bytes_eq first word ≡ true → P word → P first
 of_word P first word e p = subst P (sym (same_bytes first word e)) p
 
-named : (kind : BodyKind) (first : List ℕ) (words : List (List ℕ)) → ((name : List ℕ) → is_object_name name ≡ true → OpTaken kind (first ∷ name ∷ [])) → are_words has_form (operand.Name ∷ []) words ≡ true → OpTaken kind (first ∷ words)
+named : (kind : BodyKind) (first : List ℕ) (words : List (List ℕ))
+    → ((name : List ℕ) → is_object_name name ≡ true → OpTaken kind (first ∷ name ∷ []))
+    → are_words has_form (operand.Name ∷ []) words ≡ true → OpTaken kind (first ∷ words)
 named kind first words go form =
     let n = one_name words form in
     subst (λ (ws : List (List ℕ)). OpTaken kind (first ∷ ws)) (sym n.is) (go n.name n.right)
@@ -85,20 +93,28 @@ device_taken words form range =
     let low = d.numbered.range in
     let right = d.coded.range in
     subst (λ (ws : List (List ℕ)). OpTaken body.Call (codes "device" ∷ ws)) (sym d.is)
-    (record { same = ap (λ (w : List ℕ). codes "device" ∷ w ∷ d.code ∷ []) number ∙ ap (λ (w : List ℕ). codes "device" ∷ (100 ∷ decimal (lettered_value d.number)) ∷ w ∷ []) code; range = rw (low, right) refl })
+    (record {
+      same = ap (λ (w : List ℕ). codes "device" ∷ w ∷ d.code ∷ []) number
+          ∙ ap (λ (w : List ℕ). codes "device" ∷ (100 ∷ decimal (lettered_value d.number)) ∷ w ∷ []) code;
+      range = rw (low, right) refl;
+    })
 
 op_taken : (kind : BodyKind) (words : List (List ℕ)) (first : List ℕ) → TakesOp kind words first
 op_taken body.Interrupt words first =
     by_test {P = TakesOp body.Interrupt words first} (bytes_eq first (codes "idfc"))
-    (λ i. of_word (TakesOp body.Interrupt words) first (codes "idfc") i (λ form range. named body.Interrupt (codes "idfc") words (λ name h. record { same = refl; range = h }) form))
+    (λ i. of_word (TakesOp body.Interrupt words) first (codes "idfc") i
+    (λ form range. named body.Interrupt (codes "idfc") words (λ name h. record { same = refl; range = h }) form))
     (λ i. by_test {P = TakesOp body.Interrupt words first} (bytes_eq first (codes "dfc"))
-    (λ d. of_word (TakesOp body.Interrupt words) first (codes "dfc") d (λ form range. named body.Interrupt (codes "dfc") words (λ name h. record { same = refl; range = h }) form))
+    (λ d. of_word (TakesOp body.Interrupt words) first (codes "dfc") d
+    (λ form range. named body.Interrupt (codes "dfc") words (λ name h. record { same = refl; range = h }) form))
     (λ d form range. let bad : false ≡ true = rw (i, d) at form in absurd (cc)))
 op_taken body.Call words first =
     by_test {P = TakesOp body.Call words first} (bytes_eq first (codes "fssignal"))
-    (λ f. of_word (TakesOp body.Call words) first (codes "fssignal") f (λ form range. named body.Call (codes "fssignal") words (λ name h. record { same = refl; range = h }) form))
+    (λ f. of_word (TakesOp body.Call words) first (codes "fssignal") f
+    (λ form range. named body.Call (codes "fssignal") words (λ name h. record { same = refl; range = h }) form))
     (λ f. by_test {P = TakesOp body.Call words first} (bytes_eq first (codes "queue"))
-    (λ q. of_word (TakesOp body.Call words) first (codes "queue") q (λ form range. named body.Call (codes "queue") words (λ name h. record { same = refl; range = h }) form))
+    (λ q. of_word (TakesOp body.Call words) first (codes "queue") q
+    (λ form range. named body.Call (codes "queue") words (λ name h. record { same = refl; range = h }) form))
     (λ q. by_test {P = TakesOp body.Call words first} (bytes_eq first (codes "device"))
     (λ d. of_word (TakesOp body.Call words) first (codes "device") d (device_taken words))
     (λ d form range. let bad : false ≡ true = rw (f, q, d) at form in absurd (cc))))
@@ -112,14 +128,20 @@ record OpsTaken (kind : BodyKind) (parts : List (List (List ℕ))) : Type 0 wher
   same : parts ≡ map op_words (map op_of parts)
   range : list_all (is_op_of kind) (map op_of parts) ≡ true
 
-ops_taken : (kind : BodyKind) (parts : List (List (List ℕ))) → list_all (is_op has_form kind) parts ≡ true → list_all (is_op is_in_range kind) parts ≡ true → OpsTaken kind parts
+ops_taken : (kind : BodyKind) (parts : List (List (List ℕ))) → list_all (is_op has_form kind) parts ≡ true
+    → list_all (is_op is_in_range kind) parts ≡ true → OpsTaken kind parts
 ops_taken kind [] form range = record { same = refl; range = refl }
 ops_taken kind (part ∷ parts) form range =
     let f = both (is_op has_form kind part) (list_all (is_op has_form kind) parts) form in
     let r = both (is_op is_in_range kind part) (list_all (is_op is_in_range kind) parts) range in
     let t = part_taken kind part f.0 r.0 in
     let later = ops_taken kind parts f.1 r.1 in
-    record { same = ap (λ (p : List (List ℕ)). p ∷ parts) t.same ∙ ap (λ (ps : List (List (List ℕ))). op_words (op_of part) ∷ ps) later.same; range = rw (t.range, later.range) refl }
+    record {
+      same =
+          ap (λ (p : List (List ℕ)). p ∷ parts) t.same
+          ∙ ap (λ (ps : List (List (List ℕ))). op_words (op_of part) ∷ ps) later.same;
+      range = rw (t.range, later.range) refl;
+    }
 
 body_joined : (ops : List Op) → body_words ops ≡ joined (codes ";") (map op_words ops)
 body_joined [] = refl
@@ -131,16 +153,21 @@ pub record BodyTaken (kind : Option BodyKind) (words : List (List ℕ)) : Type 0
   pub same : words ≡ body_words (body_in kind words)
   pub range : is_body kind (body_in kind words) ≡ true
 
-some_range : (kind : BodyKind) (parts : List (List (List ℕ))) → (parts ≡ [] → ⊥) → list_all (is_op_of kind) (map op_of parts) ≡ true → is_body (Some kind) (map op_of parts) ≡ true
+some_range : (kind : BodyKind) (parts : List (List (List ℕ))) → (parts ≡ [] → ⊥)
+    → list_all (is_op_of kind) (map op_of parts) ≡ true → is_body (Some kind) (map op_of parts) ≡ true
 some_range kind [] some h = absurd (some refl)
 some_range kind (part ∷ parts) some h = h
 
-pub body_taken : (kind : BodyKind) (words : List (List ℕ)) → list_all (is_op has_form kind) (operations words) ≡ true → list_all (is_op is_in_range kind) (operations words) ≡ true → BodyTaken (Some kind) words
+pub body_taken : (kind : BodyKind) (words : List (List ℕ)) → list_all (is_op has_form kind) (operations words) ≡ true
+    → list_all (is_op is_in_range kind) (operations words) ≡ true → BodyTaken (Some kind) words
 body_taken kind words form range =
     let t = ops_taken kind (operations words) form range in
     let ends : List ℕ → Bool = λ word. bytes_eq word (codes ";") in
     record {
-      same = sym (split_joined ends (codes ";") (λ w e. same_bytes w (codes ";") e) words) ∙ ap (joined (codes ";")) t.same ∙ sym (body_joined (map op_of (operations words)));
+      same =
+          sym (split_joined ends (codes ";") (λ w e. same_bytes w (codes ";") e) words)
+          ∙ ap (joined (codes ";")) t.same
+          ∙ sym (body_joined (map op_of (operations words)));
       range = some_range kind (operations words) (split_some ends words) t.range;
     }
 
@@ -158,10 +185,18 @@ pub record OpAgain (kind : BodyKind) (what : Op) : Type 0 where
   pub value : op_of (op_words what) ≡ what
 
 op_again : (kind : BodyKind) (what : Op) → is_op_of kind what ≡ true → OpAgain kind what
-op_again body.Interrupt (op.Idfc name) h = let o = other_word is_object_name name h refl in record { clear = rw o refl; form = rw h refl; range = refl; value = refl }
-op_again body.Interrupt (op.Dfc name) h = let o = other_word is_object_name name h refl in record { clear = rw o refl; form = rw h refl; range = refl; value = refl }
-op_again body.Call (op.Fssignal name) h = let o = other_word is_object_name name h refl in record { clear = rw o refl; form = rw h refl; range = refl; value = refl }
-op_again body.Call (op.Queue name) h = let o = other_word is_object_name name h refl in record { clear = rw o refl; form = rw h refl; range = refl; value = refl }
+op_again body.Interrupt (op.Idfc name) h =
+    let o = other_word is_object_name name h refl in
+    record { clear = rw o refl; form = rw h refl; range = refl; value = refl }
+op_again body.Interrupt (op.Dfc name) h =
+    let o = other_word is_object_name name h refl in
+    record { clear = rw o refl; form = rw h refl; range = refl; value = refl }
+op_again body.Call (op.Fssignal name) h =
+    let o = other_word is_object_name name h refl in
+    record { clear = rw o refl; form = rw h refl; range = refl; value = refl }
+op_again body.Call (op.Queue name) h =
+    let o = other_word is_object_name name h refl in
+    record { clear = rw o refl; form = rw h refl; range = refl; value = refl }
 op_again body.Call (op.Device x code) h =
     let parts = both _ _ h in
     let a = again device x refl parts.0 in
@@ -176,12 +211,16 @@ AreAgain kind (what ∷ ops) = OpAgain kind what × AreAgain kind ops
 
 are_again : (kind : BodyKind) (ops : List Op) → list_all (is_op_of kind) ops ≡ true → AreAgain kind ops
 are_again kind [] h = tt
-are_again kind (what ∷ ops) h = let parts = both (is_op_of kind what) (list_all (is_op_of kind) ops) h in (op_again kind what parts.0, are_again kind ops parts.1)
+are_again kind (what ∷ ops) h =
+    let parts = both (is_op_of kind what) (list_all (is_op_of kind) ops) h in
+    (op_again kind what parts.0, are_again kind ops parts.1)
 
 cut_again : (kind : BodyKind) (what : Op) (ops : List Op) → AreAgain kind (what ∷ ops) → operations (body_words (what ∷ ops)) ≡ map op_words (what ∷ ops)
 cut_again kind what [] all = split_clear (λ word. bytes_eq word (codes ";")) (op_words what) all.0.clear
 cut_again kind what (next ∷ ops) all =
-    split_before (λ word. bytes_eq word (codes ";")) (op_words what) (codes ";") (body_words (next ∷ ops)) all.0.clear refl ∙ ap (λ (ps : List (List (List ℕ))). op_words what ∷ ps) (cut_again kind next ops all.1)
+    split_before (λ word. bytes_eq word (codes ";")) (op_words what) (codes ";")
+    (body_words (next ∷ ops)) all.0.clear refl
+    ∙ ap (λ (ps : List (List (List ℕ))). op_words what ∷ ps) (cut_again kind next ops all.1)
 
 forms_again : (kind : BodyKind) (ops : List Op) → AreAgain kind ops → list_all (is_op has_form kind) (map op_words ops) ≡ true
 forms_again kind [] all = refl
@@ -193,7 +232,9 @@ ranges_again kind (what ∷ ops) all = rw (all.0.range, ranges_again kind ops al
 
 values_again : (kind : BodyKind) (ops : List Op) → AreAgain kind ops → map op_of (map op_words ops) ≡ ops
 values_again kind [] all = refl
-values_again kind (what ∷ ops) all = ap (λ (o : Op). o ∷ map op_of (map op_words ops)) all.0.value ∙ ap (λ (os : List Op). what ∷ os) (values_again kind ops all.1)
+values_again kind (what ∷ ops) all =
+    ap (λ (o : Op). o ∷ map op_of (map op_words ops)) all.0.value
+    ∙ ap (λ (os : List Op). what ∷ os) (values_again kind ops all.1)
 
 -- a body in range
 pub record BodyAgain (kind : Option BodyKind) (ops : List Op) : Type 0 where

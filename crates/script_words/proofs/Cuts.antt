@@ -29,7 +29,8 @@ nowhere at (b ∷ bs) others =
 pub cut_none : (at : ℕ) (bytes : List ℕ) → All (λ b. b ≢ at) bytes → cut_of at bytes ≡ None
 cut_none at bytes others = nowhere at bytes (recursion_from_All (λ b. b ≢ at) bytes others)
 
-pub cut_some : (at : ℕ) (bytes : List ℕ) (i : ℕ) → position (λ b. eqb b at) bytes ≡ Some i → Some (take i bytes, take (length bytes - (i + 1)) (drop (i + 1) bytes)) ≡ cut_of at bytes
+pub cut_some : (at : ℕ) (bytes : List ℕ) (i : ℕ) → position (λ b. eqb b at) bytes ≡ Some i
+    → Some (take i bytes, take (length bytes - (i + 1)) (drop (i + 1) bytes)) ≡ cut_of at bytes
 cut_some at bytes i found =
     let first = position-Some (λ b. eqb b at) bytes i 0 found in
     rw (take_rest, add-one) (sym (at_first at bytes i first.0 first.1 first.2))
@@ -42,7 +43,8 @@ nowhere_far at (b ∷ bs) h =
     (λ e. absurd (h 0 (omega arith) e))
     (λ e. let later = sym (nowhere_far at bs (λ k lt is. h (suc k) (omega arith) is)) in rw (e, later) refl)
 
-first_far : (at : ℕ) (bytes : List ℕ) (i : ℕ) → i < length bytes → (slice_index bytes i == at) ≡ true → ((k : ℕ) → k < i → (slice_index bytes k == at) ≡ true → ⊥)
+first_far : (at : ℕ) (bytes : List ℕ) (i : ℕ) → i < length bytes → (slice_index bytes i == at) ≡ true
+    → ((k : ℕ) → k < i → (slice_index bytes k == at) ≡ true → ⊥)
     → cut_of at bytes ≡ Some (take i bytes, drop (suc i) bytes)
 first_far at [] i within here before = absurd (omega arith)
 first_far at (b ∷ bs) zero within here before = rw here refl
@@ -51,6 +53,7 @@ first_far at (b ∷ bs) (suc i) within here before =
     (λ e. absurd (before 0 (omega arith) e))
     (λ e. let later = first_far at bs i (omega arith) here (λ k lt is. before (suc k) (omega arith) is) in rw (e, later) refl)
 
-pub cut_far : (at : ℕ) (bytes : List ℕ) (i : ℕ) → i < length bytes → (slice_index bytes i == at) ≡ true → ((k : ℕ) → k < i → (slice_index bytes k == at) ≡ true → ⊥)
+pub cut_far : (at : ℕ) (bytes : List ℕ) (i : ℕ) → i < length bytes → (slice_index bytes i == at) ≡ true
+    → ((k : ℕ) → k < i → (slice_index bytes k == at) ≡ true → ⊥)
     → Some (take i bytes, take (length bytes - (i + 1)) (drop (i + 1) bytes)) ≡ cut_of at bytes
 cut_far at bytes i within here before = rw (take_rest, add-one) (sym (first_far at bytes i within here before))

@@ -12,17 +12,20 @@ use Rattle.script_words.proofs.Numbers.{number_takes, number_again}
 use Rattle.script_words.proofs.Steps.{both, guard_some}
 
 -- a number in its range
-some_number : (max : ℕ) (word : List ℕ) (b : Bool) → (is_number word && nat_le (digits_value 10 word) max) ≡ b → b ≡ true → number_of max word ≡ Some (digits_value 10 word)
+some_number : (max : ℕ) (word : List ℕ) (b : Bool) → (is_number word && nat_le (digits_value 10 word) max) ≡ b
+    → b ≡ true → number_of max word ≡ Some (digits_value 10 word)
 unfolding number_of
 some_number max word b e h = rw (e ∙ h) refl
 
-pub natural_takes : (low high : ℕ) (word : List ℕ) → high < 2 ^ 32 → is_natural low high word ≡ true → (word ≡ decimal (digits_value 10 word)) × (low ≤ digits_value 10 word) × (digits_value 10 word ≤ high)
+pub natural_takes : (low high : ℕ) (word : List ℕ) → high < 2 ^ 32 → is_natural low high word ≡ true
+    → (word ≡ decimal (digits_value 10 word)) × (low ≤ digits_value 10 word) × (digits_value 10 word ≤ high)
 natural_takes low high word small h =
     let parts = both (is_number word && nat_le (digits_value 10 word) high) (nat_le low (digits_value 10 word)) h in
     let found = number_takes high word (digits_value 10 word) small (some_number high word true parts.0 refl) in
     (found.0, leb-true low (digits_value 10 word) parts.1, found.1)
 
-pub number_is : (max n : ℕ) → number_of max (decimal n) ≡ Some n → ((is_number (decimal n) && nat_le (digits_value 10 (decimal n)) max) ≡ true) × (digits_value 10 (decimal n) ≡ n)
+pub number_is : (max n : ℕ) → number_of max (decimal n) ≡ Some n
+    → ((is_number (decimal n) && nat_le (digits_value 10 (decimal n)) max) ≡ true) × (digits_value 10 (decimal n) ≡ n)
 unfolding number_of
 number_is max n h = guard_some (is_number (decimal n) && nat_le (digits_value 10 (decimal n)) max) (digits_value 10 (decimal n)) n h
 
@@ -53,7 +56,9 @@ natural_is_number low high word h =
 same_letter : (c letter : ℕ) → (c == letter) ≡ true → c ≡ letter
 same_letter c letter h = grind (arith, nat_tests)
 
-pub lettered_takes : (letter last : ℕ) (word : List ℕ) → last < 2 ^ 32 → is_lettered letter word ≡ true → is_lettered_within last word ≡ true → (word ≡ letter ∷ decimal (lettered_value word)) × (lettered_value word ≤ last)
+pub lettered_takes : (letter last : ℕ) (word : List ℕ) → last < 2 ^ 32 → is_lettered letter word ≡ true
+    → is_lettered_within last word ≡ true
+    → (word ≡ letter ∷ decimal (lettered_value word)) × (lettered_value word ≤ last)
 lettered_takes letter last [] small form range = absurd (cc)
 lettered_takes letter last (c ∷ digits) small form range =
     let parts = both (c == letter) (is_number digits) form in
@@ -61,7 +66,9 @@ lettered_takes letter last (c ∷ digits) small form range =
     let first = same_letter c letter parts.0 in
     (ap (λ (d : ℕ). d ∷ digits) first ∙ ap (λ (ds : List ℕ). letter ∷ ds) found.0, found.2)
 
-pub lettered_again : (letter last n : ℕ) → last < 2 ^ 32 → n ≤ last → (is_lettered letter (letter ∷ decimal n) ≡ true) × (is_lettered_within last (letter ∷ decimal n) ≡ true) × (lettered_value (letter ∷ decimal n) ≡ n)
+pub lettered_again : (letter last n : ℕ) → last < 2 ^ 32 → n ≤ last
+    → (is_lettered letter (letter ∷ decimal n) ≡ true) × (is_lettered_within last (letter ∷ decimal n) ≡ true)
+    × (lettered_value (letter ∷ decimal n) ≡ n)
 lettered_again letter last n small under =
     let found = natural_again 0 last n small (omega arith) under in
     let here : (letter == letter) ≡ true = grind (arith, nat_tests) in

@@ -11,28 +11,39 @@ use Rattle.script_types.specs.declared.source_line.SourceLine.TheVariants as lin
 use Rattle.sym_base.specs.declared.word.Word.{Word}
 use Rattle.sym_base.specs.declared.word.Word.TheVariants as word
 
-pub at_word : {w : Word} {what : Instr} (v : Word) (second : Bool) (words : List (List ℕ)) → w ≡ v → what ≡ instr_of v second (values_at (instr_operands v second) words 1) → what ≡ instr_at w second words
+pub at_word : {w : Word} {what : Instr} (v : Word) (second : Bool) (words : List (List ℕ)) → w ≡ v
+    → what ≡ instr_of v second (values_at (instr_operands v second) words 1) → what ≡ instr_at w second words
 unfolding instr_at
 at_word {w} {what} v second words is h = h ∙ ap (λ (u : Word). instr_of u second (values_at (instr_operands u second) words 1)) (sym is)
 
-pub at_second : {second : Bool} {what : Instr} (b : Bool) (words : List (List ℕ)) → second ≡ b → what ≡ instr_of word.Create b (values_at (instr_operands word.Create b) words 1) → what ≡ instr_at word.Create second words
+pub at_second : {second : Bool} {what : Instr} (b : Bool) (words : List (List ℕ)) → second ≡ b
+    → what ≡ instr_of word.Create b (values_at (instr_operands word.Create b) words 1)
+    → what ≡ instr_at word.Create second words
 unfolding instr_at
 at_second {second} {what} b words is h = h ∙ ap (λ (s : Bool). instr_of word.Create s (values_at (instr_operands word.Create s) words 1)) (sym is)
 
-pub at_keyword : {k : Keyword} {l : SourceLine} (v : Keyword) (second : Bool) (words : List (List ℕ)) → k ≡ v → l ≡ line_of v second (values_at (operands_of v second) words 1) (body_at v second words) → l ≡ line_as k second words
+pub at_keyword : {k : Keyword} {l : SourceLine} (v : Keyword) (second : Bool) (words : List (List ℕ)) → k ≡ v
+    → l ≡ line_of v second (values_at (operands_of v second) words 1) (body_at v second words)
+    → l ≡ line_as k second words
 unfolding line_as
 at_keyword {k} {l} v second words is h = h ∙ ap (λ (u : Keyword). line_of u second (values_at (operands_of u second) words 1) (body_at u second words)) (sym is)
 
-pub instr_line : (w : Word) (k : Keyword) (second : Bool) (words : List (List ℕ)) (what : Instr) → k ≡ key.Instr w → what ≡ instr_at w second words → line.Instr what ≡ line_as k second words
+pub instr_line : (w : Word) (k : Keyword) (second : Bool) (words : List (List ℕ)) (what : Instr) → k ≡ key.Instr w
+    → what ≡ instr_at w second words → line.Instr what ≡ line_as k second words
 unfolding instr_at line_as
-instr_line w k second words what is h = ap line.Instr h ∙ ap (λ (u : Keyword). line_of u second (values_at (operands_of u second) words 1) (body_at u second words)) (sym is)
+instr_line w k second words what is h =
+    ap line.Instr h
+    ∙ ap (λ (u : Keyword). line_of u second (values_at (operands_of u second) words 1) (body_at u second words))
+    (sym is)
 
-pub kernel_line : (second : Bool) (words : List (List ℕ)) (name : List ℕ) (p : ℕ) → name ≡ word_at words 1 → p ≡ natural (word_at words 2) → line.KernelThread name p second ≡ line_as key.Kthread second words
+pub kernel_line : (second : Bool) (words : List (List ℕ)) (name : List ℕ) (p : ℕ) → name ≡ word_at words 1
+    → p ≡ natural (word_at words 2) → line.KernelThread name p second ≡ line_as key.Kthread second words
 unfolding line_as
 kernel_line true words name p h e = ap (λ (n : List ℕ). line.KernelThread n p true) h ∙ ap (λ (q : ℕ). line.KernelThread (word_at words 1) q true) e
 kernel_line false words name p h e = ap (λ (n : List ℕ). line.KernelThread n p false) h ∙ ap (λ (q : ℕ). line.KernelThread (word_at words 1) q false) e
 
-pub thread_line : (second : Bool) (words : List (List ℕ)) (name : List ℕ) (p : ℕ) → name ≡ word_at words 1 → p ≡ natural (word_at words 2) → line.Thread name p second ≡ line_as key.Thread second words
+pub thread_line : (second : Bool) (words : List (List ℕ)) (name : List ℕ) (p : ℕ) → name ≡ word_at words 1
+    → p ≡ natural (word_at words 2) → line.Thread name p second ≡ line_as key.Thread second words
 unfolding line_as
 thread_line true words name p h e = ap (λ (n : List ℕ). line.Thread n p true) h ∙ ap (λ (q : ℕ). line.Thread (word_at words 1) q true) e
 thread_line false words name p h e = ap (λ (n : List ℕ). line.Thread n p false) h ∙ ap (λ (q : ℕ). line.Thread (word_at words 1) q false) e

@@ -65,12 +65,16 @@ kept : Option BodyKind → List Op → List Op
 kept None ops = []
 kept (Some kind) ops = ops
 
-instr_words : (second : Bool) (w : Word) (values : Values (instr_operands w second)) → source_words (line.Instr (instr_of w second values)) ≡ word_text w ∷ (value_words (instr_operands w second) values ++ [])
+pub instr_words : (second : Bool) (w : Word) (values : Values (instr_operands w second))
+    → source_words (line.Instr (instr_of w second values))
+    ≡ word_text w ∷ (value_words (instr_operands w second) values ++ [])
 instr_words true word.Create values = refl
 instr_words false word.Create values = refl
 instr_words second _ values = refl
 
-form_words : (second : Bool) (k : Keyword) (values : Values (operands_of k second)) (ops : List Op) → source_words (line_of k second values ops) ≡ keyword_text k ∷ (value_words (operands_of k second) values ++ body_words (kept (body_of k second) ops))
+form_words : (second : Bool) (k : Keyword) (values : Values (operands_of k second)) (ops : List Op)
+    → source_words (line_of k second values ops)
+    ≡ keyword_text k ∷ (value_words (operands_of k second) values ++ body_words (kept (body_of k second) ops))
 unfolding kept
 form_words second (key.Instr w) values ops = instr_words second w values
 form_words true key.Kthread values ops = refl
@@ -81,12 +85,15 @@ form_words true key.Irq values ops = refl
 form_words false key.Irq values ops = refl
 form_words second _ values ops = refl
 
-instr_range : (second : Bool) (w : Word) (values : Values (instr_operands w second)) → is_source_line (line.Instr (instr_of w second values)) ≡ (are_values (instr_operands w second) values && true)
+instr_range : (second : Bool) (w : Word) (values : Values (instr_operands w second))
+    → is_source_line (line.Instr (instr_of w second values)) ≡ (are_values (instr_operands w second) values && true)
 instr_range true word.Create values = refl
 instr_range false word.Create values = refl
 instr_range second _ values = refl
 
-form_range : (second : Bool) (k : Keyword) (values : Values (operands_of k second)) (ops : List Op) → is_source_line (line_of k second values ops) ≡ (are_values (operands_of k second) values && is_body (body_of k second) (kept (body_of k second) ops))
+form_range : (second : Bool) (k : Keyword) (values : Values (operands_of k second)) (ops : List Op)
+    → is_source_line (line_of k second values ops)
+    ≡ (are_values (operands_of k second) values && is_body (body_of k second) (kept (body_of k second) ops))
 unfolding kept
 form_range second (key.Instr w) values ops = instr_range second w values
 form_range true key.Kthread values ops = refl
@@ -97,7 +104,8 @@ form_range true key.Irq values ops = refl
 form_range false key.Irq values ops = refl
 form_range second _ values ops = refl
 
-form_kind : (second : Bool) (k : Keyword) (values : Values (operands_of k second)) (ops : List Op) → kind_of (line_of k second values ops) ≡ keyword_kind second k
+form_kind : (second : Bool) (k : Keyword) (values : Values (operands_of k second)) (ops : List Op)
+    → kind_of (line_of k second values ops) ≡ keyword_kind second k
 form_kind true key.Kthread values ops = refl
 form_kind false key.Kthread values ops = refl
 form_kind true key.Thread values ops = refl
@@ -115,7 +123,9 @@ pub kind_at : (scheduled : Bool) (k : Keyword) (words : List (List ℕ)) → kin
 unfolding line_as
 kind_at scheduled k words = form_kind (second_of scheduled k words) k _ _ ∙ second_kind scheduled k words
 
-instr_back : (what : Instr) → line_of (form_of (line.Instr what)).keyword (form_of (line.Instr what)).second (form_of (line.Instr what)).values (form_of (line.Instr what)).body ≡ line.Instr what
+instr_back : (what : Instr)
+    → line_of (form_of (line.Instr what)).keyword (form_of (line.Instr what)).second (form_of (line.Instr what)).values
+    (form_of (line.Instr what)).body ≡ line.Instr what
 instr_back instr.Enter = refl
 instr_back _ = refl
 
@@ -137,7 +147,8 @@ behind_is : (operands : List Operand) (i : ℕ) → behind operands i ≡ i + le
 behind_is [] i = omega arith
 behind_is (what ∷ operands) i = let later = behind_is operands (suc i) in omega arith
 
-next_drop : (test : Operand → List ℕ → Bool) (what : Operand) (operands : List Operand) (words : List (List ℕ)) (i : ℕ) → each_passes test (what ∷ operands) (drop i words) ≡ true → drop i words ≡ word_at words i ∷ drop (suc i) words
+next_drop : (test : Operand → List ℕ → Bool) (what : Operand) (operands : List Operand) (words : List (List ℕ)) (i : ℕ)
+    → each_passes test (what ∷ operands) (drop i words) ≡ true → drop i words ≡ word_at words i ∷ drop (suc i) words
 next_drop test what operands [] zero h = absurd (cc)
 next_drop test what operands [] (suc i) h = absurd (cc)
 next_drop test what operands (w ∷ ws) zero h = refl
@@ -147,7 +158,9 @@ record AreTaken (operands : List Operand) (words : List (List ℕ)) (i : ℕ) : 
   same : drop i words ≡ value_words operands (values_at operands words i) ++ drop (behind operands i) words
   range : are_values operands (values_at operands words i) ≡ true
 
-values_taken : (operands : List Operand) (words : List (List ℕ)) (i : ℕ) → list_all is_small operands ≡ true → each_passes has_form operands (drop i words) ≡ true → each_passes is_in_range operands (drop i words) ≡ true → AreTaken operands words i
+values_taken : (operands : List Operand) (words : List (List ℕ)) (i : ℕ) → list_all is_small operands ≡ true
+    → each_passes has_form operands (drop i words) ≡ true → each_passes is_in_range operands (drop i words) ≡ true
+    → AreTaken operands words i
 values_taken [] words i fits form range = record { same = refl; range = refl }
 values_taken (what ∷ operands) words i fits form range =
     let small = both (is_small what) (list_all is_small operands) fits in
@@ -156,7 +169,10 @@ values_taken (what ∷ operands) words i fits form range =
     let t = taken what (word_at words i) small.0 f.0 r.0 in
     let later = values_taken operands words (suc i) small.1 f.1 r.1 in
     record {
-      same = next_drop has_form what operands words i form ∙ ap (λ (w : List ℕ). w ∷ drop (suc i) words) t.same ∙ ap (λ (ws : List (List ℕ)). value_word what (value_of what (word_at words i)) ∷ ws) later.same;
+      same =
+          next_drop has_form what operands words i form
+          ∙ ap (λ (w : List ℕ). w ∷ drop (suc i) words) t.same
+          ∙ ap (λ (ws : List (List ℕ)). value_word what (value_of what (word_at words i)) ∷ ws) later.same;
       range = rw (t.range, later.range) refl;
     }
 
@@ -179,7 +195,9 @@ unfolding kept
 kept_body None words = refl
 kept_body (Some kind) words = refl
 
-body_part_taken : (kind : Option BodyKind) (operands : List Operand) (words : List (List ℕ)) → is_counted_with kind operands words ≡ true → body_passes has_form kind (body_part operands words) ≡ true → body_passes is_in_range kind (body_part operands words) ≡ true → BodyTaken kind (body_part operands words)
+body_part_taken : (kind : Option BodyKind) (operands : List Operand) (words : List (List ℕ))
+    → is_counted_with kind operands words ≡ true → body_passes has_form kind (body_part operands words) ≡ true
+    → body_passes is_in_range kind (body_part operands words) ≡ true → BodyTaken kind (body_part operands words)
 body_part_taken None operands words count form range =
     let size = eqb-true (length words) (suc (length operands)) count in
     record { same = drop_all (suc (length operands)) words (omega arith); range = refl }
@@ -190,7 +208,9 @@ pub record LineTaken (scheduled : Bool) (k : Keyword) (words : List (List ℕ)) 
   pub same : words ≡ source_words (line_at scheduled k words)
   pub range : is_source_line (line_at scheduled k words) ≡ true
 
-pub takes : (scheduled : Bool) (k : Keyword) (words : List (List ℕ)) → is_counted scheduled k words ≡ true → word_at words 0 ≡ keyword_text k → have_forms scheduled k words ≡ true → are_in_range scheduled k words ≡ true → LineTaken scheduled k words
+pub takes : (scheduled : Bool) (k : Keyword) (words : List (List ℕ)) → is_counted scheduled k words ≡ true
+    → word_at words 0 ≡ keyword_text k → have_forms scheduled k words ≡ true → are_in_range scheduled k words ≡ true
+    → LineTaken scheduled k words
 unfolding line_as
 takes scheduled k words count first forms ranges =
     let second = second_of scheduled k words in
@@ -206,7 +226,9 @@ takes scheduled k words count first forms ranges =
     let same = kept_body kind part in
     record {
       same = front words (some_words kind operands words count) ∙ ap (λ (w : List ℕ). w ∷ drop 1 words) first
-          ∙ ap (λ (ws : List (List ℕ)). keyword_text k ∷ ws) (t.same ∙ ap (λ (n : ℕ). value_words operands values ++ drop n words) place ∙ ap (λ (ws : List (List ℕ)). value_words operands values ++ ws) (b.same ∙ ap body_words (sym same)))
+          ∙ ap (λ (ws : List (List ℕ)). keyword_text k ∷ ws)
+          (t.same ∙ ap (λ (n : ℕ). value_words operands values ++ drop n words) place
+          ∙ ap (λ (ws : List (List ℕ)). value_words operands values ++ ws) (b.same ∙ ap body_words (sym same)))
           ∙ sym (form_words second k values (body_in kind part));
       range = form_range second k values (body_in kind part) ∙ rw (t.range, same, b.range) refl;
     }
@@ -216,7 +238,10 @@ values_size : (operands : List Operand) (values : Values operands) → length (v
 values_size [] values = refl
 values_size (what ∷ operands) values = ap suc (values_size operands values.1)
 
-forms_pass : (operands : List Operand) (values : Values operands) (tail : List (List ℕ)) → list_all is_small operands ≡ true → are_values operands values ≡ true → (each_passes has_form operands (value_words operands values ++ tail) ≡ true) × (each_passes is_in_range operands (value_words operands values ++ tail) ≡ true)
+forms_pass : (operands : List Operand) (values : Values operands) (tail : List (List ℕ))
+    → list_all is_small operands ≡ true → are_values operands values ≡ true
+    → (each_passes has_form operands (value_words operands values ++ tail) ≡ true)
+    × (each_passes is_in_range operands (value_words operands values ++ tail) ≡ true)
 forms_pass [] values tail fits h = (refl, refl)
 forms_pass (what ∷ operands) values tail fits h =
     let small = both (is_small what) (list_all is_small operands) fits in
@@ -231,7 +256,9 @@ here [] rest w (suc i) h = absurd (cc)
 here (x ∷ xs) rest w zero h = (cc, cc)
 here (x ∷ xs) rest w (suc i) h = here xs rest w i h
 
-values_again : (operands : List Operand) (values : Values operands) (words tail : List (List ℕ)) (i : ℕ) → list_all is_small operands ≡ true → are_values operands values ≡ true → drop i words ≡ value_words operands values ++ tail → values_at operands words i ≡ values
+values_again : (operands : List Operand) (values : Values operands) (words tail : List (List ℕ)) (i : ℕ)
+    → list_all is_small operands ≡ true → are_values operands values ≡ true
+    → drop i words ≡ value_words operands values ++ tail → values_at operands words i ≡ values
 values_again [] values words tail i fits h e = refl
 values_again (what ∷ operands) values words tail i fits h e =
     let small = both (is_small what) (list_all is_small operands) fits in
@@ -244,11 +271,14 @@ values_again (what ∷ operands) values words tail i fits h e =
     ap (λ (v : Value what). one v (values_at operands words (suc i))) first ∙ ap (λ (vs : Values operands). one values.0 vs) later
 
 -- which form the words of a line are
-instr_second : (scheduled : Bool) (what : Instr) → second_of scheduled (form_of (line.Instr what)).keyword (source_words (line.Instr what)) ≡ (form_of (line.Instr what)).second
+instr_second : (scheduled : Bool) (what : Instr)
+    → second_of scheduled (form_of (line.Instr what)).keyword (source_words (line.Instr what))
+    ≡ (form_of (line.Instr what)).second
 instr_second scheduled instr.Enter = refl
 instr_second scheduled _ = refl
 
-second_again : (scheduled : Bool) (l : SourceLine) → keyword_kind scheduled (form_of l).keyword ≡ kind_of l → second_of scheduled (form_of l).keyword (source_words l) ≡ (form_of l).second
+second_again : (scheduled : Bool) (l : SourceLine) → keyword_kind scheduled (form_of l).keyword ≡ kind_of l
+    → second_of scheduled (form_of l).keyword (source_words l) ≡ (form_of l).second
 second_again scheduled (line.Instr what) e = instr_second scheduled what
 second_again true (line.IrqBody k body) e = absurd (cc)
 second_again false (line.IrqBody k body) e = refl
@@ -279,7 +309,9 @@ no_body : (ops : List Op) → is_body None ops ≡ true → ops ≡ []
 no_body [] h = refl
 no_body (what ∷ ops) h = absurd (cc)
 
-counted : (kind : Option BodyKind) (operands : List Operand) (values : Values operands) (first : List ℕ) (ops : List Op) → is_body kind ops ≡ true → is_counted_with kind operands (first ∷ (value_words operands values ++ body_words ops)) ≡ true
+counted : (kind : Option BodyKind) (operands : List Operand) (values : Values operands) (first : List ℕ) (ops : List Op)
+    → is_body kind ops ≡ true
+    → is_counted_with kind operands (first ∷ (value_words operands values ++ body_words ops)) ≡ true
 counted None operands values first ops h =
     let none = no_body ops h in
     let size = values_size operands values in
@@ -315,7 +347,8 @@ line_again scheduled l v e =
     let p = forms_pass operands f.values tail (form_small f.second f.keyword) parts.0 in
     let b = body_again kind f.body parts.1 in
     let size = values_size operands f.values in
-    let part : body_part operands words ≡ tail = ap (λ (n : ℕ). drop n (value_words operands f.values ++ tail)) (sym size) ∙ drop-append_seam (value_words operands f.values) tail in
+    let part : body_part operands words ≡ tail = ap (λ (n : ℕ). drop n (value_words operands f.values ++ tail))
+    (sym size) ∙ drop-append_seam (value_words operands f.values) tail in
     let form : all_pass_as has_form f.keyword f.second words ≡ true = rw (p.0, part, b.form) refl in
     let range : all_pass_as is_in_range f.keyword f.second words ≡ true = rw (p.1, part, b.range) refl in
     let values = values_again operands f.values words tail 1 (form_small f.second f.keyword) parts.0 refl in
@@ -326,5 +359,9 @@ line_again scheduled l v e =
       counted = ap (λ (s : Bool). is_counted_as f.keyword s words) second ∙ counted kind operands f.values (keyword_text f.keyword) f.body parts.1;
       forms = ap (λ (s : Bool). all_pass_as has_form f.keyword s words) second ∙ form;
       ranges = ap (λ (s : Bool). all_pass_as is_in_range f.keyword s words) second ∙ range;
-      same = ap (λ (s : Bool). line_as f.keyword s words) second ∙ ap (λ (vs : Values operands). line_of f.keyword f.second vs (body_at f.keyword f.second words)) values ∙ ap (line_of f.keyword f.second f.values) ops ∙ form_back l;
+      same =
+          ap (λ (s : Bool). line_as f.keyword s words) second
+          ∙ ap (λ (vs : Values operands). line_of f.keyword f.second vs (body_at f.keyword f.second words)) values
+          ∙ ap (line_of f.keyword f.second f.values) ops
+          ∙ form_back l;
     }

@@ -64,7 +64,8 @@ number_again max n small le =
     rw (some, digits, no_leading_zero n fits, value, low) refl
 
 -- one digit more
-digit_more : (digits : List ℕ) (i : ℕ) → i < length digits → is_ascii_digit (get_or digits i 0) ≡ true → digits_value 10 (take (i + 1) digits) ≡ digits_value 10 (take i digits) * 10 + (get_or digits i 0 - 48)
+digit_more : (digits : List ℕ) (i : ℕ) → i < length digits → is_ascii_digit (get_or digits i 0) ≡ true
+    → digits_value 10 (take (i + 1) digits) ≡ digits_value 10 (take i digits) * 10 + (get_or digits i 0 - 48)
 digit_more digits i within digit =
     let d : ℕ = get_or digits i 0 in
     let range = both (nat_le 48 d) (nat_le d 57) digit in
@@ -75,7 +76,9 @@ digit_more digits i within digit =
     digits_value_more 10 digits i within ∙ ap (λ (n : ℕ). digits_value 10 (take i digits) * 10 + n) same
 
 -- whether the bytes from a place on are digits
-digits_from : (digits : List ℕ) (i : ℕ) → i < length digits → list_all is_ascii_digit (drop i digits) ≡ (is_ascii_digit (get_or digits i 0) && list_all is_ascii_digit (drop (suc i) digits))
+digits_from : (digits : List ℕ) (i : ℕ) → i < length digits
+    → list_all is_ascii_digit (drop i digits)
+    ≡ (is_ascii_digit (get_or digits i 0) && list_all is_ascii_digit (drop (suc i) digits))
 digits_from [] i within = absurd (omega arith)
 digits_from (d ∷ ds) zero within = refl
 digits_from (d ∷ ds) (suc i) within = digits_from ds i (omega arith)
@@ -94,7 +97,8 @@ abbrev pub more_of : ℕ → ℕ → ℕ → Option ℕ
 more_of max number d = if is_ascii_digit d && nat_le (number * 10 + (d - 48)) max then Some (number * 10 + (d - 48)) else None
 
 -- another byte, or a number that is too great
-none_within : (max : ℕ) (digits : List ℕ) (a b : Bool) → list_all is_ascii_digit digits ≡ a → nat_le (digits_value 10 digits) max ≡ b → (a && b) ≡ false → None ≡ digits_within max digits
+none_within : (max : ℕ) (digits : List ℕ) (a b : Bool) → list_all is_ascii_digit digits ≡ a
+    → nat_le (digits_value 10 digits) max ≡ b → (a && b) ≡ false → None ≡ digits_within max digits
 none_within max digits true true e f h = absurd (cc)
 none_within max digits true false e f h = rw (e, f) refl
 none_within max digits false b e f h = rw e refl
@@ -103,7 +107,11 @@ and_off : (a : Bool) → (a && false) ≡ false
 and_off true = refl
 and_off false = refl
 
-none_by : (max : ℕ) (digits : List ℕ) (i number : ℕ) (digit fits : Bool) → IsDigitsSo max digits i number → i < length digits → is_ascii_digit (get_or digits i 0) ≡ digit → nat_le (number * 10 + (get_or digits i 0 - 48)) max ≡ fits → (if digit && fits then Some (number * 10 + (get_or digits i 0 - 48)) else None) ≡ None → None ≡ digits_within max digits
+none_by : (max : ℕ) (digits : List ℕ) (i number : ℕ) (digit fits : Bool) → IsDigitsSo max digits i number
+    → i < length digits → is_ascii_digit (get_or digits i 0) ≡ digit
+    → nat_le (number * 10 + (get_or digits i 0 - 48)) max ≡ fits
+    → (if digit && fits then Some (number * 10 + (get_or digits i 0 - 48)) else None) ≡ None
+    → None ≡ digits_within max digits
 none_by max digits i number false fits so within d f h =
     let others : list_all is_ascii_digit digits ≡ false = sym so.left ∙ digits_from digits i within ∙ rw d refl in
     rw others refl
@@ -115,12 +123,18 @@ none_by max digits i number true false so within d f h =
     rw (great, and_off (list_all is_ascii_digit digits)) refl
 none_by max digits i number true true so within d f h = absurd (cc)
 
-pub digits_none : (max : ℕ) (digits : List ℕ) (i number d : ℕ) → IsDigitsSo max digits i number → i < length digits → d ≡ get_or digits i 0 → None ≡ more_of max number d → None ≡ digits_within max digits
+pub digits_none : (max : ℕ) (digits : List ℕ) (i number d : ℕ) → IsDigitsSo max digits i number → i < length digits
+    → d ≡ get_or digits i 0 → None ≡ more_of max number d → None ≡ digits_within max digits
 digits_none max digits i number d so within is h =
-    none_by max digits i number (is_ascii_digit (get_or digits i 0)) (nat_le (number * 10 + (get_or digits i 0 - 48)) max) so within refl refl (sym (h ∙ ap (more_of max number) is))
+    none_by max digits i number (is_ascii_digit (get_or digits i 0))
+    (nat_le (number * 10 + (get_or digits i 0 - 48)) max) so within refl refl (sym (h ∙ ap (more_of max number) is))
 
 -- one more digit
-more_by : (max : ℕ) (digits : List ℕ) (i number more : ℕ) (digit fits : Bool) → IsDigitsSo max digits i number → i < length digits → is_ascii_digit (get_or digits i 0) ≡ digit → nat_le (number * 10 + (get_or digits i 0 - 48)) max ≡ fits → (if digit && fits then Some (number * 10 + (get_or digits i 0 - 48)) else None) ≡ Some more → IsDigitsSo max digits (i + 1) more
+more_by : (max : ℕ) (digits : List ℕ) (i number more : ℕ) (digit fits : Bool) → IsDigitsSo max digits i number
+    → i < length digits → is_ascii_digit (get_or digits i 0) ≡ digit
+    → nat_le (number * 10 + (get_or digits i 0 - 48)) max ≡ fits
+    → (if digit && fits then Some (number * 10 + (get_or digits i 0 - 48)) else None) ≡ Some more
+    → IsDigitsSo max digits (i + 1) more
 more_by max digits i number more false fits so within d f h = absurd (cc)
 more_by max digits i number more true false so within d f h = absurd (cc)
 more_by max digits i number more true true so inside d f h =
@@ -130,11 +144,20 @@ more_by max digits i number more true true so inside d f h =
     let low : number * 10 + (get_or digits i 0 - 48) ≤ max = leb-true (number * 10 + (get_or digits i 0 - 48)) max f in
     let fits : more ≤ max = omega arith in
     let all : more ≡ digits_value 10 (take (i + 1) digits) = omega arith in
-    record { value = all; within = fits; left = ap (λ (n : ℕ). list_all is_ascii_digit (drop n digits)) (add-one i) ∙ sym (digits_from digits i inside ∙ rw d refl) ∙ so.left }
+    record {
+      value = all;
+      within = fits;
+      left =
+          ap (λ (n : ℕ). list_all is_ascii_digit (drop n digits)) (add-one i)
+          ∙ sym (digits_from digits i inside ∙ rw d refl)
+          ∙ so.left;
+    }
 
-pub digits_more : (max : ℕ) (digits : List ℕ) (i number d more : ℕ) → IsDigitsSo max digits i number → i < length digits → d ≡ get_or digits i 0 → Some more ≡ more_of max number d → IsDigitsSo max digits (i + 1) more
+pub digits_more : (max : ℕ) (digits : List ℕ) (i number d more : ℕ) → IsDigitsSo max digits i number → i < length digits
+    → d ≡ get_or digits i 0 → Some more ≡ more_of max number d → IsDigitsSo max digits (i + 1) more
 digits_more max digits i number d more so within is h =
-    more_by max digits i number more (is_ascii_digit (get_or digits i 0)) (nat_le (number * 10 + (get_or digits i 0 - 48)) max) so within refl refl (sym (h ∙ ap (more_of max number) is))
+    more_by max digits i number more (is_ascii_digit (get_or digits i 0))
+    (nat_le (number * 10 + (get_or digits i 0 - 48)) max) so within refl refl (sym (h ∙ ap (more_of max number) is))
 
 -- before the first digit, and behind the last
 pub digits_start : (max : ℕ) (digits : List ℕ) → IsDigitsSo max digits 0 0
@@ -147,7 +170,9 @@ whole (d ∷ ds) = (ap (λ (xs : List ℕ). d ∷ xs) (whole ds).0, (whole ds).1
 pub digits_end : (max : ℕ) (digits : List ℕ) (i number : ℕ) → IsDigitsSo max digits i number → i ≡ length digits → Some number ≡ digits_within max digits
 digits_end max digits i number so is =
     let ends = whole digits in
-    let all : list_all is_ascii_digit digits ≡ true = sym (sym (ap (λ (n : ℕ). list_all is_ascii_digit (drop n digits)) is ∙ ap (list_all is_ascii_digit) ends.1) ∙ so.left) in
+    let all : list_all is_ascii_digit digits
+    ≡ true = sym (sym (ap (λ (n : ℕ). list_all is_ascii_digit (drop n digits)) is ∙ ap (list_all is_ascii_digit) ends.1)
+    ∙ so.left) in
     let value : number ≡ digits_value 10 digits = so.value ∙ ap (λ (n : ℕ). digits_value 10 (take n digits)) is ∙ ap (digits_value 10) ends.0 in
     let within = so.within in
     let fits : nat_le (digits_value 10 digits) max ≡ true = le-leb (digits_value 10 digits) max (omega arith) in

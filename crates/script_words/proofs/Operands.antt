@@ -53,10 +53,13 @@ pub record AreSizes (word a b c : List ℕ) : Type 0 where
   pub max : IsNumber 1024 c
   pub same : arg.Descriptor (natural a) (natural b) (natural c) ≡ arg_of (colon_parts word)
 
-pub argument_sizes : (word letter rest a b c : List ℕ) → IsArgument word → Some (letter, rest) ≡ cut_of 58 word → Some (a, b, c) ≡ three_of (colon_parts rest) → AreSizes word a b c
+pub argument_sizes : (word letter rest a b c : List ℕ) → IsArgument word → Some (letter, rest) ≡ cut_of 58 word
+    → Some (a, b, c) ≡ three_of (colon_parts rest) → AreSizes word a b c
 argument_sizes word letter rest a b c known h three =
-    let parts : letter ∷ a ∷ b ∷ c ∷ [] ≡ colon_parts word = ap (λ (ps : List (List ℕ)). letter ∷ ps) (three_are (colon_parts rest) a b c three) ∙ sym (split_cut 58 word letter rest (sym h)) in
-    let tests : (bytes_eq letter (codes "d") && is_size_word a && is_size_word b && is_size_word c) ≡ true = ap (are_arg_parts is_number_word is_size_word) parts ∙ known.parts in
+    let parts : letter ∷ a ∷ b ∷ c ∷ [] ≡ colon_parts word = ap (λ (ps : List (List ℕ)). letter ∷ ps)
+    (three_are (colon_parts rest) a b c three) ∙ sym (split_cut 58 word letter rest (sym h)) in
+    let tests : (bytes_eq letter (codes "d") && is_size_word a && is_size_word b && is_size_word c) ≡ true =
+    ap (are_arg_parts is_number_word is_size_word) parts ∙ known.parts in
     let t = both (bytes_eq letter (codes "d") && is_size_word a && is_size_word b) (is_size_word c) tests in
     let s = both (bytes_eq letter (codes "d") && is_size_word a) (is_size_word b) t.0 in
     let r = both (bytes_eq letter (codes "d")) (is_size_word a) s.0 in

@@ -56,7 +56,12 @@ pub record Again (what : Operand) (v : Value what) : Type 0 where
 number_taken : (low high : ℕ) (word : List ℕ) → high < 2 ^ 32 → is_natural low high word ≡ true → Taken (operand.Number low high) word
 number_taken low high word fits h =
     let t = natural_takes low high word fits h in
-    record { same = t.0; range = both_so (nat_le low (natural word)) (nat_le (natural word) high) (le-leb low (natural word) t.1) (le-leb (natural word) high t.2) }
+    record {
+      same = t.0;
+      range =
+          both_so (nat_le low (natural word)) (nat_le (natural word) high) (le-leb low (natural word) t.1)
+          (le-leb (natural word) high t.2);
+    }
 
 pub record NumberAgain (low high n : ℕ) : Type 0 where
   pub form : is_signed (decimal n) ≡ true
@@ -122,7 +127,8 @@ record SignedAgain (low high : ℕ) (z : ℤ) : Type 0 where
   value : signed_value (signed_decimal z) ≡ z
 
 -- a number without a sign
-plain_number : (low high : ℕ) (word : List ℕ) → is_number word ≡ true → (is_between low high word ≡ is_natural 0 high word) × (signed_value word ≡ pos (natural word))
+plain_number : (low high : ℕ) (word : List ℕ) → is_number word ≡ true
+    → (is_between low high word ≡ is_natural 0 high word) × (signed_value word ≡ pos (natural word))
 plain_number low high [] h = absurd (cc)
 plain_number low high (c ∷ digits) h =
     let parts = both (nat_lt 0 (length (c ∷ digits)) && list_all is_ascii_digit (c ∷ digits)) _ h in
@@ -150,7 +156,12 @@ signed_again low high (negsuc n) fits small h =
     let le = leb-true n low (both (int_le (negsuc low) (negsuc n)) (int_le (negsuc n) (pos high)) h).0 in
     let a = natural_again 1 (suc low) (suc n) fits (omega arith) (omega arith) in
     let number = natural_is_number 1 (suc low) (decimal (suc n)) a.0 in
-    record { form = both_so (is_number (decimal (suc n))) (not (bytes_eq (decimal (suc n)) (codes "0"))) number (not_zero n a.1); range = a.0; value = ap (λ (m : ℕ). neg_ℤ (pos m)) a.1 }
+    record {
+      form =
+          both_so (is_number (decimal (suc n))) (not (bytes_eq (decimal (suc n)) (codes "0"))) number (not_zero n a.1);
+      range = a.0;
+      value = ap (λ (m : ℕ). neg_ℤ (pos m)) a.1;
+    }
 
 -- kinds that are opened
 opened : (word : List ℕ) → is_opened (kind_named word) ≡ true
@@ -274,7 +285,8 @@ sized n h = number_again 0 1024 n (omega arith) (both_so (nat_le 0 n) (nat_le n 
 arg_again : (a : Arg) → is_arg a ≡ true → Again operand.Argument a
 arg_again (arg.Number z) h =
     let a = signed_again 2147483647 2147483647 z (omega arith) (omega arith) h in
-    let parts : colon_parts (signed_decimal z) ≡ signed_decimal z ∷ [] = split_clear (λ byte. byte == 58) (signed_decimal z) (signed_clear (signed_decimal z) a.form) in
+    let parts : colon_parts (signed_decimal z) ≡ signed_decimal z ∷ [] =
+    split_clear (λ byte. byte == 58) (signed_decimal z) (signed_clear (signed_decimal z) a.form) in
     record { form = rw parts a.form; range = rw parts a.range; value = rw parts (ap arg.Number a.value) }
 arg_again (arg.Descriptor x y z) h =
     let parts = both (is_size x && is_size y) (is_size z) h in
@@ -282,13 +294,15 @@ arg_again (arg.Descriptor x y z) h =
     let a = sized x front.0 in
     let b = sized y front.1 in
     let c = sized z parts.1 in
-    let clear : (n : ℕ) → is_natural 0 1024 (decimal n) ≡ true → is_clear (λ byte. byte == 58) (decimal n) ≡ true = λ n r. number_clear (decimal n) (natural_is_number 0 1024 (decimal n) r) in
+    let clear : (n : ℕ) → is_natural 0 1024 (decimal n) ≡ true → is_clear (λ byte. byte == 58) (decimal n) ≡ true =
+    λ n r. number_clear (decimal n) (natural_is_number 0 1024 (decimal n) r) in
     let test : ℕ → Bool = λ byte. byte == 58 in
     let cut : colon_parts (100 ∷ 58 ∷ (decimal x ++ 58 ∷ (decimal y ++ 58 ∷ decimal z))) ≡ codes "d" ∷ decimal x ∷ decimal y ∷ decimal z ∷ [] =
     ap (λ (ps : List (List ℕ)). codes "d" ∷ ps) (split_before test (decimal x) 58 (decimal y ++ 58 ∷ decimal z) (clear x a.range) refl
     ∙ ap (λ (ps : List (List ℕ)). decimal x ∷ ps) (split_before test (decimal y) 58 (decimal z) (clear y b.range) refl
     ∙ ap (λ (ps : List (List ℕ)). decimal y ∷ ps) (split_clear test (decimal z) (clear z c.range)))) in
-    let is : colon_parts (arg_word (arg.Descriptor x y z)) ≡ codes "d" ∷ decimal x ∷ decimal y ∷ decimal z ∷ [] = ap colon_parts (sym (regrouped x y z)) ∙ cut in
+    let is : colon_parts (arg_word (arg.Descriptor x y z)) ≡ codes "d" ∷ decimal x ∷ decimal y ∷ decimal z ∷ [] =
+    ap colon_parts (sym (regrouped x y z)) ∙ cut in
     record {
       form = rw (is, a.form, b.form, c.form) refl;
       range = rw (is, a.range, b.range, c.range) refl;
@@ -299,7 +313,9 @@ arg_again (arg.Descriptor x y z) h =
 pub taken : (what : Operand) (word : List ℕ) → is_small what ≡ true → has_form what word ≡ true → is_in_range what word ≡ true → Taken what word
 taken (operand.Number low high) word fits form range = number_taken low high word (small high fits) range
 taken operand.Version word fits form range = version_taken word range
-taken operand.Code word fits form range = let t = signed_taken 2147483645 2147483647 word (omega arith) (omega arith) range in record { same = t.same; range = t.range }
+taken operand.Code word fits form range =
+    let t = signed_taken 2147483645 2147483647 word (omega arith) (omega arith) range in
+    record { same = t.same; range = t.range }
 taken (operand.Lettered letter last) word fits form range =
     let t = lettered_takes letter last word (small last fits) form range in
     record { same = t.0; range = le-leb _ last t.1 }
@@ -314,9 +330,17 @@ taken operand.Argument word fits form range = let t = arg_by word (colon_parts w
 
 pub again : (what : Operand) (value : Value what) → is_small what ≡ true → is_value what value ≡ true → Again what value
 again (operand.Number low high) n fits h = let a = number_again low high n (small high fits) h in record { form = a.form; range = a.range; value = a.value }
-again operand.Version n fits h = record { form = number_is_signed (codes "1") (natural_is_number 1 1 (codes "1") version_word); range = version_word; value = refl }
-again operand.Code z fits h = let a = signed_again 2147483645 2147483647 z (omega arith) (omega arith) h in record { form = a.form; range = a.range; value = a.value }
-again (operand.Lettered letter last) n fits h = let a = lettered_again letter last n (small last fits) (leb-true n last h) in record { form = a.0; range = a.1; value = a.2 }
+again operand.Version n fits h = record {
+  form = number_is_signed (codes "1") (natural_is_number 1 1 (codes "1") version_word);
+  range = version_word;
+  value = refl;
+}
+again operand.Code z fits h =
+    let a = signed_again 2147483645 2147483647 z (omega arith) (omega arith) h in
+    record { form = a.form; range = a.range; value = a.value }
+again (operand.Lettered letter last) n fits h =
+    let a = lettered_again letter last n (small last fits) (leb-true n last h) in
+    record { form = a.0; range = a.1; value = a.2 }
 again operand.Name name fits h = record { form = h; range = refl; value = refl }
 again operand.Category name fits h = record { form = h; range = refl; value = refl }
 again operand.Kind what fits h = kind_again what h

@@ -14,7 +14,8 @@ cut_by b bs later test = if test then Some ([], bs) else option_map (λ (ps : Li
 
 -- the parts of bytes that are cut
 cut_step : (at b : ℕ) (bs : List ℕ) (x y : List ℕ) (test : Bool) → (b == at) ≡ test → cut_by b bs (cut_of at bs) test ≡ Some (x, y)
-    → ((u : List ℕ) → cut_of at bs ≡ Some (u, y) → split (λ byte. byte == at) bs ≡ u ∷ split (λ byte. byte == at) y) → split (λ byte. byte == at) (b ∷ bs) ≡ x ∷ split (λ byte. byte == at) y
+    → ((u : List ℕ) → cut_of at bs ≡ Some (u, y) → split (λ byte. byte == at) bs ≡ u ∷ split (λ byte. byte == at) y)
+    → split (λ byte. byte == at) (b ∷ bs) ≡ x ∷ split (λ byte. byte == at) y
 cut_step at b bs x y true e h later =
     let same : ◌≡◌ {A = List ℕ × List ℕ} ([], bs) (x, y) = cc in
     let first : [] ≡ x = ap (λ (p : List ℕ × List ℕ). p.0) same in
@@ -31,7 +32,8 @@ pub split_cut : (at : ℕ) (bytes x y : List ℕ) → cut_of at bytes ≡ Some (
 split_cut at [] x y h = absurd (cc)
 split_cut at (b ∷ bs) x y h = cut_step at b bs x y (b == at) refl h (λ u found. split_cut at bs u y found)
 
-alone_step : (at b : ℕ) (bs : List ℕ) (test : Bool) → (b == at) ≡ test → cut_by b bs (cut_of at bs) test ≡ None → ((b == at) ≡ false) × (cut_by b bs (cut_of at bs) false ≡ None)
+alone_step : (at b : ℕ) (bs : List ℕ) (test : Bool) → (b == at) ≡ test → cut_by b bs (cut_of at bs) test ≡ None
+    → ((b == at) ≡ false) × (cut_by b bs (cut_of at bs) false ≡ None)
 alone_step at b bs true e h = absurd (cc)
 alone_step at b bs false e h = (e, h)
 
@@ -100,15 +102,22 @@ word_alone line h =
     ap (filter (λ (w : List ℕ). not (is_empty w))) parts ∙ word_front line [] ∙ append-nil (one_word line)
 
 -- one more word
-pub words_more : (new old : List (List ℕ)) (word rest after : List ℕ) (whole : List (List ℕ)) → new ≡ old ++ one_word word → Some (word, after) ≡ cut_of 32 rest → old ++ words_of rest ≡ whole → new ++ words_of after ≡ whole
+pub words_more : (new old : List (List ℕ)) (word rest after : List ℕ) (whole : List (List ℕ))
+    → new ≡ old ++ one_word word → Some (word, after) ≡ cut_of 32 rest → old ++ words_of rest ≡ whole
+    → new ++ words_of after ≡ whole
 words_more new old word rest after whole e cut so_far =
-    ap (λ (ws : List (List ℕ)). ws ++ words_of after) e ∙ append_assoc old (one_word word) (words_of after) ∙ ap (λ (ws : List (List ℕ)). old ++ ws) (sym (word_cut rest word after cut)) ∙ so_far
+    ap (λ (ws : List (List ℕ)). ws ++ words_of after) e
+    ∙ append_assoc old (one_word word) (words_of after)
+    ∙ ap (λ (ws : List (List ℕ)). old ++ ws) (sym (word_cut rest word after cut))
+    ∙ so_far
 
-pub words_end : (new old : List (List ℕ)) (rest : List ℕ) (whole : List (List ℕ)) → new ≡ old ++ one_word rest → None ≡ cut_of 32 rest → old ++ words_of rest ≡ whole → new ≡ whole
+pub words_end : (new old : List (List ℕ)) (rest : List ℕ) (whole : List (List ℕ)) → new ≡ old ++ one_word rest
+    → None ≡ cut_of 32 rest → old ++ words_of rest ≡ whole → new ≡ whole
 words_end new old rest whole e cut so_far = e ∙ ap (λ (ws : List (List ℕ)). old ++ ws) (sym (word_alone rest cut)) ∙ so_far
 
 -- a line that doesn't begin with a space begins with its first word
-first_front : (b : ℕ) (parts : List (List ℕ)) → (parts ≡ [] → ⊥) → (u : List ℕ) × (ws : List (List ℕ)) × (filter (λ word. not (is_empty word)) (in_first b parts) ≡ (b ∷ u) ∷ ws)
+first_front : (b : ℕ) (parts : List (List ℕ)) → (parts ≡ [] → ⊥)
+    → (u : List ℕ) × (ws : List (List ℕ)) × (filter (λ word. not (is_empty word)) (in_first b parts) ≡ (b ∷ u) ∷ ws)
 first_front b [] some = absurd (some refl)
 first_front b (p ∷ ps) some = (p, filter (λ word. not (is_empty word)) ps, refl)
 

@@ -25,7 +25,8 @@ split_clear test (x ∷ xs) h =
     let parts = both (not (test x)) (is_clear test xs) h in
     rw (not_true (test x) parts.0, split_clear test xs parts.1) refl
 
-pub split_before : {A : Type 0} (test : A → Bool) (xs : List A) (y : A) (ys : List A) → is_clear test xs ≡ true → test y ≡ true → split test (xs ++ y ∷ ys) ≡ xs ∷ split test ys
+pub split_before : {A : Type 0} (test : A → Bool) (xs : List A) (y : A) (ys : List A) → is_clear test xs ≡ true
+    → test y ≡ true → split test (xs ++ y ∷ ys) ≡ xs ∷ split test ys
 split_before test [] y ys h e = rw e refl
 split_before test (x ∷ xs) y ys h e =
     let parts = both (not (test x)) (is_clear test xs) h in
@@ -54,5 +55,6 @@ pub split_joined : {A : Type 0} (test : A → Bool) (y : A) → ((x : A) → tes
 split_joined test y is [] = refl
 split_joined test y is (x ∷ xs) =
     by_test {P = joined y (split test (x ∷ xs)) ≡ x ∷ xs} (test x)
-    (λ e. rw e (joined_behind y (split test xs) (split_some test xs) ∙ ap (λ z. z ∷ joined y (split test xs)) (sym (is x e)) ∙ ap (λ zs. x ∷ zs) (split_joined test y is xs)))
+    (λ e. rw e (joined_behind y (split test xs) (split_some test xs)
+    ∙ ap (λ z. z ∷ joined y (split test xs)) (sym (is x e)) ∙ ap (λ zs. x ∷ zs) (split_joined test y is xs)))
     (λ e. rw e (front_joined x y (split test xs) ∙ ap (λ zs. x ∷ zs) (split_joined test y is xs)))

@@ -54,19 +54,23 @@ sign_known operand.Code word form range = code_known word range
 sign_known (operand.Lettered letter last) word form range = natural_known 0 last (drop 1 word) range
 sign_known operand.Name word form range = record { text = object_name_is_name word form }
 sign_known operand.Category word form range = record { text = some_name word form }
-sign_known operand.Slots word form range = record { own = λ e. natural_known 1 255 word (right_of (bytes_eq word (codes "pool")) (is_natural 1 255 word) e range) }
+sign_known operand.Slots word form range = record {
+  own = λ e. natural_known 1 255 word (right_of (bytes_eq word (codes "pool")) (is_natural 1 255 word) e range);
+}
 sign_known operand.Argument word form range = record { parts = range }
 sign_known _ word form range = tt
 
 -- the word at a place passes the test of the next sign
-pub next_word : (test : Operand → List ℕ → Bool) (s : Operand) (signs : List Operand) (words : List (List ℕ)) (i : ℕ) → each_passes test (s ∷ signs) (drop i words) ≡ true
+pub next_word : (test : Operand → List ℕ → Bool) (s : Operand) (signs : List Operand) (words : List (List ℕ)) (i : ℕ)
+    → each_passes test (s ∷ signs) (drop i words) ≡ true
     → (test s (word_at words i) ≡ true) × (each_passes test signs (drop (suc i) words) ≡ true)
 next_word test s signs [] zero h = absurd (cc)
 next_word test s signs [] (suc i) h = absurd (cc)
 next_word test s signs (w ∷ ws) zero h = both (test s w) (each_passes test signs ws) h
 next_word test s signs (w ∷ ws) (suc i) h = next_word test s signs ws i h
 
-words_known : (signs : List Operand) (words : List (List ℕ)) (i : ℕ) → each_passes has_form signs (drop i words) ≡ true → each_passes is_in_range signs (drop i words) ≡ true → AreOf signs words i
+words_known : (signs : List Operand) (words : List (List ℕ)) (i : ℕ) → each_passes has_form signs (drop i words) ≡ true
+    → each_passes is_in_range signs (drop i words) ≡ true → AreOf signs words i
 words_known [] words i form range = tt
 words_known (s ∷ signs) words i form range =
     let f = next_word has_form s signs words i form in
@@ -78,7 +82,9 @@ abbrev HasOperands : Option (List Operand) → List (List ℕ) → Type 0
 HasOperands None words = ⊥
 HasOperands (Some signs) words = AreOf signs words 1
 
-operands_known : (signs : Option (List Operand)) (first : List ℕ) (words : List (List ℕ)) → op_passes has_form signs words ≡ true → op_passes is_in_range signs words ≡ true → HasOperands signs (first ∷ words)
+operands_known : (signs : Option (List Operand)) (first : List ℕ) (words : List (List ℕ))
+    → op_passes has_form signs words ≡ true → op_passes is_in_range signs words ≡ true
+    → HasOperands signs (first ∷ words)
 operands_known None first words form range = absurd (cc)
 operands_known (Some signs) first words form range =
     let f = both (length words == length signs) (each_passes has_form signs words) form in
@@ -101,19 +107,22 @@ operation_known : (kind : BodyKind) (words : List (List ℕ)) → is_op has_form
 operation_known kind [] form range = absurd (cc)
 operation_known kind (first ∷ words) form range = operation_by kind first words (operands_known (op_signs kind first) first words form range)
 
-operations_known : (kind : BodyKind) (ops : List (List (List ℕ))) → list_all (is_op has_form kind) ops ≡ true → list_all (is_op is_in_range kind) ops ≡ true → AllByRecursion IsOperation ops
+operations_known : (kind : BodyKind) (ops : List (List (List ℕ))) → list_all (is_op has_form kind) ops ≡ true
+    → list_all (is_op is_in_range kind) ops ≡ true → AllByRecursion IsOperation ops
 operations_known kind [] form range = tt
 operations_known kind (op ∷ ops) form range =
     let f = both (is_op has_form kind op) (list_all (is_op has_form kind) ops) form in
     let r = both (is_op is_in_range kind op) (list_all (is_op is_in_range kind) ops) range in
     (operation_known kind op f.0 r.0, operations_known kind ops f.1 r.1)
 
-body_known : (kind : Option BodyKind) (words : List (List ℕ)) → body_passes has_form kind words ≡ true → body_passes is_in_range kind words ≡ true → IsBody kind words
+body_known : (kind : Option BodyKind) (words : List (List ℕ)) → body_passes has_form kind words ≡ true
+    → body_passes is_in_range kind words ≡ true → IsBody kind words
 body_known None words form range = tt
 body_known (Some kind) words form range = operations_known kind (operations words) form range
 
 -- a line
-pub tested : (k : Keyword) (second : Bool) (words : List (List ℕ)) → all_pass_as has_form k second words ≡ true → all_pass_as is_in_range k second words ≡ true → IsTestedAs k second words
+pub tested : (k : Keyword) (second : Bool) (words : List (List ℕ)) → all_pass_as has_form k second words ≡ true
+    → all_pass_as is_in_range k second words ≡ true → IsTestedAs k second words
 tested k second words form range =
     let operands = operands_of k second in
     let f = both (each_passes has_form operands (drop 1 words)) (body_passes has_form (body_of k second) (body_part operands words)) form in

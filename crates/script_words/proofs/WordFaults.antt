@@ -58,7 +58,8 @@ pub between_right : (below above : ℕ) (word : List ℕ) → is_between below a
 between_right below above word h = right (is_signed word) (is_between below above word) (signed_between below above word h) h
 
 -- a letter and a number in its range
-pub lettered_right : (letter last c : ℕ) (digits : List ℕ) → (c == letter) ≡ true → is_natural 0 last digits ≡ true → None ≡ fault_by (is_lettered letter (c ∷ digits)) (is_lettered_within last (c ∷ digits))
+pub lettered_right : (letter last c : ℕ) (digits : List ℕ) → (c == letter) ≡ true → is_natural 0 last digits ≡ true
+    → None ≡ fault_by (is_lettered letter (c ∷ digits)) (is_lettered_within last (c ∷ digits))
 lettered_right letter last c digits e h =
     let number = natural_is_number 0 last digits h in
     right (is_lettered letter (c ∷ digits)) (is_lettered_within last (c ∷ digits)) (rw (e, number) refl) h
@@ -82,7 +83,8 @@ argument_parts (d ∷ a ∷ b ∷ c ∷ []) h =
     rw (second.0, signed_size a second.1, signed_size b third.1, signed_size c last.1) refl
 argument_parts (d ∷ a ∷ b ∷ c ∷ e ∷ more) h = absurd (cc)
 
-pub argument_right : (word : List ℕ) → are_arg_parts is_number_word is_size_word (colon_parts word) ≡ true → None ≡ fault_by (has_form operand.Argument word) (is_in_range operand.Argument word)
+pub argument_right : (word : List ℕ) → are_arg_parts is_number_word is_size_word (colon_parts word) ≡ true
+    → None ≡ fault_by (has_form operand.Argument word) (is_in_range operand.Argument word)
 argument_right word h = right (has_form operand.Argument word) (is_in_range operand.Argument word) (argument_parts (colon_parts word) h) h
 
 -- words with a body, and without one
@@ -97,14 +99,20 @@ joined true false true false = refl
 joined true false true true = refl
 joined true true form range = refl
 
-pub line_without : (k : Keyword) (second : Bool) (words : List (List ℕ)) → body_of k second ≡ None → fault_by (each_passes has_form (operands_of k second) (drop 1 words)) (each_passes is_in_range (operands_of k second) (drop 1 words)) ≡ fault_by (all_pass_as has_form k second words) (all_pass_as is_in_range k second words)
+pub line_without : (k : Keyword) (second : Bool) (words : List (List ℕ)) → body_of k second ≡ None
+    → fault_by (each_passes has_form (operands_of k second) (drop 1 words))
+    (each_passes is_in_range (operands_of k second) (drop 1 words))
+    ≡ fault_by (all_pass_as has_form k second words) (all_pass_as is_in_range k second words)
 line_without k second words none =
     let f = and_true (each_passes has_form (operands_of k second) (drop 1 words)) in
     let r = and_true (each_passes is_in_range (operands_of k second) (drop 1 words)) in
     rw (none, f, r) refl
 
 pub line_with : (k : Keyword) (second : Bool) (words : List (List ℕ)) (kind : BodyKind) → body_of k second ≡ Some kind
-    → both_faults (fault_by (each_passes has_form (operands_of k second) (drop 1 words)) (each_passes is_in_range (operands_of k second) (drop 1 words))) (fault_by (list_all (is_op has_form kind) (operations (body_part (operands_of k second) words))) (list_all (is_op is_in_range kind) (operations (body_part (operands_of k second) words))))
+    → both_faults (fault_by (each_passes has_form (operands_of k second) (drop 1 words))
+    (each_passes is_in_range (operands_of k second) (drop 1 words)))
+    (fault_by (list_all (is_op has_form kind) (operations (body_part (operands_of k second) words)))
+    (list_all (is_op is_in_range kind) (operations (body_part (operands_of k second) words))))
     ≡ fault_by (all_pass_as has_form k second words) (all_pass_as is_in_range k second words)
 line_with k second words kind some =
     let f = each_passes has_form (operands_of k second) (drop 1 words) in
@@ -113,8 +121,12 @@ line_with k second words kind some =
     rw some (joined f r (list_all (is_op has_form kind) part) (list_all (is_op is_in_range kind) part))
 
 -- the first of the words that are left
-pub next_word : (test : Operand → List ℕ → Bool) (operands : List Operand) (words : List (Bor (List ℕ))) (i : ℕ) (d : Operand) (e : Bor (List ℕ)) → i < length operands → i < length words
-    → each_passes test (drop i operands) (pieces (drop i words)) ≡ (test (get_or operands i d) (get_or words i e).now && each_passes test (drop (suc i) operands) (pieces (drop (suc i) words)))
+pub next_word : (test : Operand → List ℕ → Bool) (operands : List Operand) (words : List (Bor (List ℕ))) (i : ℕ)
+    (d : Operand) (e : Bor (List ℕ))
+    → i < length operands → i < length words
+    → each_passes test (drop i operands) (pieces (drop i words))
+    ≡ (test (get_or operands i d) (get_or words i e).now && each_passes test (drop (suc i) operands)
+    (pieces (drop (suc i) words)))
 next_word test [] words i d e some left = absurd (omega arith)
 next_word test (o ∷ os) [] i d e some left = absurd (omega arith)
 next_word test (o ∷ os) (w ∷ ws) zero d e some left = refl
@@ -129,21 +141,30 @@ and_none : (before f r : Bool) → fault_by f (before && false) ≡ fault_by f (
 and_none true f r = refl
 and_none false f r = refl
 
-kept : (form range before f r : Bool) (found : Option Fault) (none : Bool) → found ≡ fault_by form range → is_of_form found ≡ false → is_some found ≡ not none → fault_by (form && f) (before && (range && r)) ≡ fault_by f ((before && none) && r)
+kept : (form range before f r : Bool) (found : Option Fault) (none : Bool) → found ≡ fault_by form range
+    → is_of_form found ≡ false → is_some found ≡ not none
+    → fault_by (form && f) (before && (range && r)) ≡ fault_by f ((before && none) && r)
 kept false range before f r found none is form free = let bad : true ≡ false = ap is_of_form (sym is) ∙ form in absurd (cc)
 kept true true before f r found true is form free = and_same before f r
 kept true true before f r found false is form free = let bad : false ≡ true = ap is_some (sym is) ∙ free in absurd (cc)
 kept true false before f r found true is form free = let bad : true ≡ false = ap is_some (sym is) ∙ free in absurd (cc)
 kept true false before f r found false is form free = and_none before f r
 
-pub word_kept : (operands : List Operand) (words : List (Bor (List ℕ))) (i : ℕ) (d : Operand) (e : Bor (List ℕ)) (before none : Bool) (found : Option Fault) → i < length operands → i < length words
-    → found ≡ fault_by (has_form (get_or operands i d) (get_or words i e).now) (is_in_range (get_or operands i d) (get_or words i e).now) → is_of_form found ≡ false → is_some found ≡ not none
+pub word_kept : (operands : List Operand) (words : List (Bor (List ℕ))) (i : ℕ) (d : Operand) (e : Bor (List ℕ))
+    (before none : Bool) (found : Option Fault)
+    → i < length operands → i < length words
+    → found ≡ fault_by (has_form (get_or operands i d) (get_or words i e).now)
+    (is_in_range (get_or operands i d) (get_or words i e).now) → is_of_form found ≡ false → is_some found ≡ not none
     → fault_by (each_passes has_form (drop i operands) (pieces (drop i words))) (before && each_passes is_in_range (drop i operands) (pieces (drop i words)))
-    ≡ fault_by (each_passes has_form (drop (suc i) operands) (pieces (drop (suc i) words))) ((before && none) && each_passes is_in_range (drop (suc i) operands) (pieces (drop (suc i) words)))
+    ≡ fault_by (each_passes has_form (drop (suc i) operands) (pieces (drop (suc i) words)))
+    ((before && none) && each_passes is_in_range (drop (suc i) operands) (pieces (drop (suc i) words)))
 word_kept operands words i d e before none found some left is form free =
     let f = next_word has_form operands words i d e some left in
     let r = next_word is_in_range operands words i d e some left in
-    rw (f, r) (kept (has_form (get_or operands i d) (get_or words i e).now) (is_in_range (get_or operands i d) (get_or words i e).now) before (each_passes has_form (drop (suc i) operands) (pieces (drop (suc i) words))) (each_passes is_in_range (drop (suc i) operands) (pieces (drop (suc i) words))) found none is form free)
+    rw (f, r) (kept (has_form (get_or operands i d) (get_or words i e).now)
+    (is_in_range (get_or operands i d) (get_or words i e).now) before
+    (each_passes has_form (drop (suc i) operands) (pieces (drop (suc i) words)))
+    (each_passes is_in_range (drop (suc i) operands) (pieces (drop (suc i) words))) found none is form free)
 
 -- a word hasn't its form
 formless : (form range : Bool) (found : Option Fault) → found ≡ fault_by form range → is_of_form found ≡ true → form ≡ false
@@ -151,8 +172,11 @@ formless false range found is form = refl
 formless true false found is form = let bad : false ≡ true = ap is_of_form (sym is) ∙ form in absurd (cc)
 formless true true found is form = let bad : false ≡ true = ap is_of_form (sym is) ∙ form in absurd (cc)
 
-pub word_bad : (operands : List Operand) (words : List (Bor (List ℕ))) (i : ℕ) (d : Operand) (e : Bor (List ℕ)) (found : Option Fault) → i < length operands → i < length words
-    → found ≡ fault_by (has_form (get_or operands i d) (get_or words i e).now) (is_in_range (get_or operands i d) (get_or words i e).now) → is_of_form found ≡ true
+pub word_bad : (operands : List Operand) (words : List (Bor (List ℕ))) (i : ℕ) (d : Operand) (e : Bor (List ℕ))
+    (found : Option Fault)
+    → i < length operands → i < length words
+    → found ≡ fault_by (has_form (get_or operands i d) (get_or words i e).now)
+    (is_in_range (get_or operands i d) (get_or words i e).now) → is_of_form found ≡ true
     → each_passes has_form (drop i operands) (pieces (drop i words)) ≡ false
 word_bad operands words i d e found some left is form =
     let f = next_word has_form operands words i d e some left in

@@ -28,7 +28,8 @@ signs_left test [] i some = absurd (omega arith)
 signs_left test (s ∷ ss) zero some = refl
 signs_left test (s ∷ ss) (suc i) some = signs_left test ss i (omega arith)
 
-pub words_gone : (test : Operand → List ℕ → Bool) (signs : List Operand) (words : List (Bor (List ℕ))) (i : ℕ) → i < length signs → length words ≤ i → false ≡ each_passes test (drop i signs) (pieces (drop i words))
+pub words_gone : (test : Operand → List ℕ → Bool) (signs : List Operand) (words : List (Bor (List ℕ))) (i : ℕ)
+    → i < length signs → length words ≤ i → false ≡ each_passes test (drop i signs) (pieces (drop i words))
 words_gone test [] words i some gone = absurd (omega arith)
 words_gone test (s ∷ ss) [] zero some gone = refl
 words_gone test (s ∷ ss) (w ∷ ws) zero some gone = absurd (omega arith)

@@ -69,7 +69,9 @@ is_counted scheduled k words = is_counted_as k (second_of scheduled k words) wor
 
 -- whether each word behind the first passes a test of its operand
 abbrev pub all_pass_as : (Operand → List ℕ → Bool) → Keyword → Bool → List (List ℕ) → Bool
-all_pass_as test k second words = each_passes test (operands_of k second) (drop 1 words) && body_passes test (body_of k second) (body_part (operands_of k second) words)
+all_pass_as test k second words =
+    each_passes test (operands_of k second) (drop 1 words) && body_passes test (body_of k second)
+    (body_part (operands_of k second) words)
 
 abbrev pub all_pass : (Operand → List ℕ → Bool) → Bool → Keyword → List (List ℕ) → Bool
 all_pass test scheduled k words = all_pass_as test k (second_of scheduled k words) words

@@ -66,7 +66,9 @@ has_form operand.Code word = is_signed word
 has_form (operand.Lettered letter last) word = is_lettered letter word
 has_form operand.Name word = is_object_name word
 has_form operand.Category word = is_some (name_of word)
-has_form operand.Kind word = bytes_eq word (codes "process") || bytes_eq word (codes "thread") || bytes_eq word (codes "mutex") || bytes_eq word (codes "semaphore")
+has_form operand.Kind word =
+    bytes_eq word (codes "process") || bytes_eq word (codes "thread") || bytes_eq word (codes "mutex") || bytes_eq word
+    (codes "semaphore")
 has_form operand.Mutex word = bytes_eq word (codes "mutex")
 has_form operand.Semaphore word = bytes_eq word (codes "semaphore")
 has_form operand.Slots word = bytes_eq word (codes "pool") || is_signed word

@@ -8,8 +8,8 @@ ghost use Rattle.script_words.specs.Pieces.{pieces};
 
 use crate::field::is_word;
 use crate::line_form::ends_operation;
-use crate::line_signs::word_at;
 use crate::operand::{code_at, item_at, name_at};
+use crate::source::word_at;
 use script_types::{Op, Ops};
 use std::alloc::Global;
 use sym_base::{Items, NoMemory};

@@ -3,7 +3,7 @@ ghost use Rattle.std.specs.List.{find};
 ghost use Rattle.std.specs.Prelude.{◌≡◌};
 ghost use Rattle.std.specs.Str.{bytes_eq};
 ghost use Rattle.script_types.specs.Keywords.{keyword_text};
-ghost use Rattle.script_words.specs.FirstBytes.{with_c, with_d, with_e, with_f, with_g, with_i, with_k, with_l, with_o, with_p, with_q, with_r, with_s, with_t, with_u, with_w};
+ghost use Rattle.script_words.specs.FirstBytes.{words_with};
 
 use crate::field::is_word;
 use script_types::Keyword;
@@ -12,7 +12,7 @@ use sym_base::Word;
 /// The word with `c` that this is.
 #[tactic(auto, unfolding(sym_base::specs::WordText::word_text))]
 pub fn with_c(word: &[u8]) -> Option<Keyword>
-    ensures { result ≡ find (λ k. bytes_eq word.now (keyword_text k)) with_c }
+    ensures { result ≡ find (λ k. bytes_eq word.now (keyword_text k)) (words_with 99) }
 {
     if is_word(word, "create") {
         Some(Keyword::Instr(Word::Create))
@@ -34,7 +34,7 @@ pub fn with_c(word: &[u8]) -> Option<Keyword>
 /// The word with `d` that this is.
 #[tactic(auto, unfolding(sym_base::specs::WordText::word_text))]
 pub fn with_d(word: &[u8]) -> Option<Keyword>
-    ensures { result ≡ find (λ k. bytes_eq word.now (keyword_text k)) with_d }
+    ensures { result ≡ find (λ k. bytes_eq word.now (keyword_text k)) (words_with 100) }
 {
     if is_word(word, "dup") {
         Some(Keyword::Instr(Word::Dup))
@@ -52,7 +52,7 @@ pub fn with_d(word: &[u8]) -> Option<Keyword>
 /// The word with `e` that this is.
 #[tactic(auto, unfolding(sym_base::specs::WordText::word_text))]
 pub fn with_e(word: &[u8]) -> Option<Keyword>
-    ensures { result ≡ find (λ k. bytes_eq word.now (keyword_text k)) with_e }
+    ensures { result ≡ find (λ k. bytes_eq word.now (keyword_text k)) (words_with 101) }
 {
     if is_word(word, "exittype") {
         Some(Keyword::Instr(Word::Exittype))
@@ -72,7 +72,7 @@ pub fn with_e(word: &[u8]) -> Option<Keyword>
 /// The word with `f` that this is.
 #[tactic(auto, unfolding(sym_base::specs::WordText::word_text))]
 pub fn with_f(word: &[u8]) -> Option<Keyword>
-    ensures { result ≡ find (λ k. bytes_eq word.now (keyword_text k)) with_f }
+    ensures { result ≡ find (λ k. bytes_eq word.now (keyword_text k)) (words_with 102) }
 {
     if is_word(word, "flock") {
         Some(Keyword::Instr(Word::Flock))
@@ -96,7 +96,7 @@ pub fn with_f(word: &[u8]) -> Option<Keyword>
 /// The word with `g` that this is.
 #[tactic(auto, unfolding(sym_base::specs::WordText::word_text))]
 pub fn with_g(word: &[u8]) -> Option<Keyword>
-    ensures { result ≡ find (λ k. bytes_eq word.now (keyword_text k)) with_g }
+    ensures { result ≡ find (λ k. bytes_eq word.now (keyword_text k)) (words_with 103) }
 {
     if is_word(word, "go") {
         Some(Keyword::Go)
@@ -108,7 +108,7 @@ pub fn with_g(word: &[u8]) -> Option<Keyword>
 /// The word with `i` that this is.
 #[tactic(auto, unfolding(sym_base::specs::WordText::word_text))]
 pub fn with_i(word: &[u8]) -> Option<Keyword>
-    ensures { result ≡ find (λ k. bytes_eq word.now (keyword_text k)) with_i }
+    ensures { result ≡ find (λ k. bytes_eq word.now (keyword_text k)) (words_with 105) }
 {
     if is_word(word, "idfc") {
         Some(Keyword::Idfc)
@@ -122,7 +122,7 @@ pub fn with_i(word: &[u8]) -> Option<Keyword>
 /// The word with `k` that this is.
 #[tactic(auto, unfolding(sym_base::specs::WordText::word_text))]
 pub fn with_k(word: &[u8]) -> Option<Keyword>
-    ensures { result ≡ find (λ k. bytes_eq word.now (keyword_text k)) with_k }
+    ensures { result ≡ find (λ k. bytes_eq word.now (keyword_text k)) (words_with 107) }
 {
     if is_word(word, "kill") {
         Some(Keyword::Instr(Word::Kill))
@@ -136,7 +136,7 @@ pub fn with_k(word: &[u8]) -> Option<Keyword>
 /// The word with `l` that this is.
 #[tactic(auto, unfolding(sym_base::specs::WordText::word_text))]
 pub fn with_l(word: &[u8]) -> Option<Keyword>
-    ensures { result ≡ find (λ k. bytes_eq word.now (keyword_text k)) with_l }
+    ensures { result ≡ find (λ k. bytes_eq word.now (keyword_text k)) (words_with 108) }
 {
     if is_word(word, "lock") {
         Some(Keyword::Instr(Word::Lock))
@@ -152,7 +152,7 @@ pub fn with_l(word: &[u8]) -> Option<Keyword>
 /// The word with `o` that this is.
 #[tactic(auto, unfolding(sym_base::specs::WordText::word_text))]
 pub fn with_o(word: &[u8]) -> Option<Keyword>
-    ensures { result ≡ find (λ k. bytes_eq word.now (keyword_text k)) with_o }
+    ensures { result ≡ find (λ k. bytes_eq word.now (keyword_text k)) (words_with 111) }
 {
     if is_word(word, "open") {
         Some(Keyword::Instr(Word::Open))
@@ -164,7 +164,7 @@ pub fn with_o(word: &[u8]) -> Option<Keyword>
 /// The word with `p` that this is.
 #[tactic(auto, unfolding(sym_base::specs::WordText::word_text))]
 pub fn with_p(word: &[u8]) -> Option<Keyword>
-    ensures { result ≡ find (λ k. bytes_eq word.now (keyword_text k)) with_p }
+    ensures { result ≡ find (λ k. bytes_eq word.now (keyword_text k)) (words_with 112) }
 {
     if is_word(word, "priority") {
         Some(Keyword::Instr(Word::Priority))
@@ -184,7 +184,7 @@ pub fn with_p(word: &[u8]) -> Option<Keyword>
 /// The word with `q` that this is.
 #[tactic(auto, unfolding(sym_base::specs::WordText::word_text))]
 pub fn with_q(word: &[u8]) -> Option<Keyword>
-    ensures { result ≡ find (λ k. bytes_eq word.now (keyword_text k)) with_q }
+    ensures { result ≡ find (λ k. bytes_eq word.now (keyword_text k)) (words_with 113) }
 {
     if is_word(word, "queue") {
         Some(Keyword::Instr(Word::Queue))
@@ -196,7 +196,7 @@ pub fn with_q(word: &[u8]) -> Option<Keyword>
 /// The word with `r` that this is.
 #[tactic(auto, unfolding(sym_base::specs::WordText::word_text))]
 pub fn with_r(word: &[u8]) -> Option<Keyword>
-    ensures { result ≡ find (λ k. bytes_eq word.now (keyword_text k)) with_r }
+    ensures { result ≡ find (λ k. bytes_eq word.now (keyword_text k)) (words_with 114) }
 {
     if is_word(word, "resume") {
         Some(Keyword::Instr(Word::Resume))
@@ -214,7 +214,7 @@ pub fn with_r(word: &[u8]) -> Option<Keyword>
 /// The word with `s` that this is.
 #[tactic(auto, unfolding(sym_base::specs::WordText::word_text))]
 pub fn with_s(word: &[u8]) -> Option<Keyword>
-    ensures { result ≡ find (λ k. bytes_eq word.now (keyword_text k)) with_s }
+    ensures { result ≡ find (λ k. bytes_eq word.now (keyword_text k)) (words_with 115) }
 {
     if is_word(word, "signal") {
         Some(Keyword::Instr(Word::Signal))
@@ -236,7 +236,7 @@ pub fn with_s(word: &[u8]) -> Option<Keyword>
 /// The word with `t` that this is.
 #[tactic(auto, unfolding(sym_base::specs::WordText::word_text))]
 pub fn with_t(word: &[u8]) -> Option<Keyword>
-    ensures { result ≡ find (λ k. bytes_eq word.now (keyword_text k)) with_t }
+    ensures { result ≡ find (λ k. bytes_eq word.now (keyword_text k)) (words_with 116) }
 {
     if is_word(word, "terminate") {
         Some(Keyword::Instr(Word::Terminate))
@@ -252,7 +252,7 @@ pub fn with_t(word: &[u8]) -> Option<Keyword>
 /// The word with `u` that this is.
 #[tactic(auto, unfolding(sym_base::specs::WordText::word_text))]
 pub fn with_u(word: &[u8]) -> Option<Keyword>
-    ensures { result ≡ find (λ k. bytes_eq word.now (keyword_text k)) with_u }
+    ensures { result ≡ find (λ k. bytes_eq word.now (keyword_text k)) (words_with 117) }
 {
     if is_word(word, "unlock") {
         Some(Keyword::Instr(Word::Unlock))
@@ -264,7 +264,7 @@ pub fn with_u(word: &[u8]) -> Option<Keyword>
 /// The word with `w` that this is.
 #[tactic(auto, unfolding(sym_base::specs::WordText::word_text))]
 pub fn with_w(word: &[u8]) -> Option<Keyword>
-    ensures { result ≡ find (λ k. bytes_eq word.now (keyword_text k)) with_w }
+    ensures { result ≡ find (λ k. bytes_eq word.now (keyword_text k)) (words_with 119) }
 {
     if is_word(word, "wait") {
         Some(Keyword::Instr(Word::Wait))

@@ -9,7 +9,7 @@ ghost use Rattle.script_words.specs.Pieces.{pieces};
 ghost use Rattle.script_words.specs.Signs.{has_form, is_in_range};
 
 use crate::body::body;
-use crate::instruction_at::instruction_at;
+use crate::instructions::instruction_at;
 use crate::line_form::words_behind;
 use crate::operand::{name_at, number_at, small_at};
 use script_types::{Keyword, SourceLine};

@@ -9,7 +9,8 @@ ghost use Rattle.script_words.specs.Signs.{each_passes, has_form, is_in_range};
 
 use crate::fault::{Fault, both_faults, word_fault};
 use crate::field::is_word;
-use crate::line_signs::{DEVICE, body_of, operands_of};
+use crate::line_signs::{body_of, operands_of};
+use crate::shared_operands::{CODE, DEVICE, NAME};
 use script_types::{BodyKind, Keyword, Operand};
 
 /// The words behind so many.
@@ -39,7 +40,7 @@ fn interrupt_signs(first: &[u8]) -> Option<&'static [Operand]>
     ensures { option_map (λ operands. operands.now) result ≡ op_signs BodyKind.Interrupt first.now }
 {
     if is_word(first, "idfc") || is_word(first, "dfc") {
-        Some(&[Operand::Name])
+        Some(&[NAME])
     } else {
         None
     }
@@ -50,9 +51,9 @@ fn call_signs(first: &[u8]) -> Option<&'static [Operand]>
     ensures { option_map (λ operands. operands.now) result ≡ op_signs BodyKind.Call first.now }
 {
     if is_word(first, "fssignal") || is_word(first, "queue") {
-        Some(&[Operand::Name])
+        Some(&[NAME])
     } else if is_word(first, "device") {
-        Some(&[DEVICE, Operand::Code])
+        Some(&[DEVICE, CODE])
     } else {
         None
     }

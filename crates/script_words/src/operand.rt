@@ -8,7 +8,7 @@ ghost use Rattle.script_words.specs.Signs.{signed_value, lettered_value, colon_p
 
 use crate::argument::{COLON, three_parts};
 use crate::field::{cut, is_word, read_natural};
-use crate::line_signs::word_at;
+use crate::source::word_at;
 use sym_base::{Arg, Kind, Name, Slots, read_name};
 
 /// The number that a word is, at most `last`.
@@ -50,7 +50,7 @@ fn signed(word: &[u8]) -> i32
 }
 
 /// The kind of object that a word names.
-pub fn kind_named(word: &[u8]) -> Kind
+fn kind_named(word: &[u8]) -> Kind
     ensures { result ≡ kind_named word.now }
 {
     if is_word(word, "process") {
@@ -65,7 +65,7 @@ pub fn kind_named(word: &[u8]) -> Kind
 }
 
 /// The slots of a session that a word names.
-pub fn slots_named(word: &[u8]) -> Slots
+fn slots_named(word: &[u8]) -> Slots
     requires { IsSlots word.now }
     ensures { result ≡ slots_named word.now }
 {
@@ -111,6 +111,14 @@ pub fn small_at(words: &[&[u8]], at: usize, last: u8) -> u8
     number_at(words, at, last as u32) as u8
 }
 
+/// The byte at a place.
+pub fn byte_at(words: &[&[u8]], at: usize) -> u8
+    requires { IsNumber 255 (word_at (pieces words.now) at) }
+    ensures { result ≡ natural (word_at (pieces words.now) at) }
+{
+    small_at(words, at, 255)
+}
+
 /// The place in memory, or the number of bytes, that stands at a place.
 pub fn size_at(words: &[&[u8]], at: usize) -> u16
     requires { IsNumber 1024 (word_at (pieces words.now) at) }
@@ -149,6 +157,21 @@ pub fn name_at(words: &[&[u8]], at: usize) -> Name
     ensures { result ≡ word_at (pieces words.now) at }
 {
     read_name(word_at(words, at)).unwrap()
+}
+
+/// The kind of object at a place.
+pub fn kind_at(words: &[&[u8]], at: usize) -> Kind
+    ensures { result ≡ kind_named (word_at (pieces words.now) at) }
+{
+    kind_named(word_at(words, at))
+}
+
+/// The slots of a session at a place.
+pub fn slots_at(words: &[&[u8]], at: usize) -> Slots
+    requires { IsSlots (word_at (pieces words.now) at) }
+    ensures { result ≡ slots_named (word_at (pieces words.now) at) }
+{
+    slots_named(word_at(words, at))
 }
 
 /// The argument of a message at a place.

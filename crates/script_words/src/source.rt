@@ -1,5 +1,6 @@
 //! A text as lines, and a line as words.
 ghost use Rattle.std.specs.Prelude.{◌≡◌, List, ℕ, ◌<◌, ◌++◌, ◌∷◌, ◌&&◌, nat_le, length, OnOk};
+ghost use Rattle.script_words.specs.LineSigns.{word_at};
 ghost use Rattle.script_words.specs.Pieces.{pieces, one_word};
 ghost use Rattle.script_types.specs.SourceText.{text_lines, words_of, is_skipped, is_printed, is_short};
 
@@ -46,6 +47,14 @@ pub fn take_words<'a>(words: &mut Vec<&'a [u8]>, line: &'a [u8]) -> Result<(), N
     }
     push_word(words, rest)?;
     Ok(())
+}
+
+/// The word at a place, without bytes where there is none.
+#[tactic(auto, using(crate::proofs::WordPlaces::word_at_place, crate::proofs::WordPlaces::word_past))]
+pub fn word_at<'a>(words: &[&'a [u8]], at: usize) -> &'a [u8]
+    ensures { result.now ≡ word_at (pieces words.now) at }
+{
+    if at < words.len() { words[at] } else { &[] }
 }
 
 /// Whether a line that begins with this word is a comment.

@@ -9,8 +9,11 @@ pub returns : goal.returns
 unfolding canonical_text
 returns c =
     let script = c.args.script.now in
-    let text : c.put_script.new.out.items ≡ canonical_text script = c.in_ok-put_script.ensures ∙ ap (λ xs. xs ++ source_texts (canonical_lines script)) c.new-out.ensures.items in
+    let text : c.put_script.new.out.items ≡ canonical_text script =
+    c.in_ok-put_script.ensures ∙ ap (λ xs. xs ++ source_texts (canonical_lines script)) c.new-out.ensures.items in
     record {
       text = text;
-      again = λ (w : IsWellFormed script). subst (λ bytes. IsAccepted bytes script) (sym text) (canonical_accepted w.bytes script (record { lines = w.lines; are = w.are; ended = w.ended; same = w.same }));
+      again =
+          λ (w : IsWellFormed script). subst (λ bytes. IsAccepted bytes script) (sym text)
+          (canonical_accepted w.bytes script (record { lines = w.lines; are = w.are; ended = w.ended; same = w.same }));
     }

@@ -9,4 +9,5 @@ returns-in_default c = λ k small. none_added c.args.irqs.now c.args.word.now c.
 pub returns : goal.returns
 returns c =
     let here : c.args.is_irq ≡ true = grind (arith, nat_tests) in
-    λ k small. number_added c.args.irqs.now c.insert.new.self c.args.word.now c.in-Some.number c.args.is_irq k here (sym c.in-Some.ensures.value) small c.in_ok-insert.ensures.updates.0
+    λ k small. number_added c.args.irqs.now c.insert.new.self c.args.word.now c.in-Some.number c.args.is_irq k here
+    (sym c.in-Some.ensures.value) small c.in_ok-insert.ensures.updates.0

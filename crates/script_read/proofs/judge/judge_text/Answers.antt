@@ -49,4 +49,5 @@ returns-clause-judged c =
     let words : pieces c.as_slice-words.result.now ≡ words_of c.args.text.now = ap pieces c.as_slice-words.ensures.value ∙ c.in_ok-take_words.ensures in
     let told : is_skipped (words_of c.args.text.now) ≡ false = sym (c.is_skipped.ensures ∙ ap is_skipped words) ∙ c.if-is_skipped.false in
     let first : Some c.in-Some.keyword ≡ keyword_in (words_of c.args.text.now) = rw c.word_at.ensures at c.in-Some.ensures ∙ ap keyword_in words in
-    judged_is (file_declares (text_lines c.args.names.now.text.now)) c.args.context.now c.args.text.now c.in-Some.keyword c.judge_words.result printed short told first (rw words at c.judge_words.ensures.judged)
+    judged_is (file_declares (text_lines c.args.names.now.text.now)) c.args.context.now c.args.text.now
+    c.in-Some.keyword c.judge_words.result printed short told first (rw words at c.judge_words.ensures.judged)

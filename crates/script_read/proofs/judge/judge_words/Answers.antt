@@ -11,4 +11,6 @@ line_as-requires c =
     let scheduled = is_scheduled c.args.context.now in
     let words = pieces c.args.words.now in
     let pass = words_pass c.args.context.now c.args.keyword words c.in_default.ensures in
-    rw (c.second_of-second.ensures, c.is_scheduled.ensures) (sym (right (have_forms scheduled c.args.keyword words) (are_in_range scheduled c.args.keyword words) pass.0 pass.1))
+    rw (c.second_of-second.ensures, c.is_scheduled.ensures)
+    (sym (right (have_forms scheduled c.args.keyword words)
+    (are_in_range scheduled c.args.keyword words) pass.0 pass.1))

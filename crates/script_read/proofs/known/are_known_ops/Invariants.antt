@@ -6,4 +6,6 @@ use Rattle.script_types.specs.Names.{Declared, is_known_op}
 
 -- the operations that are left decide
 abbrev pub invariant-loop-what : goal.invariant-loop-what
-invariant-loop-what l = (file : List Declared) → Knows l.declarations file → list_all (is_known_op file) (drop l.what-index l.body) ≡ list_all (is_known_op file) l.body
+invariant-loop-what l =
+    (file : List Declared) → Knows l.declarations file → list_all (is_known_op file) (drop l.what-index l.body)
+    ≡ list_all (is_known_op file) l.body

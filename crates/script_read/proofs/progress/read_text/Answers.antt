@@ -12,4 +12,6 @@ loop-rest-init c = read_to_start c.args.text.now c.new-progress.result c.new-pro
 pub returns : goal.returns
 returns c =
     let none : length c.loop-rest.rest.now ≡ 0 = grind (arith, nat_tests) in
-    read_to_end c.args.text.now c.loop-rest.rest.now c.loop-rest.number c.loop-rest.progress (reading_of c.end_lines.result) c.loop-rest.invariant (nil_from_length c.loop-rest.rest.now none) c.end_lines.ensures
+    read_to_end c.args.text.now c.loop-rest.rest.now c.loop-rest.number c.loop-rest.progress
+    (reading_of c.end_lines.result) c.loop-rest.invariant
+    (nil_from_length c.loop-rest.rest.now none) c.end_lines.ensures

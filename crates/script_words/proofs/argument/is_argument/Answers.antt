@@ -7,9 +7,13 @@ pub returns-in_default : goal.returns-in_default
 returns-in_default c = c.is_signed.ensures ∙ one_part is_signed is_signed c.args.word.now c.in_default.ensures.parts
 
 pub returns-in_default-three_parts : goal.returns-in_default-three_parts
-returns-in_default-three_parts c = other_parts is_signed is_signed c.args.word.now c.in-Some.letter.now c.in-Some.rest.now c.in-Some.ensures.parts c.in_default-three_parts.ensures
+returns-in_default-three_parts c =
+    other_parts is_signed is_signed c.args.word.now c.in-Some.letter.now c.in-Some.rest.now c.in-Some.ensures.parts
+    c.in_default-three_parts.ensures
 
 pub returns : goal.returns
 returns c =
     rw (c.are_all.ensures, c.is_word-is_descriptor.ensures, c.is_signed-2.ensures, c.is_signed-3.ensures, c.is_signed-4.ensures)
-    (four_parts is_signed is_signed c.args.word.now c.in-Some.letter.now c.in-Some.rest.now c.in-Some-three_parts.offset.now c.in-Some-three_parts.length.now c.in-Some-three_parts.max.now c.in-Some.ensures.parts c.in-Some-three_parts.ensures)
+    (four_parts is_signed is_signed c.args.word.now c.in-Some.letter.now c.in-Some.rest.now
+    c.in-Some-three_parts.offset.now c.in-Some-three_parts.length.now c.in-Some-three_parts.max.now
+    c.in-Some.ensures.parts c.in-Some-three_parts.ensures)

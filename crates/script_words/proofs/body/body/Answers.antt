@@ -11,13 +11,15 @@ use Rattle.script_words.proofs.body.body.Goals as goal
 pub operation-requires : goal.operation-requires
 operation-requires c =
     let words = c.args.words.now in
-    let t = YieldsList-turn (YieldsList-from_slice_split _ ends words (cc) (cc) (cc) (λ x b q k. search (rules, tests))) c.loop-part.yielded _ c.loop-part.yielded_by _ _ c.in-Some.part c.in-Some.is c.next.ensures.steps in
+    let t = YieldsList-turn (YieldsList-from_slice_split _ ends words (cc) (cc) (cc) (λ x b q k. search (rules, tests)))
+    c.loop-part.yielded _ c.loop-part.yielded_by _ _ c.in-Some.part c.in-Some.is c.next.ensures.steps in
     known_operation IsOperation words (length c.loop-part.yielded) c.in-Some.part.now c.requires t.0 t.1
 
 pub loop-part-preserved : goal.loop-part-preserved
 loop-part-preserved c =
     let words = c.args.words.now in
-    let t = YieldsList-turn (YieldsList-from_slice_split _ ends words (cc) (cc) (cc) (λ x b q k. search (rules, tests))) c.loop-part.yielded _ c.loop-part.yielded_by _ _ c.in-Some.part c.in-Some.is c.next.ensures.steps in
+    let t = YieldsList-turn (YieldsList-from_slice_split _ ends words (cc) (cc) (cc) (λ x b q k. search (rules, tests)))
+    c.loop-part.yielded _ c.loop-part.yielded_by _ _ c.in-Some.part c.in-Some.is c.next.ensures.steps in
     let more = one_more (λ part. op_of (pieces part)) (parts_of words) (length c.loop-part.yielded) c.in-Some.part.now t.0 t.1 in
     let size = length_push c.loop-part.yielded c.in-Some.part in
     let added = c.in_ok-push.ensures.ok in
@@ -28,5 +30,6 @@ loop-part-preserved c =
 pub returns : goal.returns
 returns c =
     let words = c.args.words.now in
-    let t = YieldsList-end (YieldsList-from_slice_split _ ends words (cc) (cc) (cc) (λ x b q k. search (rules, tests))) c.loop-part.yielded _ c.loop-part.yielded_by _ _ c.in-None.is c.next.ensures.steps in
+    let t = YieldsList-end (YieldsList-from_slice_split _ ends words (cc) (cc) (cc) (λ x b q k. search (rules, tests)))
+    c.loop-part.yielded _ c.loop-part.yielded_by _ _ c.in-None.is c.next.ensures.steps in
     c.loop-part.invariant ∙ whole_body op_of words (length c.loop-part.yielded) t.1

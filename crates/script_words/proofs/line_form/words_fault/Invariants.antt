@@ -8,5 +8,6 @@ use Rattle.script_words.proofs.line_form.words_fault.Given as goal
 -- the words that are left decide, and whether those so far are in range
 abbrev pub invariant-loop-i : goal.invariant-loop-i
 invariant-loop-i l =
-    fault_by (each_passes has_form (drop l.i l.fn.operands) (pieces (drop l.i l.fn.words))) (l.are_in_range && each_passes is_in_range (drop l.i l.fn.operands) (pieces (drop l.i l.fn.words)))
+    fault_by (each_passes has_form (drop l.i l.fn.operands) (pieces (drop l.i l.fn.words)))
+    (l.are_in_range && each_passes is_in_range (drop l.i l.fn.operands) (pieces (drop l.i l.fn.words)))
     ≡ fault_by (each_passes has_form l.fn.operands (pieces l.fn.words)) (each_passes is_in_range l.fn.operands (pieces l.fn.words))
