@@ -4,6 +4,7 @@
 #![tactic(auto)]
 
 mod failed;
+mod gate;
 mod mem_sink;
 mod mem_source;
 mod sink;
@@ -14,6 +15,7 @@ mod std_source;
 mod tests;
 
 pub use failed::Failed;
+pub use gate::Gate;
 pub use mem_sink::MemSink;
 pub use mem_source::MemSource;
 pub use sink::{Sink, write_whole};

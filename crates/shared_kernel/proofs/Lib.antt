@@ -1,0 +1,10 @@
+pub mod Backs
+pub mod Calls
+pub mod Doing
+pub mod Drawing
+pub mod Finding
+pub mod Room
+pub mod Sent
+pub mod Shareable
+pub mod Taking
+pub mod Turning
